@@ -1,0 +1,10 @@
+pub mod Contents
+pub mod Custody
+pub mod Told
+pub mod Calls
+pub mod Counts
+pub mod Writing
+pub mod Files
+pub mod Replay
+pub mod Map
+pub mod ReplayLaws

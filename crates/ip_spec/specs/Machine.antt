@@ -1,0 +1,62 @@
+-- The words of the machine: its state, its commands, what a command meets, and its replies.
+use Rattle.std.specs.Prelude.{ℕ, zero, Option, Some, None, List, [], pos}
+pub use Rattle.ip_spec.specs.declared.command.Target.{Target}
+pub use Rattle.ip_spec.specs.declared.command.Target.TheVariants as Target
+pub use Rattle.ip_spec.specs.declared.command.Command.{Command}
+pub use Rattle.ip_spec.specs.declared.command.Command.TheVariants as Command
+pub use Rattle.ip_spec.specs.declared.met.Child.{Child}
+pub use Rattle.ip_spec.specs.declared.met.Child.TheVariants as Child
+pub use Rattle.ip_spec.specs.declared.met.Met.{Met}
+pub use Rattle.ip_spec.specs.declared.met.Phase.{Phase}
+pub use Rattle.ip_spec.specs.declared.met.Phase.TheVariants as Phase
+pub use Rattle.ip_spec.specs.declared.reply.Produced.{Produced}
+pub use Rattle.ip_spec.specs.declared.reply.Produced.TheVariants as Produced
+pub use Rattle.ip_spec.specs.declared.reply.Seen.{Seen}
+pub use Rattle.ip_spec.specs.declared.reply.Seen.TheVariants as Seen
+pub use Rattle.ip_spec.specs.declared.reply.Difference.{Difference}
+pub use Rattle.ip_spec.specs.declared.reply.Head.{Head}
+pub use Rattle.ip_spec.specs.declared.reply.Reply.{Reply}
+pub use Rattle.ip_spec.specs.declared.reply.Reply.TheVariants as Reply
+pub use Rattle.ip_base.specs.declared.limit.Limit.{Limit}
+pub use Rattle.ip_base.specs.declared.limit.Limit.TheVariants as Limit
+pub use Rattle.ip_ground.specs.declared.names.Exit.{Exit}
+pub use Rattle.ip_ground.specs.declared.names.Exit.TheVariants as Exit
+pub use Rattle.ip_ground.specs.declared.names.Reaped.{Reaped}
+use Rattle.ip_spec.specs.Tree.{Tree, no_tree}
+use Rattle.ip_spec.specs.Repository.{Repository}
+
+-- a tree, the commits that it goes on from, and the least number that it took from
+pub record Work : Type 0 where
+  pub tree : Tree
+  pub parents : List ℕ
+  pub least : Option ℕ
+
+unfoldable pub empty_work : Work
+empty_work = record { tree = no_tree; parents = []; least = None }
+
+pub record State : Type 0 where
+  pub repository : Repository
+  pub phase : Phase
+  pub work : Work
+
+-- how a session begins
+abbrev pub opened : Repository → State
+opened r = record { repository = r; phase = Phase.Idle; work = empty_work }
+
+-- the verdict on an exit and on what was found of the two files
+pub data Verdict : Type 0 where
+  accepted : Verdict
+  exited : Exit → Verdict
+  differs : Difference → Verdict
+
+-- None: the two files are the valid ones
+abbrev pub verdict_on : Exit → Option Difference → Verdict
+verdict_on Exit.Signal difference = Verdict.exited Exit.Signal
+verdict_on (Exit.Code (pos zero)) None = Verdict.accepted
+verdict_on (Exit.Code (pos zero)) (Some difference) = Verdict.differs difference
+verdict_on (Exit.Code z) difference = Verdict.exited (Exit.Code z)
+
+-- what a command meets: what is told of it, and how the two files of a child that has ended differ from the valid ones
+pub record Conditions : Type 0 where
+  pub told : Met
+  pub difference : Option Difference

@@ -1,0 +1,73 @@
+//! The definitions that every contract of the store cites, and the laws that hold of them.
+#![tactic(auto)]
+
+ghost use Rattle.std.specs.Prelude.{◌≡◌, ℕ, Option, Some, None, cond, not, IsFalse, IsTrue, List, ◌++◌, length, Ok};
+ghost use Rattle.ip_spec.specs.Map.{get};
+ghost use Rattle.ip_spec.specs.Path.{Bytes, Path, same_path, is_prefix, is_related};
+ghost use Rattle.ip_spec.specs.Record.{Record, Fits, spelling};
+ghost use Rattle.ip_spec.specs.Reading.{reading};
+ghost use Rattle.ip_spec.specs.Tree.{Tree, put, remove};
+ghost use Rattle.ip_spec.specs.TreeAt.{TreeAt};
+ghost use Rattle.ip_spec.specs.Core.{Core, Event, CoreStep, CoreRun, no_core, IsClosed, KeepsReached};
+ghost use Rattle.ip_spec.specs.Repository.{Repository};
+ghost use Rattle.ip_spec.specs.History.{Ancestor, ParentsFirst, is_ancestor};
+ghost use Rattle.ip_spec.specs.Merge.{Merges, means};
+ghost use Rattle.ip_spec.specs.MergeModel.{Merger, merge_of, machine};
+ghost use Rattle.ip_spec.specs.Machine.{State, Command, Conditions};
+ghost use Rattle.ip_spec.specs.Step.{Turns};
+
+pub mod command;
+pub mod event;
+pub mod merge;
+pub mod met;
+pub mod record;
+pub mod reply;
+pub mod tree;
+
+/// What stands at each path after bytes are put at one, and after a removal.
+pub fn edits()
+    ensures put { (t : Tree) (p q : Path) (bytes : Bytes) →
+        get (put t p bytes) q ≡ cond (same_path q p) (Some bytes) (cond (not (is_related p q)) (get t q) None) }
+    ensures remove { (t : Tree) (p q : Path) → get (remove t p) q ≡ cond (not (is_prefix p q)) (get t q) None }
+{}
+
+/// A tree that stands among some records stands among more of them.
+pub fn trees_stay()
+    ensures { (records more : ℕ → Option Record) →
+        ((at : ℕ) (r : Record) → records at ≡ Some r → more at ≡ Some r) →
+        (at : ℕ) (t : Tree) → TreeAt records at t → TreeAt more at t }
+{}
+
+/// Where parents come before their children, the test of ancestors decides the closure of the parent relation.
+pub fn ancestors()
+    ensures test { (r : Repository) → ParentsFirst r → (a n : ℕ) → IsTrue (is_ancestor r a n) → Ancestor r a n }
+    ensures ancestor { (r : Repository) → ParentsFirst r → (a n : ℕ) → Ancestor r a n → IsTrue (is_ancestor r a n) }
+{}
+
+/// For rules that compute, the merge that computes is a merge.
+pub fn merges()
+    ensures { (f : Path → Merger) (o a b : Tree) → Merges (λ p. means (f p)) o a b (merge_of f o a b) }
+{}
+
+/// For rules that compute, the machine that computes takes the machine's turns.
+pub fn turns()
+    ensures { (f : Path → Merger) (s : State) (command : Command) (met : Conditions) →
+        IsFalse met.told.refused → Turns (λ p. means (f p)) s command met (machine f s command met) }
+{}
+
+/// At one offset of some records stands one tree at most.
+pub fn one_tree()
+    ensures { (records : ℕ → Option Record) (at : ℕ) (t u : Tree) → TreeAt records at t → TreeAt records at u → t ≡ u }
+{}
+
+/// Every list of events leaves the core closed, and each event keeps what the commits from the horizon on reach.
+pub fn core_events()
+    ensures closed { (events : List Event) (core : Core) → CoreRun no_core events core → IsClosed core }
+    ensures keeps { (old new : Core) (event : Event) → CoreStep old event new → IsClosed old → IsClosed new × KeepsReached old new }
+{}
+
+/// What is spelled is read, whatever follows, and no spelling begins another.
+pub fn records_read()
+    ensures exact { (v : ℕ) (r : Record) (rest : Bytes) → Fits v r → reading v (spelling r ++ rest) ≡ Ok (r, length (spelling r)) }
+    ensures one { (v : ℕ) (r s : Record) (a b : Bytes) → Fits v r → Fits v s → spelling r ++ a ≡ spelling s ++ b → r ≡ s }
+{}
