@@ -98,8 +98,9 @@ module _ (depth : ℕ) (cs : List InodeChild) (is : IsInode depth cs) where
   bits_are : bits_of (bitmap cs) ≡ map (λ c. c.index) cs
   bits_are = ap bits_of (weights 0 cs) ∙ bits_of_sum (map (λ c. c.index) cs) within
 
-  small : bitmap cs < 2 ^ 32
-  small = let e = weights 0 cs in let s = added_small 0 32 0 (map (λ c. c.index) cs) (lit≤ tt) within (lit< tt) in subst (λ n. n < 2 ^ 32) (sym e) s
+  -- the bits of different indexes below 32 fit their field
+  pub bitmap_small : bitmap cs < 2 ^ 32
+  bitmap_small = let e = weights 0 cs in let s = added_small 0 32 0 (map (λ c. c.index) cs) (lit≤ tt) within (lit< tt) in subst (λ n. n < 2 ^ 32) (sym e) s
 
   not_zero : 0 < bitmap cs
   not_zero = let e = weights 0 cs in let l = length_map (λ (c : InodeChild). c.index) cs in let some = is.some in let s = added_some (map (λ c. c.index) cs) (omega (arith, l, some)) in subst (λ n. 0 < n) (sym e) s
@@ -115,7 +116,7 @@ module _ (depth : ℕ) (cs : List InodeChild) (is : IsInode depth cs) where
   reads_inode =
       let children : Reads (child_fields (bits_of (bitmap cs))) (flat_map child_spelling cs) cs = subst (λ ks. Reads (child_fields ks) (flat_map child_spelling cs) cs) (sym bits_are) (reads_children cs each_child) in
       let at_bitmap : Reads (i_bitmap (bitmap cs)) (flat_map child_spelling cs) (Record.Inode depth cs) = reads_last (child_fields (bits_of (bitmap cs))) (Record.Inode depth) (flat_map child_spelling cs) cs children in
-      let at_depth : Reads (i_depth depth) (u32 (bitmap cs) ++ flat_map child_spelling cs) (Record.Inode depth cs) = reads_then (number_where w32 (λ n. nat_lt 0 n)) i_bitmap (u32 (bitmap cs)) (flat_map child_spelling cs) (bitmap cs) (Record.Inode depth cs) (reads_u32 (λ n. nat_lt 0 n) (bitmap cs) small (lt_test 0 (bitmap cs) not_zero)) at_bitmap in
+      let at_depth : Reads (i_depth depth) (u32 (bitmap cs) ++ flat_map child_spelling cs) (Record.Inode depth cs) = reads_then (number_where w32 (λ n. nat_lt 0 n)) i_bitmap (u32 (bitmap cs)) (flat_map child_spelling cs) (bitmap cs) (Record.Inode depth cs) (reads_u32 (λ n. nat_lt 0 n) (bitmap cs) bitmap_small (lt_test 0 (bitmap cs) not_zero)) at_bitmap in
       reads_as inode_fields (u8 depth ++ (u32 (bitmap cs) ++ flat_map child_spelling cs)) (u8 depth ++ u32 (bitmap cs) ++ flat_map child_spelling cs) (Record.Inode depth cs) (sym (append_assoc (u8 depth) (u32 (bitmap cs)) (flat_map child_spelling cs)))
       (reads_then (number_where w8 (λ n. nat_le n 50)) i_depth (u8 depth) (u32 (bitmap cs) ++ flat_map child_spelling cs) depth (Record.Inode depth cs) (reads_u8 (λ n. nat_le n 50) depth (le_test depth 50 is.shallow)) at_depth)
 

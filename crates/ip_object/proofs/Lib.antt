@@ -1,0 +1,4 @@
+mod Listing
+mod Children
+mod PutLemmas
+mod Patched
