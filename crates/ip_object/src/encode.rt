@@ -112,7 +112,7 @@ fn put_rows(rows: &[Branch], out: &mut Vec<u8>) -> Result<(), Memory>
 }
 
 // The bits of the children's indexes.
-fn bitmap_of(children: &[InodeChild]) -> u32
+pub fn bitmap_of(children: &[InodeChild]) -> u32
     requires each { All (λ c. c.index < 32) children.now }
     requires small { bitmap children.now < 2 ^ 32 }
     ensures { result ≡ bitmap children.now }

@@ -4,6 +4,7 @@
 pub mod body;
 pub mod encode;
 pub mod lists;
+pub mod name;
 
 pub mod loops;
 pub mod read;
