@@ -2,6 +2,7 @@ pub mod TreeAtLaws
 pub mod TreeLaws
 pub mod Subtrees
 pub mod SameDirectory
+pub mod GraftLaws
 pub mod Naming
 pub mod Spelling
 pub mod BatchLaws

@@ -95,7 +95,7 @@ module _ (depth : ℕ) (cs : List InodeChild) (is : IsInode depth cs) where
   within : Within 0 32 (map (λ c. c.index) cs)
   within = rising_within 0 32 (map (λ c. c.index) cs) is.rising (λ k l. at_map cs k each_child l) (λ l. omega arith)
 
-  bits_are : bits_of (bitmap cs) ≡ map (λ c. c.index) cs
+  pub bits_are : bits_of (bitmap cs) ≡ map (λ c. c.index) cs
   bits_are = ap bits_of (weights 0 cs) ∙ bits_of_sum (map (λ c. c.index) cs) within
 
   small : bitmap cs < 2 ^ 32
