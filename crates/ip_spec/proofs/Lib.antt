@@ -12,12 +12,16 @@ pub mod ReadingLaws
 pub mod CoreLaws
 pub mod MergeLaws
 pub mod MachineLaws
-mod Vectors
-mod Readings
+mod Spellings
+mod StepPlaces
+mod ReadingFaults
+mod ReadBack
+mod MergerExamples
+mod LoadLines
 mod Rows
 mod FullDirectory
-mod Batches
-mod WideBatch
+mod CommitBatches
+mod InodeBatch
 mod Lines
 pub mod BitmapLaws
 pub mod ReadingExact

@@ -10,7 +10,7 @@ ghost use Rattle.ip_spec.specs.Tree.{Tree, IsTree, put, remove, graft};
 ghost use Rattle.ip_spec.specs.TreeAt.{TreeAt};
 ghost use Rattle.ip_spec.specs.Shape.{root_name};
 ghost use Rattle.ip_spec.specs.View.{View};
-ghost use Rattle.ip_spec.specs.Batch.{Fields, Sources, sources, reusing_sources, batch, batch_root, batch_end, with_batch, AreEndToEnd, HoldsContents, KnownStand, SourcesStand};
+ghost use Rattle.ip_spec.specs.Batch.{CommitFields, Sources, sources, reusing_sources, batch, batch_root, batch_end, with_batch, AreEndToEnd, HoldsContents, KnownStand, SourcesStand};
 ghost use Rattle.ip_spec.specs.Core.{Core, Event, CoreStep, CoreRun, no_core, IsClosed, KeepsReached};
 ghost use Rattle.ip_spec.specs.Repository.{Repository};
 ghost use Rattle.ip_spec.specs.History.{Ancestor, ParentsFirst, is_ancestor};
@@ -75,10 +75,10 @@ pub fn tree_names()
 /// The records of a batch lie end to end, and together with what was there they spell the tree at the batch's root: where each known
 /// record is used again, and where records with equal contents are, too.
 pub fn batch_stands()
-    ensures lies { (v : View) (from : Sources) (f : Fields) (end : ℕ) → AreEndToEnd end (batch v from f end) (batch_end v from f end) }
+    ensures lies { (v : View) (from : Sources) (f : CommitFields) (end : ℕ) → AreEndToEnd end (batch v from f end) (batch_end v from f end) }
     ensures stands { (records : ℕ → Option Record) (v : View) (from : Sources) (end : ℕ) →
         KnownStand records v end → SourcesStand records v from → IsTree v.map →
-        (f : Fields) → TreeAt (with_batch records (batch v from f end)) (batch_root v from end).at v.map }
+        (f : CommitFields) → TreeAt (with_batch records (batch v from f end)) (batch_root v from end).at v.map }
     ensures known { (records : ℕ → Option Record) (v : View) (end : ℕ) → KnownStand records v end → SourcesStand records v (sources v) }
     ensures reused { (records : ℕ → Option Record) (v : View) (first : Option View) (end : ℕ) →
         KnownStand records v end → IfSome first (HoldsContents records) → SourcesStand records v (reusing_sources v first) }
