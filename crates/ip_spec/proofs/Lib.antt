@@ -25,3 +25,5 @@ mod InodeBatch
 mod Lines
 pub mod BitmapLaws
 pub mod ReadingExact
+pub mod FieldsRead
+pub mod RecordsRead
