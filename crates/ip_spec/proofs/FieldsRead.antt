@@ -37,7 +37,7 @@ steps {A = A} f g before y last e = by (f before) refl e
     by (Ok r) is e = record { value = r.0; middle = r.1; first = is; second = e }
     by (Err at) is e = cc
 
-ok_same : {A E : Type 0} (x y : A) → ◌≡◌ {A = Result A E} (Ok x) (Ok y) → x ≡ y
+pub ok_same : {A E : Type 0} (x y : A) → ◌≡◌ {A = Result A E} (Ok x) (Ok y) → x ≡ y
 ok_same x y e = cc
 
 -- a value that is done takes nothing
@@ -46,12 +46,12 @@ of_done {A = A} S P before middle made x last e took = subst (λ (p : A × Left)
 
 -- ---- bytes
 
-take_bytes : (n : ℕ) (bs : Bytes) → EachByte bs → EachByte (take n bs)
+pub take_bytes : (n : ℕ) (bs : Bytes) → EachByte bs → EachByte (take n bs)
 take_bytes zero bs each = tt
 take_bytes (suc n) [] each = tt
 take_bytes (suc n) (b ∷ bs) each = (each.0, take_bytes n bs each.1)
 
-drop_bytes : (n : ℕ) (bs : Bytes) → EachByte bs → EachByte (drop n bs)
+pub drop_bytes : (n : ℕ) (bs : Bytes) → EachByte bs → EachByte (drop n bs)
 drop_bytes zero bs each = each
 drop_bytes (suc n) [] each = tt
 drop_bytes (suc n) (b ∷ bs) each = drop_bytes n bs each.1
@@ -83,7 +83,7 @@ takes_bytes n test before x last each e = by (nat_le n (length before.1) && test
 
 -- ---- numbers
 
-get_small : (bs : Bytes) → EachByte bs → (i : ℕ) → get_or bs i 0 < 256
+pub get_small : (bs : Bytes) → EachByte bs → (i : ℕ) → get_or bs i 0 < 256
 get_small [] each i = omega arith
 get_small (b ∷ bs) each zero = each.0
 get_small (b ∷ bs) each (suc i) = get_small bs each.1 i
@@ -109,7 +109,7 @@ small_2 (a ∷ []) l each = absurd (omega (arith, l))
 small_2 (a ∷ b ∷ []) l each = let x = each.0 in let y = each.1.0 in omega (arith, x, y)
 small_2 (a ∷ b ∷ c ∷ t) l each = absurd (omega (arith, l))
 
-small_4 : (t : Bytes) → length t ≡ 4 → EachByte t → from_le_bytes w32 t < 2 ^ 32
+pub small_4 : (t : Bytes) → length t ≡ 4 → EachByte t → from_le_bytes w32 t < 2 ^ 32
 small_4 [] l each = absurd (omega (arith, l))
 small_4 (a ∷ []) l each = absurd (omega (arith, l))
 small_4 (a ∷ b ∷ []) l each = absurd (omega (arith, l))

@@ -343,7 +343,7 @@ at_end f b r reads = ap (λ bytes. f (5, bytes)) (sym (append-nil b)) ∙ reads 
 abbrev Exact : ℕ → Record → Bytes → Type 0
 Exact v r rest = reading v (spelling r ++ rest) ≡ Ok (r, length (spelling r))
 
-five : (n : ℕ) → 5 + n ≡ suc (suc (suc (suc (suc n))))
+pub five : (n : ℕ) → 5 + n ≡ suc (suc (suc (suc (suc n))))
 five n = omega arith
 
 exact_by : (v k : ℕ) (r : Record) (rest : Bytes) (f : Fields Record) → kind_of r ≡ k → known v k ≡ true → (k == 1 && nat_lt (contents_limit v) (length (body r))) ≡ false → length (body r) < 2 ^ 32 → fields_of k ≡ Some f → f (5, body r) ≡ Ok (r, (5 + length (body r), [])) → Exact v r rest
@@ -354,14 +354,14 @@ exact_by v k r rest f kind is_known fits small has gives =
     ∙ ap (λ n. Ok (r, n)) (five (length (body r)))
 
 known_low : (v k : ℕ) → 0 < k → k ≤ 7 → known v k ≡ true
-known_low v k low high = both (nat_lt 0 k) _ (lt_test 0 k low) (by (v == 1))
+known_low v k low high = both (nat_lt 0 k) _ (lt_test 0 k low) (by (nat_le 2 v))
   where
-    by : (b : Bool) → nat_le k (if b then 7 else 10) ≡ true
-    by true = le_test k 7 high
-    by false = le_test k 10 (omega (arith, high))
+    by : (b : Bool) → nat_le k (if b then 10 else 7) ≡ true
+    by true = le_test k 10 (omega (arith, high))
+    by false = le_test k 7 high
 
 known_high : (v k : ℕ) → 0 < k → k ≤ 10 → 2 ≤ v → known v k ≡ true
-known_high v k low high two = both (nat_lt 0 k) _ (lt_test 0 k low) (ap (λ b. nat_le k (if b then 7 else 10)) (apart v 1 (omega (arith, two))) ∙ le_test k 10 high)
+known_high v k low high two = both (nat_lt 0 k) _ (lt_test 0 k low) (ap (λ b. nat_le k (if b then 10 else 7)) (le_test 2 v two) ∙ le_test k 10 high)
 
 -- What is spelled is read, whatever follows.
 pub reading_exact : (v : ℕ) (r : Record) (rest : Bytes) → Fits v r → reading v (spelling r ++ rest) ≡ Ok (r, length (spelling r))

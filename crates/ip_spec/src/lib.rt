@@ -3,7 +3,7 @@
 
 ghost use Rattle.std.specs.Prelude.{◌≡◌, ℕ, Option, Some, None, cond, not, IsFalse, IsTrue, List, ◌++◌, length, map, Ok, IfSome};
 ghost use Rattle.ip_spec.specs.Map.{get};
-ghost use Rattle.ip_spec.specs.Path.{Bytes, Path, same_path, is_prefix, is_related};
+ghost use Rattle.ip_spec.specs.Path.{Bytes, Path, AreBytes, same_path, is_prefix, is_related};
 ghost use Rattle.ip_spec.specs.Record.{Record, InodeChild, IsInode, Fits, spelling, bitmap, name_of};
 ghost use Rattle.ip_spec.specs.Reading.{reading, bits_of};
 ghost use Rattle.ip_spec.specs.Tree.{Tree, IsTree, put, remove, graft};
@@ -95,8 +95,11 @@ pub fn core_events()
     ensures keeps { (old new : Core) (event : Event) → CoreStep old event new → IsClosed old → IsClosed new × KeepsReached old new }
 {}
 
-/// What is spelled is read, whatever follows, and no spelling begins another.
+/// What is spelled is read, whatever follows; what is read is within its bounds and spells the bytes that were read; and no spelling
+/// begins another.
 pub fn records_read()
     ensures exact { (v : ℕ) (r : Record) (rest : Bytes) → Fits v r → reading v (spelling r ++ rest) ≡ Ok (r, length (spelling r)) }
+    ensures spelled { (v : ℕ) (bytes : Bytes) (r : Record) (n : ℕ) → AreBytes bytes → reading v bytes ≡ Ok (r, n) →
+        Fits v r × ((rest : Bytes) × (bytes ≡ spelling r ++ rest)) × (n ≡ length (spelling r)) }
     ensures one { (v : ℕ) (r s : Record) (a b : Bytes) → Fits v r → Fits v s → spelling r ++ a ≡ spelling s ++ b → r ≡ s }
 {}
