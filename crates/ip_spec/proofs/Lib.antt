@@ -12,7 +12,7 @@ pub mod ReadingLaws
 pub mod CoreLaws
 pub mod MergeLaws
 pub mod MachineLaws
-mod Spellings
+mod RecordBytes
 mod StepPlaces
 mod ReadingFaults
 mod ReadBack

@@ -89,9 +89,10 @@ pub fn bitmaps()
     ensures { (depth : ℕ) (children : List InodeChild) → IsInode depth children → bits_of (bitmap children) ≡ map (λ c. c.index) children }
 {}
 
-/// Every list of events leaves the core closed, and each event keeps what the commits from the horizon on reach.
+/// Every list of events leaves the core closed; an event has one outcome at most; and each event keeps what the commits from the horizon on reach.
 pub fn core_events()
     ensures closed { (events : List Event) (core : Core) → CoreRun no_core events core → IsClosed core }
+    ensures one { (core one other : Core) (event : Event) → CoreStep core event one → CoreStep core event other → one ≡ other }
     ensures keeps { (old new : Core) (event : Event) → CoreStep old event new → IsClosed old → IsClosed new × KeepsReached old new }
 {}
 
