@@ -11,6 +11,7 @@ pub mod ReadingLaws
 pub mod CoreLaws
 pub mod MergeLaws
 pub mod MachineLaws
+pub mod LineLaws
 mod Vectors
 mod Readings
 mod Rows

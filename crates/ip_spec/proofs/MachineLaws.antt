@@ -6,11 +6,11 @@ use Rattle.ip_spec.specs.Path.{Bytes, Path}
 use Rattle.ip_spec.specs.Record.{Info}
 use Rattle.ip_spec.specs.Tree.{Tree}
 use Rattle.ip_spec.specs.Merge.{Rule, means, Merges, Outcome}
-use Rattle.ip_spec.specs.MergeModel.{Merger, merge_of, base_of, joined, merge_turned, machine}
+use Rattle.ip_spec.specs.MergeModel.{Merger, merge_of, base_of, joined, merge_turned, answer_by, machine}
 use Rattle.ip_spec.specs.Repository.{head, name_at, tree_at}
 use Rattle.ip_spec.specs.History.{is_ancestor, is_proper_ancestor, lcas}
 use Rattle.ip_spec.specs.Machine.{State, Command, Conditions, Reply, Target}
-use Rattle.ip_spec.specs.Step.{Refused, ◌>>=◌, ◌>>◌, Turned, or_refused, resolve, present, refuse_if, not_leaving, limited, with_merge, forwarded, answer, turned, Base, of_none, of_one, Joins, MergesInto, Merging, Turns, remembered}
+use Rattle.ip_spec.specs.Step.{Refused, ◌>>=◌, ◌>>◌, Turned, or_refused, resolve, present, refuse_if, not_leaving, limited, with_merge, forwarded, Base, of_none, of_one, Joins, MergesInto, Merging, Turns, MayAnswer, remembered}
 use Rattle.ip_spec.proofs.MergeLaws.{merges}
 
 module _ (f : Path → Merger) (s : State) (met : Conditions) (branch : Bytes) (info : Info) where
@@ -70,18 +70,16 @@ module _ (f : Path → Merger) (s : State) (met : Conditions) (branch : Bytes) (
   merging : (target : Target) → Merging rule s target branch info met (or_refused s (merge_turned f s target branch info met))
   merging target = (merge_turned f s target branch info met, refl, named_by (resolve s.repository target) (present (head s.repository branch) (Reply.NoBranch branch)))
 
-if_not : (b : Bool) (x y : Turned) → b ≡ false → (if b then x else y) ≡ y
-if_not true x y h = absurd (no_true_false h)
-  where
-    no_true_false : true ≡ false → ⊥
-    no_true_false e = cc
-if_not false x y h = refl
+by_refusal : (Q : Turned → Type 0) (b : Bool) (memory answer : Turned) → Q answer
+    → MatchBool b (((if b then memory else answer).0 ≡ memory.0) × ((if b then memory else answer).1 ≡ memory.1)) (Q (if b then memory else answer))
+by_refusal Q true memory answer is = (refl, refl)
+by_refusal Q false memory answer is = is
 
-turned_answer : (s : State) (command : Command) (met : Conditions) → met.told.refused ≡ false → turned s command met ≡ answer s command met
-unfolding turned
-turned_answer s command met quiet = if_not met.told.refused (Reply.Memory, remembered s s.phase met.told.child) (answer s command met) quiet
+answer_turns : (f : Path → Merger) (s : State) (command : Command) (met : Conditions) → Turns (λ p. means (f p)) s command met (answer_by f s command met)
+unfolding rule
+answer_turns f s (Command.Merge target branch info) met = merging f s met branch info target
+answer_turns f s command met = refl
 
-pub machine_turns : (f : Path → Merger) (s : State) (command : Command) (met : Conditions) → met.told.refused ≡ false → Turns (λ p. means (f p)) s command met (machine f s command met)
-unfolding machine rule
-machine_turns f s (Command.Merge target branch info) met quiet = merging f s met branch info target
-machine_turns f s command met quiet = turned_answer s command met quiet
+pub machine_turns : (f : Path → Merger) (s : State) (command : Command) (met : Conditions) → MayAnswer (λ p. means (f p)) s command met (machine f s command met)
+unfolding machine
+machine_turns f s command met = by_refusal (Turns (λ p. means (f p)) s command met) met.told.refused (Reply.Memory, remembered s s.phase met.told.child) (answer_by f s command met) (answer_turns f s command met)

@@ -1,4 +1,8 @@
 -- The words of the machine: its state, its commands, what a command meets, and its replies.
+--     Work, Phase, State      what a session holds.      exit_kept phase      the exit of a child that was reaped before
+--     opened r      how a session begins
+--     Verdict, verdict_on exit difference      the verdict on a child that has ended
+--     Conditions      what a command meets
 use Rattle.std.specs.Prelude.{ℕ, zero, Option, Some, None, List, [], pos}
 pub use Rattle.ip_spec.specs.declared.command.Target.{Target}
 pub use Rattle.ip_spec.specs.declared.command.Target.TheVariants as Target
@@ -7,8 +11,6 @@ pub use Rattle.ip_spec.specs.declared.command.Command.TheVariants as Command
 pub use Rattle.ip_spec.specs.declared.met.Child.{Child}
 pub use Rattle.ip_spec.specs.declared.met.Child.TheVariants as Child
 pub use Rattle.ip_spec.specs.declared.met.Met.{Met}
-pub use Rattle.ip_spec.specs.declared.met.Phase.{Phase}
-pub use Rattle.ip_spec.specs.declared.met.Phase.TheVariants as Phase
 pub use Rattle.ip_spec.specs.declared.reply.Produced.{Produced}
 pub use Rattle.ip_spec.specs.declared.reply.Produced.TheVariants as Produced
 pub use Rattle.ip_spec.specs.declared.reply.Seen.{Seen}
@@ -33,6 +35,16 @@ pub record Work : Type 0 where
 
 unfoldable pub empty_work : Work
 empty_work = record { tree = no_tree; parents = []; least = None }
+
+-- Idle; or a collection runs at a commit, and the exit of its child is kept where an earlier command reaped it and could not
+-- go on. The code tells of a kept exit only that there is one.
+pub data Phase : Type 0 where
+  Idle : Phase
+  Collecting : ℕ → Option Reaped → Phase
+
+abbrev pub exit_kept : Phase → Option Reaped
+exit_kept Phase.Idle = None
+exit_kept (Phase.Collecting c kept) = kept
 
 pub record State : Type 0 where
   pub repository : Repository

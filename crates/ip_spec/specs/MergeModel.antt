@@ -1,6 +1,7 @@
 -- The merge of three maps as a function, where each rule computes its answer: slow, for tests and worked examples.
 --     merge_of f o a b      the outcome that `Merges` allows
 --     merge_turned, machine      the step of `merge`, and of all commands, by it
+--     base_by, machine_over_bases      the same where several least common ancestors are merged first
 use Rattle.std.specs.Prelude.{reverse, ℕ, zero, suc, Bool, true, false, not, ◌&&◌, ◌||◌, List, [], ◌∷◌, length, Option, Some, None, is_some, Ok, if◌then◌else◌, nat_lt}
 use Rattle.std.specs.List.{list_any, find}
 use Rattle.ip_spec.specs.Map.{get, insert, insert_all, keys, empty}
@@ -11,7 +12,7 @@ use Rattle.ip_spec.specs.Merge.{Merged, Keep, Conflict, Outcome, merged, conflic
 use Rattle.ip_spec.specs.Repository.{Repository, next, head, name_at, tree_at}
 use Rattle.ip_spec.specs.History.{is_ancestor, is_proper_ancestor, common, lcas}
 use Rattle.ip_spec.specs.Machine.{State, Command, Conditions, Reply, Target}
-use Rattle.ip_spec.specs.Step.{Refused, ◌>>=◌, ◌>>◌, Turned, or_refused, resolve, present, refuse_if, not_leaving, limited, with_merge, forwarded, turned, step_runs}
+use Rattle.ip_spec.specs.Step.{Refused, ◌>>=◌, ◌>>◌, Turned, or_refused, resolve, present, refuse_if, not_leaving, limited, with_merge, forwarded, answer, turned, remembered, step_runs}
 
 abbrev pub Merger : Type 0
 Merger = Option Bytes → Option Bytes → Option Bytes → Merged
@@ -85,9 +86,12 @@ merge_turned f s target branch info met = do
       if is_proper_ancestor s.repository head number then forwarded s met number branch else
       joined f s met number branch head info
 
+abbrev pub answer_by : (Path → Merger) → State → Command → Conditions → Turned
+answer_by f s (Command.Merge target branch info) met = or_refused s (merge_turned f s target branch info met)
+answer_by f s command met = answer s command met
+
 unfoldable pub machine : (Path → Merger) → State → Command → Conditions → Turned
-machine f s (Command.Merge target branch info) met = or_refused s (merge_turned f s target branch info met)
-machine f s command met = turned s command met
+machine f s command met = if met.told.refused then (Reply.Memory, remembered s s.phase met.told.child) else answer_by f s command met
 
 -- ---- several bases
 

@@ -1,8 +1,12 @@
 -- One step of the machine. Of each command the refusals stand in their order, and after them what it does.
---     answer s c met      reply and next state, for all commands but `merge`
---     Step rule s c met reply s'      the machine may give this reply to the command, for what it meets, and go on to s'
+--     outcome s command met      the reply that refuses, or reply and next state, for all commands but `merge`.      answer s command met      reply and next state
+--     Base rule r cs tree      the ancestor's map of a merge, where cs are the least common ancestors.      MergesOf r cs n      how many merges that takes
+--     Merging rule s target branch info met turned      what `merge` may give
+--     IsMet s command met reply      what a command may meet
+--     Step rule s command met reply s'      the machine may give this reply to the command, for what it meets, and go on to s'
 --     Run rule s turns replies s'      a whole run
-use Rattle.std.specs.Prelude.{◌≡◌, ◌⊎◌, ℕ, suc, ◌+◌, ◌-◌, min, Bool, true, false, not, ◌&&◌, ◌==◌, List, [], ◌∷◌, ◌++◌, length, map, drop, reverse, Option, Some, None, is_some, option_map as mapped, Result, Ok, Err, IfSome, IsTrue, nat_le, nat_lt, if◌then◌else◌, MatchResult, max, fold}
+--     turned s command met      with want of memory, for all commands but `merge`.      quiet      nothing met
+use Rattle.std.specs.Prelude.{◌≡◌, ◌⊎◌, ℕ, suc, ◌+◌, ◌-◌, ◌<◌, min, pos, Bool, true, false, not, ◌&&◌, ◌==◌, List, [], ◌∷◌, ◌++◌, length, map, drop, reverse, Option, Some, None, is_some, option_map as mapped, Result, Ok, Err, IfSome, IsTrue, nat_le, nat_lt, if◌then◌else◌, MatchResult, max, fold}
 use Rattle.std.specs.List.{list_any, find}
 use Rattle.std.specs.Bool.{MatchBool}
 use Rattle.sha2.specs.Sha256.{sha256}
@@ -15,7 +19,7 @@ use Rattle.ip_spec.specs.Shape.{root_name, shape_runs}
 use Rattle.ip_spec.specs.Repository.{no_repository, CommitParent, Commit, Repository, next, commit_at, number_named, commit_name, head, name_at, tree_at}
 use Rattle.ip_spec.specs.History.{reaches, is_ancestor, is_proper_ancestor, ancestors, common, lcas}
 use Rattle.ip_spec.specs.Merge.{Rule, Merges, Outcome, merge_runs}
-use Rattle.ip_spec.specs.Machine.{empty_work, Phase, State, Target, Command, Limit, Verdict, verdict_on, Child, Conditions, Head, Reply}
+use Rattle.ip_spec.specs.Machine.{empty_work, Phase, exit_kept, State, Target, Command, Limit, Verdict, verdict_on, Child, Exit, Reaped, Conditions, Head, Reply}
 
 -- a value, or the reply that refuses
 abbrev pub Refused : Type 0 → Type 0
@@ -58,7 +62,8 @@ or_refused s (Err reply) = (reply, s)
 abbrev pub contents_limit : ℕ
 contents_limit = 1048576
 
--- of one directory, until it is split into inodes
+-- What a command may make of one directory, which is one leaf for now. The format allows more entries, for directories of many parts:
+-- the limit is raised to the format's own with them.
 abbrev pub entries_limit : ℕ
 entries_limit = 32
 
@@ -87,7 +92,7 @@ resolve r (Target.Commit hash) = present (number_named r hash) (Reply.NoCommit h
 
 -- a collection at c runs, and the command would rest on a commit below c
 abbrev pub not_leaving : State → Option ℕ → Refused (Unit {0})
-not_leaving s n = elim s.phase [ Phase.Idle ↦ Ok tt | Phase.Collecting c kept ↦ unless_some (below c n) Reply.Leaving ]
+not_leaving s n = elim s.phase [ Phase.Idle ↦ Ok tt | Phase.Collecting c exit ↦ unless_some (below c n) Reply.Leaving ]
 
 abbrev pub same_limit : Limit → Limit → Bool
 same_limit Limit.Space Limit.Space = true
@@ -165,7 +170,7 @@ collected_at r c = record r { floor = c; commits = drop (c - r.floor) r.commits 
 
 abbrev pub phase_at : Phase → Option ℕ
 phase_at Phase.Idle = None
-phase_at (Phase.Collecting c kept) = Some c
+phase_at (Phase.Collecting c exit) = Some c
 
 -- the commit at which a collection runs
 abbrev pub collected_commit : State → Refused ℕ
@@ -189,19 +194,20 @@ judged s c met Verdict.accepted = Ok (
     then (Reply.Limit Limit.Sequence, record s { phase = Phase.Idle })
     else (Reply.Collected c met.told.left, record s { phase = Phase.Idle; repository = collected_at s.repository c }))
 
-abbrev pub kept : State → ℕ → State
-kept s c = record s { phase = Phase.Collecting c true }
+abbrev pub with_exit : State → ℕ → Reaped → State
+with_exit s c reaped = record s { phase = Phase.Collecting c (Some reaped) }
 
-abbrev pub checked : State → ℕ → Conditions → Verdict → Option ℕ → Refused Turned
-checked s c met verdict None = judged s c met verdict
-checked s c met verdict (Some left) = Ok (Reply.Checking left, kept s c)
+-- where the check is not through the exit is kept, else it is judged
+abbrev pub checked : State → ℕ → Conditions → Reaped → Option ℕ → Refused Turned
+checked s c met reaped None = judged s c met (verdict_on reaped.exit met.difference)
+checked s c met reaped (Some left) = Ok (Reply.Checking left, with_exit s c reaped)
 
--- while a collection runs the child was asked, or its exit was kept
+-- While a collection runs the child was asked, or its exit was kept: that it was not asked is never met.
 abbrev pub heard : State → ℕ → Conditions → Child → Refused Turned
 heard s c met Child.NotAsked = Err Reply.Running
 heard s c met Child.Running = Err Reply.Running
 heard s c met Child.Fault = Err Reply.WaitFault
-heard s c met (Child.Ended reaped) = checked s c met (verdict_on reaped.exit met.difference) met.told.checking
+heard s c met (Child.Ended reaped) = checked s c met reaped met.told.checking
 
 -- what stands somewhere in the tree of commit n, put at a path
 abbrev pub grafted : State → ℕ → Tree → Path → Refused Turned
@@ -302,7 +308,7 @@ outcome s (Command.Collect target) met = do
   enough met Limit.Space
   enough met Limit.Sequence
   refuse_if met.told.start_failed Reply.StartFault
-  Ok (Reply.Started (name_at s.repository n), record s { phase = Phase.Collecting n false })
+  Ok (Reply.Started (name_at s.repository n), record s { phase = Phase.Collecting n None })
 outcome s Command.Look met = do
   c ← collected_commit s
   heard s c met met.told.child
@@ -403,11 +409,35 @@ IsReaped Child.NotAsked = ⊥
 IsReaped Child.Running = ⊥
 IsReaped Child.Fault = ⊥
 
--- the child is asked by `look` and `finish` while a collection runs and no exit is kept, and `finish` waits
+-- with an exit other than code 0 there is nothing to check
+abbrev pub HasSucceeded : Child → Type 0
+HasSucceeded (Child.Ended reaped) = reaped.exit ≡ Exit.Code (pos 0)
+HasSucceeded Child.NotAsked = ⊥
+HasSucceeded Child.Running = ⊥
+HasSucceeded Child.Fault = ⊥
+
+-- The child is asked by `look` and `finish` alone, while a collection runs and no exit is kept, and `finish` waits. A kept exit is the one heard.
 abbrev pub MayHear : Phase → Command → Child → Type 0
-MayHear (Phase.Collecting c kept) Command.Look child = IsReaped child ⊎ ((kept ≡ false) × ((child ≡ Child.Running) ⊎ (child ≡ Child.Fault)))
-MayHear (Phase.Collecting c kept) Command.Finish child = IsReaped child ⊎ ((kept ≡ false) × (child ≡ Child.Fault))
+MayHear (Phase.Collecting c None) Command.Look child = IsReaped child ⊎ (child ≡ Child.Running) ⊎ (child ≡ Child.Fault)
+MayHear (Phase.Collecting c None) Command.Finish child = IsReaped child ⊎ (child ≡ Child.Fault)
+MayHear (Phase.Collecting c (Some reaped)) Command.Look child = child ≡ Child.Ended reaped
+MayHear (Phase.Collecting c (Some reaped)) Command.Finish child = child ≡ Child.Ended reaped
 MayHear phase command child = child ≡ Child.NotAsked
+
+-- the three that depend on more than the machine's state
+abbrev pub MayBeShort : Limit → Type 0
+MayBeShort Limit.Space = Unit {0}
+MayBeShort Limit.Sequence = Unit {0}
+MayBeShort Limit.Attempt = Unit {0}
+MayBeShort limit = ⊥
+
+-- the replies that a sweep follows
+abbrev pub IsSwept : Reply → Type 0
+IsSwept (Reply.Collected floor left) = Unit {0}
+IsSwept (Reply.RejectedExit exit) = Unit {0}
+IsSwept (Reply.Rejected difference) = Unit {0}
+IsSwept Reply.Cancelled = Unit {0}
+IsSwept reply = ⊥
 
 -- want of memory is free in all commands but these; of the two that ask the child it comes only once the child was reaped
 abbrev pub MayRefuse : Command → Child → Type 0
@@ -421,24 +451,30 @@ MayRefuse command child = Unit {0}
 -- what a command may meet, and that it tells what it met
 pub record IsMet (s : State) (command : Command) (met : Conditions) (reply : Reply) : Type 0 where
   pub child : MayHear s.phase command met.told.child
-  pub checking : IfSome met.told.checking (λ left. (command ≡ Command.Look) × IsReaped met.told.child)
+  pub checking : IfSome met.told.checking (λ left. (command ≡ Command.Look) × HasSucceeded met.told.child)
   pub start : IsTrue met.told.start_failed → reply ≡ Reply.StartFault
-  pub kill : IsTrue met.told.kill_failed → reply ≡ Reply.CancelledOrphan
-  pub short : IfSome met.told.short (λ l. reply ≡ Reply.Limit l)
+  -- a child whose exit is kept needs no kill
+  pub kill : IsTrue met.told.kill_failed → (reply ≡ Reply.CancelledOrphan) × (exit_kept s.phase ≡ None)
+  pub left : 0 < met.told.left → IsSwept reply
+  pub short : IfSome met.told.short (λ limit. (reply ≡ Reply.Limit limit) × MayBeShort limit)
   pub refused : IsTrue met.told.refused → MayRefuse command met.told.child
 
 -- an exit that was reaped is kept
 abbrev pub remembered : State → Phase → Child → State
-remembered s (Phase.Collecting c kept_before) (Child.Ended reaped) = kept s c
+remembered s (Phase.Collecting c exit) (Child.Ended reaped) = with_exit s c reaped
 remembered s phase child = s
 
 abbrev pub Turns : Rule → State → Command → Conditions → Turned → Type 0
 Turns rule s (Command.Merge target branch info) met turned = Merging rule s target branch info met turned
 Turns rule s command met turned = turned ≡ answer s command met
 
+-- with memory refused nothing is changed, save that an exit that was reaped is kept
+abbrev pub MayAnswer : Rule → State → Command → Conditions → Turned → Type 0
+MayAnswer rule s command met turned =
+    MatchBool met.told.refused ((turned.0 ≡ Reply.Memory) × (turned.1 ≡ remembered s s.phase met.told.child)) (Turns rule s command met turned)
+
 abbrev pub Step : Rule → State → Command → Conditions → Reply → State → Type 0
-Step rule s command met reply s' = IsMet s command met reply
-    × MatchBool met.told.refused ((reply ≡ Reply.Memory) × (s' ≡ remembered s s.phase met.told.child)) (Turns rule s command met (reply, s'))
+Step rule s command met reply s' = IsMet s command met reply × MayAnswer rule s command met (reply, s')
 
 -- the machine may give these replies to these commands, one after another, for what each meets
 abbrev pub Run : Rule → State → List (Command × Conditions) → List Reply → State → Type 0

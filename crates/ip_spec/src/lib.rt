@@ -1,7 +1,7 @@
 //! The definitions that every contract of the store cites, and the laws that hold of them.
 #![tactic(auto)]
 
-ghost use Rattle.std.specs.Prelude.{◌≡◌, ℕ, Option, Some, None, cond, not, IsFalse, IsTrue, List, ◌++◌, length, Ok};
+ghost use Rattle.std.specs.Prelude.{◌≡◌, ℕ, Option, Some, None, cond, not, IsTrue, List, ◌++◌, length, Ok};
 ghost use Rattle.ip_spec.specs.Map.{get};
 ghost use Rattle.ip_spec.specs.Path.{Bytes, Path, same_path, is_prefix, is_related};
 ghost use Rattle.ip_spec.specs.Record.{Record, Fits, spelling};
@@ -14,7 +14,8 @@ ghost use Rattle.ip_spec.specs.History.{Ancestor, ParentsFirst, is_ancestor};
 ghost use Rattle.ip_spec.specs.Merge.{Merges, means};
 ghost use Rattle.ip_spec.specs.MergeModel.{Merger, merge_of, machine};
 ghost use Rattle.ip_spec.specs.Machine.{State, Command, Conditions};
-ghost use Rattle.ip_spec.specs.Step.{Turns};
+ghost use Rattle.ip_spec.specs.Step.{MayAnswer};
+ghost use Rattle.ip_spec.specs.Line.{IsLineOf, IsServedLine, IsBadAt};
 
 pub mod command;
 pub mod event;
@@ -49,10 +50,16 @@ pub fn merges()
     ensures { (f : Path → Merger) (o a b : Tree) → Merges (λ p. means (f p)) o a b (merge_of f o a b) }
 {}
 
-/// For rules that compute, the machine that computes takes the machine's turns.
+/// For rules that compute, the machine that computes answers as the machine may, want of memory included.
 pub fn turns()
     ensures { (f : Path → Merger) (s : State) (command : Command) (met : Conditions) →
-        IsFalse met.told.refused → Turns (λ p. means (f p)) s command met (machine f s command met) }
+        MayAnswer (λ p. means (f p)) s command met (machine f s command met) }
+{}
+
+/// A line that is no command goes wrong at one place at most, also while some commands are not served yet.
+pub fn bad_lines()
+    ensures place { (line : Bytes) (a b : ℕ) → IsBadAt IsLineOf line a → IsBadAt IsLineOf line b → a ≡ b }
+    ensures served { (line : Bytes) (a b : ℕ) → IsBadAt IsServedLine line a → IsBadAt IsServedLine line b → a ≡ b }
 {}
 
 /// At one offset of some records stands one tree at most.
