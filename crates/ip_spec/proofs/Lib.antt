@@ -14,10 +14,16 @@ pub mod MachineLaws
 pub mod LineLaws
 mod Vectors
 mod Readings
-mod Rows
+mod Played
+mod TreeExamples
+mod CommitExamples
+mod MergeExamples
+mod CollectionExamples
+mod FaultExamples
 mod FullDirectory
 mod Batches
 mod WideBatch
-mod Lines
+mod LineExamples
+mod TextExamples
 pub mod BitmapLaws
 pub mod ReadingExact

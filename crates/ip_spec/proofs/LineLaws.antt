@@ -1,5 +1,5 @@
 -- Laws of lines, whatever the grammar.
-use Rattle.std.proofs.Common.{◌≡◌, ◌⊎◌, inl, inr, ℕ, ◌<◌, ◌≤◌, refl, subst, sym, T, Bool, true, false, leb→le, arith}
+use Rattle.std.proofs.Common.{◌≡◌, ◌⊎◌, inl, inr, ℕ, ◌<◌, refl, subst, sym, T, Bool, true, false, leb→le, arith}
 use Rattle.std.specs.Prelude.{nat_le}
 use Rattle.ip_spec.specs.Path.{Bytes}
 use Rattle.ip_spec.specs.Line.{Grammar, IsBadAt}

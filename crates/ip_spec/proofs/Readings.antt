@@ -1,5 +1,5 @@
 -- Vectors of reading.
-use Rattle.std.proofs.Common.{◌≡◌, ℕ, List, [], ◌∷◌, refl, Some, Result, Ok, Err}
+use Rattle.std.proofs.Common.{◌≡◌, ℕ, List, [], ◌∷◌, refl, Result, Ok, Err}
 use Rattle.std.specs.Prelude.{codes}
 use Rattle.ip_spec.specs.Record.{Record, spelling}
 use Rattle.ip_spec.specs.Reading.{RecordFault, reading, reading_runs}

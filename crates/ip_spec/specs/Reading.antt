@@ -4,7 +4,7 @@ use Rattle.std.specs.Prelude.{ℕ, zero, suc, ◌+◌, ◌/◌, ◌%◌, ◌^◌
 use Rattle.std.specs.List.{list_all, range_with_len}
 use Rattle.std.specs.Int.{Width, w8, w16, w32, w64, byte_len, from_le_bytes}
 use Rattle.std.specs.Ordering.{is_lt}
-use Rattle.ip_spec.specs.Path.{Bytes, Step, bytes_cmp, slash, space, line_feed, is_word_byte}
+use Rattle.ip_spec.specs.Path.{Bytes, Step, bytes_cmp, slash, line_feed, is_word_byte}
 use Rattle.ip_spec.specs.Record.{Record, Names, name_set, name_remove, name_table, LeafEntry, InodeChild, Parent, Branch, Info, Hash, contents_limit}
 pub use Rattle.ip_spec.specs.declared.record.RecordFault.{RecordFault}
 pub use Rattle.ip_spec.specs.declared.record.RecordFault.TheVariants as RecordFault
