@@ -1,9 +1,9 @@
 -- The words of the machine: its state, its commands, what a command meets, and its replies.
---     Work, Phase, State      what a session holds.      exit_kept phase      the exit of a child that was reaped before
+--     Work, Phase, State      what a session holds.      exit_kept phase      the exit of a child that was reaped before.      phase_told phase      what the store tells of it
 --     opened r      how a session begins
 --     Verdict, verdict_on exit difference      the verdict on a child that has ended
 --     Conditions      what a command meets
-use Rattle.std.specs.Prelude.{ℕ, zero, Option, Some, None, List, [], pos}
+use Rattle.std.specs.Prelude.{ℕ, zero, Option, Some, None, is_some, List, [], pos}
 pub use Rattle.ip_spec.specs.declared.command.Target.{Target}
 pub use Rattle.ip_spec.specs.declared.command.Target.TheVariants as Target
 pub use Rattle.ip_spec.specs.declared.command.Command.{Command}
@@ -11,6 +11,7 @@ pub use Rattle.ip_spec.specs.declared.command.Command.TheVariants as Command
 pub use Rattle.ip_spec.specs.declared.met.Child.{Child}
 pub use Rattle.ip_spec.specs.declared.met.Child.TheVariants as Child
 pub use Rattle.ip_spec.specs.declared.met.Met.{Met}
+use Rattle.ip_spec.specs.declared.met.Phase.{Phase as ToldPhase}
 pub use Rattle.ip_spec.specs.declared.reply.Produced.{Produced}
 pub use Rattle.ip_spec.specs.declared.reply.Produced.TheVariants as Produced
 pub use Rattle.ip_spec.specs.declared.reply.Seen.{Seen}
@@ -41,6 +42,11 @@ empty_work = record { tree = no_tree; parents = []; least = None }
 pub data Phase : Type 0 where
   Idle : Phase
   Collecting : ℕ → Option Reaped → Phase
+
+-- what the store tells of its phase
+abbrev pub phase_told : Phase → ToldPhase
+phase_told Phase.Idle = ToldPhase.Idle
+phase_told (Phase.Collecting c kept) = ToldPhase.Collecting c (is_some kept)
 
 abbrev pub exit_kept : Phase → Option Reaped
 exit_kept Phase.Idle = None
