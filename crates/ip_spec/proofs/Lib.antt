@@ -10,6 +10,7 @@ pub mod HistoryLaws
 pub mod ReadingLaws
 pub mod CoreLaws
 pub mod MergeLaws
+pub mod OneMerge
 pub mod MachineLaws
 pub mod LineLaws
 mod Vectors

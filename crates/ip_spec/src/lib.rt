@@ -11,7 +11,7 @@ ghost use Rattle.ip_spec.specs.TreeAt.{TreeAt};
 ghost use Rattle.ip_spec.specs.Core.{Core, Event, CoreStep, CoreRun, no_core, IsClosed, KeepsReached};
 ghost use Rattle.ip_spec.specs.Repository.{Repository};
 ghost use Rattle.ip_spec.specs.History.{Ancestor, ParentsFirst, is_ancestor};
-ghost use Rattle.ip_spec.specs.Merge.{Merges, means};
+ghost use Rattle.ip_spec.specs.Merge.{Merges, Outcome, means};
 ghost use Rattle.ip_spec.specs.MergeModel.{Merger, merge_of, machine};
 ghost use Rattle.ip_spec.specs.Machine.{State, Command, Conditions};
 ghost use Rattle.ip_spec.specs.Step.{MayAnswer};
@@ -45,9 +45,11 @@ pub fn ancestors()
     ensures ancestor { (r : Repository) → ParentsFirst r → (a n : ℕ) → Ancestor r a n → IsTrue (is_ancestor r a n) }
 {}
 
-/// For rules that compute, the merge that computes is a merge.
+/// For rules that compute, the merge that computes is a merge, and there is no other.
 pub fn merges()
-    ensures { (f : Path → Merger) (o a b : Tree) → Merges (λ p. means (f p)) o a b (merge_of f o a b) }
+    ensures some { (f : Path → Merger) (o a b : Tree) → Merges (λ p. means (f p)) o a b (merge_of f o a b) }
+    ensures one { (f : Path → Merger) (o a b : Tree) (m n : Outcome) →
+        Merges (λ p. means (f p)) o a b m → Merges (λ p. means (f p)) o a b n → m ≡ n }
 {}
 
 /// For rules that compute, the machine that computes answers as the machine may, want of memory included.
