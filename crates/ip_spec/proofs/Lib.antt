@@ -11,18 +11,26 @@ pub mod HistoryLaws
 pub mod ReadingLaws
 pub mod CoreLaws
 pub mod MergeLaws
+pub mod OneMerge
 pub mod MachineLaws
+pub mod LineLaws
 mod RecordBytes
 mod StepPlaces
 mod ReadingFaults
 mod ReadBack
-mod MergerExamples
+mod MergerAnswers
 mod LoadLines
-mod Rows
+mod Played
+mod TreeExamples
+mod CommitExamples
+mod MergeExamples
+mod CollectionExamples
+mod FaultExamples
 mod FullDirectory
 mod CommitBatches
 mod InodeBatch
-mod Lines
+mod LineExamples
+mod TextExamples
 pub mod BitmapLaws
 pub mod ReadingExact
 pub mod FieldsRead

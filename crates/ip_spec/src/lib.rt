@@ -14,10 +14,11 @@ ghost use Rattle.ip_spec.specs.Batch.{CommitFields, Sources, sources, reusing_so
 ghost use Rattle.ip_spec.specs.Core.{Core, Event, CoreStep, CoreRun, no_core, IsClosed, KeepsReached};
 ghost use Rattle.ip_spec.specs.Repository.{Repository};
 ghost use Rattle.ip_spec.specs.History.{Ancestor, ParentsFirst, is_ancestor};
-ghost use Rattle.ip_spec.specs.Merge.{Merges, means};
+ghost use Rattle.ip_spec.specs.Merge.{Merges, Outcome, means};
 ghost use Rattle.ip_spec.specs.MergeModel.{Merger, merge_of, machine};
 ghost use Rattle.ip_spec.specs.Machine.{State, Command, Conditions};
-ghost use Rattle.ip_spec.specs.Step.{Turns};
+ghost use Rattle.ip_spec.specs.Step.{MayAnswer};
+ghost use Rattle.ip_spec.specs.Line.{IsLineOf, IsServedLine, IsBadAt};
 
 pub mod command;
 pub mod event;
@@ -50,15 +51,23 @@ pub fn ancestors()
     ensures ancestor { (r : Repository) → ParentsFirst r → (a n : ℕ) → Ancestor r a n → IsTrue (is_ancestor r a n) }
 {}
 
-/// For rules that compute, the merge that computes is a merge.
+/// For rules that compute, the merge that computes is a merge, and there is no other.
 pub fn merges()
-    ensures { (f : Path → Merger) (o a b : Tree) → Merges (λ p. means (f p)) o a b (merge_of f o a b) }
+    ensures some { (f : Path → Merger) (o a b : Tree) → Merges (λ p. means (f p)) o a b (merge_of f o a b) }
+    ensures one { (f : Path → Merger) (o a b : Tree) (m n : Outcome) →
+        Merges (λ p. means (f p)) o a b m → Merges (λ p. means (f p)) o a b n → m ≡ n }
 {}
 
-/// For rules that compute, the machine that computes takes the machine's turns.
+/// For rules that compute, the machine that computes answers as the machine may, want of memory included.
 pub fn turns()
     ensures { (f : Path → Merger) (s : State) (command : Command) (met : Conditions) →
-        IsFalse met.told.refused → Turns (λ p. means (f p)) s command met (machine f s command met) }
+        MayAnswer (λ p. means (f p)) s command met (machine f s command met) }
+{}
+
+/// A line that is no command goes wrong at one place at most, also while some commands are not served yet.
+pub fn bad_lines()
+    ensures place { (line : Bytes) (a b : ℕ) → IsBadAt IsLineOf line a → IsBadAt IsLineOf line b → a ≡ b }
+    ensures served { (line : Bytes) (a b : ℕ) → IsBadAt IsServedLine line a → IsBadAt IsServedLine line b → a ≡ b }
 {}
 
 /// At one offset of some records stands one tree at most.
