@@ -2,6 +2,7 @@ pub mod TreeAtLaws
 pub mod TreeLaws
 pub mod Subtrees
 pub mod SameDirectory
+pub mod GraftLaws
 pub mod Naming
 pub mod Spelling
 pub mod BatchLaws
@@ -10,13 +11,27 @@ pub mod HistoryLaws
 pub mod ReadingLaws
 pub mod CoreLaws
 pub mod MergeLaws
+pub mod OneMerge
 pub mod MachineLaws
-mod Vectors
-mod Readings
-mod Rows
+pub mod LineLaws
+mod RecordBytes
+mod StepPlaces
+mod ReadingFaults
+mod ReadBack
+mod MergerAnswers
+mod LoadLines
+mod Played
+mod TreeExamples
+mod CommitExamples
+mod MergeExamples
+mod CollectionExamples
+mod FaultExamples
 mod FullDirectory
-mod Batches
-mod WideBatch
-mod Lines
+mod CommitBatches
+mod InodeBatch
+mod LineExamples
+mod TextExamples
 pub mod BitmapLaws
 pub mod ReadingExact
+pub mod FieldsRead
+pub mod RecordsRead

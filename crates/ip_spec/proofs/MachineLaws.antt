@@ -6,11 +6,11 @@ use Rattle.ip_spec.specs.Path.{Bytes, Path}
 use Rattle.ip_spec.specs.Record.{Info}
 use Rattle.ip_spec.specs.Tree.{Tree}
 use Rattle.ip_spec.specs.Merge.{Rule, means, Merges, Outcome}
-use Rattle.ip_spec.specs.MergeModel.{Merger, merge_of, base_of, joined, merge_turned, machine}
+use Rattle.ip_spec.specs.MergeModel.{Merger, merge_of, base_of, join_turn, merge_turn, answer_by, machine}
 use Rattle.ip_spec.specs.Repository.{head, name_at, tree_at}
 use Rattle.ip_spec.specs.History.{is_ancestor, is_proper_ancestor, lcas}
 use Rattle.ip_spec.specs.Machine.{State, Command, Conditions, Reply, Target}
-use Rattle.ip_spec.specs.Step.{Refused, ◌>>=◌, ◌>>◌, Turned, or_refused, resolve, present, refuse_if, not_leaving, limited, with_merge, forwarded, answer, turned, Base, of_none, of_one, Joins, MergesInto, Merging, Turns, remembered}
+use Rattle.ip_spec.specs.Step.{Refused, ◌>>=◌, ◌>>◌, Turned, or_refused, resolve, present, refuse_if, not_leaving, tree_of_outcome, with_merge, forward_turn, Base, of_none, of_one, Joins, MergesInto, Merging, Turns, MayAnswer, state_with_exit}
 use Rattle.ip_spec.proofs.MergeLaws.{merges}
 
 module _ (f : Path → Merger) (s : State) (met : Conditions) (branch : Bytes) (info : Info) where
@@ -18,11 +18,11 @@ module _ (f : Path → Merger) (s : State) (met : Conditions) (branch : Bytes) (
   rule p = means (f p)
 
   abbrev after_base : ℕ → ℕ → List ℕ → Refused Turned
-  after_base number head cs = limited (merge_of f (base_of s.repository cs) (tree_at s.repository head) (tree_at s.repository number)) >>= with_merge s met number branch head info
+  after_base number head cs = tree_of_outcome (merge_of f (base_of s.repository cs) (tree_at s.repository head) (tree_at s.repository number)) >>= with_merge s met number branch head info
 
   abbrev Joined : ℕ → ℕ → List ℕ → Refused Turned → Type 0
   Joined number head cs turned = (base : Refused Tree) × Base rule s.repository (reverse cs) base × MatchResult base
-      (λ o. (m : Outcome) × Merges rule o (tree_at s.repository head) (tree_at s.repository number) m × (turned ≡ (limited m >>= with_merge s met number branch head info)))
+      (λ o. (m : Outcome) × Merges rule o (tree_at s.repository head) (tree_at s.repository number) m × (turned ≡ (tree_of_outcome m >>= with_merge s met number branch head info)))
       (λ reply. turned ≡ Err reply)
 
   over_base : (number head : ℕ) (cs : List ℕ) → Base rule s.repository (reverse cs) (Ok (base_of s.repository cs)) → Joined number head cs (after_base number head cs)
@@ -46,14 +46,14 @@ module _ (f : Path → Merger) (s : State) (met : Conditions) (branch : Bytes) (
       no_both : (b : Bool) → b ≡ false → b ≡ true → ⊥
       no_both b p q = cc
 
-  joins : (number head : ℕ) → Joins rule s met number branch head info (joined f s met number branch head info)
+  joins : (number head : ℕ) → Joins rule s met number branch head info (join_turn f s met number branch head info)
   joins number head = by_room number head (lcas s.repository head number) (not_leaving s (Some number)) (nat_lt 1 (length (lcas s.repository head number))) (one_base number head (lcas s.repository head number))
 
   abbrev chosen : ℕ → ℕ → Bool → Bool → Refused Turned
-  chosen number head a b = if a then Ok (Reply.Current (name_at s.repository head), s) else if b then forwarded s met number branch else joined f s met number branch head info
+  chosen number head a b = if a then Ok (Reply.Current (name_at s.repository head), s) else if b then forward_turn s met number branch else join_turn f s met number branch head info
 
   into_by : (number head : ℕ) (a b : Bool) → MatchBool a (chosen number head a b ≡ Ok (Reply.Current (name_at s.repository head), s))
-      (MatchBool b (chosen number head a b ≡ forwarded s met number branch) (Joins rule s met number branch head info (chosen number head a b)))
+      (MatchBool b (chosen number head a b ≡ forward_turn s met number branch) (Joins rule s met number branch head info (chosen number head a b)))
   into_by number head true b = refl
   into_by number head false true = refl
   into_by number head false false = joins number head
@@ -67,21 +67,19 @@ module _ (f : Path → Merger) (s : State) (met : Conditions) (branch : Bytes) (
   named_by (Ok number) (Err reply) = refl
   named_by (Ok number) (Ok head) = into_by number head (is_ancestor s.repository number head) (is_proper_ancestor s.repository head number)
 
-  merging : (target : Target) → Merging rule s target branch info met (or_refused s (merge_turned f s target branch info met))
-  merging target = (merge_turned f s target branch info met, refl, named_by (resolve s.repository target) (present (head s.repository branch) (Reply.NoBranch branch)))
+  merging : (target : Target) → Merging rule s target branch info met (or_refused s (merge_turn f s target branch info met))
+  merging target = (merge_turn f s target branch info met, refl, named_by (resolve s.repository target) (present (head s.repository branch) (Reply.NoBranch branch)))
 
-if_not : (b : Bool) (x y : Turned) → b ≡ false → (if b then x else y) ≡ y
-if_not true x y h = absurd (no_true_false h)
-  where
-    no_true_false : true ≡ false → ⊥
-    no_true_false e = cc
-if_not false x y h = refl
+by_refusal : (Q : Turned → Type 0) (b : Bool) (memory answer : Turned) → Q answer
+    → MatchBool b (((if b then memory else answer).0 ≡ memory.0) × ((if b then memory else answer).1 ≡ memory.1)) (Q (if b then memory else answer))
+by_refusal Q true memory answer is = (refl, refl)
+by_refusal Q false memory answer is = is
 
-turned_answer : (s : State) (command : Command) (met : Conditions) → met.told.refused ≡ false → turned s command met ≡ answer s command met
-unfolding turned
-turned_answer s command met quiet = if_not met.told.refused (Reply.Memory, remembered s s.phase met.told.child) (answer s command met) quiet
+answer_turns : (f : Path → Merger) (s : State) (command : Command) (met : Conditions) → Turns (λ p. means (f p)) s command met (answer_by f s command met)
+unfolding rule
+answer_turns f s (Command.Merge target branch info) met = merging f s met branch info target
+answer_turns f s command met = refl
 
-pub machine_turns : (f : Path → Merger) (s : State) (command : Command) (met : Conditions) → met.told.refused ≡ false → Turns (λ p. means (f p)) s command met (machine f s command met)
-unfolding machine rule
-machine_turns f s (Command.Merge target branch info) met quiet = merging f s met branch info target
-machine_turns f s command met quiet = turned_answer s command met quiet
+pub machine_turns : (f : Path → Merger) (s : State) (command : Command) (met : Conditions) → MayAnswer (λ p. means (f p)) s command met (machine f s command met)
+unfolding machine
+machine_turns f s command met = by_refusal (Turns (λ p. means (f p)) s command met) met.told.refused (Reply.Memory, state_with_exit s s.phase met.told.child) (answer_by f s command met) (answer_turns f s command met)

@@ -1,5 +1,9 @@
 -- The words of the machine: its state, its commands, what a command meets, and its replies.
-use Rattle.std.specs.Prelude.{ℕ, zero, Option, Some, None, List, [], pos}
+--     Work, Phase, State      what a session holds.      exit_kept phase      the exit of a child that was reaped before.      phase_told phase      what the store tells of it
+--     opened r      how a session begins
+--     Verdict, verdict_on exit difference      the verdict on a child that has ended
+--     Conditions      what a command meets
+use Rattle.std.specs.Prelude.{ℕ, zero, Option, Some, None, is_some, List, [], pos}
 pub use Rattle.ip_spec.specs.declared.command.Target.{Target}
 pub use Rattle.ip_spec.specs.declared.command.Target.TheVariants as Target
 pub use Rattle.ip_spec.specs.declared.command.Command.{Command}
@@ -7,8 +11,7 @@ pub use Rattle.ip_spec.specs.declared.command.Command.TheVariants as Command
 pub use Rattle.ip_spec.specs.declared.met.Child.{Child}
 pub use Rattle.ip_spec.specs.declared.met.Child.TheVariants as Child
 pub use Rattle.ip_spec.specs.declared.met.Met.{Met}
-pub use Rattle.ip_spec.specs.declared.met.Phase.{Phase}
-pub use Rattle.ip_spec.specs.declared.met.Phase.TheVariants as Phase
+use Rattle.ip_spec.specs.declared.met.Phase.{Phase as ToldPhase}
 pub use Rattle.ip_spec.specs.declared.reply.Produced.{Produced}
 pub use Rattle.ip_spec.specs.declared.reply.Produced.TheVariants as Produced
 pub use Rattle.ip_spec.specs.declared.reply.Seen.{Seen}
@@ -33,6 +36,21 @@ pub record Work : Type 0 where
 
 unfoldable pub empty_work : Work
 empty_work = record { tree = no_tree; parents = []; least = None }
+
+-- Idle; or a collection runs at a commit, and the exit of its child is kept where an earlier command reaped it and could not
+-- go on. The code tells of a kept exit only that there is one.
+pub data Phase : Type 0 where
+  Idle : Phase
+  Collecting : ℕ → Option Reaped → Phase
+
+-- what the store tells of its phase
+abbrev pub phase_told : Phase → ToldPhase
+phase_told Phase.Idle = ToldPhase.Idle
+phase_told (Phase.Collecting c kept) = ToldPhase.Collecting c (is_some kept)
+
+abbrev pub exit_kept : Phase → Option Reaped
+exit_kept Phase.Idle = None
+exit_kept (Phase.Collecting c kept) = kept
 
 pub record State : Type 0 where
   pub repository : Repository

@@ -4,7 +4,7 @@
 --     is_prefix p q      q is p or lies under it.      is_related p q      one of them is a prefix of the other
 --     after_prefix p q      what is left of q behind p, where p is a prefix of q
 --     IsStep, IsPath      what a script may name: 1 to 64 steps of 1 to 255 bytes
-use Rattle.std.specs.Prelude.{◌≢◌, ℕ, ◌<◌, ◌≤◌, Bool, true, false, ◌&&◌, ◌||◌, cond, List, [], ◌∷◌, ◌++◌, length, All, Option, Some, None}
+use Rattle.std.specs.Prelude.{ℕ, ◌<◌, Bool, true, false, ◌&&◌, ◌||◌, cond, List, [], ◌∷◌, All, Option, Some, None}
 use Rattle.std.specs.Ordering.{nat_cmp, eq_by_cmp}
 use Rattle.std.specs.Cmp.Lexicographic.{slice_cmp}
 use Rattle.std.specs.declared.cmp.Ordering.{Ordering}

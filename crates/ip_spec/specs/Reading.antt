@@ -4,7 +4,7 @@ use Rattle.std.specs.Prelude.{ℕ, zero, suc, ◌+◌, ◌/◌, ◌%◌, ◌^◌
 use Rattle.std.specs.List.{list_all, range_with_len}
 use Rattle.std.specs.Int.{Width, w8, w16, w32, w64, byte_len, from_le_bytes}
 use Rattle.std.specs.Ordering.{is_lt}
-use Rattle.ip_spec.specs.Path.{Bytes, Step, bytes_cmp, slash, space, line_feed, is_word_byte}
+use Rattle.ip_spec.specs.Path.{Bytes, Step, bytes_cmp, slash, line_feed, is_word_byte}
 use Rattle.ip_spec.specs.Record.{Record, Names, name_set, name_remove, name_table, LeafEntry, InodeChild, Parent, Branch, Info, Hash, contents_limit}
 pub use Rattle.ip_spec.specs.declared.record.RecordFault.{RecordFault}
 pub use Rattle.ip_spec.specs.declared.record.RecordFault.TheVariants as RecordFault
@@ -178,9 +178,9 @@ fields_of kind =
     if kind == 9 then Some (remove_fields Names.tags) else
     if kind == 10 then Some (table_fields Names.tags) else None
 
--- kinds 8 to 10 came with version 2
+-- kinds 8 to 10 are there from version 2 on
 abbrev pub known : ℕ → ℕ → Bool
-known version kind = nat_lt 0 kind && nat_le kind (if version == 1 then 7 else 10)
+known version kind = nat_lt 0 kind && nat_le kind (if nat_le 2 version then 10 else 7)
 
 -- all of the body is used up
 abbrev pub whole : ℕ → Result (Record × Left) ℕ → Result (Record × ℕ) RecordFault

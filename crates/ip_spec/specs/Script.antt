@@ -7,11 +7,12 @@ use Rattle.std.specs.Prelude.{◌≡◌, ◌⊎◌, ℕ, zero, suc, Bool, not, �
 use Rattle.std.specs.List.{list_any, last_or}
 use Rattle.ip_spec.specs.Path.{Bytes, line_feed, space}
 use Rattle.ip_spec.specs.Merge.{Rule}
-use Rattle.ip_spec.specs.Machine.{State, Command, Conditions, Reply, Child}
-use Rattle.ip_spec.specs.Step.{Step}
+use Rattle.ip_spec.specs.Machine.{State, Command, Conditions, Reply}
+use Rattle.ip_spec.specs.Step.{Step, quiet}
 use Rattle.ip_spec.specs.Line.{IsServedLine, IsBadAt}
 use Rattle.ip_spec.specs.Text.{reply_text}
 
+-- a byte in front of the first line, where there is one: what stands behind the last line feed is no whole line
 abbrev pub onto_first : ℕ → List Bytes → List Bytes
 onto_first b [] = []
 onto_first b (line ∷ lines) = (b ∷ line) ∷ lines
@@ -23,11 +24,12 @@ whole_lines (b ∷ bytes) = if b == line_feed then [] ∷ whole_lines bytes else
 abbrev pub is_unfinished : Bytes → Bool
 is_unfinished bytes = not (unwrap_or (last_or None bytes) line_feed == line_feed)
 
--- A line that is no command is answered with the place where it goes wrong. It meets nothing, but want of memory if it has more than one word.
+-- A line that is no command is answered with the place where it goes wrong. It meets nothing but want of memory, and that only if it has
+-- more than one word.
 pub record BadLine (s : State) (line : Bytes) (met : Conditions) (reply : Reply) (s' : State) : Type 0 where
   pub at : ℕ
   pub bad : IsBadAt IsServedLine line at
-  pub unasked : met.told.child ≡ Child.NotAsked
+  pub unasked : met.told ≡ record quiet.told { refused = met.told.refused }
   pub refused : IsTrue met.told.refused → IsTrue (list_any (λ b. b == space) line)
   pub reply_is : reply ≡ (if met.told.refused then Reply.Memory else Reply.Bad at)
   pub same : s' ≡ s

@@ -1,8 +1,12 @@
 -- One step of the machine. Of each command the refusals stand in their order, and after them what it does.
---     answer s c met      reply and next state, for all commands but `merge`
---     Step rule s c met reply s'      the machine may give this reply to the command, for what it meets, and go on to s'
+--     outcome s command met      the reply that refuses, or reply and next state, for all commands but `merge`.      answer s command met      reply and next state
+--     Base rule r cs tree      the ancestor's map of a merge, where cs are the least common ancestors.      MergesOf r cs n      how many merges that takes
+--     Merging rule s target branch info met turned      what `merge` may give
+--     IsMet s command met reply      what a command may meet
+--     Step rule s command met reply s'      the machine may give this reply to the command, for what it meets, and go on to s'
 --     Run rule s turns replies s'      a whole run
-use Rattle.std.specs.Prelude.{◌≡◌, ◌⊎◌, ℕ, suc, ◌+◌, ◌-◌, min, Bool, true, false, not, ◌&&◌, ◌==◌, List, [], ◌∷◌, ◌++◌, length, map, drop, reverse, Option, Some, None, is_some, option_map as mapped, Result, Ok, Err, IfSome, IsTrue, nat_le, nat_lt, if◌then◌else◌, MatchResult, max, fold}
+--     turned s command met      with want of memory, for all commands but `merge`.      quiet      nothing met
+use Rattle.std.specs.Prelude.{◌≡◌, ◌⊎◌, ℕ, suc, ◌+◌, ◌-◌, ◌<◌, min, pos, Bool, true, false, not, ◌&&◌, ◌==◌, List, [], ◌∷◌, ◌++◌, length, map, drop, reverse, Option, Some, None, is_some, option_map as mapped, Result, Ok, Err, IfSome, IsTrue, nat_le, nat_lt, if◌then◌else◌, MatchResult, max, fold}
 use Rattle.std.specs.List.{list_any, find}
 use Rattle.std.specs.Bool.{MatchBool}
 use Rattle.sha2.specs.Sha256.{sha256}
@@ -15,7 +19,7 @@ use Rattle.ip_spec.specs.Shape.{root_name, shape_runs}
 use Rattle.ip_spec.specs.Repository.{no_repository, CommitParent, Commit, Repository, next, commit_at, number_named, commit_name, head, name_at, tree_at}
 use Rattle.ip_spec.specs.History.{reaches, is_ancestor, is_proper_ancestor, ancestors, common, lcas}
 use Rattle.ip_spec.specs.Merge.{Rule, Merges, Outcome, merge_runs}
-use Rattle.ip_spec.specs.Machine.{empty_work, Phase, State, Target, Command, Limit, Verdict, verdict_on, Child, Conditions, Head, Reply}
+use Rattle.ip_spec.specs.Machine.{empty_work, Phase, exit_kept, State, Target, Command, Limit, Verdict, verdict_on, Child, Exit, Reaped, Conditions, Head, Reply}
 
 -- a value, or the reply that refuses
 abbrev pub Refused : Type 0 → Type 0
@@ -58,7 +62,8 @@ or_refused s (Err reply) = (reply, s)
 abbrev pub contents_limit : ℕ
 contents_limit = 1048576
 
--- of one directory, until it is split into inodes
+-- What a command may make of one directory, which is one leaf for now. The format allows more entries, for directories of many parts:
+-- the limit is raised to the format's own with them.
 abbrev pub entries_limit : ℕ
 entries_limit = 32
 
@@ -87,7 +92,7 @@ resolve r (Target.Commit hash) = present (number_named r hash) (Reply.NoCommit h
 
 -- a collection at c runs, and the command would rest on a commit below c
 abbrev pub not_leaving : State → Option ℕ → Refused (Unit {0})
-not_leaving s n = elim s.phase [ Phase.Idle ↦ Ok tt | Phase.Collecting c kept ↦ unless_some (below c n) Reply.Leaving ]
+not_leaving s n = elim s.phase [ Phase.Idle ↦ Ok tt | Phase.Collecting c exit ↦ unless_some (below c n) Reply.Leaving ]
 
 abbrev pub same_limit : Limit → Limit → Bool
 same_limit Limit.Space Limit.Space = true
@@ -122,9 +127,9 @@ head_among_parents s branch = unless_some (moved_head (head s.repository branch)
 
 -- ---- what commands do
 
-abbrev pub lowered : Option ℕ → ℕ → Option ℕ
-lowered None n = Some n
-lowered (Some m) n = Some (min m n)
+abbrev pub least_with : Option ℕ → ℕ → Option ℕ
+least_with None n = Some n
+least_with (Some m) n = Some (min m n)
 
 abbrev pub with_tree : State → Tree → State
 with_tree s tree = record s { work = record s.work { tree = tree } }
@@ -143,8 +148,8 @@ abbrev pub as_parent : Repository → ℕ → CommitParent
 as_parent r n = record { number = Some n; name = name_at r n }
 
 -- the commit of a tree with these parents
-abbrev pub made : Repository → Tree → List ℕ → Info → Commit
-made r tree parents info =
+abbrev pub new_commit : Repository → Tree → List ℕ → Info → Commit
+new_commit r tree parents info =
     let ps = map (as_parent r) parents in
     record { name = commit_name (root_name tree) ps info; parents = ps; info = info; tree = tree }
 
@@ -165,7 +170,7 @@ collected_at r c = record r { floor = c; commits = drop (c - r.floor) r.commits 
 
 abbrev pub phase_at : Phase → Option ℕ
 phase_at Phase.Idle = None
-phase_at (Phase.Collecting c kept) = Some c
+phase_at (Phase.Collecting c exit) = Some c
 
 -- the commit at which a collection runs
 abbrev pub collected_commit : State → Refused ℕ
@@ -174,54 +179,55 @@ collected_commit s = present (phase_at s.phase) Reply.Idle
 -- ---- the commands
 
 -- a number that was resolved is retained, so there is a commit
-abbrev pub shown : Repository → ℕ → Reply
-shown r n = elim (commit_at r n) [
+abbrev pub commit_reply : Repository → ℕ → Reply
+commit_reply r n = elim (commit_at r n) [
   | None ↦ Reply.Accepted
   | Some c ↦ Reply.Commit c.name n (root_name c.tree) (map (λ p. p.name) c.parents) c.info
 ]
 
 -- an exit that was reaped is judged
-abbrev pub judged : State → ℕ → Conditions → Verdict → Refused Turned
-judged s c met (Verdict.exited e) = Ok (Reply.RejectedExit e, record s { phase = Phase.Idle })
-judged s c met (Verdict.differs difference) = Ok (Reply.Rejected difference, record s { phase = Phase.Idle })
-judged s c met Verdict.accepted = Ok (
+abbrev pub verdict_turn : State → ℕ → Conditions → Verdict → Refused Turned
+verdict_turn s c met (Verdict.exited e) = Ok (Reply.RejectedExit e, record s { phase = Phase.Idle })
+verdict_turn s c met (Verdict.differs difference) = Ok (Reply.Rejected difference, record s { phase = Phase.Idle })
+verdict_turn s c met Verdict.accepted = Ok (
     if is_short Limit.Sequence met.told.short
     then (Reply.Limit Limit.Sequence, record s { phase = Phase.Idle })
     else (Reply.Collected c met.told.left, record s { phase = Phase.Idle; repository = collected_at s.repository c }))
 
-abbrev pub kept : State → ℕ → State
-kept s c = record s { phase = Phase.Collecting c true }
+abbrev pub with_exit : State → ℕ → Reaped → State
+with_exit s c reaped = record s { phase = Phase.Collecting c (Some reaped) }
 
-abbrev pub checked : State → ℕ → Conditions → Verdict → Option ℕ → Refused Turned
-checked s c met verdict None = judged s c met verdict
-checked s c met verdict (Some left) = Ok (Reply.Checking left, kept s c)
+-- where the check is not through the exit is kept, else it is judged
+abbrev pub check_turn : State → ℕ → Conditions → Reaped → Option ℕ → Refused Turned
+check_turn s c met reaped None = verdict_turn s c met (verdict_on reaped.exit met.difference)
+check_turn s c met reaped (Some left) = Ok (Reply.Checking left, with_exit s c reaped)
 
--- while a collection runs the child was asked, or its exit was kept
-abbrev pub heard : State → ℕ → Conditions → Child → Refused Turned
-heard s c met Child.NotAsked = Err Reply.Running
-heard s c met Child.Running = Err Reply.Running
-heard s c met Child.Fault = Err Reply.WaitFault
-heard s c met (Child.Ended reaped) = checked s c met (verdict_on reaped.exit met.difference) met.told.checking
+-- While a collection runs the child was asked, or its exit was kept: that it was not asked is never met.
+abbrev pub child_turn : State → ℕ → Conditions → Child → Refused Turned
+child_turn s c met Child.NotAsked = Err Reply.Running
+child_turn s c met Child.Running = Err Reply.Running
+child_turn s c met Child.Fault = Err Reply.WaitFault
+child_turn s c met (Child.Ended reaped) = check_turn s c met reaped met.told.checking
 
 -- what stands somewhere in the tree of commit n, put at a path
-abbrev pub grafted : State → ℕ → Tree → Path → Refused Turned
-grafted s n sub to =
+abbrev pub graft_turn : State → ℕ → Tree → Path → Refused Turned
+graft_turn s n sub to =
     let tree = Tree.place s.work.tree to sub in
     do
       refuse_if (is_empty sub) Reply.Absent
       refuse_if (nat_lt steps_limit (length to + height sub)) (Reply.Limit Limit.Depth)
       not_too_wide tree
-      Ok (Reply.Accepted, record s { work = record s.work { tree = tree; least = lowered s.work.least n } })
+      Ok (Reply.Accepted, record s { work = record s.work { tree = tree; least = least_with s.work.least n } })
 
 -- whether it is a parent already
 abbrev pub with_parent : State → ℕ → Bool → Refused Turned
 with_parent s n true = Ok (Reply.Accepted, s)
 with_parent s n false = do
   refuse_if (nat_le parents_limit (length s.work.parents)) (Reply.Limit Limit.Parents)
-  Ok (Reply.Accepted, record s { work = record s.work { parents = s.work.parents ++ n ∷ []; least = lowered s.work.least n } })
+  Ok (Reply.Accepted, record s { work = record s.work { parents = s.work.parents ++ n ∷ []; least = least_with s.work.least n } })
 
-abbrev pub named_branch : Repository → Bytes × ℕ → Head
-named_branch r e = record { branch = e.0; name = name_at r e.1 }
+abbrev pub head_of : Repository → Bytes × ℕ → Head
+head_of r e = record { branch = e.0; name = name_at r e.1 }
 
 -- All commands but `merge`: what is written for it here counts nowhere, since a relation gives it.
 unfoldable pub outcome : State → Command → Conditions → Refused Turned
@@ -243,7 +249,7 @@ outcome s (Command.Rm path) met = do
 outcome s (Command.Graft target from to) met = do
   not_given_up s
   n ← resolve s.repository target
-  grafted s n (subtree (tree_at s.repository n) from) to
+  graft_turn s n (subtree (tree_at s.repository n) from) to
 outcome s (Command.Parent target) met = do
   not_given_up s
   n ← resolve s.repository target
@@ -259,7 +265,7 @@ outcome s (Command.Cat target path) met = do
   Ok (got_reply (got_at (tree_at s.repository n) path), s)
 outcome s (Command.Commit branch info) met =
     let r = s.repository in
-    let c = made r s.work.tree s.work.parents info in
+    let c = new_commit r s.work.tree s.work.parents info in
     do
       not_given_up s
       head_among_parents s branch
@@ -282,10 +288,10 @@ outcome s (Command.BranchRm name) met = do
   enough met Limit.Space
   enough met Limit.Sequence
   Ok (Reply.Accepted, record s { repository = record s.repository { branches = remove s.repository.branches name } })
-outcome s Command.Branches met = Ok (Reply.Branches (map (named_branch s.repository) s.repository.branches.entries), s)
+outcome s Command.Branches met = Ok (Reply.Branches (map (head_of s.repository) s.repository.branches.entries), s)
 outcome s (Command.Show target) met = do
   n ← resolve s.repository target
-  Ok (shown s.repository n, s)
+  Ok (commit_reply s.repository n, s)
 outcome s (Command.Log target) met = do
   n ← resolve s.repository target
   Ok (Reply.Log (map (name_at s.repository) (reverse (ancestors s.repository n))), s)
@@ -302,13 +308,13 @@ outcome s (Command.Collect target) met = do
   enough met Limit.Space
   enough met Limit.Sequence
   refuse_if met.told.start_failed Reply.StartFault
-  Ok (Reply.Started (name_at s.repository n), record s { phase = Phase.Collecting n false })
+  Ok (Reply.Started (name_at s.repository n), record s { phase = Phase.Collecting n None })
 outcome s Command.Look met = do
   c ← collected_commit s
-  heard s c met met.told.child
+  child_turn s c met met.told.child
 outcome s Command.Finish met = do
   c ← collected_commit s
-  heard s c met met.told.child
+  child_turn s c met met.told.child
 outcome s Command.Cancel met = do
   collected_commit s
   Ok (if met.told.kill_failed then Reply.CancelledOrphan else Reply.Cancelled, record s { phase = Phase.Idle })
@@ -329,9 +335,9 @@ within_limits tree = do
   not_too_wide tree
   Ok tree
 
-abbrev pub limited : Outcome → Refused Tree
-limited (Outcome.conflict_at path) = Err (Reply.Conflict path)
-limited (Outcome.merged tree) = within_limits tree
+abbrev pub tree_of_outcome : Outcome → Refused Tree
+tree_of_outcome (Outcome.conflict_at path) = Err (Reply.Conflict path)
+tree_of_outcome (Outcome.merged tree) = within_limits tree
 
 -- The ancestor's map where the least common ancestors are these commits, the greatest first: of none the empty map, of one its map;
 -- else the merge of the one of all but the greatest, as the left side, with the map of the greatest, over that of their own common ancestors.
@@ -340,7 +346,7 @@ pub data Base (rule : Rule) (r : Repository) : List ℕ → Refused Tree → Typ
   of_one : (c : ℕ) → Base rule r (c ∷ []) (Ok (tree_at r c))
   left_refused : (c d : ℕ) (cs : List ℕ) (reply : Reply) → Base rule r (d ∷ cs) (Err reply) → Base rule r (c ∷ d ∷ cs) (Err reply)
   ancestor_refused : (c d : ℕ) (cs : List ℕ) (left : Tree) (reply : Reply) → Base rule r (d ∷ cs) (Ok left) → Base rule r (reverse (common r (d ∷ cs) c)) (Err reply) → Base rule r (c ∷ d ∷ cs) (Err reply)
-  of_more : (c d : ℕ) (cs : List ℕ) (left ancestor : Tree) (m : Outcome) → Base rule r (d ∷ cs) (Ok left) → Base rule r (reverse (common r (d ∷ cs) c)) (Ok ancestor) → Merges rule ancestor left (tree_at r c) m → Base rule r (c ∷ d ∷ cs) (limited m)
+  of_more : (c d : ℕ) (cs : List ℕ) (left ancestor : Tree) (m : Outcome) → Base rule r (d ∷ cs) (Ok left) → Base rule r (reverse (common r (d ∷ cs) c)) (Ok ancestor) → Merges rule ancestor left (tree_at r c) m → Base rule r (c ∷ d ∷ cs) (tree_of_outcome m)
 
 -- how many merges that takes
 pub data MergesOf (r : Repository) : List ℕ → ℕ → Type 0 where
@@ -352,7 +358,7 @@ pub data MergesOf (r : Repository) : List ℕ → ℕ → Type 0 where
 abbrev pub with_merge : State → Conditions → ℕ → Bytes → ℕ → Info → Tree → Refused Turned
 with_merge s met number branch head info tree =
     let r = s.repository in
-    let c = made r tree (head ∷ number ∷ []) info in
+    let c = new_commit r tree (head ∷ number ∷ []) info in
     do
       not_existing r c.name
       enough met Limit.Space
@@ -360,8 +366,8 @@ with_merge s met number branch head info tree =
       Ok (Reply.Merged c.name, record s { repository = with_commit r c branch })
 
 -- the branch moves on to the commit
-abbrev pub forwarded : State → Conditions → ℕ → Bytes → Refused Turned
-forwarded s met number branch = do
+abbrev pub forward_turn : State → Conditions → ℕ → Bytes → Refused Turned
+forward_turn s met number branch = do
   enough met Limit.Space
   enough met Limit.Sequence
   Ok (Reply.Forward (name_at s.repository number), record s { repository = with_branch s.repository branch number })
@@ -373,14 +379,14 @@ Joins rule s met number branch head info turned =
     let cs = lcas r head number in
     MatchResult (not_leaving s (Some number) >> refuse_if (nat_lt 1 (length cs)) (Reply.Bases (length cs)))
     (λ _. (base : Refused Tree) × Base rule r (reverse cs) base × MatchResult base
-    (λ o. (m : Outcome) × Merges rule o (tree_at r head) (tree_at r number) m × (turned ≡ (limited m >>= with_merge s met number branch head info)))
+    (λ o. (m : Outcome) × Merges rule o (tree_at r head) (tree_at r number) m × (turned ≡ (tree_of_outcome m >>= with_merge s met number branch head info)))
     (λ reply. turned ≡ Err reply))
     (λ reply. turned ≡ Err reply)
 
 abbrev pub MergesInto : Rule → State → Conditions → ℕ → Bytes → ℕ → Info → Refused Turned → Type 0
 MergesInto rule s met number branch head info turned =
     MatchBool (is_ancestor s.repository number head) (turned ≡ Ok (Reply.Current (name_at s.repository head), s))
-    (MatchBool (is_proper_ancestor s.repository head number) (turned ≡ forwarded s met number branch)
+    (MatchBool (is_proper_ancestor s.repository head number) (turned ≡ forward_turn s met number branch)
     (Joins rule s met number branch head info turned))
 
 abbrev pub both_named : State → Target → Bytes → Refused (ℕ × ℕ)
@@ -403,11 +409,35 @@ IsReaped Child.NotAsked = ⊥
 IsReaped Child.Running = ⊥
 IsReaped Child.Fault = ⊥
 
--- the child is asked by `look` and `finish` while a collection runs and no exit is kept, and `finish` waits
+-- with an exit other than code 0 there is nothing to check
+abbrev pub HasSucceeded : Child → Type 0
+HasSucceeded (Child.Ended reaped) = reaped.exit ≡ Exit.Code (pos 0)
+HasSucceeded Child.NotAsked = ⊥
+HasSucceeded Child.Running = ⊥
+HasSucceeded Child.Fault = ⊥
+
+-- The child is asked by `look` and `finish` alone, while a collection runs and no exit is kept, and `finish` waits. A kept exit is the one heard.
 abbrev pub MayHear : Phase → Command → Child → Type 0
-MayHear (Phase.Collecting c kept) Command.Look child = IsReaped child ⊎ ((kept ≡ false) × ((child ≡ Child.Running) ⊎ (child ≡ Child.Fault)))
-MayHear (Phase.Collecting c kept) Command.Finish child = IsReaped child ⊎ ((kept ≡ false) × (child ≡ Child.Fault))
+MayHear (Phase.Collecting c None) Command.Look child = IsReaped child ⊎ (child ≡ Child.Running) ⊎ (child ≡ Child.Fault)
+MayHear (Phase.Collecting c None) Command.Finish child = IsReaped child ⊎ (child ≡ Child.Fault)
+MayHear (Phase.Collecting c (Some reaped)) Command.Look child = child ≡ Child.Ended reaped
+MayHear (Phase.Collecting c (Some reaped)) Command.Finish child = child ≡ Child.Ended reaped
 MayHear phase command child = child ≡ Child.NotAsked
+
+-- the three that depend on more than the machine's state
+abbrev pub MayBeShort : Limit → Type 0
+MayBeShort Limit.Space = Unit {0}
+MayBeShort Limit.Sequence = Unit {0}
+MayBeShort Limit.Attempt = Unit {0}
+MayBeShort limit = ⊥
+
+-- the replies that a sweep follows
+abbrev pub IsSwept : Reply → Type 0
+IsSwept (Reply.Collected floor left) = Unit {0}
+IsSwept (Reply.RejectedExit exit) = Unit {0}
+IsSwept (Reply.Rejected difference) = Unit {0}
+IsSwept Reply.Cancelled = Unit {0}
+IsSwept reply = ⊥
 
 -- want of memory is free in all commands but these; of the two that ask the child it comes only once the child was reaped
 abbrev pub MayRefuse : Command → Child → Type 0
@@ -421,24 +451,30 @@ MayRefuse command child = Unit {0}
 -- what a command may meet, and that it tells what it met
 pub record IsMet (s : State) (command : Command) (met : Conditions) (reply : Reply) : Type 0 where
   pub child : MayHear s.phase command met.told.child
-  pub checking : IfSome met.told.checking (λ left. (command ≡ Command.Look) × IsReaped met.told.child)
+  pub checking : IfSome met.told.checking (λ left. (command ≡ Command.Look) × HasSucceeded met.told.child)
   pub start : IsTrue met.told.start_failed → reply ≡ Reply.StartFault
-  pub kill : IsTrue met.told.kill_failed → reply ≡ Reply.CancelledOrphan
-  pub short : IfSome met.told.short (λ l. reply ≡ Reply.Limit l)
+  -- a child whose exit is kept needs no kill
+  pub kill : IsTrue met.told.kill_failed → (reply ≡ Reply.CancelledOrphan) × (exit_kept s.phase ≡ None)
+  pub left : 0 < met.told.left → IsSwept reply
+  pub short : IfSome met.told.short (λ limit. (reply ≡ Reply.Limit limit) × MayBeShort limit)
   pub refused : IsTrue met.told.refused → MayRefuse command met.told.child
 
 -- an exit that was reaped is kept
-abbrev pub remembered : State → Phase → Child → State
-remembered s (Phase.Collecting c kept_before) (Child.Ended reaped) = kept s c
-remembered s phase child = s
+abbrev pub state_with_exit : State → Phase → Child → State
+state_with_exit s (Phase.Collecting c exit) (Child.Ended reaped) = with_exit s c reaped
+state_with_exit s phase child = s
 
 abbrev pub Turns : Rule → State → Command → Conditions → Turned → Type 0
 Turns rule s (Command.Merge target branch info) met turned = Merging rule s target branch info met turned
 Turns rule s command met turned = turned ≡ answer s command met
 
+-- with memory refused nothing is changed, save that an exit that was reaped is kept
+abbrev pub MayAnswer : Rule → State → Command → Conditions → Turned → Type 0
+MayAnswer rule s command met turned =
+    MatchBool met.told.refused ((turned.0 ≡ Reply.Memory) × (turned.1 ≡ state_with_exit s s.phase met.told.child)) (Turns rule s command met turned)
+
 abbrev pub Step : Rule → State → Command → Conditions → Reply → State → Type 0
-Step rule s command met reply s' = IsMet s command met reply
-    × MatchBool met.told.refused ((reply ≡ Reply.Memory) × (s' ≡ remembered s s.phase met.told.child)) (Turns rule s command met (reply, s'))
+Step rule s command met reply s' = IsMet s command met reply × MayAnswer rule s command met (reply, s')
 
 -- the machine may give these replies to these commands, one after another, for what each meets
 abbrev pub Run : Rule → State → List (Command × Conditions) → List Reply → State → Type 0
@@ -453,7 +489,7 @@ quiet = record { told = record { child = Child.NotAsked; checking = None; start_
 
 -- with want of memory: for all commands but `merge`, the one reply and next state
 unfoldable pub turned : State → Command → Conditions → Turned
-turned s command met = if met.told.refused then (Reply.Memory, remembered s s.phase met.told.child) else answer s command met
+turned s command met = if met.told.refused then (Reply.Memory, state_with_exit s s.phase met.told.child) else answer s command met
 
 unfoldable pub step_runs : Unit {0}
 unfolding shape_runs merge_runs outcome turned empty_work no_repository reaches ancestors common

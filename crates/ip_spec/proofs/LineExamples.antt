@@ -1,13 +1,13 @@
--- Lines that are commands, and lines that go wrong.
-use Rattle.std.proofs.Common.{◌≡◌, ◌≢◌, ℕ, zero, suc, ◌<◌, ◌≤◌, List, [], ◌∷◌, ◌++◌, refl, sym, ap, ◌∙◌, Option, Some, None, Bool, true, false, lit<, lit≤, arith, take}
+-- Lines that are commands, and lines that go wrong: shown of the set of lines, whatever reads them.
+use Rattle.std.proofs.Common.{◌≡◌, ◌≢◌, inl, inr, ℕ, zero, suc, ◌<◌, ◌≤◌, List, [], ◌∷◌, ◌++◌, refl, sym, ap, ◌∙◌, Option, Some, None, Bool, true, false, lit<, lit≤, arith, take}
 use Rattle.std.specs.Prelude.{codes, ◌==◌, ◌&&◌}
 use Rattle.std.proofs.Common.{append_assoc}
-use Rattle.ip_spec.specs.Path.{Bytes, space, IsWordByte}
+use Rattle.ip_spec.specs.Path.{Bytes, space, IsWordByte, IsStep, IsPath}
 use Rattle.std.specs.Fmt.{digits}
 use Rattle.std.proofs.lemmas.List.Elements.{All-from_recursion}
 use Rattle.ip_spec.specs.Record.{IsInfo, IsBranchName}
 use Rattle.ip_spec.specs.Machine.{Command}
-use Rattle.ip_spec.specs.Line.{LineOf, first_word, forms_of, IsLineOf, Begins, IsBadAt}
+use Rattle.ip_spec.specs.Line.{LineOf, first_word, forms_of, IsLineOf, IsServed, IsServedLine, Begins, IsBadAt}
 
 abbrev StartsWith : Bytes → Bytes → Type 0
 StartsWith line head = (rest : Bytes) × (line ≡ head ++ rest)
@@ -108,5 +108,71 @@ comit_longest (suc (suc zero)) l h = absurd (omega (arith, l))
 comit_longest (suc (suc (suc zero))) l h = absurd (omega (arith, l))
 comit_longest (suc (suc (suc (suc n)))) l h = none_begins (99 ∷ 111 ∷ 109 ∷ 105 ∷ take n (116 ∷ [])) (comi_apart (take n (116 ∷ [])))
 
-bad_3 : IsBadAt IsLineOf (codes "comit") 3
-bad_3 = record { no_command = comit_is_none; in_line = lit≤ tt; begins = comit_begins; longest = comit_longest }
+a_misspelled_word_goes_wrong_where_no_word_goes_on : IsBadAt IsLineOf (codes "comit") 3
+a_misspelled_word_goes_wrong_where_no_word_goes_on = record { no_command = comit_is_none; in_line = lit≤ tt; begins = comit_begins; longest = comit_longest }
+
+message_byte : (b : ℕ) → b < 256 → b ≢ 10 → b ≢ 0 → (b < 256) × (b ≢ 10) × (b ≢ 0)
+message_byte b low no_feed no_nul = (low, no_feed, no_nul)
+
+spaced_info : IsInfo (record { date = 0; author = codes "m"; message = codes " m " })
+spaced_info = record {
+  date = lit< tt;
+  author_some = lit< tt;
+  author_short = lit≤ tt;
+  author = All-from_recursion IsWordByte (codes "m") (is_word_byte 109 (lit< tt) (omega arith) (omega arith) (omega arith), tt);
+  message_some = lit< tt;
+  message_short = lit≤ tt;
+  message = All-from_recursion (λ b. (b < 256) × (b ≢ 10) × (b ≢ 0)) (codes " m ")
+      (message_byte 32 (lit< tt) (omega arith) (omega arith), (message_byte 109 (lit< tt) (omega arith) (omega arith), (message_byte 32 (lit< tt) (omega arith) (omega arith), tt)));
+}
+
+-- a message is the rest of the line, with the spaces at its ends
+a_message_keeps_its_spaces : IsLineOf (Command.Commit (codes "m") (record { date = 0; author = codes "m"; message = codes " m " })) (codes "commit m 0 m  m ")
+unfolding digits
+a_message_keeps_its_spaces = (codes "m", (short_name, refl), (codes "0 m  m ", (spaced_info, refl), refl))
+
+digits_may_be_of_either_case : IsLineOf (Command.Hash (171 ∷ [])) (codes "hash aB")
+digits_may_be_of_either_case = (codes "aB", (inr (lit≤ tt, lit< tt, inl refl), inr (lit≤ tt, lit< tt, inr refl), tt), refl)
+
+no_bytes_are_a_minus : IsLineOf (Command.Hash []) (codes "hash -")
+no_bytes_are_a_minus = (codes "-", refl, refl)
+
+-- ---- lines that are not served yet
+
+none_served : (text : Bytes) → ((c : Command) → IsServed c → agree text (first_word c) ≡ false) → ¬ (Begins IsServedLine text)
+none_served text apart (c, rest, (served, is)) =
+    let s = starts c (text ++ rest) is in
+    no_true (apart c served) (agrees text (first_word c) rest s.0 s.1)
+  where
+    no_true : {b : Bool} → b ≡ false → b ≡ true → ⊥
+    no_true f t = cc
+
+st_apart : (tail : Bytes) (c : Command) → IsServed c → agree (115 ∷ 116 ∷ tail) (first_word c) ≡ false
+unfolding agree
+st_apart tail Command.Empty served = refl
+st_apart tail (Command.Set path bytes) served = refl
+st_apart tail (Command.Get path) served = refl
+st_apart tail (Command.Hash bytes) served = refl
+st_apart tail _ served = absurd served
+
+one_step : IsPath (codes "a" ∷ [])
+one_step = record { some = lit< tt; short = lit≤ tt; each = All-from_recursion IsStep (codes "a" ∷ []) (step, tt) }
+  where
+    step : IsStep (codes "a")
+    step = record { some = lit< tt; short = lit≤ tt; each = All-from_recursion (λ b. IsWordByte b × (b ≢ 47)) (codes "a") ((is_word_byte 97 (lit< tt) (omega arith) (omega arith) (omega arith), omega arith), tt) }
+
+set_line : IsServedLine (Command.Set (codes "a" ∷ []) []) (codes "set a -")
+set_line = (refl, (codes "a", (one_step, refl), (codes "-", refl, refl)))
+
+stat_longest : (n : ℕ) → 1 < n → n ≤ 4 → ¬ (Begins IsServedLine (take n (codes "stat")))
+stat_longest zero l h = absurd (omega (arith, l))
+stat_longest (suc zero) l h = absurd (omega (arith, l))
+stat_longest (suc (suc n)) l h = none_served (115 ∷ 116 ∷ take n (codes "at")) (st_apart (take n (codes "at")))
+
+a_line_not_served_goes_wrong_where_the_served_ones_end : IsBadAt IsServedLine (codes "stat") 1
+a_line_not_served_goes_wrong_where_the_served_ones_end = record {
+  no_command = λ c is. none_served (codes "stat") (st_apart (codes "at")) (c, [], is);
+  in_line = lit≤ tt;
+  begins = (Command.Set (codes "a" ∷ []) [], codes "et a -", set_line);
+  longest = stat_longest;
+}
