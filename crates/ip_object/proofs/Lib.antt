@@ -2,3 +2,5 @@ mod Listing
 mod Children
 mod PutLemmas
 mod Patched
+mod Hashed
+mod Spelled

@@ -3,6 +3,7 @@ use Rattle.std.specs.Prelude.{◌≡◌, ℕ, ◌+◌, ◌-◌, nat_le, nat_lt, 
 use Rattle.std.specs.List.{range_with_len}
 use Rattle.ip_spec.specs.declared.record.InodeChild.{InodeChild}
 use Rattle.ip_spec.specs.Path.{Bytes}
+use Rattle.ip_spec.specs.Record.{short_text, u8, u32}
 use Rattle.ip_spec.specs.declared.record.Record.{Record}
 use Rattle.ip_spec.specs.declared.record.Record.TheVariants as Record
 use Rattle.ip_spec.specs.declared.record.LeafEntry.{LeafEntry}
@@ -76,3 +77,11 @@ rows_field = number_where w16 (λ n. nat_le n 4096) >>= λ count. row_fields cou
 -- something may stand behind what was there
 abbrev pub Extends : Bytes → Bytes → Type 0
 Extends old new = (more : Bytes) × (new ≡ old ++ more)
+
+-- what the name of a leaf takes from an entry
+abbrev pub hashed_entry : LeafEntry → Bytes
+hashed_entry e = short_text e.step ++ u8 e.kind ++ e.name
+
+-- what the name of an inode takes from a child
+abbrev pub hashed_child : InodeChild → Bytes
+hashed_child c = u32 c.count ++ c.name

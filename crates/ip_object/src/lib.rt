@@ -1,10 +1,20 @@
 //! Records as bytes: their spelling, reading them back, their names and references.
 #![tactic(auto)]
 
-pub mod body;
-pub mod encode;
-pub mod lists;
-pub mod name;
+mod body;
+mod encode;
+mod lists;
+mod loops;
+mod name;
+mod read;
+mod referring;
 
-pub mod loops;
-pub mod read;
+pub use encode::encode_into;
+pub use ip_spec::record::{
+    Branch, Branches, CommitRecord, InodeChild, InodeChildren, LeafEntries, LeafEntry, Parent,
+    Parents, Record, RecordFault, Ref,
+};
+pub use name::{hash_contents, name_of_record};
+pub use read::read_record;
+pub use referring::{RecordReferences, references};
+

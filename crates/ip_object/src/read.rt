@@ -1,7 +1,8 @@
 // Records read from the front of bytes.
-ghost use Rattle.std.specs.Prelude.{◌≡◌, ◌<◌, ◌^◌, Err, MatchOption, length, if◌then◌else◌};
+ghost use Rattle.std.specs.Prelude.{◌≡◌, ◌<◌, ◌^◌, ◌++◌, Err, IfOk, MatchOption, length, if◌then◌else◌};
 ghost use Rattle.ip_spec.specs.declared.record.RecordFault.TheVariants as fault;
-ghost use Rattle.ip_spec.specs.Record.{contents_limit};
+ghost use Rattle.ip_spec.specs.Record.{Fits, spelling, contents_limit};
+ghost use Rattle.ip_spec.specs.Path.{Bytes};
 ghost use Rattle.ip_spec.specs.Record.Names.{branches, tags};
 ghost use Rattle.ip_spec.specs.Reading.{reading, known, body_of, fields_of, leaf_fields, commit_fields, table_fields, set_fields, remove_fields};
 ghost use Rattle.ip_object.specs.Lists.{contents_fields, inode_by_bits, set_field, rows_field};
@@ -152,13 +153,13 @@ fn take_record(alloc: Global, kind: u8, body: &mut Body<'_>) -> Result<Record, R
 fn is_known(version: u32, kind: u8) -> bool
     ensures { result ≡ known version kind }
 {
-    kind > 0 && kind <= if version == 1 { 7 } else { 10 }
+    kind > 0 && kind <= if version >= 2 { 10 } else { 7 }
 }
 
 fn contents_limit(version: u32) -> u32
     ensures { result ≡ contents_limit version }
 {
-    if version == 1 { 1048576 } else { 16777216 }
+    if version >= 2 { 16777216 } else { 1048576 }
 }
 
 // The record whose body these bytes are, all of them.
@@ -177,11 +178,9 @@ fn whole_record(alloc: Global, kind: u8, bytes: &[u8]) -> Result<(Record, u64), 
     Ok((record, 5 + bytes.len() as u64))
 }
 
-/// The record at the front of the bytes, in a version of the format, and its length in bytes. What follows it is not looked at.
-/// A fault is the first one, at its place in the record: the length before the body, and the fields of the body in their order.
-/// Memory is taken for what the record holds alone, and none for a fault found before.
+// What the bytes begin with.
 #[tactic(auto, unfolding(ip_spec::specs::Reading::reading))]
-pub fn read_record(
+fn read_front(
     alloc: Global,
     version: u32,
     bytes: &[u8],
@@ -205,4 +204,21 @@ pub fn read_record(
         return Err(RecordFault::Short);
     };
     whole_record(alloc, *kind, body)
+}
+
+/// The record at the front of the bytes, in a version of the format, and its length in bytes. What follows it is not looked at.
+/// A fault is the first one, at its place in the record: the length before the body, and the fields of the body in their order.
+/// Memory is taken for what the record holds alone, and none for a fault found before.
+pub fn read_record(
+    alloc: Global,
+    version: u32,
+    bytes: &[u8],
+) -> Result<(Record, u64), RecordFault>
+    ensures read { IsRead result (reading version bytes.now) }
+    // What is read fits the version, and is what the bytes begin with.
+    ensures fits { IfOk result (λ read. Fits version read.0) }
+    ensures spelled { IfOk result (λ read. (rest : Bytes) × (bytes.now ≡ spelling read.0 ++ rest)) }
+    ensures length { IfOk result (λ read. read.1 ≡ length (spelling read.0)) }
+{
+    read_front(alloc, version, bytes)
 }
