@@ -15,12 +15,29 @@ use Rattle.ip_ground.specs.Custody as custody
 use Rattle.ip_ground.specs.Files.{no_true, number_itself, file_itself, cases_file, other_file}
 use Rattle.ip_ground.specs.Told.{said, KeepsPast, ChangesLeft, KeepsFile, KeepsSaid, Only, NoFile, ChangesOnly, Reopens}
 use Rattle.ip_ground.specs.Calls.{Writes, Syncs, Removes, Lends, Settles, Says}
-use Rattle.ip_ground.specs.Replay.{State, is_of_attempt, with_held, with_left, with_lending, left_by_sync, changed_by_child, content_of, after, blank, replayed, told_by}
+use Rattle.ip_ground.specs.Replay.{State, is_of_attempt, with_held, with_left, with_lending, left_by_sync, changed_by_child, content_of, after, said_after, blank, replayed, told_by}
 use Rattle.ip_ground.specs.ReplayLaws.{lawful_log, torn_itself, loose_synced, loose_settled, lending_other, lending_here, lending_was}
 
 pub replayed_push : (s : State) (log : List Event) (event : Event) → replayed s (log ++ event ∷ []) ≡ after event (replayed s log)
 replayed_push s [] event = refl
 replayed_push s (first ∷ log) event = replayed_push (after first s) log event
+
+said_next : (event : Event) (s : State) → said_after event s.said ≡ (after event s).said
+said_next Passed s = refl
+said_next (Wrote file at bytes) s = refl
+said_next (Failed file at count) s = refl
+said_next (Synced file) s = refl
+said_next (Removed file) s = refl
+said_next (Lent attempt) s = refl
+said_next (Settled attempt) s = refl
+said_next (Said bytes) s = refl
+said_next (Changed file bytes) s = refl
+said_next (Stopped true) s = refl
+said_next (Stopped false) s = refl
+
+pub said_more : (log more : List Event) (event : Event) (before after : List ℕ) → more ≡ log ++ event ∷ [] → before ≡ (replayed blank log).said → after ≡ said_after event before → after ≡ (replayed blank more).said
+said_more log more event before after is was so =
+    so ∙ ap (said_after event) was ∙ said_next event (replayed blank log) ∙ sym (ap (λ (s : State). s.said) (replayed_push blank log event)) ∙ sym (ap (λ l. (replayed blank l).said) is)
 
 -- one file from a state to the next
 record StaysIn (old new : State) (file : FileName) : Type 0 where

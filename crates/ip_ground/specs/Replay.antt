@@ -98,6 +98,12 @@ told_by log = record {
   lending = (replayed blank log).lending;
 }
 
+-- what was said since the last stop, after an event
+abbrev pub said_after : Event → List ℕ → List ℕ
+said_after (Said bytes) before = before ++ bytes.items
+said_after (Stopped keep) before = []
+said_after event before = before
+
 -- whether an attempt is lent after an event
 abbrev pub lent_after : Event → ℕ → Bool → Bool
 lent_after (Lent other) attempt before = (other == attempt) || before
