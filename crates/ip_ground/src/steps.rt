@@ -6,8 +6,9 @@ ghost use Rattle.ip_ground.specs.Replay.{told_by, durable_by, said_after, lent_a
 ghost use Rattle.ip_ground.specs.Map.{content_in, IsTied, IsSynced};
 ghost use Rattle.ip_ground.specs.declared.event.Event.TheVariants.{Wrote, Removed, Synced};
 
-use crate::contents::{Files, bytes_at, copied, discard, overwritten, replace};
-use crate::{Act, Event, FileName};
+use crate::contents::{Files, copied, discard, replace, write_over};
+use crate::event::Event;
+use crate::{Act, FileName};
 use std::alloc::{AllocError, Global};
 
 // The bytes from a place on, as many as there are and as fit.
@@ -36,10 +37,9 @@ pub fn note_write(
     ensures err { OnErr result (log.new.items ≡ log.old.items) }
     ensures durable { (file : _) → durable_by log.new.items file ≡ durable_by log.old.items file }
 {
-    let next = overwritten(alloc, bytes_at(files, file), at as usize, bytes)?;
     let copy = bytes.to_vec(alloc)?;
     log.reserve(1)?;
-    replace(files, file, next)?;
+    write_over(alloc, files, file, at as usize, bytes)?;
     match log.push(Event::Wrote {
         file,
         at,
