@@ -1,1 +1,2 @@
 mod PathExamples
+mod PathReading
