@@ -1,2 +1,3 @@
 mod PathExamples
 mod PathReading
+mod PathLaws

@@ -1,15 +1,13 @@
 -- A text of a path, read byte by byte.
-use Rattle.std.proofs.Common.{◌≡◌, ◌≢◌, ℕ, suc, ◌+◌, ◌-◌, ◌<◌, ◌≤◌, ◌==◌, Bool, true, false, not, List, [], ◌∷◌, ◌++◌, length, take, drop, get_or, Option, None, Some, refl, sym, ◌∙◌, ap, subst, arith, length-append}
+use Rattle.std.proofs.Common.{◌≡◌, ◌≢◌, ℕ, suc, ◌+◌, ◌-◌, ◌<◌, ◌≤◌, ◌==◌, Bool, true, false, not, List, [], ◌∷◌, ◌++◌, length, take, drop, get_or, Option, refl, sym, ◌∙◌, ap, subst, arith, length-append}
 use Rattle.std.specs.Prelude.{All, slice_range, if◌then◌else◌}
-use Rattle.std.proofs.lemmas.List.{take_more, take_all, drop_all, append-nil}
+use Rattle.std.proofs.lemmas.List.{take_more, take_all, append-nil}
 use Rattle.std.proofs.lemmas.List.Edits.{length-between, between_more, between_none}
 use Rattle.std.proofs.lemmas.List.Elements.{All-append, All-cons, All-nil}
 use Rattle.std.proofs.lemmas.Bool.Decides.{nat_tests}
 use Rattle.std.proofs.Math.Seq.{drop-cons}
-use Rattle.std.proofs.lemmas.Grind.{common_steps}
 use Rattle.ip_base.specs.declared.path.PathFault.{PathFault}
-use Rattle.ip_base.specs.declared.path.PathFault.TheVariants as PathFault
-use Rattle.ip_base.specs.PathText.{slash, space, line_feed, IsWordByte, is_word_byte, IsStep, IsPath, path_text, slash_fault, byte_fault, path_fault_from, path_fault}
+use Rattle.ip_base.specs.PathText.{slash, IsWordByte, is_word_byte, IsStep, IsPath, path_text, path_fault_from, path_fault}
 
 -- the steps with a slash behind each
 abbrev pub ended : List (List ℕ) → List ℕ
@@ -47,39 +45,23 @@ pub reading_none : (text : List ℕ) → Reading text 0 0 []
 unfolding path_fault
 reading_none text = record { begins = omega arith; short = omega arith; few = omega arith; each = All-nil IsStep; bytes = All-nil IsOfStep; said = refl; fault = refl }
 
-no_slash : (n steps : ℕ) (f : PathFault) (empty deep : PathFault) (rest : Option PathFault) → (if n == 0 then Some empty else if steps == 63 then Some deep else None) ≡ Some f → (if n == 0 then Some empty else if steps == 63 then Some deep else rest) ≡ Some f
-no_slash n steps f empty deep rest is = by_tests (n == 0) (steps == 63) is
-  where
-    by_tests : (a b : Bool) → (if a then Some empty else if b then Some deep else None) ≡ Some f → (if a then Some empty else if b then Some deep else rest) ≡ Some f
-    by_tests true b is = is
-    by_tests false true is = is
-    by_tests false false is = absurd (cc (is))
-
-no_byte : (a b : Bool) (f : PathFault) (long bad : PathFault) (rest : Option PathFault) → (if a then Some long else if b then Some bad else None) ≡ Some f → (if a then Some long else if b then Some bad else rest) ≡ Some f
-no_byte true b f long bad rest is = is
-no_byte false true f long bad rest is = is
-no_byte false false f long bad rest is = absurd (cc (is))
-
-pick_true : (t : Bool) (x y : Option PathFault) → t ≡ true → (if t then x else y) ≡ x
+pub pick_true : (t : Bool) (x y : Option PathFault) → t ≡ true → (if t then x else y) ≡ x
 pick_true t x y is = ap (λ (t : Bool). if t then x else y) is
 
-pick_false : (t : Bool) (x y : Option PathFault) → t ≡ false → (if t then x else y) ≡ y
+pub pick_false : (t : Bool) (x y : Option PathFault) → t ≡ false → (if t then x else y) ≡ y
 pick_false t x y is = ap (λ (t : Bool). if t then x else y) is
 
-same_test : (m n : ℕ) → m ≡ n → (m == n) ≡ true
+pub same_test : (m n : ℕ) → m ≡ n → (m == n) ≡ true
 same_test m n is = grind (arith, nat_tests)
 
-other_test : (m n : ℕ) → m ≢ n → (m == n) ≡ false
+pub other_test : (m n : ℕ) → m ≢ n → (m == n) ≡ false
 other_test m n is = grind (arith, nat_tests)
 
-below_number : (m n : ℕ) → m < n → (m == n) ≡ false
+pub below_number : (m n : ℕ) → m < n → (m == n) ≡ false
 below_number m n is = grind (arith, nat_tests)
 
-above_number : (m n : ℕ) → n < m → (m == n) ≡ false
+pub above_number : (m n : ℕ) → n < m → (m == n) ≡ false
 above_number m n is = grind (arith, nat_tests)
-
-zero_number : (n : ℕ) → n ≡ 0 → (n == 0) ≡ true
-zero_number n is = grind (arith, nat_tests)
 
 is_of_step : (b : ℕ) → b < 256 → is_word_byte b ≡ true → b ≢ slash → IsOfStep b
 is_of_step b byte good is = (is_word b byte good, is)
@@ -94,17 +76,11 @@ module _ (text : List ℕ) (at from : ℕ) (steps : List (List ℕ)) (inside : a
   rest : drop at text ≡ b ∷ drop (at + 1) text
   rest = let same : suc at ≡ at + 1 = omega arith in drop-cons text at 0 inside ∙ ap (λ (k : ℕ). b ∷ drop k text) same
 
-  fault_now : path_fault text ≡ path_fault_from at (length steps) (at - from) (b ∷ drop (at + 1) text)
+  pub fault_now : path_fault text ≡ path_fault_from at (length steps) (at - from) (b ∷ drop (at + 1) text)
   fault_now = now.fault ∙ ap (path_fault_from at (length steps) (at - from)) rest
 
-  word_size : length (slice_range text from at) ≡ at - from
+  pub word_size : length (slice_range text from at) ≡ at - from
   word_size = length-between text from at (omega (arith, inside))
-
-  pub slash_wrong : (f : PathFault) → b ≡ slash → slash_fault at (length steps) (at - from) ≡ Some f → path_fault text ≡ Some f
-  slash_wrong f is wrong = fault_now ∙ pick_true (b == slash) _ _ (same_test b slash is) ∙ no_slash (at - from) (length steps) f (PathFault.EmptyStep at) (PathFault.Depth at) _ wrong
-
-  pub byte_wrong : (f : PathFault) → b ≢ slash → byte_fault at (at - from) b ≡ Some f → path_fault text ≡ Some f
-  byte_wrong f is wrong = fault_now ∙ pick_false (b == slash) _ _ (other_test b slash is) ∙ no_byte (at - from == 255) (not (is_word_byte b)) f (PathFault.LongStep at) (PathFault.BadByte at) _ wrong
 
   pub slash_right : (more : List (List ℕ)) → b ≡ slash → 0 < length (slice_range text from at) → length steps < 63 → more ≡ steps ++ slice_range text from at ∷ [] → Reading text (at + 1) (at + 1) more
   slash_right more is some few grown = subst (λ l. Reading text (at + 1) (at + 1) l) (sym grown) (record {
@@ -140,12 +116,6 @@ module _ (text : List ℕ) (from : ℕ) (steps : List (List ℕ)) (now : Reading
 
   last_size : length last ≡ length text - from
   last_size = length-between text from (length text) (omega arith)
-
-  pub end_wrong : length last ≡ 0 → path_fault text ≡ Some (PathFault.EmptyStep (length text))
-  end_wrong none = now.fault ∙ ap (path_fault_from (length text) (length steps) (length text - from)) (drop_all (length text) text (omega arith)) ∙ pick_true (length text - from == 0) _ _ (zero_number (length text - from) (omega (arith, last_size, none)))
-
-  pub end_right : 0 < length last → path_fault text ≡ None
-  end_right some = now.fault ∙ ap (path_fault_from (length text) (length steps) (length text - from)) (drop_all (length text) text (omega arith)) ∙ pick_false (length text - from == 0) _ _ (above_number (length text - from) 0 (omega (arith, last_size, some)))
 
   pub end_path : 0 < length last → IsPath (steps ++ last ∷ [])
   end_path some = record {

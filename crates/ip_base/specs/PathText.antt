@@ -4,7 +4,6 @@
 --     path_fault text      the first byte of a text that cannot stand in a path, and why
 use Rattle.std.specs.Prelude.{◌≢◌, ℕ, ◌+◌, ◌<◌, ◌≤◌, Bool, not, ◌||◌, ◌==◌, List, [], ◌∷◌, ◌++◌, length, All, Option, Some, None, if◌then◌else◌}
 use Rattle.ip_base.specs.declared.path.PathFault.{PathFault}
-use Rattle.ip_base.specs.declared.path.PathFault.TheVariants as PathFault
 
 abbrev pub slash : ℕ
 slash = 47

@@ -14,13 +14,13 @@ loop-at-preserved c =
     let from = c.loop-at.from in
     elim c.if-byte-eq47.branch [
       | then-byte-eq47+in_ok-close w ↦
-        let ok = w.in_ok-close.ensures.ok in
-        let right : Reading text (at + 1) (at + 1) w.close.new.steps = slash_right text at from c.loop-at.steps c.loop-at-test.true c.loop-at.invariant w.close.new.steps w.if-byte-eq47.true ok.0 ok.1 ok.2 in
-        subst (λ l. Reading text (at + 1) c.if-byte-eq47.from l) (sym w.steps-is) (subst (λ n. Reading text (at + 1) n w.close.new.steps) (sym w.from-is) right)
+          let ok = w.in_ok-close.ensures.ok in
+          let right : Reading text (at + 1) (at + 1) w.close.new.steps = slash_right text at from c.loop-at.steps c.loop-at-test.true c.loop-at.invariant w.close.new.steps w.if-byte-eq47.true ok.0 ok.1 ok.2 in
+          subst (λ l. Reading text (at + 1) c.if-byte-eq47.from l) (sym w.steps-is) (subst (λ n. Reading text (at + 1) n w.close.new.steps) (sym w.from-is) right)
       | else-byte-eq47+in_ok-extend w ↦
-        let ok = w.in_ok-extend.ensures.ok in
-        let right : Reading text (at + 1) from c.loop-at.steps = byte_right text at from c.loop-at.steps c.loop-at-test.true c.loop-at.invariant w.if-byte-eq47.false ok.0 ok.1 (omega (arith, c.type_inv.text at)) in
-        subst (λ l. Reading text (at + 1) c.if-byte-eq47.from l) (sym w.steps-is) (subst (λ n. Reading text (at + 1) n c.loop-at.steps) (sym w.from-is) right)
+          let ok = w.in_ok-extend.ensures.ok in
+          let right : Reading text (at + 1) from c.loop-at.steps = byte_right text at from c.loop-at.steps c.loop-at-test.true c.loop-at.invariant w.if-byte-eq47.false ok.0 ok.1 (omega (arith, c.type_inv.text at)) in
+          subst (λ l. Reading text (at + 1) c.if-byte-eq47.from l) (sym w.steps-is) (subst (λ n. Reading text (at + 1) n c.loop-at.steps) (sym w.from-is) right)
     ]
 
 pub returns-clause-ok : goal.returns-clause-ok
