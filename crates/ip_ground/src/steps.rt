@@ -1,6 +1,6 @@
 // The steps of a ground in memory, over its files and its log.
 ghost use Rattle.std.specs.Prelude.{◌≡◌, ◌≤◌, ◌-◌, ◌++◌, [], ◌∷◌, length, min, take, drop, IfOk, OnOk, OnErr, IsTrue};
-ghost use Rattle.ip_ground.specs.Told.{said, NoFile, ChangesOnly, Reopens};
+ghost use Rattle.ip_ground.specs.Told.{said, IsLoose, NoFile, ChangesOnly, Reopens, IsSyncedAs};
 ghost use Rattle.ip_ground.specs.Custody.{custody_of, lent};
 ghost use Rattle.ip_ground.specs.Replay.{told_by, durable_by, said_after, lent_after, keeps_files, keeps_durable};
 ghost use Rattle.ip_ground.specs.Map.{content_in, IsTied, IsSynced};
@@ -255,6 +255,7 @@ pub fn stop_with_all(files: &Files, kept: &Files, log: &mut Vec<Event>) -> Resul
     ensures tied { IsTied files.now log.new.items }
     ensures synced { IsSynced kept.now log.new.items }
     ensures reopens { OnOk result (Reopens (told_by log.old.items) (told_by log.new.items)) }
+    ensures all { OnOk result ((file : _) → (told_by log.new.items).held file ≡ (told_by log.old.items).held file) }
 {
     let _ = files;
     let _ = kept;
@@ -273,6 +274,7 @@ pub fn stop_with_synced(
     ensures tied { IsTied files.new log.new.items }
     ensures synced { IsSynced kept.now log.new.items }
     ensures reopens { OnOk result (Reopens (told_by log.old.items) (told_by log.new.items)) }
+    ensures last { OnOk result ((file : _) → ¬ IsLoose (told_by log.old.items) file → IsSyncedAs (told_by log.old.items) file ((told_by log.new.items).held file)) }
 {
     let copy = copied(kept)?;
     log.push(Event::Stopped { keep: false })?;
