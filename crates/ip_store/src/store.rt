@@ -1,0 +1,145 @@
+// The control file of a store without commits.
+ghost use Rattle.std.specs.Prelude.{◌≡◌, ◌↔◌, IsTrue, OnErr, IfOk, IsErrOf, is_some, take, length, ◌+◌, ◌≤◌, nat_le, ◌&&◌, ◌==◌, slice_index};
+ghost use Rattle.ip_ground.specs.Counts.{NoneFalls, Rose};
+ghost use Rattle.ip_ground.specs.Told.{NoFile, ChangesOnly};
+ghost use Rattle.ip_image.specs.Slot.{IsChunkSize, live_index, fresh_control};
+ghost use Rattle.ip_store.specs.Control.{control_in};
+ghost use Rattle.ip_store.specs.Opening.{Makes, Opens};
+
+use ip_ground::{FileName, Ground, GroundFault};
+
+/// The bytes of a chunk where nothing else was asked for.
+pub const DEFAULT_CHUNK: u64 = 1048576;
+
+/// The first byte of a slot that counts.
+const GATE_OPEN: u8 = 0xA5;
+
+/// Whether a store may have chunks of so many bytes: a power of two from 4096 to 2^30.
+pub fn chunk_allowed(chunk: u64) -> bool
+    ensures { IsTrue result ↔ IsChunkSize chunk }
+{
+    chunk >= 4096 && chunk <= 1 << 30 && chunk.is_power_of_two()
+}
+
+/// Why no store was made.
+#[derive(Clone, Copy, Debug, PartialEq, Eq)]
+pub enum InitFault {
+    /// One is there: a slot of the control file is open. Nothing was changed.
+    Existing,
+    /// A call on the ground failed.
+    Ground,
+}
+
+impl From<GroundFault> for InitFault {
+    ghost use Rattle.ip_store.specs.declared.store.InitFault.TheVariants as InitFault;
+
+    ghost from_gives = { λ _ e. e ≡ InitFault.Ground };
+
+    fn from(_: GroundFault) -> Self {
+        InitFault::Ground
+    }
+}
+
+/// Why no store was opened.
+#[derive(Clone, Copy, Debug, PartialEq, Eq)]
+pub enum OpenFault {
+    /// None is there: no slot of the control file is open.
+    NoStore,
+    /// The files are no store's, and this is the first place that shows it.
+    Damaged { file: FileName, at: u64 },
+    /// A call on the ground failed.
+    Ground,
+}
+
+impl From<GroundFault> for OpenFault {
+    ghost use Rattle.ip_store.specs.declared.store.OpenFault.TheVariants as OpenFault;
+
+    ghost from_gives = { λ _ e. e ≡ OpenFault.Ground };
+
+    fn from(_: GroundFault) -> Self {
+        OpenFault::Ground
+    }
+}
+
+/// An open store. So far it is the one without commits.
+#[derive(Drop)]
+pub struct Store {}
+
+impl Store {
+    /// Makes a store without commits, whose chunks have so many bytes. It is there for good once this is `Ok`.
+    pub fn init<G: Ground>(outside: &mut G, chunk: u64) -> Result<(), InitFault>
+        requires { IsChunkSize chunk }
+        ensures does { IsTrue G.tells → Makes chunk result (G.told outside.old) (G.told outside.new) }
+        ensures counts { NoneFalls (G.counts_of outside.old) (G.counts_of outside.new) }
+        ensures cause { IsErrOf result InitFault.Ground → Rose (G.counts_of outside.old).file_faults (G.counts_of outside.new).file_faults }
+    {
+        let mut room = [0; 256];
+        let count = outside.read(FileName::Control, 0, &mut room)?;
+        if has_open_slot(&room[..count]) {
+            return Err(InitFault::Existing);
+        }
+        outside.write(FileName::Control, 0, &fresh_control(chunk))?;
+        outside.sync(FileName::Control)?;
+        Ok(())
+    }
+
+    /// Opens the store. It takes no memory.
+    pub fn open_at<G: Ground>(outside: &mut G) -> Result<Store, OpenFault>
+        ensures does { IsTrue G.tells → Opens result (G.told outside.old) (G.told outside.new) }
+        ensures counts { NoneFalls (G.counts_of outside.old) (G.counts_of outside.new) }
+        ensures cause { IsErrOf result OpenFault.Ground → Rose (G.counts_of outside.old).file_faults (G.counts_of outside.new).file_faults }
+    {
+        if outside.length(FileName::Control)?.is_none() {
+            return Err(OpenFault::NoStore);
+        }
+        // What is read from here on is what a crash leaves.
+        outside.sync(FileName::Control)?;
+        let mut room = [0; 256];
+        let count = outside.read(FileName::Control, 0, &mut room)?;
+        open_on(&room[..count])
+    }
+}
+
+// The store whose control file begins with these bytes.
+fn open_on(control: &[u8]) -> Result<Store, OpenFault> {
+    if !has_open_slot(control) {
+        return Err(OpenFault::NoStore);
+    }
+    if control != fresh_control(DEFAULT_CHUNK).as_slice() {
+        return Err(OpenFault::Damaged {
+            file: FileName::Control,
+            at: 0,
+        });
+    }
+    Ok(Store {})
+}
+
+// Whether one of the two slots is whole and open.
+fn has_open_slot(control: &[u8]) -> bool
+    ensures { result ≡ is_some (live_index control.now) }
+{
+    is_open_at(control, 0) || is_open_at(control, 128)
+}
+
+// Whether the slot that begins there is whole and open.
+fn is_open_at(control: &[u8], start: usize) -> bool
+    requires { start ≤ 128 }
+    ensures { result ≡ (nat_le (start + 128) (length control.now) && (slice_index control.now start == 165)) }
+{
+    control.len() >= start + 128 && control[start] == GATE_OPEN
+}
+
+// The control file of a store without commits: slot 0 says version 1, sequence 1, the chunk size, 1 as the attempt that
+// comes next and 1 as the first not yet swept; slot 1 is closed.
+fn fresh_control(chunk: u64) -> [u8; 256]
+    ensures { result ≡ fresh_control chunk }
+{
+    let mut out = [0; 256];
+    out[0] = GATE_OPEN;
+    out[8] = 1;
+    out[16] = 1;
+    out[72] = 1;
+    out[104] = 1;
+    out[24..32].copy_from_slice(&chunk.to_le_bytes());
+    out
+}
