@@ -1,0 +1,15 @@
+use Rattle.std.proofs.Common.{rules, ◌≡◌, ◌↔◌, IsTrue, OnErr, IfOk, IsErrOf, is_some, take, length, ◌+◌, ◌≤◌, nat_le, ◌&&◌, ◌==◌, slice_index, ℕ, ◌-◌, ◌*◌, ◌<◌, ◌/◌, ◌%◌, Bool, true, false, nat_eq, nat_lt, List, [], ◌∷◌, ◌++◌, slice_index_or, slice_set, bit_and, bit_or, Fits, w8, w32, w64, Bor, MutBor}
+use Rattle.ip_ground.specs.Counts.{NoneFalls, Rose}
+use Rattle.ip_ground.specs.Told.{NoFile, ChangesOnly}
+use Rattle.ip_image.specs.Slot.{IsChunkSize, live_index, fresh_control}
+use Rattle.ip_store.specs.Control.{control_in}
+use Rattle.ip_store.specs.Opening.{Makes, Opens}
+use Rattle.ip_store.proofs.store.has_open_slot.Goals as goal
+
+-- src/store.rt:118:1
+pub returns-then-is_open_at : goal.returns-then-is_open_at
+returns-then-is_open_at c = ?
+
+-- src/store.rt:118:1
+pub returns-else-is_open_at : goal.returns-else-is_open_at
+returns-else-is_open_at c = ?
