@@ -16,8 +16,12 @@ tree_code = code (coded_list (coded_list coded_ℕ)) (coded_list coded_ℕ)
 abbrev pub step_cmp : Vec ℕ Global → Vec ℕ Global → Ordering
 step_cmp step other = bytes_cmp step.items other.items
 
-abbrev pub entry_of : Vec ℕ Global × Bytes → List Bytes × Bytes
-entry_of entry = (entry.0.items ∷ [], entry.1)
+-- the steps and what stands at them, in order
+abbrev pub entries_in : BTreeMap (Vec ℕ Global) Bytes → List (Bytes × Bytes)
+entries_in entries = map (λ e. (e.0.items, e.1)) entries.entries
+
+abbrev pub at_root : Bytes × Bytes → List Bytes × Bytes
+at_root e = (e.0 ∷ [], e.1)
 
 unfoldable pub tree_of : BTreeMap (Vec ℕ Global) Bytes → Tree
-tree_of entries = from_entries (map entry_of entries.entries)
+tree_of entries = from_entries (map at_root (entries_in entries))

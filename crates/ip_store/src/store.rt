@@ -4,7 +4,7 @@ ghost use Rattle.ip_ground.specs.Counts.{NoneFalls, Rose};
 ghost use Rattle.ip_ground.specs.Told.{NoFile, ChangesOnly};
 ghost use Rattle.ip_image.specs.Slot.{IsChunkSize, live_index, fresh_control};
 ghost use Rattle.ip_store.specs.Control.{control_in};
-ghost use Rattle.ip_store.specs.Opening.{Makes, Opens};
+ghost use Rattle.ip_store.specs.Opening.{Makes, Opens, OpensOn};
 
 use ip_ground::{FileName, Ground, GroundFault};
 
@@ -101,7 +101,9 @@ impl Store {
 }
 
 // The store whose control file begins with these bytes.
-fn open_on(control: &[u8]) -> Result<Store, OpenFault> {
+fn open_on(control: &[u8]) -> Result<Store, OpenFault>
+    ensures does { OpensOn control.now result }
+{
     if !has_open_slot(control) {
         return Err(OpenFault::NoStore);
     }

@@ -1,11 +1,7 @@
-use Rattle.std.proofs.Common.{rules, ◌≡◌, ◌↔◌, IsTrue, OnErr, IfOk, IsErrOf, is_some, take, length, ◌+◌, ◌≤◌, nat_le, ◌&&◌, ◌==◌, slice_index, ℕ, ◌-◌, ◌*◌, ◌<◌, ◌/◌, ◌%◌, Bool, true, false, nat_eq, nat_lt, List, [], ◌∷◌, ◌++◌, slice_index_or, slice_set, bit_and, bit_or, Fits, w8, w32, w64, Bor, MutBor}
-use Rattle.ip_ground.specs.Counts.{NoneFalls, Rose}
-use Rattle.ip_ground.specs.Told.{NoFile, ChangesOnly}
-use Rattle.ip_image.specs.Slot.{IsChunkSize, live_index, fresh_control}
-use Rattle.ip_store.specs.Control.{control_in}
-use Rattle.ip_store.specs.Opening.{Makes, Opens}
+use Rattle.std.proofs.Common.{List, ℕ, ◌∷◌, ◌++◌, ap, ◌∙◌}
+use Rattle.ip_store.proofs.Spelling.{before, after, spelled}
 use Rattle.ip_store.proofs.store.fresh_control.Goals as goal
 
--- src/store.rt:134:1
 pub returns : goal.returns
-returns c = ?
+unfolding before after
+returns c = ap (λ v. before ++ (v ++ after)) (c.copy_from_slice.ensures.after ∙ c.to_le_bytes.ensures) ∙ spelled c.args.chunk

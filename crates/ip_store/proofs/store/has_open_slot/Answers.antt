@@ -1,15 +1,14 @@
-use Rattle.std.proofs.Common.{rules, ◌≡◌, ◌↔◌, IsTrue, OnErr, IfOk, IsErrOf, is_some, take, length, ◌+◌, ◌≤◌, nat_le, ◌&&◌, ◌==◌, slice_index, ℕ, ◌-◌, ◌*◌, ◌<◌, ◌/◌, ◌%◌, Bool, true, false, nat_eq, nat_lt, List, [], ◌∷◌, ◌++◌, slice_index_or, slice_set, bit_and, bit_or, Fits, w8, w32, w64, Bor, MutBor}
-use Rattle.ip_ground.specs.Counts.{NoneFalls, Rose}
-use Rattle.ip_ground.specs.Told.{NoFile, ChangesOnly}
-use Rattle.ip_image.specs.Slot.{IsChunkSize, live_index, fresh_control}
-use Rattle.ip_store.specs.Control.{control_in}
-use Rattle.ip_store.specs.Opening.{Makes, Opens}
+use Rattle.std.proofs.Common.{sym, ◌∙◌, ap}
+use Rattle.std.specs.Prelude.{◌||◌}
+use Rattle.ip_image.specs.Slot.{is_open}
+use Rattle.ip_image.proofs.FreshLaws.{open_slot, open_slots}
 use Rattle.ip_store.proofs.store.has_open_slot.Goals as goal
 
--- src/store.rt:118:1
 pub returns-then-is_open_at : goal.returns-then-is_open_at
-returns-then-is_open_at c = ?
+returns-then-is_open_at c =
+    c.if-is_open_at.true ∙ sym (open_slots c.args.control.now ∙ ap (λ b. b || is_open c.args.control.now 1) (open_slot c.args.control.now 0 ∙ sym c.is_open_at.ensures ∙ c.if-is_open_at.true))
 
--- src/store.rt:118:1
 pub returns-else-is_open_at : goal.returns-else-is_open_at
-returns-else-is_open_at c = ?
+returns-else-is_open_at c =
+    c.is_open_at-else-is_open_at.ensures ∙ sym (open_slot c.args.control.now 1)
+    ∙ sym (open_slots c.args.control.now ∙ ap (λ b. b || is_open c.args.control.now 1) (open_slot c.args.control.now 0 ∙ sym c.is_open_at.ensures ∙ c.if-is_open_at.false))

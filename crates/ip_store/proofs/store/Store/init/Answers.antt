@@ -1,23 +1,29 @@
-use Rattle.std.proofs.Common.{rules, ◌≡◌, ◌↔◌, IsTrue, OnErr, IfOk, IsErrOf, is_some, take, length, ◌+◌, ◌≤◌, nat_le, ◌&&◌, ◌==◌, slice_index, ℕ, ◌-◌, ◌*◌, ◌<◌, ◌/◌, ◌%◌, Bool, true, false, nat_eq, nat_lt, List, [], ◌∷◌, ◌++◌, slice_index_or, slice_set, bit_and, bit_or, Fits, w8, w32, w64, Bor, MutBor}
-use Rattle.ip_ground.specs.Counts.{NoneFalls, Rose}
-use Rattle.ip_ground.specs.Told.{NoFile, ChangesOnly}
-use Rattle.ip_image.specs.Slot.{IsChunkSize, live_index, fresh_control}
-use Rattle.ip_store.specs.Control.{control_in}
-use Rattle.ip_store.specs.Opening.{Makes, Opens}
+use Rattle.std.proofs.Common.{refl, sym, ap, ◌∙◌}
+use Rattle.std.specs.Prelude.{is_some}
+use Rattle.ip_store.proofs.Reading.{read_index, some_of}
+use Rattle.ip_store.proofs.Making.{is_there, fails, of_spelled, write_only, sync_only, makes}
 use Rattle.ip_store.proofs.store.Store.init.Goals as goal
 
--- src/store.rt:79:13
 pub returns-then-has_open_slot-clause-does : goal.returns-then-has_open_slot-clause-does
-returns-then-has_open_slot-clause-does g c = ?
+returns-then-has_open_slot-clause-does g c told =
+    let reads = c.in_ok-count.ensures.does told in
+    is_there _ _ _ reads.only (some_of _ _ (read_index _ _ _ _ _ refl reads) (sym c.has_open_slot.ensures ∙ c.if-has_open_slot.true))
 
--- src/store.rt:81:9
 pub returns-in_err-write-clause-does : goal.returns-in_err-write-clause-does
-returns-in_err-write-clause-does g c = ?
+returns-in_err-write-clause-does g c told =
+    let reads = c.in_ok-count.ensures.does told in
+    let writes = of_spelled c.args.chunk _ _ _ _ c.fresh_control.ensures (c.write.ensures.does told) in
+    fails _ _ _ _ c.from_residual-in_err-write.ensures.1 (write_only c.args.chunk _ _ _ reads.only _ writes)
 
--- src/store.rt:82:9
 pub returns-in_err-sync-clause-does : goal.returns-in_err-sync-clause-does
-returns-in_err-sync-clause-does g c = ?
+returns-in_err-sync-clause-does g c told =
+    let reads = c.in_ok-count.ensures.does told in
+    let writes = of_spelled c.args.chunk _ _ _ _ c.fresh_control.ensures (c.in_ok-write.ensures.does told) in
+    fails _ _ _ _ c.from_residual-in_err-sync.ensures.1 (sync_only c.args.chunk _ _ _ _ reads.only writes _ (c.sync.ensures.does told))
 
--- src/store.rt:70:5
 pub returns-clause-does : goal.returns-clause-does
-returns-clause-does g c = ?
+returns-clause-does g c told =
+    let reads = c.in_ok-count.ensures.does told in
+    let writes = of_spelled c.args.chunk _ _ _ _ c.fresh_control.ensures (c.in_ok-write.ensures.does told) in
+    let closed = ap is_some (sym (read_index _ _ _ _ _ refl reads)) ∙ sym c.has_open_slot.ensures ∙ c.if-has_open_slot.false in
+    makes c.args.chunk c.requires _ _ _ _ reads.only closed writes (c.in_ok-sync.ensures.does told)

@@ -1,27 +1,24 @@
-use Rattle.std.proofs.Common.{rules, ◌≡◌, ◌↔◌, IsTrue, OnErr, IfOk, IsErrOf, is_some, take, length, ◌+◌, ◌≤◌, nat_le, ◌&&◌, ◌==◌, slice_index, ℕ, ◌-◌, ◌*◌, ◌<◌, ◌/◌, ◌%◌, Bool, true, false, nat_eq, nat_lt, List, [], ◌∷◌, ◌++◌, slice_index_or, slice_set, bit_and, bit_or, Fits, w8, w32, w64, Bor, MutBor}
-use Rattle.ip_ground.specs.Counts.{NoneFalls, Rose}
-use Rattle.ip_ground.specs.Told.{NoFile, ChangesOnly}
-use Rattle.ip_image.specs.Slot.{IsChunkSize, live_index, fresh_control}
-use Rattle.ip_store.specs.Control.{control_in}
-use Rattle.ip_store.specs.Opening.{Makes, Opens}
+use Rattle.std.proofs.Common.{refl}
+use Rattle.ip_store.proofs.Opening.{no_file, fails, sync_only, opens}
+use Rattle.ip_ground.proofs.Spans.{only_on}
+use Rattle.ip_ground.specs.Told.{NoFile}
 use Rattle.ip_store.proofs.store.Store.open_at.Goals as goal
 
--- src/store.rt:93:13
 pub returns-then-is_none-clause-does : goal.returns-then-is_none-clause-does
-returns-then-is_none-clause-does g c = ?
+returns-then-is_none-clause-does g c told = no_file _ _ c.in_ok-length.field-0 (c.if-is_none.ensures) (c.in_ok-length.ensures.does told)
 
--- src/store.rt:96:9
 pub returns-in_err-sync-clause-does : goal.returns-in_err-sync-clause-does
-returns-in_err-sync-clause-does g c = ?
+returns-in_err-sync-clause-does g c told =
+    let measures = c.in_ok-length.ensures.does told in
+    fails _ _ _ c.from_residual-in_err-sync.ensures.1 (sync_only _ _ _ measures.only _ (c.sync.ensures.does told))
 
--- src/store.rt:98:21
 pub returns-in_err-count-clause-does : goal.returns-in_err-count-clause-does
-returns-in_err-count-clause-does g c = ?
+returns-in_err-count-clause-does g c told =
+    let measures = c.in_ok-length.ensures.does told in
+    let reads = c.read.ensures.does told in
+    fails _ _ _ c.from_residual-in_err-count.ensures.1 (only_on _ _ _ NoFile (sync_only _ _ _ measures.only _ (c.in_ok-sync.ensures.does told)) reads.only)
 
--- src/store.rt:87:5
 pub returns-clause-does : goal.returns-clause-does
-returns-clause-does g c = ?
-
--- src/store.rt:87:5
-pub returns-clause-cause : goal.returns-clause-cause
-returns-clause-cause g c = ?
+returns-clause-does g c told =
+    let measures = c.in_ok-length.ensures.does told in
+    opens _ _ _ _ _ _ _ _ measures.only (c.in_ok-sync.ensures.does told) refl (c.in_ok-count.ensures.does told) c.open_on.ensures.does
