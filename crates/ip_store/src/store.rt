@@ -79,8 +79,7 @@ impl Store {
             return Err(InitFault::Existing);
         }
         outside.write(FileName::Control, 0, &fresh_control(chunk))?;
-        outside.sync(FileName::Control)?;
-        Ok(())
+        Ok(outside.sync(FileName::Control)?)
     }
 
     /// Opens the store. It takes no memory.
@@ -144,4 +143,98 @@ fn fresh_control(chunk: u64) -> [u8; 256]
     out[104] = 1;
     out[24..32].copy_from_slice(&chunk.to_le_bytes());
     out
+}
+
+#[cfg(test)]
+mod tests {
+    use super::*;
+    use ip_ground::Bench;
+
+    // Slot 0 is open and has version 1, sequence 1, chunks of 1048576 bytes, next attempt 1 and first attempt 1.
+    const FRESH: [u8; 256] = [
+        0xa5, 0, 0, 0, 0, 0, 0, 0, 1, 0, 0, 0, 0, 0, 0, 0, // gate, version
+        1, 0, 0, 0, 0, 0, 0, 0, 0, 0, 0x10, 0, 0, 0, 0, 0, // sequence, chunk size
+        0, 0, 0, 0, 0, 0, 0, 0, 0, 0, 0, 0, 0, 0, 0, 0, // horizon, end
+        0, 0, 0, 0, 0, 0, 0, 0, 0, 0, 0, 0, 0, 0, 0, 0, // floor, next commit
+        0, 0, 0, 0, 0, 0, 0, 0, 1, 0, 0, 0, 0, 0, 0, 0, // live attempt, next attempt
+        0, 0, 0, 0, 0, 0, 0, 0, 0, 0, 0, 0, 0, 0, 0, 0, // prefix length, mapping rows
+        0, 0, 0, 0, 0, 0, 0, 0, 1, 0, 0, 0, 0, 0, 0, 0, // first chunk, first attempt
+        0, 0, 0, 0, 0, 0, 0, 0, 0, 0, 0, 0, 0, 0, 0, 0, // slot 1
+        0, 0, 0, 0, 0, 0, 0, 0, 0, 0, 0, 0, 0, 0, 0, 0, //
+        0, 0, 0, 0, 0, 0, 0, 0, 0, 0, 0, 0, 0, 0, 0, 0, //
+        0, 0, 0, 0, 0, 0, 0, 0, 0, 0, 0, 0, 0, 0, 0, 0, //
+        0, 0, 0, 0, 0, 0, 0, 0, 0, 0, 0, 0, 0, 0, 0, 0, //
+        0, 0, 0, 0, 0, 0, 0, 0, 0, 0, 0, 0, 0, 0, 0, 0, //
+        0, 0, 0, 0, 0, 0, 0, 0, 0, 0, 0, 0, 0, 0, 0, 0, //
+        0, 0, 0, 0, 0, 0, 0, 0, 0, 0, 0, 0, 0, 0, 0, 0, //
+        0, 0, 0, 0, 0, 0, 0, 0, 0, 0, 0, 0, 0, 0, 0, 0, //
+    ];
+
+    fn bench(rt: &HostRuntime) -> Bench {
+        Bench::new(rt.alloc(), Vec::new(rt.alloc()), None, Vec::new(rt.alloc()))
+    }
+
+    fn init(bench: &mut Bench, chunk: u64) -> Option<Result<(), InitFault>> {
+        if chunk_allowed(chunk) {
+            Some(Store::init(bench, chunk))
+        } else {
+            None
+        }
+    }
+
+    fn open(bench: &mut Bench) -> Result<(), OpenFault> {
+        Store::open_at(bench)?;
+        Ok(())
+    }
+
+    fn damaged(at: u64) -> Result<(), OpenFault> {
+        Err(OpenFault::Damaged {
+            file: FileName::Control,
+            at,
+        })
+    }
+
+    #[test]
+    fn chunks_are_powers_of_two(rt: HostRuntime) {
+        for (chunk, allowed) in [
+            (4095, false),
+            (4096, true),
+            (6144, false),
+            (1 << 30, true),
+            (1 << 31, false),
+        ] {
+            assert_eq!(rt; chunk_allowed(chunk), allowed, "{chunk}");
+        }
+    }
+
+    #[test]
+    fn a_store_is_made_once(rt: HostRuntime) {
+        let mut ground = bench(&rt);
+        assert_eq!(rt; init(&mut ground, 1048576), Some(Ok(())));
+        let mut out = [0xee; 257];
+        assert_eq!(rt; ground.read(FileName::Control, 0, &mut out), Ok(256));
+        assert_eq!(rt; &out[..256], FRESH.as_slice());
+        assert_eq!(rt; init(&mut ground, 4096), Some(Err(InitFault::Existing)));
+        assert_eq!(rt; open(&mut ground), Ok(()));
+    }
+
+    #[test]
+    fn the_chunk_size_is_the_one_asked_for(rt: HostRuntime) {
+        let mut ground = bench(&rt);
+        assert_eq!(rt; init(&mut ground, 8192), Some(Ok(())));
+        let mut out = [0xee; 8];
+        assert_eq!(rt; ground.read(FileName::Control, 24, &mut out), Ok(8));
+        assert_eq!(rt; out, [0, 0x20, 0, 0, 0, 0, 0, 0]);
+        assert_eq!(rt; open(&mut ground), damaged(0));
+    }
+
+    #[test]
+    fn other_files_are_no_store(rt: HostRuntime) {
+        let mut ground = bench(&rt);
+        assert_eq!(rt; open(&mut ground), Err(OpenFault::NoStore));
+        assert_eq!(rt; ground.write(FileName::Control, 0, &[0; 128]), Ok(()));
+        assert_eq!(rt; open(&mut ground), Err(OpenFault::NoStore));
+        assert_eq!(rt; ground.write(FileName::Control, 0, &[0xa5]), Ok(()));
+        assert_eq!(rt; open(&mut ground), damaged(0));
+    }
 }

@@ -115,3 +115,67 @@ fn only_step(path: Path) -> Vec<u8>
         None => unreachable!(),
     }
 }
+
+#[cfg(test)]
+mod tests {
+    use super::*;
+    use ip_base::{Items, Step};
+
+    fn path(alloc: Global, step: u8) -> Result<Path, Memory>
+        ensures { IfOk result (λ p. length p ≡ 1) }
+    {
+        let mut steps = Items::empty(alloc);
+        steps.push(Step::of(Blob::copy_of(alloc, &[step])?))?;
+        Ok(Path::of(steps))
+    }
+
+    fn set(alloc: Global, tree: &mut Tree, step: u8, contents: &[u8]) -> Result<(), TreeFault> {
+        let (Ok(path), Ok(contents)) = (path(alloc, step), Blob::copy_of(alloc, contents)) else {
+            return Err(TreeFault::Memory);
+        };
+        tree.set(path, contents)
+    }
+
+    // How many bytes stand at the step.
+    fn size_at(alloc: Global, tree: &Tree, step: u8) -> Option<usize> {
+        match path(alloc, step) {
+            Ok(path) => match tree.get(alloc, &path) {
+                Ok(Got::Value(contents)) => Some(contents.len()),
+                _ => None,
+            },
+            Err(_) => None,
+        }
+    }
+
+    #[test]
+    fn a_tree_takes_32_entries(rt: HostRuntime) {
+        let alloc = rt.alloc();
+        let mut tree = Tree::empty(alloc);
+        for step in 0..32 {
+            assert_eq!(rt; set(alloc, &mut tree, 90 - step, &[step]), Ok(()));
+        }
+        let full = Err(TreeFault::Limit(Limit::Entries));
+        assert_eq!(rt; set(alloc, &mut tree, 91, &[1]), full);
+        assert_eq!(rt; set(alloc, &mut tree, 90, &[1, 2]), Ok(()));
+        assert_eq!(rt; size_at(alloc, &tree, 90), Some(2));
+        assert_eq!(rt; size_at(alloc, &tree, 59), Some(1));
+        assert_eq!(rt; size_at(alloc, &tree, 91), None);
+    }
+
+    fn set_long(alloc: Global, tree: &mut Tree, size: usize) -> Result<(), TreeFault> {
+        match vec![in alloc; 7; size] {
+            Ok(contents) => set(alloc, tree, 1, &contents),
+            Err(_) => Err(TreeFault::Memory),
+        }
+    }
+
+    #[test]
+    fn contents_have_a_limit(rt: HostRuntime) {
+        let alloc = rt.alloc();
+        let mut tree = Tree::empty(alloc);
+        let limit = Err(TreeFault::Limit(Limit::Contents));
+        assert_eq!(rt; set_long(alloc, &mut tree, 1048577), limit);
+        assert_eq!(rt; set_long(alloc, &mut tree, 1048576), Ok(()));
+        assert_eq!(rt; size_at(alloc, &tree, 1), Some(1048576));
+    }
+}
