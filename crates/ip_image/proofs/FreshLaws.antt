@@ -2,9 +2,9 @@
 --     open_slot, open_slots      a slot is open where it is whole and its gate is open; some slot is live where one is open
 --     first_slots      only the first 256 bytes count
 --     fresh_stands      the fresh control file stands for the repository without commits
-use Rattle.std.proofs.Common.{◌≡◌, ℕ, suc, ◌+◌, ◌-◌, ◌*◌, ◌<◌, ◌≤◌, ◌/◌, ◌^◌, min, Bool, true, false, List, [], ◌∷◌, ◌++◌, length, take, drop, get_or, Option, Some, None, eqb, leb, refl, sym, ◌∙◌, ap, subst, arith, length-drop}
+use Rattle.std.proofs.Common.{◌≡◌, ℕ, ◌+◌, ◌-◌, ◌*◌, ◌<◌, ◌≤◌, min, Bool, true, false, [], length, take, drop, get_or, Option, Some, eqb, leb, refl, sym, ◌∙◌, ap, arith, length-drop}
 use Rattle.std.specs.Int.{w64, from_le_bytes}
-use Rattle.std.specs.Prelude.{◌&&◌, ◌||◌, ◌==◌, nat_le, is_some, slice_index, if◌then◌else◌, map}
+use Rattle.std.specs.Prelude.{◌&&◌, ◌||◌, ◌==◌, nat_le, is_some, slice_index, if◌then◌else◌}
 use Rattle.std.proofs.lemmas.List.{length-take, get_or-take, get_or-drop, drop-take, take-take}
 use Rattle.std.proofs.lemmas.Bool.Decides.{nat_tests}
 use Rattle.ip_ground.specs.Contents.{Image}
@@ -12,8 +12,8 @@ use Rattle.ip_ground.specs.declared.names.FileName.TheVariants.{Control}
 use Rattle.ip_spec.specs.Path.{Bytes}
 use Rattle.ip_spec.specs.Map.{empty}
 use Rattle.ip_spec.specs.Repository.{no_repository}
-use Rattle.ip_image.specs.Slot.{slot_fields, slot_bytes, slot_at, is_open, sequence_at, live_by, live_index, is_tied, IsChunkSize, IsSlot, IsLive, fresh, fresh_control, layout_of, open_gate}
-use Rattle.ip_image.specs.Standing.{Standing, StandsFor, Generation, WholeFits}
+use Rattle.ip_image.specs.Slot.{slot_fields, slot_bytes, slot_at, is_open, sequence_at, live_by, live_index, IsChunkSize, IsSlot, IsLive, fresh, fresh_control, open_gate}
+use Rattle.ip_image.specs.Standing.{Standing, StandsFor}
 
 test_eq : (a b : ℕ) → a ≡ b → eqb a b ≡ true
 test_eq a b l = grind (arith, nat_tests)

@@ -1,7 +1,7 @@
 -- Trees whose paths all have one step, by the list of their steps and contents.
 --     flat ys      the tree.      get-flat      what it has at each path
 --     put_flat, got_flat, widest_flat      a put is a put into the list, what stands at a step is the list's, and the width is its length
-use Rattle.std.proofs.Common.{◌≡◌, ℕ, suc, ◌+◌, ◌≤◌, max, Bool, true, false, cond, T, List, [], ◌∷◌, ◌++◌, map, length, Option, Some, None, refl, sym, ◌∙◌, ap, subst, arith}
+use Rattle.std.proofs.Common.{◌≡◌, ℕ, suc, ◌+◌, max, Bool, true, false, cond, T, List, [], ◌∷◌, map, length, Option, Some, None, refl, sym, ◌∙◌, ap, subst, arith}
 use Rattle.std.specs.Prelude.{not, ◌&&◌, ◌||◌, is_some, option_map, fold}
 use Rattle.std.specs.Ordering.{is_eq, is_lt, ordering_then}
 use Rattle.std.specs.Cmp.Lexicographic.{nat_list_cmp_total}
@@ -13,7 +13,6 @@ use Rattle.ip_spec.specs.Map.{Map, empty, get, len, from_entries, same_map}
 use Rattle.ip_spec.specs.Path.{Bytes, Path, bytes_cmp, path_cmp, same_bytes, same_path, is_related}
 use Rattle.ip_spec.specs.Tree.{Tree, no_tree, contents, subtree, is_empty, entries_of, put, widest, got_at, ways}
 use Rattle.ip_spec.specs.declared.tree.Got.{Got}
-use Rattle.ip_spec.specs.declared.tree.Got.TheVariants as Got
 use Rattle.ip_spec.proofs.TreeLaws.{get-put}
 use Rattle.ip_spec.proofs.Subtrees.{get-sorted, same_tree, get-subtree, subtree_root, get-no_tree, get-contents, some_not_empty, get-entries_of, got_below, got_nothing, got_contents, same_bytes_turned, step_antisymmetric}
 use Rattle.ip_store.specs.Entries.{at_root}

@@ -5,7 +5,7 @@ use Rattle.std.specs.Ordering.{is_eq, is_lt, match_ordering}
 use Rattle.std.specs.List.{AllByRecursion}
 use Rattle.std.specs.List.Sorted.{IsStrictlySortedBy}
 use Rattle.std.specs.Map.{keys_of, lookup}
-use Rattle.std.specs.BTreeMap.{BTreeMap, IsOrdered, insert_entry, is_at}
+use Rattle.std.specs.BTreeMap.{BTreeMap, IsOrdered, insert_entry}
 use Rattle.std.specs.declared.alloc.Global.{Global}
 use Rattle.std.specs.declared.cmp.Ordering.{Ordering}
 use Rattle.std.specs.declared.cmp.Ordering.TheVariants.{Less, Equal, Greater}
@@ -13,7 +13,6 @@ use Rattle.std.specs.FinMap.Entries as E
 use Rattle.std.specs.FinMap.Entries.{find, is_sorted, below_all}
 use Rattle.std.proofs.lemmas.Bool.Decides.{nat_tests}
 use Rattle.ip_base.specs.declared.limit.Limit.{Limit}
-use Rattle.ip_base.specs.declared.limit.Limit.TheVariants as Limit
 use Rattle.ip_spec.specs.Path.{Bytes, Path, bytes_cmp}
 use Rattle.ip_spec.specs.Tree.{Tree, no_tree, put, widest, got_at}
 use Rattle.ip_store.specs.Work.{limit_of}

@@ -1,5 +1,5 @@
 -- What making a store does, exit by exit.
-use Rattle.std.proofs.Common.{take, List, subst, ◌≡◌, ℕ, false, refl, sym, ◌∙◌, ap, None, Ok, Err}
+use Rattle.std.proofs.Common.{take, List, subst, ◌≡◌, ℕ, false, sym, ◌∙◌, ap, Ok, Err}
 use Rattle.std.specs.Prelude.{Result, IsSome, IsErrAnd, is_some}
 use Rattle.ip_ground.specs.declared.names.FileName.TheVariants.{Control}
 use Rattle.ip_ground.specs.declared.names.GroundFault.{GroundFault}
@@ -10,7 +10,6 @@ use Rattle.ip_ground.proofs.Spans.{only_on, only_more}
 use Rattle.ip_ground.proofs.Durable.{sync_changes}
 use Rattle.ip_image.specs.Slot.{live_index, IsChunkSize, fresh_control}
 use Rattle.ip_store.specs.declared.store.InitFault.{InitFault}
-use Rattle.ip_store.specs.declared.store.InitFault.TheVariants as InitFault
 use Rattle.ip_store.specs.Control.{control_in, IsFresh}
 use Rattle.ip_store.specs.Opening.{Makes}
 use Rattle.ip_store.proofs.Reading.{own, control_passes, fresh_written, fresh_now, none_of}

@@ -13,7 +13,6 @@ use Rattle.ip_image.specs.Slot.{live_index, IsChunkSize, fresh_control}
 use Rattle.ip_image.specs.Standing.{StandsFor}
 use Rattle.ip_store.specs.declared.store.Store.{Store}
 use Rattle.ip_store.specs.declared.store.OpenFault.{OpenFault}
-use Rattle.ip_store.specs.declared.store.OpenFault.TheVariants as OpenFault
 use Rattle.ip_store.specs.Control.{control_in, default_chunk, IsFresh}
 use Rattle.ip_store.specs.Opening.{Opens, OpensOn}
 use Rattle.ip_store.proofs.Reading.{own, read_bytes, read_index, fresh_now}

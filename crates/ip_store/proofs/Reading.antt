@@ -1,9 +1,9 @@
 -- What is read of the control file, and what a fresh one stands for.
-use Rattle.std.proofs.Common.{◌≡◌, ◌≢◌, ℕ, ◌+◌, ◌-◌, ◌<◌, min, Bool, true, false, List, [], ◌∷◌, ◌++◌, length, take, drop, get_or, Option, Some, None, refl, sym, ◌∙◌, ap, subst, arith, length-drop}
-use Rattle.std.specs.Prelude.{Ok, ◌||◌, is_some, IsSome}
-use Rattle.std.proofs.lemmas.List.{length-take, get_or-take, get_or-drop, take_at}
+use Rattle.std.proofs.Common.{◌≡◌, ◌≢◌, ℕ, ◌+◌, ◌<◌, min, true, false, List, [], ◌∷◌, ◌++◌, length, take, drop, Option, Some, None, refl, sym, ◌∙◌, ap, subst, arith}
+use Rattle.std.specs.Prelude.{Ok, is_some, IsSome}
+use Rattle.std.proofs.lemmas.List.{length-take, get_or-take, take_at}
 use Rattle.std.proofs.lemmas.Grind.{same_number_lists}
-use Rattle.ip_ground.specs.Contents.{Content, bytes_of, size_of, written}
+use Rattle.ip_ground.specs.Contents.{Content, bytes_of, written}
 use Rattle.ip_ground.specs.declared.names.FileName.TheVariants.{Control}
 use Rattle.ip_ground.specs.Told.{Told, NoFile, ChangesOnly, IsKept, EachImageNow}
 use Rattle.ip_ground.specs.Calls.{Reads}

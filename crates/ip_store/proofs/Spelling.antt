@@ -1,5 +1,5 @@
 -- The bytes of a fresh control file, about its chunk size.
-use Rattle.std.proofs.Common.{◌≡◌, ℕ, List, [], ◌∷◌, ◌++◌, refl}
+use Rattle.std.proofs.Common.{◌≡◌, ℕ, [], ◌∷◌, ◌++◌, refl}
 use Rattle.ip_image.specs.Slot.{slot_fields, zeros, fresh_control}
 use Rattle.ip_spec.specs.Path.{Bytes}
 use Rattle.ip_spec.specs.Record.{u64}

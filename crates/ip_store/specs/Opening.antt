@@ -8,9 +8,7 @@ use Rattle.ip_spec.specs.Repository.{no_repository}
 use Rattle.ip_image.specs.Slot.{live_index, fresh_control}
 use Rattle.ip_image.specs.Standing.{StandsFor}
 use Rattle.ip_store.specs.declared.store.InitFault.{InitFault}
-use Rattle.ip_store.specs.declared.store.InitFault.TheVariants as InitFault
 use Rattle.ip_store.specs.declared.store.OpenFault.{OpenFault}
-use Rattle.ip_store.specs.declared.store.OpenFault.TheVariants as OpenFault
 use Rattle.ip_store.specs.declared.store.Store.{Store}
 use Rattle.ip_store.specs.Control.{control_in, default_chunk, IsFresh}
 

@@ -3,7 +3,6 @@
 --     work_of      a work, as the machine has it
 use Rattle.std.specs.Prelude.{length, Option, Some, None, if◌then◌else◌, nat_lt}
 use Rattle.ip_base.specs.declared.limit.Limit.{Limit}
-use Rattle.ip_base.specs.declared.limit.Limit.TheVariants as Limit
 use Rattle.ip_spec.specs.Path.{Bytes, Path}
 use Rattle.ip_spec.specs.Tree.{Tree, put, widest}
 use Rattle.ip_spec.specs.Step.{contents_limit, entries_limit}

@@ -1,4 +1,4 @@
-use Rattle.std.proofs.Common.{List, ℕ, ◌∷◌, ◌++◌, ap, ◌∙◌}
+use Rattle.std.proofs.Common.{◌++◌, ap, ◌∙◌}
 use Rattle.ip_store.proofs.Spelling.{before, after, spelled}
 use Rattle.ip_store.proofs.store.fresh_control.Goals as goal
 

@@ -1,4 +1,4 @@
-use Rattle.std.proofs.Common.{◌≡◌, sym, ◌∙◌, ap}
+use Rattle.std.proofs.Common.{sym, ◌∙◌, ap}
 use Rattle.ip_spec.specs.declared.tree.Got.TheVariants as Got
 use Rattle.ip_store.proofs.Flat.{got_of}
 use Rattle.ip_store.proofs.Kept.{step_of, got_is}

@@ -1,4 +1,4 @@
-use Rattle.std.proofs.Common.{◌≡◌, ◌≤◌, ℕ, sym, ◌∙◌, ap, subst, List, ◌∷◌, []}
+use Rattle.std.proofs.Common.{◌≤◌, ℕ, sym, ◌∙◌, ap, subst, List, ◌∷◌, []}
 use Rattle.ip_spec.specs.Tree.{put, widest}
 use Rattle.ip_store.proofs.Kept.{unchanged, on_err, put_is, within_limits}
 use Rattle.ip_store.proofs.tree.Tree.set.Goals as goal
