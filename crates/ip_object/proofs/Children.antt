@@ -1,10 +1,9 @@
 -- The children of an inode, by the bits of its bitmap.
-use Rattle.std.proofs.Common.{◌≡◌, ◌≢◌, ℕ, suc, ◌+◌, ◌-◌, ◌/◌, ◌%◌, ◌^◌, ◌<◌, List, [], ◌∷◌, ◌++◌, refl, sym, ap, subst, ◌∙◌, Bool, true, false, cond, Result, Ok, Err, arith}
+use Rattle.std.proofs.Common.{◌≡◌, ◌≢◌, ℕ, suc, ◌+◌, ◌-◌, ◌/◌, ◌%◌, ◌^◌, ◌<◌, List, [], ◌∷◌, ◌++◌, refl, ap, ◌∙◌, Bool, true, false, cond, Ok, arith}
 use Rattle.std.specs.Prelude.{◌==◌, filter}
 use Rattle.std.specs.List.{range_with_len}
 use Rattle.ip_spec.specs.declared.record.InodeChild.{InodeChild}
 use Rattle.ip_spec.specs.declared.record.RecordFault.{RecordFault}
-use Rattle.ip_spec.specs.declared.record.RecordFault.TheVariants as RecordFault
 use Rattle.ip_spec.specs.Reading.{after, Fields, Left, ◌>>=◌, done, child_field, child_fields}
 use Rattle.ip_object.specs.Body.{IsFault}
 use Rattle.ip_object.specs.Lists.{led, children_of_bits, bits_from, ReadBelow}

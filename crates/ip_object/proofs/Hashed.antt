@@ -1,6 +1,6 @@
 -- What names are made from, part by part.
-use Rattle.std.proofs.Common.{◌≡◌, ℕ, suc, ◌+◌, ◌^◌, List, [], ◌∷◌, ◌++◌, refl, sym, ap, ◌∙◌, length, map, flat_map}
-use Rattle.std.specs.Prelude.{sum_by, fold}
+use Rattle.std.proofs.Common.{◌≡◌, ℕ, suc, ◌+◌, ◌^◌, List, [], ◌∷◌, ◌++◌, refl, sym, ap, length, map, flat_map}
+use Rattle.std.specs.Prelude.{fold}
 use Rattle.ip_spec.specs.Path.{Bytes, Step}
 use Rattle.ip_spec.specs.declared.record.LeafEntry.{LeafEntry}
 use Rattle.ip_spec.specs.declared.record.InodeChild.{InodeChild}

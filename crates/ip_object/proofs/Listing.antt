@@ -1,5 +1,5 @@
 -- A list of fields that is read one element at a time: what is read so far, and what is left to read.
-use Rattle.std.proofs.Common.{◌≡◌, ℕ, zero, suc, ◌+◌, ◌-◌, ◌<◌, List, [], ◌∷◌, ◌++◌, refl, sym, ap, subst, ◌∙◌, Option, Some, None, Result, Ok, Err, arith, append_assoc, append-nil}
+use Rattle.std.proofs.Common.{◌≡◌, ℕ, zero, suc, ◌+◌, ◌-◌, ◌<◌, List, [], ◌∷◌, ◌++◌, refl, sym, ap, ◌∙◌, Some, Result, Ok, Err, arith, append_assoc, append-nil}
 use Rattle.std.specs.Prelude.{length, slice_get, option_map}
 use Rattle.std.proofs.lemmas.List.{length-append}
 use Rattle.std.proofs.lemmas.Option.{slice_get_read}
@@ -10,9 +10,8 @@ use Rattle.ip_spec.specs.declared.record.LeafEntry.{LeafEntry}
 use Rattle.ip_spec.specs.declared.record.Parent.{Parent}
 use Rattle.ip_spec.specs.declared.record.Branch.{Branch}
 use Rattle.ip_spec.specs.declared.record.RecordFault.{RecordFault}
-use Rattle.ip_spec.specs.declared.record.RecordFault.TheVariants as RecordFault
 use Rattle.ip_spec.specs.Reading.{after, Fields, Left, ◌>>=◌, done, number_where, any, hash_field, text_field, is_name, entry_field, entry_fields, parent_fields, row_fields}
-use Rattle.ip_object.specs.Body.{IsFault, Takes}
+use Rattle.ip_object.specs.Body.{IsFault}
 use Rattle.ip_object.specs.Lists.{led, last_step, last_name, parent_field, row_field}
 
 abbrev pub consed : {X : Type 0} → X → Result (List X × Left) ℕ → Result (List X × Left) ℕ

@@ -1,6 +1,6 @@
 -- A list of spellings, one piece more.
 use Rattle.ip_object.specs.Lists.{Extends}
-use Rattle.std.proofs.Common.{◌≡◌, ℕ, zero, suc, ◌+◌, ◌<◌, List, [], ◌∷◌, ◌++◌, sym, ap, ◌∙◌, length, take, arith, append_assoc, append-nil, get_or, flat_map, map, Result, Ok, Err, OnOk}
+use Rattle.std.proofs.Common.{◌≡◌, ℕ, zero, suc, ◌+◌, ◌<◌, List, [], ◌∷◌, ◌++◌, sym, ap, ◌∙◌, length, take, arith, append_assoc, append-nil, get_or, flat_map}
 
 pub put_one_more : {X : Type 0} (f : X → List ℕ) (xs : List X) (k : ℕ) (d : X) → k < length xs → flat_map f (take (suc k) xs) ≡ flat_map f (take k xs) ++ f (get_or xs k d)
 put_one_more f [] k d l = absurd (omega (arith, l))
@@ -16,7 +16,6 @@ put_more f xs k d before now new l is more = more ∙ ap (λ t. t ++ f (get_or x
 
 pub put_none : {X : Type 0} (f : X → List ℕ) (xs : List X) (before : List ℕ) → before ≡ before ++ flat_map f (take 0 xs)
 put_none f xs before = sym (append-nil before)
-
 
 pub extends_same : (old new : List ℕ) → new ≡ old → Extends old new
 extends_same old new e = ([], e ∙ sym (append-nil old))

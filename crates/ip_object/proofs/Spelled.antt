@@ -1,5 +1,5 @@
 -- What is read is what the bytes begin with.
-use Rattle.std.proofs.Common.{◌≡◌, ℕ, ◌++◌, inl, inr, refl, sym, Result, Ok, Err, length}
+use Rattle.std.proofs.Common.{◌≡◌, ℕ, ◌++◌, inl, inr, sym, Result, Ok, Err, length}
 use Rattle.std.specs.Prelude.{IfOk}
 use Rattle.ip_spec.specs.Path.{Bytes, AreBytes}
 use Rattle.ip_spec.specs.Record.{Fits, spelling}

@@ -1,13 +1,11 @@
 -- What is left of a record's body, as reading its fields sees it.
-use Rattle.std.specs.Prelude.{◌≡◌, ◌⊎◌, ℕ, ◌-◌, ◌≤◌, Bool, List, length, Result, Ok, Err}
+use Rattle.std.specs.Prelude.{◌≡◌, ◌⊎◌, ℕ, ◌-◌, ◌≤◌, Bool, length, Result, Ok, Err}
 use Rattle.ip_base.specs.Fields.{left_of}
 use Rattle.ip_spec.specs.Path.{Bytes}
 use Rattle.ip_spec.specs.Reading.{Left, is_step, is_name, is_author, is_message}
 use Rattle.ip_spec.specs.declared.record.RecordFault.{RecordFault}
-use Rattle.ip_spec.specs.declared.record.RecordFault.TheVariants as RecordFault
 use Rattle.ip_object.specs.declared.body.Body.{Body}
 use Rattle.ip_object.specs.declared.body.Text.{Text}
-use Rattle.ip_object.specs.declared.body.Text.TheVariants as Text
 
 -- the place of the next field in the record, and the bytes from there on
 abbrev pub left_in : Body → Left

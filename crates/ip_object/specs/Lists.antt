@@ -5,7 +5,6 @@ use Rattle.ip_spec.specs.declared.record.InodeChild.{InodeChild}
 use Rattle.ip_spec.specs.Path.{Bytes}
 use Rattle.ip_spec.specs.Record.{short_text, u8, u32}
 use Rattle.ip_spec.specs.declared.record.Record.{Record}
-use Rattle.ip_spec.specs.declared.record.Record.TheVariants as Record
 use Rattle.ip_spec.specs.declared.record.LeafEntry.{LeafEntry}
 use Rattle.ip_spec.specs.declared.record.Parent.{Parent}
 use Rattle.ip_spec.specs.declared.record.Branch.{Branch}

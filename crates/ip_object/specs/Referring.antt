@@ -2,7 +2,6 @@
 use Rattle.std.specs.Prelude.{◌≡◌, List, [], ◌∷◌, map, Option, Some, None}
 use Rattle.ip_spec.specs.declared.record.Ref.{Ref}
 use Rattle.ip_object.specs.declared.referring.RecordReferences.{RecordReferences}
-use Rattle.ip_object.specs.declared.referring.RecordReferences.TheVariants as RecordReferences
 
 abbrev pub left_in : RecordReferences → List Ref
 left_in (RecordReferences.Entries entries) = map (λ e. record { at = e.at; name = e.name; kind = e.kind }) entries.now

@@ -235,7 +235,12 @@ fn is_behind(before: Option<&[u8]>, bytes: &[u8]) -> bool
 }
 
 /// So many bytes, which are a text of a kind and stand behind those before.
-pub fn take_text<'a>(body: &mut Body<'a>, text: Text, before: Option<&[u8]>, n: usize) -> Result<&'a [u8], RecordFault>
+pub fn take_text<'a>(
+    body: &mut Body<'a>,
+    text: Text,
+    before: Option<&[u8]>,
+    n: usize,
+) -> Result<&'a [u8], RecordFault>
     requires inside { IsInside body.old }
     ensures inside { IsInside body.new }
     ensures ok { IfOk result (λ bytes. bytes_where n (λ b. is_text text b && is_behind (option_copied before.entry) b) (left_in body.old) ≡ Ok (bytes.now, left_in body.new)) }

@@ -18,6 +18,5 @@ pub use name::{hash_contents, name_of_record};
 pub use read::read_record;
 pub use referring::{RecordReferences, references};
 
-
 #[cfg(test)]
 mod tests;

@@ -100,11 +100,7 @@ fn take_parent(body: &mut Body<'_>) -> Result<Parent, RecordFault>
     Ok(Parent { number, name })
 }
 
-pub fn take_parents(
-    alloc: Global,
-    body: &mut Body<'_>,
-    count: u8,
-) -> Result<Parents, RecordFault>
+pub fn take_parents(alloc: Global, body: &mut Body<'_>, count: u8) -> Result<Parents, RecordFault>
     requires inside { IsInside body.old }
     ensures inside { IsInside body.new }
     ensures takes { Takes (parent_fields count (left_in body.old)) result (left_in body.new) }
@@ -133,11 +129,7 @@ fn take_row(
     Ok(Branch { name, number })
 }
 
-pub fn take_rows(
-    alloc: Global,
-    body: &mut Body<'_>,
-    count: u16,
-) -> Result<Branches, RecordFault>
+pub fn take_rows(alloc: Global, body: &mut Body<'_>, count: u16) -> Result<Branches, RecordFault>
     requires inside { IsInside body.old }
     ensures inside { IsInside body.new }
     ensures takes { Takes (row_fields count None (left_in body.old)) result (left_in body.new) }

@@ -180,11 +180,7 @@ fn whole_record(alloc: Global, kind: u8, bytes: &[u8]) -> Result<(Record, u64), 
 
 // What the bytes begin with.
 #[tactic(auto, unfolding(ip_spec::specs::Reading::reading))]
-fn read_front(
-    alloc: Global,
-    version: u32,
-    bytes: &[u8],
-) -> Result<(Record, u64), RecordFault>
+fn read_front(alloc: Global, version: u32, bytes: &[u8]) -> Result<(Record, u64), RecordFault>
     ensures { IsRead result (reading version bytes.now) }
 {
     let [kind, rest @ ..] = bytes else {
@@ -209,11 +205,7 @@ fn read_front(
 /// The record at the front of the bytes, in a version of the format, and its length in bytes. What follows it is not looked at.
 /// A fault is the first one, at its place in the record: the length before the body, and the fields of the body in their order.
 /// Memory is taken for what the record holds alone, and none for a fault found before.
-pub fn read_record(
-    alloc: Global,
-    version: u32,
-    bytes: &[u8],
-) -> Result<(Record, u64), RecordFault>
+pub fn read_record(alloc: Global, version: u32, bytes: &[u8]) -> Result<(Record, u64), RecordFault>
     ensures read { IsRead result (reading version bytes.now) }
     // What is read fits the version, and is what the bytes begin with.
     ensures fits { IfOk result (λ read. Fits version read.0) }

@@ -1,6 +1,6 @@
-use Rattle.std.proofs.Common.{◌≡◌, ℕ, ◌+◌, ◌-◌, ◌++◌, ◌∷◌, refl, sym, ap, ◌∙◌, length, arith, rules}
+use Rattle.std.proofs.Common.{◌≡◌, ◌-◌, ◌++◌, ◌∷◌, sym, ap, ◌∙◌, length, arith, rules}
 use Rattle.std.proofs.lemmas.List.{length-append}
-use Rattle.ip_spec.specs.Record.{spelling, kind_of, body, u32}
+use Rattle.ip_spec.specs.Record.{spelling, body, u32}
 use Rattle.ip_object.proofs.Patched.{zeros, patched_as}
 use Rattle.ip_object.proofs.encode.encode_into.Goals as goal
 

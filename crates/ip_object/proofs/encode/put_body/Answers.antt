@@ -1,4 +1,4 @@
-use Rattle.std.proofs.Common.{◌^◌, ◌<◌, sym, subst, rules}
+use Rattle.std.proofs.Common.{◌^◌, ◌<◌, sym, subst}
 use Rattle.ip_spec.specs.Record.{IsInode, FieldsFit, bitmap}
 use Rattle.ip_spec.proofs.ReadingExact.{bitmap_small}
 use Rattle.ip_object.proofs.encode.put_body.Goals as goal

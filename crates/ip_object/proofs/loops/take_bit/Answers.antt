@@ -1,4 +1,4 @@
-use Rattle.std.proofs.Common.{◌≡◌, ◌≢◌, ◌+◌, ◌/◌, ◌%◌, ◌^◌, ◌++◌, ◌∷◌, [], sym, subst, rules, arith}
+use Rattle.std.proofs.Common.{◌≡◌, ◌+◌, ◌++◌, ◌∷◌, [], sym, subst, rules}
 use Rattle.ip_spec.specs.Reading.{Left}
 use Rattle.ip_object.specs.Body.{left_in, IsFault}
 use Rattle.ip_object.specs.Lists.{children_of_bits, ReadBelow}

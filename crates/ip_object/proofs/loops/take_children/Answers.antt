@@ -1,4 +1,4 @@
-use Rattle.std.proofs.Common.{◌≡◌, [], sym, subst, arith}
+use Rattle.std.proofs.Common.{◌≡◌, sym, subst, arith}
 use Rattle.ip_object.specs.Body.{left_in}
 use Rattle.ip_object.specs.Lists.{ReadBelow}
 use Rattle.ip_object.proofs.Children.{read_none, read_all}

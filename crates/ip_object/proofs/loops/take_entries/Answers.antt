@@ -18,8 +18,8 @@ loop-preserved c =
     record {
       inside = c.take_entry.ensures.inside;
       at = subst (λ es. IsAt entries_from c.args.count (c.loop.counter + 1) es (left_in c.args.body.now) (left_in c.take_entry.new.body)) (sym grown)
-      (at_next entry_behind entries_from entries_none entries_next entries_fail c.args.count c.loop.counter c.loop.entries (left_in c.args.body.now) (left_in c.loop.body) (left_in c.take_entry.new.body) c.in_ok-entry.entry c.loop-test.true c.loop.invariant.at
-      (subst (λ b. entry_field b (left_in c.loop.body) ≡ Ok (c.in_ok-entry.entry, left_in c.take_entry.new.body)) (c.last_step.ensures ∙ ap last_step c.as_slice.ensures) c.in_ok-entry.ensures.takes));
+          (at_next entry_behind entries_from entries_none entries_next entries_fail c.args.count c.loop.counter c.loop.entries (left_in c.args.body.now) (left_in c.loop.body) (left_in c.take_entry.new.body) c.in_ok-entry.entry c.loop-test.true c.loop.invariant.at
+          (subst (λ b. entry_field b (left_in c.loop.body) ≡ Ok (c.in_ok-entry.entry, left_in c.take_entry.new.body)) (c.last_step.ensures ∙ ap last_step c.as_slice.ensures) c.in_ok-entry.ensures.takes));
     }
 
 pub returns-clause-takes : goal.returns-clause-takes

@@ -1,7 +1,6 @@
-use Rattle.std.proofs.Common.{◌≡◌, Ok, None, ◌++◌, ◌∷◌, [], ap, subst, ◌∙◌, ◌+◌, sym, rules, arith}
+use Rattle.std.proofs.Common.{◌≡◌, ◌++◌, ◌∷◌, [], subst, ◌+◌, sym, rules, arith}
 use Rattle.ip_spec.specs.Reading.{parent_fields}
 use Rattle.ip_object.specs.Body.{left_in, IsFault}
-use Rattle.ip_object.specs.Lists.{parent_field}
 use Rattle.ip_object.proofs.Listing.{IsAt, at_next, at_fault, at_last, parent_behind, parents_from, parents_none, parents_next, parents_fail}
 use Rattle.ip_object.proofs.loops.take_parents.Goals as goal
 
@@ -18,8 +17,8 @@ loop-preserved c =
     record {
       inside = c.take_parent.ensures.inside;
       at = subst (λ es. IsAt parents_from c.args.count (c.loop.counter + 1) es (left_in c.args.body.now) (left_in c.take_parent.new.body)) (sym grown)
-      (at_next parent_behind parents_from parents_none parents_next parents_fail c.args.count c.loop.counter c.loop.parents (left_in c.args.body.now) (left_in c.loop.body) (left_in c.take_parent.new.body) c.in_ok-parent.parent c.loop-test.true c.loop.invariant.at
-      (c.in_ok-parent.ensures.takes));
+          (at_next parent_behind parents_from parents_none parents_next parents_fail c.args.count c.loop.counter c.loop.parents (left_in c.args.body.now) (left_in c.loop.body) (left_in c.take_parent.new.body) c.in_ok-parent.parent c.loop-test.true c.loop.invariant.at
+          (c.in_ok-parent.ensures.takes));
     }
 
 pub returns-clause-takes : goal.returns-clause-takes

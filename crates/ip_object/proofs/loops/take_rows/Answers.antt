@@ -18,8 +18,8 @@ loop-preserved c =
     record {
       inside = c.take_row.ensures.inside;
       at = subst (λ es. IsAt rows_from c.args.count (c.loop.counter + 1) es (left_in c.args.body.now) (left_in c.take_row.new.body)) (sym grown)
-      (at_next row_behind rows_from rows_none rows_next rows_fail c.args.count c.loop.counter c.loop.rows (left_in c.args.body.now) (left_in c.loop.body) (left_in c.take_row.new.body) c.in_ok-row.row c.loop-test.true c.loop.invariant.at
-      (subst (λ b. row_field b (left_in c.loop.body) ≡ Ok (c.in_ok-row.row, left_in c.take_row.new.body)) (c.last_name.ensures ∙ ap last_name c.as_slice.ensures) c.in_ok-row.ensures.takes));
+          (at_next row_behind rows_from rows_none rows_next rows_fail c.args.count c.loop.counter c.loop.rows (left_in c.args.body.now) (left_in c.loop.body) (left_in c.take_row.new.body) c.in_ok-row.row c.loop-test.true c.loop.invariant.at
+          (subst (λ b. row_field b (left_in c.loop.body) ≡ Ok (c.in_ok-row.row, left_in c.take_row.new.body)) (c.last_name.ensures ∙ ap last_name c.as_slice.ensures) c.in_ok-row.ensures.takes));
     }
 
 pub returns-clause-takes : goal.returns-clause-takes
