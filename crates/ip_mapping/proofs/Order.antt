@@ -1,6 +1,6 @@
 -- Rows in order.
 --     next_from from rows, next_place place rows      where a further row may begin, and its place
-use Rattle.std.proofs.Common.{◌≡◌, ℕ, zero, suc, ◌+◌, ◌-◌, ◌*◌, ◌^◌, ◌<◌, ◌≤◌, List, [], ◌∷◌, ◌++◌, length, take, refl, sym, ap, ◌∙◌, subst, arith}
+use Rattle.std.proofs.Common.{◌≡◌, ℕ, zero, suc, ◌+◌, ◌*◌, ◌≤◌, List, [], ◌∷◌, ◌++◌, length, take, refl, sym, ap, ◌∙◌, subst, arith}
 use Rattle.std.specs.Prelude.{min}
 use Rattle.ip_spec.specs.Record.{IsU64}
 use Rattle.ip_image.specs.declared.run.Row.{Row}

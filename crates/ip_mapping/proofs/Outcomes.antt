@@ -1,11 +1,10 @@
 -- What bytes are read as.
-use Rattle.std.proofs.Common.{◌≡◌, ◌⊎◌, inl, inr, ℕ, zero, suc, ◌+◌, ◌-◌, ◌*◌, ◌^◌, ◌<◌, ◌≤◌, List, [], ◌∷◌, ◌++◌, length, take, drop, refl, sym, ap, ◌∙◌, subst, arith, append_assoc, append-nil}
-use Rattle.std.specs.Prelude.{flat_map, map, sum_by}
+use Rattle.std.proofs.Common.{◌≡◌, ◌⊎◌, inl, inr, ℕ, zero, suc, ◌+◌, ◌-◌, ◌*◌, ◌^◌, ◌<◌, List, [], ◌∷◌, ◌++◌, length, take, drop, refl, sym, ap, ◌∙◌, subst, arith, append_assoc, append-nil}
+use Rattle.std.specs.Prelude.{flat_map, map}
 use Rattle.std.specs.Int.{w64, from_le_bytes}
 use Rattle.std.proofs.lemmas.Nat.{from_le_bytes-to_le_bytes_8}
 use Rattle.std.proofs.lemmas.List.{length-append, take-append-le}
 use Rattle.std.proofs.lemmas.Grind.{flat_map-append}
-use Rattle.std.proofs.Math.Seq.{take-append_seam}
 use Rattle.ip_spec.specs.Path.{Bytes}
 use Rattle.ip_spec.specs.Record.{u64, IsU64}
 use Rattle.ip_image.specs.declared.run.Row.{Row}
@@ -15,7 +14,7 @@ use Rattle.ip_image.proofs.OneRepository.{same_files}
 use Rattle.ip_mapping.specs.declared.head.Head.{Head}
 use Rattle.ip_mapping.specs.Parsing.{Fields, AreNumbers, IsForm, IsMapping, IsBadAt, no_form, no_row, head_bytes, Begins}
 use Rattle.ip_mapping.proofs.Numbers.{HasBytes, bytes_behind, rows_of, length_rows}
-use Rattle.ip_mapping.proofs.Order.{greatest, SoFar, no_more, fits_take, numbers_both, numbers_fit, count_fits}
+use Rattle.ip_mapping.proofs.Order.{SoFar, no_more, fits_take, numbers_both, numbers_fit, count_fits}
 
 -- ---- the numbers in front
 
@@ -100,10 +99,13 @@ same_place bytes a b (no_row m before after row form is fits bad) (no_row n befo
   where
     same : m ≡ n
     same = same_form bytes m n form form'
+
     rows : before ++ row ∷ after ≡ before' ++ row' ∷ after'
     rows = sym is ∙ ap (λ (x : Fields). x.rows) same ∙ is'
+
     one : m.horizon ≡ n.horizon
     one = ap (λ (x : Fields). x.horizon) same
+
     by : (length before ≡ length before') ⊎ ((length before < length before') ⊎ (length before' < length before)) → 32 + 24 * length before ≡ 32 + 24 * length before'
     by (inl e) = ap (λ k. 32 + 24 * k) e
     by (inr (inl l)) = absurd (not_before m.horizon before after before' after' row row' rows bad (subst (λ h. RowsFit h before') (sym one) fits') l)

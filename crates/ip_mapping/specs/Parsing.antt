@@ -12,7 +12,6 @@ use Rattle.ip_image.specs.declared.run.Row.{Row}
 use Rattle.ip_image.specs.Virtual.{mapping_file, RowsFit}
 use Rattle.ip_mapping.specs.declared.head.Head.{Head}
 use Rattle.ip_mapping.specs.declared.fault.MappingFault.{MappingFault}
-use Rattle.ip_mapping.specs.declared.fault.MappingFault.TheVariants as MappingFault
 
 -- what a mapping tells
 pub record Fields : Type 0 where

@@ -72,7 +72,11 @@ impl Mapping {
         }
         let row = &self.rows[behind - 1];
         let into = at - row.at;
-        if into < row.length { Some(row.place + into) } else { None }
+        if into < row.length {
+            Some(row.place + into)
+        } else {
+            None
+        }
     }
 }
 

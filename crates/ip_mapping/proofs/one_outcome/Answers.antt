@@ -1,4 +1,3 @@
-use Rattle.ip_mapping.specs.Parsing.{IsMapping}
 use Rattle.ip_mapping.proofs.Outcomes.{same_form, same_place, never_both}
 use Rattle.ip_mapping.proofs.one_outcome.Goals as goal
 

@@ -1,4 +1,4 @@
-use Rattle.std.proofs.Common.{rules, arith, ◌≡◌, ◌<◌, ◌≤◌, ◌+◌, ◌*◌, ◌++◌, List, [], ◌∷◌, length, ◌^◌, subst, ap, ◌∙◌, sym, refl}
+use Rattle.std.proofs.Common.{rules, ◌≡◌, ◌<◌, ◌≤◌, ◌+◌, ◌*◌, ◌++◌, [], ◌∷◌, length, ◌^◌, subst, sym, refl}
 use Rattle.std.proofs.lemmas.Bool.{false≢true}
 use Rattle.ip_spec.specs.Record.{IsU64}
 use Rattle.ip_image.specs.Virtual.{RowFits}
