@@ -1,10 +1,11 @@
 -- The run that has an offset, among rows in order.
-use Rattle.std.proofs.Common.{◌≡◌, ℕ, zero, suc, ◌+◌, ◌-◌, ◌^◌, ◌<◌, ◌≤◌, ◌≢◌, Bool, true, false, leb, List, [], ◌∷◌, length, get_or, refl, sym, ap, ◌∙◌, subst, Option, Some, None, arith}
+use Rattle.std.proofs.Common.{◌≡◌, ℕ, zero, suc, ◌+◌, ◌-◌, ◌<◌, ◌≤◌, ◌≢◌, Bool, true, false, leb, List, [], ◌∷◌, length, get_or, refl, sym, ap, ◌∙◌, subst, Option, Some, None, arith}
 use Rattle.std.specs.Prelude.{map, nat_le, nat_lt, ◌&&◌, if◌then◌else◌}
 use Rattle.std.proofs.lemmas.Bool.Decides.{nat_tests}
 use Rattle.std.specs.List.Sorted.{IsNonDecreasingBy, IsPartitionPoint}
 use Rattle.ip_image.specs.declared.run.Row.{Row}
 use Rattle.ip_image.specs.Virtual.{run_of, RowsFit, RowsFitFrom, locate, locate_from}
+use Rattle.ip_mapping.specs.Parsing.{Fields, IsRowAt}
 
 -- every row begins where it may
 begins : (h from place : ℕ) (rows : List Row) → RowsFitFrom h from place rows → (k : ℕ) (d : Row) → k < length rows → from ≤ (get_or rows k d).at
@@ -22,16 +23,17 @@ rising h from place (x ∷ rows) f zero (suc j) d l m = let b = begins h (x.at +
 rising h from place (x ∷ rows) f (suc i) zero d l m = absurd (omega (arith, l))
 rising h from place (x ∷ rows) f (suc i) (suc j) d l m = rising h (x.at + x.length + 1) (place + x.length) rows f.1 i j d (omega (arith, l)) (omega (arith, m))
 
--- a row's place is no greater than its offset
-place_below : (h from place : ℕ) (rows : List Row) → place ≤ from → RowsFitFrom h from place rows → (k : ℕ) (d : Row) → k < length rows → (get_or rows k d).place ≤ (get_or rows k d).at
-place_below h from place [] b f k d l = absurd (omega (arith, l))
-place_below h from place (x ∷ rows) b f zero d l =
+-- of a row in order: its run ends at or below the horizon, and its place is no greater than its offset
+bounds : (h from place : ℕ) (rows : List Row) → place ≤ from → RowsFitFrom h from place rows → (k : ℕ) (d : Row) → k < length rows
+    → ((get_or rows k d).at + (get_or rows k d).length ≤ h) × ((get_or rows k d).place ≤ (get_or rows k d).at)
+bounds h from place [] b f k d l = absurd (omega (arith, l))
+bounds h from place (x ∷ rows) b f zero d l =
     let apart = f.0.apart in
     let placed = f.0.placed in
-    omega (arith, apart, placed, b)
-place_below h from place (x ∷ rows) b f (suc k) d l =
+    (f.0.below, omega (arith, apart, placed, b))
+bounds h from place (x ∷ rows) b f (suc k) d l =
     let apart = f.0.apart in
-    place_below h (x.at + x.length + 1) (place + x.length) rows (omega (arith, apart, b)) f.1 k d (omega (arith, l))
+    bounds h (x.at + x.length + 1) (place + x.length) rows (omega (arith, apart, b)) f.1 k d (omega (arith, l))
 
 -- ---- the test at one row
 
@@ -109,32 +111,60 @@ split_of rows at i b p = record {
   high = λ k d l m. lt_from_test (get_or rows k d).at at (p.1 k d l m);
 }
 
-module _ (h at i : ℕ) (rows : List Row) (row : Row) (fits : RowsFit h rows) (split : Split rows at i) (some : i ≢ 0) (is : row ≡ get_or rows (i - 1) row) where
-  inside : i - 1 < length rows
+apart_rows : (h from place : ℕ) (rows : List Row) → RowsFitFrom h from place rows → (i j : ℕ) (d e : Row) → i < j → j < length rows
+    → (get_or rows i d).at + (get_or rows i d).length < (get_or rows j e).at
+apart_rows h from place [] f i j d e l m = absurd (omega (arith, m))
+apart_rows h from place (x ∷ rows) f i zero d e l m = absurd (omega (arith, l))
+apart_rows h from place (x ∷ rows) f zero (suc j) d e l m =
+    let b = begins h (x.at + x.length + 1) (place + x.length) rows f.1 j e (omega (arith, m)) in
+    omega (arith, b)
+apart_rows h from place (x ∷ rows) f (suc i) (suc j) d e l m = apart_rows h (x.at + x.length + 1) (place + x.length) rows f.1 i j d e (omega (arith, l)) (omega (arith, m))
+
+-- within a row's run, and at the first offset behind it, the lookup goes by that row
+by_its_row : (h : ℕ) (rows : List Row) → RowsFit h rows → (i : ℕ) (d : Row) → i < length rows → (k : ℕ) → (get_or rows i d).at ≤ k
+    → k ≤ (get_or rows i d).at + (get_or rows i d).length → locate (map run_of rows) k ≡ by_row (get_or rows i d) k
+by_its_row h rows f i d l k low high =
+    located_whole h k rows f i d l low (λ j e m n. let a = apart_rows h 0 0 rows f i j d e m n in omega (arith, a, high))
+
+inside_row : (row : Row) (k : ℕ) → row.at ≤ k → k < row.at + row.length → by_row row k ≡ Some (row.place + (k - row.at))
+unfolding by_row
+inside_row row k l m = grind (arith, nat_tests)
+
+behind_row : (row : Row) (k : ℕ) → row.at + row.length ≤ k → by_row row k ≡ None
+unfolding by_row
+behind_row row k l = grind (arith, nat_tests)
+
+module _ (m : Fields) (at i : ℕ) (row : Row) (fits : RowsFit m.horizon m.rows) (split : Split m.rows at i) (some : i ≢ 0) (is : row ≡ get_or m.rows (i - 1) row) where
+  inside : i - 1 < length m.rows
   inside = let b = split.bound in omega (arith, b, some)
 
   pub begins_below : row.at ≤ at
   begins_below = subst (λ (r : Row). r.at ≤ at) (sym is) (split.low (i - 1) row (omega (arith, some)))
 
-  located_here : locate (map run_of rows) at ≡ by_row row at
-  located_here =
-      located_whole h at rows fits (i - 1) row inside (split.low (i - 1) row (omega (arith, some))) (λ k d l m. split.high k d (omega (arith, l, some)) m)
-      ∙ ap (λ r. by_row r at) (sym is)
+  places : (k : ℕ) → row.at ≤ k → k ≤ row.at + row.length → locate (map run_of m.rows) k ≡ by_row row k
+  places = subst (λ (r : Row). (k : ℕ) → r.at ≤ k → k ≤ r.at + r.length → locate (map run_of m.rows) k ≡ by_row r k) (sym is)
+      (by_its_row m.horizon m.rows fits (i - 1) row inside)
 
-  -- a place is no greater than its offset
-  pub place_small : at < 2 ^ 64 → row.place + (at - row.at) < 2 ^ 64
-  place_small l =
-      let b : row.place ≤ row.at = subst (λ (r : Row). r.place ≤ r.at) (sym is) (place_below h 0 0 rows (omega arith) fits (i - 1) row inside) in
-      let begin = begins_below in
-      omega (arith, b, l, begin)
+  pub is_row_at : at - row.at < row.length → IsRowAt m at row
+  is_row_at l =
+      let low = begins_below in
+      let b : (row.at + row.length ≤ m.horizon) × (row.place ≤ row.at) =
+      subst (λ (r : Row). (r.at + r.length ≤ m.horizon) × (r.place ≤ r.at)) (sym is) (bounds m.horizon 0 0 m.rows (omega arith) fits (i - 1) row inside) in
+      record {
+        one = (i - 1, inside, sym is);
+        from = begins_below;
+        to = omega (arith, low, l);
+        below = b.0;
+        place = b.1;
+        side_by_side = λ k p q. places k p (omega (arith, q)) ∙ inside_row row k p q;
+        missing = places (row.at + row.length) (omega arith) (omega arith) ∙ behind_row row (row.at + row.length) (omega arith);
+      }
 
-  pub has_place : at - row.at < row.length → Some (row.place + (at - row.at)) ≡ locate (map run_of rows) at
-  unfolding by_row
-  has_place l = sym (located_here ∙ grind (arith, nat_tests))
+  pub no_row_at : row.length ≤ at - row.at → locate (map run_of m.rows) at ≡ None
+  no_row_at l =
+      let low = begins_below in
+      located_whole m.horizon at m.rows fits (i - 1) row inside (split.low (i - 1) row (omega (arith, some))) (λ k d p q. split.high k d (omega (arith, p, some)) q)
+      ∙ ap (λ r. by_row r at) (sym is) ∙ behind_row row at (omega (arith, l, low))
 
-  pub has_none : row.length ≤ at - row.at → None ≡ locate (map run_of rows) at
-  unfolding by_row
-  has_none l = sym (located_here ∙ grind (arith, nat_tests))
-
-pub nothing_below : (at : ℕ) (rows : List Row) → Split rows at 0 → None ≡ locate (map run_of rows) at
-nothing_below at rows split = sym (not_located at rows (λ k d l. split.high k d (omega arith) l))
+pub nothing_below : (at : ℕ) (rows : List Row) → Split rows at 0 → locate (map run_of rows) at ≡ None
+nothing_below at rows split = not_located at rows (λ k d l. split.high k d (omega arith) l)

@@ -12,7 +12,7 @@ use Rattle.ip_image.specs.declared.run.Run.{Run}
 use Rattle.ip_image.specs.Virtual.{row_bytes, run_of, placed, mapping_file, mapping_bytes, RowFits, RowsFit}
 use Rattle.ip_image.proofs.OneRepository.{same_files}
 use Rattle.ip_mapping.specs.declared.head.Head.{Head}
-use Rattle.ip_mapping.specs.Parsing.{Fields, AreNumbers, IsForm, IsMapping, IsBadAt, no_form, no_row, head_bytes, Begins}
+use Rattle.ip_mapping.specs.Parsing.{Fields, AreNumbers, IsForm, IsMapping, IsBadAt, no_form, no_row, head_bytes, head_of, Begins}
 use Rattle.ip_mapping.proofs.Numbers.{HasBytes, bytes_behind, rows_of, length_rows}
 use Rattle.ip_mapping.proofs.Order.{SoFar, no_more, fits_take, numbers_both, numbers_fit, count_fits}
 
@@ -20,10 +20,6 @@ use Rattle.ip_mapping.proofs.Order.{SoFar, no_more, fits_take, numbers_both, num
 
 u64_at : ℕ → Bytes → ℕ
 u64_at k bytes = from_le_bytes w64 (take 8 (drop k bytes))
-
--- the head that a mapping's file has
-abbrev pub head_of : Fields → Head
-head_of m = record { horizon = m.horizon; end = m.end; rows = length m.rows }
 
 pub file_begins : (m : Fields) → mapping_file m.horizon m.end m.rows ≡ head_bytes (head_of m) ++ flat_map row_bytes m.rows
 unfolding mapping_file
@@ -64,6 +60,11 @@ same_form bytes m n f g =
     let files : mapping_file m.horizon m.end m.rows ≡ mapping_file m.horizon n.end n.rows = sym f.file ∙ g.file ∙ ap (λ h. mapping_file h n.end n.rows) (sym heads.horizon) in
     let rows = same_files m.horizon m.end n.end m.rows n.rows f.numbers g.numbers heads.rows files in
     λ i. record { horizon = heads.horizon i; end = heads.end i; rows = rows i }
+
+pub its_head : (bytes : Bytes) (head : Head) (m : Fields) → IsU64 head.horizon → IsU64 head.end → IsU64 head.rows → Begins bytes head → IsForm bytes m → head ≡ head_of m
+its_head bytes head m h e r begins f =
+    let heads = same_head head (head_of m) begins.0 (flat_map row_bytes m.rows) (h, e, r) (small_form bytes m f) (sym begins.1 ∙ f.file ∙ file_begins m) in
+    λ i. record { horizon = heads.horizon i; end = heads.end i; rows = heads.rows i }
 
 -- ---- one bad place
 

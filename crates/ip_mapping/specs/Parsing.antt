@@ -3,13 +3,14 @@
 --     IsForm bytes m      the length, the magic and the numbers are right, and these are the rows, in whatever order
 --     IsMapping bytes m      and the rows are in order
 --     IsBadAt bytes at      the place of the first test that fails
---     Begins bytes head      bytes that begin with the magic and these numbers
-use Rattle.std.specs.Prelude.{◌≡◌, ℕ, ◌+◌, ◌*◌, List, [], ◌∷◌, ◌++◌, length, codes, Result, Ok, Err}
+--     Begins bytes head      bytes that begin with the magic and these numbers.      head_of m      those of a mapping
+--     IsRowAt m at row      this row's run has the offset
+use Rattle.std.specs.Prelude.{◌≡◌, ℕ, ◌+◌, ◌-◌, ◌*◌, ◌<◌, ◌≤◌, List, [], ◌∷◌, ◌++◌, length, map, Contains, codes, Some, None, Result, Ok, Err}
 use Rattle.std.specs.List.{AllByRecursion}
 use Rattle.ip_spec.specs.Path.{Bytes}
 use Rattle.ip_spec.specs.Record.{u64, IsU64}
 use Rattle.ip_image.specs.declared.run.Row.{Row}
-use Rattle.ip_image.specs.Virtual.{mapping_file, RowsFit}
+use Rattle.ip_image.specs.Virtual.{run_of, mapping_file, RowsFit, locate}
 use Rattle.ip_mapping.specs.declared.head.Head.{Head}
 use Rattle.ip_mapping.specs.declared.fault.MappingFault.{MappingFault}
 
@@ -52,5 +53,19 @@ Parses bytes (Err MappingFault.Memory) = Unit {0}
 abbrev pub head_bytes : Head → Bytes
 head_bytes head = codes "IPMAP001" ++ u64 head.horizon ++ u64 head.end ++ u64 head.rows
 
+-- those of a mapping
+abbrev pub head_of : Fields → Head
+head_of m = record { horizon = m.horizon; end = m.end; rows = length m.rows }
+
 abbrev pub Begins : Bytes → Head → Type 0
 Begins bytes head = (rest : Bytes) × (bytes ≡ head_bytes head ++ rest)
+
+-- The row's run has the offset. Its bytes stand side by side in the prefix, and behind its last offset one is missing.
+pub record IsRowAt (m : Fields) (at : ℕ) (row : Row) : Type 0 where
+  pub one : Contains m.rows row
+  pub from : row.at ≤ at
+  pub to : at < row.at + row.length
+  pub below : row.at + row.length ≤ m.horizon
+  pub place : row.place ≤ row.at
+  pub side_by_side : (k : ℕ) → row.at ≤ k → k < row.at + row.length → locate (map run_of m.rows) k ≡ Some (row.place + (k - row.at))
+  pub missing : locate (map run_of m.rows) (row.at + row.length) ≡ None

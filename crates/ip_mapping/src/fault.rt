@@ -1,5 +1,3 @@
-use std::alloc::AllocError;
-
 /// Why bytes are not read as a mapping.
 #[derive(Clone, Copy, Debug, PartialEq, Eq)]
 pub enum MappingFault {

@@ -6,7 +6,8 @@ ghost use Rattle.ip_spec.specs.Path.{Bytes};
 ghost use Rattle.ip_spec.specs.Record.{IsU64};
 ghost use Rattle.ip_image.specs.declared.run.Run.{Run};
 ghost use Rattle.ip_image.specs.Virtual.{run_of, placed, mapping_bytes, RowsFit};
-ghost use Rattle.ip_mapping.specs.Parsing.{Fields, IsMapping, IsBadAt};
+ghost use Rattle.ip_mapping.specs.declared.head.Head.{Head};
+ghost use Rattle.ip_mapping.specs.Parsing.{Fields, IsForm, IsMapping, IsBadAt, Begins, head_of};
 
 mod encode;
 mod fault;
@@ -22,9 +23,12 @@ pub use head::Head;
 pub use ip_image::run::{Row, Run};
 pub use mapping::Mapping;
 
-/// Bytes are one mapping at most, or go wrong at one place at most, and never both.
+/// Bytes are one mapping at most, or go wrong at one place at most, and never both. The numbers in front are
+/// the mapping's, also where its rows are in no order.
 pub fn one_outcome()
-    ensures mapping { (bytes : Bytes) (m n : Fields) → IsMapping bytes m → IsMapping bytes n → m ≡ n }
+    ensures form { (bytes : Bytes) (m n : Fields) → IsForm bytes m → IsForm bytes n → m ≡ n }
+    ensures head { (bytes : Bytes) (head : Head) (m : Fields) → IsU64 head.horizon → IsU64 head.end → IsU64 head.rows
+        → Begins bytes head → IsForm bytes m → head ≡ head_of m }
     ensures place { (bytes : Bytes) (a b : ℕ) → IsBadAt bytes a → IsBadAt bytes b → a ≡ b }
     ensures apart { (bytes : Bytes) (m : Fields) (a : ℕ) → IsMapping bytes m → IsBadAt bytes a → ⊥ }
 {}

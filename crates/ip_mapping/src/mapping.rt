@@ -1,7 +1,7 @@
 //! A mapping in memory.
-ghost use Rattle.std.specs.Prelude.{◌≡◌, ◌*◌, ◌↔◌, ◌++◌, length, map, IsTrue};
+ghost use Rattle.std.specs.Prelude.{◌≡◌, ◌*◌, ◌↔◌, ◌++◌, length, map, IsTrue, MatchOption};
 ghost use Rattle.ip_image.specs.Virtual.{run_of, locate, RowFits};
-ghost use Rattle.ip_mapping.specs.Parsing.{Parses, head_bytes};
+ghost use Rattle.ip_mapping.specs.Parsing.{Parses, head_bytes, IsRowAt};
 
 use crate::head::take_head;
 use crate::reader::take_row;
@@ -62,21 +62,29 @@ impl Mapping {
         &self.rows
     }
 
-    /// The place in the prefix file of the byte at an offset; none where no run has the offset.
-    pub fn locate(&self, at: u64) -> Option<u64>
-        ensures { result ≡ locate (map run_of self.now.rows) at }
+    /// The row whose run has an offset; none where no run has it. A reader takes as many bytes at its place as
+    /// the run has from the offset on: behind them in the prefix file stands another run.
+    pub fn row_at(&self, at: u64) -> Option<Row>
+        ensures { MatchOption result (locate (map run_of self.now.rows) at ≡ None) (IsRowAt self.now at) }
     {
         let behind = self.rows.partition_point(|row| row.at <= at);
         if behind == 0 {
             return None;
         }
-        let row = &self.rows[behind - 1];
-        let into = at - row.at;
-        if into < row.length {
-            Some(row.place + into)
+        let row = self.rows[behind - 1];
+        if at - row.at < row.length {
+            Some(row)
         } else {
             None
         }
+    }
+
+    /// The place in the prefix file of the byte at an offset; none where no run has the offset.
+    pub fn locate(&self, at: u64) -> Option<u64>
+        ensures { result ≡ locate (map run_of self.now.rows) at }
+    {
+        let row = self.row_at(at)?;
+        Some(row.place + (at - row.at))
     }
 }
 
@@ -113,7 +121,7 @@ fn read_rows(alloc: Global, head: &Head, bytes: &[u8]) -> Result<Mapping, Mappin
         if !fits(head.horizon, from, place, &row) {
             return Err(MappingFault::Form(32 + 24 * rows.len() as u64));
         }
-        // No further row fits behind the greatest offset, whichever of the last two it may begin at.
+        // Where a run ends at the greatest offset, no row fits behind it, and the start may stand still.
         from = (row.at + row.length).saturating_add(1);
         place += row.length;
         left = rest;

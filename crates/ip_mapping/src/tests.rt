@@ -60,6 +60,13 @@ fn offsets_are_found_in_their_runs(rt: HostRuntime) -> Result<(), Fail> {
     for (at, place) in places {
         assert_eq!(rt; mapping.locate(at), place, "at {at}");
     }
+    let last = Row {
+        at: 20,
+        length: 10,
+        place: 3,
+    };
+    assert_eq!(rt; mapping.row_at(29), Some(last));
+    assert_eq!(rt; mapping.row_at(30), None);
     Ok(())
 }
 
