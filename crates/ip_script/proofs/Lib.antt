@@ -1,0 +1,4 @@
+mod Handing
+mod HexDigits
+mod PutLemmas
+mod ReachLemmas

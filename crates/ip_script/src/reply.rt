@@ -1,10 +1,10 @@
 // The texts of replies. Each function writes at the end, and takes no memory where its text fits into what is spare.
-ghost use Rattle.std.specs.Prelude.{◌≡◌, ◌+◌, ◌<◌, ◌≤◌, ◌++◌, ◌∷◌, [], length, flat_map, vec_len, OnOk, OnErr};
+ghost use Rattle.std.specs.Prelude.{◌≡◌, ◌+◌, ◌<◌, ◌≤◌, ◌++◌, ◌∷◌, ◌/◌, ◌%◌, [], length, flat_map, vec_len, OnOk, OnErr};
 ghost use Rattle.std.specs.Vec.{vec_capacity};
 ghost use Rattle.std.specs.Fmt.{decimal};
 ghost use Rattle.std.specs.List.{join_with_byte};
 ghost use Rattle.ip_base.specs.PathText.{space, slash, path_text};
-ghost use Rattle.ip_spec.specs.Text.{hex_text, value_text, reply_text, words_of, limit_text, exit_text, seen_text, kind_text, counted, phase_words, left_words, produced_text};
+ghost use Rattle.ip_spec.specs.Text.{digit, hex_text, value_text, reply_text, words_of, limit_text, exit_text, seen_text, kind_text, counted, phase_words, left_words, produced_text};
 ghost use Rattle.ip_spec.specs.declared.reply.Reply.TheVariants as Reply;
 
 use ip_base::{Hash, Info, Limit, Memory, Number, Step};
@@ -13,15 +13,25 @@ use ip_spec::reply::{Difference, Head, Produced, Reply, Seen};
 use ip_spec::tree::Item;
 use itoa::Buffer;
 
+#[tactic(auto, using(crate::proofs::HexDigits::pair_of, crate::proofs::HexDigits::ok_part))]
+fn put_byte(byte: u8, out: &mut Vec<u8>) -> Result<(), Memory>
+    ensures ok { OnOk result (out.new.items ≡ out.old.items ++ digit (byte / 16) ∷ digit (byte % 16) ∷ []) }
+    ensures room { OnErr result (vec_capacity out.old < vec_len out.old + 2) }
+    ensures capacity { vec_capacity out.old ≤ vec_capacity out.new }
+{
+    let mut pair = [0; 2];
+    hex::encode_to_slice([byte], &mut pair).unwrap();
+    Ok(out.extend_from_slice(&pair)?)
+}
+
+#[tactic(auto, using(crate::proofs::PutLemmas::put_more, crate::proofs::PutLemmas::put_none, crate::proofs::PutLemmas::put_long))]
 fn put_hex(bytes: &[u8], out: &mut Vec<u8>) -> Result<(), Memory>
     ensures ok { OnOk result (out.new.items ≡ out.old.items ++ hex_text bytes.now) }
     ensures room { OnErr result (vec_capacity out.old < vec_len out.old + length (hex_text bytes.now)) }
     ensures capacity { vec_capacity out.old ≤ vec_capacity out.new }
 {
     for byte in bytes {
-        let mut pair = [0; 2];
-        hex::encode_to_slice([*byte], &mut pair).unwrap();
-        out.extend_from_slice(&pair)?;
+        put_byte(*byte, out)?;
     }
     Ok(())
 }
@@ -98,7 +108,7 @@ fn put_seen(seen: Seen, out: &mut Vec<u8>) -> Result<(), Memory>
 
 // A word, and another behind it.
 fn put_word(word: &[u8], text: &[u8], out: &mut Vec<u8>) -> Result<(), Memory>
-    ensures ok { OnOk result (out.new.items ≡ out.old.items ++ word.now ++ space ∷ text.now) }
+    ensures ok { OnOk result (out.new.items ≡ out.old.items ++ (word.now ++ space ∷ text.now)) }
     ensures room { OnErr result (vec_capacity out.old < vec_len out.old + length (word.now ++ space ∷ text.now)) }
     ensures capacity { vec_capacity out.old ≤ vec_capacity out.new }
 {
@@ -109,7 +119,7 @@ fn put_word(word: &[u8], text: &[u8], out: &mut Vec<u8>) -> Result<(), Memory>
 
 // A word, and a hash behind it.
 fn put_hash(word: &[u8], hash: &Hash, out: &mut Vec<u8>) -> Result<(), Memory>
-    ensures ok { OnOk result (out.new.items ≡ out.old.items ++ word.now ++ space ∷ hex_text hash.now) }
+    ensures ok { OnOk result (out.new.items ≡ out.old.items ++ (word.now ++ space ∷ hex_text hash.now)) }
     ensures room { OnErr result (vec_capacity out.old < vec_len out.old + length (word.now ++ space ∷ hex_text hash.now)) }
     ensures capacity { vec_capacity out.old ≤ vec_capacity out.new }
 {
@@ -120,7 +130,7 @@ fn put_hash(word: &[u8], hash: &Hash, out: &mut Vec<u8>) -> Result<(), Memory>
 
 // A word, and a number behind it.
 fn put_count(word: &[u8], n: u64, out: &mut Vec<u8>) -> Result<(), Memory>
-    ensures ok { OnOk result (out.new.items ≡ out.old.items ++ word.now ++ space ∷ decimal n) }
+    ensures ok { OnOk result (out.new.items ≡ out.old.items ++ (word.now ++ space ∷ decimal n)) }
     ensures room { OnErr result (vec_capacity out.old < vec_len out.old + length (word.now ++ space ∷ decimal n)) }
     ensures capacity { vec_capacity out.old ≤ vec_capacity out.new }
 {
@@ -130,6 +140,7 @@ fn put_count(word: &[u8], n: u64, out: &mut Vec<u8>) -> Result<(), Memory>
 }
 
 // Each behind a space.
+#[tactic(auto, using(crate::proofs::PutLemmas::put_more, crate::proofs::PutLemmas::put_none, crate::proofs::PutLemmas::put_long))]
 fn put_hashes(hashes: &[Hash], out: &mut Vec<u8>) -> Result<(), Memory>
     ensures ok { OnOk result (out.new.items ≡ out.old.items ++ flat_map (λ h. space ∷ hex_text h) hashes.now) }
     ensures room { OnErr result (vec_capacity out.old < vec_len out.old + length (flat_map (λ h. space ∷ hex_text h) hashes.now)) }
@@ -142,6 +153,7 @@ fn put_hashes(hashes: &[Hash], out: &mut Vec<u8>) -> Result<(), Memory>
 }
 
 // Each behind a space.
+#[tactic(auto, using(crate::proofs::PutLemmas::put_more, crate::proofs::PutLemmas::put_none, crate::proofs::PutLemmas::put_long))]
 fn put_items(items: &[Item], out: &mut Vec<u8>) -> Result<(), Memory>
     ensures ok { OnOk result (out.new.items ≡ out.old.items ++ flat_map (λ e. space ∷ (kind_text e.dir ++ e.step)) items.now) }
     ensures room { OnErr result (vec_capacity out.old < vec_len out.old + length (flat_map (λ e. space ∷ (kind_text e.dir ++ e.step)) items.now)) }
@@ -163,6 +175,7 @@ fn put_item(item: &Item, out: &mut Vec<u8>) -> Result<(), Memory>
 }
 
 // Each behind a space.
+#[tactic(auto, using(crate::proofs::PutLemmas::put_more, crate::proofs::PutLemmas::put_none, crate::proofs::PutLemmas::put_long))]
 fn put_heads(heads: &[Head], out: &mut Vec<u8>) -> Result<(), Memory>
     ensures ok { OnOk result (out.new.items ≡ out.old.items ++ flat_map (λ e. space ∷ (e.branch ++ space ∷ hex_text e.name)) heads.now) }
     ensures room { OnErr result (vec_capacity out.old < vec_len out.old + length (flat_map (λ e. space ∷ (e.branch ++ space ∷ hex_text e.name)) heads.now)) }
@@ -184,6 +197,7 @@ fn put_head(head: &Head, out: &mut Vec<u8>) -> Result<(), Memory>
 }
 
 // Each behind a slash.
+#[tactic(auto, using(crate::proofs::PutLemmas::put_more, crate::proofs::PutLemmas::put_none, crate::proofs::PutLemmas::put_long))]
 fn put_steps(steps: &[Step], out: &mut Vec<u8>) -> Result<(), Memory>
     ensures ok { OnOk result (out.new.items ≡ out.old.items ++ flat_map (λ s. slash ∷ s) steps.now) }
     ensures room { OnErr result (vec_capacity out.old < vec_len out.old + length (flat_map (λ s. slash ∷ s) steps.now)) }
@@ -263,8 +277,17 @@ fn put_commit(
     put_hash(b"", root, out)?;
     put_count(b"", info.date, out)?;
     put_word(b"", info.author.as_slice(), out)?;
+    put_parents(parents, info.message.as_slice(), out)
+}
+
+// The number of parents, each, and the message, each behind a space.
+fn put_parents(parents: &[Hash], message: &[u8], out: &mut Vec<u8>) -> Result<(), Memory>
+    ensures ok { OnOk result (out.new.items ≡ out.old.items ++ space ∷ join_with_byte space (counted parents.now ++ message.now ∷ [])) }
+    ensures room { OnErr result (vec_capacity out.old < vec_len out.old + length (space ∷ join_with_byte space (counted parents.now ++ message.now ∷ []))) }
+    ensures capacity { vec_capacity out.old ≤ vec_capacity out.new }
+{
     put_counted(b"", parents, out)?;
-    put_word(b"", info.message.as_slice(), out)
+    put_word(b"", message, out)
 }
 
 fn put_collected(floor: Number, left: u64, out: &mut Vec<u8>) -> Result<(), Memory>
