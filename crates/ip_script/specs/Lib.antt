@@ -1,2 +1,2 @@
-mod Fields
-mod Forms
+pub mod Fields
+pub mod Forms
