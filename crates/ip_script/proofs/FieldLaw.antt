@@ -8,7 +8,6 @@ use Rattle.ip_script.specs.declared.field.Field.{Field}
 use Rattle.ip_script.specs.declared.field.Field.TheVariants.{Step, Hex}
 use Rattle.ip_script.specs.Fields.{is_step_byte, field_length, is_whole_field}
 use Rattle.std.proofs.lemmas.List.Sums.{AllPass-from_list_all, list_all-from_AllPass}
-use Rattle.std.specs.List.{All}
 use Rattle.ip_base.specs.PathText.{IsStep, IsWordByte, slash}
 use Rattle.ip_script.specs.Forms.{IsField}
 use Rattle.ip_script.proofs.HexLaw.{ArePairs, hex_of, field_of_hex}

@@ -1,15 +1,13 @@
 -- Which line is which command, by its form.
-use Rattle.std.proofs.Common.{◌≡◌, ◌⊎◌, inl, inr, ℕ, zero, suc, ◌+◌, ◌-◌, ◌<◌, ◌≤◌, Bool, true, false, List, [], ◌∷◌, ◌++◌, length, take, drop, refl, sym, ap, ◌∙◌, subst, arith, codes, lit<, length-append}
+use Rattle.std.proofs.Common.{◌≡◌, inl, inr, ℕ, ◌+◌, [], ◌∷◌, ◌++◌, length, take, drop, refl, sym, ap, ◌∙◌, subst, arith, codes, length-append}
 use Rattle.std.proofs.lemmas.List.{take_at, drop_at}
 use Rattle.std.proofs.lemmas.List.Elements.{All-cons, All-nil}
 use Rattle.ip_base.specs.PathText.{IsStep, IsPath}
 use Rattle.ip_spec.specs.Path.{Bytes, Path}
 use Rattle.ip_spec.specs.declared.command.Command.{Command}
-use Rattle.ip_spec.specs.declared.command.Command.TheVariants as Command
 use Rattle.ip_spec.specs.Line.{IsHexText, IsPathText, IsServedLine, IsBadAt}
 use Rattle.ip_script.specs.declared.field.Field.TheVariants.{Step, Hex}
 use Rattle.ip_script.specs.declared.line.Form.{Form}
-use Rattle.ip_script.specs.declared.line.Form.TheVariants as Form
 use Rattle.ip_script.specs.Fields.{field_length}
 use Rattle.ip_script.specs.Forms.{IsField, IsOf}
 use Rattle.ip_script.proofs.FieldLaw.{field_taken}
@@ -159,7 +157,6 @@ begins_with _ line h = absurd h.0
 
 same_byte : (c d : Command) (line : Bytes) → IsServedLine c line → IsServedLine d line → first_byte c ≡ first_byte d
 same_byte c d line h g = sym (begins_with c line h) ∙ begins_with d line g
-
 
 pub one_command : (line : Bytes) (c d : Command) → IsServedLine c line → IsServedLine d line → c ≡ d
 unfolding first_byte

@@ -1,10 +1,8 @@
 -- How far a line goes along with a form.
-use Rattle.std.proofs.Common.{◌≡◌, ◌≢◌, ℕ, suc, ◌+◌, ◌<◌, ◌≤◌, Bool, true, false, cond, List, [], ◌∷◌, length, get_or, drop, sym, ap, ◌∙◌, arith, nat_eq, drop-cons, length-drop, codes, max, Ok, Err}
+use Rattle.std.proofs.Common.{◌≡◌, ◌≢◌, ℕ, suc, ◌+◌, ◌<◌, ◌≤◌, Bool, true, false, cond, List, [], ◌∷◌, length, get_or, drop, sym, ap, ◌∙◌, arith, nat_eq, drop-cons, length-drop}
 use Rattle.std.proofs.Math.ListN.{drop_of_length-le}
 use Rattle.std.proofs.lemmas.Bool.Decides.{nat_tests}
-use Rattle.ip_script.specs.declared.line.Fit.{Fit}
 use Rattle.ip_script.specs.declared.field.Field.{Field}
-use Rattle.ip_script.specs.declared.field.Field.TheVariants.{Step, Hex}
 use Rattle.ip_script.specs.Fields.{reach_from, reach_fields}
 
 if_true : {A : Type 0} (b : Bool) (x y : A) → b ≡ true → cond b x y ≡ x
@@ -55,4 +53,3 @@ whole_at_end at n (b ∷ rest) h = let e : nat_eq at n ≡ false = unequal_test 
 pub fields_done : (at n : ℕ) (fields : List Field) (line : List ℕ) → length fields ≤ n → at ≤ length line → reach_fields (drop n fields) at (drop at line) ≡ record { at = at; whole = nat_eq at (length line) }
 fields_done at n fields line h l =
     ap (λ (fs : List Field). reach_fields fs at (drop at line)) (drop_of_length-le fields h) ∙ whole_at_end at (length line) (drop at line) (omega (arith, length-drop at line))
-

@@ -1,16 +1,14 @@
 -- What reading a line comes to.
-use Rattle.std.proofs.Common.{◌≡◌, ◌⊎◌, inl, inr, ℕ, zero, suc, ◌+◌, ◌<◌, ◌≤◌, Bool, true, false, ◌==◌, List, [], ◌∷◌, ◌++◌, length, take, drop, max, refl, sym, ap, ◌∙◌, subst, arith, codes, length-append, nat_le, slice_index_or, Ok}
+use Rattle.std.proofs.Common.{◌≡◌, ◌⊎◌, inl, inr, ℕ, ◌+◌, ◌<◌, ◌≤◌, true, false, ◌==◌, [], ◌∷◌, ◌++◌, length, take, drop, max, refl, sym, ap, ◌∙◌, subst, arith, codes, length-append, nat_le, slice_index_or, Ok}
 use Rattle.std.specs.List.{list_any}
 use Rattle.std.specs.Ordering.{ord_max, nat_cmp}
 use Rattle.std.proofs.lemmas.Bool.Decides.{nat_tests}
 use Rattle.hex.specs.Hex.{decode_of}
 use Rattle.ip_spec.specs.Path.{Bytes, Path}
 use Rattle.ip_spec.specs.declared.command.Command.{Command}
-use Rattle.ip_spec.specs.declared.command.Command.TheVariants as Command
 use Rattle.ip_spec.specs.Line.{IsHexText, IsServedLine, Begins, IsBadAt}
 use Rattle.ip_script.specs.declared.field.Field.TheVariants.{Step, Hex}
 use Rattle.ip_script.specs.declared.line.Form.{Form}
-use Rattle.ip_script.specs.declared.line.Form.TheVariants as Form
 use Rattle.ip_script.specs.declared.line.Fit.{Fit}
 use Rattle.ip_script.specs.Fields.{field_length, reach}
 use Rattle.ip_script.specs.Forms.{word_of, fields_of, IsField, IsOf}

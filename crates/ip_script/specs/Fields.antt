@@ -1,7 +1,7 @@
 -- How far a text goes along with the fields of a line. The rule of the lines is the grammar; these say what the functions on the way to it find.
 --     field_length field text      how many bytes from the front may be part of the field.      is_whole_field field text n      whether so many are a whole one
 --     reach word fields line      how far a line goes along with a word and fields, and whether it is of them
-use Rattle.std.specs.Prelude.{ℕ, ◌+◌, ◌%◌, ◌==◌, Bool, true, false, ◌&&◌, ◌||◌, not, nat_lt, nat_eq, if◌then◌else◌, List, [], ◌∷◌, drop, min}
+use Rattle.std.specs.Prelude.{ℕ, ◌+◌, ◌%◌, ◌==◌, Bool, true, false, ◌&&◌, ◌||◌, not, nat_lt, if◌then◌else◌, List, [], ◌∷◌, drop, min}
 use Rattle.std.specs.List.{prefix_len}
 use Rattle.hex.specs.Hex.{is_hex_digit}
 use Rattle.ip_spec.specs.Path.{Bytes}

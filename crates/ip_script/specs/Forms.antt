@@ -8,7 +8,6 @@ use Rattle.ip_spec.specs.Line.{IsHexText}
 use Rattle.ip_script.specs.declared.field.Field.{Field}
 use Rattle.ip_script.specs.declared.field.Field.TheVariants.{Step, Hex}
 use Rattle.ip_script.specs.declared.line.Form.{Form}
-use Rattle.ip_script.specs.declared.line.Form.TheVariants as Form
 
 abbrev pub word_of : Form → Bytes
 word_of Form.Empty = codes "empty"

@@ -5,6 +5,8 @@ mod field;
 mod line;
 mod reply;
 mod source;
+#[cfg(test)]
+mod tests;
 
 pub use ip_spec::command::{Command, LineFault, Target};
 pub use ip_spec::reply::Reply;

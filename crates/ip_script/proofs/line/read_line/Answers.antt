@@ -1,7 +1,7 @@
-use Rattle.std.proofs.Common.{length, ap, ◌∙◌, refl, List, ℕ}
+use Rattle.std.proofs.Common.{ap, ◌∙◌, refl, List, ℕ}
 use Rattle.ip_script.specs.declared.field.Field.{Field}
 use Rattle.ip_script.specs.Fields.{reach}
-use Rattle.ip_script.specs.Forms.{word_of, fields_of}
+use Rattle.ip_script.specs.Forms.{word_of}
 use Rattle.ip_script.proofs.ReadLaw.{form_at, tried_none, tried_more, tried_all, whole_is}
 use Rattle.ip_script.proofs.line.read_line.Goals as goal
 

@@ -1,4 +1,4 @@
-use Rattle.std.proofs.Common.{decimal, length, codes, ◌++◌, ◌∷◌, flat_map}
+use Rattle.std.proofs.Common.{decimal, length, ◌++◌, ◌∷◌, flat_map}
 use Rattle.ip_spec.specs.Text.{hex_text}
 use Rattle.ip_script.proofs.PutLemmas.{counted_text, behind, no_room_behind, ok_then, err_then}
 use Rattle.ip_script.proofs.reply.put_counted.Goals as goal

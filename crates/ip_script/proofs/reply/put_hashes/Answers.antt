@@ -1,4 +1,4 @@
-use Rattle.std.proofs.Common.{◌∷◌, ◌++◌, List, ℕ}
+use Rattle.std.proofs.Common.{◌∷◌}
 use Rattle.ip_spec.specs.Text.{hex_text}
 use Rattle.ip_base.specs.declared.hash.Hash.{Hash}
 use Rattle.ip_base.specs.PathText.{space}

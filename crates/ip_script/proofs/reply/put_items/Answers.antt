@@ -1,4 +1,4 @@
-use Rattle.std.proofs.Common.{◌∷◌, ◌++◌, List, ℕ}
+use Rattle.std.proofs.Common.{◌∷◌, ◌++◌}
 use Rattle.ip_spec.specs.Text.{kind_text}
 use Rattle.ip_spec.specs.declared.tree.Item.{Item}
 use Rattle.ip_base.specs.PathText.{space}

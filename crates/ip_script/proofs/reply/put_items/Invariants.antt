@@ -1,7 +1,7 @@
-use Rattle.std.proofs.Common.{◌≡◌, ◌+◌, ◌≤◌, ◌++◌, ◌∷◌, [], ◌/◌, ◌%◌, take, flat_map, length, vec_len}
+use Rattle.std.proofs.Common.{◌≡◌, ◌+◌, ◌≤◌, ◌++◌, ◌∷◌, take, flat_map, length, vec_len}
 use Rattle.std.specs.Vec.{vec_capacity}
-use Rattle.ip_base.specs.PathText.{space, slash}
-use Rattle.ip_spec.specs.Text.{hex_text, kind_text, digit}
+use Rattle.ip_base.specs.PathText.{space}
+use Rattle.ip_spec.specs.Text.{kind_text}
 use Rattle.ip_script.proofs.reply.put_items.Given as goal
 
 abbrev pub invariant-loop-item : goal.invariant-loop-item

@@ -1,4 +1,4 @@
-use Rattle.std.proofs.Common.{decimal, length, map, ◌++◌, ◌∷◌, arith, ap, length-append}
+use Rattle.std.proofs.Common.{decimal, length, map, ◌∷◌, arith, ap, length-append}
 use Rattle.std.specs.List.{join_with_byte}
 use Rattle.ip_spec.specs.Text.{hex_text}
 use Rattle.ip_script.proofs.PutLemmas.{joined_last, behind, no_room_behind, ok_then, err_then, on_err}

@@ -1,4 +1,4 @@
-use Rattle.std.proofs.Common.{◌∷◌, ◌∙◌, ◌-◌, length, take, drop, flat_map, ap, sym, arith, List, ℕ, ◌++◌, get_or, ◌≡◌}
+use Rattle.std.proofs.Common.{◌∷◌, ◌∙◌, ◌-◌, length, take, drop, flat_map, ap, arith, List, ℕ, ◌++◌}
 use Rattle.ip_script.proofs.PutLemmas.{path_parts, behind, no_room_behind, ok_then, err_then}
 use Rattle.ip_script.proofs.reply.put_path.Goals as goal
 

@@ -1,4 +1,4 @@
-use Rattle.std.proofs.Common.{◌∷◌, ◌++◌, List, ℕ}
+use Rattle.std.proofs.Common.{◌∷◌, List, ℕ}
 use Rattle.ip_base.specs.PathText.{slash}
 use Rattle.ip_script.proofs.PutLemmas.{put_room, on_err}
 use Rattle.ip_script.proofs.reply.put_steps.Goals as goal
