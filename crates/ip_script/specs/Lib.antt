@@ -1,2 +1,3 @@
+pub mod Brief
 pub mod Fields
 pub mod Forms

@@ -1,11 +1,12 @@
 // The texts of replies. Each function writes at the end, and takes no memory where its text fits into what is spare.
-ghost use Rattle.std.specs.Prelude.{◌≡◌, ◌+◌, ◌<◌, ◌≤◌, ◌++◌, ◌∷◌, ◌/◌, ◌%◌, [], length, flat_map, vec_len, OnOk, OnErr};
+ghost use Rattle.std.specs.Prelude.{◌≡◌, ◌+◌, ◌<◌, ◌≤◌, ◌++◌, ◌∷◌, ◌/◌, ◌%◌, [], length, flat_map, vec_len, OnOk, OnErr, IsFalse};
 ghost use Rattle.std.specs.Vec.{vec_capacity};
 ghost use Rattle.std.specs.Fmt.{decimal};
 ghost use Rattle.std.specs.List.{join_with_byte};
 ghost use Rattle.ip_base.specs.PathText.{space, slash, path_text};
 ghost use Rattle.ip_spec.specs.Text.{digit, hex_text, value_text, reply_text, words_of, limit_text, exit_text, seen_text, kind_text, counted, phase_words, left_words, produced_text};
 ghost use Rattle.ip_spec.specs.declared.reply.Reply.TheVariants as Reply;
+ghost use Rattle.ip_script.specs.Brief.{is_brief};
 
 use ip_base::{Hash, Info, Limit, Memory, Number, Step};
 use ip_ground::Exit;
@@ -345,7 +346,7 @@ fn put_difference(difference: &Difference, out: &mut Vec<u8>) -> Result<(), Memo
     put_seen(difference.got, out)
 }
 
-// A reply's words. Each arm is one reply.
+// A reply's words.
 fn put_words(reply: &Reply, out: &mut Vec<u8>) -> Result<(), Memory>
     ensures ok { OnOk result (out.new.items ≡ out.old.items ++ join_with_byte space (words_of reply.now)) }
     ensures room { OnErr result (vec_capacity out.old < vec_len out.old + length (join_with_byte space (words_of reply.now))) }
@@ -379,6 +380,18 @@ fn put_words(reply: &Reply, out: &mut Vec<u8>) -> Result<(), Memory>
         Reply::GivenUp(n) => put_count(b"given-up", n.get(), out),
         Reply::Bases(n) => put_count(b"bases", *n as u64, out),
         Reply::Checking(n) => put_count(b"checking", *n, out),
+        _ => put_longer(reply, out),
+    }
+}
+
+// The words of the other replies.
+fn put_longer(reply: &Reply, out: &mut Vec<u8>) -> Result<(), Memory>
+    requires { IsFalse (is_brief reply.now) }
+    ensures ok { OnOk result (out.new.items ≡ out.old.items ++ join_with_byte space (words_of reply.now)) }
+    ensures room { OnErr result (vec_capacity out.old < vec_len out.old + length (join_with_byte space (words_of reply.now))) }
+    ensures capacity { vec_capacity out.old ≤ vec_capacity out.new }
+{
+    match reply {
         Reply::Collected { floor, left } => put_collected(*floor, *left, out),
         Reply::Value(bytes) => {
             out.extend_from_slice(b"value ")?;
@@ -413,6 +426,7 @@ fn put_words(reply: &Reply, out: &mut Vec<u8>) -> Result<(), Memory>
             branches,
             at,
         } => put_stat(*floor, *next, *branches, *at, out),
+        _ => Ok(()),
     }
 }
 
