@@ -197,7 +197,7 @@ run_appended events old mid new records c w step rest there commit low =
 
 pub covers : (records : List CoreRecord) (phase : CorePhase) → KeepsEnough records phase → CoversAbove records phase
 covers records CorePhase.idle k = tt
-covers records (CorePhase.collecting h kept ended) k = λ r at c high ref. k r at c ref (inl high)
+covers records (CorePhase.collecting h kept ended) k = λ r at c high ref. k.above r at c high ref
 
 -- ---- one next core
 
