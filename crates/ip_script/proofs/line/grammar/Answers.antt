@@ -1,0 +1,8 @@
+use Rattle.ip_script.proofs.LineLaw.{one_command, one_place}
+use Rattle.ip_script.proofs.line.grammar.Goals as goal
+
+pub returns-clause-one : goal.returns-clause-one
+returns-clause-one c = one_command
+
+pub returns-clause-place : goal.returns-clause-place
+returns-clause-place c = one_place
