@@ -11,3 +11,6 @@ mod turn_log;
 pub use calls::run;
 pub use statuses::{Bound, Status};
 pub use turn_log::{Kept, Log, Silent, Turn};
+
+#[cfg(test)]
+mod tests;
