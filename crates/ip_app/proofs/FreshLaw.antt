@@ -1,5 +1,5 @@
 -- Where the control file is that of a store without commits, the files stand for the repository without commits.
-use Rattle.std.proofs.Common.{ℕ, suc, ◌≡◌, ◌++◌, [], length, take, Option, Some, None, refl, sym, ap, ◌∙◌, arith, length-take}
+use Rattle.std.proofs.Common.{ℕ, suc, ◌≡◌, ◌++◌, [], length, take, Some, None, refl, sym, ap, ◌∙◌, arith, length-take}
 use Rattle.ip_ground.specs.Contents.{Content, Image, bytes_of}
 use Rattle.ip_ground.specs.declared.names.FileName.TheVariants.{Control}
 use Rattle.ip_image.specs.Slot.{fresh, fresh_control, slot_fields, zeros}

@@ -1,12 +1,11 @@
 -- What pieces of a chunk are, and the lines of bytes that go on.
-use Rattle.std.proofs.Common.{◌≡◌, ℕ, suc, zero, ◌+◌, ◌-◌, ◌<◌, ◌≤◌, Bool, true, false, cond, ◌||◌, ◌==◌, List, [], ◌∷◌, ◌++◌, length, get_or, take, drop, min, inl, inr, ◌⊎◌, refl, sym, ap, ◌∙◌, subst, arith, nat_eq, slice_range, drop-cons}
+use Rattle.std.proofs.Common.{◌≡◌, ℕ, suc, zero, ◌+◌, ◌-◌, ◌<◌, ◌≤◌, Bool, true, false, cond, ◌||◌, ◌==◌, List, [], ◌∷◌, ◌++◌, length, get_or, take, drop, inl, inr, ◌⊎◌, refl, sym, ap, ◌∙◌, subst, arith, slice_range, drop-cons}
 use Rattle.std.specs.List.{list_any}
-use Rattle.std.proofs.lemmas.List.{take_rest, take-append-drop, drop-take, take_at, length-take, length-take-le}
+use Rattle.std.proofs.lemmas.List.{take-append-drop, drop-take, length-take}
 use Rattle.std.proofs.Math.Seq.{drop-nil}
 use Rattle.std.proofs.lemmas.Grind.{common_steps}
 use Rattle.std.proofs.lemmas.Bool.Decides.{nat_tests}
 use Rattle.memchr.specs.Find.{NoneBefore, Nowhere, Passes, is_byte}
-use Rattle.ip_spec.specs.Path.{line_feed}
 use Rattle.ip_spec.specs.Script.{whole_lines, onto_first}
 use Rattle.ip_app.specs.Lines.{is_line_feed, HasNoLineFeed, last_piece}
 

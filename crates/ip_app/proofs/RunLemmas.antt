@@ -1,22 +1,18 @@
 -- A run that goes on by a line, and how it ends.
-use Rattle.std.proofs.Common.{true, ◌≡◌, inl, inr, ℕ, ◌≤◌, ◌<◌, Bool, false, List, [], ◌∷◌, ◌++◌, length, refl, sym, ap, ◌∙◌, subst, arith, append_assoc, length-append, IsTrue, All, take, drop, Some, None, Result, Ok, Err, OnOk}
-use Rattle.std.specs.Prelude.{map, IsSome}
+use Rattle.std.proofs.Common.{true, ◌≡◌, inl, inr, ℕ, ◌≤◌, Bool, false, List, [], ◌∷◌, ◌++◌, length, refl, sym, ap, ◌∙◌, subst, arith, append_assoc, length-append, IsTrue, All, take, drop, Some, None, Result}
 use Rattle.std.proofs.lemmas.Bool.{cases_lt}
 use Rattle.std.proofs.lemmas.List.{map-append, take-append-drop}
 use Rattle.std.proofs.lemmas.List.Elements.{All-append, All-cons, All-nil}
-use Rattle.ip_ground.specs.declared.names.FileName.{FileName}
 use Rattle.ip_ground.specs.declared.names.FileName.TheVariants.{Control}
-use Rattle.ip_ground.specs.declared.names.GroundCounts.{GroundCounts}
 use Rattle.ip_ground.specs.declared.names.GroundFault.{GroundFault}
-use Rattle.ip_ground.specs.Counts.{Rose, NoneFalls}
-use Rattle.ip_ground.specs.Told.{Told, said, ChangesOnly, NoFile, KeepsPast}
+use Rattle.ip_ground.specs.Told.{Told, said, ChangesOnly, NoFile}
 use Rattle.ip_ground.specs.Calls.{Says}
 use Rattle.ip_ground.proofs.Spans.{goes_nowhere, goes_on, stays_on, said_now}
 use Rattle.ip_ground.proofs.Passing.{stays_itself}
 use Rattle.ip_ground.proofs.Rising.{none_falls_on, rose_after}
 use Rattle.ip_image.specs.declared.counts.TurnCounts.{TurnCounts}
 use Rattle.ip_image.specs.Slot.{live_index}
-use Rattle.ip_image.specs.Standing.{Standing, StandsFor}
+use Rattle.ip_image.specs.Standing.{StandsFor}
 use Rattle.ip_spec.specs.Path.{Bytes, line_feed}
 use Rattle.ip_spec.specs.Merge.{Rule}
 use Rattle.ip_ground.specs.Contents.{Image, bytes_of}
@@ -24,7 +20,7 @@ use Rattle.ip_spec.specs.Repository.{Repository, no_repository}
 use Rattle.ip_spec.specs.Machine.{State, opened}
 use Rattle.ip_spec.specs.Script.{whole_lines, LineStep}
 use Rattle.ip_spec.specs.Text.{reply_text}
-use Rattle.ip_store.specs.Control.{control_in, default_chunk, IsFresh}
+use Rattle.ip_store.specs.Control.{control_in}
 use Rattle.ip_app.specs.declared.turn_log.Turn.{Turn}
 use Rattle.ip_app.specs.declared.lines.Lines.{Lines}
 use Rattle.ip_app.specs.declared.statuses.Status.{Status}
@@ -33,7 +29,7 @@ use Rattle.ip_app.specs.declared.statuses.Bound.TheVariants as bound
 use Rattle.ip_app.specs.Lines.{longest_line, last_piece}
 use Rattle.ip_app.specs.Pending.{pending}
 use Rattle.ip_app.specs.Reading.{EndsReading, IsCaused}
-use Rattle.ip_app.specs.Exchanges.{Exchange, conditions, turn_of, answer_of, no_rules, Run, after_all, lines_in, turns_in, texts_in}
+use Rattle.ip_app.specs.Exchanges.{Exchange, conditions, no_rules, Run, after_all, lines_in, turns_in, texts_in}
 use Rattle.ip_app.specs.Turns.{turn_counts, IsLater, Follow}
 use Rattle.ip_app.specs.Outside.{Outside, GoesOn, KeepsFiles}
 use Rattle.ip_app.specs.Serving.{SaysPart, Turned, Stopped, Unsaid, Stops, Served}

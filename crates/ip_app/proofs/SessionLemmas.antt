@@ -1,5 +1,5 @@
 -- The steps of the commands that a session runs.
-use Rattle.std.proofs.Common.{◌≡◌, ◌⊎◌, inl, inr, ℕ, ◌+◌, ◌^◌, ◌<◌, ◌≤◌, ◌==◌, Bool, true, false, List, [], ◌∷◌, ◌++◌, length, refl, sym, ap, ◌∙◌, subst, arith, Option, Some, None, Ok, Err, IsTrue, length-append}
+use Rattle.std.proofs.Common.{◌≡◌, ◌⊎◌, inl, inr, ℕ, ◌^◌, ◌<◌, ◌≤◌, ◌==◌, Bool, true, false, [], ◌∷◌, ◌++◌, length, refl, sym, ap, ◌∙◌, subst, arith, Option, Some, None, Ok, Err, IsTrue, length-append}
 use Rattle.std.specs.Prelude.{nat_lt, if◌then◌else◌, codes, Result, IsFalse, ◌≢◌}
 use Rattle.std.specs.List.{list_any}
 use Rattle.std.specs.Fmt.{decimal}
@@ -7,23 +7,19 @@ use Rattle.std.proofs.lemmas.Bool.Decides.{nat_tests}
 use Rattle.std.proofs.lemmas.Fmt.{length-decimal-le}
 use Rattle.sha2.specs.Sha256.{sha256}
 use Rattle.ip_base.specs.declared.limit.Limit.{Limit}
-use Rattle.ip_base.specs.declared.limit.Limit.TheVariants as Limit
 use Rattle.ip_spec.specs.declared.command.Command.{Command}
-use Rattle.ip_spec.specs.declared.command.Command.TheVariants as Command
 use Rattle.ip_spec.specs.declared.command.LineFault.{LineFault}
-use Rattle.ip_spec.specs.declared.command.LineFault.TheVariants as LineFault
 use Rattle.ip_spec.specs.declared.met.Met.{Met}
 use Rattle.ip_spec.specs.declared.met.Phase.TheVariants as Phase
 use Rattle.ip_spec.specs.declared.reply.Reply.{Reply}
 use Rattle.ip_spec.specs.declared.tree.Got.{Got}
-use Rattle.ip_spec.specs.declared.reply.Reply.TheVariants as Reply
 use Rattle.ip_spec.specs.Path.{Bytes, Path, space}
 use Rattle.ip_spec.specs.Tree.{Tree, put, got_at, widest}
 use Rattle.ip_spec.specs.Repository.{no_repository}
 use Rattle.ip_spec.specs.Machine.{Work, State, empty_work}
 use Rattle.ip_spec.specs.Step.{Refused, ◌>>◌, refuse_if, unless_some, or_refused, Turned, below, not_given_up, contents_limit, entries_limit, IsMet, MayRefuse, Step, got_reply, outcome}
-use Rattle.ip_spec.specs.Line.{IsServed, IsServedLine, IsBadAt, Reads}
-use Rattle.ip_spec.specs.Script.{LineStep, BadLine}
+use Rattle.ip_spec.specs.Line.{IsServedLine, IsBadAt, Reads}
+use Rattle.ip_spec.specs.Script.{LineStep}
 use Rattle.ip_spec.specs.Text.{reply_text}
 use Rattle.ip_store.specs.Work.{limit_of}
 use Rattle.ip_app.specs.Exchanges.{no_rules}

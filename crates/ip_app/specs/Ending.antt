@@ -1,10 +1,9 @@
 -- How the reading of a source ends, by its bytes alone.
 --     ending_of bytes      the status, in whatever pieces they come
 --     IsOfBytes status      the statuses that the bytes alone give
-use Rattle.std.specs.Prelude.{ℕ, ◌+◌, nat_lt, nat_le, ◌==◌, if◌then◌else◌, List, [], ◌∷◌}
+use Rattle.std.specs.Prelude.{ℕ, ◌+◌, nat_lt, nat_le, ◌==◌, if◌then◌else◌, [], ◌∷◌}
 use Rattle.ip_spec.specs.Path.{Bytes, line_feed}
 use Rattle.ip_app.specs.declared.statuses.Status.{Status}
-use Rattle.ip_app.specs.declared.statuses.Status.TheVariants as Status
 use Rattle.ip_app.specs.declared.statuses.Bound.TheVariants as Bound
 use Rattle.ip_app.specs.Lines.{longest_line, most_taken}
 

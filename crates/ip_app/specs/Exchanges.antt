@@ -3,7 +3,7 @@
 --     lines_in, turns_in, texts_in      their lines, their turns in the log, and the texts of their replies
 --     no_rules      the merge rules of a call that is handed none
 use Rattle.std.specs.Prelude.{List, [], ◌∷◌, map, Option}
-use Rattle.ip_spec.specs.Path.{Bytes, Path}
+use Rattle.ip_spec.specs.Path.{Bytes}
 use Rattle.ip_spec.specs.Merge.{Rule, same_means}
 use Rattle.ip_spec.specs.declared.reply.Difference.{Difference}
 use Rattle.ip_spec.specs.declared.reply.Reply.{Reply}

@@ -2,7 +2,7 @@
 --     longest_line, most_taken      bytes of a line before its line feed, and bytes of a source, that are taken at most
 --     HasNoLineFeed bytes      no line feed stands in them
 --     last_piece bytes      what stands behind the last line feed, all where there is none
-use Rattle.std.specs.Prelude.{ℕ, ◌^◌, ◌≡◌, ◌==◌, Bool, false, if◌then◌else◌, List, [], ◌∷◌}
+use Rattle.std.specs.Prelude.{ℕ, ◌^◌, ◌≡◌, ◌==◌, Bool, false, if◌then◌else◌, [], ◌∷◌}
 use Rattle.std.specs.List.{list_any}
 use Rattle.ip_spec.specs.Path.{Bytes, line_feed}
 

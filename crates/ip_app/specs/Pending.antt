@@ -1,5 +1,5 @@
 -- What stands in a chunk of a source.
-use Rattle.std.specs.Prelude.{List, slice_range, ◌≤◌}
+use Rattle.std.specs.Prelude.{slice_range, ◌≤◌}
 use Rattle.ip_spec.specs.Path.{Bytes}
 use Rattle.ip_app.specs.declared.lines.Lines.{Lines}
 use Rattle.ip_app.specs.Lines.{most_taken}

@@ -1,9 +1,8 @@
 -- What the calls that cut a source into lines do.
-use Rattle.std.specs.Prelude.{ℕ, ◌+◌, ◌<◌, ◌≤◌, ◌≡◌, Bool, IsTrue, List, [], ◌∷◌, ◌++◌, length}
+use Rattle.std.specs.Prelude.{ℕ, ◌+◌, ◌<◌, ◌≤◌, ◌≡◌, Bool, IsTrue, [], ◌∷◌, ◌++◌, length}
 use Rattle.ip_ground.specs.Counts.{Rose}
 use Rattle.ip_spec.specs.Path.{Bytes, line_feed}
 use Rattle.ip_app.specs.declared.statuses.Status.{Status}
-use Rattle.ip_app.specs.declared.statuses.Status.TheVariants as Status
 use Rattle.ip_app.specs.declared.statuses.Bound.TheVariants as Bound
 use Rattle.ip_app.specs.Lines.{longest_line, most_taken, HasNoLineFeed}
 

@@ -17,11 +17,8 @@ use Rattle.ip_spec.specs.Machine.{State, opened}
 use Rattle.ip_spec.specs.Script.{whole_lines}
 use Rattle.ip_store.specs.Control.{control_in, default_chunk, IsFresh}
 use Rattle.ip_store.specs.declared.store.InitFault.{InitFault}
-use Rattle.ip_store.specs.declared.store.InitFault.TheVariants as InitFault
 use Rattle.ip_store.specs.declared.store.OpenFault.{OpenFault}
-use Rattle.ip_store.specs.declared.store.OpenFault.TheVariants as OpenFault
 use Rattle.ip_app.specs.declared.statuses.Status.{Status}
-use Rattle.ip_app.specs.declared.statuses.Status.TheVariants as Status
 use Rattle.ip_app.specs.Lines.{longest_line, last_piece}
 use Rattle.ip_app.specs.Reading.{EndsReading}
 use Rattle.ip_app.specs.Ending.{ending_of, IsOfBytes}

@@ -2,16 +2,15 @@
 --     Turned      a line was taken, its command run and noted
 --     Stops      why there is no further line
 --     Served      so far: the whole lines that were taken, and what came of them
-use Rattle.std.specs.Prelude.{ℕ, ◌+◌, ◌≤◌, ◌≡◌, Bool, IsTrue, List, [], ◌∷◌, ◌++◌, length, All}
+use Rattle.std.specs.Prelude.{◌+◌, ◌≤◌, ◌≡◌, IsTrue, List, [], ◌∷◌, ◌++◌, length, All}
 use Rattle.ip_ground.specs.Counts.{Rose}
-use Rattle.ip_ground.specs.Told.{Told, said}
+use Rattle.ip_ground.specs.Told.{said}
 use Rattle.ip_image.specs.declared.counts.TurnCounts.{TurnCounts}
 use Rattle.ip_spec.specs.Path.{Bytes, line_feed}
 use Rattle.ip_spec.specs.Machine.{State}
 use Rattle.ip_spec.specs.Script.{whole_lines, LineStep}
 use Rattle.ip_spec.specs.Text.{reply_text}
 use Rattle.ip_app.specs.declared.statuses.Status.{Status}
-use Rattle.ip_app.specs.declared.statuses.Status.TheVariants as Status
 use Rattle.ip_app.specs.declared.lines.Lines.{Lines}
 use Rattle.ip_app.specs.Lines.{longest_line, HasNoLineFeed, last_piece}
 use Rattle.ip_app.specs.Pending.{pending}

@@ -2,7 +2,7 @@
 --     state_of session      the machine's state that it is in
 --     met_only refused      what a command meets: nothing but want of memory, if that
 --     MayBeRefused, CommandMayBeRefused      a line or a command whose reply has a long text changes nothing and may be refused memory
-use Rattle.std.specs.Prelude.{ℕ, ◌≡◌, ◌<◌, Bool, true, false, length, None}
+use Rattle.std.specs.Prelude.{◌≡◌, ◌<◌, Bool, true, false, length, None}
 use Rattle.ip_spec.specs.Path.{Bytes}
 use Rattle.ip_spec.specs.Repository.{no_repository}
 use Rattle.ip_spec.specs.declared.command.Command.{Command}
@@ -10,7 +10,6 @@ use Rattle.ip_spec.specs.declared.met.Child.TheVariants as Child
 use Rattle.ip_spec.specs.declared.met.Met.{Met}
 use Rattle.ip_spec.specs.declared.met.Phase.TheVariants as Phase
 use Rattle.ip_spec.specs.declared.reply.Reply.{Reply}
-use Rattle.ip_spec.specs.declared.reply.Reply.TheVariants as Reply
 use Rattle.ip_spec.specs.Machine.{State, Conditions}
 use Rattle.ip_spec.specs.Step.{Step}
 use Rattle.ip_spec.specs.Script.{LineStep}

@@ -1,12 +1,11 @@
 -- The program's exit status and the line on standard error, for each status of a call.
 --     code_of status, status_line status
-use Rattle.std.specs.Prelude.{ℕ, List, [], ◌∷◌, ◌++◌, Option, Some, None, codes}
+use Rattle.std.specs.Prelude.{ℕ, [], ◌∷◌, ◌++◌, Option, Some, None, codes}
 use Rattle.std.specs.Fmt.{decimal}
 use Rattle.ip_ground.specs.declared.names.FileName.{FileName}
 use Rattle.ip_ground.specs.declared.names.FileName.TheVariants.{Control, Chunk, Prefix, Mapping, Done}
 use Rattle.ip_spec.specs.Path.{Bytes, space, line_feed}
 use Rattle.ip_app.specs.declared.statuses.Status.{Status}
-use Rattle.ip_app.specs.declared.statuses.Status.TheVariants as Status
 use Rattle.ip_app.specs.declared.statuses.Bound.TheVariants as Bound
 
 abbrev pub code_of : Status → ℕ

@@ -1,12 +1,12 @@
 //! Whole calls, by tables of what goes in and what comes out.
+ghost use Rattle.std.specs.Prelude.{[], false};
+
 use crate::{Bound, Kept, Log, Silent, Status, run};
 use ip_base::Blob;
 use ip_ground::{Bench, FileName, Ground};
 use ip_script::{Bytes, Source, SourceCounts, SourceFault};
 use std::alloc::{AllocError, Global};
 use std::test::Fail;
-
-ghost use Rattle.std.specs.Prelude.{[], false};
 
 fn words(alloc: Global, given: &[&str]) -> Result<Vec<String>, AllocError> {
     let mut words = Vec::new(alloc);
@@ -240,7 +240,10 @@ fn a_directory_has_32_entries(rt: HostRuntime) -> Result<(), Fail> {
     let (status, said) = answers(alloc, &script, &[], &[])?;
     assert_eq!(rt; status, Status::Done);
     assert_eq!(rt; said.len(), 32 * 3 + 14 + 3 + 9 + 7);
-    assert_eq!(rt; &said[96..], b"limit entries\nok\nvalue 01\nabsent\n".as_slice());
+    assert_eq!(rt;
+        &said[96..],
+        b"limit entries\nok\nvalue 01\nabsent\n".as_slice()
+    );
     Ok(())
 }
 

@@ -1,4 +1,4 @@
-use Rattle.std.proofs.Common.{refl, arith, ℕ, ◌≤◌, ◌≡◌, ◌∙◌, sym, ap, subst, IsTrue, Bool, Ok, Err, Result, OnOk, IsErrOf, Some, None}
+use Rattle.std.proofs.Common.{refl, arith, ◌≡◌, ◌∙◌, sym, ap, subst, IsTrue, Bool, Ok, Err, Result, IsErrOf}
 use Rattle.std.specs.Prelude.{IsSome}
 use Rattle.ip_ground.specs.declared.names.FileName.TheVariants.{Control}
 use Rattle.ip_ground.specs.declared.names.GroundCounts.{GroundCounts}
@@ -7,10 +7,9 @@ use Rattle.ip_ground.specs.Told.{Told, ChangesOnly, Only, NoFile}
 use Rattle.ip_ground.proofs.Spans.{only_on, only_more}
 use Rattle.ip_ground.proofs.Rising.{rose_after}
 use Rattle.ip_image.specs.Slot.{live_index}
-use Rattle.ip_store.specs.Control.{control_in, default_chunk}
+use Rattle.ip_store.specs.Control.{default_chunk}
 use Rattle.ip_store.specs.Opening.{Makes}
 use Rattle.ip_store.specs.declared.store.InitFault.{InitFault}
-use Rattle.ip_store.specs.declared.store.InitFault.TheVariants as InitFault
 use Rattle.ip_app.specs.declared.statuses.Status.{Status}
 use Rattle.ip_app.specs.Run.{init_status, InitRow}
 use Rattle.ip_app.proofs.RunLemmas.{same_control}

@@ -1,19 +1,17 @@
-use Rattle.std.proofs.Common.{refl, ◌≡◌, ◌∙◌, sym, ap, subst, IsTrue, Bool, Err, IsErrOf, ℕ, take}
+use Rattle.std.proofs.Common.{refl, ◌≡◌, ◌∙◌, sym, ap, subst, IsTrue, Bool, Err, IsErrOf, take}
 use Rattle.std.specs.Prelude.{IsSome}
 use Rattle.ip_ground.specs.declared.names.GroundCounts.{GroundCounts}
 use Rattle.ip_ground.specs.Counts.{Rose, NoneFalls}
 use Rattle.ip_ground.specs.Told.{Told, ChangesOnly, NoFile}
-use Rattle.ip_ground.specs.Contents.{Image}
 use Rattle.ip_ground.proofs.Spans.{only_on}
 use Rattle.ip_ground.proofs.Rising.{rose_after}
-use Rattle.ip_image.specs.Slot.{live_index, fresh_control}
+use Rattle.ip_image.specs.Slot.{live_index}
 use Rattle.ip_store.specs.Control.{control_in, default_chunk, IsFresh}
 use Rattle.ip_store.specs.Opening.{Opens}
 use Rattle.ip_store.specs.declared.store.Store.{Store}
 use Rattle.ip_store.specs.declared.store.OpenFault.{OpenFault}
-use Rattle.ip_store.specs.declared.store.OpenFault.TheVariants as OpenFault
 use Rattle.ip_app.specs.declared.statuses.Status.{Status}
-use Rattle.ip_app.specs.Run.{opening_status, CouldNotOpen, IsDamagedAt}
+use Rattle.ip_app.specs.Run.{opening_status, CouldNotOpen}
 use Rattle.ip_app.proofs.RunLemmas.{same_control}
 use Rattle.ip_app.proofs.serve.open_in.Goals as goal
 

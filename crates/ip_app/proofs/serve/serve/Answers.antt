@@ -1,14 +1,11 @@
-use Rattle.std.proofs.Common.{refl, IsTrue, ℕ, ◌≡◌, [], Bool, inl, sym, ap, ◌∙◌}
+use Rattle.std.proofs.Common.{refl, ap, ◌∙◌}
 use Rattle.std.proofs.Math.Nat.{le_refl}
-use Rattle.ip_ground.specs.Told.{said}
 use Rattle.ip_ground.proofs.Spans.{said_now}
 use Rattle.ip_spec.specs.Repository.{no_repository}
 use Rattle.ip_spec.specs.Machine.{State, opened}
-use Rattle.ip_app.specs.declared.statuses.Status.{Status}
 use Rattle.ip_app.specs.declared.statuses.Status.TheVariants as status
 use Rattle.ip_app.specs.Session.{state_of}
 use Rattle.ip_app.specs.Turns.{turn_counts}
-use Rattle.ip_app.specs.Run.{IsOpened}
 use Rattle.ip_app.proofs.FreshLaw.{fresh_stands}
 use Rattle.ip_app.proofs.EndingLaw.{ends_as_bytes}
 use Rattle.ip_app.proofs.RunLemmas.{serves_none, serves_stop, served_first, served_more, ends_by_script, begins_unopened}

@@ -1,4 +1,4 @@
-use Rattle.std.proofs.Common.{refl, ◌≡◌, ◌++◌, ℕ, List, sym, ap, ◌∙◌, arith, subst, ◌≤◌, None, IsTrue, Err, Ok, OnOk, Result}
+use Rattle.std.proofs.Common.{refl, ◌≡◌, ◌++◌, sym, ap, ◌∙◌, subst, None, OnOk, Result}
 use Rattle.ip_ground.specs.declared.names.GroundCounts.{GroundCounts}
 use Rattle.ip_ground.specs.declared.names.GroundFault.{GroundFault}
 use Rattle.ip_ground.specs.Counts.{NoneFalls}
@@ -10,7 +10,6 @@ use Rattle.ip_spec.specs.declared.reply.Reply.{Reply}
 use Rattle.ip_spec.specs.Path.{Bytes}
 use Rattle.ip_spec.specs.Machine.{State}
 use Rattle.ip_spec.specs.Script.{LineStep}
-use Rattle.ip_spec.specs.Text.{reply_text}
 use Rattle.ip_app.specs.Exchanges.{Exchange, no_rules}
 use Rattle.ip_app.specs.Session.{state_of, conditions_of}
 use Rattle.ip_app.specs.Serving.{SaysPart}

@@ -1,7 +1,5 @@
-use Rattle.std.proofs.Common.{refl, sym, ap, ◌∙◌, ◌≡◌, ◌≤◌, ◌+◌, ◌<◌, arith, rules, IsErr, IsOk, OnErr, OnOk, length, subst, [], Result, Ok, Err, vec_len, true, ◌++◌, List, ℕ}
-use Rattle.std.specs.Vec.{vec_capacity}
+use Rattle.std.proofs.Common.{ap, ◌∙◌, ◌≡◌, arith, rules, IsErr, IsOk, OnErr, OnOk, length, [], Result, Ok, Err, ◌++◌, List, ℕ}
 use Rattle.ip_spec.specs.declared.reply.Reply.{Reply}
-use Rattle.ip_spec.specs.declared.reply.Reply.TheVariants as Reply
 use Rattle.ip_spec.specs.Text.{reply_text}
 use Rattle.ip_app.specs.Session.{IsLong}
 use Rattle.ip_app.proofs.SessionLemmas.{memory_is_short, line_as_refused}
@@ -26,7 +24,7 @@ pub unwrap-requires : goal.unwrap-requires
 unwrap-requires c =
     let short = ap (λ reply. length (reply_text reply)) c.refuse-refusal.ensures.reply in
     ok_where_room c.reply_text-then-is_err.result _ c.reply_text-then-is_err.ensures.room
-        (λ full. omega (arith, full, short, memory_is_short, c.clear.ensures.len, c.clear.ensures.capacity, c.reply_text.ensures.capacity, c.requires.room))
+    (λ full. omega (arith, full, short, memory_is_short, c.clear.ensures.len, c.clear.ensures.capacity, c.reply_text.ensures.capacity, c.requires.room))
 
 pub returns-then-is_err-clause-step : goal.returns-then-is_err-clause-step
 returns-then-is_err-clause-step c =

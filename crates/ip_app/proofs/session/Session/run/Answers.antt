@@ -1,4 +1,4 @@
-use Rattle.std.proofs.Common.{sym, ap, ◌∙◌, false, Err}
+use Rattle.std.proofs.Common.{ap, ◌∙◌, false, Err}
 use Rattle.sha2.specs.Sha256.{sha256}
 use Rattle.ip_spec.specs.declared.command.Command.TheVariants as Command
 use Rattle.ip_store.specs.Work.{work_of}

@@ -1,7 +1,5 @@
-use Rattle.std.proofs.Common.{sym, ap, ◌∙◌, refl, arith, rules, ◌^◌, ◌<◌, true}
-use Rattle.ip_spec.specs.declared.reply.Reply.TheVariants as Reply
+use Rattle.std.proofs.Common.{rules}
 use Rattle.ip_store.specs.Work.{work_of}
-use Rattle.ip_app.specs.Session.{met_only}
 use Rattle.ip_app.proofs.SessionLemmas.{line_refused, refused_as, has_words, bad_in_line, bad_is_short}
 use Rattle.ip_app.proofs.session.Session.step.Goals as goal
 
@@ -13,5 +11,7 @@ returns-in-Err-Memory-clause-step c = refused_as (work_of c.args.self.now.work) 
     (line_refused (work_of c.args.self.now.work) c.args.line.now (c.grammar.ensures.each c.args.line.now) (has_words c.args.line.now c.in-Err-Memory.field-0 c.in-Err-Memory.field-0-is c.in-Err-Memory.ensures.one_word))
 
 pub returns-in-Err-Memory-clause-spared : goal.returns-in-Err-Memory-clause-spared
-returns-in-Err-Memory-clause-spared c long = (c.refuse.ensures.state,
-    line_refused (work_of c.args.self.now.work) c.args.line.now (c.grammar.ensures.each c.args.line.now) (has_words c.args.line.now c.in-Err-Memory.field-0 c.in-Err-Memory.field-0-is c.in-Err-Memory.ensures.one_word))
+returns-in-Err-Memory-clause-spared c long = (
+  c.refuse.ensures.state,
+  line_refused (work_of c.args.self.now.work) c.args.line.now (c.grammar.ensures.each c.args.line.now) (has_words c.args.line.now c.in-Err-Memory.field-0 c.in-Err-Memory.field-0-is c.in-Err-Memory.ensures.one_word),
+)
