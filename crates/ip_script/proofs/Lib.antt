@@ -5,5 +5,6 @@ mod Handing
 mod HexDigits
 mod HexLaw
 mod LineLaw
+mod ReadLaw
 mod PutLemmas
 mod ReachLemmas

@@ -1,13 +1,15 @@
 // Which line is which command.
-ghost use Rattle.std.specs.Prelude.{◌≡◌, ◌⊎◌, ◌≢◌, ℕ, length, Err, IsFalse, ◌==◌};
+ghost use Rattle.std.specs.Prelude.{◌≡◌, ◌⊎◌, ◌≢◌, ℕ, ◌+◌, ◌<◌, [], ◌∷◌, length, take, drop, Err, IfOk, IsOk, IsFalse, ◌==◌};
 ghost use Rattle.std.specs.List.{list_any};
 ghost use Rattle.ip_base.specs.PathText.{space};
 ghost use Rattle.ip_spec.specs.Path.{Bytes};
 ghost use Rattle.ip_spec.specs.declared.command.Command.{Command};
 ghost use Rattle.ip_spec.specs.declared.command.LineFault.TheVariants as LineFault;
-ghost use Rattle.ip_spec.specs.Line.{Reads, IsServedLine, IsBadAt};
-ghost use Rattle.ip_script.specs.Fields.{reach};
-ghost use Rattle.ip_script.specs.Forms.{word_of, fields_of};
+ghost use Rattle.ip_spec.specs.Line.{Reads, IsServedLine, IsBadAt, IsHexText};
+ghost use Rattle.ip_script.specs.Fields.{reach, field_length};
+ghost use Rattle.ip_script.specs.Forms.{word_of, fields_of, IsField, IsOf};
+ghost use Rattle.ip_script.specs.declared.field.Field.TheVariants as Field;
+ghost use Rattle.ip_script.specs.declared.line.Form.TheVariants as Form;
 
 use crate::field::{Field, field_length, is_whole};
 use ip_base::{Blob, Items, Memory, Path, Step};
@@ -85,7 +87,9 @@ fn reach(word: &[u8], fields: &[Field], line: &[u8]) -> Fit
 }
 
 // The path of one step at the front of a text.
-fn path_at(alloc: Global, text: &[u8]) -> Result<Path, Memory> {
+fn path_at(alloc: Global, text: &[u8]) -> Result<Path, Memory>
+    ensures { IfOk result (λ path. path ≡ take (field_length Field.Step text.now) text.now ∷ []) }
+{
     let length = field_length(Field::Step, text);
     let step = Step::of(Blob::copy_of(alloc, &text[..length])?);
     let mut steps = Items::empty(alloc);
@@ -94,7 +98,10 @@ fn path_at(alloc: Global, text: &[u8]) -> Result<Path, Memory> {
 }
 
 // The bytes that a whole text spells.
-fn bytes_of(alloc: Global, text: &[u8]) -> Result<Blob, Memory> {
+fn bytes_of(alloc: Global, text: &[u8]) -> Result<Blob, Memory>
+    requires { IsField Field.Hex text.now }
+    ensures { IfOk result (λ bytes. IsHexText bytes text.now) }
+{
     if text == b"-".as_slice() {
         return Ok(Blob::empty(alloc));
     }
@@ -104,20 +111,51 @@ fn bytes_of(alloc: Global, text: &[u8]) -> Result<Blob, Memory> {
     }
 }
 
+// What stands behind the step at the front of a text and one byte more.
+fn behind_step(text: &[u8]) -> &[u8]
+    requires { field_length Field.Step text.now < length text.now }
+    ensures { result.now ≡ drop (field_length Field.Step text.now + 1) text.now }
+{
+    let step = field_length(Field::Step, text);
+    &text[step + 1..]
+}
+
+fn set_of(alloc: Global, line: &[u8]) -> Result<Command, Memory>
+    requires { IsOf Form.Set line.now }
+    ensures { IfOk result (λ command. IsServedLine command line.now) }
+{
+    let text = &line[b"set ".len()..];
+    Ok(Command::Set {
+        path: path_at(alloc, text)?,
+        contents: bytes_of(alloc, behind_step(text))?,
+    })
+}
+
+fn get_of(alloc: Global, line: &[u8]) -> Result<Command, Memory>
+    requires { IsOf Form.Get line.now }
+    ensures { IfOk result (λ command. IsServedLine command line.now) }
+{
+    Ok(Command::Get(path_at(alloc, &line[b"get ".len()..])?))
+}
+
+fn hash_of(alloc: Global, line: &[u8]) -> Result<Command, Memory>
+    requires { IsOf Form.Hash line.now }
+    ensures { IfOk result (λ command. IsServedLine command line.now) }
+{
+    Ok(Command::Hash(bytes_of(alloc, &line[b"hash ".len()..])?))
+}
+
 // The command of a line of this form.
-fn command_of(alloc: Global, form: Form, line: &[u8]) -> Result<Command, Memory> {
+fn command_of(alloc: Global, form: Form, line: &[u8]) -> Result<Command, Memory>
+    requires { IsOf form line.now }
+    ensures command { IfOk result (λ command. IsServedLine command line.now) }
+    ensures empty { form ≡ Form.Empty → IsOk result }
+{
     match form {
         Form::Empty => Ok(Command::Empty),
-        Form::Set => {
-            let text = &line[4..];
-            let step = field_length(Field::Step, text);
-            Ok(Command::Set {
-                path: path_at(alloc, text)?,
-                contents: bytes_of(alloc, &text[step + 1..])?,
-            })
-        }
-        Form::Get => Ok(Command::Get(path_at(alloc, &line[4..])?)),
-        Form::Hash => Ok(Command::Hash(bytes_of(alloc, &line[5..])?)),
+        Form::Set => set_of(alloc, line),
+        Form::Get => get_of(alloc, line),
+        Form::Hash => hash_of(alloc, line),
     }
 }
 
