@@ -162,8 +162,18 @@ fn pieces_change_nothing(rt: HostRuntime) -> Result<(), Fail> {
     Ok(())
 }
 
-// A store that was just made, the 256 bytes of its control file, and the rest zeros.
-const CONTROL: &[(usize, u8)] = &[(0, 0xa5), (8, 1), (16, 1), (26, 0x10), (72, 1), (104, 1)];
+// The control file of a store that was just made: slot 0 with an open gate, version 1, sequence 1, the chunk size 1048576
+// and next and first attempt 1; all else is zero.
+fn fresh_control() -> [u8; 256] {
+    let mut control = [0; 256];
+    control[0] = 0xa5;
+    control[8] = 1;
+    control[16] = 1;
+    control[26] = 0x10;
+    control[72] = 1;
+    control[104] = 1;
+    control
+}
 
 #[test]
 fn stores_are_made_once(rt: HostRuntime) -> Result<(), Fail> {
@@ -173,14 +183,13 @@ fn stores_are_made_once(rt: HostRuntime) -> Result<(), Fail> {
     let status = serve(alloc, &mut script, &mut bench, &mut Silent)?;
     assert_eq!(rt; status, Status::NoStore);
     assert_eq!(rt; init(alloc, &mut bench)?, Status::Done);
-    let mut control = [0xff; 300];
-    let count = bench.read(FileName::Control, 0, &mut control).ok();
-    assert_eq!(rt; count, Some(256));
-    for (at, byte) in CONTROL {
-        assert_eq!(rt; control[*at], *byte);
-        control[*at] = 0;
-    }
-    assert!(rt; control[..256].iter().all(|byte| *byte == 0));
+    let mut control = [0xff; 256];
+    assert_eq!(rt; bench.length(FileName::Control).ok(), Some(Some(256)));
+    assert_eq!(rt;
+        bench.read(FileName::Control, 0, &mut control).ok(),
+        Some(256)
+    );
+    assert_eq!(rt; control.as_slice(), fresh_control().as_slice());
     assert_eq!(rt; init(alloc, &mut bench)?, Status::Exists);
     let status = serve(alloc, &mut script, &mut bench, &mut Silent)?;
     assert_eq!(rt; status, Status::Done);
@@ -193,7 +202,9 @@ fn other_bytes_behind_an_open_gate_are_damage(rt: HostRuntime) -> Result<(), Fai
     let alloc = rt.alloc();
     let mut bench = bench(alloc, &[])?;
     let _ = init(alloc, &mut bench)?;
-    let _ = bench.write(FileName::Control, 17, b"\x01");
+    let mut control = fresh_control();
+    control[17] = 1;
+    assert!(rt; bench.write(FileName::Control, 0, &control).is_ok());
     let mut script = source(alloc, SCRIPT, &[])?;
     let status = serve(alloc, &mut script, &mut bench, &mut Silent)?;
     let damaged = Status::Damaged {
