@@ -66,14 +66,14 @@ module _ (line : Bytes) where
   each_line = elim (either (fit Form.Empty).whole) [
     | inl is ↦ inl (command_in Form.Empty line ((reaches Form.Empty).whole is))
     | inr no_empty ↦ elim (either (fit Form.Set).whole) [
-        | inl is ↦ inl (command_in Form.Set line ((reaches Form.Set).whole is))
-        | inr no_set ↦ elim (either (fit Form.Get).whole) [
-            | inl is ↦ inl (command_in Form.Get line ((reaches Form.Get).whole is))
-            | inr no_get ↦ elim (either (fit Form.Hash).whole) [
-                | inl is ↦ inl (command_in Form.Hash line ((reaches Form.Hash).whole is))
-                | inr no_hash ↦ inr (no_form (by_form no_empty no_set no_get no_hash))
-            ]
+      | inl is ↦ inl (command_in Form.Set line ((reaches Form.Set).whole is))
+      | inr no_set ↦ elim (either (fit Form.Get).whole) [
+        | inl is ↦ inl (command_in Form.Get line ((reaches Form.Get).whole is))
+        | inr no_get ↦ elim (either (fit Form.Hash).whole) [
+          | inl is ↦ inl (command_in Form.Hash line ((reaches Form.Hash).whole is))
+          | inr no_hash ↦ inr (no_form (by_form no_empty no_set no_get no_hash))
         ]
+      ]
     ]
   ]
     where
