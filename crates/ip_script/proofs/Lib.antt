@@ -1,3 +1,4 @@
+mod EachLine
 mod FieldLaw
 mod FormLaw
 mod Handing

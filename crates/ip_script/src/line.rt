@@ -1,5 +1,5 @@
 // Which line is which command.
-ghost use Rattle.std.specs.Prelude.{◌≡◌, ◌≢◌, ℕ, ◌+◌, ◌<◌, [], ◌∷◌, length, take, drop, Err, IfOk, IsOk, IsFalse, ◌==◌};
+ghost use Rattle.std.specs.Prelude.{◌≡◌, ◌⊎◌, ◌≢◌, ℕ, ◌+◌, ◌<◌, [], ◌∷◌, length, take, drop, Err, IfOk, IsOk, IsFalse, ◌==◌};
 ghost use Rattle.std.specs.List.{list_any};
 ghost use Rattle.ip_base.specs.PathText.{space};
 ghost use Rattle.ip_spec.specs.Path.{Bytes};
@@ -178,8 +178,9 @@ pub fn read_line(alloc: Global, line: &[u8]) -> Result<Command, LineFault>
     Err(LineFault::Bad(most as u64))
 }
 
-/// A line is of one command at most, and goes wrong at one place at most.
+/// Each line is of a command or goes wrong at a place. It is of one command at most, and goes wrong at one place at most.
 pub fn grammar()
+    ensures each { (line : Bytes) → ((command : Command) × IsServedLine command line) ⊎ ((at : ℕ) × IsBadAt IsServedLine line at) }
     ensures one { (line : Bytes) (c d : Command) → IsServedLine c line → IsServedLine d line → c ≡ d }
     ensures place { (line : Bytes) (a b : ℕ) → IsBadAt IsServedLine line a → IsBadAt IsServedLine line b → a ≡ b }
 {}
