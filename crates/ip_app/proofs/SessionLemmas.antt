@@ -10,13 +10,12 @@ use Rattle.ip_base.specs.declared.limit.Limit.{Limit}
 use Rattle.ip_spec.specs.declared.command.Command.{Command}
 use Rattle.ip_spec.specs.declared.command.LineFault.{LineFault}
 use Rattle.ip_spec.specs.declared.met.Met.{Met}
-use Rattle.ip_spec.specs.declared.met.Phase.TheVariants as Phase
 use Rattle.ip_spec.specs.declared.reply.Reply.{Reply}
 use Rattle.ip_spec.specs.declared.tree.Got.{Got}
 use Rattle.ip_spec.specs.Path.{Bytes, Path, space}
 use Rattle.ip_spec.specs.Tree.{Tree, put, got_at, widest}
 use Rattle.ip_spec.specs.Repository.{no_repository}
-use Rattle.ip_spec.specs.Machine.{Work, State, empty_work}
+use Rattle.ip_spec.specs.Machine.{Work, State, Phase, empty_work}
 use Rattle.ip_spec.specs.Step.{Refused, ◌>>◌, refuse_if, unless_some, or_refused, Turned, below, not_given_up, contents_limit, entries_limit, IsMet, MayRefuse, Step, got_reply, outcome}
 use Rattle.ip_spec.specs.Line.{IsServedLine, IsBadAt, Reads}
 use Rattle.ip_spec.specs.Script.{LineStep}
@@ -35,6 +34,7 @@ plainly w command b reply may = record {
   checking = tt;
   start = λ h. absurd (cc h);
   kill = λ h. absurd (cc h);
+  left = λ l. absurd (omega (arith, l));
   short = tt;
   refused = may;
 }

@@ -8,9 +8,8 @@ use Rattle.ip_spec.specs.Repository.{no_repository}
 use Rattle.ip_spec.specs.declared.command.Command.{Command}
 use Rattle.ip_spec.specs.declared.met.Child.TheVariants as Child
 use Rattle.ip_spec.specs.declared.met.Met.{Met}
-use Rattle.ip_spec.specs.declared.met.Phase.TheVariants as Phase
 use Rattle.ip_spec.specs.declared.reply.Reply.{Reply}
-use Rattle.ip_spec.specs.Machine.{State, Conditions}
+use Rattle.ip_spec.specs.Machine.{State, Phase, Conditions}
 use Rattle.ip_spec.specs.Step.{Step}
 use Rattle.ip_spec.specs.Script.{LineStep}
 use Rattle.ip_spec.specs.Text.{reply_text}
