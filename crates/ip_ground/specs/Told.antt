@@ -1,7 +1,7 @@
 -- What a ground tells of its content, and how that goes on.
 use Rattle.std.specs.Prelude.{◌≡◌, ℕ, ◌<◌, ◌≤◌, List, [], None, Bool, IsTrue}
 use Rattle.ip_ground.specs.declared.names.FileName.{FileName}
-use Rattle.ip_ground.specs.Contents.{Content, Image, Leave, Possible}
+use Rattle.ip_ground.specs.Contents.{Content, Image, Leave, Possible, Torn}
 use Rattle.ip_ground.specs.Custody.{Custody, own, settled, custody_of}
 use Rattle.ip_ground.specs.Custody as custody
 
@@ -82,6 +82,10 @@ EachImageNow told P = (image : Image) → IsPossible told told.moment image → 
 -- The fact is about these files alone.
 abbrev pub IsAbout : (FileName → Bool) → (Image → Type 0) → Type 0
 IsAbout these P = (one other : Image) → ((file : FileName) → IsTrue (these file) → one file ≡ other file) → P one → P other
+
+-- A crash may leave any bytes in a range of the file, in whatever it might have left of it before.
+abbrev pub MayTear : FileName → ℕ → ℕ → Told → Told → Type 0
+MayTear file at n old new = (before content : Content) → old.may_leave old.moment file before → Torn at n before content → new.may_leave new.moment file content
 
 -- What the files read as is one of the things that a crash may leave.
 abbrev pub IsPossibleNow : Told → Type 0
