@@ -188,6 +188,44 @@ fn kind_of(rec: &Record) -> u8
     }
 }
 
+// How many bytes the spelling will take, so that room is taken once. It is no more than a hint.
+fn spelled_length(rec: &Record) -> usize {
+    let body = match rec {
+        Record::Contents(bytes) => bytes.len(),
+        Record::Leaf(entries) => {
+            let mut length = 4usize;
+            for entry in entries.as_slice() {
+                length = length
+                    .saturating_add(entry.step.bytes().len())
+                    .saturating_add(43);
+            }
+            length
+        }
+        Record::Inode { children, .. } => children.len().saturating_mul(45).saturating_add(5),
+        Record::Commit(c) => c
+            .parents
+            .len()
+            .saturating_mul(40)
+            .saturating_add(c.info.author.len())
+            .saturating_add(c.info.message.len())
+            .saturating_add(60),
+        Record::BranchSet { name, .. } | Record::TagSet { name, .. } => name
+            .len()
+            .saturating_add(9),
+        Record::BranchRemove { name } | Record::TagRemove { name } => name.len().saturating_add(1),
+        Record::BranchTable(rows) | Record::TagTable(rows) => rows_length(rows.as_slice()),
+    };
+    body.saturating_add(5)
+}
+
+fn rows_length(rows: &[Branch]) -> usize {
+    let mut length = 2usize;
+    for row in rows {
+        length = length.saturating_add(row.name.len()).saturating_add(9);
+    }
+    length
+}
+
 /// Puts a record's spelling behind what is there: its kind, the length of its body in bytes, and the body. The record is within the
 /// bounds of some version of the format. Where memory is refused, a part of the spelling may stand there.
 #[tactic(auto, unfolding(ip_spec::specs::Record::spelling), using(crate::proofs::PutLemmas::extends_same, crate::proofs::PutLemmas::extends_on))]
@@ -197,6 +235,7 @@ pub fn encode_into(rec: &Record, out: &mut Vec<u8>) -> Result<(), Memory>
     ensures ok { OnOk result (out.new.items ≡ out.old.items ++ spelling rec.now) }
     ensures err { OnErr result (Extends out.old.items out.new.items) }
 {
+    out.reserve(spelled_length(rec))?;
     let start = out.len();
     put_bytes(out, &[kind_of(rec), 0, 0, 0, 0])?;
     put_body(rec, out)?;

@@ -8,9 +8,16 @@ use crate::body::{Body, Text, take_hash, take_u64};
 use crate::lists::{take_child, take_entry, take_short};
 use ip_base::Number;
 use ip_spec::record::{
-    Branch, Branches, InodeChildren, LeafEntries, LeafEntry, Parent, Parents, RecordFault,
+    Branch, Branches, InodeChild, InodeChildren, LeafEntries, LeafEntry, Parent, Parents,
+    RecordFault,
 };
 use std::alloc::Global;
+
+// The bytes of an entry whose step has one byte.
+const SHORTEST_ENTRY: usize = 44;
+
+// The bytes of a row whose name has one byte.
+const SHORTEST_ROW: usize = 10;
 
 // The step of the last entry so far.
 fn last_step(entries: &[LeafEntry]) -> Option<&[u8]>
@@ -41,28 +48,31 @@ pub fn take_entries(
     ensures inside { IsInside body.new }
     ensures takes { Takes (entry_fields count None (left_in body.old)) result (left_in body.new) }
 {
-    let mut entries = LeafEntries::empty(alloc);
+    let most = body.left.left() / SHORTEST_ENTRY;
+    let Ok(mut entries) = Vec::with_capacity(alloc, most.min(count as usize)) else {
+        return Err(RecordFault::Memory);
+    };
     for _ in 0..count {
-        let entry = take_entry(alloc, body, last_step(entries.as_slice()))?;
+        let entry = take_entry(alloc, body, last_step(&entries))?;
         if entries.push(entry).is_err() {
             return Err(RecordFault::Memory);
         }
     }
-    Ok(entries)
+    Ok(LeafEntries::of(entries))
 }
 
 // Takes the child of a bit, where it is set.
 fn take_bit(
     body: &mut Body<'_>,
-    children: &mut InodeChildren,
+    children: &mut Vec<InodeChild>,
     bitmap: u32,
     index: u8,
 ) -> Result<(), RecordFault>
     requires inside { IsInside body.old }
     requires index { index < 32 }
     ensures inside { IsInside body.new }
-    ensures ok { OnOk result ((first : Left) → ReadBelow bitmap index children.old first (left_in body.old) → ReadBelow bitmap (index + 1) children.new first (left_in body.new)) }
-    ensures err { IfErr result (λ fault. (first : Left) → ReadBelow bitmap index children.old first (left_in body.old) → IsFault fault (children_of_bits bitmap first)) }
+    ensures ok { OnOk result ((first : Left) → ReadBelow bitmap index children.old.items first (left_in body.old) → ReadBelow bitmap (index + 1) children.new.items first (left_in body.new)) }
+    ensures err { IfErr result (λ fault. (first : Left) → ReadBelow bitmap index children.old.items first (left_in body.old) → IsFault fault (children_of_bits bitmap first)) }
 {
     if (bitmap >> index) % 2 == 0 {
         return Ok(());
@@ -83,11 +93,13 @@ pub fn take_children(
     ensures inside { IsInside body.new }
     ensures takes { Takes (children_of_bits bitmap (left_in body.old)) result (left_in body.new) }
 {
-    let mut children = InodeChildren::empty(alloc);
+    let Ok(mut children) = Vec::with_capacity(alloc, bitmap.count_ones() as usize) else {
+        return Err(RecordFault::Memory);
+    };
     for index in 0..32u8 {
         take_bit(body, &mut children, bitmap, index)?;
     }
-    Ok(children)
+    Ok(InodeChildren::of(children))
 }
 
 fn take_parent(body: &mut Body<'_>) -> Result<Parent, RecordFault>
@@ -105,14 +117,16 @@ pub fn take_parents(alloc: Global, body: &mut Body<'_>, count: u8) -> Result<Par
     ensures inside { IsInside body.new }
     ensures takes { Takes (parent_fields count (left_in body.old)) result (left_in body.new) }
 {
-    let mut parents = Parents::empty(alloc);
+    let Ok(mut parents) = Vec::with_capacity(alloc, count as usize) else {
+        return Err(RecordFault::Memory);
+    };
     for _ in 0..count {
         let parent = take_parent(body)?;
         if parents.push(parent).is_err() {
             return Err(RecordFault::Memory);
         }
     }
-    Ok(parents)
+    Ok(Parents::of(parents))
 }
 
 fn take_row(
@@ -134,14 +148,17 @@ pub fn take_rows(alloc: Global, body: &mut Body<'_>, count: u16) -> Result<Branc
     ensures inside { IsInside body.new }
     ensures takes { Takes (row_fields count None (left_in body.old)) result (left_in body.new) }
 {
-    let mut rows = Branches::empty(alloc);
+    let most = body.left.left() / SHORTEST_ROW;
+    let Ok(mut rows) = Vec::with_capacity(alloc, most.min(count as usize)) else {
+        return Err(RecordFault::Memory);
+    };
     for _ in 0..count {
-        let row = take_row(alloc, body, last_name(rows.as_slice()))?;
+        let row = take_row(alloc, body, last_name(&rows))?;
         if rows.push(row).is_err() {
             return Err(RecordFault::Memory);
         }
     }
-    Ok(rows)
+    Ok(Branches::of(rows))
 }
 
 ghost use Rattle.std.specs.Option.{option_copied};

@@ -9,8 +9,10 @@ unfolding spelling
 returns-clause-ok g c =
     let old = c.args.out.now.items in
     let b = body c.args.rec.now in
-    let is : c.put_body.new.out.items ≡ old ++ (c.kind_of.result ∷ zeros) ++ b = c.in_ok-put_body.ensures.ok ∙ ap (λ t. t ++ b) c.in_ok-put_bytes.ensures.ok in
-    let start : c.len-start.result ≡ length old = search rules in
+    let kept : c.reserve.new.self.items ≡ old = search rules in
+    let is : c.put_body.new.out.items ≡ old ++ (c.kind_of.result ∷ zeros) ++ b = c.in_ok-put_body.ensures.ok ∙ ap (λ t. t ++ b) (c.in_ok-put_bytes.ensures.ok ∙ ap (λ t. t ++ (c.kind_of.result ∷ zeros)) kept) in
+    let begun : c.len-start.result ≡ length c.reserve.new.self.items = search rules in
+    let start : c.len-start.result ≡ length old = begun ∙ ap length kept in
     let all : c.put_body.new.out.len ≡ length c.put_body.new.out.items = search rules in
     let len : c.len.result ≡ length c.put_body.new.out.items = search rules in
     let l = length-append (old ++ c.kind_of.result ∷ zeros) b in
