@@ -7,8 +7,8 @@ use Rattle.std.specs.Prelude.{OnOk, Result, Ok}
 use Rattle.std.proofs.lemmas.Result.{on_ok_weaker}
 use Rattle.ip_ground.specs.declared.names.FileName.TheVariants.{Control}
 use Rattle.ip_ground.specs.declared.names.GroundFault.{GroundFault}
-use Rattle.ip_ground.specs.Contents.{Content, size_of}
-use Rattle.ip_ground.specs.Told.{Told, KeepsPast, KeepsFile, EachSince, EachNow, IsKept, IsPossibleNow}
+use Rattle.ip_ground.specs.Contents.{size_of}
+use Rattle.ip_ground.specs.Told.{Told, KeepsPast, KeepsFile, EachSince, IsKept, IsPossibleNow}
 use Rattle.ip_ground.proofs.Spans.{each_stays, each_on, each_weaker, left_now, held_since}
 use Rattle.ip_ground.proofs.Durable.{now_from_kept}
 use Rattle.ip_image.specs.declared.slot.Slot.{Slot}

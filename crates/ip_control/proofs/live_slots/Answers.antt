@@ -1,4 +1,4 @@
-use Rattle.std.proofs.Common.{sym, ◌∙◌, ap}
+use Rattle.std.proofs.Common.{◌∙◌, ap}
 use Rattle.ip_control.proofs.Parts.{index_of, live_index_is}
 use Rattle.ip_control.proofs.LiveLaws.{is_live, live_from, none_from, spare_from, newer_from}
 use Rattle.ip_control.proofs.live_slots.Goals as goal
