@@ -1,0 +1,83 @@
+// Which merger merges a path.
+ghost use Rattle.std.specs.Prelude.{◌≡◌, [], ◌∷◌, ◌++◌, OnOk, OnErr, IfOk, MatchOption};
+ghost use Rattle.std.specs.Option.{option_copied};
+ghost use Rattle.ip_spec.specs.Merge.{rule_of};
+ghost use Rattle.ip_merge.specs.Rules.{meanings, Picks, PicksNone};
+
+use crate::{Merged, Merger, Same};
+use ip_base::{Items, Memory, Path, Step};
+use std::alloc::Global;
+
+/// A path, and the merger of what stands at it and under it.
+#[derive(Drop)]
+pub struct PathRule {
+    pub at: Path,
+    pub merger: Box<dyn Merger>,
+}
+
+/// Rules for paths, in the order in which they were added. A later one for the same path replaces the earlier.
+#[derive(Drop)]
+pub struct Rules {
+    pub list: Items<PathRule>,
+}
+
+impl Rules {
+    /// No rules: every path is merged by `Same`.
+    pub fn new(alloc: Global) -> Self
+        ensures { result.list ≡ [] }
+    {
+        Rules {
+            list: Items::empty(alloc),
+        }
+    }
+
+    /// Paths at and under `at` are merged by this merger, unless a longer path has a rule.
+    pub fn add(&mut self, at: Path, merger: Box<dyn Merger>) -> Result<(), Memory>
+        ensures added { OnOk result (self.new.list ≡ self.old.list ++ record { at = at; merger = merger } ∷ []) }
+        ensures refused { OnErr result (self.new ≡ self.old) }
+    {
+        self.list.push(PathRule { at, merger })
+    }
+
+    /// The merger whose path is the longest that is `path` or lies above it. `None` where no rule's does.
+    pub fn pick(&self, path: &Path) -> Option<&Box<dyn Merger>>
+        ensures { MatchOption result (PicksNone (λ r. r.at) path.now self.now.list) (λ m. (rule : _) × Picks (λ r. r.at) path.now self.now.list rule × (rule.merger ≡ m.now)) }
+    {
+        let rules = self.list.as_slice();
+        match longest(rules, path.steps()) {
+            Some(at) => Some(&rules[at].merger),
+            None => None,
+        }
+    }
+
+    /// What the rule of the path answers.
+    pub fn merge_at(
+        &self,
+        path: &Path,
+        alloc: Global,
+        base: Option<&[u8]>,
+        left: Option<&[u8]>,
+        right: Option<&[u8]>,
+    ) -> Result<Merged, Memory>
+        ensures { IfOk result (λ merged. rule_of (meanings (λ r. r.at) (λ r. means r.merger) self.now.list) path.now (option_copied base.entry) (option_copied left.entry) (option_copied right.entry) merged) }
+    {
+        match self.pick(path) {
+            Some(merger) => merger.merge(alloc, base, left, right),
+            None => Same.merge(alloc, base, left, right),
+        }
+    }
+}
+
+// The place of the last rule of those with the longest path.
+fn longest(rules: &[PathRule], path: &[Step]) -> Option<usize> {
+    let mut best = None;
+    let mut length = 0;
+    for (i, rule) in rules.iter().enumerate() {
+        let at = rule.at.steps();
+        if length <= at.len() && path.starts_with(at) {
+            best = Some(i);
+            length = at.len();
+        }
+    }
+    best
+}
