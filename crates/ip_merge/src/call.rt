@@ -1,11 +1,11 @@
 // A merger of the caller's own.
 ghost use Rattle.std.specs.Prelude.{◌≡◌, Ok, IfOk};
-ghost use Rattle.std.specs.Option.{option_copied};
 ghost use Rattle.std.specs.Fn.{FnReturnsAt};
 ghost use Rattle.ip_spec.specs.declared.merge.Merged.{Merged};
 ghost use Rattle.ip_merge.specs.declared.call.Three.{Three};
 
 use crate::Merger;
+use crate::values::copied;
 use ip_base::{Blob, Memory};
 use ip_spec::merge::Merged;
 use std::alloc::Global;
@@ -80,14 +80,5 @@ impl<F: Answers> Merger for Call<F> {
             right: copied(alloc, right)?,
         };
         self.closure.answer(&three)
-    }
-}
-
-fn copied(alloc: Global, value: Option<&[u8]>) -> Result<Option<Blob>, Memory>
-    ensures { IfOk result (λ copy. copy ≡ option_copied value.entry) }
-{
-    match value {
-        Some(bytes) => Ok(Some(Blob::copy_of(alloc, bytes)?)),
-        None => Ok(None),
     }
 }

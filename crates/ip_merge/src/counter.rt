@@ -1,6 +1,8 @@
 // The rule of counters.
-ghost use Rattle.std.specs.Prelude.{◌≡◌, Option};
-ghost use Rattle.ip_spec.specs.Merge.{counter_means, counter_value};
+ghost use Rattle.std.specs.Prelude.{◌≡◌, Some, IfOk, IsTrue, ◌↔◌, ℤ};
+ghost use Rattle.std.specs.Option.{option_copied, option_and_then};
+ghost use Rattle.std.specs.Fmt.{signed_decimal};
+ghost use Rattle.ip_spec.specs.Merge.{counter_means, counter_value, ancestor_value, counter_answer, sum_answer, is_i64};
 
 use crate::Merger;
 use ip_base::{Blob, Memory};
@@ -24,23 +26,43 @@ impl Merger for Counter {
         left: Option<&[u8]>,
         right: Option<&[u8]>,
     ) -> Result<Merged, Memory> {
-        match (ancestor_number(base), side_number(left), side_number(right)) {
-            (Some(o), Some(a), Some(b)) => {
-                text_of_sum(alloc, i128::from(a) + i128::from(b) - i128::from(o))
-            }
-            _ => Ok(Merged::Conflict),
-        }
+        answered(
+            alloc,
+            ancestor_number(base),
+            side_number(left),
+            side_number(right),
+        )
     }
 }
 
-fn side_number(side: Option<&[u8]>) -> Option<i64> {
+fn answered(
+    alloc: Global,
+    base: Option<i64>,
+    left: Option<i64>,
+    right: Option<i64>,
+) -> Result<Merged, Memory>
+    ensures { IfOk result (λ merged. merged ≡ counter_answer base left right) }
+{
+    match (base, left, right) {
+        (Some(o), Some(a), Some(b)) => {
+            text_of_sum(alloc, i128::from(a) + i128::from(b) - i128::from(o))
+        }
+        _ => Ok(Merged::Conflict),
+    }
+}
+
+fn side_number(side: Option<&[u8]>) -> Option<i64>
+    ensures { result ≡ option_and_then counter_value (option_copied side.entry) }
+{
     match side {
         Some(bytes) => number_of(bytes),
         None => None,
     }
 }
 
-fn ancestor_number(base: Option<&[u8]>) -> Option<i64> {
+fn ancestor_number(base: Option<&[u8]>) -> Option<i64>
+    ensures { result ≡ ancestor_value (option_copied base.entry) }
+{
     match base {
         Some(bytes) => number_of(bytes),
         None => Some(0),
@@ -62,19 +84,25 @@ fn number_of(bytes: &[u8]) -> Option<i64>
     }
 }
 
-fn parsed(text: &str) -> Option<i64> {
+fn parsed(text: &str) -> Option<i64>
+    ensures { (z : ℤ) → IsTrue (is_i64 z) → text.now ≡ signed_decimal z → result ≡ Some z }
+{
     match text.parse::<i64>() {
         Ok(number) => Some(number),
         Err(_) => None,
     }
 }
 
-fn is_text_of(bytes: &[u8], number: i64) -> bool {
+fn is_text_of(bytes: &[u8], number: i64) -> bool
+    ensures { IsTrue result ↔ (bytes.now ≡ signed_decimal number) }
+{
     let mut buffer = Buffer::new();
     buffer.format(number).as_bytes() == bytes
 }
 
-fn text_of_sum(alloc: Global, sum: i128) -> Result<Merged, Memory> {
+fn text_of_sum(alloc: Global, sum: i128) -> Result<Merged, Memory>
+    ensures { IfOk result (λ merged. merged ≡ sum_answer sum) }
+{
     let Ok(number) = i64::try_from(sum) else {
         return Ok(Merged::Conflict);
     };

@@ -8,6 +8,7 @@ mod merger;
 mod rules;
 mod same;
 mod seq;
+mod values;
 
 pub use call::{Call, Three};
 pub use counter::Counter;

@@ -1,5 +1,6 @@
 // Which merger merges a path.
-ghost use Rattle.std.specs.Prelude.{◌≡◌, [], ◌∷◌, ◌++◌, OnOk, OnErr, IfOk, MatchOption};
+ghost use Rattle.std.specs.Prelude.{◌≡◌, [], ◌∷◌, ◌++◌, OnOk, OnErr, IfOk, MatchOption, ◌<◌, length, slice_index_or, ◌&&◌, nat_le};
+ghost use Rattle.ip_spec.specs.Path.{is_prefix};
 ghost use Rattle.std.specs.Option.{option_copied};
 ghost use Rattle.ip_spec.specs.Merge.{rule_of};
 ghost use Rattle.ip_merge.specs.Rules.{meanings, Picks, PicksNone};
@@ -62,22 +63,43 @@ impl Rules {
         ensures { IfOk result (λ merged. rule_of (meanings (λ r. r.at) (λ r. means r.merger) self.now.list) path.now (option_copied base.entry) (option_copied left.entry) (option_copied right.entry) merged) }
     {
         match self.pick(path) {
-            Some(merger) => merger.merge(alloc, base, left, right),
+            Some(merger) => merge_by(merger, alloc, base, left, right),
             None => Same.merge(alloc, base, left, right),
         }
     }
 }
 
+fn merge_by(
+    merger: &Box<dyn Merger>,
+    alloc: Global,
+    base: Option<&[u8]>,
+    left: Option<&[u8]>,
+    right: Option<&[u8]>,
+) -> Result<Merged, Memory>
+    ensures { IfOk result (λ merged. means merger.now (option_copied base.entry) (option_copied left.entry) (option_copied right.entry) merged) }
+{
+    merger.merge(alloc, base, left, right)
+}
+
 // The place of the last rule of those with the longest path.
-fn longest(rules: &[PathRule], path: &[Step]) -> Option<usize> {
+fn longest(rules: &[PathRule], path: &[Step]) -> Option<usize>
+    ensures { MatchOption result (PicksNone (λ r. r.at) path.now rules.now) (λ k. (k < length rules.now) × ((d : _) → Picks (λ r. r.at) path.now rules.now (slice_index_or rules.now k d))) }
+{
     let mut best = None;
     let mut length = 0;
     for (i, rule) in rules.iter().enumerate() {
         let at = rule.at.steps();
-        if length <= at.len() && path.starts_with(at) {
+        if replaces(at, path, length) {
             best = Some(i);
             length = at.len();
         }
     }
     best
+}
+
+// Whether a rule of this path comes before one whose path has this length.
+fn replaces(at: &[Step], path: &[Step], least: usize) -> bool
+    ensures { result ≡ (is_prefix at.now path.now && nat_le least (length at.now)) }
+{
+    path.starts_with(at) && least <= at.len()
 }

@@ -2,7 +2,8 @@
 ghost use Rattle.ip_spec.specs.Merge.{same_means};
 
 use crate::Merger;
-use ip_base::{Blob, Memory};
+use crate::values::{copied, is_same};
+use ip_base::Memory;
 use ip_spec::merge::Merged;
 use std::alloc::Global;
 
@@ -20,16 +21,10 @@ impl Merger for Same {
         left: Option<&[u8]>,
         right: Option<&[u8]>,
     ) -> Result<Merged, Memory> {
-        match (left, right) {
-            (None, None) => Ok(Merged::Keep(None)),
-            (Some(a), Some(b)) => {
-                if a == b {
-                    Ok(Merged::Keep(Some(Blob::copy_of(alloc, a)?)))
-                } else {
-                    Ok(Merged::Conflict)
-                }
-            }
-            _ => Ok(Merged::Conflict),
+        if is_same(left, right) {
+            Ok(Merged::Keep(copied(alloc, left)?))
+        } else {
+            Ok(Merged::Conflict)
         }
     }
 }

@@ -1,0 +1,4 @@
+pub mod Counting
+pub mod LineLaws
+pub mod RuleLaws
+pub mod SameText
