@@ -1,5 +1,5 @@
 // The rule of counters.
-ghost use Rattle.std.specs.Prelude.{◌≡◌, Some, IfOk, IsTrue, ◌↔◌, ℤ};
+ghost use Rattle.std.specs.Prelude.{◌≡◌, Some, IfOk, IfSome, IsTrue, ◌↔◌, ℤ, ◌+ℤ◌, ◌-ℤ◌};
 ghost use Rattle.std.specs.Option.{option_copied, option_and_then};
 ghost use Rattle.std.specs.Fmt.{signed_decimal};
 ghost use Rattle.ip_spec.specs.Merge.{counter_means, counter_value, ancestor_value, counter_answer, sum_answer, is_i64};
@@ -41,14 +41,22 @@ fn answered(
     left: Option<i64>,
     right: Option<i64>,
 ) -> Result<Merged, Memory>
+    requires base { IfSome base (λ n. IsTrue (is_i64 n)) }
+    requires left { IfSome left (λ n. IsTrue (is_i64 n)) }
+    requires right { IfSome right (λ n. IsTrue (is_i64 n)) }
     ensures { IfOk result (λ merged. merged ≡ counter_answer base left right) }
 {
     match (base, left, right) {
-        (Some(o), Some(a), Some(b)) => {
-            text_of_sum(alloc, i128::from(a) + i128::from(b) - i128::from(o))
-        }
+        (Some(o), Some(a), Some(b)) => text_of_sum(alloc, sum(o, a, b)),
         _ => Ok(Merged::Conflict),
     }
+}
+
+// No sum of three numbers of 64 bits leaves 128.
+fn sum(base: i64, left: i64, right: i64) -> i128
+    ensures { result ≡ left +ℤ right -ℤ base }
+{
+    i128::from(left) + i128::from(right) - i128::from(base)
 }
 
 fn side_number(side: Option<&[u8]>) -> Option<i64>
