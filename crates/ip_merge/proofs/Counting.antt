@@ -1,12 +1,12 @@
 -- A text is a number's exactly where it is the one that the number is written as.
-use Rattle.std.proofs.Common.{◌≡◌, ◌≢◌, ℕ, suc, ◌+◌, ◌-◌, ◌*◌, ◌^◌, ◌<◌, ◌≤◌, Bool, true, false, ◌&&◌, ◌==◌, List, [], ◌∷◌, length, Option, Some, None, IfSome, ℤ, pos, negsuc, neg_ℤ, refl, sym, ap, subst, ◌∙◌, arith, w64, to_z, of_z, ◌+ℤ◌, ◌-ℤ◌, rules, fold, if◌then◌else◌, le-leb, is_eq}
+use Rattle.std.proofs.Common.{◌≡◌, ℕ, suc, ◌+◌, ◌-◌, ◌*◌, ◌^◌, ◌<◌, true, false, ◌&&◌, ◌==◌, List, [], ◌∷◌, length, Option, Some, None, IfSome, ℤ, pos, negsuc, neg_ℤ, refl, sym, ap, subst, ◌∙◌, arith, w64, to_z, of_z, ◌+ℤ◌, ◌-ℤ◌, rules, fold, if◌then◌else◌, le-leb}
 use Rattle.std.specs.Str.{all_ascii_digits, IsUtf8}
 use Rattle.std.specs.Int.{w128}
 use Rattle.std.specs.Int.Signed.{mag}
 use Rattle.std.specs.Int.RustNames.{FitsSigned}
-use Rattle.std.specs.Fmt.{signed_decimal, decimal, digits}
+use Rattle.std.specs.Fmt.{signed_decimal, decimal}
 use Rattle.std.specs.Option.{option_and_then}
-use Rattle.std.proofs.lemmas.Int.{to_z-of_z, ints}
+use Rattle.std.proofs.lemmas.Int.{to_z-of_z}
 use Rattle.std.proofs.lemmas.Bool.Decides.{nat_tests}
 use Rattle.std.proofs.lemmas.Str.{IsUtf8-from_ascii}
 use Rattle.std.proofs.lemmas.Str.Parse.{IsNumeralModel, numerals_by_fold}

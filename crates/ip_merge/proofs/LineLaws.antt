@@ -5,13 +5,12 @@ use Rattle.std.specs.BTreeSet.{insert_key}
 use Rattle.std.specs.BTreeMap.{is_at}
 use Rattle.std.proofs.lemmas.Grind.{common_steps}
 use Rattle.std.specs.Ordering.{match_ordering}
-use Rattle.std.specs.declared.cmp.Ordering.{Ordering}
 use Rattle.std.specs.declared.cmp.Ordering.TheVariants.{Less, Equal, Greater}
 use Rattle.std.specs.FinMap.Entries.{put, by_order}
 use Rattle.std.proofs.lemmas.Bool.Decides.{nat_tests}
 use Rattle.std.proofs.lemmas.Cmp.{nat_list_cmp_total}
 use denote.Ref.{Bor}
-use Rattle.ip_spec.specs.Map.{Map, keys, from_entries, insert_all, insert, empty, entries-insert}
+use Rattle.ip_spec.specs.Map.{Map, keys, insert_all, insert, empty, entries-insert}
 use Rattle.ip_spec.specs.Path.{Bytes, bytes_cmp, same_bytes, line_feed}
 use Rattle.ip_spec.specs.Merge.{lines_of, before_lines, ascending, has_line, merged_lines}
 use Rattle.ip_merge.proofs.SameText.{same_text}

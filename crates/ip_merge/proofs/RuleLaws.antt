@@ -1,5 +1,5 @@
 -- The last rule of those with the longest path is the one that decides.
-use Rattle.std.proofs.Common.{◌≡◌, ◌<◌, ◌≤◌, ℕ, suc, ◌+◌, Bool, true, false, ◌&&◌, List, [], ◌∷◌, ◌++◌, length, take, drop, get_or, All, IsTrue, Option, Some, None, MatchOption, IfOk, Result, Ok, Err, refl, sym, ap, subst, ◌∙◌, arith, le-leb, leb, append_assoc, add-one, nat_le}
+use Rattle.std.proofs.Common.{◌≡◌, ◌<◌, ◌≤◌, ℕ, ◌+◌, Bool, true, false, ◌&&◌, List, [], ◌∷◌, ◌++◌, length, take, get_or, All, IsTrue, Option, Some, None, MatchOption, IfOk, Result, Ok, Err, refl, sym, ap, subst, ◌∙◌, arith, le-leb, leb, append_assoc, add-one, nat_le}
 use Rattle.std.proofs.lemmas.Bool.{false≢true}
 use Rattle.std.proofs.Math.Seq.{take-suc}
 use Rattle.std.proofs.lemmas.List.{get_or_default, take_all}
@@ -8,9 +8,9 @@ use Rattle.std.proofs.lemmas.List.Elements.{All-head, All-tail, All-append, All-
 use Rattle.std.specs.Cmp.Lexicographic.{pointwise}
 use Rattle.std.specs.Str.{bytes_eq}
 use Rattle.ip_merge.proofs.SameText.{same_bytes_is}
-use Rattle.ip_spec.specs.Path.{Bytes, Path, is_prefix, same_bytes}
+use Rattle.ip_spec.specs.Path.{Bytes, Path, is_prefix}
 use Rattle.ip_spec.specs.declared.merge.Merged.{Merged}
-use Rattle.ip_spec.specs.Merge.{Meaning, longest, better, rule_of, same_means}
+use Rattle.ip_spec.specs.Merge.{Meaning, longest, better, rule_of, same_means, IsOneAnswer}
 use Rattle.ip_merge.specs.Rules.{meanings, Picks, PicksNone}
 
 false_unless : (b : Bool) → (b ≡ true → ⊥) → b ≡ false
@@ -130,6 +130,17 @@ module _ {R : Type 0} (at : R → Path) (p : Path) where
   unpicked_answers means (Ok m) rules h o a b is = subst (λ (f : Meaning). f o a b m) (sym (none_means means ([], same_means) rules h)) is
   unpicked_answers means (Err e) rules h o a b is = tt
 
+  one_longest : (means : R → Meaning) (best : Path × Meaning) (rules : List R) → IsOneAnswer best.1 → All (λ r. IsOneAnswer (means r)) rules → IsOneAnswer (longest p best (meanings at means rules))
+  one_longest means best [] h all = h
+  one_longest means best (r ∷ rules) h all =
+      one_longest means (better_rule means best r) rules
+      (elim (is_prefix (at r) p && leb (length best.0) (length (at r))) as (λ b. IsOneAnswer (better b (at r, means r) best).1) [ true ↦ All-head (λ r. IsOneAnswer (means r)) r rules all | false ↦ h ])
+      (All-tail (λ r. IsOneAnswer (means r)) r rules all)
+
+  -- where each rule means one answer, so does the rule of each path
+  pub one_rule : (means : R → Meaning) (rules : List R) → All (λ r. IsOneAnswer (means r)) rules → IsOneAnswer (rule_of (meanings at means rules) p)
+  one_rule means rules all = one_longest means ([], same_means) rules (λ o a b r s e f. e ∙ sym f) all
+
   -- the place of the best rule among those seen so far, and the length of its path
   abbrev pub IsBest : Option ℕ → ℕ → List R → List R → Type 0
   IsBest best n rules seen = MatchOption best (PicksNone at p seen × (n ≡ 0)) (λ k. (k < length rules) × ((d : R) → Picks at p seen (get_or rules k d) × (n ≡ length (at (get_or rules k d)))))
@@ -143,11 +154,13 @@ module _ {R : Type 0} (at : R → Path) (p : Path) where
 
   pub best_new : (best : Option ℕ) (n : ℕ) (rules : List R) (i : ℕ) (rule : R) → i < length rules → rule ≡ get_or rules i rule → IsBest best n rules (take i rules) → IsTrue (is_prefix (at rule) p) → n ≤ length (at rule) → IsBest (Some i) (length (at rule)) rules (take (i + 1) rules)
   best_new best n rules i rule below is h fits long =
-      let within : All (Within n) (take i rules) = seen_within best n rules (take i rules) rule h in
-      (below, λ d.
-        let same : get_or rules i d ≡ rule = get_or_default rules i d rule below ∙ sym is in
-        let more : take (i + 1) rules ≡ take i rules ++ rule ∷ [] = take_more rules i rule below is in
-        (subst (λ r. Picks at p (take (i + 1) rules) r) (sym same) (subst (λ rs. Picks at p rs rule) (sym more) (picks_new n (take i rules) rule within fits long)), ap (λ r. length (at r)) (sym same)))
+      let within : All (Within n) (take i rules) = seen_within best n rules (take i rules) rule h in (
+        below,
+        λ d.
+            let same : get_or rules i d ≡ rule = get_or_default rules i d rule below ∙ sym is in
+            let more : take (i + 1) rules ≡ take i rules ++ rule ∷ [] = take_more rules i rule below is in
+            (subst (λ r. Picks at p (take (i + 1) rules) r) (sym same) (subst (λ rs. Picks at p rs rule) (sym more) (picks_new n (take i rules) rule within fits long)), ap (λ r. length (at r)) (sym same)),
+      )
 
   pub best_stays : (best : Option ℕ) (n : ℕ) (rules : List R) (i : ℕ) (rule : R) → i < length rules → rule ≡ get_or rules i rule → IsBest best n rules (take i rules) → Below n rule → IsBest best n rules (take (i + 1) rules)
   best_stays None n rules i rule below is h less =
@@ -155,10 +168,12 @@ module _ {R : Type 0} (at : R → Path) (p : Path) where
       let unfit : is_prefix (at rule) p ≡ false = false_unless (is_prefix (at rule) p) (λ f. omega (arith, less f, h.1)) in
       (subst (PicksNone at p) (sym more) (All-push Unfit (take i rules) rule h.0 unfit), h.1)
   best_stays (Some k) n rules i rule below is h less =
-      let more : take (i + 1) rules ≡ take i rules ++ rule ∷ [] = take_more rules i rule below is in
-      (h.0, λ d.
-        let shorter : Below (length (at (get_or rules k d))) rule = λ f. omega (arith, less f, (h.1 d).1) in
-        (subst (λ rs. Picks at p rs (get_or rules k d)) (sym more) (picks_more (take i rules) (get_or rules k d) rule (h.1 d).0 shorter), (h.1 d).1))
+      let more : take (i + 1) rules ≡ take i rules ++ rule ∷ [] = take_more rules i rule below is in (
+        h.0,
+        λ d.
+            let shorter : Below (length (at (get_or rules k d))) rule = λ f. omega (arith, less f, (h.1 d).1) in
+            (subst (λ rs. Picks at p rs (get_or rules k d)) (sym more) (picks_more (take i rules) (get_or rules k d) rule (h.1 d).0 shorter), (h.1 d).1),
+      )
 
   -- the test that a rule replaces the best one so far
   pub replaced : (n : ℕ) (rule : R) → (is_prefix (at rule) p && nat_le n (length (at rule))) ≡ true → IsTrue (is_prefix (at rule) p) × (n ≤ length (at rule))

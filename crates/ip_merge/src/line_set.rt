@@ -47,12 +47,7 @@ fn lines_or_none(base: Option<&[u8]>) -> &[u8]
     }
 }
 
-fn merged_lines(
-    alloc: Global,
-    base: &[u8],
-    left: &[u8],
-    right: &[u8],
-) -> Result<Vec<u8>, Memory>
+fn merged_lines(alloc: Global, base: &[u8], left: &[u8], right: &[u8]) -> Result<Vec<u8>, Memory>
     ensures { IfOk result (λ bytes. bytes.items ≡ merged_lines (lines_of base.now) (lines_of left.now) (lines_of right.now)) }
 {
     let base = lines_with(BTreeSet::new(alloc), base)?;
@@ -94,10 +89,7 @@ fn put_line(out: &mut Vec<u8>, line: &[u8]) -> Result<(), Memory>
 }
 
 // The set with the lines of these bytes too.
-fn lines_with<'a>(
-    lines: BTreeSet<&'a [u8]>,
-    bytes: &'a [u8],
-) -> Result<BTreeSet<&'a [u8]>, Memory>
+fn lines_with<'a>(lines: BTreeSet<&'a [u8]>, bytes: &'a [u8]) -> Result<BTreeSet<&'a [u8]>, Memory>
     ensures { IfOk result (λ more. texts more.keys ≡ insert_lines (texts lines.entry.keys) (lines_of bytes.now)) }
 {
     let mut lines = lines;

@@ -1,8 +1,8 @@
 // Which merger merges a path.
-ghost use Rattle.std.specs.Prelude.{◌≡◌, [], ◌∷◌, ◌++◌, OnOk, OnErr, IfOk, MatchOption, ◌<◌, length, slice_index_or, ◌&&◌, nat_le};
-ghost use Rattle.ip_spec.specs.Path.{is_prefix};
+ghost use Rattle.std.specs.Prelude.{◌≡◌, [], ◌∷◌, ◌++◌, OnOk, OnErr, IfOk, MatchOption, ◌<◌, length, slice_index_or, ◌&&◌, nat_le, All};
+ghost use Rattle.ip_spec.specs.Path.{Path, is_prefix};
 ghost use Rattle.std.specs.Option.{option_copied};
-ghost use Rattle.ip_spec.specs.Merge.{rule_of};
+ghost use Rattle.ip_spec.specs.Merge.{rule_of, IsOneAnswer};
 ghost use Rattle.ip_merge.specs.Rules.{meanings, Picks, PicksNone};
 
 use crate::{Merged, Merger, Same};
@@ -50,6 +50,12 @@ impl Rules {
             None => None,
         }
     }
+
+    /// Where each merger means one answer for three values, so does the rule of each path.
+    pub fn one_answer(&self)
+        requires { All (λ rule. IsOneAnswer (means rule.merger)) self.now.list }
+        ensures { (p : Path) → IsOneAnswer (rule_of (meanings (λ r. r.at) (λ r. means r.merger) self.now.list) p) }
+    {}
 
     /// What the rule of the path answers.
     pub fn merge_at(

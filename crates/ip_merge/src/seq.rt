@@ -1,5 +1,5 @@
 // One merger after another.
-ghost use Rattle.ip_spec.specs.Merge.{seq_means};
+ghost use Rattle.ip_spec.specs.Merge.{seq_means, IsOneAnswer};
 
 use crate::Merger;
 use ip_base::Memory;
@@ -11,6 +11,15 @@ use std::alloc::Global;
 pub struct Seq<A, B> {
     pub first: A,
     pub second: B,
+}
+
+impl<A: Merger, B: Merger> Seq<A, B> {
+    /// Where each of the two means one answer for three values, so does the whole.
+    pub fn one_answer(&self)
+        requires first { IsOneAnswer (A.means self.now.first) }
+        requires second { IsOneAnswer (B.means self.now.second) }
+        ensures { IsOneAnswer (seq_means (A.means self.now.first) (B.means self.now.second)) }
+    {}
 }
 
 impl<A: Merger, B: Merger> Merger for Seq<A, B> {

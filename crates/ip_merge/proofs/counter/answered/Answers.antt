@@ -10,6 +10,6 @@ returns-in-Some-Some-Some c =
     let a = number_is there.a (subst (λ (x : Option ℤ). IfSome x (λ n. is_i64 n ≡ true)) there.is-1 c.requires.left) in
     let b = number_is there.b (subst (λ (x : Option ℤ). IfSome x (λ n. is_i64 n ≡ true)) there.is-2 c.requires.right) in
     subst (λ answer. IfOk c.text_of_sum.result (λ merged. merged ≡ answer))
-      (ap sum_answer (sum_is c.sum.result c.sum.type_inv ∙ c.sum.ensures ∙ (λ i. a i +ℤ b i -ℤ o i))
-       ∙ sym (λ i. counter_answer (there.is-0 i) (there.is-1 i) (there.is-2 i)))
-      c.text_of_sum.ensures
+    (ap sum_answer (sum_is c.sum.result c.sum.type_inv ∙ c.sum.ensures ∙ (λ i. a i +ℤ b i -ℤ o i))
+    ∙ sym (λ i. counter_answer (there.is-0 i) (there.is-1 i) (there.is-2 i)))
+    c.text_of_sum.ensures

@@ -1,4 +1,4 @@
-use Rattle.std.proofs.Common.{◌≡◌, Some, None, ◌∙◌, refl, sym, ap, w64, to_z, of_z, FitsSigned, rules}
+use Rattle.std.proofs.Common.{◌≡◌, ◌∙◌, refl, sym, ap, w64, to_z, of_z, FitsSigned, rules}
 use Rattle.std.proofs.lemmas.Int.{to_z-of_z}
 use Rattle.std.specs.Fmt.{signed_decimal}
 use Rattle.ip_merge.proofs.Counting.{fits_where_is_i64, none_of_text, text_is_utf8, value_of_text}
@@ -7,7 +7,7 @@ use Rattle.ip_merge.proofs.counter.number_of.Goals as goal
 pub returns-in_err-number-in-Ok : goal.returns-in_err-number-in-Ok
 returns-in_err-number-in-Ok c =
     c.from_residual.ensures ∙ none_of_text c.args.bytes.now (λ z h e.
-        let is = c.in_err-number-in-Ok.ensures z h (c.in-Ok.ensures.cases.0 ∙ e) in cc is)
+    let is = c.in_err-number-in-Ok.ensures z h (c.in-Ok.ensures.cases.0 ∙ e) in cc is)
 
 pub returns-in-Err : goal.returns-in-Err
 returns-in-Err c = none_of_text c.args.bytes.now (λ z h e. c.in-Err.ensures.cases.0 (text_is_utf8 z _ h e))

@@ -1,5 +1,4 @@
-use Rattle.std.proofs.Common.{◌≡◌, ℤ, Some, Ok, Err, ◌∙◌, sym, ap, w64, IsTrue, to_z, of_z}
-use Rattle.std.specs.Fmt.{signed_decimal}
+use Rattle.std.proofs.Common.{◌≡◌, Some, ◌∙◌, ap, w64, to_z, of_z}
 use Rattle.std.proofs.lemmas.Fmt.{parse-signed_decimal}
 use Rattle.std.proofs.lemmas.Int.{to_z-of_z}
 use Rattle.ip_merge.proofs.Counting.{fits_where_is_i64}

@@ -1,4 +1,4 @@
-use Rattle.std.proofs.Common.{◌≡◌, ◌∙◌, ◌∷◌, ap, take, arith, eq-eqb}
+use Rattle.std.proofs.Common.{◌∙◌, ◌∷◌, ap, take, arith, eq-eqb}
 use Rattle.std.proofs.lemmas.Bool.{eqb-true}
 use Rattle.ip_spec.specs.Merge.{lines_of}
 use Rattle.ip_merge.proofs.LineLaws.{line_cut, line_last, rest_after}

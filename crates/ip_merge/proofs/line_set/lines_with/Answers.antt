@@ -1,4 +1,4 @@
-use Rattle.std.proofs.Common.{◌≡◌, ◌∙◌, sym, ap}
+use Rattle.std.proofs.Common.{◌∙◌, sym, ap}
 use Rattle.ip_spec.specs.Merge.{lines_of}
 use Rattle.ip_merge.specs.Lines.{insert_lines, texts}
 use Rattle.ip_merge.proofs.LineLaws.{texts_insert}

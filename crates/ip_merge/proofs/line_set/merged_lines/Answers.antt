@@ -1,4 +1,4 @@
-use Rattle.std.proofs.Common.{◌≡◌, ◌∙◌, sym, ap, List}
+use Rattle.std.proofs.Common.{◌∙◌, ap}
 use Rattle.std.proofs.lemmas.Map.Iter.{iter_end}
 use Rattle.ip_spec.specs.Merge.{lines_of}
 use Rattle.ip_merge.specs.Lines.{insert_lines, texts}
@@ -13,8 +13,8 @@ returns c =
     let b = lines_of c.args.right.now in
     c.loop-line.invariant
     ∙ merged_is o a b (texts c.in_ok-base.base.keys) (texts c.in_ok-left.left.keys) (texts c.in_ok-right.right.keys) (texts c.loop-line.yielded)
-        (c.in_ok-base.ensures ∙ ap (λ keys. insert_lines (texts keys) o) c.new.ensures.empty)
-        (c.in_ok-left.ensures ∙ ap (λ keys. insert_lines (texts keys) a) c.new-3.ensures.empty)
-        (c.in_ok-right.ensures ∙ ap (λ keys. insert_lines (texts keys) b) c.new-4.ensures.empty)
-        (texts_as_are c.loop-line.yielded ∙ ap texts all
-         ∙ c.in_ok-sides.ensures ∙ ap (λ lines. insert_lines lines b) (c.in_ok-lines_with.ensures ∙ ap (λ keys. insert_lines (texts keys) a) c.new-2.ensures.empty))
+    (c.in_ok-base.ensures ∙ ap (λ keys. insert_lines (texts keys) o) c.new.ensures.empty)
+    (c.in_ok-left.ensures ∙ ap (λ keys. insert_lines (texts keys) a) c.new-3.ensures.empty)
+    (c.in_ok-right.ensures ∙ ap (λ keys. insert_lines (texts keys) b) c.new-4.ensures.empty)
+    (texts_as_are c.loop-line.yielded ∙ ap texts all
+    ∙ c.in_ok-sides.ensures ∙ ap (λ lines. insert_lines lines b) (c.in_ok-lines_with.ensures ∙ ap (λ keys. insert_lines (texts keys) a) c.new-2.ensures.empty))

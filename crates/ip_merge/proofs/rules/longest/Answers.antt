@@ -1,4 +1,4 @@
-use Rattle.std.proofs.Common.{◌≡◌, ◌∙◌, ◌+◌, sym, ap, subst, Some, take, length, ◌&&◌, nat_le}
+use Rattle.std.proofs.Common.{◌∙◌, ◌+◌, sym, ap, subst, Some, take, length, ◌&&◌, nat_le}
 use Rattle.ip_spec.specs.Path.{is_prefix}
 use Rattle.ip_merge.proofs.RuleLaws.{IsBest, best_new, best_stays, replaced, not_replaced, best_picks}
 use Rattle.ip_merge.proofs.rules.longest.Goals as goal
@@ -18,12 +18,12 @@ loop-i-preserved g c =
           let parts = replaced (λ r. r.at) p n rule (test ∙ w.if-replaces.true) in
           let best = best_new (λ r. r.at) p c.loop-i.best n rules i rule c.loop-i-test.true c.index-rules-i.is c.loop-i.invariant parts.0 parts.1 in
           subst (λ b. IsBest (λ r. r.at) p b c.if-replaces.length rules seen) (sym w.best-is)
-            (subst (λ m. IsBest (λ r. r.at) p (Some i) m rules seen) (sym (w.length-is ∙ ap length c.steps-at.ensures)) best)
+          (subst (λ m. IsBest (λ r. r.at) p (Some i) m rules seen) (sym (w.length-is ∙ ap length c.steps-at.ensures)) best)
       | else-replaces w ↦
           let below = not_replaced (λ r. r.at) p n rule (test ∙ w.if-replaces.false) in
           let best = best_stays (λ r. r.at) p c.loop-i.best n rules i rule c.loop-i-test.true c.index-rules-i.is c.loop-i.invariant below in
           subst (λ b. IsBest (λ r. r.at) p b c.if-replaces.length rules seen) (sym w.best-is)
-            (subst (λ m. IsBest (λ r. r.at) p c.loop-i.best m rules seen) (sym w.length-is) best)
+          (subst (λ m. IsBest (λ r. r.at) p c.loop-i.best m rules seen) (sym w.length-is) best)
     ]
 
 pub returns : goal.returns

@@ -1,4 +1,4 @@
-use Rattle.std.proofs.Common.{◌≡◌, ◌∙◌, sym, ap, ◌&&◌, nat_le, length}
+use Rattle.std.proofs.Common.{◌∙◌, sym, ap, ◌&&◌, nat_le, length}
 use Rattle.ip_merge.proofs.RuleLaws.{prefix_is}
 use Rattle.ip_merge.proofs.rules.replaces.Goals as goal
 
