@@ -1,5 +1,5 @@
 //! Worked merges, and a caller's own closure behind a box.
-use crate::{Call, Counter, LineSet, Merged, Merger, Rules, Same, Seq, Three};
+use crate::{Counter, LineSet, Merged, Merger, Rules, Same, Seq};
 use ip_base::{Blob, Items, Memory, Path, Step};
 use std::alloc::{AllocError, Global};
 use std::test::Fail;
@@ -239,15 +239,28 @@ fn one_after_another(rt: HostRuntime) {
     assert!(rt; answers(alloc, &seq, None, Some(b"1"), None, Want::Conflict));
 }
 
-// The left bytes and then the right ones, where both are present.
-fn joined(alloc: Global, three: &Three) -> Result<Merged, Memory> {
-    match (&three.left, &three.right) {
-        (Some(left), Some(right)) => {
-            let mut bytes = Vec::from_slice(alloc, left.as_slice())?;
-            bytes.extend_from_slice(right.as_slice())?;
-            Ok(Merged::Keep(Some(Blob::of(bytes))))
+// A merger of the test's own: the left bytes and then the right ones, where both are present.
+#[derive(Drop)]
+struct Joined;
+
+impl Merger for Joined {
+    ghost means = { λ joined o a b merged. Unit {0} };
+
+    fn merge(
+        &self,
+        alloc: Global,
+        _base: Option<&[u8]>,
+        left: Option<&[u8]>,
+        right: Option<&[u8]>,
+    ) -> Result<Merged, Memory> {
+        match (left, right) {
+            (Some(a), Some(b)) => {
+                let mut bytes = Vec::from_slice(alloc, a)?;
+                bytes.extend_from_slice(b)?;
+                Ok(Merged::Keep(Some(Blob::of(bytes))))
+            }
+            _ => Ok(Merged::Conflict),
         }
-        _ => Ok(Merged::Conflict),
     }
 }
 
@@ -270,10 +283,7 @@ fn rules_of_paths(rt: HostRuntime) -> Result<(), Memory> {
     let mut rules = Rules::new(alloc);
     assert!(rt; picks(alloc, &rules, &[b"n"], Want::Conflict)?);
     rules.add(path(alloc, &[b"n"])?, Box::new(alloc, Counter)?)?;
-    rules.add(
-        path(alloc, &[b"n", b"x"])?,
-        Box::new(alloc, Call::new(move |three: &Three| joined(alloc, three)))?,
-    )?;
+    rules.add(path(alloc, &[b"n", b"x"])?, Box::new(alloc, Joined)?)?;
     rules.add(path(alloc, &[b"n"])?, Box::new(alloc, LineSet)?)?;
     assert!(rt; picks(alloc, &rules, &[b"n"], Want::Value(b"2\n3\n"))?);
     assert!(rt; picks(alloc, &rules, &[b"n", b"y"], Want::Value(b"2\n3\n"))?);
