@@ -1,1 +1,3 @@
 mod PathExamples
+mod PathReading
+mod PathLaws

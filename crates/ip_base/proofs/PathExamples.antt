@@ -19,4 +19,3 @@ path_space = refl
 path_end : path_fault (codes "a/") ≡ Some (PathFault.EmptyStep 2)
 unfolding path_fault
 path_end = refl
-

@@ -4,7 +4,6 @@
 --     path_fault text      the first byte of a text that cannot stand in a path, and why
 use Rattle.std.specs.Prelude.{◌≢◌, ℕ, ◌+◌, ◌<◌, ◌≤◌, Bool, not, ◌||◌, ◌==◌, List, [], ◌∷◌, ◌++◌, length, All, Option, Some, None, if◌then◌else◌}
 use Rattle.ip_base.specs.declared.path.PathFault.{PathFault}
-use Rattle.ip_base.specs.declared.path.PathFault.TheVariants as PathFault
 
 abbrev pub slash : ℕ
 slash = 47
@@ -37,6 +36,14 @@ abbrev pub path_text : List (List ℕ) → List ℕ
 path_text [] = []
 path_text (s ∷ []) = s
 path_text (s ∷ r ∷ p) = s ++ slash ∷ path_text (r ∷ p)
+
+-- what is wrong with a slash behind n bytes of an open step, before which so many are whole
+abbrev pub slash_fault : ℕ → ℕ → ℕ → Option PathFault
+slash_fault at steps n = if n == 0 then Some (PathFault.EmptyStep at) else if steps == 63 then Some (PathFault.Depth at) else None
+
+-- what is wrong with another byte behind n bytes of an open step
+abbrev pub byte_fault : ℕ → ℕ → ℕ → Option PathFault
+byte_fault at n b = if n == 255 then Some (PathFault.LongStep at) else if not (is_word_byte b) then Some (PathFault.BadByte at) else None
 
 -- at: the place; steps: how many are whole; n: the length of the one that stands open. A byte that would be the 256th of a step makes
 -- it too long, whatever else is wrong with it, and a slash behind the 64th step makes the path too deep.

@@ -5,7 +5,7 @@ use Rattle.ip_ground.specs.declared.names.FileName.{FileName}
 use Rattle.ip_ground.specs.declared.names.FileName.TheVariants.{Control, Chunk, Prefix, Mapping, Done}
 use Rattle.ip_ground.specs.declared.event.Event.{Event}
 use Rattle.ip_ground.specs.declared.event.Event.TheVariants.{Passed, Wrote, Failed, Synced, Removed, Lent, Settled, Said, Changed, Stopped}
-use Rattle.ip_ground.specs.Custody.{Custody, lent, with_synced, after_sync, after_reopening, after_settle}
+use Rattle.ip_ground.specs.Custody.{Custody, lent, with_synced, after_sync, after_settle}
 use Rattle.std.proofs.Common.{arith}
 use Rattle.std.proofs.lemmas.Bool.Decides.{nat_tests}
 use Rattle.ip_ground.specs.Files.{no_true}
@@ -45,8 +45,8 @@ lent_sound (Lent m) s n before was is = by_lent (n == m) before (s.lending n) wa
 lent_sound (Settled m) s n before was is = ap (λ (b : Bool). if b then after_settle s.held (s.lending m) else s.lending n) (same_test n m) ∙ by_settled (m == n) before (s.lending n) (after_settle s.held (s.lending m)) was is
 lent_sound (Said bytes) s n before was is = was is
 lent_sound (Changed file bytes) s n before was is = was is
-lent_sound (Stopped true) s n before was is = ap after_reopening (was is)
-lent_sound (Stopped false) s n before was is = ap after_reopening (was is)
+lent_sound (Stopped true) s n before was is = was is
+lent_sound (Stopped false) s n before was is = was is
 
 pub lent_more : (log more : List Event) (event : Event) (n : ℕ) (before : Bool) → more ≡ log ++ event ∷ [] → (before ≡ true → (told_by log).lending n ≡ lent) → lent_after event n before ≡ true → (told_by more).lending n ≡ lent
 lent_more log more event n before is was so =

@@ -15,12 +15,29 @@ use Rattle.ip_ground.specs.Custody as custody
 use Rattle.ip_ground.specs.Files.{no_true, number_itself, file_itself, cases_file, other_file}
 use Rattle.ip_ground.specs.Told.{said, KeepsPast, ChangesLeft, KeepsFile, KeepsSaid, Only, NoFile, ChangesOnly, Reopens}
 use Rattle.ip_ground.specs.Calls.{Writes, Syncs, Removes, Lends, Settles, Says}
-use Rattle.ip_ground.specs.Replay.{State, is_of_attempt, with_held, with_left, with_lending, left_by_sync, changed_by_child, content_of, after, blank, replayed, told_by}
+use Rattle.ip_ground.specs.Replay.{State, is_of_attempt, with_held, with_left, with_lending, left_by_sync, left_by_stop, changed_by_child, content_of, after, said_after, blank, replayed, told_by}
 use Rattle.ip_ground.specs.ReplayLaws.{lawful_log, torn_itself, loose_synced, loose_settled, lending_other, lending_here, lending_was}
 
 pub replayed_push : (s : State) (log : List Event) (event : Event) → replayed s (log ++ event ∷ []) ≡ after event (replayed s log)
 replayed_push s [] event = refl
 replayed_push s (first ∷ log) event = replayed_push (after first s) log event
+
+said_next : (event : Event) (s : State) → said_after event s.said ≡ (after event s).said
+said_next Passed s = refl
+said_next (Wrote file at bytes) s = refl
+said_next (Failed file at count) s = refl
+said_next (Synced file) s = refl
+said_next (Removed file) s = refl
+said_next (Lent attempt) s = refl
+said_next (Settled attempt) s = refl
+said_next (Said bytes) s = refl
+said_next (Changed file bytes) s = refl
+said_next (Stopped true) s = refl
+said_next (Stopped false) s = refl
+
+pub said_more : (log more : List Event) (event : Event) (before after : List ℕ) → more ≡ log ++ event ∷ [] → before ≡ (replayed blank log).said → after ≡ said_after event before → after ≡ (replayed blank more).said
+said_more log more event before after is was so =
+    so ∙ ap (said_after event) was ∙ said_next event (replayed blank log) ∙ sym (ap (λ (s : State). s.said) (replayed_push blank log event)) ∙ sym (ap (λ l. (replayed blank l).said) is)
 
 -- one file from a state to the next
 record StaysIn (old new : State) (file : FileName) : Type 0 where
@@ -351,10 +368,14 @@ changed log file bytes =
     }) (λ n. refl) refl
 
 -- a stop
-left_by_stop : (st : Custody) (durable : Content) (before : Content → Type 0) (x : Content) → before durable → left_by_sync st durable before x → before x
-left_by_stop own durable before x here so = subst before (sym so) here
-left_by_stop lent durable before x here so = so
-left_by_stop (settled pair synced) durable before x here so = subst before (sym so) here
+was_left : (st : Custody) (file : FileName) (durable : Content) (before : Content → Type 0) (x : Content) → before durable → left_by_stop st file durable before x → before x
+was_left own file durable before x here so = subst before (sym so) here
+was_left lent file durable before x here so = so
+was_left (settled pair synced) file durable before x here so = by_test (synced file) so
+  where
+    by_test : (b : Bool) → MatchBool b (x ≡ durable) (before x) → before x
+    by_test true same = subst before (sym same) here
+    by_test false left = left
 
 pub stopped : (log : List Event) (keep : Bool) → Reopens (told_by log) (told_by (log ++ Stopped keep ∷ []))
 stopped log true =
@@ -371,7 +392,7 @@ stopped log false =
     let s : State = replayed blank log in
     record {
       held = λ f. from_now log event f _ (subst (λ x. s.may_leave f x) (sym (held_new log event f)) ((lawful_log log).durable f));
-      left = λ f x left. from_now log event f x (left_by_stop (custody_of s.lending f) (s.durable f) (s.may_leave f) x ((lawful_log log).durable f) (at_last log event (length (log ++ event ∷ [])) f x (advances log event) (omega arith) left));
+      left = λ f x left. from_now log event f x (was_left (custody_of s.lending f) f (s.durable f) (s.may_leave f) x ((lawful_log log).durable f) (at_last log event (length (log ++ event ∷ [])) f x (advances log event) (omega arith) left));
       said = said_last log event (length (log ++ event ∷ [])) (advances log event) (omega arith);
       lending = λ n. lending_new log event n;
     }

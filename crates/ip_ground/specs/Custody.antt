@@ -61,13 +61,6 @@ after_sync (Prefix n) attempt custody = if n == attempt then with_synced (Prefix
 after_sync (Mapping n) attempt custody = if n == attempt then with_synced (Mapping n) custody else custody
 after_sync (Done n) attempt custody = if n == attempt then with_synced (Done n) custody else custody
 
--- the custody of an attempt on a ground that is opened again: an orphan may live on, and what was settled and is
--- there still is not loose any more
-abbrev pub after_reopening : Custody → Custody
-after_reopening own = own
-after_reopening lent = lent
-after_reopening (settled held synced) = settled held (λ file. true)
-
 -- the custody of an attempt whose child has ended, where the files hold this
 abbrev pub after_settle : Image → Custody → Custody
 after_settle now own = own

@@ -7,7 +7,7 @@ use Rattle.ip_ground.specs.declared.names.FileName.TheVariants.{Control, Chunk, 
 use Rattle.ip_ground.specs.declared.event.Event.{Event}
 use Rattle.ip_ground.specs.declared.event.Event.TheVariants.{Passed, Wrote, Failed, Synced, Removed, Lent, Settled, Said, Changed, Stopped}
 use Rattle.ip_ground.specs.Contents.{Content, Image, written, Torn}
-use Rattle.ip_ground.specs.Custody.{Custody, own, lent, settled, custody_of, is_same_file, after_sync, after_reopening, after_settle}
+use Rattle.ip_ground.specs.Custody.{Custody, own, lent, settled, custody_of, is_same_file, after_sync, after_settle}
 use Rattle.ip_ground.specs.Told.{Told, NoFile, ChangesOnly}
 
 pub record State : Type 1 where
@@ -42,6 +42,12 @@ left_by_sync own held before content = content ≡ held
 left_by_sync lent held before content = before content
 left_by_sync (settled pair synced) held before content = content ≡ held
 
+-- what a crash may leave of a file after a stop that kept what was synced alone
+abbrev pub left_by_stop : Custody → FileName → Content → (Content → Type 0) → Content → Type 0
+left_by_stop own file durable before content = content ≡ durable
+left_by_stop lent file durable before content = before content
+left_by_stop (settled pair synced) file durable before content = MatchBool (synced file) (content ≡ durable) (before content)
+
 -- what the child makes of a file, which it can where the file is lent
 abbrev pub changed_by_child : Custody → Content → Content → Content
 changed_by_child own held content = held
@@ -71,13 +77,13 @@ after (Lent attempt) s = record s {
 after (Settled attempt) s = record s { lending = with_lending attempt (after_settle s.held (s.lending attempt)) s.lending }
 after (Said bytes) s = record s { said = s.said ++ bytes.items }
 after (Changed file bytes) s = record s { held = with_held file (changed_by_child (custody_of s.lending file) (s.held file) (content_of bytes)) s.held }
-after (Stopped true) s = record s { said = []; lending = λ attempt. after_reopening (s.lending attempt) }
+after (Stopped true) s = record s { said = [] }
 after (Stopped false) s = record {
   held = s.durable;
   durable = s.durable;
-  may_leave = λ file. left_by_sync (custody_of s.lending file) (s.durable file) (s.may_leave file);
+  may_leave = λ file. left_by_stop (custody_of s.lending file) file (s.durable file) (s.may_leave file);
   said = [];
-  lending = λ attempt. after_reopening (s.lending attempt);
+  lending = s.lending;
 }
 
 -- no file, nothing said, nothing lent
@@ -97,6 +103,12 @@ told_by log = record {
   said_at = λ moment. (replayed blank (take moment log)).said;
   lending = (replayed blank log).lending;
 }
+
+-- what was said since the last stop, after an event
+abbrev pub said_after : Event → List ℕ → List ℕ
+said_after (Said bytes) before = before ++ bytes.items
+said_after (Stopped keep) before = []
+said_after event before = before
 
 -- whether an attempt is lent after an event
 abbrev pub lent_after : Event → ℕ → Bool → Bool

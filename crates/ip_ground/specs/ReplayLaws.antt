@@ -7,11 +7,11 @@ use Rattle.ip_ground.specs.declared.names.FileName.TheVariants.{Control, Chunk, 
 use Rattle.ip_ground.specs.declared.event.Event.{Event}
 use Rattle.ip_ground.specs.declared.event.Event.TheVariants.{Passed, Wrote, Failed, Synced, Removed, Lent, Settled, Said, Changed, Stopped}
 use Rattle.ip_ground.specs.Contents.{Content, Image, written, Torn}
-use Rattle.ip_ground.specs.Custody.{Custody, own, lent, settled, custody_of, IsForeign, IsLoose, is_same_file, with_synced, after_sync, after_reopening, after_settle}
+use Rattle.ip_ground.specs.Custody.{Custody, own, lent, settled, custody_of, IsForeign, IsLoose, is_same_file, with_synced, after_sync, after_settle}
 use Rattle.ip_ground.specs.Writing.{torn_written_anywhere}
 use Rattle.ip_ground.specs.Files.{same_number, no_true, same_file}
 use Rattle.std.proofs.lemmas.Bool.Decides.{nat_tests}
-use Rattle.ip_ground.specs.Replay.{State, is_of_attempt, with_held, with_left, with_lending, left_by_sync, changed_by_child, content_of, after, blank, replayed, told_by}
+use Rattle.ip_ground.specs.Replay.{State, is_of_attempt, with_held, with_left, with_lending, left_by_sync, left_by_stop, changed_by_child, content_of, after, blank, replayed, told_by}
 use Rattle.ip_ground.specs.Told.{IsPossibleNow}
 
 -- a write that changes nothing is one that may be cut short so
@@ -154,28 +154,15 @@ synced_foreign own held before x foreign so = absurd foreign
 synced_foreign lent held before x foreign so = so
 synced_foreign (settled pair synced) held before x foreign so = absurd foreign
 
-reopened_standing : (lending : ℕ → Custody) (f : FileName) → custody_of (λ n. after_reopening (lending n)) f ≡ after_reopening (custody_of lending f)
-reopened_standing lending Control = refl
-reopened_standing lending (Chunk n) = refl
-reopened_standing lending (Prefix n) = refl
-reopened_standing lending (Mapping n) = refl
-reopened_standing lending (Done n) = refl
+stopped_here : (custody : Custody) (file : FileName) (durable : Content) (before : Content → Type 0) → before durable → left_by_stop custody file durable before durable
+stopped_here own file durable before here = refl
+stopped_here lent file durable before here = here
+stopped_here (settled pair synced) file durable before here = by_place (synced file) (durable ≡ durable) (before durable) (λ is. refl) (λ is. here)
 
-reopened_was : (s : State) (f : FileName) → IsLoose (custody_of (λ n. after_reopening (s.lending n)) f) f → IsLoose (custody_of s.lending f) f
-reopened_was s f loose = by_custody (custody_of s.lending f) (subst (λ st. IsLoose st f) (reopened_standing s.lending f) loose)
-  where
-    by_custody : (st : Custody) → IsLoose (after_reopening st) f → IsLoose st f
-    by_custody own loose = loose
-    by_custody lent loose = loose
-    by_custody (settled pair synced) loose = no_true (sym loose)
-
-reopened_loose : (s : State) → Lawful s → (held : Content) (f : FileName) (x : Content) → IsLoose (custody_of (λ n. after_reopening (s.lending n)) f) f → left_by_sync (custody_of s.lending f) held (s.may_leave f) x
-reopened_loose s lawful held f x loose = by_custody (custody_of s.lending f) refl (subst (λ st. IsLoose st f) (reopened_standing s.lending f) loose)
-  where
-    by_custody : (st : Custody) → custody_of s.lending f ≡ st → IsLoose (after_reopening st) f → left_by_sync st held (s.may_leave f) x
-    by_custody own is loose = absurd loose
-    by_custody lent is loose = lawful.loose f x (subst (λ st. IsLoose st f) (sym is) tt)
-    by_custody (settled pair synced) is loose = no_true (sym loose)
+stopped_loose : (custody : Custody) (file : FileName) (durable : Content) (before : Content → Type 0) (x : Content) → IsLoose custody file → before x → left_by_stop custody file durable before x
+stopped_loose own file durable before x loose so = absurd loose
+stopped_loose lent file durable before x loose so = so
+stopped_loose (settled pair synced) file durable before x loose so = by_place (synced file) (x ≡ durable) (before x) (λ is. no_true (sym loose ∙ is)) (λ is. so)
 
 pub lawful_after : (event : Event) (s : State) → Lawful s → Lawful (after event s)
 lawful_after Passed s lawful = record { possible = lawful.possible; durable = lawful.durable; loose = lawful.loose }
@@ -201,21 +188,17 @@ lawful_after (Lent attempt) s lawful = record {
 }
 lawful_after (Settled attempt) s lawful = record { possible = lawful.possible; durable = lawful.durable; loose = λ g x is. lawful.loose g x (loose_settled s.lending s.held attempt g is) }
 lawful_after (Said bytes) s lawful = record { possible = lawful.possible; durable = lawful.durable; loose = lawful.loose }
-lawful_after (Stopped true) s lawful = record { possible = lawful.possible; durable = lawful.durable; loose = λ f x loose. lawful.loose f x (reopened_was s f loose) }
+lawful_after (Stopped true) s lawful = record { possible = lawful.possible; durable = lawful.durable; loose = lawful.loose }
 lawful_after (Stopped false) s lawful = record {
-  possible = λ f. synced_here (custody_of s.lending f) (s.durable f) (s.may_leave f) (lawful.durable f);
-  durable = λ f. synced_here (custody_of s.lending f) (s.durable f) (s.may_leave f) (lawful.durable f);
-  loose = λ f x loose. reopened_loose s lawful (s.durable f) f x loose;
+  possible = λ f. stopped_here (custody_of s.lending f) f (s.durable f) (s.may_leave f) (lawful.durable f);
+  durable = λ f. stopped_here (custody_of s.lending f) f (s.durable f) (s.may_leave f) (lawful.durable f);
+  loose = λ f x loose. stopped_loose (custody_of s.lending f) f (s.durable f) (s.may_leave f) x loose (lawful.loose f x loose);
 }
 lawful_after (Changed file bytes) s lawful = changed s lawful file (content_of bytes)
 
 pub lawful_replayed : (s : State) (events : List Event) → Lawful s → Lawful (replayed s events)
 lawful_replayed s [] lawful = lawful
 lawful_replayed s (event ∷ events) lawful = lawful_replayed (after event s) events (lawful_after event s lawful)
-
--- the custody of a file on a ground that is opened again
-pub reopened_file : (lending : ℕ → Custody) (f : FileName) → custody_of (λ n. after_reopening (lending n)) f ≡ after_reopening (custody_of lending f)
-reopened_file lending f = reopened_standing lending f
 
 -- what a log tells is possible
 lawful_blank : Lawful blank

@@ -1,8 +1,8 @@
 -- What a ground tells of its content, and how that goes on.
 use Rattle.std.specs.Prelude.{◌≡◌, ℕ, ◌<◌, ◌≤◌, List, [], None, Bool, IsTrue}
 use Rattle.ip_ground.specs.declared.names.FileName.{FileName}
-use Rattle.ip_ground.specs.Contents.{Content, Image, Leave, Possible}
-use Rattle.ip_ground.specs.Custody.{Custody, own, settled, custody_of, after_reopening}
+use Rattle.ip_ground.specs.Contents.{Content, Image, Leave, Possible, Torn}
+use Rattle.ip_ground.specs.Custody.{Custody, own, settled, custody_of}
 use Rattle.ip_ground.specs.Custody as custody
 
 pub record Told : Type 1 where
@@ -83,6 +83,10 @@ EachImageNow told P = (image : Image) → IsPossible told told.moment image → 
 abbrev pub IsAbout : (FileName → Bool) → (Image → Type 0) → Type 0
 IsAbout these P = (one other : Image) → ((file : FileName) → IsTrue (these file) → one file ≡ other file) → P one → P other
 
+-- A crash may leave any bytes in a range of the file, in whatever it might have left of it before.
+abbrev pub MayTear : FileName → ℕ → ℕ → Told → Told → Type 0
+MayTear file at n old new = (before content : Content) → old.may_leave old.moment file before → Torn at n before content → new.may_leave new.moment file content
+
 -- What the files read as is one of the things that a crash may leave.
 abbrev pub IsPossibleNow : Told → Type 0
 IsPossibleNow told = (file : FileName) → told.may_leave told.moment file (told.held file)
@@ -110,12 +114,18 @@ pub record IsBlank (told : Told) : Type 0 where
   pub lending : (attempt : ℕ) → told.lending attempt ≡ own
 
 -- A ground that is opened again after a stop: it reads as something that a crash might have left, and a further crash
--- leaves nothing else. An attempt that was not settled stays lent.
+-- leaves nothing else. An attempt that was not settled stays lent, and a file that was loose stays so until it is synced.
 pub record Reopens (old new : Told) : Type 0 where
   pub held : (file : FileName) → old.may_leave old.moment file (new.held file)
   pub left : (file : FileName) (content : Content) → new.may_leave new.moment file content → old.may_leave old.moment file content
   pub said : said new ≡ []
-  pub lending : (attempt : ℕ) → new.lending attempt ≡ after_reopening (old.lending attempt)
+  pub lending : (attempt : ℕ) → new.lending attempt ≡ old.lending attempt
+
+-- The file held this when nothing of it was pending for the last time: there was a moment at which a crash would have
+-- left this alone, and at none since is it impossible. So it is what the file held when it was synced last.
+abbrev pub IsSyncedAs : Told → FileName → Content → Type 0
+IsSyncedAs told file content = (moment : ℕ) × (moment ≤ told.moment) × ((other : Content) → told.may_leave moment file other → other ≡ content)
+    × ((later : ℕ) → moment ≤ later → later ≤ told.moment → told.may_leave later file content)
 
 -- what a ground that tells nothing tells
 abbrev pub silent : Told

@@ -1,13 +1,14 @@
 // The steps of a ground in memory, over its files and its log.
-ghost use Rattle.std.specs.Prelude.{◌≡◌, ◌≤◌, ◌-◌, ◌++◌, [], ◌∷◌, length, min, take, drop, OnOk, OnErr, IsTrue};
-ghost use Rattle.ip_ground.specs.Told.{NoFile, ChangesOnly, Reopens};
+ghost use Rattle.std.specs.Prelude.{◌≡◌, ◌≤◌, ◌-◌, ◌++◌, [], ◌∷◌, length, min, take, drop, IfOk, OnOk, OnErr, IsTrue};
+ghost use Rattle.ip_ground.specs.Told.{said, IsLoose, NoFile, ChangesOnly, Reopens, IsSyncedAs};
 ghost use Rattle.ip_ground.specs.Custody.{custody_of, lent};
-ghost use Rattle.ip_ground.specs.Replay.{told_by, durable_by, lent_after, keeps_files, keeps_durable};
+ghost use Rattle.ip_ground.specs.Replay.{told_by, durable_by, said_after, lent_after, keeps_files, keeps_durable};
 ghost use Rattle.ip_ground.specs.Map.{content_in, IsTied, IsSynced};
 ghost use Rattle.ip_ground.specs.declared.event.Event.TheVariants.{Wrote, Removed, Synced};
 
-use crate::contents::{Files, bytes_at, copied, discard, overwritten, replace};
-use crate::{Act, Event, FileName};
+use crate::contents::{Files, copied, discard, replace, write_over};
+use crate::event::Event;
+use crate::{Act, FileName};
 use std::alloc::{AllocError, Global};
 
 // The bytes from a place on, as many as there are and as fit.
@@ -36,10 +37,9 @@ pub fn note_write(
     ensures err { OnErr result (log.new.items ≡ log.old.items) }
     ensures durable { (file : _) → durable_by log.new.items file ≡ durable_by log.old.items file }
 {
-    let next = overwritten(alloc, bytes_at(files, file), at as usize, bytes)?;
     let copy = bytes.to_vec(alloc)?;
     log.reserve(1)?;
-    replace(files, file, next)?;
+    write_over(alloc, files, file, at as usize, bytes)?;
     match log.push(Event::Wrote {
         file,
         at,
@@ -48,6 +48,29 @@ pub fn note_write(
         Ok(()) => Ok(()),
         Err(_) => unreachable!(),
     }
+}
+
+// What was said since the last stop.
+pub fn said_in(alloc: Global, log: &[Event]) -> Result<Vec<u8>, AllocError>
+    ensures { IfOk result (λ v. v.items ≡ said (told_by log.now)) }
+{
+    let mut out = Vec::new(alloc);
+    for event in log {
+        say_again(event, &mut out)?;
+    }
+    Ok(out)
+}
+
+// What was said after one more event.
+fn say_again(event: &Event, out: &mut Vec<u8>) -> Result<(), AllocError>
+    ensures { OnOk result (out.new.items ≡ said_after event.now out.old.items) }
+{
+    match event {
+        Event::Said { bytes } => out.extend_from_slice(bytes)?,
+        Event::Stopped { .. } => out.clear(),
+        _ => {}
+    }
+    Ok(())
 }
 
 // Whether the child may change the files of this attempt.
@@ -232,6 +255,7 @@ pub fn stop_with_all(files: &Files, kept: &Files, log: &mut Vec<Event>) -> Resul
     ensures tied { IsTied files.now log.new.items }
     ensures synced { IsSynced kept.now log.new.items }
     ensures reopens { OnOk result (Reopens (told_by log.old.items) (told_by log.new.items)) }
+    ensures all { OnOk result ((file : _) → (told_by log.new.items).held file ≡ (told_by log.old.items).held file) }
 {
     let _ = files;
     let _ = kept;
@@ -250,6 +274,7 @@ pub fn stop_with_synced(
     ensures tied { IsTied files.new log.new.items }
     ensures synced { IsSynced kept.now log.new.items }
     ensures reopens { OnOk result (Reopens (told_by log.old.items) (told_by log.new.items)) }
+    ensures last { OnOk result ((file : _) → ¬ IsLoose (told_by log.old.items) file → IsSyncedAs (told_by log.old.items) file ((told_by log.new.items).held file)) }
 {
     let copy = copied(kept)?;
     log.push(Event::Stopped { keep: false })?;

@@ -2,6 +2,7 @@ pub mod TreeAtLaws
 pub mod TreeLaws
 pub mod Subtrees
 pub mod SameDirectory
+pub mod GraftLaws
 pub mod Naming
 pub mod Spelling
 pub mod BatchLaws
@@ -13,8 +14,12 @@ pub mod MergeLaws
 pub mod OneMerge
 pub mod MachineLaws
 pub mod LineLaws
-mod Vectors
-mod Readings
+mod RecordBytes
+mod StepPlaces
+mod ReadingFaults
+mod ReadBack
+mod MergerAnswers
+mod LoadLines
 mod Played
 mod TreeExamples
 mod CommitExamples
@@ -22,9 +27,11 @@ mod MergeExamples
 mod CollectionExamples
 mod FaultExamples
 mod FullDirectory
-mod Batches
-mod WideBatch
+mod CommitBatches
+mod InodeBatch
 mod LineExamples
 mod TextExamples
 pub mod BitmapLaws
 pub mod ReadingExact
+pub mod FieldsRead
+pub mod RecordsRead

@@ -17,16 +17,16 @@ use Rattle.ip_spec.proofs.ReadingLaws.{Reads, reads_as, reads_done, reads_then, 
 
 -- ---- children of inodes
 
-abbrev child_made : ℕ → ℕ → ℕ → Bytes → ℕ → InodeChild
+abbrev pub child_made : ℕ → ℕ → ℕ → Bytes → ℕ → InodeChild
 child_made index count height name at = record { index = index; count = count; height = height; name = name; at = at }
 
-abbrev c_name : ℕ → ℕ → ℕ → Bytes → Fields InodeChild
+abbrev pub c_name : ℕ → ℕ → ℕ → Bytes → Fields InodeChild
 c_name index count height name = number_where w64 any >>= λ at. done (child_made index count height name at)
 
-abbrev c_height : ℕ → ℕ → ℕ → Fields InodeChild
+abbrev pub c_height : ℕ → ℕ → ℕ → Fields InodeChild
 c_height index count height = hash_field >>= c_name index count height
 
-abbrev c_count : ℕ → ℕ → Fields InodeChild
+abbrev pub c_count : ℕ → ℕ → Fields InodeChild
 c_count index count = number_where w8 (λ n. nat_le n 64) >>= c_height index count
 
 reads_child : (c : InodeChild) → IsInodeChild c → Reads (child_field c.index) (child_spelling c) c
@@ -37,7 +37,7 @@ reads_child c is =
     reads_as (child_field c.index) (u32 c.count ++ (u8 c.height ++ (c.name ++ u64 c.at))) (child_spelling c) c (sym (append_assoc (u32 c.count) (u8 c.height) (c.name ++ u64 c.at)) ∙ sym (append_assoc (u32 c.count ++ u8 c.height) c.name (u64 c.at)))
     (reads_then (number_where w32 (λ n. nat_lt 0 n)) (c_count c.index) (u32 c.count) (u8 c.height ++ (c.name ++ u64 c.at)) c.count c (reads_u32 (λ n. nat_lt 0 n) c.count is.count (lt_test 0 c.count is.some)) at_count)
 
-abbrev from_child : List ℕ → InodeChild → Fields (List InodeChild)
+abbrev pub from_child : List ℕ → InodeChild → Fields (List InodeChild)
 from_child is c = child_fields is >>= λ cs. done (c ∷ cs)
 
 reads_children : (cs : List InodeChild) → AllByRecursion IsInodeChild cs → Reads (child_fields (map (λ c. c.index) cs)) (flat_map child_spelling cs) cs
@@ -60,7 +60,7 @@ rising_within a top (i ∷ is) r t l = (
       (λ h. let f : i < slice_index is 0 = r 0 (omega (arith, h)) in omega (arith, f)),
 )
 
-weights : (acc : ℕ) (cs : List InodeChild) → fold (λ n (c : InodeChild). n + 2 ^ c.index) acc cs ≡ fold (λ n i. n + 2 ^ i) acc (map (λ c. c.index) cs)
+pub weights : (acc : ℕ) (cs : List InodeChild) → fold (λ n (c : InodeChild). n + 2 ^ c.index) acc cs ≡ fold (λ n i. n + 2 ^ i) acc (map (λ c. c.index) cs)
 weights acc [] = refl
 weights acc (c ∷ cs) = weights (acc + 2 ^ c.index) cs
 
@@ -95,11 +95,12 @@ module _ (depth : ℕ) (cs : List InodeChild) (is : IsInode depth cs) where
   within : Within 0 32 (map (λ c. c.index) cs)
   within = rising_within 0 32 (map (λ c. c.index) cs) is.rising (λ k l. at_map cs k each_child l) (λ l. omega arith)
 
-  bits_are : bits_of (bitmap cs) ≡ map (λ c. c.index) cs
+  pub bits_are : bits_of (bitmap cs) ≡ map (λ c. c.index) cs
   bits_are = ap bits_of (weights 0 cs) ∙ bits_of_sum (map (λ c. c.index) cs) within
 
-  small : bitmap cs < 2 ^ 32
-  small = let e = weights 0 cs in let s = added_small 0 32 0 (map (λ c. c.index) cs) (lit≤ tt) within (lit< tt) in subst (λ n. n < 2 ^ 32) (sym e) s
+  -- the bits of different indexes below 32 fit their field
+  pub bitmap_small : bitmap cs < 2 ^ 32
+  bitmap_small = let e = weights 0 cs in let s = added_small 0 32 0 (map (λ c. c.index) cs) (lit≤ tt) within (lit< tt) in subst (λ n. n < 2 ^ 32) (sym e) s
 
   not_zero : 0 < bitmap cs
   not_zero = let e = weights 0 cs in let l = length_map (λ (c : InodeChild). c.index) cs in let some = is.some in let s = added_some (map (λ c. c.index) cs) (omega (arith, l, some)) in subst (λ n. 0 < n) (sym e) s
@@ -115,7 +116,7 @@ module _ (depth : ℕ) (cs : List InodeChild) (is : IsInode depth cs) where
   reads_inode =
       let children : Reads (child_fields (bits_of (bitmap cs))) (flat_map child_spelling cs) cs = subst (λ ks. Reads (child_fields ks) (flat_map child_spelling cs) cs) (sym bits_are) (reads_children cs each_child) in
       let at_bitmap : Reads (i_bitmap (bitmap cs)) (flat_map child_spelling cs) (Record.Inode depth cs) = reads_last (child_fields (bits_of (bitmap cs))) (Record.Inode depth) (flat_map child_spelling cs) cs children in
-      let at_depth : Reads (i_depth depth) (u32 (bitmap cs) ++ flat_map child_spelling cs) (Record.Inode depth cs) = reads_then (number_where w32 (λ n. nat_lt 0 n)) i_bitmap (u32 (bitmap cs)) (flat_map child_spelling cs) (bitmap cs) (Record.Inode depth cs) (reads_u32 (λ n. nat_lt 0 n) (bitmap cs) small (lt_test 0 (bitmap cs) not_zero)) at_bitmap in
+      let at_depth : Reads (i_depth depth) (u32 (bitmap cs) ++ flat_map child_spelling cs) (Record.Inode depth cs) = reads_then (number_where w32 (λ n. nat_lt 0 n)) i_bitmap (u32 (bitmap cs)) (flat_map child_spelling cs) (bitmap cs) (Record.Inode depth cs) (reads_u32 (λ n. nat_lt 0 n) (bitmap cs) bitmap_small (lt_test 0 (bitmap cs) not_zero)) at_bitmap in
       reads_as inode_fields (u8 depth ++ (u32 (bitmap cs) ++ flat_map child_spelling cs)) (u8 depth ++ u32 (bitmap cs) ++ flat_map child_spelling cs) (Record.Inode depth cs) (sym (append_assoc (u8 depth) (u32 (bitmap cs)) (flat_map child_spelling cs)))
       (reads_then (number_where w8 (λ n. nat_le n 50)) i_depth (u8 depth) (u32 (bitmap cs) ++ flat_map child_spelling cs) depth (Record.Inode depth cs) (reads_u8 (λ n. nat_le n 50) depth (le_test depth 50 is.shallow)) at_depth)
 
@@ -128,7 +129,7 @@ at_test (b ∷ t) n = apart b 64 (λ e. n (ap Some e))
 name_test : (t : Bytes) → IsBranchName t → is_name t ≡ true
 name_test t is = both (list_all is_word_byte t) (not (begins_with_at t)) (test_all IsWordByte is_word_byte word_byte t is.each) (negated (begins_with_at t) (at_test t is.no_reference))
 
-abbrev s_number : Names → ℕ → Fields Record
+abbrev pub s_number : Names → ℕ → Fields Record
 s_number names number = text_field is_name None >>= λ name. done (name_set names number name)
 
 reads_set : (names : Names) (number : ℕ) (name : Bytes) → IsU64 number → IsBranchName name → Reads (set_fields names) (body (name_set names number name)) (name_set names number name)
@@ -147,17 +148,17 @@ reads_remove Names.tags name is = reads_last (text_field is_name None) Record.Ta
 
 -- ---- tables
 
-abbrev row_spelling : Branch → Bytes
+abbrev pub row_spelling : Branch → Bytes
 row_spelling row = short_text row.name ++ u64 row.number
 
-abbrev RowsBehind : Option Bytes → List Branch → Type 0
+abbrev pub RowsBehind : Option Bytes → List Branch → Type 0
 RowsBehind before [] = Unit {0}
 RowsBehind before (row ∷ rows) = (is_behind before row.name ≡ true) × RowsBehind (Some row.name) rows
 
-abbrev r_number : ℕ → Bytes → ℕ → Fields (List Branch)
+abbrev pub r_number : ℕ → Bytes → ℕ → Fields (List Branch)
 r_number n name number = row_fields n (Some name) >>= λ rows. done (record { name = name; number = number } ∷ rows)
 
-abbrev r_name : ℕ → Bytes → Fields (List Branch)
+abbrev pub r_name : ℕ → Bytes → Fields (List Branch)
 r_name n name = number_where w64 any >>= r_number n name
 
 reads_rows : (before : Option Bytes) (rows : List Branch) → AllByRecursion (λ row. IsBranchName row.name × IsU64 row.number) rows → RowsBehind before rows → Reads (row_fields (length rows) before) (flat_map row_spelling rows) rows
@@ -170,7 +171,7 @@ reads_rows before (row ∷ rows) each behind =
     reads_as (row_fields (suc (length rows)) before) (short_text row.name ++ (u64 row.number ++ flat_map row_spelling rows)) (row_spelling row ++ flat_map row_spelling rows) (row ∷ rows) (sym (append_assoc (short_text row.name) (u64 row.number) (flat_map row_spelling rows)))
     (reads_then (text_field is_name before) (r_name (length rows)) (short_text row.name) (u64 row.number ++ flat_map row_spelling rows) row.name (row ∷ rows) (reads_text is_name before row.name each.0.0.some (name_test row.name each.0.0) behind.0) at_name)
 
-abbrev t_count : Names → ℕ → Fields Record
+abbrev pub t_count : Names → ℕ → Fields Record
 t_count names count = row_fields count None >>= λ rows. done (name_table names rows)
 
 reads_table : (names : Names) (rows : List Branch) → IsTable rows → RowsBehind None rows → Reads (table_fields names) (body (name_table names rows)) (name_table names rows)
@@ -184,13 +185,13 @@ reads_table Names.tags rows is behind =
 
 -- ---- commits
 
-abbrev from_length : ℕ → Bytes → ℕ → Fields Info
+abbrev pub from_length : ℕ → Bytes → ℕ → Fields Info
 from_length date author n = bytes_where n is_message >>= λ message. done (record { date = date; author = author; message = message })
 
-abbrev from_author : ℕ → Bytes → Fields Info
+abbrev pub from_author : ℕ → Bytes → Fields Info
 from_author date author = number_where w16 (λ n. nat_lt 0 n && nat_le n 4096) >>= from_length date author
 
-abbrev from_date : ℕ → Fields Info
+abbrev pub from_date : ℕ → Fields Info
 from_date date = text_field is_author None >>= from_author date
 
 message_test : (t : Bytes) → All (λ b. (b < 256) × (b ≢ 10) × (b ≢ 0)) t → is_message t ≡ true
@@ -204,13 +205,13 @@ reads_info i is =
     reads_as info_fields (u64 i.date ++ (short_text i.author ++ long_text i.message)) (info_spelling i) i (sym (append_assoc (u64 i.date) (short_text i.author) (long_text i.message)))
     (reads_then (number_where w64 any) from_date (u64 i.date) (short_text i.author ++ long_text i.message) i.date i (reads_u64 any i.date is.date refl) at_date)
 
-abbrev parent_spelling : Parent → Bytes
+abbrev pub parent_spelling : Parent → Bytes
 parent_spelling p = u64 p.number ++ p.name
 
-abbrev p_name : ℕ → ℕ → Bytes → Fields (List Parent)
+abbrev pub p_name : ℕ → ℕ → Bytes → Fields (List Parent)
 p_name n number name = parent_fields n >>= λ ps. done (record { number = number; name = name } ∷ ps)
 
-abbrev p_number : ℕ → ℕ → Fields (List Parent)
+abbrev pub p_number : ℕ → ℕ → Fields (List Parent)
 p_number n number = hash_field >>= p_name n number
 
 reads_parents : (ps : List Parent) → AllByRecursion (λ p. IsU64 p.number × IsHash p.name) ps → Reads (parent_fields (length ps)) (flat_map parent_spelling ps) ps
@@ -222,25 +223,25 @@ reads_parents (p ∷ ps) each =
     reads_as (parent_fields (suc (length ps))) (u64 p.number ++ (p.name ++ flat_map parent_spelling ps)) (parent_spelling p ++ flat_map parent_spelling ps) (p ∷ ps) (sym (append_assoc (u64 p.number) p.name (flat_map parent_spelling ps)))
     (reads_then (number_where w64 any) (p_number (length ps)) (u64 p.number) (p.name ++ flat_map parent_spelling ps) p.number (p ∷ ps) (reads_u64 any p.number each.0.0 refl) at_number)
 
-abbrev commit_made : ℕ → Bytes → ℕ → List Parent → Info → Record
+abbrev pub commit_made : ℕ → Bytes → ℕ → List Parent → Info → Record
 commit_made number root_name root_at parents info = Record.Commit (record { number = number; root_name = root_name; root_at = root_at; parents = parents; info = info })
 
-abbrev k_parents : ℕ → Bytes → ℕ → List Parent → Fields Record
+abbrev pub k_parents : ℕ → Bytes → ℕ → List Parent → Fields Record
 k_parents number root_name root_at parents = info_fields >>= λ info. done (commit_made number root_name root_at parents info)
 
-abbrev k_count : ℕ → Bytes → ℕ → ℕ → Fields Record
+abbrev pub k_count : ℕ → Bytes → ℕ → ℕ → Fields Record
 k_count number root_name root_at count = parent_fields count >>= k_parents number root_name root_at
 
-abbrev k_root_at : ℕ → Bytes → ℕ → Fields Record
+abbrev pub k_root_at : ℕ → Bytes → ℕ → Fields Record
 k_root_at number root_name root_at = number_where w8 (λ n. nat_le n 16) >>= k_count number root_name root_at
 
-abbrev k_root_name : ℕ → Bytes → Fields Record
+abbrev pub k_root_name : ℕ → Bytes → Fields Record
 k_root_name number root_name = number_where w64 any >>= k_root_at number root_name
 
-abbrev k_number : ℕ → Fields Record
+abbrev pub k_number : ℕ → Fields Record
 k_number number = hash_field >>= k_root_name number
 
-assoc6 : (a b c d e f : Bytes) → a ++ (b ++ (c ++ (d ++ (e ++ f)))) ≡ a ++ b ++ c ++ d ++ e ++ f
+pub assoc6 : (a b c d e f : Bytes) → a ++ (b ++ (c ++ (d ++ (e ++ f)))) ≡ a ++ b ++ c ++ d ++ e ++ f
 assoc6 a b c d e f = sym (append_assoc a b (c ++ (d ++ (e ++ f)))) ∙ sym (append_assoc (a ++ b) c (d ++ (e ++ f))) ∙ sym (append_assoc (a ++ b ++ c) d (e ++ f)) ∙ sym (append_assoc (a ++ b ++ c ++ d) e f)
 
 reads_commit : (c : CommitRecord) → IsCommitRecord c → Reads commit_fields (body (Record.Commit c)) (Record.Commit c)
@@ -321,7 +322,7 @@ stage v k bytes len =
 not_less : (m n : ℕ) → n ≤ m → nat_lt m n ≡ false
 not_less m n l = grind arith
 
-length_both : (t u : Bytes) → length (t ++ u) ≡ length t + length u
+pub length_both : (t u : Bytes) → length (t ++ u) ≡ length t + length u
 length_both [] u = omega arith
 length_both (x ∷ t) u = let e = length_both t u in omega (arith, e)
 
@@ -343,7 +344,7 @@ at_end f b r reads = ap (λ bytes. f (5, bytes)) (sym (append-nil b)) ∙ reads 
 abbrev Exact : ℕ → Record → Bytes → Type 0
 Exact v r rest = reading v (spelling r ++ rest) ≡ Ok (r, length (spelling r))
 
-five : (n : ℕ) → 5 + n ≡ suc (suc (suc (suc (suc n))))
+pub five : (n : ℕ) → 5 + n ≡ suc (suc (suc (suc (suc n))))
 five n = omega arith
 
 exact_by : (v k : ℕ) (r : Record) (rest : Bytes) (f : Fields Record) → kind_of r ≡ k → known v k ≡ true → (k == 1 && nat_lt (contents_limit v) (length (body r))) ≡ false → length (body r) < 2 ^ 32 → fields_of k ≡ Some f → f (5, body r) ≡ Ok (r, (5 + length (body r), [])) → Exact v r rest
@@ -354,14 +355,14 @@ exact_by v k r rest f kind is_known fits small has gives =
     ∙ ap (λ n. Ok (r, n)) (five (length (body r)))
 
 known_low : (v k : ℕ) → 0 < k → k ≤ 7 → known v k ≡ true
-known_low v k low high = both (nat_lt 0 k) _ (lt_test 0 k low) (by (v == 1))
+known_low v k low high = both (nat_lt 0 k) _ (lt_test 0 k low) (by (nat_le 2 v))
   where
-    by : (b : Bool) → nat_le k (if b then 7 else 10) ≡ true
-    by true = le_test k 7 high
-    by false = le_test k 10 (omega (arith, high))
+    by : (b : Bool) → nat_le k (if b then 10 else 7) ≡ true
+    by true = le_test k 10 (omega (arith, high))
+    by false = le_test k 7 high
 
 known_high : (v k : ℕ) → 0 < k → k ≤ 10 → 2 ≤ v → known v k ≡ true
-known_high v k low high two = both (nat_lt 0 k) _ (lt_test 0 k low) (ap (λ b. nat_le k (if b then 7 else 10)) (apart v 1 (omega (arith, two))) ∙ le_test k 10 high)
+known_high v k low high two = both (nat_lt 0 k) _ (lt_test 0 k low) (ap (λ b. nat_le k (if b then 10 else 7)) (le_test 2 v two) ∙ le_test k 10 high)
 
 -- What is spelled is read, whatever follows.
 pub reading_exact : (v : ℕ) (r : Record) (rest : Bytes) → Fits v r → reading v (spelling r ++ rest) ≡ Ok (r, length (spelling r))

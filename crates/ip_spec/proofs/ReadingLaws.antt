@@ -129,19 +129,19 @@ kind_test n (inr e) = ap (λ k. k == 1 || k == 2) e
 assoc5 : (a b c d e : Bytes) → a ++ (b ++ (c ++ (d ++ e))) ≡ a ++ b ++ c ++ d ++ e
 assoc5 a b c d e = sym (append_assoc a b (c ++ (d ++ e))) ∙ sym (append_assoc (a ++ b) c (d ++ e)) ∙ sym (append_assoc (a ++ b ++ c) d e)
 
-abbrev entry_made : Bytes → ℕ → ℕ → Bytes → ℕ → LeafEntry
+abbrev pub entry_made : Bytes → ℕ → ℕ → Bytes → ℕ → LeafEntry
 entry_made step kind height name at = record { step = step; kind = kind; height = height; name = name; at = at }
 
-abbrev from_name : Bytes → ℕ → ℕ → Bytes → Fields LeafEntry
+abbrev pub from_name : Bytes → ℕ → ℕ → Bytes → Fields LeafEntry
 from_name step kind height name = number_where w64 any >>= λ at. done (entry_made step kind height name at)
 
-abbrev from_height : Bytes → ℕ → ℕ → Fields LeafEntry
+abbrev pub from_height : Bytes → ℕ → ℕ → Fields LeafEntry
 from_height step kind height = hash_field >>= from_name step kind height
 
-abbrev from_kind : Bytes → ℕ → Fields LeafEntry
+abbrev pub from_kind : Bytes → ℕ → Fields LeafEntry
 from_kind step kind = number_where w8 (λ n. nat_le n 63) >>= from_height step kind
 
-abbrev from_step : Bytes → Fields LeafEntry
+abbrev pub from_step : Bytes → Fields LeafEntry
 from_step step = number_where w8 (λ n. n == 1 || n == 2) >>= from_kind step
 
 pub reads_entry : (before : Option Bytes) (e : LeafEntry) → IsLeafEntry e → is_behind before e.step ≡ true → Reads (entry_field before) (entry_spelling e) e
@@ -158,7 +158,7 @@ abbrev pub Behind : Option Bytes → List LeafEntry → Type 0
 Behind before [] = Unit {0}
 Behind before (e ∷ es) = (is_behind before e.step ≡ true) × Behind (Some e.step) es
 
-abbrev from_entry : ℕ → LeafEntry → Fields (List LeafEntry)
+abbrev pub from_entry : ℕ → LeafEntry → Fields (List LeafEntry)
 from_entry n e = entry_fields n (Some e.step) >>= λ es. done (e ∷ es)
 
 pub reads_entries : (before : Option Bytes) (es : List LeafEntry) → AllByRecursion IsLeafEntry es → Behind before es → Reads (entry_fields (length es) before) (flat_map entry_spelling es) es
@@ -168,7 +168,7 @@ reads_entries before (e ∷ es) each behind =
     reads_then (entry_field before) (from_entry (length es)) (entry_spelling e) (flat_map entry_spelling es) e (e ∷ es) (reads_entry before e each.0 behind.0)
     (reads_last (entry_fields (length es) (Some e.step)) (λ es. e ∷ es) (flat_map entry_spelling es) es (reads_entries (Some e.step) es each.1 behind.1))
 
-abbrev from_count : ℕ → Fields Record
+abbrev pub from_count : ℕ → Fields Record
 from_count count = entry_fields count None >>= λ es. done (Record.Leaf es)
 
 -- the body of a leaf

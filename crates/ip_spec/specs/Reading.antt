@@ -178,9 +178,9 @@ fields_of kind =
     if kind == 9 then Some (remove_fields Names.tags) else
     if kind == 10 then Some (table_fields Names.tags) else None
 
--- kinds 8 to 10 came with version 2
+-- kinds 8 to 10 are there from version 2 on
 abbrev pub known : ℕ → ℕ → Bool
-known version kind = nat_lt 0 kind && nat_le kind (if version == 1 then 7 else 10)
+known version kind = nat_lt 0 kind && nat_le kind (if nat_le 2 version then 10 else 7)
 
 -- all of the body is used up
 abbrev pub whole : ℕ → Result (Record × Left) ℕ → Result (Record × ℕ) RecordFault

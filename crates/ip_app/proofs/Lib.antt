@@ -1,0 +1,5 @@
+pub mod LineLemmas
+pub mod FreshLaw
+pub mod RunLemmas
+pub mod EndingLaw
+pub mod SessionLemmas

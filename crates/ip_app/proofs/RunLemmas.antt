@@ -1,0 +1,337 @@
+-- A run that goes on by a line, and how it ends.
+use Rattle.std.proofs.Common.{true, ◌≡◌, inl, inr, ℕ, ◌≤◌, Bool, false, List, [], ◌∷◌, ◌++◌, length, refl, sym, ap, ◌∙◌, subst, arith, append_assoc, length-append, IsTrue, All, take, drop, Some, None, Result}
+use Rattle.std.proofs.lemmas.Bool.{cases_lt}
+use Rattle.std.proofs.lemmas.List.{map-append, take-append-drop}
+use Rattle.std.proofs.lemmas.List.Elements.{All-append, All-cons, All-nil}
+use Rattle.ip_ground.specs.declared.names.FileName.TheVariants.{Control}
+use Rattle.ip_ground.specs.declared.names.GroundFault.{GroundFault}
+use Rattle.ip_ground.specs.Told.{Told, said, ChangesOnly, NoFile}
+use Rattle.ip_ground.specs.Calls.{Says}
+use Rattle.ip_ground.proofs.Spans.{goes_nowhere, goes_on, stays_on, said_now}
+use Rattle.ip_ground.proofs.Passing.{stays_itself}
+use Rattle.ip_ground.proofs.Rising.{none_falls_on, rose_after}
+use Rattle.ip_image.specs.declared.counts.TurnCounts.{TurnCounts}
+use Rattle.ip_image.specs.Slot.{live_index}
+use Rattle.ip_image.specs.Standing.{StandsFor}
+use Rattle.ip_spec.specs.Path.{Bytes, line_feed}
+use Rattle.ip_spec.specs.Merge.{Rule}
+use Rattle.ip_ground.specs.Contents.{Image, bytes_of}
+use Rattle.ip_spec.specs.Repository.{Repository, no_repository}
+use Rattle.ip_spec.specs.Machine.{State, opened}
+use Rattle.ip_spec.specs.Script.{whole_lines, LineStep}
+use Rattle.ip_spec.specs.Text.{reply_text}
+use Rattle.ip_store.specs.Control.{control_in}
+use Rattle.ip_app.specs.declared.turn_log.Turn.{Turn}
+use Rattle.ip_app.specs.declared.lines.Lines.{Lines}
+use Rattle.ip_app.specs.declared.statuses.Status.{Status}
+use Rattle.ip_app.specs.declared.statuses.Status.TheVariants as status
+use Rattle.ip_app.specs.declared.statuses.Bound.TheVariants as bound
+use Rattle.ip_app.specs.Lines.{longest_line, last_piece}
+use Rattle.ip_app.specs.Pending.{pending}
+use Rattle.ip_app.specs.Reading.{EndsReading, IsCaused}
+use Rattle.ip_app.specs.Exchanges.{Exchange, conditions, no_rules, Run, after_all, lines_in, turns_in, texts_in}
+use Rattle.ip_app.specs.Turns.{turn_counts, IsLater, Follow}
+use Rattle.ip_app.specs.Outside.{Outside, GoesOn, KeepsFiles}
+use Rattle.ip_app.specs.Serving.{SaysPart, Turned, Stopped, Unsaid, Stops, Served}
+use Rattle.ip_app.specs.Run.{CouldNotOpen, IsUntouched, IsOpened, Begins, is_cut_off, Row, Serves, EndsWhereAllIsWell}
+use Rattle.ip_app.proofs.FreshLaw.{fresh_stands}
+use Rattle.ip_app.proofs.LineLemmas.{whole_lines-line, whole_lines-rest, last_piece-line, last_piece-rest}
+
+after_more : (first : State) (xs : List Exchange) (x : Exchange) → after_all first (xs ++ x ∷ []) ≡ x.after
+after_more first [] x = refl
+after_more first (y ∷ xs) x = after_more y.after xs x
+
+run_more : (rule : Rule) (first mid : State) (xs : List Exchange) (x : Exchange) → mid ≡ after_all first xs → Run rule first xs → LineStep rule mid x.line (conditions x) x.reply x.after → Run rule first (xs ++ x ∷ [])
+run_more rule first mid [] x e h s = (subst (λ (t : State). LineStep rule t x.line (conditions x) x.reply x.after) e s, tt)
+run_more rule first mid (y ∷ xs) x e h s = (h.0, run_more rule y.after mid xs x e h.1 s)
+
+follow_more : (start last : TurnCounts) (ts : List Turn) (t : Turn) → Follow start ts last → t.before ≡ last → IsLater t.before t.after → Follow start (ts ++ t ∷ []) t.after
+follow_more start last [] t h e l = (e ∙ h, l, refl)
+follow_more start last (u ∷ ts) t h e l = (h.0, h.1, follow_more u.after last ts t h.2 e l)
+
+append_nil : {A : Type 0} (t : List A) → t ++ [] ≡ t
+append_nil [] = refl
+append_nil {A = A} (b ∷ t) = ap (λ (u : List A). b ∷ u) (append_nil t)
+
+texts_more : (xs : List Exchange) (x : Exchange) → texts_in (xs ++ x ∷ []) ≡ texts_in xs ++ reply_text x.reply
+texts_more [] x = append_nil (reply_text x.reply)
+texts_more (y ∷ xs) x = ap (λ (t : Bytes). reply_text y.reply ++ t) (texts_more xs x) ∙ sym (append_assoc (reply_text y.reply) (texts_in xs) (reply_text x.reply))
+
+regroup : (d l t : Bytes) → d ++ (l ++ line_feed ∷ t) ≡ (d ++ (l ++ line_feed ∷ [])) ++ t
+regroup d l t = sym (append_assoc d (l ++ line_feed ∷ []) t ∙ ap (λ (u : Bytes). d ++ u) (append_assoc l (line_feed ∷ []) t))
+
+told_before : (a b : Bool) → a ≡ b → IsTrue b → IsTrue a
+told_before a b e h = subst IsTrue (sym e) h
+
+goes_on_then : (a b c : Outside) → GoesOn a b → GoesOn b c → GoesOn a c
+goes_on_then a b c g h = record {
+  source_tells = h.source_tells ∙ g.source_tells;
+  ground_tells = h.ground_tells ∙ g.ground_tells;
+  log_tells = λ t. g.log_tells (h.log_tells t);
+  read_faults = omega (arith, g.read_faults, h.read_faults);
+  counts = none_falls_on a.counts b.counts c.counts g.counts h.counts;
+}
+
+-- ---- files
+
+pub keeps_itself : (a : Told) → KeepsFiles a a
+keeps_itself a = record { goes = goes_nowhere a; files = λ file. stays_itself a file; lending = λ n. refl }
+
+pub keeps_on : (a b c : Told) → KeepsFiles a b → KeepsFiles b c → KeepsFiles a c
+keeps_on a b c first next = record {
+  goes = goes_on a b c first.goes next.goes;
+  files = λ file. stays_on a b c file first.goes next.goes (first.files file) (next.files file);
+  lending = λ n. next.lending n ∙ first.lending n;
+}
+
+pub keeps_unchanged : (a b : Told) → ChangesOnly NoFile a b → KeepsFiles a b
+keeps_unchanged a b only = record { goes = only.goes; files = λ file. only.others file (λ h. h); lending = only.lending }
+
+pub keeps_said : (bytes : Bytes) (r : Result (Unit {0}) GroundFault) (a b : Told) → Says bytes r a b → KeepsFiles a b
+keeps_said bytes r a b says = record { goes = says.goes; files = says.files; lending = says.lending }
+
+-- the control file is no attempt's, so it stays
+pub same_control : (a b : Told) → ChangesOnly NoFile a b → control_in b.held ≡ control_in a.held
+same_control a b only = ap bytes_of ((only.others Control (λ h. h)).held (λ h. h))
+
+-- a part was said, whatever the answer
+pub says_part : (bytes : Bytes) (r : Result (Unit {0}) GroundFault) (a b : Told) → Says bytes r a b → SaysPart bytes (said a) (said b)
+says_part bytes r a b says = elim (cases_lt a.moment b.moment) [
+  | inl later ↦ let front = says.front b.moment later (omega arith) in (take front.0 bytes, drop front.0 bytes, take-append-drop front.0 bytes, front.2)
+  | inr still ↦
+      let same : b.moment ≡ a.moment = omega (arith, says.goes.later) in
+      ([], bytes, refl, says.goes.said b.moment still ∙ (ap a.said_at same ∙ sym (append_nil (said a))))
+]
+
+abbrev IsShort : Bytes → Type 0
+IsShort line = length line ≤ longest_line
+
+-- one line more was served
+pub served_more : (old mid new : Outside) (lines lines' : Lines) (counts counts' : TurnCounts) (first state state' : State) (x : Exchange) → Served old mid lines counts first state → Turned mid new lines lines' counts counts' state state' x → (IsTrue mid.ground_tells → said new.told ≡ said mid.told ++ reply_text x.reply) → Served old new lines' counts' first state'
+served_more old mid new lines lines' counts counts' first state state' x h t s =
+    record {
+      done = h.done ++ (x.line ++ line_feed ∷ []);
+      exchanges = h.exchanges ++ x ∷ [];
+      goes_on = goes_on_then old mid new h.goes_on t.goes_on;
+      files = λ g. keeps_on old.told mid.told new.told (h.files g) (t.files (told_before _ _ h.goes_on.ground_tells g));
+      bytes = λ b. h.bytes b ∙ (ap (λ (u : Bytes). h.done ++ u) (t.front (told_before _ _ h.goes_on.source_tells b)) ∙ regroup h.done x.line (pending lines' ++ new.left));
+      lines_then = λ tail. ap whole_lines (sym (regroup h.done x.line tail)) ∙ (h.lines_then (x.line ++ line_feed ∷ tail) ∙ (ap (λ u. lines_in h.exchanges ++ u) (whole_lines-line x.line tail t.no_line_feed) ∙ (sym (append_assoc (lines_in h.exchanges) (x.line ∷ []) (whole_lines tail)) ∙ ap (λ u. u ++ whole_lines tail) (sym (map-append (λ x. x.line) h.exchanges (x ∷ []))))));
+      rest_then = λ tail. ap last_piece (sym (regroup h.done x.line tail)) ∙ (h.rest_then (x.line ++ line_feed ∷ tail) ∙ last_piece-line x.line tail t.no_line_feed);
+      short = subst (All IsShort) (sym (map-append (λ x. x.line) h.exchanges (x ∷ []))) (All-append IsShort (lines_in h.exchanges) (x.line ∷ []) h.short (All-cons IsShort x.line [] t.short (All-nil IsShort)));
+      count = omega (arith, h.count, t.count, length-append h.done (x.line ++ line_feed ∷ []), length-append x.line (line_feed ∷ []));
+      run = run_more no_rules first state h.exchanges x h.now_at h.run t.step;
+      now_at = t.after ∙ sym (after_more first h.exchanges x);
+      said = λ g. s (told_before _ _ h.goes_on.ground_tells g) ∙ (ap (λ (u : Bytes). u ++ reply_text x.reply) (h.said g) ∙ (append_assoc (said old.told) (texts_in h.exchanges) (reply_text x.reply) ∙ ap (λ (u : Bytes). said old.told ++ u) (sym (texts_more h.exchanges x))));
+      noted = λ l. t.noted l ∙ (ap (λ u. u ++ x.turn ∷ []) (h.noted (t.goes_on.log_tells l)) ∙ (append_assoc old.turns (turns_in h.exchanges) (x.turn ∷ []) ∙ ap (λ u. old.turns ++ u) (sym (map-append (λ x. x.turn) h.exchanges (x ∷ [])))));
+      start = h.start;
+      since = h.since;
+      follow = subst (λ (ts : List Turn). Follow h.start ts counts') (sym (map-append (λ x. x.turn) h.exchanges (x ∷ [])))
+          (subst (λ (e : TurnCounts). Follow h.start (turns_in h.exchanges ++ x.turn ∷ []) e) t.ends_at (follow_more h.start counts (turns_in h.exchanges) x.turn h.follow t.begins_at t.rises));
+      until = t.until;
+    }
+
+-- no line was served yet
+pub served_first : (old now : Outside) (lines : Lines) (counts : TurnCounts) (first state : State) → state ≡ first → counts ≡ turn_counts now.counts → GoesOn old now → (IsTrue old.ground_tells → ChangesOnly NoFile old.told now.told) → now.left ≡ old.left → now.turns ≡ old.turns → pending lines ≡ [] → lines.taken ≡ 0 → Served old now lines counts first state
+served_first old now lines counts first state begun counted g f left turns none zero =
+    record {
+      done = [];
+      exchanges = [];
+      goes_on = g;
+      files = λ b. keeps_unchanged old.told now.told (f b);
+      bytes = λ b. sym left ∙ ap (λ (u : Bytes). u ++ now.left) (sym none);
+      lines_then = λ tail. refl;
+      rest_then = λ tail. refl;
+      short = All-nil IsShort;
+      count = omega (arith, zero, ap length none);
+      run = tt;
+      now_at = begun;
+      said = λ b. said_now old.told now.told (f b).goes (f b).said ∙ sym (append_nil (said old.told));
+      noted = λ b. turns ∙ sym (append_nil old.turns);
+      start = turn_counts now.counts;
+      since = record { file = g.counts.file_faults; remove = g.counts.remove_faults; spawner = refl };
+      follow = counted;
+      until = subst (λ (c : TurnCounts). IsLater c (turn_counts now.counts)) (sym counted) (record { file = omega arith; remove = omega arith; spawner = refl });
+    }
+
+-- no line was served at all
+pub serves_none : (old new : Outside) (s : Status) → GoesOn old new → (IsTrue old.ground_tells → ChangesOnly NoFile old.told new.told) → new.left ≡ old.left → new.turns ≡ old.turns → Begins s old (opened no_repository) [] → Row s old new [] → Serves old new s
+serves_none old new s g f left turns begins row =
+    let first = opened no_repository in
+    let quiet : IsTrue old.ground_tells → said new.told ≡ said old.told = λ b. said_now old.told new.told (f b).goes (f b).said in
+    record {
+      taken = [];
+      exchanges = [];
+      first = first;
+      start = turn_counts new.counts;
+      last = turn_counts new.counts;
+      goes_on = g;
+      files = λ b. keeps_unchanged old.told new.told (f b);
+      bytes = λ b. sym left;
+      begun = ([], refl, λ c. refl);
+      short = All-nil IsShort;
+      begins = begins;
+      first_is = refl;
+      run = tt;
+      said_part = λ b. record { whole = []; cut = []; part = []; unsaid = []; all = refl; one = omega arith; text = refl; said_is = quiet b ∙ (sym (append_nil (said old.told)) ∙ sym (append_nil (said old.told ++ []))) };
+      said_all = λ b c. quiet b ∙ sym (append_nil (said old.told));
+      noted = λ b. turns ∙ sym (append_nil old.turns);
+      since = record { file = g.counts.file_faults; remove = g.counts.remove_faults; spawner = refl };
+      follow = refl;
+      until = record { file = omega arith; remove = omega arith; spawner = refl };
+      row = row;
+    }
+
+-- the store could not be opened
+pub begins_unopened : (old new : Outside) (s : Status) → GoesOn old new → (IsTrue old.ground_tells → ChangesOnly NoFile old.told new.told) → new.left ≡ old.left → new.turns ≡ old.turns → CouldNotOpen s old.ground_tells old.told old.counts new.counts → Serves old new s
+begins_unopened old new s g f left turns could_not = by_status s could_not
+  where
+    untouched : IsUntouched old new []
+    untouched = record { none_taken = refl; left = left; said_nothing = λ told. said_now old.told new.told (f told).goes (f told).said; turns = turns }
+
+    by_status : (s : Status) → CouldNotOpen s old.ground_tells old.told old.counts new.counts → Serves old new s
+    by_status status.NoStore h = serves_none old new status.NoStore g f left turns refl (untouched, h)
+    by_status (status.Damaged file at) h = serves_none old new (status.Damaged file at) g f left turns refl (untouched, h)
+    by_status status.GroundFault h = serves_none old new status.GroundFault g f left turns (inl refl) h
+    by_status status.Done h = absurd h
+    by_status status.Usage h = absurd h
+    by_status status.ReadFault h = absurd h
+    by_status status.SayFault h = absurd h
+    by_status status.Memory h = absurd h
+    by_status (status.Limit bound) h = absurd h
+    by_status status.Unfinished h = absurd h
+    by_status status.Exists h = absurd h
+
+pub ends_along : (s : Status) (r r' t t' : ℕ) (A B : Type 0) → EndsReading s r t A → r ≡ r' → t ≡ t' → (A → B) → EndsReading s r' t' B
+ends_along status.Done r r' t t' A B h e f k = (k h.0, sym e ∙ h.1, omega arith)
+ends_along status.Unfinished r r' t t' A B h e f k = (k h.0, omega arith, omega arith, omega arith)
+ends_along (status.Limit bound.Line) r r' t t' A B h e f k = (omega arith, omega arith)
+ends_along (status.Limit bound.Input) r r' t t' A B h e f k = (omega arith, sym f ∙ h.1)
+ends_along status.ReadFault r r' t t' A B h e f k = (omega arith, omega arith)
+ends_along status.Usage r r' t t' A B h e f k = absurd h
+ends_along status.NoStore r r' t t' A B h e f k = absurd h
+ends_along (status.Damaged file at) r r' t t' A B h e f k = absurd h
+ends_along status.SayFault r r' t t' A B h e f k = absurd h
+ends_along status.GroundFault r r' t t' A B h e f k = absurd h
+ends_along status.Memory r r' t t' A B h e f k = absurd h
+ends_along status.Exists r r' t t' A B h e f k = absurd h
+
+-- where reading ended, the store had been opened and no command was cut off
+record Ended (s : Status) (old new : Outside) (taken : Bytes) (first : State) (xs : List Exchange) : Type 0 where
+  row : Row s old new taken
+  whole : is_cut_off s ≡ false
+  begins : Begins s old first xs
+
+-- the row of a status with which reading ended
+row_of : (s : Status) (old mid new : Outside) (taken : Bytes) (first : State) (xs : List Exchange) → IsOpened old first → EndsReading s (length (last_piece taken)) (length taken) (IsTrue old.source_tells → new.left ≡ []) → old.read_faults ≤ mid.read_faults → IsCaused s mid.read_faults new.read_faults → Ended s old new taken first xs
+row_of status.Done old mid new taken first xs o e f c = record { row = e; whole = refl; begins = o }
+row_of status.Unfinished old mid new taken first xs o e f c = record { row = e; whole = refl; begins = o }
+row_of (status.Limit b) old mid new taken first xs o e f c = record { row = e; whole = refl; begins = o }
+row_of status.ReadFault old mid new taken first xs o e f c = record { row = (e, rose_after old.read_faults mid.read_faults new.read_faults f c); whole = refl; begins = o }
+row_of status.Usage old mid new taken first xs o e f c = absurd e
+row_of status.NoStore old mid new taken first xs o e f c = absurd e
+row_of (status.Damaged file at) old mid new taken first xs o e f c = absurd e
+row_of status.SayFault old mid new taken first xs o e f c = absurd e
+row_of status.GroundFault old mid new taken first xs o e f c = absurd e
+row_of status.Memory old mid new taken first xs o e f c = absurd e
+row_of status.Exists old mid new taken first xs o e f c = absurd e
+
+-- the source is read no further
+serves_stopped : (s : Status) (old mid new : Outside) (lines lines' : Lines) (counts counts' : TurnCounts) (first state state' : State) → IsOpened old first → first ≡ opened first.repository → Served old mid lines counts first state → Stopped s mid new lines lines' counts counts' state state' → Serves old new s
+serves_stopped s old mid new lines lines' counts counts' first state state' open_so begins h t =
+    let taken = h.done ++ t.rest in
+    let whole : whole_lines taken ≡ lines_in h.exchanges ++ [] = h.lines_then t.rest ∙ ap (λ u. lines_in h.exchanges ++ u) (whole_lines-rest t.rest t.no_line_feed) in
+    let rest : last_piece taken ≡ t.rest = h.rest_then t.rest ∙ last_piece-rest t.rest t.no_line_feed in
+    let long : lines'.taken ≡ length taken = omega (arith, h.count, t.count, length-append h.done t.rest) in
+    let end = row_of s old mid new taken first h.exchanges open_so (ends_along s (length t.rest) (length (last_piece taken)) lines'.taken (length taken) _ _ t.ends (ap length (sym rest)) long (λ e b. e (told_before _ _ h.goes_on.source_tells b))) h.goes_on.read_faults t.cause in
+    let quiet : IsTrue old.ground_tells → said new.told ≡ said old.told ++ texts_in h.exchanges = λ b. t.same_said (told_before _ _ h.goes_on.ground_tells b) ∙ h.said b in
+    record {
+      taken = taken;
+      exchanges = h.exchanges;
+      first = first;
+      start = h.start;
+      last = counts';
+      since = h.since;
+      goes_on = goes_on_then old mid new h.goes_on t.goes_on;
+      files = λ g. keeps_on old.told mid.told new.told (h.files g) (t.files (told_before _ _ h.goes_on.ground_tells g));
+      bytes = λ b. h.bytes b ∙ (ap (λ (u : Bytes). h.done ++ u) (t.front (told_before _ _ h.goes_on.source_tells b)) ∙ sym (append_assoc h.done t.rest new.left));
+      begun = ([], whole, λ c. refl);
+      short = h.short;
+      begins = end.begins;
+      first_is = begins;
+      run = h.run;
+      said_part = λ b. record { whole = h.exchanges; cut = []; part = []; unsaid = []; all = append_nil h.exchanges; one = omega arith; text = refl; said_is = quiet b ∙ sym (append_nil (said old.told ++ texts_in h.exchanges)) };
+      said_all = λ b c. quiet b;
+      noted = λ l. t.same_turns ∙ h.noted (t.goes_on.log_tells l);
+      follow = subst (λ (e : TurnCounts). Follow h.start (turns_in h.exchanges) e) (sym t.same_counts) h.follow;
+      until = t.until;
+      row = end.row;
+    }
+
+-- a reply could not be said
+serves_unsaid : (s : Status) (old mid new : Outside) (lines lines' : Lines) (counts counts' : TurnCounts) (first state : State) → is_cut_off s ≡ true → ((xs : List Exchange) → Begins s old first xs) → first ≡ opened first.repository → Served old mid lines counts first state → Unsaid mid new lines lines' counts counts' state → ((taken : Bytes) → Row s old new taken) → Serves old new s
+serves_unsaid s old mid new lines lines' counts counts' first state cut opened_so begins h u row =
+    let x = u.exchange in
+    let t = u.turned in
+    let xs = h.exchanges ++ x ∷ [] in
+    let done = h.done ++ (x.line ++ line_feed ∷ []) in
+    let then_lines : (tail : Bytes) → whole_lines (done ++ tail) ≡ lines_in xs ++ whole_lines tail = λ tail. ap whole_lines (sym (regroup h.done x.line tail)) ∙ (h.lines_then (x.line ++ line_feed ∷ tail) ∙ (ap (λ u. lines_in h.exchanges ++ u) (whole_lines-line x.line tail t.no_line_feed) ∙ (sym (append_assoc (lines_in h.exchanges) (x.line ∷ []) (whole_lines tail)) ∙ ap (λ u. u ++ whole_lines tail) (sym (map-append (λ x. x.line) h.exchanges (x ∷ [])))))) in
+    record {
+      taken = done ++ pending lines';
+      exchanges = xs;
+      first = first;
+      start = h.start;
+      last = counts';
+      since = h.since;
+      goes_on = goes_on_then old mid new h.goes_on t.goes_on;
+      files = λ g. keeps_on old.told mid.told new.told (h.files g) (t.files (told_before _ _ h.goes_on.ground_tells g));
+      bytes = λ b. h.bytes b ∙ (ap (λ (u : Bytes). h.done ++ u) (t.front (told_before _ _ h.goes_on.source_tells b)) ∙ (regroup h.done x.line (pending lines' ++ new.left) ∙ sym (append_assoc done (pending lines') new.left)));
+      begun = (whole_lines (pending lines'), then_lines (pending lines'), λ c. absurd (cc (c, cut)));
+      short = subst (All IsShort) (sym (map-append (λ x. x.line) h.exchanges (x ∷ []))) (All-append IsShort (lines_in h.exchanges) (x.line ∷ []) h.short (All-cons IsShort x.line [] t.short (All-nil IsShort)));
+      begins = opened_so xs;
+      first_is = begins;
+      run = run_more no_rules first state h.exchanges x h.now_at h.run t.step;
+      said_part = λ b. let p = u.part (told_before _ _ h.goes_on.ground_tells b) in record { whole = h.exchanges; cut = x ∷ []; part = p.0; unsaid = p.1; all = refl; one = omega arith; text = p.2 ∙ sym (append_nil (reply_text x.reply)); said_is = p.3 ∙ ap (λ (v : Bytes). v ++ p.0) (h.said b) };
+      said_all = λ b c. absurd (cc (c, cut));
+      noted = λ l. t.noted l ∙ (ap (λ u. u ++ x.turn ∷ []) (h.noted (t.goes_on.log_tells l)) ∙ (append_assoc old.turns (turns_in h.exchanges) (x.turn ∷ []) ∙ ap (λ u. old.turns ++ u) (sym (map-append (λ x. x.turn) h.exchanges (x ∷ [])))));
+      follow = subst (λ (ts : List Turn). Follow h.start ts counts') (sym (map-append (λ x. x.turn) h.exchanges (x ∷ [])))
+          (subst (λ (e : TurnCounts). Follow h.start (turns_in h.exchanges ++ x.turn ∷ []) e) t.ends_at (follow_more h.start counts (turns_in h.exchanges) x.turn h.follow t.begins_at t.rises));
+      until = t.until;
+      row = row (done ++ pending lines');
+    }
+
+-- how a run ends
+pub serves_stop : (s : Status) (old mid new : Outside) (lines lines' : Lines) (counts counts' : TurnCounts) (first state state' : State) → IsOpened old first → first ≡ opened first.repository → Served old mid lines counts first state → Stops s mid new lines lines' counts counts' state state' → Serves old new s
+serves_stop status.SayFault old mid new lines lines' counts counts' first state state' o b h u = serves_unsaid status.SayFault old mid new lines lines' counts counts' first state refl (λ xs. o) b h u.0 (λ taken. rose_after old.counts.say_faults mid.counts.say_faults new.counts.say_faults h.goes_on.counts.say_faults u.1)
+serves_stop status.GroundFault old mid new lines lines' counts counts' first state state' o b h u = serves_unsaid status.GroundFault old mid new lines lines' counts counts' first state refl (λ xs. inr o) b h u.0 (λ taken. rose_after old.counts.file_faults mid.counts.file_faults new.counts.file_faults h.goes_on.counts.file_faults u.1)
+serves_stop status.Done old mid new lines lines' counts counts' first state state' o b h u = serves_stopped status.Done old mid new lines lines' counts counts' first state state' o b h u
+serves_stop status.Unfinished old mid new lines lines' counts counts' first state state' o b h u = serves_stopped status.Unfinished old mid new lines lines' counts counts' first state state' o b h u
+serves_stop (status.Limit l) old mid new lines lines' counts counts' first state state' o b h u = serves_stopped (status.Limit l) old mid new lines lines' counts counts' first state state' o b h u
+serves_stop status.ReadFault old mid new lines lines' counts counts' first state state' o b h u = serves_stopped status.ReadFault old mid new lines lines' counts counts' first state state' o b h u
+serves_stop status.Usage old mid new lines lines' counts counts' first state state' o b h u = serves_stopped status.Usage old mid new lines lines' counts counts' first state state' o b h u
+serves_stop status.NoStore old mid new lines lines' counts counts' first state state' o b h u = serves_stopped status.NoStore old mid new lines lines' counts counts' first state state' o b h u
+serves_stop (status.Damaged file at) old mid new lines lines' counts counts' first state state' o b h u = serves_stopped (status.Damaged file at) old mid new lines lines' counts counts' first state state' o b h u
+serves_stop status.Memory old mid new lines lines' counts counts' first state state' o b h u = serves_stopped status.Memory old mid new lines lines' counts counts' first state state' o b h u
+serves_stop status.Exists old mid new lines lines' counts counts' first state state' o b h u = serves_stopped status.Exists old mid new lines lines' counts counts' first state state' o b h u
+
+-- ---- the store that is opened
+
+stands_open : (image : Image) (r : Repository) → StandsFor image r → live_index (control_in image) ≡ None → ⊥
+stands_open image r stands none =
+    let s = stands.standing in
+    let same : control_in image ≡ s.control = ap bytes_of s.held in
+    let is : live_index (control_in image) ≡ Some s.index = ap live_index same ∙ s.live.index in
+    absurd (cc (none, is))
+
+-- its row excludes each status but those of its script
+pub ends_by_script : (s : Status) (old new : Outside) (taken : Bytes) → Row s old new taken → EndsWhereAllIsWell old new s
+ends_by_script status.Done old new taken r told fresh calm = tt
+ends_by_script status.Unfinished old new taken r told fresh calm = tt
+ends_by_script (status.Limit b) old new taken r told fresh calm = tt
+ends_by_script status.Memory old new taken r told fresh calm = tt
+ends_by_script status.Usage old new taken r told fresh calm = r
+ends_by_script status.Exists old new taken r told fresh calm = r
+ends_by_script status.NoStore old new taken r told fresh calm = absurd (stands_open old.told.held no_repository (fresh_stands old.told.held fresh) (r.1 told))
+ends_by_script (status.Damaged file at) old new taken r told fresh calm = absurd ((r.1 told).other fresh)
+ends_by_script status.ReadFault old new taken r told fresh calm = absurd (calm.read r.1)
+ends_by_script status.SayFault old new taken r told fresh calm = absurd (calm.say r)
+ends_by_script status.GroundFault old new taken r told fresh calm = absurd (calm.file r)

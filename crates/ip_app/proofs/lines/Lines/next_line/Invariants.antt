@@ -1,0 +1,22 @@
+use Rattle.std.proofs.Common.{◌≡◌, ◌+◌, ◌-◌, ◌^◌, ◌≤◌, ◌++◌, length, vec_len, IsTrue}
+use Rattle.std.specs.Vec.{vec_capacity}
+use Rattle.ip_app.specs.Lines.{HasNoLineFeed}
+use Rattle.ip_app.specs.Pending.{pending, IsReady}
+use Rattle.ip_app.proofs.lines.Lines.next_line.Given as goal
+
+abbrev pub invariant-loop-self : goal.invariant-loop-self
+invariant-loop-self g l =
+    let left = g.S.Source.left in
+    record {
+      ready : IsReady l.self;
+      no_line_feed : HasNoLineFeed l.line.items;
+      room : vec_len l.line + length (pending l.self) ≤ 4194305;
+      capacity : 4194305 ≤ vec_capacity l.line;
+      grown : vec_capacity l.fn.line ≤ vec_capacity l.line;
+      faults : g.S.Source.read_faults l.fn.source ≤ g.S.Source.read_faults l.source;
+      bytes : IsTrue g.S.Source.tells → pending l.fn.self ++ left l.fn.source ≡ l.line.items ++ pending l.self ++ left l.source;
+      count : l.self.taken + length (pending l.fn.self) ≡ l.fn.self.taken + vec_len l.line + length (pending l.self);
+    }
+
+abbrev pub decreases-loop-self : goal.decreases-loop-self
+decreases-loop-self g l = 2 ^ 62 - l.self.taken

@@ -1,0 +1,13 @@
+pub mod Ending
+pub mod Exchanges
+pub mod Lines
+pub mod Outside
+pub mod Pending
+pub mod Reading
+pub mod Rooms
+pub mod Run
+pub mod Serving
+pub mod Session
+pub mod Statuses
+pub mod Turns
+pub mod Words

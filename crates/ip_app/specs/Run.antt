@@ -1,0 +1,197 @@
+-- What a call of the program does, from what is told when it begins to what is told when it returns.
+--     Inits, Serves      one record for each call; its last field is the row of the status
+--     EndsAsBytes, EndsWhereAllIsWell      of a serving call: the source's bytes give the status; and which statuses need a fault
+--     LeavesAll      of a call that is refused: nothing changes
+use Rattle.std.specs.Prelude.{ℕ, ◌≤◌, ◌≡◌, ◌⊎◌, Bool, true, false, IsTrue, List, [], ◌++◌, length, All, None, IsSome, Result, Ok, Err}
+use Rattle.ip_ground.specs.declared.names.FileName.{FileName}
+use Rattle.ip_ground.specs.declared.names.FileName.TheVariants.{Control}
+use Rattle.ip_ground.specs.declared.names.GroundCounts.{GroundCounts}
+use Rattle.ip_ground.specs.Counts.{Rose}
+use Rattle.ip_ground.specs.Told.{Told, said, ChangesOnly, Only, NoFile, IsKept, EachImageNow}
+use Rattle.ip_image.specs.declared.counts.TurnCounts.{TurnCounts}
+use Rattle.ip_image.specs.Slot.{live_index}
+use Rattle.ip_image.specs.Standing.{StandsFor}
+use Rattle.ip_spec.specs.Path.{Bytes}
+use Rattle.ip_spec.specs.Repository.{no_repository}
+use Rattle.ip_spec.specs.Machine.{State, opened}
+use Rattle.ip_spec.specs.Script.{whole_lines}
+use Rattle.ip_store.specs.Control.{control_in, default_chunk, IsFresh}
+use Rattle.ip_store.specs.declared.store.InitFault.{InitFault}
+use Rattle.ip_store.specs.declared.store.OpenFault.{OpenFault}
+use Rattle.ip_app.specs.declared.statuses.Status.{Status}
+use Rattle.ip_app.specs.Lines.{longest_line, last_piece}
+use Rattle.ip_app.specs.Reading.{EndsReading}
+use Rattle.ip_app.specs.Ending.{ending_of, IsOfBytes}
+use Rattle.ip_app.specs.Exchanges.{Exchange, no_rules, Run, lines_in, turns_in, texts_in}
+use Rattle.ip_app.specs.Turns.{turn_counts, IsLater, Follow}
+use Rattle.ip_app.specs.Outside.{Outside, GoesOn, KeepsFiles}
+
+-- ---- opening
+
+abbrev pub opening_status : OpenFault → Status
+opening_status OpenFault.NoStore = Status.NoStore
+opening_status (OpenFault.Damaged file at) = Status.Damaged file at
+opening_status OpenFault.Ground = Status.GroundFault
+
+-- a slot is open, and the control file is not that of a store without commits
+pub record IsDamagedAt (told : Told) (file : FileName) (at : ℕ) : Type 0 where
+  pub gate_open : IsSome (live_index (control_in told.held))
+  pub other : ¬ (IsFresh default_chunk told.held)
+  pub file_is : file ≡ Control
+  pub place : at ≡ 0
+
+-- why the store could not be opened
+abbrev pub CouldNotOpen : Status → (tells : Bool) → Told → GroundCounts → GroundCounts → Type 0
+CouldNotOpen Status.NoStore tells old before after = IsTrue tells → live_index (control_in old.held) ≡ None
+CouldNotOpen (Status.Damaged file at) tells old before after = IsTrue tells → IsDamagedAt old file at
+CouldNotOpen Status.GroundFault tells old before after = Rose before.file_faults after.file_faults
+CouldNotOpen status tells old before after = ⊥
+
+-- the files stand for the repository with which the run begins
+pub record IsOpened (old : Outside) (first : State) : Type 0 where
+  pub fresh : IsTrue old.ground_tells → IsFresh default_chunk old.told.held
+  pub stands : IsTrue old.ground_tells → StandsFor old.told.held first.repository
+
+-- the store was opened, or no command was begun
+abbrev pub Begins : Status → Outside → State → List Exchange → Type 0
+Begins Status.NoStore old first exchanges = exchanges ≡ []
+Begins (Status.Damaged file at) old first exchanges = exchanges ≡ []
+Begins Status.Memory old first exchanges = exchanges ≡ []
+Begins Status.GroundFault old first exchanges = (exchanges ≡ []) ⊎ IsOpened old first
+Begins status old first exchanges = IsOpened old first
+
+-- ---- serving a script
+
+-- the call ended in the middle of a command, or of saying its reply
+abbrev pub is_cut_off : Status → Bool
+is_cut_off Status.SayFault = true
+is_cut_off Status.GroundFault = true
+is_cut_off _ = false
+
+-- what was said of the replies: all, or all but the last and a part of that
+pub record SaysUpTo (exchanges : List Exchange) (old new : Bytes) : Type 0 where
+  pub whole : List Exchange
+  pub cut : List Exchange
+  pub part : Bytes
+  pub unsaid : Bytes
+  pub all : whole ++ cut ≡ exchanges
+  pub one : length cut ≤ 1
+  pub text : part ++ unsaid ≡ texts_in cut
+  pub said_is : new ≡ old ++ texts_in whole ++ part
+
+-- no byte was taken, no command begun and nothing said
+pub record IsUntouched (old new : Outside) (taken : Bytes) : Type 0 where
+  pub none_taken : taken ≡ []
+  pub left : new.left ≡ old.left
+  pub said_nothing : IsTrue old.ground_tells → said new.told ≡ said old.told
+  pub turns : new.turns ≡ old.turns
+
+abbrev pub ReadingEnds : Status → Outside → Outside → Bytes → Type 0
+ReadingEnds status old new taken = EndsReading status (length (last_piece taken)) (length taken) (IsTrue old.source_tells → new.left ≡ [])
+
+-- the row of each status: what it says of the bytes taken, the files and the counts
+abbrev pub Row : Status → Outside → Outside → Bytes → Type 0
+Row Status.Done old new taken = ReadingEnds Status.Done old new taken
+Row Status.Unfinished old new taken = ReadingEnds Status.Unfinished old new taken
+Row (Status.Limit bound) old new taken = ReadingEnds (Status.Limit bound) old new taken
+Row Status.ReadFault old new taken = ReadingEnds Status.ReadFault old new taken × Rose old.read_faults new.read_faults
+Row Status.SayFault old new taken = Rose old.counts.say_faults new.counts.say_faults
+Row Status.GroundFault old new taken = Rose old.counts.file_faults new.counts.file_faults
+Row Status.NoStore old new taken = IsUntouched old new taken × (IsTrue old.ground_tells → live_index (control_in old.told.held) ≡ None)
+Row (Status.Damaged file at) old new taken = IsUntouched old new taken × (IsTrue old.ground_tells → IsDamagedAt old.told file at)
+Row Status.Memory old new taken = IsUntouched old new taken
+Row Status.Usage old new taken = ⊥
+Row Status.Exists old new taken = ⊥
+
+pub record Serves (old new : Outside) (status : Status) : Type 0 where
+  pub taken : Bytes
+  pub exchanges : List Exchange
+  pub first : State
+  pub start : TurnCounts
+  pub last : TurnCounts
+  pub goes_on : GoesOn old new
+  pub files : IsTrue old.ground_tells → KeepsFiles old.told new.told
+  -- the bytes taken from the source, in whatever pieces
+  pub bytes : IsTrue old.source_tells → old.left ≡ taken ++ new.left
+  -- the commands begun are those of their lines, in order, and of all of them unless one cut the call short
+  pub begun : (more : List Bytes) × (whole_lines taken ≡ lines_in exchanges ++ more) × (is_cut_off status ≡ false → more ≡ [])
+  pub short : All (λ line. length line ≤ longest_line) (lines_in exchanges)
+  -- they are a run of the machine, from the repository that was opened, each with what it met
+  pub begins : Begins status old first exchanges
+  pub first_is : first ≡ opened first.repository
+  pub run : Run no_rules first exchanges
+  -- what was said grows by the replies' texts
+  pub said_part : IsTrue old.ground_tells → SaysUpTo exchanges (said old.told) (said new.told)
+  pub said_all : IsTrue old.ground_tells → is_cut_off status ≡ false → said new.told ≡ said old.told ++ texts_in exchanges
+  -- the log has their turns, each beginning with the counts that the one before it ended with
+  pub noted : IsTrue new.log_tells → new.turns ≡ old.turns ++ turns_in exchanges
+  pub since : IsLater (turn_counts old.counts) start
+  pub follow : Follow start (turns_in exchanges) last
+  pub until : IsLater last (turn_counts new.counts)
+  -- why it ends so
+  pub row : Row status old new taken
+
+-- where the source tells its bytes, these alone give the status, in whatever pieces they came
+abbrev pub EndsAsBytes : Outside → Status → Type 0
+EndsAsBytes old status = IsTrue old.source_tells → IsOfBytes status → status ≡ ending_of old.left
+
+-- no count of faults rose
+pub record NoneRose (old new : Outside) : Type 0 where
+  pub read : ¬ Rose old.read_faults new.read_faults
+  pub file : ¬ Rose old.counts.file_faults new.counts.file_faults
+  pub say : ¬ Rose old.counts.say_faults new.counts.say_faults
+
+-- a status that the script gives, and the one that is free
+abbrev pub EndsByScript : Status → Type 0
+EndsByScript Status.Done = Unit {0}
+EndsByScript Status.Unfinished = Unit {0}
+EndsByScript (Status.Limit bound) = Unit {0}
+EndsByScript Status.Memory = Unit {0}
+EndsByScript _ = ⊥
+
+-- where no fault was counted and a store was made there, a serving call ends by its script
+abbrev pub EndsWhereAllIsWell : Outside → Outside → Status → Type 0
+EndsWhereAllIsWell old new status = IsTrue old.ground_tells → IsFresh default_chunk old.told.held → NoneRose old new → EndsByScript status
+
+-- ---- making a store
+
+abbrev pub init_status : Result (Unit {0}) InitFault → Status
+init_status (Ok u) = Status.Done
+init_status (Err InitFault.Existing) = Status.Exists
+init_status (Err InitFault.Ground) = Status.GroundFault
+
+-- no slot was open, and a store without commits stands there, of which a crash leaves all
+pub record IsMade (old new : Told) : Type 0 where
+  pub closed : live_index (control_in old.held) ≡ None
+  pub fresh : IsFresh default_chunk new.held
+  pub kept : IsKept new Control
+  pub stands : EachImageNow new (λ image. StandsFor image no_repository)
+
+-- a slot was open, and nothing was changed
+pub record IsThere (old new : Told) : Type 0 where
+  pub gate_open : IsSome (live_index (control_in old.held))
+  pub only : ChangesOnly NoFile old new
+
+abbrev pub InitRow : Status → (tells : Bool) → Told → Told → GroundCounts → GroundCounts → Type 0
+InitRow Status.Done tells old new before after = IsTrue tells → IsMade old new
+InitRow Status.Exists tells old new before after = IsTrue tells → IsThere old new
+InitRow Status.GroundFault tells old new before after = Rose before.file_faults after.file_faults
+InitRow _ tells old new before after = ⊥
+
+pub record Inits (old new : Outside) (status : Status) : Type 0 where
+  pub goes_on : GoesOn old new
+  pub left : new.left ≡ old.left
+  pub turns : new.turns ≡ old.turns
+  -- at no moment does another file change, and nothing is said
+  pub only : IsTrue old.ground_tells → ChangesOnly (Only Control) old.told new.told
+  pub row : InitRow status old.ground_tells old.told new.told old.counts new.counts
+
+-- ---- a call that is refused
+
+pub record LeavesAll (old new : Outside) : Type 0 where
+  pub goes_on : GoesOn old new
+  pub left : new.left ≡ old.left
+  pub read_faults : new.read_faults ≡ old.read_faults
+  pub turns : new.turns ≡ old.turns
+  pub only : ChangesOnly NoFile old.told new.told
+  pub counts : new.counts ≡ old.counts

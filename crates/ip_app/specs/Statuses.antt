@@ -1,0 +1,52 @@
+-- The program's exit status and the line on standard error, for each status of a call.
+--     code_of status, status_line status
+use Rattle.std.specs.Prelude.{ℕ, [], ◌∷◌, ◌++◌, Option, Some, None, codes}
+use Rattle.std.specs.Fmt.{decimal}
+use Rattle.ip_ground.specs.declared.names.FileName.{FileName}
+use Rattle.ip_ground.specs.declared.names.FileName.TheVariants.{Control, Chunk, Prefix, Mapping, Done}
+use Rattle.ip_spec.specs.Path.{Bytes, space, line_feed}
+use Rattle.ip_app.specs.declared.statuses.Status.{Status}
+use Rattle.ip_app.specs.declared.statuses.Bound.TheVariants as Bound
+
+abbrev pub code_of : Status → ℕ
+code_of Status.Done = 0
+code_of Status.Usage = 2
+code_of Status.NoStore = 3
+code_of (Status.Damaged file at) = 4
+code_of Status.ReadFault = 5
+code_of Status.SayFault = 6
+code_of Status.GroundFault = 7
+code_of Status.Memory = 8
+code_of (Status.Limit bound) = 9
+code_of Status.Unfinished = 10
+code_of Status.Exists = 11
+
+-- a file's name in the store's folder
+abbrev pub file_text : FileName → Bytes
+file_text Control = codes "control"
+file_text (Chunk number) = codes "chunk." ++ decimal number
+file_text (Prefix attempt) = codes "prefix." ++ decimal attempt
+file_text (Mapping attempt) = codes "mapping." ++ decimal attempt
+file_text (Done attempt) = codes "done." ++ decimal attempt
+
+-- what the line says, if there is one
+abbrev pub status_text : Status → Option Bytes
+status_text Status.Done = None
+status_text Status.Usage = Some (codes "usage")
+status_text Status.NoStore = Some (codes "no store")
+status_text (Status.Damaged file at) = Some (codes "damaged " ++ file_text file ++ space ∷ decimal at)
+status_text Status.ReadFault = Some (codes "read fault")
+status_text Status.SayFault = Some (codes "write fault")
+status_text Status.GroundFault = Some (codes "disk fault")
+status_text Status.Memory = Some (codes "want of memory")
+status_text (Status.Limit Bound.Line) = Some (codes "limit line")
+status_text (Status.Limit Bound.Input) = Some (codes "limit input")
+status_text Status.Unfinished = Some (codes "unfinished line")
+status_text Status.Exists = Some (codes "store exists")
+
+abbrev pub named_line : Option Bytes → Bytes
+named_line None = []
+named_line (Some text) = codes "ipstore: " ++ text ++ line_feed ∷ []
+
+abbrev pub status_line : Status → Bytes
+status_line status = named_line (status_text status)

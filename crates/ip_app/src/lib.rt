@@ -1,0 +1,16 @@
+//! The program's calls: what its words ask for, a script served line by line, and how a call ends.
+#![tactic(auto)]
+
+mod calls;
+mod lines;
+mod serve;
+mod session;
+mod statuses;
+mod turn_log;
+
+pub use calls::run;
+pub use statuses::{Bound, Status};
+pub use turn_log::{Kept, Log, Silent, Turn};
+
+#[cfg(test)]
+mod tests;

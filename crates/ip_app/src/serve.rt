@@ -1,0 +1,150 @@
+// Serving a script: line by line, one reply each.
+ghost use Rattle.std.specs.Prelude.{◌≡◌, ◌≤◌, ◌<◌, [], IsTrue, OnOk, IfOk, IfErr, ◌++◌};
+ghost use Rattle.ip_ground.specs.Counts.{NoneFalls};
+ghost use Rattle.ip_ground.specs.Told.{ChangesOnly, NoFile, said};
+ghost use Rattle.ip_spec.specs.Text.{reply_text};
+ghost use Rattle.ip_store.specs.Control.{default_chunk, IsFresh};
+ghost use Rattle.ip_app.specs.declared.lines.Lines.{Lines};
+ghost use Rattle.ip_app.specs.Exchanges.{Exchange};
+ghost use Rattle.ip_app.specs.Outside.{outside};
+ghost use Rattle.ip_app.specs.Turns.{turn_counts, IsLater};
+ghost use Rattle.ip_app.specs.Serving.{Turned, Stops};
+ghost use Rattle.ip_app.specs.Run.{opening_status, CouldNotOpen, Serves, EndsWhereAllIsWell, EndsAsBytes};
+ghost use Rattle.ip_app.specs.Session.{state_of};
+
+use crate::lines::{LONGEST_LINE, Lines};
+use crate::session::Session;
+use crate::statuses::Status;
+use crate::turn_log::{Log, Turn, turn_counts};
+use ip_base::Memory;
+use ip_ground::Ground;
+use ip_image::counts::TurnCounts;
+use ip_script::Source;
+use ip_store::{OpenFault, Store};
+use std::alloc::Global;
+
+/// So many bytes of a reply take no memory.
+const REPLY_ROOM: usize = 4096;
+
+/// The room for a line and its reply.
+#[derive(Drop)]
+struct LineRoom {
+    lines: Lines,
+    line: Vec<u8>,
+    text: Vec<u8>,
+}
+
+impl LineRoom {
+    ghost use Rattle.ip_app.specs.Rooms.{IsRoomy};
+    ghost use Rattle.ip_app.specs.Pending.{pending};
+
+    fn new(alloc: Global) -> Result<Self, Memory>
+        ensures roomy { IfOk result IsRoomy }
+        ensures pending { IfOk result (λ room. pending room.lines ≡ []) }
+        ensures taken { IfOk result (λ room. room.lines.taken ≡ 0) }
+    {
+        let line = Vec::with_capacity(alloc, LONGEST_LINE + 1)?;
+        let text = Vec::with_capacity(alloc, REPLY_ROOM)?;
+        Ok(LineRoom {
+            lines: Lines::new(),
+            line,
+            text,
+        })
+    }
+
+    // Takes a line, runs its command, notes it and says its reply. `Err` says why there is no further turn.
+    fn turn<S: Source, G: Ground, L: Log>(
+        &mut self,
+        session: &mut Session,
+        counts: &mut TurnCounts,
+        source: &mut S,
+        ground: &mut G,
+        log: &mut L,
+    ) -> Result<(), Status>
+        requires roomy { IsRoomy self.old }
+        requires counted { IsLater counts.old (turn_counts (G.counts_of ground.old)) }
+        ensures roomy { IsRoomy self.new }
+        ensures turned { let told = outside S.tells S.left S.read_faults G.tells G.told G.counts_of L.tells L.turns in
+            OnOk result ((x : Exchange)
+            × Turned (told source.old ground.old log.old) (told source.new ground.new log.new) self.old.lines self.new.lines counts.old counts.new (state_of session.old) (state_of session.new) x
+            × (IsTrue G.tells → said (G.told ground.new) ≡ said (G.told ground.old) ++ reply_text x.reply)) }
+        ensures stops { let told = outside S.tells S.left S.read_faults G.tells G.told G.counts_of L.tells L.turns in
+            IfErr result (λ status. Stops status (told source.old ground.old log.old) (told source.new ground.new log.new) self.old.lines self.new.lines counts.old counts.new (state_of session.old) (state_of session.new)) }
+    {
+        self.line.clear();
+        self.text.clear();
+        self.lines.next_line(source, &mut self.line)?;
+        let before = *counts;
+        session.answer(&self.line, &mut self.text);
+        *counts = turn_counts(ground.counts());
+        log.note(&Turn {
+            met: session.met(),
+            before,
+            after: *counts,
+        });
+        match ground.say(&self.text) {
+            Ok(()) => Ok(()),
+            Err(_) => Err(Status::SayFault),
+        }
+    }
+}
+
+// How a call ends that could not open the store.
+fn opening_status(fault: OpenFault) -> Status
+    ensures { result ≡ opening_status fault }
+{
+    match fault {
+        OpenFault::NoStore => Status::NoStore,
+        OpenFault::Damaged { file, at } => Status::Damaged { file, at },
+        OpenFault::Ground => Status::GroundFault,
+    }
+}
+
+// Binds the folder and opens the store in it.
+fn open_in<G: Ground>(folder: &str, ground: &mut G) -> Result<Store, Status>
+    ensures only { IsTrue G.tells → ChangesOnly NoFile (G.told ground.old) (G.told ground.new) }
+    ensures fresh { IsTrue G.tells → OnOk result (IsFresh default_chunk (G.told ground.old).held) }
+    ensures refused { IfErr result (λ status. CouldNotOpen status G.tells (G.told ground.old) (G.counts_of ground.old) (G.counts_of ground.new)) }
+    ensures counts { NoneFalls (G.counts_of ground.old) (G.counts_of ground.new) }
+{
+    if ground.attach(folder).is_err() {
+        return Err(Status::GroundFault);
+    }
+    match Store::open_at(ground) {
+        Ok(store) => Ok(store),
+        Err(fault) => Err(opening_status(fault)),
+    }
+}
+
+/// Opens the store, runs each line of the source and says each reply.
+pub fn serve<S: Source, G: Ground, L: Log>(
+    alloc: Global,
+    folder: &str,
+    source: &mut S,
+    ground: &mut G,
+    log: &mut L,
+) -> Status
+    ensures serves { let told = outside S.tells S.left S.read_faults G.tells G.told G.counts_of L.tells L.turns in
+        Serves (told source.old ground.old log.old) (told source.new ground.new log.new) result }
+    // Where the source tells its bytes, these alone give the status, in whatever pieces they came.
+    ensures bytes { let told = outside S.tells S.left S.read_faults G.tells G.told G.counts_of L.tells L.turns in
+        EndsAsBytes (told source.old ground.old log.old) result }
+    // Where no fault is counted and the store stands, it ends by the script, or for want of memory.
+    ensures complete { let told = outside S.tells S.left S.read_faults G.tells G.told G.counts_of L.tells L.turns in
+        EndsWhereAllIsWell (told source.old ground.old log.old) (told source.new ground.new log.new) result }
+{
+    let store = match open_in(folder, ground) {
+        Ok(store) => store,
+        Err(status) => return status,
+    };
+    let Ok(mut room) = LineRoom::new(alloc) else {
+        return Status::Memory;
+    };
+    let mut session = Session::new(alloc, store);
+    let mut counts = turn_counts(ground.counts());
+    'lines: loop {
+        if let Err(status) = room.turn(&mut session, &mut counts, source, ground, log) {
+            return status;
+        }
+    }
+}

@@ -1,0 +1,124 @@
+// How a call of the program ends.
+ghost use Rattle.std.specs.Prelude.{◌≡◌, ◌++◌, ◌∷◌, OnOk, OnErr};
+ghost use Rattle.std.specs.Fmt.{decimal};
+ghost use Rattle.ip_spec.specs.Path.{space};
+ghost use Rattle.ip_app.specs.Statuses.{code_of, file_text, status_line};
+
+use ip_base::Memory;
+use ip_ground::FileName;
+use itoa::Buffer;
+
+/// What a source has too much of.
+#[derive(Clone, Copy, Debug, PartialEq, Eq)]
+pub enum Bound {
+    /// Bytes of a line before its line feed: more than 4194304.
+    Line,
+    /// Bytes in all: 2^62.
+    Input,
+}
+
+/// How a call of the program ends.
+#[derive(Clone, Copy, Debug, PartialEq, Eq)]
+pub enum Status {
+    /// The source was read to its end, or the store was made.
+    Done,
+    /// The words ask for nothing that the program does.
+    Usage,
+    /// No slot of the control file is open.
+    NoStore,
+    /// The store's files stand for no repository; the byte `at` of the file is the first that is wrong.
+    Damaged { file: FileName, at: u64 },
+    /// The source could not be read.
+    ReadFault,
+    /// A reply could not be said, or not all of it.
+    SayFault,
+    /// A file of the store could not be read, written or synced, or its folder could not be bound.
+    GroundFault,
+    /// There was no memory for a line and its reply, before the first line.
+    Memory,
+    /// A line or the source is too long.
+    Limit(Bound),
+    /// The source ended within a line.
+    Unfinished,
+    /// A store is there already.
+    Exists,
+}
+
+impl Status {
+    /// The program's exit status.
+    pub fn code(self) -> u8
+        ensures { result ≡ code_of self }
+    {
+        match self {
+            Status::Done => 0,
+            Status::Usage => 2,
+            Status::NoStore => 3,
+            Status::Damaged { .. } => 4,
+            Status::ReadFault => 5,
+            Status::SayFault => 6,
+            Status::GroundFault => 7,
+            Status::Memory => 8,
+            Status::Limit(_) => 9,
+            Status::Unfinished => 10,
+            Status::Exists => 11,
+        }
+    }
+
+    /// Writes the line for standard error at the end, with its line feed, if there is one.
+    pub fn put_line(self, out: &mut Vec<u8>) -> Result<(), Memory>
+        ensures { OnOk result (out.new.items ≡ out.old.items ++ status_line self) }
+    {
+        let text: &[u8] = match self {
+            Status::Done => return Ok(()),
+            Status::Damaged { file, at } => return put_damaged(file, at, out),
+            Status::Usage => b"ipstore: usage\n",
+            Status::NoStore => b"ipstore: no store\n",
+            Status::ReadFault => b"ipstore: read fault\n",
+            Status::SayFault => b"ipstore: write fault\n",
+            Status::GroundFault => b"ipstore: disk fault\n",
+            Status::Memory => b"ipstore: want of memory\n",
+            Status::Limit(Bound::Line) => b"ipstore: limit line\n",
+            Status::Limit(Bound::Input) => b"ipstore: limit input\n",
+            Status::Unfinished => b"ipstore: unfinished line\n",
+            Status::Exists => b"ipstore: store exists\n",
+        };
+        Ok(out.extend_from_slice(text)?)
+    }
+}
+
+fn put_number(n: u64, out: &mut Vec<u8>) -> Result<(), Memory>
+    ensures { OnOk result (out.new.items ≡ out.old.items ++ decimal n) }
+{
+    let mut buffer = Buffer::new();
+    Ok(out.extend_from_slice(buffer.format(n).as_bytes())?)
+}
+
+// A file's name, by the number behind its kind.
+fn put_numbered(kind: &[u8], n: u64, out: &mut Vec<u8>) -> Result<(), Memory>
+    ensures { OnOk result (out.new.items ≡ out.old.items ++ (kind.now ++ decimal n)) }
+{
+    out.extend_from_slice(kind)?;
+    put_number(n, out)
+}
+
+fn put_file(file: FileName, out: &mut Vec<u8>) -> Result<(), Memory>
+    ensures { OnOk result (out.new.items ≡ out.old.items ++ file_text file) }
+{
+    match file {
+        FileName::Control => Ok(out.extend_from_slice(b"control")?),
+        FileName::Chunk(number) => put_numbered(b"chunk.", number, out),
+        FileName::Prefix(attempt) => put_numbered(b"prefix.", attempt, out),
+        FileName::Mapping(attempt) => put_numbered(b"mapping.", attempt, out),
+        FileName::Done(attempt) => put_numbered(b"done.", attempt, out),
+    }
+}
+
+fn put_damaged(file: FileName, at: u64, out: &mut Vec<u8>) -> Result<(), Memory>
+    ensures { OnOk result (out.new.items ≡ out.old.items ++ status_line (Status.Damaged file at)) }
+{
+    out.extend_from_slice(b"ipstore: damaged ")?;
+    put_file(file, out)?;
+    out.push(b' ')?;
+    put_number(at, out)?;
+    Ok(out.push(b'\n')?)
+}

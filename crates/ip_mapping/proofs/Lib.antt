@@ -1,0 +1,5 @@
+pub mod Numbers
+pub mod Order
+pub mod Lookup
+pub mod Outcomes
+pub mod Writing

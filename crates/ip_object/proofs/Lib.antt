@@ -1,0 +1,6 @@
+mod Listing
+mod Children
+mod PutLemmas
+mod Patched
+mod Hashed
+mod Spelled

@@ -1,0 +1,6 @@
+use Rattle.ip_object.specs.Body.{left_in, IsInside}
+use Rattle.ip_object.proofs.Listing.{IsAt, rows_from}
+use Rattle.ip_object.proofs.loops.take_rows.Given as goal
+
+abbrev pub invariant-loop : goal.invariant-loop
+invariant-loop l = record { inside : IsInside l.body; at : IsAt rows_from l.fn.count l.counter l.rows.items (left_in l.fn.body) (left_in l.body) }

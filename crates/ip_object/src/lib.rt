@@ -1,0 +1,22 @@
+//! Records as bytes: their spelling, reading them back, their names and references.
+#![tactic(auto)]
+
+mod body;
+mod encode;
+mod lists;
+mod loops;
+mod name;
+mod read;
+mod referring;
+
+pub use encode::encode_into;
+pub use ip_spec::record::{
+    Branch, Branches, CommitRecord, InodeChild, InodeChildren, LeafEntries, LeafEntry, Parent,
+    Parents, Record, RecordFault, Ref,
+};
+pub use name::{hash_contents, name_of_record};
+pub use read::read_record;
+pub use referring::{RecordReferences, references};
+
+#[cfg(test)]
+mod tests;

@@ -1,0 +1,10 @@
+mod EachLine
+mod FieldLaw
+mod FormLaw
+mod Handing
+mod HexDigits
+mod HexLaw
+mod LineLaw
+mod ReadLaw
+mod PutLemmas
+mod ReachLemmas

@@ -1,0 +1,45 @@
+-- How far a text goes along with the fields of a line. The rule of the lines is the grammar; these say what the functions on the way to it find.
+--     field_length field text      how many bytes from the front may be part of the field.      is_whole_field field text n      whether so many are a whole one
+--     reach word fields line      how far a line goes along with a word and fields, and whether it is of them
+use Rattle.std.specs.Prelude.{ℕ, ◌+◌, ◌%◌, ◌==◌, Bool, true, false, ◌&&◌, ◌||◌, not, nat_lt, if◌then◌else◌, List, [], ◌∷◌, drop, min}
+use Rattle.std.specs.List.{prefix_len}
+use Rattle.hex.specs.Hex.{is_hex_digit}
+use Rattle.ip_spec.specs.Path.{Bytes}
+use Rattle.ip_script.specs.declared.field.Field.{Field}
+use Rattle.ip_script.specs.declared.field.Field.TheVariants.{Step, Hex}
+use Rattle.ip_script.specs.declared.line.Fit.{Fit}
+
+-- bytes that a step is made of
+abbrev pub is_step_byte : ℕ → Bool
+is_step_byte b = nat_lt b 256 && not (b == 47) && not (b == 32) && not (b == 10) && not (b == 0)
+
+abbrev pub field_length : Field → Bytes → ℕ
+field_length Step text = min 255 (prefix_len is_step_byte text)
+field_length Hex [] = 0
+field_length Hex (b ∷ text) = if b == 45 then 1 else prefix_len is_hex_digit (b ∷ text)
+
+abbrev pub is_whole_field : Field → Bytes → ℕ → Bool
+is_whole_field Step text n = nat_lt 0 n
+is_whole_field Hex [] n = false
+is_whole_field Hex (b ∷ text) n = (b == 45) || (nat_lt 0 n && n % 2 == 0)
+
+-- fields, each behind one space, from a place on
+abbrev pub reach_fields : List Field → ℕ → Bytes → Fit
+reach_fields [] at [] = record { at = at; whole = true }
+reach_fields [] at (b ∷ text) = record { at = at; whole = false }
+reach_fields (field ∷ fields) at [] = record { at = at; whole = false }
+reach_fields (field ∷ fields) at (b ∷ text) =
+    if b == 32
+    then (if is_whole_field field text (field_length field text)
+    then reach_fields fields (at + 1 + field_length field text) (drop (field_length field text) text)
+    else record { at = at + 1 + field_length field text; whole = false })
+    else record { at = at; whole = false }
+
+-- a word and fields, from a place on
+abbrev pub reach_from : ℕ → Bytes → List Field → Bytes → Fit
+reach_from at [] fields text = reach_fields fields at text
+reach_from at (w ∷ word) fields [] = record { at = at; whole = false }
+reach_from at (w ∷ word) fields (b ∷ text) = if w == b then reach_from (at + 1) word fields text else record { at = at; whole = false }
+
+abbrev pub reach : Bytes → List Field → Bytes → Fit
+reach = reach_from 0

@@ -1,0 +1,3 @@
+pub mod Brief
+pub mod Fields
+pub mod Forms

@@ -1,0 +1,15 @@
+//! A script's side of the store: where its bytes come from, which line is which command, and the texts of replies.
+#![tactic(auto)]
+
+mod field;
+mod line;
+mod reply;
+mod source;
+#[cfg(test)]
+mod tests;
+
+pub use ip_spec::command::{Command, LineFault, Target};
+pub use ip_spec::reply::Reply;
+pub use line::{grammar, read_line};
+pub use reply::reply_text;
+pub use source::{Bytes, Source, SourceCounts, SourceFault};

@@ -1,0 +1,7 @@
+mod Reading
+mod Making
+mod Opening
+mod Sizes
+mod Spelling
+mod Flat
+mod Kept

@@ -1,0 +1,4 @@
+pub mod Control
+pub mod Opening
+pub mod Entries
+pub mod Work
