@@ -3,7 +3,6 @@
 
 ghost use Rattle.ip_spec.specs.Merge.{IsOneAnswer, same_means, counter_means, line_set_means};
 
-mod call;
 mod counter;
 mod line_set;
 mod merger;
@@ -12,7 +11,6 @@ mod same;
 mod seq;
 mod values;
 
-pub use call::{Call, Three};
 pub use counter::Counter;
 pub use ip_spec::merge::Merged;
 pub use line_set::LineSet;

@@ -1,12 +1,12 @@
 // Which merger merges a path.
-ghost use Rattle.std.specs.Prelude.{◌≡◌, [], ◌∷◌, ◌++◌, OnOk, OnErr, IfOk, MatchOption, ◌<◌, length, slice_index_or, ◌&&◌, nat_le, All};
+ghost use Rattle.std.specs.Prelude.{◌≡◌, [], ◌∷◌, ◌++◌, OnOk, OnErr, IfOk, MatchOption, ◌<◌, length, slice_index_or, slice_set, false, ◌&&◌, nat_le, All};
 ghost use Rattle.ip_spec.specs.Path.{Path, is_prefix};
 ghost use Rattle.std.specs.Option.{option_copied};
 ghost use Rattle.ip_spec.specs.Merge.{rule_of, IsOneAnswer};
-ghost use Rattle.ip_merge.specs.Rules.{meanings, Picks, PicksNone};
+ghost use Rattle.ip_merge.specs.Rules.{meanings, Picks, PicksNone, has_rule, with_rule};
 
 use crate::{Merged, Merger, Same};
-use ip_base::{Items, Memory, Path, Step};
+use ip_base::{Memory, Path, Step};
 use std::alloc::Global;
 
 /// A path, and the merger of what stands at it and under it.
@@ -16,33 +16,38 @@ pub struct PathRule {
     pub merger: Box<dyn Merger>,
 }
 
-/// Rules for paths, in the order in which they were added. A later one for the same path replaces the earlier.
+/// Rules for paths, in the order in which their paths were added.
 #[derive(Drop)]
 pub struct Rules {
-    pub list: Items<PathRule>,
+    pub list: Vec<PathRule>,
 }
 
 impl Rules {
     /// No rules: every path is merged by `Same`.
     pub fn new(alloc: Global) -> Self
-        ensures { result.list ≡ [] }
+        ensures { result.list.items ≡ [] }
     {
         Rules {
-            list: Items::empty(alloc),
+            list: Vec::new(alloc),
         }
     }
 
     /// Paths at and under `at` are merged by this merger, unless a longer path has a rule.
+    /// It replaces an earlier merger of the same path, which takes no memory.
     pub fn add(&mut self, at: Path, merger: Box<dyn Merger>) -> Result<(), Memory>
-        ensures added { OnOk result (self.new.list ≡ self.old.list ++ record { at = at; merger = merger } ∷ []) }
-        ensures refused { OnErr result (self.new ≡ self.old) }
+        ensures added { OnOk result (self.new.list.items ≡ with_rule (λ r. r.at) (record { at = at; merger = merger }) self.old.list.items) }
+        ensures refused { OnErr result ((self.new.list.items ≡ self.old.list.items) × (has_rule (λ r. r.at) at self.old.list.items ≡ false)) }
     {
-        self.list.push(PathRule { at, merger })
+        match place_of(&self.list, at.steps()) {
+            Some(place) => self.list[place] = PathRule { at, merger },
+            None => self.list.push(PathRule { at, merger })?,
+        }
+        Ok(())
     }
 
     /// The merger whose path is the longest that is `path` or lies above it. `None` where no rule's does.
     pub fn pick(&self, path: &Path) -> Option<&Box<dyn Merger>>
-        ensures { MatchOption result (PicksNone (λ r. r.at) path.now self.now.list) (λ m. (rule : _) × Picks (λ r. r.at) path.now self.now.list rule × (rule.merger ≡ m.now)) }
+        ensures { MatchOption result (PicksNone (λ r. r.at) path.now self.now.list.items) (λ m. (rule : _) × Picks (λ r. r.at) path.now self.now.list.items rule × (rule.merger ≡ m.now)) }
     {
         let rules = self.list.as_slice();
         match longest(rules, path.steps()) {
@@ -53,8 +58,8 @@ impl Rules {
 
     /// Where each merger means one answer for three values, so does the rule of each path.
     pub fn one_answer(&self)
-        requires { All (λ rule. IsOneAnswer (means rule.merger)) self.now.list }
-        ensures { (p : Path) → IsOneAnswer (rule_of (meanings (λ r. r.at) (λ r. means r.merger) self.now.list) p) }
+        requires { All (λ rule. IsOneAnswer (means rule.merger)) self.now.list.items }
+        ensures { (p : Path) → IsOneAnswer (rule_of (meanings (λ r. r.at) (λ r. means r.merger) self.now.list.items) p) }
     {}
 
     /// What the rule of the path answers.
@@ -66,7 +71,7 @@ impl Rules {
         left: Option<&[u8]>,
         right: Option<&[u8]>,
     ) -> Result<Merged, Memory>
-        ensures { IfOk result (λ merged. rule_of (meanings (λ r. r.at) (λ r. means r.merger) self.now.list) path.now (option_copied base.entry) (option_copied left.entry) (option_copied right.entry) merged) }
+        ensures { IfOk result (λ merged. rule_of (meanings (λ r. r.at) (λ r. means r.merger) self.now.list.items) path.now (option_copied base.entry) (option_copied left.entry) (option_copied right.entry) merged) }
     {
         match self.pick(path) {
             Some(merger) => merge_by(merger, alloc, base, left, right),
@@ -108,4 +113,17 @@ fn replaces(at: &[Step], path: &[Step], least: usize) -> bool
     ensures { result ≡ (is_prefix at.now path.now && nat_le least (length at.now)) }
 {
     path.starts_with(at) && least <= at.len()
+}
+
+// The place of the last rule for this path itself.
+fn place_of(rules: &[PathRule], at: &[Step]) -> Option<usize>
+    ensures { MatchOption result (has_rule (λ r. r.at) at.now rules.now ≡ false) (λ k. (k < length rules.now) × ((rule : _) → rule.at ≡ at.now → with_rule (λ r. r.at) rule rules.now ≡ slice_set rules.now k rule)) }
+{
+    let mut place = None;
+    for (i, rule) in rules.iter().enumerate() {
+        if rule.at.steps() == at {
+            place = Some(i);
+        }
+    }
+    place
 }

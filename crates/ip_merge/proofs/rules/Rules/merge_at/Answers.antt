@@ -8,10 +8,10 @@ returns-in-Some g c =
     let o = option_copied c.args.base in
     let a = option_copied c.args.left in
     let b = option_copied c.args.right in
-    picked_answers (λ r. r.at) c.args.path.now (λ r. (goal.Merger-dyn g (r.merger.vtable, r.merger.value)).means r.merger.value) c.merge_by.result c.args.self.now.list c.in-Some.ensures.0 c.in-Some.ensures.1 o a b
+    picked_answers (λ r. r.at) c.args.path.now (λ r. (goal.Merger-dyn g (r.merger.vtable, r.merger.value)).means r.merger.value) c.merge_by.result c.args.self.now.list.items c.in-Some.ensures.0 c.in-Some.ensures.1 o a b
     (subst (λ m. IfOk c.merge_by.result (λ merged. (goal.Merger-dyn g (m.vtable, m.value)).means m.value o a b merged)) (sym c.in-Some.ensures.2) c.merge_by.ensures)
 
 pub returns-in-None : goal.returns-in-None
 returns-in-None g c =
-    unpicked_answers (λ r. r.at) c.args.path.now (λ r. (goal.Merger-dyn g (r.merger.vtable, r.merger.value)).means r.merger.value) c.merge.result c.args.self.now.list c.in-None.ensures
+    unpicked_answers (λ r. r.at) c.args.path.now (λ r. (goal.Merger-dyn g (r.merger.vtable, r.merger.value)).means r.merger.value) c.merge.result c.args.self.now.list.items c.in-None.ensures
     (option_copied c.args.base) (option_copied c.args.left) (option_copied c.args.right) c.merge.ensures
