@@ -3,6 +3,7 @@
 
 ghost use Rattle.ip_spec.specs.Merge.{IsOneAnswer, same_means, counter_means, line_set_means};
 
+mod call;
 mod counter;
 mod line_set;
 mod merger;
@@ -11,11 +12,12 @@ mod same;
 mod seq;
 mod values;
 
+pub use call::{Answer, Call, Three};
 pub use counter::Counter;
 pub use ip_spec::merge::Merged;
 pub use line_set::LineSet;
 pub use merger::Merger;
-pub use rules::{PathRule, Rules};
+pub use rules::{PathRule, Rule, Rules};
 pub use same::Same;
 pub use seq::Seq;
 

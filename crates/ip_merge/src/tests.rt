@@ -1,5 +1,5 @@
 //! Worked merges, and a caller's own closure behind a box.
-use crate::{Counter, LineSet, Merged, Merger, Rules, Same, Seq};
+use crate::{Answer, Call, Counter, LineSet, Merged, Merger, Rules, Same, Seq, Three};
 use ip_base::{Blob, Items, Memory, Path, Step};
 use std::alloc::{AllocError, Global};
 use std::test::Fail;
@@ -239,12 +239,12 @@ fn one_after_another(rt: HostRuntime) {
     assert!(rt; answers(alloc, &seq, None, Some(b"1"), None, Want::Conflict));
 }
 
-// A merger of the test's own: the left bytes and then the right ones, where both are present.
+// A merger of the test's own: the left bytes, where both are present.
 #[derive(Drop)]
-struct Joined;
+struct Left;
 
-impl Merger for Joined {
-    ghost means = { λ joined o a b merged. Unit {0} };
+impl Merger for Left {
+    ghost means = { λ first o a b merged. Unit {0} };
 
     fn merge(
         &self,
@@ -254,13 +254,21 @@ impl Merger for Joined {
         right: Option<&[u8]>,
     ) -> Result<Merged, Memory> {
         match (left, right) {
-            (Some(a), Some(b)) => {
-                let mut bytes = Vec::from_slice(alloc, a)?;
-                bytes.extend_from_slice(b)?;
-                Ok(Merged::Keep(Some(Blob::of(bytes))))
-            }
+            (Some(a), Some(_)) => Ok(Merged::Keep(Some(Blob::copy_of(alloc, a)?))),
             _ => Ok(Merged::Conflict),
         }
+    }
+}
+
+// The left bytes and then the right ones, where both are present.
+fn joined(alloc: Global, three: &Three) -> Result<Merged, Memory> {
+    match (&three.left, &three.right) {
+        (Some(left), Some(right)) => {
+            let mut bytes = Vec::from_slice(alloc, left.as_slice())?;
+            bytes.extend_from_slice(right.as_slice())?;
+            Ok(Merged::Keep(Some(Blob::of(bytes))))
+        }
+        _ => Ok(Merged::Conflict),
     }
 }
 
@@ -283,13 +291,30 @@ fn rules_of_paths(rt: HostRuntime) -> Result<(), Memory> {
     let mut rules = Rules::new(alloc);
     assert!(rt; picks(alloc, &rules, &[b"n"], Want::Conflict)?);
     rules.add(path(alloc, &[b"n"])?, Box::new(alloc, Counter)?)?;
-    rules.add(path(alloc, &[b"n", b"x"])?, Box::new(alloc, Joined)?)?;
+    rules.add(path(alloc, &[b"n", b"x"])?, Box::new(alloc, Left)?)?;
     rules.add(path(alloc, &[b"n"])?, Box::new(alloc, LineSet)?)?;
+    assert!(rt; rules.list.len() == 2);
     assert!(rt; picks(alloc, &rules, &[b"n"], Want::Value(b"2\n3\n"))?);
     assert!(rt; picks(alloc, &rules, &[b"n", b"y"], Want::Value(b"2\n3\n"))?);
-    assert!(rt; picks(alloc, &rules, &[b"n", b"x"], Want::Value(b"23"))?);
-    assert!(rt; picks(alloc, &rules, &[b"n", b"x", b"z"], Want::Value(b"23"))?);
+    assert!(rt; picks(alloc, &rules, &[b"n", b"x"], Want::Value(b"2"))?);
+    assert!(rt; picks(alloc, &rules, &[b"n", b"x", b"z"], Want::Value(b"2"))?);
     assert!(rt; picks(alloc, &rules, &[b"nx"], Want::Conflict)?);
     assert!(rt; rules.pick(&path(alloc, &[b"o"])?).is_none());
+    Ok(())
+}
+
+#[test]
+fn rule_of_a_closure(rt: HostRuntime) -> Result<(), Memory> {
+    let alloc = rt.alloc();
+    let mut rules = Rules::new(alloc);
+    let both: Answer = Box::new(alloc, move |three: &Three| joined(alloc, three))?;
+    rules.add_call(path(alloc, &[b"joined"])?, Call::new(both))?;
+    assert!(rt; picks(alloc, &rules, &[b"joined"], Want::Value(b"23"))?);
+    assert!(rt; picks(alloc, &rules, &[b"joined", b"x"], Want::Value(b"23"))?);
+    let at = path(alloc, &[b"joined"])?;
+    let merged = rules.merge_at(&at, alloc, None, Some(b"2"), None)?;
+    assert!(rt; is_wanted(&merged, &Want::Conflict));
+    rules.add(at, Box::new(alloc, Counter)?)?;
+    assert!(rt; picks(alloc, &rules, &[b"joined"], Want::Value(b"5"))?);
     Ok(())
 }

@@ -1,4 +1,3 @@
-use Rattle.std.proofs.Common.{sym, subst, IfOk}
 use Rattle.std.specs.Option.{option_copied}
 use Rattle.ip_merge.proofs.RuleLaws.{picked_answers, unpicked_answers}
 use Rattle.ip_merge.proofs.rules.Rules.merge_at.Goals as goal
@@ -8,10 +7,10 @@ returns-in-Some g c =
     let o = option_copied c.args.base in
     let a = option_copied c.args.left in
     let b = option_copied c.args.right in
-    picked_answers (λ r. r.at) c.args.path.now (λ r. (goal.Merger-dyn g (r.merger.vtable, r.merger.value)).means r.merger.value) c.merge_by.result c.args.self.now.list.items c.in-Some.ensures.0 c.in-Some.ensures.1 o a b
-    (subst (λ m. IfOk c.merge_by.result (λ merged. (goal.Merger-dyn g (m.vtable, m.value)).means m.value o a b merged)) (sym c.in-Some.ensures.2) c.merge_by.ensures)
+    picked_answers (λ r. r.at) c.args.path.now _ c.merge.result c.args.self.now.list.items c.in-Some.ensures.0 c.in-Some.ensures.1 o a b
+    (rw c.in-Some.ensures.2 c.merge.ensures)
 
 pub returns-in-None : goal.returns-in-None
 returns-in-None g c =
-    unpicked_answers (λ r. r.at) c.args.path.now (λ r. (goal.Merger-dyn g (r.merger.vtable, r.merger.value)).means r.merger.value) c.merge.result c.args.self.now.list.items c.in-None.ensures
-    (option_copied c.args.base) (option_copied c.args.left) (option_copied c.args.right) c.merge.ensures
+    unpicked_answers (λ r. r.at) c.args.path.now _ c.merge-in-None.result c.args.self.now.list.items c.in-None.ensures
+    (option_copied c.args.base) (option_copied c.args.left) (option_copied c.args.right) c.merge-in-None.ensures
