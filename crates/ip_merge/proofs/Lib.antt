@@ -1,0 +1,6 @@
+pub mod Counting
+pub mod LineLaws
+pub mod PlaceLaws
+pub mod RuleLaws
+pub mod SameText
+pub mod SeqLaws

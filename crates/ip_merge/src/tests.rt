@@ -1,0 +1,320 @@
+//! Worked merges, and a caller's own closure behind a box.
+use crate::{Answer, Call, Counter, LineSet, Merged, Merger, Rules, Same, Seq, Three};
+use ip_base::{Blob, Items, Memory, Path, Step};
+use std::alloc::{AllocError, Global};
+use std::test::Fail;
+
+#[derive(Drop)]
+enum Want {
+    Value(&'static [u8]),
+    Absent,
+    Conflict,
+}
+
+type Value = Option<&'static [u8]>;
+
+fn is_wanted(merged: &Merged, want: &Want) -> bool {
+    match (merged, want) {
+        (Merged::Keep(Some(value)), Want::Value(bytes)) => value.as_slice() == *bytes,
+        (Merged::Keep(None), Want::Absent) => true,
+        (Merged::Conflict, Want::Conflict) => true,
+        _ => false,
+    }
+}
+
+fn answers<M: Merger>(
+    alloc: Global,
+    merger: &M,
+    base: Value,
+    left: Value,
+    right: Value,
+    want: Want,
+) -> bool {
+    match merger.merge(alloc, base, left, right) {
+        Ok(merged) => is_wanted(&merged, &want),
+        Err(_) => false,
+    }
+}
+
+#[test]
+fn equal_sides(rt: HostRuntime) {
+    let alloc = rt.alloc();
+    assert!(rt;
+        answers(
+            alloc,
+            &Same,
+            Some(b"o"),
+            Some(b"x"),
+            Some(b"x"),
+            Want::Value(b"x")
+        )
+    );
+    assert!(rt; answers(alloc, &Same, Some(b"o"), None, None, Want::Absent));
+    assert!(rt; answers(alloc, &Same, None, Some(b"x"), Some(b"y"), Want::Conflict));
+    assert!(rt; answers(alloc, &Same, Some(b"o"), None, Some(b"y"), Want::Conflict));
+}
+
+#[test]
+fn counters(rt: HostRuntime) {
+    let alloc = rt.alloc();
+    let greatest: &[u8] = b"9223372036854775807";
+    let least: &[u8] = b"-9223372036854775808";
+    assert!(rt;
+        answers(
+            alloc,
+            &Counter,
+            None,
+            Some(b"2"),
+            Some(b"-5"),
+            Want::Value(b"-3")
+        )
+    );
+    assert!(rt;
+        answers(
+            alloc,
+            &Counter,
+            Some(b"10"),
+            Some(b"12"),
+            Some(b"7"),
+            Want::Value(b"9")
+        )
+    );
+    assert!(rt;
+        answers(
+            alloc,
+            &Counter,
+            None,
+            Some(b"07"),
+            Some(b"1"),
+            Want::Conflict
+        )
+    );
+    assert!(rt;
+        answers(
+            alloc,
+            &Counter,
+            None,
+            Some(b"1"),
+            Some(b"-0"),
+            Want::Conflict
+        )
+    );
+    assert!(rt;
+        answers(
+            alloc,
+            &Counter,
+            None,
+            Some(b"1"),
+            Some(b"+2"),
+            Want::Conflict
+        )
+    );
+    assert!(rt; answers(alloc, &Counter, None, Some(b""), Some(b"2"), Want::Conflict));
+    assert!(rt;
+        answers(
+            alloc,
+            &Counter,
+            Some(b"x"),
+            Some(b"1"),
+            Some(b"2"),
+            Want::Conflict
+        )
+    );
+    assert!(rt; answers(alloc, &Counter, None, None, Some(b"2"), Want::Conflict));
+    assert!(rt;
+        answers(
+            alloc,
+            &Counter,
+            None,
+            Some(greatest),
+            Some(b"1"),
+            Want::Conflict
+        )
+    );
+    assert!(rt;
+        answers(
+            alloc,
+            &Counter,
+            Some(b"1"),
+            Some(greatest),
+            Some(b"1"),
+            Want::Value(greatest)
+        )
+    );
+    assert!(rt;
+        answers(
+            alloc,
+            &Counter,
+            None,
+            Some(least),
+            Some(b"0"),
+            Want::Value(least)
+        )
+    );
+    assert!(rt;
+        answers(
+            alloc,
+            &Counter,
+            Some(greatest),
+            Some(least),
+            Some(least),
+            Want::Conflict
+        )
+    );
+}
+
+#[test]
+fn sets_of_lines(rt: HostRuntime) {
+    let alloc = rt.alloc();
+    assert!(rt;
+        answers(
+            alloc,
+            &LineSet,
+            Some(b"a\n"),
+            Some(b"a\nb\n"),
+            Some(b""),
+            Want::Value(b"b\n")
+        )
+    );
+    assert!(rt;
+        answers(
+            alloc,
+            &LineSet,
+            None,
+            Some(b"b\na\nb"),
+            Some(b"c"),
+            Want::Value(b"a\nb\nc\n")
+        )
+    );
+    assert!(rt;
+        answers(
+            alloc,
+            &LineSet,
+            Some(b"a\nb"),
+            Some(b"b\na"),
+            Some(b"a\n\n"),
+            Want::Value(b"\na\n")
+        )
+    );
+    assert!(rt;
+        answers(
+            alloc,
+            &LineSet,
+            None,
+            Some(b""),
+            Some(b""),
+            Want::Value(b"")
+        )
+    );
+    assert!(rt;
+        answers(
+            alloc,
+            &LineSet,
+            Some(b"a"),
+            Some(b"a"),
+            None,
+            Want::Conflict
+        )
+    );
+}
+
+#[test]
+fn one_after_another(rt: HostRuntime) {
+    let alloc = rt.alloc();
+    let seq = Seq {
+        first: Counter,
+        second: LineSet,
+    };
+    assert!(rt;
+        answers(
+            alloc,
+            &seq,
+            None,
+            Some(b"x"),
+            Some(b"y"),
+            Want::Value(b"x\ny\n")
+        )
+    );
+    assert!(rt; answers(alloc, &seq, None, Some(b"1"), Some(b"2"), Want::Value(b"3")));
+    assert!(rt; answers(alloc, &seq, None, Some(b"1"), None, Want::Conflict));
+}
+
+// A merger of the test's own: the left bytes, where both are present.
+#[derive(Drop)]
+struct Left;
+
+impl Merger for Left {
+    ghost means = { λ first o a b merged. Unit {0} };
+
+    fn merge(
+        &self,
+        alloc: Global,
+        _base: Option<&[u8]>,
+        left: Option<&[u8]>,
+        right: Option<&[u8]>,
+    ) -> Result<Merged, Memory> {
+        match (left, right) {
+            (Some(a), Some(_)) => Ok(Merged::Keep(Some(Blob::copy_of(alloc, a)?))),
+            _ => Ok(Merged::Conflict),
+        }
+    }
+}
+
+// The left bytes and then the right ones, where both are present.
+fn joined(alloc: Global, three: &Three) -> Result<Merged, Memory> {
+    match (&three.left, &three.right) {
+        (Some(left), Some(right)) => {
+            let mut bytes = Vec::from_slice(alloc, left.as_slice())?;
+            bytes.extend_from_slice(right.as_slice())?;
+            Ok(Merged::Keep(Some(Blob::of(bytes))))
+        }
+        _ => Ok(Merged::Conflict),
+    }
+}
+
+fn path(alloc: Global, steps: &[&[u8]]) -> Result<Path, Memory> {
+    let mut path = Items::empty(alloc);
+    for step in steps {
+        path.push(Step::of(Blob::copy_of(alloc, step)?))?;
+    }
+    Ok(Path::of(path))
+}
+
+fn picks(alloc: Global, rules: &Rules, steps: &[&[u8]], want: Want) -> Result<bool, Memory> {
+    let merged = rules.merge_at(&path(alloc, steps)?, alloc, None, Some(b"2"), Some(b"3"))?;
+    Ok(is_wanted(&merged, &want))
+}
+
+#[test]
+fn rules_of_paths(rt: HostRuntime) -> Result<(), Memory> {
+    let alloc = rt.alloc();
+    let mut rules = Rules::new(alloc);
+    assert!(rt; picks(alloc, &rules, &[b"n"], Want::Conflict)?);
+    rules.add(path(alloc, &[b"n"])?, Box::new(alloc, Counter)?)?;
+    rules.add(path(alloc, &[b"n", b"x"])?, Box::new(alloc, Left)?)?;
+    rules.add(path(alloc, &[b"n"])?, Box::new(alloc, LineSet)?)?;
+    assert!(rt; rules.list.len() == 2);
+    assert!(rt; picks(alloc, &rules, &[b"n"], Want::Value(b"2\n3\n"))?);
+    assert!(rt; picks(alloc, &rules, &[b"n", b"y"], Want::Value(b"2\n3\n"))?);
+    assert!(rt; picks(alloc, &rules, &[b"n", b"x"], Want::Value(b"2"))?);
+    assert!(rt; picks(alloc, &rules, &[b"n", b"x", b"z"], Want::Value(b"2"))?);
+    assert!(rt; picks(alloc, &rules, &[b"nx"], Want::Conflict)?);
+    assert!(rt; rules.pick(&path(alloc, &[b"o"])?).is_none());
+    Ok(())
+}
+
+#[test]
+fn rule_of_a_closure(rt: HostRuntime) -> Result<(), Memory> {
+    let alloc = rt.alloc();
+    let mut rules = Rules::new(alloc);
+    let both: Answer = Box::new(alloc, move |three: &Three| joined(alloc, three))?;
+    rules.add_call(path(alloc, &[b"joined"])?, Call::new(both))?;
+    assert!(rt; picks(alloc, &rules, &[b"joined"], Want::Value(b"23"))?);
+    assert!(rt; picks(alloc, &rules, &[b"joined", b"x"], Want::Value(b"23"))?);
+    let at = path(alloc, &[b"joined"])?;
+    let merged = rules.merge_at(&at, alloc, None, Some(b"2"), None)?;
+    assert!(rt; is_wanted(&merged, &Want::Conflict));
+    rules.add(at, Box::new(alloc, Counter)?)?;
+    assert!(rt; picks(alloc, &rules, &[b"joined"], Want::Value(b"5"))?);
+    Ok(())
+}
