@@ -1,0 +1,4 @@
+pub mod Lists
+pub mod Parents
+pub mod Sweep
+pub mod Kept
