@@ -3,10 +3,11 @@
 --     Holds h n      commit n is retained.      listed h k      the retained parents of commit floor + k
 --     HasParentsFirst h      a parent's number is less than the child's
 --     Shows h r      the history is the repository's
+--     history_of r      a history that is the repository's
 --     IsMarked marks k      the k-th mark is set.      Above r floor marks a      a is a marked commit or an ancestor of one
 --     AboveOneOf r ns a      a is one of these commits or an ancestor of one
-use Rattle.std.specs.Prelude.{◌≡◌, ℕ, ◌+◌, ◌<◌, ◌≤◌, Bool, true, false, List, [], length, filter, Contains, slice_index_or, nat_le}
-use Rattle.ip_spec.specs.Repository.{Repository}
+use Rattle.std.specs.Prelude.{◌≡◌, ℕ, ◌+◌, ◌<◌, ◌≤◌, Bool, true, false, List, [], length, map, filter, filter_map, Contains, slice_index_or, nat_le}
+use Rattle.ip_spec.specs.Repository.{Repository, Commit, CommitParent}
 use Rattle.ip_spec.specs.History.{parents_at, Ancestor}
 
 pub record History : Type 0 where
@@ -27,6 +28,10 @@ pub record Shows (h : History) (r : Repository) : Type 0 where
   pub floor : h.floor ≡ r.floor
   pub count : length h.parents ≡ length r.commits
   pub parents : (k : ℕ) → k < length h.parents → listed h k ≡ parents_at r (h.floor + k)
+
+-- the history of a repository, with the numbers of parents that are known
+abbrev pub history_of : Repository → History
+history_of r = record { floor = r.floor; parents = map (λ (c : Commit). filter_map (λ (p : CommitParent). p.number) c.parents) r.commits }
 
 abbrev pub mark : List Bool → ℕ → Bool
 mark marks k = slice_index_or marks k false

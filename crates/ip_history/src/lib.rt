@@ -5,4 +5,12 @@ mod table;
 #[cfg(test)]
 mod tests;
 
+ghost use Rattle.ip_spec.specs.Repository.{Repository, IsRepository};
+ghost use Rattle.ip_history.specs.History.{Shows, history_of};
+
 pub use table::Table;
+
+/// The parents' numbers of a repository's commits, as they stand there, are its history.
+pub fn histories()
+    ensures { (r : Repository) → IsRepository r → Shows (history_of r) r }
+{}

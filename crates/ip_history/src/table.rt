@@ -137,6 +137,7 @@ impl Table {
         requires marks { length marks.old ≡ length self.now.parents }
         ensures { (r : Repository) → Shows self.now r → (k : ℕ) → IsMarked marks.new k ↔ Above r self.now.floor marks.old (self.now.floor + k) }
     {
+        // the table's invariant, that parents come first, is known from here on
         let _ = &self.floor;
         for i in (0..marks.len()).rev() {
             if marks[i] {
@@ -166,6 +167,7 @@ impl Table {
         requires marks { length marks.old ≡ length self.now.parents }
         ensures { (k : ℕ) → IsMarked marks.new k ↔ IsMarked marks.old k × ((j : ℕ) → IsMarked marks.old j → ¬ (Contains (slice_index_or self.now.parents j []) (self.now.floor + k))) }
     {
+        // the table's invariant, that parents come first, is known from here on
         let _ = &self.floor;
         for i in 0..marks.len() {
             if marks[i] {
@@ -179,7 +181,8 @@ impl Table {
         requires marks { length marks.now ≡ length self.now.parents }
         ensures { IfOk result (λ ns. ns ≡ filter (λ a. mark marks.now (a - self.now.floor)) (range_with_len self.now.floor (length self.now.parents))) }
     {
-        let mut numbers = Numbers::empty(alloc);
+        let count = marks.iter().filter(|mark| **mark).count();
+        let mut numbers = Numbers::of(Vec::with_capacity(alloc, count)?);
         for i in 0..marks.len() {
             if marks[i] {
                 numbers.push(Number(self.floor + i as u64))?;
