@@ -1,14 +1,13 @@
 -- The numbers in a repository's commits show its history.
-use Rattle.std.proofs.Common.{◌≡◌, ◌⊎◌, inl, inr, ℕ, zero, suc, ◌+◌, ◌-◌, ◌<◌, ◌≤◌, List, [], ◌∷◌, length, refl, sym, ap, subst, ◌∙◌, Bool, true, false, cond, arith}
+use Rattle.std.proofs.Common.{◌≡◌, ℕ, zero, suc, ◌+◌, ◌-◌, ◌<◌, List, [], ◌∷◌, length, refl, sym, ap, subst, ◌∙◌, Bool, true, false, cond, arith}
 use Rattle.std.specs.List.{cons_option}
 use Rattle.std.proofs.lemmas.List.{length-map}
-use Rattle.std.specs.Prelude.{◌&&◌, All, Contains, map, filter, filter_map, slice_index_or, slice_get, nat_le, nat_lt, Option, Some, None, IfSome, option_map, unwrap_or, if◌then◌else◌}
+use Rattle.std.specs.Prelude.{◌&&◌, Contains, map, filter, filter_map, slice_index_or, slice_get, nat_le, nat_lt, Option, Some, None, IfSome, option_map, unwrap_or, if◌then◌else◌}
 use Rattle.std.proofs.lemmas.Bool.Decides.{nat_tests}
 use Rattle.std.proofs.lemmas.List.Elements.{All-contains}
-use Rattle.ip_spec.specs.Repository.{Repository, Commit, CommitParent, IsRepository, IsCommit, commit_at, is_retained}
+use Rattle.ip_spec.specs.Repository.{Repository, Commit, CommitParent, IsRepository, IsCommit, commit_at}
 use Rattle.ip_spec.specs.History.{parents_at, retained_number}
 use Rattle.ip_history.specs.History.{listed, history_of, Shows}
-use Rattle.ip_history.proofs.Lists.{case}
 
 -- of parents below the next number, those that are retained are those that are not below the floor
 numbers_kept : (r : Repository) (ps : List CommitParent) → ((p : CommitParent) → Contains ps p → IfSome p.number (λ n. n < r.floor + length r.commits)) → filter (λ n. nat_le r.floor n) (filter_map (λ (p : CommitParent). p.number) ps) ≡ filter_map (λ (p : CommitParent). retained_number r p.number) ps

@@ -1,12 +1,12 @@
 //! Ancestors among the retained commits: the parents of each retained commit in a table, and what follows from them.
 #![tactic(auto)]
 
+ghost use Rattle.ip_spec.specs.Repository.{Repository, IsRepository};
+ghost use Rattle.ip_history.specs.History.{Shows, history_of};
+
 mod table;
 #[cfg(test)]
 mod tests;
-
-ghost use Rattle.ip_spec.specs.Repository.{Repository, IsRepository};
-ghost use Rattle.ip_history.specs.History.{Shows, history_of};
 
 pub use table::Table;
 
