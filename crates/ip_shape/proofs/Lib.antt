@@ -1,0 +1,10 @@
+mod Bits
+mod ByEntries
+mod Digests
+mod Edits
+mod Entries
+mod Gathering
+mod Members
+mod OneShape
+mod Shapes
+mod Steps

@@ -1,0 +1,6 @@
+use Rattle.std.proofs.Common.{◌-◌}
+use Rattle.ip_spec.specs.Shape.{deepest}
+use Rattle.ip_shape.proofs.part.+with_step.Given as goal
+
+abbrev pub decreases-with_step : goal.decreases-with_step
+decreases-with_step l = deepest - l.depth

@@ -1,0 +1,344 @@
+// The parts of a directory, over the steps of its entries.
+ghost use Rattle.std.specs.Prelude.{◌≡◌, ◌-◌, ◌≤◌, ◌<◌, ℕ, true, false, List, map, length, insert, IfOk, IfErr, OnOk, OnErr};
+ghost use Rattle.sha2.specs.Sha256.{sha256};
+ghost use Rattle.ip_spec.specs.Path.{Step as TheStep};
+ghost use Rattle.ip_spec.specs.Shape.{place, deepest};
+ghost use Rattle.ip_shape.specs.declared.part.Part.{Part};
+ghost use Rattle.ip_shape.specs.declared.part.Part.TheVariants as variant;
+ghost use Rattle.ip_shape.specs.Shape.{AreSteps, AreAlike, AreUnited, IsChainTo, IsPart, add, has, steps_at, take_out};
+
+use crate::places::{DEEPEST, Places};
+use ip_base::{Memory, Step};
+use std::alloc::Global;
+use std::cmp::Ordering;
+use std::mem;
+
+/// The most steps of a leaf above the deepest parts.
+const LEAF_LIMIT: usize = 32;
+
+/// How many children an inode has.
+const CHILDREN: u8 = 32;
+
+/// A part of a directory.
+#[derive(Drop)]
+pub enum Part {
+    /// The steps of its entries, ascending.
+    Leaf(Vec<Step>),
+    /// How many entries it has, and its children by place. One that is an empty leaf is absent.
+    Inode { count: usize, children: Vec<Part> },
+}
+
+impl Part {
+    /// How many entries it has. It takes no walk.
+    pub fn count(&self) -> usize
+        ensures { (depth : ℕ) (steps : List TheStep) → IsPart (deepest - depth) depth steps self.now → result ≡ length steps }
+    {
+        match self {
+            Part::Leaf(steps) => steps.len(),
+            Part::Inode { count, .. } => *count,
+        }
+    }
+}
+
+/// Laws, which do nothing when they are called. Steps have one shape at a depth: two parts that are it differ in nothing, whatever edits led to them. More than 32 steps that
+/// agree in all places are one leaf at depth 51, with one inode above another.
+pub fn one_shape()
+    ensures alike { (depth : ℕ) (steps : List TheStep) (one other : Part) → IsPart (deepest - depth) depth steps one → IsPart (deepest - depth) depth steps other →
+        AreAlike (deepest - depth) one other }
+    ensures agreeing { (s : TheStep) (steps : List TheStep) (part : Part) → 32 < length steps →
+        ((t : TheStep) (depth : ℕ) → has t steps ≡ true → depth < deepest → place t depth ≡ place s depth) →
+        IsPart deepest 0 steps part → IsChainTo deepest 0 s steps part }
+{}
+
+fn copies_of(alloc: Global, steps: &[Step], room: usize) -> Result<Vec<Step>, Memory>
+    ensures { IfOk result (λ copies. copies.items ≡ steps.now) }
+{
+    let mut copies = Vec::with_capacity(alloc, room)?;
+    for i in 0..steps.len() {
+        copies.push(steps[i].copy(alloc)?)?;
+    }
+    Ok(copies)
+}
+
+// The places of each step.
+fn places_of(alloc: Global, steps: &[Step], room: usize) -> Result<Vec<Places>, Memory>
+    ensures { IfOk result (λ places. places.items ≡ map sha256 steps.now) }
+{
+    let mut places = Vec::with_capacity(alloc, room)?;
+    for i in 0..steps.len() {
+        places.push(Places::of(&steps[i]))?;
+    }
+    Ok(places)
+}
+
+// Copies of the steps with one index at a depth, and their places.
+fn copies_at(
+    alloc: Global,
+    steps: &[Step],
+    places: &[Places],
+    index: u8,
+    depth: u8,
+) -> Result<(Vec<Step>, Vec<Places>), Memory>
+    requires inode { depth < deepest }
+    requires places { places.now ≡ map sha256 steps.now }
+    ensures { IfOk result (λ found. (found.0.items ≡ steps_at depth index steps.now) × (found.1.items ≡ map sha256 found.0.items)) }
+{
+    let mut copies = Vec::new(alloc);
+    let mut their_places = Vec::new(alloc);
+    for i in 0..steps.len() {
+        let its_places = places[i];
+        if its_places.at(depth) == index {
+            copies.push(steps[i].copy(alloc)?)?;
+            their_places.push(its_places)?;
+        }
+    }
+    Ok((copies, their_places))
+}
+
+// The one shape of steps that ascend, at a depth.
+fn part_of(alloc: Global, steps: &[Step], places: &[Places], depth: u8) -> Result<Part, Memory>
+    requires { places.now ≡ map sha256 steps.now }
+    ensures { IfOk result (λ part. IsPart (deepest - depth) depth steps.now part) }
+{
+    if steps.len() <= LEAF_LIMIT || depth >= DEEPEST {
+        return Ok(Part::Leaf(copies_of(alloc, steps, steps.len())?));
+    }
+    let mut children = Vec::with_capacity(alloc, CHILDREN as usize)?;
+    for index in 0..CHILDREN {
+        let (below, their_places) = copies_at(alloc, steps, places, index, depth)?;
+        children.push(part_of(alloc, &below, &their_places, depth + 1)?)?;
+    }
+    Ok(Part::Inode {
+        count: steps.len(),
+        children,
+    })
+}
+
+// Where a step stands among steps that ascend, or would stand.
+fn position(steps: &[Step], step: &Step) -> Result<usize, usize>
+    ensures here { IfOk result (λ i. (i < length steps.now) × (add step.now steps.now ≡ steps.now)) }
+    ensures absent { IfErr result (λ i. (i ≤ length steps.now) × (add step.now steps.now ≡ insert steps.now i step.now)) }
+{
+    for i in 0..steps.len() {
+        match step.cmp(&steps[i]) {
+            Ordering::Less => return Err(i),
+            Ordering::Equal => return Ok(i),
+            Ordering::Greater => {}
+        }
+    }
+    Err(steps.len())
+}
+
+// Adds a step in its place to steps that ascend.
+fn add_to(alloc: Global, steps: &mut Vec<Step>, step: &Step) -> Result<(), Memory>
+    ensures added { OnOk result (steps.new.items ≡ add step.now steps.old.items) }
+    ensures refused { OnErr result (steps.new.items ≡ steps.old.items) }
+{
+    match position(steps, step) {
+        Ok(_) => Ok(()),
+        Err(i) => {
+            let copy = step.copy(alloc)?;
+            steps.insert(i, copy)?;
+            Ok(())
+        }
+    }
+}
+
+// A part of the steps of a leaf and of one more.
+fn grown(
+    alloc: Global,
+    steps: &[Step],
+    step: &Step,
+    places: &Places,
+    depth: u8,
+) -> Result<Part, Memory>
+    requires { places.now ≡ sha256 step.now }
+    ensures { IfOk result (λ part. IsPart (deepest - depth) depth (add step.now steps.now) part) }
+{
+    let mut more = copies_of(alloc, steps, steps.len() + 1)?;
+    let mut all_places = places_of(alloc, steps, steps.len() + 1)?;
+    if let Err(i) = position(steps, step) {
+        more.insert(i, step.copy(alloc)?)?;
+        all_places.insert(i, *places)?;
+    }
+    part_of(alloc, &more, &all_places, depth)
+}
+
+// The part of the steps of a leaf and of one more, or for want of memory the leaf itself.
+fn leaf_with(
+    alloc: Global,
+    leaf: Vec<Step>,
+    places: &Places,
+    depth: u8,
+    step: &Step,
+) -> Result<Part, Part>
+    requires { places.now ≡ sha256 step.now }
+    ensures added { (steps : List TheStep) → IsPart (deepest - depth) depth steps (variant.Leaf leaf) → IfOk result (IsPart (deepest - depth) depth (add step.now steps)) }
+    ensures refused { (steps : List TheStep) → IsPart (deepest - depth) depth steps (variant.Leaf leaf) → IfErr result (IsPart (deepest - depth) depth steps) }
+{
+    let mut steps = leaf;
+    if steps.len() < LEAF_LIMIT || depth >= DEEPEST {
+        return match add_to(alloc, &mut steps, step) {
+            Ok(()) => Ok(Part::Leaf(steps)),
+            Err(_) => Err(Part::Leaf(steps)),
+        };
+    }
+    match grown(alloc, &steps, step, places, depth) {
+        Ok(more) => Ok(more),
+        Err(_) => Err(Part::Leaf(steps)),
+    }
+}
+
+// The part at a depth with a step more that it lacks, or for want of memory the part itself.
+pub(crate) fn with_step(
+    alloc: Global,
+    part: Part,
+    places: &Places,
+    depth: u8,
+    step: &Step,
+) -> Result<Part, Part>
+    requires { places.now ≡ sha256 step.now }
+    ensures added { (steps : List TheStep) → AreSteps steps → has step.now steps ≡ false → IsPart (deepest - depth) depth steps part →
+        IfOk result (IsPart (deepest - depth) depth (add step.now steps)) }
+    ensures refused { (steps : List TheStep) → IsPart (deepest - depth) depth steps part → IfErr result (IsPart (deepest - depth) depth steps) }
+{
+    match part {
+        Part::Leaf(steps) => leaf_with(alloc, steps, places, depth, step),
+        Part::Inode {
+            count,
+            mut children,
+        } => {
+            if depth >= DEEPEST {
+                return Ok(Part::Inode { count, children });
+            }
+            let index = places.at(depth) as usize;
+            // Neither is so in a directory: an inode has 32 children, and no memory holds more steps than a count can tell.
+            if index >= children.len() || count == usize::MAX {
+                return Err(Part::Inode { count, children });
+            }
+            let below = mem::replace(&mut children[index], Part::Leaf(Vec::new(alloc)));
+            match with_step(alloc, below, places, depth + 1, step) {
+                Ok(more) => {
+                    children[index] = more;
+                    Ok(Part::Inode {
+                        count: count + 1,
+                        children,
+                    })
+                }
+                Err(same) => {
+                    children[index] = same;
+                    Err(Part::Inode { count, children })
+                }
+            }
+        }
+    }
+}
+
+// Adds steps to steps that ascend, each in its place.
+fn add_all(alloc: Global, into: &mut Vec<Step>, steps: &[Step]) -> Result<(), Memory>
+    ensures { AreSteps into.old.items → OnOk result (AreSteps into.new.items × AreUnited into.old.items steps.now into.new.items) }
+{
+    for i in 0..steps.len() {
+        add_to(alloc, into, &steps[i])?;
+    }
+    Ok(())
+}
+
+// Adds the steps of a part at a depth to steps that ascend.
+fn gather(alloc: Global, into: &mut Vec<Step>, part: &Part, depth: u8) -> Result<(), Memory>
+    ensures { (steps : List TheStep) → IsPart (deepest - depth) depth steps part.now → AreSteps into.old.items →
+        OnOk result (AreSteps into.new.items × AreUnited into.old.items steps into.new.items) }
+{
+    match part {
+        Part::Leaf(steps) => add_all(alloc, into, steps),
+        Part::Inode { children, .. } => {
+            if depth >= DEEPEST {
+                return Ok(());
+            }
+            for i in 0..children.len() {
+                gather(alloc, into, &children[i], depth + 1)?;
+            }
+            Ok(())
+        }
+    }
+}
+
+// Takes a step out of steps.
+fn take_from(steps: &mut Vec<Step>, step: &Step)
+    ensures { steps.new.items ≡ take_out step.now steps.old.items }
+{
+    steps.retain(|other| step.cmp(other).is_ne());
+}
+
+// The steps of a part at a depth without one of them.
+fn joined(alloc: Global, part: &Part, depth: u8, step: &Step) -> Result<Vec<Step>, Memory>
+    ensures { (steps : List TheStep) → AreSteps steps → IsPart (deepest - depth) depth steps part.now → IfOk result (λ left. left.items ≡ take_out step.now steps) }
+{
+    let mut steps = Vec::with_capacity(alloc, LEAF_LIMIT + 1)?;
+    gather(alloc, &mut steps, part, depth)?;
+    take_from(&mut steps, step);
+    Ok(steps)
+}
+
+// Steps without one of them. Where none is left, they take no memory.
+fn without(alloc: Global, steps: Vec<Step>, step: &Step) -> Vec<Step>
+    ensures { result.items ≡ take_out step.now steps.items }
+{
+    let mut left = steps;
+    take_from(&mut left, step);
+    if left.is_empty() {
+        return Vec::new(alloc);
+    }
+    left
+}
+
+// The part at a depth without a step that it has, or for want of memory the part itself.
+pub(crate) fn without_step(
+    alloc: Global,
+    part: Part,
+    places: &Places,
+    depth: u8,
+    step: &Step,
+) -> Result<Part, Part>
+    requires { places.now ≡ sha256 step.now }
+    ensures removed { (steps : List TheStep) → AreSteps steps → has step.now steps ≡ true → IsPart (deepest - depth) depth steps part →
+        IfOk result (IsPart (deepest - depth) depth (take_out step.now steps)) }
+    ensures refused { (steps : List TheStep) → IsPart (deepest - depth) depth steps part → IfErr result (IsPart (deepest - depth) depth steps) }
+{
+    // A part that falls to the limit becomes a leaf before anything below it is touched.
+    if part.count() == LEAF_LIMIT + 1 && depth < DEEPEST {
+        return match joined(alloc, &part, depth, step) {
+            Ok(steps) => Ok(Part::Leaf(steps)),
+            Err(_) => Err(part),
+        };
+    }
+    match part {
+        Part::Leaf(steps) => Ok(Part::Leaf(without(alloc, steps, step))),
+        Part::Inode {
+            count,
+            mut children,
+        } => {
+            if depth >= DEEPEST || count == 0 {
+                return Ok(Part::Inode { count, children });
+            }
+            let index = places.at(depth) as usize;
+            if index >= children.len() {
+                return Ok(Part::Inode { count, children });
+            }
+            let below = mem::replace(&mut children[index], Part::Leaf(Vec::new(alloc)));
+            match without_step(alloc, below, places, depth + 1, step) {
+                Ok(less) => {
+                    children[index] = less;
+                    Ok(Part::Inode {
+                        count: count - 1,
+                        children,
+                    })
+                }
+                Err(whole) => {
+                    children[index] = whole;
+                    Err(Part::Inode { count, children })
+                }
+            }
+        }
+    }
+}
