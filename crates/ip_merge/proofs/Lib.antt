@@ -1,5 +1,6 @@
 pub mod Counting
 pub mod LineLaws
+pub mod PathOrder
 pub mod PlaceLaws
 pub mod RuleLaws
 pub mod SameText

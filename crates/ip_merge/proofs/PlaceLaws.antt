@@ -1,117 +1,89 @@
--- The place at which a rule replaces an earlier one of the same path.
-use Rattle.std.proofs.Common.{◌≡◌, ◌<◌, ℕ, ◌+◌, Bool, true, false, not, cond, ◌&&◌, ◌||◌, List, [], ◌∷◌, ◌++◌, length, take, set, get_or, Option, Some, None, MatchOption, refl, sym, ap, subst, ◌∙◌, arith, add-one, ◌≤◌}
-use Rattle.std.proofs.lemmas.Bool.{false≢true}
-use Rattle.std.proofs.Math.Seq.{take-suc}
-use Rattle.std.proofs.lemmas.List.{take_all, set-append_left, length-take-le, length-append}
-use Rattle.std.specs.Cmp.Lexicographic.{pointwise, lists_ties}
-use Rattle.std.specs.Str.{bytes_eq}
-use Rattle.ip_merge.proofs.SameText.{same_bytes_is}
-use Rattle.ip_spec.specs.Path.{Path, bytes_cmp, same_path}
-use Rattle.ip_merge.specs.Rules.{has_rule, with_rule}
-
-pub same_steps : (at p : Path) → pointwise bytes_eq at p ≡ same_path at p
-same_steps at p = lists_ties bytes_cmp same_bytes_is at p
-
-either_false : (a b : Bool) → (a || b) ≡ false → (a ≡ false) × (b ≡ false)
-either_false true b h = absurd (false≢true (sym h))
-either_false false b h = (refl, h)
-
-or_last : (a b c : Bool) → (a || (b || c)) ≡ ((a || b) || c)
-or_last true b c = refl
-or_last false b c = refl
-
-or_false : (a : Bool) → (a || false) ≡ a
-or_false true = refl
-or_false false = refl
-
-or_true : (a : Bool) → (a || true) ≡ true
-or_true true = refl
-or_true false = refl
-
-and_false : (a : Bool) → (a && false) ≡ false
-and_false true = refl
-and_false false = refl
+-- What a search among ascending rules finds, and what an edit there leaves.
+use Rattle.std.proofs.Common.{◌≡◌, ◌∙◌, ◌<◌, ◌+◌, ◌-◌, ℕ, zero, suc, Bool, true, false, if◌then◌else◌, ◌||◌, List, [], ◌∷◌, length, get_or, set, Result, Ok, Err, IfOk, IfErr, refl, sym, ap, subst, inl, inr, arith, is_eq}
+use Rattle.std.specs.List.{insert}
+use Rattle.std.specs.List.Sorted.{IsSearchInRange, IsBinarySearchResult, IsNonDecreasingBy}
+use Rattle.std.specs.Ordering.{match_ordering, ordering_index, is_lt}
+use Rattle.std.specs.declared.cmp.Ordering.{Ordering}
+use Rattle.std.specs.declared.cmp.Ordering.TheVariants.{Less}
+use Rattle.std.proofs.lemmas.Bool.{cases_lt}
+use Rattle.std.proofs.lemmas.List.Edits.{length-insert, get_or-insert_below, get_or-insert_at, get_or-insert_above}
+use Rattle.std.proofs.lemmas.List.Sorted.{searchable_from_sorted}
+use Rattle.ip_merge.proofs.PathOrder.{paths_total, path_itself, one_path, greater_than, less_than}
+use Rattle.ip_spec.specs.Path.{Path, path_cmp, same_path}
+use Rattle.ip_merge.specs.Rules.{IsAscending, IsPlace, IsGap, has_rule, with_rule}
 
 module _ {R : Type 0} (at : R → Path) where
-  has_more : (p : Path) (rules : List R) (r : R) → has_rule at p (rules ++ r ∷ []) ≡ (has_rule at p rules || same_path (at r) p)
-  has_more p [] r = or_false (same_path (at r) p)
-  has_more p (x ∷ rules) r = ap (λ b. same_path (at x) p || b) (has_more p rules r) ∙ or_last (same_path (at x) p) (has_rule at p rules) (same_path (at r) p)
+  rises : (p : Path) (rules : List R) → IsAscending at rules → IsNonDecreasingBy (λ r. ordering_index (path_cmp (at r) p)) rules
+  rises p rules up = searchable_from_sorted paths_total at rules p (λ k d low below. ap is_lt (greater_than (at (get_or rules k d)) (at (get_or rules (k + 1) d)) (up k (k + 1) d (omega arith) below)))
 
-  -- a rule whose path has another rule behind it stays
-  passes : (rule x : R) (rules : List R) → has_rule at (at rule) rules ≡ true → with_rule at rule (x ∷ rules) ≡ x ∷ with_rule at rule rules
-  passes rule x rules has =
-      ap (λ b. cond (same_path (at x) (at rule) && not b) (rule ∷ rules) (x ∷ with_rule at rule rules)) has
-      ∙ ap (λ b. cond b (rule ∷ rules) (x ∷ with_rule at rule rules)) (and_false (same_path (at x) (at rule)))
+  -- a binary search by the rules' paths ends at the rule for the path, or where it would stand
+  pub searched : (p : Path) (rules : List R) → IsAscending at rules → (found : Result ℕ ℕ) → IsSearchInRange found (length rules) → IsBinarySearchResult (λ r. path_cmp (at r) p) rules found → IfOk found (IsPlace at p rules) × IfErr found (IsGap at p rules)
+  searched p rules up (Ok k) within equal = ((within, λ d. one_path (at (get_or rules k d)) p (equal d)), tt)
+  searched p rules up (Err k) within parted =
+      let parts = parted (rises p rules up) in (
+        tt,
+        record {
+          within = within;
+          before = λ i d below. parts.0 i d (omega arith) below;
+          behind = λ i d low below. less_than (at (get_or rules i d)) p (parts.1 i d low below);
+        },
+      )
 
-  -- so does a rule of another path
-  skips : (rule x : R) (rules : List R) → same_path (at x) (at rule) ≡ false → with_rule at rule (x ∷ rules) ≡ x ∷ with_rule at rule rules
-  skips rule x rules other = ap (λ b. cond (b && not (has_rule at (at rule) rules)) (rule ∷ rules) (x ∷ with_rule at rule rules)) other
+  -- the facts on a slice that borrows the rules, at the rules themselves
+  pub place_in : {p q : Path} {rules lent : List R} {k : ℕ} → p ≡ q → lent ≡ rules → IsPlace at p lent k → IsPlace at q rules k
+  place_in {p = p} {rules = rules} {k = k} same_path same_rules place = subst (λ q. IsPlace at q rules k) same_path (subst (λ l. IsPlace at p l k) same_rules place)
 
-  takes : (rule x : R) (rules : List R) → same_path (at x) (at rule) ≡ true → has_rule at (at rule) rules ≡ false → with_rule at rule (x ∷ rules) ≡ rule ∷ rules
-  takes rule x rules same has =
-      ap (λ b. cond (b && not (has_rule at (at rule) rules)) (rule ∷ rules) (x ∷ with_rule at rule rules)) same
-      ∙ ap (λ b. cond (not b) (rule ∷ rules) (x ∷ with_rule at rule rules)) has
+  pub gap_in : {p q : Path} {rules lent : List R} {k : ℕ} → p ≡ q → lent ≡ rules → IsGap at p lent k → IsGap at q rules k
+  gap_in {p = p} {rules = rules} {k = k} same_path same_rules gap = subst (λ q. IsGap at q rules k) same_path (subst (λ l. IsGap at p l k) same_rules gap)
 
-  pub with_none : (rule : R) (rules : List R) → has_rule at (at rule) rules ≡ false → with_rule at rule rules ≡ rules ++ rule ∷ []
-  with_none rule [] has = refl
-  with_none rule (x ∷ rules) has =
-      let parts = either_false (same_path (at x) (at rule)) (has_rule at (at rule) rules) has in
-      skips rule x rules parts.0 ∙ ap (λ l. x ∷ l) (with_none rule rules parts.1)
+  none_for : (p : Path) (rules : List R) → ((i : ℕ) (d : R) → i < length rules → same_path (at (get_or rules i d)) p ≡ false) → has_rule at p rules ≡ false
+  none_for p [] other = refl
+  none_for p (r ∷ rules) other = ap (λ b. b || has_rule at p rules) (other 0 r (omega arith)) ∙ none_for p rules (λ i d below. other (suc i) d (omega arith))
 
-  with_new : (rule r : R) (rules : List R) → same_path (at r) (at rule) ≡ true → with_rule at rule (rules ++ r ∷ []) ≡ set (rules ++ r ∷ []) (length rules) rule
-  with_new rule r [] same = takes rule r [] same refl
-  with_new rule r (x ∷ rules) same =
-      let has : has_rule at (at rule) (rules ++ r ∷ []) ≡ true = has_more (at rule) rules r ∙ ap (λ b. has_rule at (at rule) rules || b) same ∙ or_true (has_rule at (at rule) rules) in
-      passes rule x (rules ++ r ∷ []) has ∙ ap (λ l. x ∷ l) (with_new rule r rules same)
+  -- where one would stand there is none
+  pub none_in_gap : (p : Path) (rules : List R) (k : ℕ) → IsGap at p rules k → has_rule at p rules ≡ false
+  none_in_gap p rules k gap = none_for p rules (λ i d below. elim (cases_lt i k) [
+    | inl less ↦ ap is_eq (gap.before i d less)
+    | inr more ↦ ap is_eq (greater_than p (at (get_or rules i d)) (gap.behind i d more below))
+  ])
 
-  with_other : (rule r : R) (rules : List R) → same_path (at r) (at rule) ≡ false → has_rule at (at rule) rules ≡ true → with_rule at rule (rules ++ r ∷ []) ≡ with_rule at rule rules ++ r ∷ []
-  with_other rule r [] other has = absurd (false≢true has)
-  with_other rule r (x ∷ rules) other has =
-      let more : has_rule at (at rule) (rules ++ r ∷ []) ≡ has_rule at (at rule) rules = has_more (at rule) rules r ∙ ap (λ b. has_rule at (at rule) rules || b) other ∙ or_false (has_rule at (at rule) rules) in
-      elim (has_rule at (at rule) rules) as (λ b. has_rule at (at rule) rules ≡ b → with_rule at rule ((x ∷ rules) ++ r ∷ []) ≡ with_rule at rule (x ∷ rules) ++ r ∷ []) [
-        | true ↦ λ is. passes rule x (rules ++ r ∷ []) (more ∙ is) ∙ ap (λ l. x ∷ l) (with_other rule r rules other is) ∙ ap (λ l. l ++ r ∷ []) (sym (passes rule x rules is))
-        | false ↦ λ is.
-            let same : same_path (at x) (at rule) ≡ true = sym (or_false (same_path (at x) (at rule))) ∙ ap (λ b. same_path (at x) (at rule) || b) (sym is) ∙ has in
-            takes rule x (rules ++ r ∷ []) same (more ∙ is) ∙ ap (λ l. l ++ r ∷ []) (sym (takes rule x rules same is))
-      ] refl
+  by_order : R → R → List R → Ordering → List R
+  by_order rule r rules o = match_ordering o (rule ∷ r ∷ rules) (rule ∷ rules) (r ∷ with_rule at rule rules)
 
-  -- the place of the last rule for the path among those seen so far
-  abbrev pub IsPlace : Path → Option ℕ → List R → Type 0
-  IsPlace p place seen = MatchOption place (has_rule at p seen ≡ false) (λ k. (k < length seen) × (has_rule at p seen ≡ true) × ((rule : R) → at rule ≡ p → with_rule at rule seen ≡ set seen k rule))
+  pub with_found : (rule : R) (rules : List R) (k : ℕ) → IsAscending at rules → IsPlace at (at rule) rules k → with_rule at rule rules ≡ set rules k rule
+  unfolding by_order
+  with_found rule [] k up place = absurd (omega (arith, place.0))
+  with_found rule (r ∷ rules) zero up place = ap (by_order rule r rules) (ap (path_cmp (at rule)) (place.1 rule) ∙ path_itself (at rule))
+  with_found rule (r ∷ rules) (suc k) up place =
+      let less : path_cmp (at r) (at rule) ≡ Less = ap (path_cmp (at r)) (sym (place.1 rule)) ∙ up 0 (suc k) rule (omega arith) place.0 in
+      ap (by_order rule r rules) (greater_than (at r) (at rule) less)
+      ∙ ap (λ l. r ∷ l) (with_found rule rules k (λ i j d h below. up (suc i) (suc j) d (omega arith) (omega arith)) (omega (arith, place.0), place.1))
 
-  module _ (p : Path) (rules : List R) (i : ℕ) (r : R) (below : i < length rules) (is : r ≡ get_or rules i r) where
-    more_seen : take i rules ++ r ∷ [] ≡ take (i + 1) rules
-    more_seen = sym (rw add-one (take-suc rules i r below ∙ ap (λ x. take i rules ++ x ∷ []) (sym is)))
+  pub with_new : (rule : R) (rules : List R) (k : ℕ) → IsGap at (at rule) rules k → with_rule at rule rules ≡ insert rules k rule
+  unfolding by_order
+  with_new rule [] zero gap = refl
+  with_new rule [] (suc k) gap = absurd (omega (arith, gap.within))
+  with_new rule (r ∷ rules) zero gap = ap (by_order rule r rules) (gap.behind 0 rule (omega arith) (omega arith))
+  with_new rule (r ∷ rules) (suc k) gap =
+      let less : path_cmp (at r) (at rule) ≡ Less = gap.before 0 rule (omega arith) in
+      let rest : IsGap at (at rule) rules k = record {
+        within = omega (arith, gap.within);
+        before = λ i d below. gap.before (suc i) d (omega arith);
+        behind = λ i d low below. gap.behind (suc i) d (omega arith) (omega arith);
+      } in
+      ap (by_order rule r rules) (greater_than (at r) (at rule) less) ∙ ap (λ l. r ∷ l) (with_new rule rules k rest)
 
-    seen_long : length (take i rules) ≡ i
-    seen_long = length-take-le i rules (omega (arith, below))
+  -- a rule where one would stand leaves them ascending
+  ascending_new : (rule : R) (rules : List R) (k : ℕ) → IsAscending at rules → IsGap at (at rule) rules k → IsAscending at (insert rules k rule)
+  ascending_new rule rules k up gap i j d h below =
+      let new = insert rules k rule in
+      let long : j < length rules + 1 = omega (arith, below, length-insert rules k rule gap.within) in
+      let under : (n : ℕ) → n < k → get_or new n d ≡ get_or rules n d = λ n less. get_or-insert_below rules k rule d n less gap.within in
+      let here : (n : ℕ) → k ≡ n → get_or new n d ≡ rule = λ n same. subst (λ m. get_or new m d ≡ rule) same (get_or-insert_at rules k rule d gap.within) in
+      let over : (n : ℕ) → k < n → get_or new n d ≡ get_or rules (n - 1) d = λ n more. subst (λ m. get_or new m d ≡ get_or rules (n - 1) d) {x = n - 1 + 1} (omega arith) (get_or-insert_above rules k rule d (n - 1) (omega arith) gap.within) in
+      grind (arith, under i, here i, over i, under j, here j, over j, up i j d, up i (j - 1) d, up (i - 1) (j - 1) d, gap.before i d, gap.behind (j - 1) d)
 
-    pub place_new : same_path (at r) p ≡ true → IsPlace p (Some i) (take (i + 1) rules)
-    place_new same =
-        let seen = take i rules in
-        let has : has_rule at p (seen ++ r ∷ []) ≡ true = has_more p seen r ∙ ap (λ b. has_rule at p seen || b) same ∙ or_true (has_rule at p seen) in
-        let puts : (rule : R) → at rule ≡ p → with_rule at rule (seen ++ r ∷ []) ≡ set (seen ++ r ∷ []) i rule =
-        λ rule own. with_new rule r seen (ap (λ q. same_path (at r) q) own ∙ same) ∙ ap (λ n. set (seen ++ r ∷ []) n rule) seen_long in
-        let long : i < length (seen ++ r ∷ []) = omega (arith, length-append seen (r ∷ []), seen_long) in
-        subst (λ l. IsPlace p (Some i) l) more_seen (long, has, puts)
-
-    pub place_stays : (place : Option ℕ) → IsPlace p place (take i rules) → same_path (at r) p ≡ false → IsPlace p place (take (i + 1) rules)
-    place_stays None h other =
-        let seen = take i rules in
-        subst (λ l. IsPlace p None l) more_seen (has_more p seen r ∙ ap (λ b. b || same_path (at r) p) h ∙ other)
-    place_stays (Some k) h other =
-        let seen = take i rules in
-        let has : has_rule at p (seen ++ r ∷ []) ≡ true = has_more p seen r ∙ ap (λ b. b || same_path (at r) p) h.1 in
-        let puts : (rule : R) → at rule ≡ p → with_rule at rule (seen ++ r ∷ []) ≡ set (seen ++ r ∷ []) k rule =
-        λ rule own.
-        with_other rule r seen (ap (λ q. same_path (at r) q) own ∙ other) (ap (λ q. has_rule at q seen) own ∙ h.1)
-        ∙ ap (λ l. l ++ r ∷ []) (h.2 rule own)
-        ∙ sym (set-append_left seen (r ∷ []) k rule h.0) in
-        let long : k < length (seen ++ r ∷ []) = omega (arith, length-append seen (r ∷ []), h.0) in
-        subst (λ l. IsPlace p (Some k) l) more_seen (long, has, puts)
-
-  pub place_found : (p : Path) (place : Option ℕ) (rules : List R) (i : ℕ) → length rules ≤ i → IsPlace p place (take i rules) → MatchOption place (has_rule at p rules ≡ false) (λ k. (k < length rules) × ((rule : R) → at rule ≡ p → with_rule at rule rules ≡ set rules k rule))
-  place_found p None rules i h is = ap (λ l. has_rule at p l) (sym (take_all i rules h)) ∙ is
-  place_found p (Some k) rules i h is =
-      let whole : IsPlace p (Some k) rules = subst (λ l. IsPlace p (Some k) l) (take_all i rules h) is in
-      (whole.0, whole.2)
+  -- and so they are, whether there was memory for it or not
+  pub ascending_after : (rule : R) (rules new : List R) (k : ℕ) (added : Bool) → IsAscending at rules → IsGap at (at rule) rules k → new ≡ (if added then insert rules k rule else rules) → IsAscending at new
+  ascending_after rule rules new k true up gap is = subst (IsAscending at) (sym is) (ascending_new rule rules k up gap)
+  ascending_after rule rules new k false up gap is = subst (IsAscending at) (sym is) up

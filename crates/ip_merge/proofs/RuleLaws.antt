@@ -1,32 +1,23 @@
--- The last rule of those with the longest path is the one that decides.
-use Rattle.std.proofs.Common.{◌≡◌, ◌<◌, ◌≤◌, ℕ, ◌+◌, Bool, true, false, ◌&&◌, List, [], ◌∷◌, ◌++◌, length, take, get_or, All, IsTrue, Option, Some, None, MatchOption, IfOk, Result, Ok, Err, refl, sym, ap, subst, ◌∙◌, arith, le-leb, leb, append_assoc, add-one, nat_le}
-use Rattle.std.proofs.lemmas.Bool.{false≢true}
-use Rattle.std.proofs.Math.Seq.{take-suc}
-use Rattle.std.proofs.lemmas.List.{get_or_default, take_all}
+-- The rule with the longest path is the one that decides, and how it is found.
+use Rattle.std.proofs.Common.{◌≡◌, ◌≢◌, ◌<◌, ◌≤◌, ℕ, ◌+◌, suc, Bool, true, false, ◌&&◌, List, [], ◌∷◌, ◌++◌, length, take, drop, get_or, All, IsTrue, Option, IfOk, Result, Ok, Err, refl, sym, ap, subst, ◌∙◌, inl, inr, arith, le-leb, leb}
+use Rattle.std.proofs.Math.Seq.{split_at}
+use Rattle.std.proofs.lemmas.Bool.{cases_lt}
 use Rattle.std.proofs.lemmas.Bool.Decides.{nat_tests}
-use Rattle.std.proofs.lemmas.List.Elements.{All-head, All-tail, All-append, All-push, All-cons}
-use Rattle.std.specs.Cmp.Lexicographic.{pointwise}
-use Rattle.std.specs.Str.{bytes_eq}
-use Rattle.ip_merge.proofs.SameText.{same_bytes_is}
-use Rattle.ip_spec.specs.Path.{Bytes, Path, is_prefix}
+use Rattle.std.proofs.lemmas.List.{get_or-drop, length-drop, length-take-le}
+use Rattle.std.proofs.lemmas.List.Elements.{All-head, All-tail, All-take}
+use Rattle.std.specs.declared.cmp.Ordering.TheVariants.{Less, Equal}
+use Rattle.ip_merge.proofs.PathOrder.{path_itself, prefix_steps, steps_prefix}
+use Rattle.ip_spec.specs.Path.{Bytes, Path, path_cmp, is_prefix}
 use Rattle.ip_spec.specs.declared.merge.Merged.{Merged}
 use Rattle.ip_spec.specs.Merge.{Meaning, longest, better, rule_of, same_means, IsOneAnswer}
-use Rattle.ip_merge.specs.Rules.{meanings, Picks, PicksNone}
+use Rattle.ip_merge.specs.Rules.{IsAscending, IsPlace, IsGap, meanings, Picks, PicksNone}
 
 false_unless : (b : Bool) → (b ≡ true → ⊥) → b ≡ false
 false_unless true h = absurd (h refl)
 false_unless false h = refl
 
-passes_both : (b : Bool) (m n : ℕ) → (b && nat_le m n) ≡ true → (b ≡ true) × (m ≤ n)
-passes_both true m n h = (refl, grind (arith, nat_tests))
-passes_both false m n h = absurd (false≢true h)
-
-fails_one : (b : Bool) (m n : ℕ) → (b && nat_le m n) ≡ false → b ≡ true → n < m
-fails_one true m n h f = grind (arith, nat_tests)
-fails_one false m n h f = absurd (false≢true f)
-
-take_more : {R : Type 0} (rules : List R) (i : ℕ) (rule : R) → i < length rules → rule ≡ get_or rules i rule → take (i + 1) rules ≡ take i rules ++ rule ∷ []
-take_more rules i rule below is = rw add-one (take-suc rules i rule below ∙ ap (λ r. take i rules ++ r ∷ []) (sym is))
+less_not_equal : Less ≡ Equal → ⊥
+less_not_equal h = cc
 
 module _ {R : Type 0} (at : R → Path) (p : Path) where
   abbrev Unfit : R → Type 0
@@ -93,34 +84,6 @@ module _ {R : Type 0} (at : R → Path) (p : Path) where
         ∙ through ([], same_means) h.before (rule ∷ h.after)
         ∙ chosen (best_after ([], same_means) h.before) rule h.after h.fits (after_within (length (at rule)) ([], same_means) h.before (omega arith) h.longest) h.last
 
-  -- one rule more: it takes the place of a best one that is no longer, and does not where it does not fit or is shorter
-  pub picks_new : (n : ℕ) (rules : List R) (rule : R) → All (Within n) rules → IsTrue (is_prefix (at rule) p) → n ≤ length (at rule) → Picks at p (rules ++ rule ∷ []) rule
-  picks_new n rules rule h fits long = record {
-    before = rules;
-    after = [];
-    stands = refl;
-    fits = fits;
-    longest = λ k d below f. omega (arith, h k d below f);
-    last = λ k d below. absurd (omega arith);
-  }
-
-  pub picks_more : (rules : List R) (best rule : R) → Picks at p rules best → Below (length (at best)) rule → Picks at p (rules ++ rule ∷ []) best
-  picks_more rules best rule h below = record {
-    before = h.before;
-    after = h.after ++ rule ∷ [];
-    stands = ap (λ rs. rs ++ rule ∷ []) h.stands ∙ append_assoc h.before (best ∷ h.after) (rule ∷ []);
-    fits = h.fits;
-    longest = h.longest;
-    last = All-push (Below (length (at best))) h.after rule h.last below;
-  }
-
-  pub picks_within : (rules : List R) (best : R) → Picks at p rules best → All (Within (length (at best))) rules
-  picks_within rules best h =
-      let n = length (at best) in
-      let own : Within n best = λ _. omega arith in
-      let after : All (Within n) h.after = λ k d below f. omega (arith, h.last k d below f) in
-      subst (All (Within n)) (sym h.stands) (All-append (Within n) h.before (best ∷ h.after) h.longest (All-cons (Within n) best h.after own after))
-
   -- a rule that is picked answers what it means, and so do equal sides where none is
   pub picked_answers : (means : R → Meaning) {E : Type 0} (result : Result Merged E) (rules : List R) (rule : R) → Picks at p rules rule → (o a b : Option Bytes) → IfOk result (λ m. means rule o a b m) → IfOk result (λ m. rule_of (meanings at means rules) p o a b m)
   picked_answers means (Ok m) rules rule h o a b is = subst (λ (f : Meaning). f o a b m) (sym (picked_means means rules rule h)) is
@@ -141,53 +104,46 @@ module _ {R : Type 0} (at : R → Path) (p : Path) where
   pub one_rule : (means : R → Meaning) (rules : List R) → All (λ r. IsOneAnswer (means r)) rules → IsOneAnswer (rule_of (meanings at means rules) p)
   one_rule means rules all = one_longest means ([], same_means) rules (λ o a b r s e f. e ∙ sym f) all
 
-  -- the place of the best rule among those seen so far, and the length of its path
-  abbrev pub IsBest : Option ℕ → ℕ → List R → List R → Type 0
-  IsBest best n rules seen = MatchOption best (PicksNone at p seen × (n ≡ 0)) (λ k. (k < length rules) × ((d : R) → Picks at p seen (get_or rules k d) × (n ≡ length (at (get_or rules k d)))))
+  -- no rule's path is longer than all prefixes
+  pub none_longer : (rules : List R) → All (Below (length p + 1)) rules
+  none_longer rules k d below fits = omega (arith, (prefix_steps (at (get_or rules k d)) p fits).0)
 
-  none_within : (n : ℕ) (seen : List R) → PicksNone at p seen → All (Within n) seen
-  none_within n seen h k d below f = cc (h k d below, f)
+  -- a prefix of this length is the steps up to it
+  of_length : (n : ℕ) (r : R) → IsTrue (is_prefix (at r) p) → length (at r) ≡ n → at r ≡ take n p
+  of_length n r fits long = (prefix_steps (at r) p fits).1 ∙ ap (λ m. take m p) long
 
-  seen_within : (best : Option ℕ) (n : ℕ) (rules seen : List R) (d : R) → IsBest best n rules seen → All (Within n) seen
-  seen_within None n rules seen d h = none_within n seen h.0
-  seen_within (Some k) n rules seen d h = subst (λ m. All (Within m) seen) (sym (h.1 d).1) (picks_within seen (get_or rules k d) (h.1 d).0)
+  -- one length less to look up, where no rule is for the prefix of this one
+  pub none_of_length : (n : ℕ) (rules : List R) (k : ℕ) → IsGap at (take n p) rules k → All (Below (n + 1)) rules → All (Below n) rules
+  none_of_length n rules k gap all i d below fits =
+      let r = get_or rules i d in
+      let other : length (at r) ≢ n = λ long. elim (cases_lt i k) [
+        | inl less ↦ less_not_equal (sym (gap.before i d less) ∙ ap (λ q. path_cmp q (take n p)) (of_length n r fits long) ∙ path_itself (take n p))
+        | inr more ↦ less_not_equal (sym (gap.behind i d more below) ∙ ap (path_cmp (take n p)) (of_length n r fits long) ∙ path_itself (take n p))
+      ] in
+      omega (arith, all i d below fits, other)
 
-  pub best_new : (best : Option ℕ) (n : ℕ) (rules : List R) (i : ℕ) (rule : R) → i < length rules → rule ≡ get_or rules i rule → IsBest best n rules (take i rules) → IsTrue (is_prefix (at rule) p) → n ≤ length (at rule) → IsBest (Some i) (length (at rule)) rules (take (i + 1) rules)
-  best_new best n rules i rule below is h fits long =
-      let within : All (Within n) (take i rules) = seen_within best n rules (take i rules) rule h in (
-        below,
-        λ d.
-            let same : get_or rules i d ≡ rule = get_or_default rules i d rule below ∙ sym is in
-            let more : take (i + 1) rules ≡ take i rules ++ rule ∷ [] = take_more rules i rule below is in
-            (subst (λ r. Picks at p (take (i + 1) rules) r) (sym same) (subst (λ rs. Picks at p rs rule) (sym more) (picks_new n (take i rules) rule within fits long)), ap (λ r. length (at r)) (sym same)),
-      )
+  -- the rule for the longest prefix that has one is the rule of the path
+  pub longest_picked : (n : ℕ) (rules : List R) (k : ℕ) → n ≤ length p → IsAscending at rules → IsPlace at (take n p) rules k → All (Below (n + 1)) rules → (d : R) → Picks at p rules (get_or rules k d)
+  longest_picked n rules k short up place all d =
+      let rule = get_or rules k d in
+      let own : at rule ≡ take n p = place.1 d in
+      let long : length (at rule) ≡ n = ap (λ q. length q) own ∙ length-take-le n p short in
+      let shorter : (i : ℕ) (e : R) → k < i → i < length rules → IsTrue (is_prefix (at (get_or rules i e)) p) → length (at (get_or rules i e)) < n = λ i e above below fits.
+      let r = get_or rules i e in
+      let other : length (at r) ≢ n = λ same. less_not_equal (sym (up k i e above below) ∙ (λ x. path_cmp (place.1 e x) (of_length n r fits same x)) ∙ path_itself (take n p)) in
+      omega (arith, all i e below fits, other) in
+      record {
+        before = take k rules;
+        after = drop (suc k) rules;
+        stands = split_at rules k d place.0;
+        fits = ap (λ q. is_prefix q p) own ∙ steps_prefix n p;
+        longest = λ i e below fits. omega (arith, All-take (Below (n + 1)) k rules all i e below fits);
+        last = λ i e below fits.
+            let there = get_or-drop (suc k) rules i e in
+            subst (λ r. length (at r) < length (at rule)) (sym there)
+            (subst (λ m. length (at (get_or rules (suc k + i) e)) < m) (sym long)
+            (shorter (suc k + i) e (omega arith) (omega (arith, below, length-drop (suc k) rules)) (subst (λ r. IsTrue (is_prefix (at r) p)) there fits)));
+      }
 
-  pub best_stays : (best : Option ℕ) (n : ℕ) (rules : List R) (i : ℕ) (rule : R) → i < length rules → rule ≡ get_or rules i rule → IsBest best n rules (take i rules) → Below n rule → IsBest best n rules (take (i + 1) rules)
-  best_stays None n rules i rule below is h less =
-      let more : take (i + 1) rules ≡ take i rules ++ rule ∷ [] = take_more rules i rule below is in
-      let unfit : is_prefix (at rule) p ≡ false = false_unless (is_prefix (at rule) p) (λ f. omega (arith, less f, h.1)) in
-      (subst (PicksNone at p) (sym more) (All-push Unfit (take i rules) rule h.0 unfit), h.1)
-  best_stays (Some k) n rules i rule below is h less =
-      let more : take (i + 1) rules ≡ take i rules ++ rule ∷ [] = take_more rules i rule below is in (
-        h.0,
-        λ d.
-            let shorter : Below (length (at (get_or rules k d))) rule = λ f. omega (arith, less f, (h.1 d).1) in
-            (subst (λ rs. Picks at p rs (get_or rules k d)) (sym more) (picks_more (take i rules) (get_or rules k d) rule (h.1 d).0 shorter), (h.1 d).1),
-      )
-
-  -- the test that a rule replaces the best one so far
-  pub replaced : (n : ℕ) (rule : R) → (is_prefix (at rule) p && nat_le n (length (at rule))) ≡ true → IsTrue (is_prefix (at rule) p) × (n ≤ length (at rule))
-  replaced n rule h = passes_both (is_prefix (at rule) p) n (length (at rule)) h
-
-  pub not_replaced : (n : ℕ) (rule : R) → (is_prefix (at rule) p && nat_le n (length (at rule))) ≡ false → Below n rule
-  not_replaced n rule h = fails_one (is_prefix (at rule) p) n (length (at rule)) h
-
-  -- after all rules were seen
-  pub best_picks : (best : Option ℕ) (n : ℕ) (rules : List R) (i : ℕ) → length rules ≤ i → IsBest best n rules (take i rules) → MatchOption best (PicksNone at p rules) (λ k. (k < length rules) × ((d : R) → Picks at p rules (get_or rules k d)))
-  best_picks None n rules i h best = subst (PicksNone at p) (take_all i rules h) best.0
-  best_picks (Some k) n rules i h best = (best.0, λ d. subst (λ rs. Picks at p rs (get_or rules k d)) (take_all i rules h) (best.1 d).0)
-
-pub prefix_is : (at p : Path) → pointwise bytes_eq at (take (length at) p) ≡ is_prefix at p
-prefix_is [] p = refl
-prefix_is (s ∷ at) [] = refl
-prefix_is (s ∷ at) (r ∷ p) = λ i. same_bytes_is s r i && prefix_is at p i
+  pub none_picked : (rules : List R) → All (Below 0) rules → PicksNone at p rules
+  none_picked rules all k d below = false_unless (is_prefix (at (get_or rules k d)) p) (λ fits. omega (arith, all k d below fits))

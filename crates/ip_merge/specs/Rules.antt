@@ -3,9 +3,14 @@
 --     Picks at p rules rule      the rule of p: of those whose path is a prefix of p the longest, and of equal paths the last
 --     PicksNone at p rules      no rule's path is a prefix of p
 --     has_rule at p rules      whether one of the rules is for the path p itself
---     with_rule at rule rules      the rules with this one in the place of the last one for its path, and behind all where there is none
-use Rattle.std.specs.Prelude.{◌≡◌, ◌<◌, ◌≤◌, Bool, false, not, ◌&&◌, ◌||◌, cond, List, [], ◌∷◌, ◌++◌, length, All, IsTrue}
-use Rattle.ip_spec.specs.Path.{Path, is_prefix, same_path}
+--     IsAscending at rules      each rule's path comes before those of the rules behind it, so no two are for one path
+--     with_rule at rule rules      ascending rules with this one at its place, instead of the one for its path where there is one
+--     IsPlace at p rules k      the rule at place k is the one for p
+--     IsGap at p rules k      no rule is for p, and one would stand at place k
+use Rattle.std.specs.Prelude.{◌≡◌, ◌<◌, ◌≤◌, ℕ, Bool, false, ◌||◌, List, [], ◌∷◌, ◌++◌, length, slice_index_or, All, IsTrue}
+use Rattle.std.specs.Ordering.{match_ordering}
+use Rattle.std.specs.declared.cmp.Ordering.TheVariants.{Less}
+use Rattle.ip_spec.specs.Path.{Path, path_cmp, is_prefix, same_path}
 use Rattle.ip_spec.specs.Merge.{Meaning}
 
 module _ {R : Type 0} (at : R → Path) where
@@ -28,6 +33,17 @@ module _ {R : Type 0} (at : R → Path) where
   has_rule p [] = false
   has_rule p (rule ∷ rules) = same_path (at rule) p || has_rule p rules
 
+  abbrev pub IsAscending : List R → Type 0
+  IsAscending rules = (i j : ℕ) (d : R) → i < j → j < length rules → path_cmp (at (slice_index_or rules i d)) (at (slice_index_or rules j d)) ≡ Less
+
   abbrev pub with_rule : R → List R → List R
   with_rule rule [] = rule ∷ []
-  with_rule rule (r ∷ rules) = cond (same_path (at r) (at rule) && not (has_rule (at rule) rules)) (rule ∷ rules) (r ∷ with_rule rule rules)
+  with_rule rule (r ∷ rules) = match_ordering (path_cmp (at rule) (at r)) (rule ∷ r ∷ rules) (rule ∷ rules) (r ∷ with_rule rule rules)
+
+  abbrev pub IsPlace : Path → List R → ℕ → Type 0
+  IsPlace p rules k = (k < length rules) × ((d : R) → at (slice_index_or rules k d) ≡ p)
+
+  pub record IsGap (p : Path) (rules : List R) (k : ℕ) : Type 0 where
+    pub within : k ≤ length rules
+    pub before : (i : ℕ) (d : R) → i < k → path_cmp (at (slice_index_or rules i d)) p ≡ Less
+    pub behind : (i : ℕ) (d : R) → k ≤ i → i < length rules → path_cmp p (at (slice_index_or rules i d)) ≡ Less

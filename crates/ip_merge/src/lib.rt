@@ -7,6 +7,7 @@ mod call;
 mod counter;
 mod line_set;
 mod merger;
+mod order;
 mod rules;
 mod same;
 mod seq;

@@ -1,14 +1,16 @@
 // Which merger merges a path.
-ghost use Rattle.std.specs.Prelude.{◌≡◌, [], OnOk, OnErr, IfOk, MatchOption, ◌<◌, length, slice_index_or, slice_set, false, ◌&&◌, nat_le, All};
-ghost use Rattle.ip_spec.specs.Path.{Path, is_prefix};
+ghost use Rattle.std.specs.Prelude.{◌≡◌, [], OnOk, OnErr, IfOk, IfErr, MatchOption, ◌<◌, length, slice_index_or, false, All};
+ghost use Rattle.ip_spec.specs.Path.{Path, path_cmp};
 ghost use Rattle.std.specs.Option.{option_copied};
 ghost use Rattle.ip_spec.specs.Merge.{Meaning, rule_of, IsOneAnswer};
 ghost use Rattle.ip_merge.specs.declared.rules.Rule.TheVariants.{Boxed, Closure};
-ghost use Rattle.ip_merge.specs.Rules.{meanings, Picks, PicksNone, has_rule, with_rule};
+ghost use Rattle.ip_merge.specs.Rules.{IsAscending, IsPlace, IsGap, meanings, Picks, PicksNone, has_rule, with_rule};
 
+use crate::order::compare;
 use crate::{Call, Merged, Merger, Same};
 use ip_base::{Memory, Path, Step};
 use std::alloc::Global;
+use std::cmp::Ordering;
 
 /// A merger, or a closure that is one.
 #[derive(Drop)]
@@ -42,10 +44,11 @@ pub struct PathRule {
     pub merger: Rule,
 }
 
-/// Rules for paths, in the order in which their paths were added.
+/// Rules for paths, one for each, ascending by path.
 #[derive(Drop)]
 pub struct Rules {
     pub list: Vec<PathRule>,
+    pub ghost ascending: { IsAscending (λ r. r.at) list.items },
 }
 
 impl Rules {
@@ -86,8 +89,8 @@ impl Rules {
         ensures refused { OnErr result ((self.new.list.items ≡ self.old.list.items) × (has_rule (λ r. r.at) rule.at self.old.list.items ≡ false)) }
     {
         match place_of(&self.list, rule.at.steps()) {
-            Some(place) => self.list[place] = rule,
-            None => self.list.push(rule)?,
+            Ok(place) => self.list[place] = rule,
+            Err(place) => self.list.insert(place, rule)?,
         }
         Ok(())
     }
@@ -127,38 +130,28 @@ impl Rules {
     }
 }
 
-// The place of the last rule of those with the longest path.
+// The place of the rule with the longest path that is `path` or lies above it: one look-up for each length.
 fn longest(rules: &[PathRule], path: &[Step]) -> Option<usize>
+    requires { IsAscending (λ r. r.at) rules.now }
     ensures { MatchOption result (PicksNone (λ r. r.at) path.now rules.now) (λ k. (k < length rules.now) × ((d : _) → Picks (λ r. r.at) path.now rules.now (slice_index_or rules.now k d))) }
 {
-    let mut best = None;
-    let mut length = 0;
-    for (i, rule) in rules.iter().enumerate() {
-        let at = rule.at.steps();
-        if replaces(at, path, length) {
-            best = Some(i);
-            length = at.len();
+    for length in (0..=path.len()).rev() {
+        if let Ok(place) = place_of(rules, &path[..length]) {
+            return Some(place);
         }
     }
-    best
+    None
 }
 
-// Whether a rule of this path comes before one whose path has this length.
-fn replaces(at: &[Step], path: &[Step], least: usize) -> bool
-    ensures { result ≡ (is_prefix at.now path.now && nat_le least (length at.now)) }
+// The place of the rule for this path itself, or the one where it would stand.
+fn place_of(rules: &[PathRule], at: &[Step]) -> Result<usize, usize>
+    requires { IsAscending (λ r. r.at) rules.now }
+    ensures found { IfOk result (IsPlace (λ r. r.at) at.now rules.now) }
+    ensures missing { IfErr result (IsGap (λ r. r.at) at.now rules.now) }
 {
-    path.starts_with(at) && least <= at.len()
-}
-
-// The place of the last rule for this path itself.
-fn place_of(rules: &[PathRule], at: &[Step]) -> Option<usize>
-    ensures { MatchOption result (has_rule (λ r. r.at) at.now rules.now ≡ false) (λ k. (k < length rules.now) × ((rule : _) → rule.at ≡ at.now → with_rule (λ r. r.at) rule rules.now ≡ slice_set rules.now k rule)) }
-{
-    let mut place = None;
-    for (i, rule) in rules.iter().enumerate() {
-        if rule.at.steps() == at {
-            place = Some(i);
-        }
-    }
-    place
+    rules.binary_search_by(
+        |rule| -> Ordering
+            ensures { result ≡ path_cmp rule.now.at at.entry.now }
+        { compare(rule.at.steps(), at) },
+    )
 }

@@ -22,221 +22,99 @@ fn is_wanted(merged: &Merged, want: &Want) -> bool {
     }
 }
 
-fn answers<M: Merger>(
-    alloc: Global,
-    merger: &M,
-    base: Value,
-    left: Value,
-    right: Value,
-    want: Want,
-) -> bool {
-    match merger.merge(alloc, base, left, right) {
-        Ok(merged) => is_wanted(&merged, &want),
-        Err(_) => false,
+// The ancestor's value, the left and the right side's, and what comes of them.
+type Row = (Value, Value, Value, Want);
+
+fn answers<M: Merger>(alloc: Global, merger: &M, rows: &[Row]) -> bool {
+    for (base, left, right, want) in rows {
+        match merger.merge(alloc, *base, *left, *right) {
+            Ok(merged) => {
+                if !is_wanted(&merged, want) {
+                    return false;
+                }
+            }
+            Err(_) => return false,
+        }
     }
+    true
 }
 
 #[test]
 fn equal_sides(rt: HostRuntime) {
-    let alloc = rt.alloc();
-    assert!(rt;
-        answers(
-            alloc,
-            &Same,
-            Some(b"o"),
-            Some(b"x"),
-            Some(b"x"),
-            Want::Value(b"x")
-        )
-    );
-    assert!(rt; answers(alloc, &Same, Some(b"o"), None, None, Want::Absent));
-    assert!(rt; answers(alloc, &Same, None, Some(b"x"), Some(b"y"), Want::Conflict));
-    assert!(rt; answers(alloc, &Same, Some(b"o"), None, Some(b"y"), Want::Conflict));
+    let rows: [Row; 4] = [
+        (Some(b"o"), Some(b"x"), Some(b"x"), Want::Value(b"x")),
+        (Some(b"o"), None, None, Want::Absent),
+        (None, Some(b"x"), Some(b"y"), Want::Conflict),
+        (Some(b"o"), None, Some(b"y"), Want::Conflict),
+    ];
+    assert!(rt; answers(rt.alloc(), &Same, &rows));
 }
 
 #[test]
 fn counters(rt: HostRuntime) {
-    let alloc = rt.alloc();
     let greatest: &[u8] = b"9223372036854775807";
     let least: &[u8] = b"-9223372036854775808";
-    assert!(rt;
-        answers(
-            alloc,
-            &Counter,
-            None,
-            Some(b"2"),
-            Some(b"-5"),
-            Want::Value(b"-3")
-        )
-    );
-    assert!(rt;
-        answers(
-            alloc,
-            &Counter,
-            Some(b"10"),
-            Some(b"12"),
-            Some(b"7"),
-            Want::Value(b"9")
-        )
-    );
-    assert!(rt;
-        answers(
-            alloc,
-            &Counter,
-            None,
-            Some(b"07"),
-            Some(b"1"),
-            Want::Conflict
-        )
-    );
-    assert!(rt;
-        answers(
-            alloc,
-            &Counter,
-            None,
-            Some(b"1"),
-            Some(b"-0"),
-            Want::Conflict
-        )
-    );
-    assert!(rt;
-        answers(
-            alloc,
-            &Counter,
-            None,
-            Some(b"1"),
-            Some(b"+2"),
-            Want::Conflict
-        )
-    );
-    assert!(rt; answers(alloc, &Counter, None, Some(b""), Some(b"2"), Want::Conflict));
-    assert!(rt;
-        answers(
-            alloc,
-            &Counter,
-            Some(b"x"),
-            Some(b"1"),
-            Some(b"2"),
-            Want::Conflict
-        )
-    );
-    assert!(rt; answers(alloc, &Counter, None, None, Some(b"2"), Want::Conflict));
-    assert!(rt;
-        answers(
-            alloc,
-            &Counter,
-            None,
-            Some(greatest),
-            Some(b"1"),
-            Want::Conflict
-        )
-    );
-    assert!(rt;
-        answers(
-            alloc,
-            &Counter,
+    let rows: [Row; 12] = [
+        (None, Some(b"2"), Some(b"-5"), Want::Value(b"-3")),
+        (Some(b"10"), Some(b"12"), Some(b"7"), Want::Value(b"9")),
+        (None, Some(b"07"), Some(b"1"), Want::Conflict),
+        (None, Some(b"1"), Some(b"-0"), Want::Conflict),
+        (None, Some(b"1"), Some(b"+2"), Want::Conflict),
+        (None, Some(b""), Some(b"2"), Want::Conflict),
+        (Some(b"x"), Some(b"1"), Some(b"2"), Want::Conflict),
+        (None, None, Some(b"2"), Want::Conflict),
+        (None, Some(greatest), Some(b"1"), Want::Conflict),
+        (
             Some(b"1"),
             Some(greatest),
             Some(b"1"),
-            Want::Value(greatest)
-        )
-    );
-    assert!(rt;
-        answers(
-            alloc,
-            &Counter,
-            None,
-            Some(least),
-            Some(b"0"),
-            Want::Value(least)
-        )
-    );
-    assert!(rt;
-        answers(
-            alloc,
-            &Counter,
-            Some(greatest),
-            Some(least),
-            Some(least),
-            Want::Conflict
-        )
-    );
+            Want::Value(greatest),
+        ),
+        (None, Some(least), Some(b"0"), Want::Value(least)),
+        (Some(greatest), Some(least), Some(least), Want::Conflict),
+    ];
+    assert!(rt; answers(rt.alloc(), &Counter, &rows));
 }
 
 #[test]
 fn sets_of_lines(rt: HostRuntime) {
-    let alloc = rt.alloc();
-    assert!(rt;
-        answers(
-            alloc,
-            &LineSet,
+    let rows: [Row; 5] = [
+        (
             Some(b"a\n"),
             Some(b"a\nb\n"),
             Some(b""),
-            Want::Value(b"b\n")
-        )
-    );
-    assert!(rt;
-        answers(
-            alloc,
-            &LineSet,
+            Want::Value(b"b\n"),
+        ),
+        (
             None,
             Some(b"b\na\nb"),
             Some(b"c"),
-            Want::Value(b"a\nb\nc\n")
-        )
-    );
-    assert!(rt;
-        answers(
-            alloc,
-            &LineSet,
+            Want::Value(b"a\nb\nc\n"),
+        ),
+        (
             Some(b"a\nb"),
             Some(b"b\na"),
             Some(b"a\n\n"),
-            Want::Value(b"\na\n")
-        )
-    );
-    assert!(rt;
-        answers(
-            alloc,
-            &LineSet,
-            None,
-            Some(b""),
-            Some(b""),
-            Want::Value(b"")
-        )
-    );
-    assert!(rt;
-        answers(
-            alloc,
-            &LineSet,
-            Some(b"a"),
-            Some(b"a"),
-            None,
-            Want::Conflict
-        )
-    );
+            Want::Value(b"\na\n"),
+        ),
+        (None, Some(b""), Some(b""), Want::Value(b"")),
+        (Some(b"a"), Some(b"a"), None, Want::Conflict),
+    ];
+    assert!(rt; answers(rt.alloc(), &LineSet, &rows));
 }
 
 #[test]
 fn one_after_another(rt: HostRuntime) {
-    let alloc = rt.alloc();
     let seq = Seq {
         first: Counter,
         second: LineSet,
     };
-    assert!(rt;
-        answers(
-            alloc,
-            &seq,
-            None,
-            Some(b"x"),
-            Some(b"y"),
-            Want::Value(b"x\ny\n")
-        )
-    );
-    assert!(rt; answers(alloc, &seq, None, Some(b"1"), Some(b"2"), Want::Value(b"3")));
-    assert!(rt; answers(alloc, &seq, None, Some(b"1"), None, Want::Conflict));
+    let rows: [Row; 3] = [
+        (None, Some(b"x"), Some(b"y"), Want::Value(b"x\ny\n")),
+        (None, Some(b"1"), Some(b"2"), Want::Value(b"3")),
+        (None, Some(b"1"), None, Want::Conflict),
+    ];
+    assert!(rt; answers(rt.alloc(), &seq, &rows));
 }
 
 // A merger of the test's own: the left bytes, where both are present.
@@ -280,26 +158,37 @@ fn path(alloc: Global, steps: &[&[u8]]) -> Result<Path, Memory> {
     Ok(Path::of(path))
 }
 
-fn picks(alloc: Global, rules: &Rules, steps: &[&[u8]], want: Want) -> Result<bool, Memory> {
+fn picks(alloc: Global, rules: &Rules, steps: &[&[u8]], want: &Want) -> Result<bool, Memory> {
     let merged = rules.merge_at(&path(alloc, steps)?, alloc, None, Some(b"2"), Some(b"3"))?;
-    Ok(is_wanted(&merged, &want))
+    Ok(is_wanted(&merged, want))
 }
 
 #[test]
 fn rules_of_paths(rt: HostRuntime) -> Result<(), Memory> {
     let alloc = rt.alloc();
     let mut rules = Rules::new(alloc);
-    assert!(rt; picks(alloc, &rules, &[b"n"], Want::Conflict)?);
+    assert!(rt; picks(alloc, &rules, &[b"n"], &Want::Conflict)?);
     rules.add(path(alloc, &[b"n"])?, Box::new(alloc, Counter)?)?;
     rules.add(path(alloc, &[b"n", b"x"])?, Box::new(alloc, Left)?)?;
+    rules.add(path(alloc, &[b"m", b"x", b"y"])?, Box::new(alloc, Same)?)?;
     rules.add(path(alloc, &[b"n"])?, Box::new(alloc, LineSet)?)?;
-    assert!(rt; rules.list.len() == 2);
-    assert!(rt; picks(alloc, &rules, &[b"n"], Want::Value(b"2\n3\n"))?);
-    assert!(rt; picks(alloc, &rules, &[b"n", b"y"], Want::Value(b"2\n3\n"))?);
-    assert!(rt; picks(alloc, &rules, &[b"n", b"x"], Want::Value(b"2"))?);
-    assert!(rt; picks(alloc, &rules, &[b"n", b"x", b"z"], Want::Value(b"2"))?);
-    assert!(rt; picks(alloc, &rules, &[b"nx"], Want::Conflict)?);
-    assert!(rt; rules.pick(&path(alloc, &[b"o"])?).is_none());
+    assert!(rt; rules.list.len() == 3);
+    assert!(rt; rules.pick(&path(alloc, &[b"m", b"x"])?).is_none());
+    rules.add(path(alloc, &[])?, Box::new(alloc, Counter)?)?;
+    let rows: [(&[&[u8]], Want); 9] = [
+        (&[], Want::Value(b"5")),
+        (&[b"m", b"x"], Want::Value(b"5")),
+        (&[b"m", b"x", b"y", b"z"], Want::Conflict),
+        (&[b"n"], Want::Value(b"2\n3\n")),
+        (&[b"n", b"y"], Want::Value(b"2\n3\n")),
+        (&[b"n", b"x"], Want::Value(b"2")),
+        (&[b"n", b"x", b"z"], Want::Value(b"2")),
+        (&[b"nx"], Want::Value(b"5")),
+        (&[b"o"], Want::Value(b"5")),
+    ];
+    for (steps, want) in &rows {
+        assert!(rt; picks(alloc, &rules, steps, want)?);
+    }
     Ok(())
 }
 
@@ -309,12 +198,12 @@ fn rule_of_a_closure(rt: HostRuntime) -> Result<(), Memory> {
     let mut rules = Rules::new(alloc);
     let both: Answer = Box::new(alloc, move |three: &Three| joined(alloc, three))?;
     rules.add_call(path(alloc, &[b"joined"])?, Call::new(both))?;
-    assert!(rt; picks(alloc, &rules, &[b"joined"], Want::Value(b"23"))?);
-    assert!(rt; picks(alloc, &rules, &[b"joined", b"x"], Want::Value(b"23"))?);
+    assert!(rt; picks(alloc, &rules, &[b"joined"], &Want::Value(b"23"))?);
+    assert!(rt; picks(alloc, &rules, &[b"joined", b"x"], &Want::Value(b"23"))?);
     let at = path(alloc, &[b"joined"])?;
     let merged = rules.merge_at(&at, alloc, None, Some(b"2"), None)?;
     assert!(rt; is_wanted(&merged, &Want::Conflict));
     rules.add(at, Box::new(alloc, Counter)?)?;
-    assert!(rt; picks(alloc, &rules, &[b"joined"], Want::Value(b"5"))?);
+    assert!(rt; picks(alloc, &rules, &[b"joined"], &Want::Value(b"5"))?);
     Ok(())
 }

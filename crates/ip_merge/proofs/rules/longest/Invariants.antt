@@ -1,6 +1,7 @@
-use Rattle.std.proofs.Common.{take}
-use Rattle.ip_merge.proofs.RuleLaws.{IsBest}
+use Rattle.std.proofs.Common.{◌+◌, All}
+use Rattle.ip_merge.proofs.RuleLaws.{Below}
 use Rattle.ip_merge.proofs.rules.longest.Given as goal
 
-abbrev pub invariant-loop-i : goal.invariant-loop-i
-invariant-loop-i g l = IsBest (λ r. r.at) l.path l.best l.length l.rules (take l.i l.rules)
+-- a longer prefix of the path has no rule
+abbrev pub invariant-loop-length : goal.invariant-loop-length
+invariant-loop-length g l = All (Below (λ r. r.at) l.path (l.length + 1)) l.rules
