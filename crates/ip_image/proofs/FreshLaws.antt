@@ -1,6 +1,7 @@
 -- The control file that making a store leaves, and which slots of a control file are open.
 --     open_slot, open_slots      a slot is open where it is whole and its gate is open; some slot is live where one is open
 --     first_slots      only the first 256 bytes count
+--     is_live      slot 0 of the fresh control file is live
 --     fresh_stands      the fresh control file stands for the repository without commits
 use Rattle.std.proofs.Common.{◌≡◌, ℕ, ◌+◌, ◌-◌, ◌*◌, ◌<◌, ◌≤◌, min, Bool, true, false, [], length, take, drop, get_or, Option, Some, eqb, leb, refl, sym, ◌∙◌, ap, arith, length-drop}
 use Rattle.std.specs.Int.{w64, from_le_bytes}
@@ -106,9 +107,10 @@ module _ (control : Bytes) where
       first_chunk = omega arith;
       none_live = (λ e. e, λ e. e);
       nothing_below = λ e. (refl, refl, refl);
+      served = refl;
     }
 
-    is_live : IsLive control 0 (fresh chunk)
+    pub is_live : IsLive control 0 (fresh chunk)
     is_live = record {
       index = sym first_slots ∙ ap live_index is ∙ fresh_index;
       one = one_open (is_open control 0) (is_open control 1) (sequence_at control 0 == sequence_at control 1) (ap (λ l. (length l == 128) && (slice_index l 0 == open_gate)) (sym second_slot) ∙ ap (λ l. is_open l 1) is ∙ second_closed);

@@ -1,0 +1,89 @@
+-- How the image of a store goes on: with the same records, and with those of a commit behind them.
+--     BeginsWith front content      the content begins with these bytes.      front_of end image      the bytes of the records, which end there
+--     HasLive s image      this slot is live, and has the right form.      next_slot s end      the slot that follows it, when a commit's records end there
+--     MayCommit r tree parents info branch      what a commit is made of, that no refusal stands against
+--     batch_of, batch_end_of      the records of the commit, and where they end
+--     StandsStill, StandsNext      the two laws
+use Rattle.std.specs.Prelude.{◌≡◌, ◌≢◌, ℕ, ◌+◌, ◌<◌, ◌≤◌, List, ◌++◌, length, map, take, All, AllPairs, None, Some, IsSome, IsTrue, slice_index}
+use Rattle.ip_base.specs.declared.info.Info.{Info}
+use Rattle.ip_ground.specs.declared.names.FileName.TheVariants.{Control, Chunk}
+use Rattle.ip_ground.specs.Contents.{Content, Image, bytes_of, size_of}
+use Rattle.ip_spec.specs.Map.{get, insert, len}
+use Rattle.ip_spec.specs.Path.{Bytes, Path, AreBytes}
+use Rattle.ip_spec.specs.declared.record.Record.{Record}
+use Rattle.ip_spec.specs.Record.{Fits, IsInfo, IsBranchName, contents_limit, spelling_of}
+use Rattle.ip_spec.specs.Tree.{Tree, IsTree}
+use Rattle.ip_spec.specs.TreeAt.{Records}
+use Rattle.ip_spec.specs.View.{View}
+use Rattle.ip_spec.specs.Batch.{CommitFields, sources, batch, batch_end}
+use Rattle.ip_spec.specs.Repository.{Repository, next, is_retained, number_named, name_at}
+use Rattle.ip_spec.specs.Step.{new_commit, with_commit}
+use Rattle.ip_image.specs.Slot.{Slot, IsLive}
+use Rattle.ip_image.specs.Standing.{StandsFor, IsServedKind}
+
+pub record BeginsWith (front : Bytes) (content : Content) : Type 0 where
+  pub long : length front ≤ size_of content
+  pub same : (place : ℕ) → place < length front → slice_index (bytes_of content) place ≡ slice_index front place
+
+abbrev pub front_of : ℕ → Image → Bytes
+front_of end image = take end (bytes_of (image (Chunk 0)))
+
+pub record HasLive (s : Slot) (image : Image) : Type 0 where
+  pub control : Bytes
+  pub index : ℕ
+  pub held : image Control ≡ Some control
+  pub live : IsLive control index s
+
+abbrev pub next_slot : Slot → ℕ → Slot
+next_slot s end = record s { sequence = s.sequence + 1; end = end; next = s.next + 1 }
+
+-- a tree whose root is one leaf of contents
+pub record IsFlat (tree : Tree) : Type 0 where
+  pub is_tree : IsTree tree
+  pub one_step : (p : Path) → IsSome (get tree p) → length p ≡ 1
+  pub few : length tree.entries ≤ 32
+  pub contents : All (λ e. (length e.1 ≤ contents_limit 1) × AreBytes e.1) tree.entries
+
+-- a tree of which no part is known to be stored
+abbrev pub unread : Tree → View
+unread tree = record { map = tree; oldest = None; known = λ part. None }
+
+pub record MayCommit (r : Repository) (tree : Tree) (parents : List ℕ) (info : Info) (branch : Bytes) : Type 0 where
+  pub flat : IsFlat tree
+  pub retained : All (λ n. IsTrue (is_retained r n)) parents
+  pub distinct : AllPairs (λ m n. m ≢ n) parents
+  pub few : length parents ≤ 16
+  pub is_info : IsInfo info
+  pub is_branch : IsBranchName branch
+  pub new_name : number_named r (new_commit r tree parents info).name ≡ None
+  pub room : len (insert r.branches branch (next r)) ≤ 4096
+
+abbrev pub fields_of : Repository → List ℕ → Info → Bytes → CommitFields
+fields_of r parents info branch = record { number = next r; parents = map (λ n. record { number = n; name = name_at r n }) parents; info = info; branch = branch }
+
+abbrev pub batch_of : Tree → CommitFields → ℕ → Records
+batch_of tree fields end = batch (unread tree) (sources (unread tree)) fields end
+
+abbrev pub batch_end_of : Tree → CommitFields → ℕ → ℕ
+batch_end_of tree fields end = batch_end (unread tree) (sources (unread tree)) fields end
+
+abbrev pub bytes_of_records : Records → Bytes
+bytes_of_records records = spelling_of (map (λ x. x.1) records)
+
+-- each within the bounds of a version of the format, and of a kind that is there so far
+abbrev pub AreWithin : ℕ → Records → Type 0
+AreWithin version records = All (λ (x : ℕ × Record). Fits version x.1 × IsServedKind x.1) records
+
+-- an image with the same live slot and the same records stands for the same repository
+abbrev pub StandsStill : Type 0
+StandsStill = (image other : Image) (r : Repository) (s : Slot) → StandsFor image r → HasLive s image → HasLive s other
+    → BeginsWith (front_of s.end image) (other (Chunk 0)) → StandsFor other r
+
+-- and one with the records of a commit behind them, up to the end of its live slot, for the repository after the commit
+abbrev pub StandsNext : Type 0
+StandsNext = (image other : Image) (r : Repository) (s : Slot) (tree : Tree) (parents : List ℕ) (info : Info) (branch : Bytes) → StandsFor image r → HasLive s image
+    → MayCommit r tree parents info branch
+    → AreWithin s.version (batch_of tree (fields_of r parents info branch) s.end)
+    → HasLive (next_slot s (batch_end_of tree (fields_of r parents info branch) s.end)) other
+    → BeginsWith (front_of s.end image ++ bytes_of_records (batch_of tree (fields_of r parents info branch) s.end)) (other (Chunk 0))
+    → StandsFor other (with_commit r (new_commit r tree parents info) branch)
