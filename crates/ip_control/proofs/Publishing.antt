@@ -2,7 +2,7 @@
 -- the one from before or, from the gate's write on, the new one.
 --     ready_stays      a slot that was made ready is so still
 --     live_until, live_since, live_after      what is live until the gate is opened, from then on, and in the end
-use Rattle.std.proofs.Common.{◌≡◌, ◌⊎◌, inl, inr, ℕ, ◌≤◌, refl, sym, ◌∙◌, ap, subst}
+use Rattle.std.proofs.Common.{◌≡◌, ◌⊎◌, inl, inr, ℕ, ◌*◌, ◌≤◌, refl, sym, ◌∙◌, ap, subst}
 use Rattle.std.specs.Prelude.{OnOk, Result, Ok}
 use Rattle.std.proofs.lemmas.Result.{on_ok_weaker}
 use Rattle.ip_ground.specs.declared.names.FileName.TheVariants.{Control}
@@ -30,7 +30,7 @@ module _ (slot : ℕ) (b c : Told) (goes : KeepsPast b c) (stays : KeepsFile b c
   ready_stays before = record {
     ready = record {
       kept = kept_stays before.ready.kept;
-      whole = subst (λ h. 256 ≤ size_of h) (sym held_stays) before.ready.whole;
+      reaches = subst (λ h. 128 * slot ≤ size_of h) (sym held_stays) before.ready.reaches;
       spare = subst (λ h. IsSpare slot (live_of h)) (sym held_stays) before.ready.spare;
     };
     closed = subst (λ h. IsClosed slot h) (sym held_stays) before.closed;

@@ -1,5 +1,5 @@
 -- How the live slot is found: by the bytes of both slots.
-use Rattle.std.specs.Prelude.{ℕ, Bool, true, false, ◌&&◌, ◌==◌, List, length, slice_index}
+use Rattle.std.specs.Prelude.{ℕ, Bool, true, false, ◌&&◌, not, ◌==◌, List, length, slice_index}
 use Rattle.std.specs.Ordering.{nat_cmp}
 use Rattle.std.specs.declared.cmp.Ordering.{Ordering}
 use Rattle.std.specs.declared.cmp.Ordering.TheVariants.{Less, Equal, Greater}
@@ -9,6 +9,10 @@ use Rattle.ip_control.specs.Live.{Live, no_slot, live_slot, tied, sequence_of}
 -- a slot that is whole, and whose gate is open
 abbrev pub is_open : List ℕ → Bool
 is_open slot = (length slot == 128) && (slice_index slot 0 == open_gate)
+
+-- a slot that is whole, and whose gate is closed
+abbrev pub is_shut : List ℕ → Bool
+is_shut slot = (length slot == 128) && not (slice_index slot 0 == open_gate)
 
 -- of two slots that are open
 abbrev pub newest : Ordering → List ℕ → List ℕ → Live

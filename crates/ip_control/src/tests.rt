@@ -1,8 +1,8 @@
-ghost use Rattle.std.specs.Prelude.{◌≡◌, Some, length};
+ghost use Rattle.std.specs.Prelude.{◌≡◌, ◌≤◌, Some, length};
 ghost use Rattle.ip_ground.specs.Told.{IsBlank};
 ghost use Rattle.ip_control.specs.Live.{live_of, IsSpare, IsNewer};
 
-use crate::{Slot, open_gate, prepare, read_live};
+use crate::{ControlFault, Slot, open_gate, prepare, read_live};
 use ip_ground::{Bench, FileName, Ground, GroundFault};
 use std::test::Fail;
 
@@ -32,6 +32,38 @@ const BOTH: [u8; 256] = [
     0, 0, 0, 0, 0, 0, 0,
 ];
 
+// Slot 0 is live with sequence 1, and the file ends a byte before slot 1 does, whose gate is open.
+const PART: [u8; 255] = [
+    0xa5, 0, 0, 0, 0, 0, 0, 0, 0x01, 0, 0, 0, 0, 0, 0, 0, 0x01, 0, 0, 0, 0, 0, 0, 0, 0, 0x10, 0, 0,
+    0, 0, 0, 0, 0, 0, 0, 0, 0, 0, 0, 0, 0, 0, 0, 0, 0, 0, 0, 0, 0, 0, 0, 0, 0, 0, 0, 0, 0, 0, 0, 0,
+    0, 0, 0, 0, 0, 0, 0, 0, 0, 0, 0, 0, 0x01, 0, 0, 0, 0, 0, 0, 0, 0, 0, 0, 0, 0, 0, 0, 0, 0, 0, 0,
+    0, 0, 0, 0, 0, 0, 0, 0, 0, 0, 0, 0, 0, 0x01, 0, 0, 0, 0, 0, 0, 0, 0, 0, 0, 0, 0, 0, 0, 0, 0, 0,
+    0, 0, 0, 0, 0, 0, 0xa5, 0xff, 0xff, 0xff, 0xff, 0xff, 0xff, 0xff, 0xff, 0xff, 0xff, 0xff, 0xff,
+    0xff, 0xff, 0xff, 0xff, 0xff, 0xff, 0xff, 0xff, 0xff, 0xff, 0xff, 0xff, 0xff, 0xff, 0xff, 0xff,
+    0xff, 0xff, 0xff, 0xff, 0xff, 0xff, 0xff, 0xff, 0xff, 0xff, 0xff, 0xff, 0xff, 0xff, 0xff, 0xff,
+    0xff, 0xff, 0xff, 0xff, 0xff, 0xff, 0xff, 0xff, 0xff, 0xff, 0xff, 0xff, 0xff, 0xff, 0xff, 0xff,
+    0xff, 0xff, 0xff, 0xff, 0xff, 0xff, 0xff, 0xff, 0xff, 0xff, 0xff, 0xff, 0xff, 0xff, 0xff, 0xff,
+    0xff, 0xff, 0xff, 0xff, 0xff, 0xff, 0xff, 0xff, 0xff, 0xff, 0xff, 0xff, 0xff, 0xff, 0xff, 0xff,
+    0xff, 0xff, 0xff, 0xff, 0xff, 0xff, 0xff, 0xff, 0xff, 0xff, 0xff, 0xff, 0xff, 0xff, 0xff, 0xff,
+    0xff, 0xff, 0xff, 0xff, 0xff, 0xff, 0xff, 0xff, 0xff, 0xff, 0xff, 0xff, 0xff, 0xff, 0xff, 0xff,
+    0xff, 0xff,
+];
+
+// What a file is before slot 1 is written: slot 0 is live in it, with sequence 1.
+#[derive(Clone, Copy)]
+enum Start {
+    // slot 1 is whole and closed
+    Closed,
+    // slot 1 is whole and open
+    Open,
+    // the file ends where slot 1 begins
+    Absent,
+    // it ends behind the gate of slot 1, which is open
+    Gate,
+    // it ends a byte before slot 1 does, whose gate is open
+    Part,
+}
+
 // The bytes of the next slot with an open gate.
 const NEXT_BYTES: [u8; 128] = [
     0xa5, 0, 0, 0, 0, 0, 0, 0, 0x01, 0, 0, 0, 0, 0, 0, 0, 0x02, 0, 0, 0, 0, 0, 0, 0, 0, 0x10, 0, 0,
@@ -57,30 +89,48 @@ const NEXT: Slot = Slot {
     first_attempt: 3,
 };
 
+// A slot that may be read so far: no generation of a collection is live.
+const PUBLISHED: Slot = Slot {
+    version: 1,
+    sequence: 2,
+    chunk: 0x1000,
+    horizon: 0,
+    end: 0x3000,
+    floor: 0,
+    next: 7,
+    live: 0,
+    next_attempt: 4,
+    prefix_len: 0,
+    rows: 0,
+    first_chunk: 0,
+    first_attempt: 3,
+};
+
 // Makes the file by calls 0 and 1, makes its slot 1 ready, and opens it by the last two calls. It ends at the first
 // call that fails.
-fn published(bench: &mut Bench, file: &[u8]) -> Result<(), GroundFault>
+fn published(bench: &mut Bench, file: &[u8], fields: &Slot) -> Result<(), GroundFault>
     requires blank { IsBlank (⟦<Bench as Ground>⟧.told bench.old) }
-    requires whole { length file.now ≡ 256 }
+    requires reaches { 128 ≤ length file.now }
     requires spare { IsSpare 1 (live_of (Some file.now)) }
-    requires newer { IsNewer 2 (live_of (Some file.now)) }
+    requires newer { IsNewer fields.now.sequence (live_of (Some file.now)) }
 {
     bench.write(FileName::Control, 0, file)?;
     bench.sync(FileName::Control)?;
-    prepare(bench, 1, &NEXT)?;
+    prepare(bench, 1, fields)?;
     open_gate(bench, 1)
 }
 
-fn published_from_fresh(bench: &mut Bench) -> Result<(), GroundFault>
-    requires { IsBlank (⟦<Bench as Ground>⟧.told bench.old) }
+fn published_from(bench: &mut Bench, start: Start, fields: &Slot) -> Result<(), GroundFault>
+    requires blank { IsBlank (⟦<Bench as Ground>⟧.told bench.old) }
+    requires second { fields.now.sequence ≡ 2 }
 {
-    published(bench, &FRESH)
-}
-
-fn published_from_both(bench: &mut Bench) -> Result<(), GroundFault>
-    requires { IsBlank (⟦<Bench as Ground>⟧.told bench.old) }
-{
-    published(bench, &BOTH)
+    match start {
+        Start::Closed => published(bench, &FRESH, fields),
+        Start::Open => published(bench, &BOTH, fields),
+        Start::Absent => published(bench, &BOTH[..128], fields),
+        Start::Gate => published(bench, &BOTH[..129], fields),
+        Start::Part => published(bench, &PART, fields),
+    }
 }
 
 // The number and the sequence of the live slot after a stop, or a number that no slot has.
@@ -95,32 +145,52 @@ fn live_after(bench: Bench, keep: bool) -> Result<(u8, u64), Fail> {
     }
 }
 
-// A stop at each call of the writing, and after it. Of two open slots the older one is closed before it is written.
+// A stop at each call of the writing, and after it: what is live where everything was kept, and where only what was synced
+// was. An open slot is closed before it is written, and so is one that is not whole.
 #[test]
 fn the_live_slot_is_the_old_one_or_the_new_one(rt: HostRuntime) -> Result<(), Fail> {
     let alloc = rt.alloc();
+    let old = (0, 1);
+    let new = (1, 2);
     let rows = [
-        (false, 4, true, false, (0, 1)),
-        (false, 4, false, false, (0, 1)),
-        (false, 6, true, false, (1, 2)),
-        (false, 6, false, false, (0, 1)),
-        (false, 7, false, true, (1, 2)),
-        (true, 4, true, false, (0, 1)),
-        (true, 4, false, false, (0, 1)),
-        (true, 6, true, false, (0, 1)),
-        (true, 8, true, false, (1, 2)),
-        (true, 8, false, false, (0, 1)),
-        (true, 9, false, true, (1, 2)),
+        (Start::Closed, 4, false, old, old),
+        (Start::Closed, 6, false, new, old),
+        (Start::Closed, 7, true, new, new),
+        (Start::Open, 4, false, old, old),
+        (Start::Open, 6, false, old, old),
+        (Start::Open, 8, false, new, old),
+        (Start::Open, 9, true, new, new),
+        (Start::Absent, 2, false, old, old),
+        (Start::Absent, 3, false, old, old),
+        (Start::Absent, 4, false, old, old),
+        (Start::Absent, 5, false, old, old),
+        (Start::Absent, 6, false, old, old),
+        (Start::Absent, 7, false, old, old),
+        (Start::Absent, 8, false, new, old),
+        (Start::Absent, 9, true, new, new),
+        (Start::Gate, 2, false, old, old),
+        (Start::Gate, 3, false, old, old),
+        (Start::Gate, 4, false, old, old),
+        (Start::Gate, 5, false, old, old),
+        (Start::Gate, 6, false, old, old),
+        (Start::Gate, 7, false, old, old),
+        (Start::Gate, 8, false, new, old),
+        (Start::Gate, 9, true, new, new),
+        (Start::Part, 2, false, old, old),
+        (Start::Part, 3, false, old, old),
+        (Start::Part, 4, false, old, old),
+        (Start::Part, 5, false, old, old),
+        (Start::Part, 6, false, old, old),
+        (Start::Part, 7, false, old, old),
+        (Start::Part, 8, false, new, old),
+        (Start::Part, 9, true, new, new),
     ];
-    for (both, stop, keep, ok, live) in rows {
-        let mut bench = Bench::new(alloc, Vec::new(alloc), Some(stop), Vec::new(alloc));
-        let done = if both {
-            published_from_both(&mut bench)
-        } else {
-            published_from_fresh(&mut bench)
-        };
-        assert_eq!(rt; done.is_ok(), ok);
-        assert_eq!(rt; live_after(bench, keep)?, live);
+    for (start, stop, ok, kept, synced) in rows {
+        for (keep, live) in [(true, kept), (false, synced)] {
+            let mut bench = Bench::new(alloc, Vec::new(alloc), Some(stop), Vec::new(alloc));
+            assert_eq!(rt; published_from(&mut bench, start, &PUBLISHED).is_ok(), ok);
+            assert_eq!(rt; live_after(bench, keep)?, live);
+        }
     }
     Ok(())
 }
@@ -129,9 +199,26 @@ fn the_live_slot_is_the_old_one_or_the_new_one(rt: HostRuntime) -> Result<(), Fa
 fn a_slot_is_spelled_by_the_format(rt: HostRuntime) {
     let alloc = rt.alloc();
     let mut bench = Bench::new(alloc, Vec::new(alloc), None, Vec::new(alloc));
-    assert!(rt; published_from_fresh(&mut bench).is_ok());
+    assert!(rt; published_from(&mut bench, Start::Closed, &NEXT).is_ok());
     let mut bytes = [0; 128];
     assert_eq!(rt; bench.read(FileName::Control, 128, &mut bytes), Ok(128));
     assert_eq!(rt; bytes, NEXT_BYTES);
-    assert_eq!(rt; read_live(&mut bench), Ok(Some((1, NEXT))));
+    // a generation of a collection is not read so far
+    assert_eq!(rt; read_live(&mut bench), Err(ControlFault::Form(1)));
+}
+
+#[test]
+fn a_published_slot_is_read(rt: HostRuntime) {
+    let alloc = rt.alloc();
+    for start in [
+        Start::Closed,
+        Start::Open,
+        Start::Absent,
+        Start::Gate,
+        Start::Part,
+    ] {
+        let mut bench = Bench::new(alloc, Vec::new(alloc), None, Vec::new(alloc));
+        assert!(rt; published_from(&mut bench, start, &PUBLISHED).is_ok());
+        assert_eq!(rt; read_live(&mut bench), Ok(Some((1, PUBLISHED))));
+    }
 }
