@@ -1,0 +1,15 @@
+pub mod Placing
+pub mod Basics
+pub mod Trees
+pub mod PartNames
+pub mod Children
+pub mod Parts
+pub mod Common
+pub mod Leaves
+pub mod Inodes
+pub mod Merging
+pub mod InodeFits
+pub mod Stream
+pub mod Agreeing
+pub mod Loops
+pub mod Steps

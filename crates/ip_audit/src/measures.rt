@@ -1,0 +1,83 @@
+// What is remembered of a leaf and of an inode.
+ghost use Rattle.std.specs.Prelude.{◌≡◌, ◌≤◌, ◌<◌, ℕ, Some, IfSome, None, All, map, fold, max, suc, take, length};
+ghost use Rattle.ip_spec.specs.declared.record.InodeChild.{InodeChild};
+ghost use Rattle.ip_spec.specs.declared.record.LeafEntry.{LeafEntry};
+ghost use Rattle.ip_spec.specs.Record.{IsLeafEntry};
+ghost use Rattle.ip_audit.specs.Memory.{common_of, common_with};
+ghost use Rattle.ip_audit.specs.View.{counts_of, places_in};
+
+use crate::kept::{ENTRIES_LIMIT, agreed_with};
+use ip_base::{Blob, Step};
+use ip_shape::places::{DEEPEST, Places};
+use ip_spec::record::{InodeChild, LeafEntry};
+use std::alloc::Global;
+
+/// The height of a leaf.
+pub fn leaf_height(entries: &[LeafEntry]) -> u8
+    requires { All IsLeafEntry entries.now }
+    ensures { result ≡ fold (λ n (e : LeafEntry). max n (suc e.height)) 0 entries.now }
+{
+    let mut height = 0;
+    for entry in entries {
+        if entry.height >= height {
+            height = entry.height + 1;
+        }
+    }
+    height
+}
+
+/// The height of an inode.
+pub fn inode_height(children: &[InodeChild]) -> u8
+    ensures { result ≡ fold (λ n (c : InodeChild). max n c.height) 0 children.now }
+{
+    let mut height = 0;
+    for child in children {
+        if child.height > height {
+            height = child.height;
+        }
+    }
+    height
+}
+
+/// How many entries the children of an inode have by their counts, or None where that is more than the format allows.
+pub fn counted(children: &[InodeChild]) -> Option<u64>
+    ensures some { IfSome result (λ n. (n ≡ counts_of children.now) × (n ≤ 1048576)) }
+    ensures none { result ≡ None → 1048576 < counts_of children.now }
+{
+    let mut total: u64 = 0;
+    for child in children {
+        total += child.count as u64;
+        if total > ENTRIES_LIMIT {
+            return None;
+        }
+    }
+    Some(total)
+}
+
+/// The places of a leaf's first step, and in how many of the first ones all its steps agree. It takes no memory.
+pub fn leaf_places(alloc: Global, entries: &[LeafEntry]) -> (Places, u8)
+    ensures common { take result.1 (places_in result.0) ≡ common_of (map (λ (e : LeafEntry). e.step) entries.now) }
+    ensures most { result.1 ≤ 51 }
+{
+    if entries.is_empty() {
+        return (Places::of(&Step::of(Blob::empty(alloc))), 0);
+    }
+    let first = Places::of(&entries[0].step);
+    let agreed = all_agreed(&first, &entries[1..]);
+    (first, agreed)
+}
+
+// In how many of its first places a step agrees with all of these.
+fn all_agreed(first: &Places, entries: &[LeafEntry]) -> u8
+    ensures common { take result (places_in first.now) ≡ common_with (places_in first.now) (map (λ (e : LeafEntry). e.step) entries.now) }
+    ensures most { result ≤ 51 }
+{
+    let mut agreed = DEEPEST;
+    for entry in entries {
+        if agreed == 0 {
+            return 0;
+        }
+        agreed = agreed_with(first, &Places::of(&entry.step), agreed);
+    }
+    agreed
+}
