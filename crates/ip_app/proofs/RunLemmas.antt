@@ -1,4 +1,5 @@
 -- A run that goes on by a line, and how it ends.
+use Rattle.std.specs.Prelude.{IfSome}
 use Rattle.std.proofs.Common.{true, ◌≡◌, inl, inr, ℕ, ◌≤◌, Bool, false, List, [], ◌∷◌, ◌++◌, length, refl, sym, ap, ◌∙◌, subst, arith, append_assoc, length-append, IsTrue, All, take, drop, Some, None, Result}
 use Rattle.std.proofs.lemmas.Bool.{cases_lt}
 use Rattle.std.proofs.lemmas.List.{map-append, take-append-drop}
@@ -7,20 +8,25 @@ use Rattle.ip_ground.specs.declared.names.FileName.TheVariants.{Control}
 use Rattle.ip_ground.specs.declared.names.GroundFault.{GroundFault}
 use Rattle.ip_ground.specs.Told.{Told, said, ChangesOnly, NoFile}
 use Rattle.ip_ground.specs.Calls.{Says}
-use Rattle.ip_ground.proofs.Spans.{goes_nowhere, goes_on, stays_on, said_now}
+use Rattle.ip_ground.proofs.Spans.{goes_nowhere, goes_on, stays_on, said_now, only_more}
 use Rattle.ip_ground.proofs.Passing.{stays_itself}
 use Rattle.ip_ground.proofs.Rising.{none_falls_on, rose_after}
 use Rattle.ip_image.specs.declared.counts.TurnCounts.{TurnCounts}
 use Rattle.ip_image.specs.Slot.{live_index}
-use Rattle.ip_image.specs.Standing.{StandsFor}
+use Rattle.ip_image.specs.Standing.{StandsFor, NoStore}
+use Rattle.ip_image.proofs.DamageLaws.{not_damaged}
 use Rattle.ip_spec.specs.Path.{Bytes, line_feed}
 use Rattle.ip_spec.specs.Merge.{Rule}
-use Rattle.ip_ground.specs.Contents.{Image, bytes_of}
+use Rattle.ip_ground.specs.Contents.{Image, Content, bytes_of}
 use Rattle.ip_spec.specs.Repository.{Repository, no_repository}
 use Rattle.ip_spec.specs.Machine.{State, opened}
 use Rattle.ip_spec.specs.Script.{whole_lines, LineStep}
 use Rattle.ip_spec.specs.Text.{reply_text}
 use Rattle.ip_store.specs.Control.{control_in}
+use Rattle.ip_store.specs.Publishing.{TheTwo}
+use Rattle.ip_store.specs.Store.{Holds}
+use Rattle.ip_app.specs.declared.session.Session.{Session}
+use Rattle.ip_app.specs.Session.{IsIn, state_in}
 use Rattle.ip_app.specs.declared.turn_log.Turn.{Turn}
 use Rattle.ip_app.specs.declared.lines.Lines.{Lines}
 use Rattle.ip_app.specs.declared.statuses.Status.{Status}
@@ -32,9 +38,9 @@ use Rattle.ip_app.specs.Reading.{EndsReading, IsCaused}
 use Rattle.ip_app.specs.Exchanges.{Exchange, conditions, no_rules, Run, after_all, lines_in, turns_in, texts_in}
 use Rattle.ip_app.specs.Turns.{turn_counts, IsLater, Follow}
 use Rattle.ip_app.specs.Outside.{Outside, GoesOn, KeepsFiles}
-use Rattle.ip_app.specs.Serving.{SaysPart, Turned, Stopped, Unsaid, Stops, Served}
+use Rattle.ip_app.specs.Serving.{SaysPart, TurnedIn, Stopped, Unsaid, Stops, Served}
 use Rattle.ip_app.specs.Run.{CouldNotOpen, IsUntouched, IsOpened, Begins, is_cut_off, Row, Serves, EndsWhereAllIsWell}
-use Rattle.ip_app.proofs.FreshLaw.{fresh_stands}
+use Rattle.ip_app.proofs.SameFiles.{stands_after}
 use Rattle.ip_app.proofs.LineLemmas.{whole_lines-line, whole_lines-rest, last_piece-line, last_piece-rest}
 
 after_more : (first : State) (xs : List Exchange) (x : Exchange) → after_all first (xs ++ x ∷ []) ≡ x.after
@@ -75,20 +81,23 @@ goes_on_then a b c g h = record {
 -- ---- files
 
 pub keeps_itself : (a : Told) → KeepsFiles a a
-keeps_itself a = record { goes = goes_nowhere a; files = λ file. stays_itself a file; lending = λ n. refl }
+keeps_itself a = record { goes = goes_nowhere a; others = λ file others. stays_itself a file; lending = λ n. refl }
 
 pub keeps_on : (a b c : Told) → KeepsFiles a b → KeepsFiles b c → KeepsFiles a c
 keeps_on a b c first next = record {
   goes = goes_on a b c first.goes next.goes;
-  files = λ file. stays_on a b c file first.goes next.goes (first.files file) (next.files file);
+  others = λ file others. stays_on a b c file first.goes next.goes (first.others file others) (next.others file others);
   lending = λ n. next.lending n ∙ first.lending n;
 }
 
+pub keeps_two : (a b : Told) → ChangesOnly TheTwo a b → KeepsFiles a b
+keeps_two a b only = record { goes = only.goes; others = only.others; lending = only.lending }
+
 pub keeps_unchanged : (a b : Told) → ChangesOnly NoFile a b → KeepsFiles a b
-keeps_unchanged a b only = record { goes = only.goes; files = λ file. only.others file (λ h. h); lending = only.lending }
+keeps_unchanged a b only = keeps_two a b (only_more a b NoFile TheTwo (λ file none. absurd none) only)
 
 pub keeps_said : (bytes : Bytes) (r : Result (Unit {0}) GroundFault) (a b : Told) → Says bytes r a b → KeepsFiles a b
-keeps_said bytes r a b says = record { goes = says.goes; files = says.files; lending = says.lending }
+keeps_said bytes r a b says = record { goes = says.goes; others = λ file others. says.files file; lending = says.lending }
 
 -- the control file is no attempt's, so it stays
 pub same_control : (a b : Told) → ChangesOnly NoFile a b → control_in b.held ≡ control_in a.held
@@ -107,9 +116,16 @@ abbrev IsShort : Bytes → Type 0
 IsShort line = length line ≤ longest_line
 
 -- one line more was served
-pub served_more : (old mid new : Outside) (lines lines' : Lines) (counts counts' : TurnCounts) (first state state' : State) (x : Exchange) → Served old mid lines counts first state → Turned mid new lines lines' counts counts' state state' x → (IsTrue mid.ground_tells → said new.told ≡ said mid.told ++ reply_text x.reply) → Served old new lines' counts' first state'
-served_more old mid new lines lines' counts counts' first state state' x h t s =
+pub served_more : (old mid new : Outside) (lines lines' : Lines) (counts counts' : TurnCounts) (s s' : Session) (h : Served old mid lines counts s) → TurnedIn mid new lines lines' counts counts' s s' h.repository → Served old new lines' counts' s'
+served_more old mid new lines lines' counts counts' s s' h turned =
+    let x = turned.exchange in
+    let t = turned.turned in
     record {
+      first = h.first;
+      repository = turned.after;
+      began = h.began;
+      is_in = turned.is_in;
+      holds = λ g. turned.holds (told_before _ _ h.goes_on.ground_tells g);
       done = h.done ++ (x.line ++ line_feed ∷ []);
       exchanges = h.exchanges ++ x ∷ [];
       goes_on = goes_on_then old mid new h.goes_on t.goes_on;
@@ -119,9 +135,9 @@ served_more old mid new lines lines' counts counts' first state state' x h t s =
       rest_then = λ tail. ap last_piece (sym (regroup h.done x.line tail)) ∙ (h.rest_then (x.line ++ line_feed ∷ tail) ∙ last_piece-line x.line tail t.no_line_feed);
       short = subst (All IsShort) (sym (map-append (λ x. x.line) h.exchanges (x ∷ []))) (All-append IsShort (lines_in h.exchanges) (x.line ∷ []) h.short (All-cons IsShort x.line [] t.short (All-nil IsShort)));
       count = omega (arith, h.count, t.count, length-append h.done (x.line ++ line_feed ∷ []), length-append x.line (line_feed ∷ []));
-      run = run_more no_rules first state h.exchanges x h.now_at h.run t.step;
-      now_at = t.after ∙ sym (after_more first h.exchanges x);
-      said = λ g. s (told_before _ _ h.goes_on.ground_tells g) ∙ (ap (λ (u : Bytes). u ++ reply_text x.reply) (h.said g) ∙ (append_assoc (said old.told) (texts_in h.exchanges) (reply_text x.reply) ∙ ap (λ (u : Bytes). said old.told ++ u) (sym (texts_more h.exchanges x))));
+      run = run_more no_rules (opened h.first) (state_in s h.repository) h.exchanges x h.now_at h.run t.step;
+      now_at = sym turned.now_at ∙ sym (after_more (opened h.first) h.exchanges x);
+      said = λ g. turned.said (told_before _ _ h.goes_on.ground_tells g) ∙ (ap (λ (u : Bytes). u ++ reply_text x.reply) (h.said g) ∙ (append_assoc (said old.told) (texts_in h.exchanges) (reply_text x.reply) ∙ ap (λ (u : Bytes). said old.told ++ u) (sym (texts_more h.exchanges x))));
       noted = λ l. t.noted l ∙ (ap (λ u. u ++ x.turn ∷ []) (h.noted (t.goes_on.log_tells l)) ∙ (append_assoc old.turns (turns_in h.exchanges) (x.turn ∷ []) ∙ ap (λ u. old.turns ++ u) (sym (map-append (λ x. x.turn) h.exchanges (x ∷ [])))));
       start = h.start;
       since = h.since;
@@ -131,11 +147,14 @@ served_more old mid new lines lines' counts counts' first state state' x h t s =
     }
 
 -- no line was served yet
-pub served_first : (old now : Outside) (lines : Lines) (counts : TurnCounts) (first state : State) → state ≡ first → counts ≡ turn_counts now.counts → GoesOn old now → (IsTrue old.ground_tells → ChangesOnly NoFile old.told now.told) → now.left ≡ old.left → now.turns ≡ old.turns → pending lines ≡ [] → lines.taken ≡ 0 → Served old now lines counts first state
-served_first old now lines counts first state begun counted g f left turns none zero =
+pub served_first : (old now : Outside) (lines : Lines) (counts : TurnCounts) (s : Session) (r : Repository) → IsIn s r → state_in s r ≡ opened r → (IsTrue old.ground_tells → Holds s.store now.told r) → (IsTrue old.ground_tells → StandsFor old.told.held r)
+    → counts ≡ turn_counts now.counts → GoesOn old now → (IsTrue old.ground_tells → ChangesOnly NoFile old.told now.told) → now.left ≡ old.left → now.turns ≡ old.turns → pending lines ≡ [] → lines.taken ≡ 0 → Served old now lines counts s
+served_first old now lines counts s r is_in begun holds began counted g f left turns none zero =
     record {
       done = [];
       exchanges = [];
+      first = r;
+      repository = r;
       goes_on = g;
       files = λ b. keeps_unchanged old.told now.told (f b);
       bytes = λ b. sym left ∙ ap (λ (u : Bytes). u ++ now.left) (sym none);
@@ -143,8 +162,11 @@ served_first old now lines counts first state begun counted g f left turns none 
       rest_then = λ tail. refl;
       short = All-nil IsShort;
       count = omega (arith, zero, ap length none);
+      began = began;
       run = tt;
       now_at = begun;
+      is_in = is_in;
+      holds = holds;
       said = λ b. said_now old.told now.told (f b).goes (f b).said ∙ sym (append_nil (said old.told));
       noted = λ b. turns ∙ sym (append_nil old.turns);
       start = turn_counts now.counts;
@@ -172,6 +194,7 @@ serves_none old new s g f left turns begins row =
       begins = begins;
       first_is = refl;
       run = tt;
+      stands = λ b whole h. stands_after old.told new.told (f b) first.repository h;
       said_part = λ b. record { whole = []; cut = []; part = []; unsaid = []; all = refl; one = omega arith; text = refl; said_is = quiet b ∙ (sym (append_nil (said old.told)) ∙ sym (append_nil (said old.told ++ []))) };
       said_all = λ b c. quiet b ∙ sym (append_nil (said old.told));
       noted = λ b. turns ∙ sym (append_nil old.turns);
@@ -186,7 +209,7 @@ pub begins_unopened : (old new : Outside) (s : Status) → GoesOn old new → (I
 begins_unopened old new s g f left turns could_not = by_status s could_not
   where
     untouched : IsUntouched old new []
-    untouched = record { none_taken = refl; left = left; said_nothing = λ told. said_now old.told new.told (f told).goes (f told).said; turns = turns }
+    untouched = record { none_taken = refl; left = left; said_nothing = λ told. said_now old.told new.told (f told).goes (f told).said; only = f; turns = turns }
 
     by_status : (s : Status) → CouldNotOpen s old.ground_tells old.told old.counts new.counts → Serves old new s
     by_status status.NoStore h = serves_none old new status.NoStore g f left turns refl (untouched, h)
@@ -196,7 +219,7 @@ begins_unopened old new s g f left turns could_not = by_status s could_not
     by_status status.Usage h = absurd h
     by_status status.ReadFault h = absurd h
     by_status status.SayFault h = absurd h
-    by_status status.Memory h = absurd h
+    by_status status.Memory h = serves_none old new status.Memory g f left turns refl untouched
     by_status (status.Limit bound) h = absurd h
     by_status status.Unfinished h = absurd h
     by_status status.Exists h = absurd h
@@ -236,13 +259,14 @@ row_of status.Memory old mid new taken first xs o e f c = absurd e
 row_of status.Exists old mid new taken first xs o e f c = absurd e
 
 -- the source is read no further
-serves_stopped : (s : Status) (old mid new : Outside) (lines lines' : Lines) (counts counts' : TurnCounts) (first state state' : State) → IsOpened old first → first ≡ opened first.repository → Served old mid lines counts first state → Stopped s mid new lines lines' counts counts' state state' → Serves old new s
-serves_stopped s old mid new lines lines' counts counts' first state state' open_so begins h t =
+serves_stopped : (s : Status) (old mid new : Outside) (lines lines' : Lines) (counts counts' : TurnCounts) (session : Session) (h : Served old mid lines counts session) → Stopped s mid new lines lines' counts counts' (state_in session h.repository) → Serves old new s
+serves_stopped s old mid new lines lines' counts counts' session h t =
+    let first = opened h.first in
     let taken = h.done ++ t.rest in
     let whole : whole_lines taken ≡ lines_in h.exchanges ++ [] = h.lines_then t.rest ∙ ap (λ u. lines_in h.exchanges ++ u) (whole_lines-rest t.rest t.no_line_feed) in
     let rest : last_piece taken ≡ t.rest = h.rest_then t.rest ∙ last_piece-rest t.rest t.no_line_feed in
     let long : lines'.taken ≡ length taken = omega (arith, h.count, t.count, length-append h.done t.rest) in
-    let end = row_of s old mid new taken first h.exchanges open_so (ends_along s (length t.rest) (length (last_piece taken)) lines'.taken (length taken) _ _ t.ends (ap length (sym rest)) long (λ e b. e (told_before _ _ h.goes_on.source_tells b))) h.goes_on.read_faults t.cause in
+    let end = row_of s old mid new taken first h.exchanges h.began (ends_along s (length t.rest) (length (last_piece taken)) lines'.taken (length taken) _ _ t.ends (ap length (sym rest)) long (λ e b. e (told_before _ _ h.goes_on.source_tells b))) h.goes_on.read_faults t.cause in
     let quiet : IsTrue old.ground_tells → said new.told ≡ said old.told ++ texts_in h.exchanges = λ b. t.same_said (told_before _ _ h.goes_on.ground_tells b) ∙ h.said b in
     record {
       taken = taken;
@@ -257,8 +281,9 @@ serves_stopped s old mid new lines lines' counts counts' first state state' open
       begun = ([], whole, λ c. refl);
       short = h.short;
       begins = end.begins;
-      first_is = begins;
+      first_is = refl;
       run = h.run;
+      stands = λ b whole began. subst (λ (state : State). StandsFor new.told.held state.repository) h.now_at (t.stands (told_before _ _ h.goes_on.ground_tells b));
       said_part = λ b. record { whole = h.exchanges; cut = []; part = []; unsaid = []; all = append_nil h.exchanges; one = omega arith; text = refl; said_is = quiet b ∙ sym (append_nil (said old.told ++ texts_in h.exchanges)) };
       said_all = λ b c. quiet b;
       noted = λ l. t.same_turns ∙ h.noted (t.goes_on.log_tells l);
@@ -268,8 +293,10 @@ serves_stopped s old mid new lines lines' counts counts' first state state' open
     }
 
 -- a reply could not be said
-serves_unsaid : (s : Status) (old mid new : Outside) (lines lines' : Lines) (counts counts' : TurnCounts) (first state : State) → is_cut_off s ≡ true → ((xs : List Exchange) → Begins s old first xs) → first ≡ opened first.repository → Served old mid lines counts first state → Unsaid mid new lines lines' counts counts' state → ((taken : Bytes) → Row s old new taken) → Serves old new s
-serves_unsaid s old mid new lines lines' counts counts' first state cut opened_so begins h u row =
+serves_unsaid : (s : Status) (old mid new : Outside) (lines lines' : Lines) (counts counts' : TurnCounts) (session : Session) (h : Served old mid lines counts session) → is_cut_off s ≡ true → ((xs : List Exchange) → Begins s old (opened h.first) xs)
+    → Unsaid s mid new lines lines' counts counts' (state_in session h.repository) → ((taken : Bytes) → Row s old new taken) → Serves old new s
+serves_unsaid s old mid new lines lines' counts counts' session h cut opened_so u row =
+    let first = opened h.first in
     let x = u.exchange in
     let t = u.turned in
     let xs = h.exchanges ++ x ∷ [] in
@@ -288,8 +315,9 @@ serves_unsaid s old mid new lines lines' counts counts' first state cut opened_s
       begun = (whole_lines (pending lines'), then_lines (pending lines'), λ c. absurd (cc (c, cut)));
       short = subst (All IsShort) (sym (map-append (λ x. x.line) h.exchanges (x ∷ []))) (All-append IsShort (lines_in h.exchanges) (x.line ∷ []) h.short (All-cons IsShort x.line [] t.short (All-nil IsShort)));
       begins = opened_so xs;
-      first_is = begins;
-      run = run_more no_rules first state h.exchanges x h.now_at h.run t.step;
+      first_is = refl;
+      run = run_more no_rules first (state_in session h.repository) h.exchanges x h.now_at h.run t.step;
+      stands = λ b whole began. subst (λ (state : State). StandsFor new.told.held state.repository) (sym (after_more first h.exchanges x)) (u.stands (told_before _ _ h.goes_on.ground_tells b) whole);
       said_part = λ b. let p = u.part (told_before _ _ h.goes_on.ground_tells b) in record { whole = h.exchanges; cut = x ∷ []; part = p.0; unsaid = p.1; all = refl; one = omega arith; text = p.2 ∙ sym (append_nil (reply_text x.reply)); said_is = p.3 ∙ ap (λ (v : Bytes). v ++ p.0) (h.said b) };
       said_all = λ b c. absurd (cc (c, cut));
       noted = λ l. t.noted l ∙ (ap (λ u. u ++ x.turn ∷ []) (h.noted (t.goes_on.log_tells l)) ∙ (append_assoc old.turns (turns_in h.exchanges) (x.turn ∷ []) ∙ ap (λ u. old.turns ++ u) (sym (map-append (λ x. x.turn) h.exchanges (x ∷ [])))));
@@ -300,38 +328,38 @@ serves_unsaid s old mid new lines lines' counts counts' first state cut opened_s
     }
 
 -- how a run ends
-pub serves_stop : (s : Status) (old mid new : Outside) (lines lines' : Lines) (counts counts' : TurnCounts) (first state state' : State) → IsOpened old first → first ≡ opened first.repository → Served old mid lines counts first state → Stops s mid new lines lines' counts counts' state state' → Serves old new s
-serves_stop status.SayFault old mid new lines lines' counts counts' first state state' o b h u = serves_unsaid status.SayFault old mid new lines lines' counts counts' first state refl (λ xs. o) b h u.0 (λ taken. rose_after old.counts.say_faults mid.counts.say_faults new.counts.say_faults h.goes_on.counts.say_faults u.1)
-serves_stop status.GroundFault old mid new lines lines' counts counts' first state state' o b h u = serves_unsaid status.GroundFault old mid new lines lines' counts counts' first state refl (λ xs. inr o) b h u.0 (λ taken. rose_after old.counts.file_faults mid.counts.file_faults new.counts.file_faults h.goes_on.counts.file_faults u.1)
-serves_stop status.Done old mid new lines lines' counts counts' first state state' o b h u = serves_stopped status.Done old mid new lines lines' counts counts' first state state' o b h u
-serves_stop status.Unfinished old mid new lines lines' counts counts' first state state' o b h u = serves_stopped status.Unfinished old mid new lines lines' counts counts' first state state' o b h u
-serves_stop (status.Limit l) old mid new lines lines' counts counts' first state state' o b h u = serves_stopped (status.Limit l) old mid new lines lines' counts counts' first state state' o b h u
-serves_stop status.ReadFault old mid new lines lines' counts counts' first state state' o b h u = serves_stopped status.ReadFault old mid new lines lines' counts counts' first state state' o b h u
-serves_stop status.Usage old mid new lines lines' counts counts' first state state' o b h u = serves_stopped status.Usage old mid new lines lines' counts counts' first state state' o b h u
-serves_stop status.NoStore old mid new lines lines' counts counts' first state state' o b h u = serves_stopped status.NoStore old mid new lines lines' counts counts' first state state' o b h u
-serves_stop (status.Damaged file at) old mid new lines lines' counts counts' first state state' o b h u = serves_stopped (status.Damaged file at) old mid new lines lines' counts counts' first state state' o b h u
-serves_stop status.Memory old mid new lines lines' counts counts' first state state' o b h u = serves_stopped status.Memory old mid new lines lines' counts counts' first state state' o b h u
-serves_stop status.Exists old mid new lines lines' counts counts' first state state' o b h u = serves_stopped status.Exists old mid new lines lines' counts counts' first state state' o b h u
+pub serves_stop : (s : Status) (old mid new : Outside) (lines lines' : Lines) (counts counts' : TurnCounts) (session : Session) (h : Served old mid lines counts session) → Stops s mid new lines lines' counts counts' (state_in session h.repository) → Serves old new s
+serves_stop status.SayFault old mid new lines lines' counts counts' session h u = serves_unsaid status.SayFault old mid new lines lines' counts counts' session h refl (λ xs. h.began) u.0 (λ taken. rose_after old.counts.say_faults mid.counts.say_faults new.counts.say_faults h.goes_on.counts.say_faults u.1)
+serves_stop status.GroundFault old mid new lines lines' counts counts' session h u = serves_unsaid status.GroundFault old mid new lines lines' counts counts' session h refl (λ xs. inr h.began) u.0 (λ taken. rose_after old.counts.file_faults mid.counts.file_faults new.counts.file_faults h.goes_on.counts.file_faults u.1)
+serves_stop status.Done old mid new lines lines' counts counts' session h u = serves_stopped status.Done old mid new lines lines' counts counts' session h u
+serves_stop status.Unfinished old mid new lines lines' counts counts' session h u = serves_stopped status.Unfinished old mid new lines lines' counts counts' session h u
+serves_stop (status.Limit l) old mid new lines lines' counts counts' session h u = serves_stopped (status.Limit l) old mid new lines lines' counts counts' session h u
+serves_stop status.ReadFault old mid new lines lines' counts counts' session h u = serves_stopped status.ReadFault old mid new lines lines' counts counts' session h u
+serves_stop status.Usage old mid new lines lines' counts counts' session h u = serves_stopped status.Usage old mid new lines lines' counts counts' session h u
+serves_stop status.NoStore old mid new lines lines' counts counts' session h u = serves_stopped status.NoStore old mid new lines lines' counts counts' session h u
+serves_stop (status.Damaged file at) old mid new lines lines' counts counts' session h u = serves_stopped (status.Damaged file at) old mid new lines lines' counts counts' session h u
+serves_stop status.Memory old mid new lines lines' counts counts' session h u = serves_stopped status.Memory old mid new lines lines' counts counts' session h u
+serves_stop status.Exists old mid new lines lines' counts counts' session h u = serves_stopped status.Exists old mid new lines lines' counts counts' session h u
 
 -- ---- the store that is opened
 
-stands_open : (image : Image) (r : Repository) → StandsFor image r → live_index (control_in image) ≡ None → ⊥
+stands_open : (image : Image) (r : Repository) → StandsFor image r → NoStore image → ⊥
 stands_open image r stands none =
     let s = stands.standing in
-    let same : control_in image ≡ s.control = ap bytes_of s.held in
-    let is : live_index (control_in image) ≡ Some s.index = ap live_index same ∙ s.live.index in
-    absurd (cc (none, is))
+    let is_none : live_index s.control ≡ None = subst (λ (content : Content). IfSome content (λ control. live_index control ≡ None)) s.held none in
+    let is : live_index s.control ≡ Some s.index = s.live.index in
+    absurd (cc (is_none, is))
 
 -- its row excludes each status but those of its script
 pub ends_by_script : (s : Status) (old new : Outside) (taken : Bytes) → Row s old new taken → EndsWhereAllIsWell old new s
-ends_by_script status.Done old new taken r told fresh calm = tt
-ends_by_script status.Unfinished old new taken r told fresh calm = tt
-ends_by_script (status.Limit b) old new taken r told fresh calm = tt
-ends_by_script status.Memory old new taken r told fresh calm = tt
-ends_by_script status.Usage old new taken r told fresh calm = r
-ends_by_script status.Exists old new taken r told fresh calm = r
-ends_by_script status.NoStore old new taken r told fresh calm = absurd (stands_open old.told.held no_repository (fresh_stands old.told.held fresh) (r.1 told))
-ends_by_script (status.Damaged file at) old new taken r told fresh calm = absurd ((r.1 told).other fresh)
-ends_by_script status.ReadFault old new taken r told fresh calm = absurd (calm.read r.1)
-ends_by_script status.SayFault old new taken r told fresh calm = absurd (calm.say r)
-ends_by_script status.GroundFault old new taken r told fresh calm = absurd (calm.file r)
+ends_by_script status.Done old new taken r told stands calm = tt
+ends_by_script status.Unfinished old new taken r told stands calm = tt
+ends_by_script (status.Limit b) old new taken r told stands calm = tt
+ends_by_script status.Memory old new taken r told stands calm = tt
+ends_by_script status.Usage old new taken r told stands calm = r
+ends_by_script status.Exists old new taken r told stands calm = r
+ends_by_script status.NoStore old new taken r told stands calm = absurd (stands_open old.told.held stands.0 stands.1 (r.1 told))
+ends_by_script (status.Damaged file at) old new taken r told stands calm = absurd (not_damaged old.told.held stands.1.standing file at (r.1 told))
+ends_by_script status.ReadFault old new taken r told stands calm = absurd (calm.read r.1)
+ends_by_script status.SayFault old new taken r told stands calm = absurd (calm.say r)
+ends_by_script status.GroundFault old new taken r told stands calm = absurd (calm.file r)

@@ -2,27 +2,29 @@
 --     Inits, Serves      one record for each call; its last field is the row of the status
 --     EndsAsBytes, EndsWhereAllIsWell      of a serving call: the source's bytes give the status; and which statuses need a fault
 --     LeavesAll      of a call that is refused: nothing changes
-use Rattle.std.specs.Prelude.{ℕ, ◌≤◌, ◌≡◌, ◌⊎◌, Bool, true, false, IsTrue, List, [], ◌++◌, length, All, None, IsSome, Result, Ok, Err}
-use Rattle.ip_ground.specs.declared.names.FileName.{FileName}
+use Rattle.std.specs.Prelude.{◌≤◌, ◌≡◌, ◌⊎◌, Bool, true, false, IsTrue, List, [], ◌++◌, length, All, None, IsSome, Result, Ok, Err}
 use Rattle.ip_ground.specs.declared.names.FileName.TheVariants.{Control}
 use Rattle.ip_ground.specs.declared.names.GroundCounts.{GroundCounts}
 use Rattle.ip_ground.specs.Counts.{Rose}
 use Rattle.ip_ground.specs.Told.{Told, said, ChangesOnly, Only, NoFile, IsKept, EachImageNow}
 use Rattle.ip_image.specs.declared.counts.TurnCounts.{TurnCounts}
 use Rattle.ip_image.specs.Slot.{live_index}
-use Rattle.ip_image.specs.Standing.{StandsFor}
+use Rattle.ip_image.specs.Standing.{StandsFor, NoStore, DamagedAt}
 use Rattle.ip_spec.specs.Path.{Bytes}
-use Rattle.ip_spec.specs.Repository.{no_repository}
+use Rattle.ip_spec.specs.Repository.{Repository, no_repository}
 use Rattle.ip_spec.specs.Machine.{State, opened}
 use Rattle.ip_spec.specs.Script.{whole_lines}
 use Rattle.ip_store.specs.Control.{control_in, default_chunk, IsFresh}
 use Rattle.ip_store.specs.declared.store.InitFault.{InitFault}
-use Rattle.ip_store.specs.declared.store.OpenFault.{OpenFault}
+use Rattle.ip_store.specs.declared.opening.OpenFault.{OpenFault}
+use Rattle.ip_store.specs.declared.store.Store.{Store}
+use Rattle.ip_store.specs.Store.{IsOf, Holds}
 use Rattle.ip_app.specs.declared.statuses.Status.{Status}
 use Rattle.ip_app.specs.Lines.{longest_line, last_piece}
 use Rattle.ip_app.specs.Reading.{EndsReading}
 use Rattle.ip_app.specs.Ending.{ending_of, IsOfBytes}
-use Rattle.ip_app.specs.Exchanges.{Exchange, no_rules, Run, lines_in, turns_in, texts_in}
+use Rattle.ip_app.specs.Exchanges.{Exchange, no_rules, Run, lines_in, turns_in, texts_in, after_all}
+use Rattle.ip_app.specs.Serving.{is_cut_short}
 use Rattle.ip_app.specs.Turns.{turn_counts, IsLater, Follow}
 use Rattle.ip_app.specs.Outside.{Outside, GoesOn, KeepsFiles}
 
@@ -32,25 +34,26 @@ abbrev pub opening_status : OpenFault → Status
 opening_status OpenFault.NoStore = Status.NoStore
 opening_status (OpenFault.Damaged file at) = Status.Damaged file at
 opening_status OpenFault.Ground = Status.GroundFault
-
--- a slot is open, and the control file is not that of a store without commits
-pub record IsDamagedAt (told : Told) (file : FileName) (at : ℕ) : Type 0 where
-  pub gate_open : IsSome (live_index (control_in told.held))
-  pub other : ¬ (IsFresh default_chunk told.held)
-  pub file_is : file ≡ Control
-  pub place : at ≡ 0
+opening_status OpenFault.Memory = Status.Memory
 
 -- why the store could not be opened
 abbrev pub CouldNotOpen : Status → (tells : Bool) → Told → GroundCounts → GroundCounts → Type 0
-CouldNotOpen Status.NoStore tells old before after = IsTrue tells → live_index (control_in old.held) ≡ None
-CouldNotOpen (Status.Damaged file at) tells old before after = IsTrue tells → IsDamagedAt old file at
+CouldNotOpen Status.NoStore tells old before after = IsTrue tells → NoStore old.held
+CouldNotOpen (Status.Damaged file at) tells old before after = IsTrue tells → DamagedAt old.held file at
 CouldNotOpen Status.GroundFault tells old before after = Rose before.file_faults after.file_faults
+CouldNotOpen Status.Memory tells old before after = Unit {0}
 CouldNotOpen status tells old before after = ⊥
 
--- the files stand for the repository with which the run begins
-pub record IsOpened (old : Outside) (first : State) : Type 0 where
-  pub fresh : IsTrue old.ground_tells → IsFresh default_chunk old.told.held
-  pub stands : IsTrue old.ground_tells → StandsFor old.told.held first.repository
+-- the store is open, and holds a repository for which the files stood when the call began
+pub record OpensAs (tells : Bool) (old new : Told) (store : Store) : Type 0 where
+  pub repository : Repository
+  pub tables : IsOf store repository
+  pub holds : IsTrue tells → Holds store new repository
+  pub stands : IsTrue tells → StandsFor old.held repository
+
+-- what the files read as when the call began stands for the repository with which the run begins
+abbrev pub IsOpened : Outside → State → Type 0
+IsOpened old first = IsTrue old.ground_tells → StandsFor old.told.held first.repository
 
 -- the store was opened, or no command was begun
 abbrev pub Begins : Status → Outside → State → List Exchange → Type 0
@@ -79,11 +82,12 @@ pub record SaysUpTo (exchanges : List Exchange) (old new : Bytes) : Type 0 where
   pub text : part ++ unsaid ≡ texts_in cut
   pub said_is : new ≡ old ++ texts_in whole ++ part
 
--- no byte was taken, no command begun and nothing said
+-- no byte was taken, no command begun, nothing said, and no file changed at any moment
 pub record IsUntouched (old new : Outside) (taken : Bytes) : Type 0 where
   pub none_taken : taken ≡ []
   pub left : new.left ≡ old.left
   pub said_nothing : IsTrue old.ground_tells → said new.told ≡ said old.told
+  pub only : IsTrue old.ground_tells → ChangesOnly NoFile old.told new.told
   pub turns : new.turns ≡ old.turns
 
 abbrev pub ReadingEnds : Status → Outside → Outside → Bytes → Type 0
@@ -97,8 +101,8 @@ Row (Status.Limit bound) old new taken = ReadingEnds (Status.Limit bound) old ne
 Row Status.ReadFault old new taken = ReadingEnds Status.ReadFault old new taken × Rose old.read_faults new.read_faults
 Row Status.SayFault old new taken = Rose old.counts.say_faults new.counts.say_faults
 Row Status.GroundFault old new taken = Rose old.counts.file_faults new.counts.file_faults
-Row Status.NoStore old new taken = IsUntouched old new taken × (IsTrue old.ground_tells → live_index (control_in old.told.held) ≡ None)
-Row (Status.Damaged file at) old new taken = IsUntouched old new taken × (IsTrue old.ground_tells → IsDamagedAt old.told file at)
+Row Status.NoStore old new taken = IsUntouched old new taken × (IsTrue old.ground_tells → NoStore old.told.held)
+Row (Status.Damaged file at) old new taken = IsUntouched old new taken × (IsTrue old.ground_tells → DamagedAt old.told.held file at)
 Row Status.Memory old new taken = IsUntouched old new taken
 Row Status.Usage old new taken = ⊥
 Row Status.Exists old new taken = ⊥
@@ -110,6 +114,7 @@ pub record Serves (old new : Outside) (status : Status) : Type 0 where
   pub start : TurnCounts
   pub last : TurnCounts
   pub goes_on : GoesOn old new
+  -- at no moment does a file change but the chunk and the control file, and nothing is lent
   pub files : IsTrue old.ground_tells → KeepsFiles old.told new.told
   -- the bytes taken from the source, in whatever pieces
   pub bytes : IsTrue old.source_tells → old.left ≡ taken ++ new.left
@@ -120,6 +125,8 @@ pub record Serves (old new : Outside) (status : Status) : Type 0 where
   pub begins : Begins status old first exchanges
   pub first_is : first ≡ opened first.repository
   pub run : Run no_rules first exchanges
+  -- in the end the files stand for the repository after all of them, unless a fault of the ground cut the last one short
+  pub stands : IsTrue old.ground_tells → is_cut_short status ≡ false → StandsFor old.told.held first.repository → StandsFor new.told.held (after_all first exchanges).repository
   -- what was said grows by the replies' texts
   pub said_part : IsTrue old.ground_tells → SaysUpTo exchanges (said old.told) (said new.told)
   pub said_all : IsTrue old.ground_tells → is_cut_off status ≡ false → said new.told ≡ said old.told ++ texts_in exchanges
@@ -149,9 +156,9 @@ EndsByScript (Status.Limit bound) = Unit {0}
 EndsByScript Status.Memory = Unit {0}
 EndsByScript _ = ⊥
 
--- where no fault was counted and a store was made there, a serving call ends by its script
+-- where no fault was counted and the files stood for some repository, a serving call ends by its script
 abbrev pub EndsWhereAllIsWell : Outside → Outside → Status → Type 0
-EndsWhereAllIsWell old new status = IsTrue old.ground_tells → IsFresh default_chunk old.told.held → NoneRose old new → EndsByScript status
+EndsWhereAllIsWell old new status = IsTrue old.ground_tells → ((r : Repository) × StandsFor old.told.held r) → NoneRose old new → EndsByScript status
 
 -- ---- making a store
 

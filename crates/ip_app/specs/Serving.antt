@@ -1,15 +1,19 @@
 -- How serving a script goes on, line by line.
---     Turned      a line was taken, its command run and noted
+--     Turned      a line was taken, its command run and noted.      TurnedIn      and its reply said, by a session in a repository
 --     Stops      why there is no further line
---     Served      so far: the whole lines that were taken, and what came of them
-use Rattle.std.specs.Prelude.{◌+◌, ◌≤◌, ◌≡◌, IsTrue, List, [], ◌∷◌, ◌++◌, length, All}
+--     Served      so far: the whole lines that were taken, what came of them, and the repository that the session is in
+use Rattle.std.specs.Prelude.{◌+◌, ◌≤◌, ◌≡◌, Bool, true, false, IsTrue, List, [], ◌∷◌, ◌++◌, length, All}
 use Rattle.ip_ground.specs.Counts.{Rose}
 use Rattle.ip_ground.specs.Told.{said}
 use Rattle.ip_image.specs.declared.counts.TurnCounts.{TurnCounts}
+use Rattle.ip_image.specs.Standing.{StandsFor}
 use Rattle.ip_spec.specs.Path.{Bytes, line_feed}
-use Rattle.ip_spec.specs.Machine.{State}
+use Rattle.ip_spec.specs.Machine.{State, opened}
+use Rattle.ip_spec.specs.Repository.{Repository}
 use Rattle.ip_spec.specs.Script.{whole_lines, LineStep}
 use Rattle.ip_spec.specs.Text.{reply_text}
+use Rattle.ip_store.specs.Store.{Holds}
+use Rattle.ip_app.specs.declared.session.Session.{Session}
 use Rattle.ip_app.specs.declared.statuses.Status.{Status}
 use Rattle.ip_app.specs.declared.lines.Lines.{Lines}
 use Rattle.ip_app.specs.Lines.{longest_line, HasNoLineFeed, last_piece}
@@ -18,12 +22,13 @@ use Rattle.ip_app.specs.Reading.{EndsReading, IsCaused}
 use Rattle.ip_app.specs.Exchanges.{Exchange, conditions, no_rules, Run, lines_in, turns_in, texts_in, after_all}
 use Rattle.ip_app.specs.Turns.{turn_counts, IsLater, Follow}
 use Rattle.ip_app.specs.Outside.{Outside, GoesOn, KeepsFiles}
+use Rattle.ip_app.specs.Session.{IsIn, state_in}
 
 -- what was said grew by a part from the front of the bytes
 abbrev pub SaysPart : Bytes → Bytes → Bytes → Type 0
 SaysPart bytes old new = (part : Bytes) × (rest : Bytes) × (part ++ rest ≡ bytes) × (new ≡ old ++ part)
 
-pub record Turned (old new : Outside) (lines lines' : Lines) (counts counts' : TurnCounts) (state state' : State) (x : Exchange) : Type 0 where
+pub record Turned (old new : Outside) (lines lines' : Lines) (counts counts' : TurnCounts) (state : State) (x : Exchange) : Type 0 where
   pub goes_on : GoesOn old new
   pub files : IsTrue old.ground_tells → KeepsFiles old.told new.told
   pub front : IsTrue old.source_tells → pending lines ++ old.left ≡ x.line ++ line_feed ∷ (pending lines' ++ new.left)
@@ -31,18 +36,27 @@ pub record Turned (old new : Outside) (lines lines' : Lines) (counts counts' : T
   pub short : length x.line ≤ longest_line
   pub count : lines'.taken + length (pending lines) ≡ lines.taken + (length x.line + 1) + length (pending lines')
   pub step : LineStep no_rules state x.line (conditions x) x.reply x.after
-  pub after : state' ≡ x.after
   pub noted : IsTrue new.log_tells → new.turns ≡ old.turns ++ x.turn ∷ []
   pub begins_at : x.turn.before ≡ counts
   pub ends_at : x.turn.after ≡ counts'
   pub rises : IsLater x.turn.before x.turn.after
   pub until : IsLater counts' (turn_counts new.counts)
 
+pub record TurnedIn (old new : Outside) (lines lines' : Lines) (counts counts' : TurnCounts) (s s' : Session) (r : Repository) : Type 0 where
+  pub exchange : Exchange
+  pub after : Repository
+  pub turned : Turned old new lines lines' counts counts' (state_in s r) exchange
+  pub now_at : exchange.after ≡ state_in s' after
+  pub is_in : IsIn s' after
+  pub holds : IsTrue old.ground_tells → Holds s'.store new.told after
+  pub said : IsTrue old.ground_tells → said new.told ≡ said old.told ++ reply_text exchange.reply
+
 -- `rest` is what stands behind the last line feed
-pub record Stopped (status : Status) (old new : Outside) (lines lines' : Lines) (counts counts' : TurnCounts) (state state' : State) : Type 0 where
+pub record Stopped (status : Status) (old new : Outside) (lines lines' : Lines) (counts counts' : TurnCounts) (state : State) : Type 0 where
   pub rest : Bytes
   pub goes_on : GoesOn old new
   pub files : IsTrue old.ground_tells → KeepsFiles old.told new.told
+  pub stands : IsTrue old.ground_tells → StandsFor new.told.held state.repository
   pub front : IsTrue old.source_tells → pending lines ++ old.left ≡ rest ++ new.left
   pub no_line_feed : HasNoLineFeed rest
   pub count : lines'.taken + length (pending lines) ≡ lines.taken + length rest
@@ -53,21 +67,29 @@ pub record Stopped (status : Status) (old new : Outside) (lines lines' : Lines) 
   pub same_counts : counts' ≡ counts
   pub until : IsLater counts' (turn_counts new.counts)
 
+-- a fault of the ground cut the last command short
+abbrev pub is_cut_short : Status → Bool
+is_cut_short Status.GroundFault = true
+is_cut_short _ = false
+
 -- The line was the last: its reply was not said, or only a part of it. Of a command that a fault of the ground cuts short,
 -- the reply and the state are those that it has where none of its writes fails.
-pub record Unsaid (old new : Outside) (lines lines' : Lines) (counts counts' : TurnCounts) (state : State) : Type 0 where
+pub record Unsaid (status : Status) (old new : Outside) (lines lines' : Lines) (counts counts' : TurnCounts) (state : State) : Type 0 where
   pub exchange : Exchange
-  pub turned : Turned old new lines lines' counts counts' state exchange.after exchange
+  pub turned : Turned old new lines lines' counts counts' state exchange
   pub part : IsTrue old.ground_tells → SaysPart (reply_text exchange.reply) (said old.told) (said new.told)
+  pub stands : IsTrue old.ground_tells → is_cut_short status ≡ false → StandsFor new.told.held exchange.after.repository
 
-abbrev pub Stops : Status → Outside → Outside → Lines → Lines → TurnCounts → TurnCounts → State → State → Type 0
-Stops Status.SayFault old new lines lines' counts counts' state state' = Unsaid old new lines lines' counts counts' state × Rose old.counts.say_faults new.counts.say_faults
-Stops Status.GroundFault old new lines lines' counts counts' state state' = Unsaid old new lines lines' counts counts' state × Rose old.counts.file_faults new.counts.file_faults
-Stops status old new lines lines' counts counts' state state' = Stopped status old new lines lines' counts counts' state state'
+abbrev pub Stops : Status → Outside → Outside → Lines → Lines → TurnCounts → TurnCounts → State → Type 0
+Stops Status.SayFault old new lines lines' counts counts' state = Unsaid Status.SayFault old new lines lines' counts counts' state × Rose old.counts.say_faults new.counts.say_faults
+Stops Status.GroundFault old new lines lines' counts counts' state = Unsaid Status.GroundFault old new lines lines' counts counts' state × Rose old.counts.file_faults new.counts.file_faults
+Stops status old new lines lines' counts counts' state = Stopped status old new lines lines' counts counts' state
 
-pub record Served (old now : Outside) (lines : Lines) (counts : TurnCounts) (first state : State) : Type 0 where
+pub record Served (old now : Outside) (lines : Lines) (counts : TurnCounts) (session : Session) : Type 0 where
   pub done : Bytes
   pub exchanges : List Exchange
+  pub first : Repository
+  pub repository : Repository
   pub goes_on : GoesOn old now
   pub files : IsTrue old.ground_tells → KeepsFiles old.told now.told
   pub bytes : IsTrue old.source_tells → old.left ≡ done ++ (pending lines ++ now.left)
@@ -75,8 +97,11 @@ pub record Served (old now : Outside) (lines : Lines) (counts : TurnCounts) (fir
   pub rest_then : (tail : Bytes) → last_piece (done ++ tail) ≡ last_piece tail
   pub short : All (λ line. length line ≤ longest_line) (lines_in exchanges)
   pub count : lines.taken ≡ length done + length (pending lines)
-  pub run : Run no_rules first exchanges
-  pub now_at : state ≡ after_all first exchanges
+  pub began : IsTrue old.ground_tells → StandsFor old.told.held first
+  pub run : Run no_rules (opened first) exchanges
+  pub now_at : state_in session repository ≡ after_all (opened first) exchanges
+  pub is_in : IsIn session repository
+  pub holds : IsTrue old.ground_tells → Holds session.store now.told repository
   pub said : IsTrue old.ground_tells → said now.told ≡ said old.told ++ texts_in exchanges
   pub noted : IsTrue now.log_tells → now.turns ≡ old.turns ++ turns_in exchanges
   pub start : TurnCounts

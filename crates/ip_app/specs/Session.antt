@@ -1,24 +1,31 @@
--- A session: its state, and what its commands meet.
---     state_of session      the machine's state that it is in
---     met_only refused      what a command meets: nothing but want of memory, if that
---     MayBeRefused, CommandMayBeRefused      a line or a command whose reply has a long text changes nothing and may be refused memory
-use Rattle.std.specs.Prelude.{◌≡◌, ◌<◌, Bool, true, false, length, None}
-use Rattle.ip_spec.specs.Path.{Bytes}
-use Rattle.ip_spec.specs.Repository.{no_repository}
+-- A session: the repository that it is in, and what its commands meet.
+--     IsIn session r      the store's tables are the repository's, and the work goes on from commits of it.      state_in session r      the machine's state then
+--     met_only refused      what a command meets that changes no file: nothing but want of memory, if that
+--     Goes tells old new s s' r Gives reply      a command or a line was run, of which Gives says what the machine may give
+--     Cut tells old new s s' r Gives      a fault of the ground cut it short
+--     IsLong reply      the text of such a reply may take memory.      Writes reply met met' text      it was written, or want of it
+use Rattle.std.specs.Prelude.{◌≡◌, ◌⊎◌, ◌<◌, Bool, true, false, length, None, IsTrue}
+use Rattle.ip_ground.specs.declared.names.FileName.{FileName}
+use Rattle.ip_ground.specs.Told.{Told, NoFile, ChangesOnly}
+use Rattle.ip_spec.specs.Repository.{Repository}
 use Rattle.ip_spec.specs.declared.command.Command.{Command}
 use Rattle.ip_spec.specs.declared.met.Child.TheVariants as Child
 use Rattle.ip_spec.specs.declared.met.Met.{Met}
 use Rattle.ip_spec.specs.declared.reply.Reply.{Reply}
-use Rattle.ip_spec.specs.Machine.{State, Phase, Conditions}
-use Rattle.ip_spec.specs.Step.{Step}
-use Rattle.ip_spec.specs.Script.{LineStep}
+use Rattle.ip_spec.specs.Line.{IsServed}
+use Rattle.ip_spec.specs.Path.{Bytes}
+use Rattle.ip_spec.specs.Machine.{State, Conditions}
+use Rattle.ip_spec.specs.Record.{IsBranchName, IsInfo}
 use Rattle.ip_spec.specs.Text.{reply_text}
-use Rattle.ip_store.specs.Work.{work_of}
+use Rattle.ip_store.specs.Publishing.{TheTwo}
+use Rattle.ip_store.specs.Store.{IsOf, Holds, session, IsLawful}
 use Rattle.ip_app.specs.declared.session.Session.{Session}
-use Rattle.ip_app.specs.Exchanges.{no_rules}
 
-abbrev pub state_of : Session → State
-state_of session = record { repository = no_repository; phase = Phase.Idle; work = work_of session.work }
+abbrev pub IsIn : Session → Repository → Type 0
+IsIn s r = IsOf s.store r × IsLawful r s.work
+
+abbrev pub state_in : Session → Repository → State
+state_in s r = session r s.work
 
 abbrev pub met_only : Bool → Met
 met_only refused = record { child = Child.NotAsked; checking = None; start_failed = false; kill_failed = false; left = 0; short = None; refused = refused }
@@ -26,12 +33,41 @@ met_only refused = record { child = Child.NotAsked; checking = None; start_faile
 abbrev pub conditions_of : Met → Conditions
 conditions_of met = record { told = met; difference = None }
 
--- a text of this length takes no memory: there is room for it
+-- a command that is served, with the words that its line may have
+abbrev pub HasWords : Command → Type 0
+HasWords (Command.Commit branch info) = IsBranchName branch × IsInfo info
+HasWords command = IsServed command
+
+-- a text of up to this length takes no memory: there is room for it
 abbrev pub IsLong : Reply → Type 0
 IsLong reply = 4096 < length (reply_text reply)
 
-abbrev pub CommandMayBeRefused : State → State → Command → Reply → Type 0
-CommandMayBeRefused s s' command reply = IsLong reply → (s' ≡ s) × Step no_rules s command (conditions_of (met_only true)) Reply.Memory s
+-- the text is the reply's, or it is long and memory was refused
+abbrev pub Writes : Reply → Met → Met → Bytes → Type 0
+Writes reply met met' text = ((met' ≡ met) × (text ≡ reply_text reply)) ⊎ (IsLong reply × (met' ≡ met_only true) × (text ≡ reply_text Reply.Memory))
 
-abbrev pub MayBeRefused : State → State → Bytes → Reply → Type 0
-MayBeRefused s s' line reply = IsLong reply → (s' ≡ s) × LineStep no_rules s line (conditions_of (met_only true)) Reply.Memory s
+-- the files that a command with this reply may have changed
+abbrev pub ChangedBy : Reply → FileName → Type 0
+ChangedBy (Reply.Committed name) file = TheTwo file
+ChangedBy reply file = NoFile file
+
+-- nothing was changed, and memory may be refused instead
+pub record IsSpared (s s' : State) (Gives : Conditions → Reply → State → Type 0) (reply : Reply) : Type 0 where
+  pub same : s' ≡ s
+  pub refused : Gives (conditions_of (met_only true)) Reply.Memory s
+  pub still : (file : FileName) → ¬ ChangedBy reply file
+
+pub record Goes (tells : Bool) (old new : Told) (s s' : Session) (r : Repository) (Gives : Conditions → Reply → State → Type 0) (reply : Reply) : Type 0 where
+  pub after : Repository
+  pub gives : Gives (conditions_of s'.met) reply (state_in s' after)
+  pub is_in : IsIn s' after
+  pub holds : IsTrue tells → Holds s.store old r → Holds s'.store new after
+  pub only : IsTrue tells → Holds s.store old r → ChangesOnly (ChangedBy reply) old new
+  pub spared : IsLong reply → IsSpared (state_in s r) (state_in s' after) Gives reply
+
+-- the reply and the next state are those that the machine gives where none of its writes fails
+pub record Cut (tells : Bool) (old new : Told) (s s' : Session) (r : Repository) (Gives : Conditions → Reply → State → Type 0) : Type 0 where
+  pub reply : Reply
+  pub after : State
+  pub gives : Gives (conditions_of s'.met) reply after
+  pub only : IsTrue tells → Holds s.store old r → ChangesOnly TheTwo old new

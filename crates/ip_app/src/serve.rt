@@ -1,19 +1,17 @@
 // Serving a script: line by line, one reply each.
-ghost use Rattle.std.specs.Prelude.{◌≡◌, ◌≤◌, ◌<◌, [], IsTrue, OnOk, IfOk, IfErr, ◌++◌};
+ghost use Rattle.std.specs.Prelude.{◌≡◌, [], IsTrue, OnOk, IfOk, IfErr};
 ghost use Rattle.ip_ground.specs.Counts.{NoneFalls};
-ghost use Rattle.ip_ground.specs.Told.{ChangesOnly, NoFile, said};
-ghost use Rattle.ip_spec.specs.Text.{reply_text};
-ghost use Rattle.ip_store.specs.Control.{default_chunk, IsFresh};
-ghost use Rattle.ip_app.specs.declared.lines.Lines.{Lines};
-ghost use Rattle.ip_app.specs.Exchanges.{Exchange};
+ghost use Rattle.ip_ground.specs.Told.{ChangesOnly, NoFile};
+ghost use Rattle.ip_spec.specs.Repository.{Repository};
+ghost use Rattle.ip_store.specs.Store.{Holds, IsSound};
 ghost use Rattle.ip_app.specs.Outside.{outside};
 ghost use Rattle.ip_app.specs.Turns.{turn_counts, IsLater};
-ghost use Rattle.ip_app.specs.Serving.{Turned, Stops};
-ghost use Rattle.ip_app.specs.Run.{opening_status, CouldNotOpen, Serves, EndsWhereAllIsWell, EndsAsBytes};
-ghost use Rattle.ip_app.specs.Session.{state_of};
+ghost use Rattle.ip_app.specs.Serving.{TurnedIn, Stops};
+ghost use Rattle.ip_app.specs.Run.{opening_status, CouldNotOpen, OpensAs, Serves, EndsWhereAllIsWell, EndsAsBytes};
+ghost use Rattle.ip_app.specs.Session.{IsIn, state_in};
 
 use crate::lines::{LONGEST_LINE, Lines};
-use crate::session::Session;
+use crate::session::{Session, SessionEnd};
 use crate::statuses::Status;
 use crate::turn_log::{Log, Turn, turn_counts};
 use ip_base::Memory;
@@ -63,28 +61,35 @@ impl LineRoom {
     ) -> Result<(), Status>
         requires roomy { IsRoomy self.old }
         requires counted { IsLater counts.old (turn_counts (G.counts_of ground.old)) }
+        requires tables { (r : Repository) × IsIn session.old r }
+        requires held { IsTrue G.tells → IsSound session.old.store (G.told ground.old) }
         ensures roomy { IsRoomy self.new }
         ensures turned { let told = outside S.tells S.left S.read_faults G.tells G.told G.counts_of L.tells L.turns in
-            OnOk result ((x : Exchange)
-            × Turned (told source.old ground.old log.old) (told source.new ground.new log.new) self.old.lines self.new.lines counts.old counts.new (state_of session.old) (state_of session.new) x
-            × (IsTrue G.tells → said (G.told ground.new) ≡ said (G.told ground.old) ++ reply_text x.reply)) }
+            (r : Repository) → IsIn session.old r → (IsTrue G.tells → Holds session.old.store (G.told ground.old) r) →
+            OnOk result (TurnedIn (told source.old ground.old log.old) (told source.new ground.new log.new) self.old.lines self.new.lines counts.old counts.new session.old session.new r) }
         ensures stops { let told = outside S.tells S.left S.read_faults G.tells G.told G.counts_of L.tells L.turns in
-            IfErr result (λ status. Stops status (told source.old ground.old log.old) (told source.new ground.new log.new) self.old.lines self.new.lines counts.old counts.new (state_of session.old) (state_of session.new)) }
+            (r : Repository) → IsIn session.old r → (IsTrue G.tells → Holds session.old.store (G.told ground.old) r) →
+            IfErr result (λ status. Stops status (told source.old ground.old log.old) (told source.new ground.new log.new) self.old.lines self.new.lines counts.old counts.new (state_in session.old r)) }
     {
         self.line.clear();
         self.text.clear();
-        self.lines.next_line(source, &mut self.line)?;
+        if let Err(status) = self.lines.next_line(source, &mut self.line) {
+            return Err(status);
+        }
         let before = *counts;
-        session.answer(&self.line, &mut self.text);
+        let answered = session.answer(ground, &self.line, &mut self.text);
         *counts = turn_counts(ground.counts());
         log.note(&Turn {
             met: session.met(),
             before,
             after: *counts,
         });
-        match ground.say(&self.text) {
-            Ok(()) => Ok(()),
-            Err(_) => Err(Status::SayFault),
+        match answered {
+            Ok(()) => match ground.say(&self.text) {
+                Ok(()) => Ok(()),
+                Err(_) => Err(Status::SayFault),
+            },
+            Err(SessionEnd::Ground) => Err(Status::GroundFault),
         }
     }
 }
@@ -97,20 +102,21 @@ fn opening_status(fault: OpenFault) -> Status
         OpenFault::NoStore => Status::NoStore,
         OpenFault::Damaged { file, at } => Status::Damaged { file, at },
         OpenFault::Ground => Status::GroundFault,
+        OpenFault::Memory => Status::Memory,
     }
 }
 
 // Binds the folder and opens the store in it.
-fn open_in<G: Ground>(folder: &str, ground: &mut G) -> Result<Store, Status>
+fn open_in<G: Ground>(alloc: Global, folder: &str, ground: &mut G) -> Result<Store, Status>
     ensures only { IsTrue G.tells → ChangesOnly NoFile (G.told ground.old) (G.told ground.new) }
-    ensures fresh { IsTrue G.tells → OnOk result (IsFresh default_chunk (G.told ground.old).held) }
+    ensures opened { IfOk result (OpensAs G.tells (G.told ground.old) (G.told ground.new)) }
     ensures refused { IfErr result (λ status. CouldNotOpen status G.tells (G.told ground.old) (G.counts_of ground.old) (G.counts_of ground.new)) }
     ensures counts { NoneFalls (G.counts_of ground.old) (G.counts_of ground.new) }
 {
     if ground.attach(folder).is_err() {
         return Err(Status::GroundFault);
     }
-    match Store::open_at(ground) {
+    match Store::open_at(alloc, ground) {
         Ok(store) => Ok(store),
         Err(fault) => Err(opening_status(fault)),
     }
@@ -133,7 +139,7 @@ pub fn serve<S: Source, G: Ground, L: Log>(
     ensures complete { let told = outside S.tells S.left S.read_faults G.tells G.told G.counts_of L.tells L.turns in
         EndsWhereAllIsWell (told source.old ground.old log.old) (told source.new ground.new log.new) result }
 {
-    let store = match open_in(folder, ground) {
+    let store = match open_in(alloc, folder, ground) {
         Ok(store) => store,
         Err(status) => return status,
     };

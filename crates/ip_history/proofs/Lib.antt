@@ -1,5 +1,11 @@
 pub mod Lists
 pub mod Parents
-pub mod Sweep
-pub mod Kept
+pub mod Counted
+pub mod Flagged
+pub mod Heads
+pub mod Walk
+pub mod Found
+pub mod Results
+pub mod Logged
+pub mod Least
 pub mod Shown

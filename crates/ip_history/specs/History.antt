@@ -4,9 +4,8 @@
 --     HasParentsFirst h      a parent's number is less than the child's
 --     Shows h r      the history is the repository's
 --     history_of r      a history that is the repository's
---     IsMarked marks k      the k-th mark is set.      Above r floor marks a      a is a marked commit or an ancestor of one
 --     AboveOneOf r ns a      a is one of these commits or an ancestor of one
-use Rattle.std.specs.Prelude.{◌≡◌, ℕ, ◌+◌, ◌<◌, ◌≤◌, Bool, true, false, List, [], length, map, filter, filter_map, Contains, slice_index_or, nat_le}
+use Rattle.std.specs.Prelude.{◌≡◌, ℕ, ◌+◌, ◌<◌, ◌≤◌, List, [], length, map, filter, filter_map, Contains, slice_index_or, nat_le}
 use Rattle.ip_spec.specs.Repository.{Repository, Commit, CommitParent}
 use Rattle.ip_spec.specs.History.{parents_at, Ancestor}
 
@@ -32,15 +31,6 @@ pub record Shows (h : History) (r : Repository) : Type 0 where
 -- the history of a repository, with the numbers of parents that are known
 abbrev pub history_of : Repository → History
 history_of r = record { floor = r.floor; parents = map (λ (c : Commit). filter_map (λ (p : CommitParent). p.number) c.parents) r.commits }
-
-abbrev pub mark : List Bool → ℕ → Bool
-mark marks k = slice_index_or marks k false
-
-abbrev pub IsMarked : List Bool → ℕ → Type 0
-IsMarked marks k = mark marks k ≡ true
-
-abbrev pub Above : Repository → ℕ → List Bool → ℕ → Type 0
-Above r floor marks a = (j : ℕ) × IsMarked marks j × Ancestor r a (floor + j)
 
 abbrev pub AboveOneOf : Repository → List ℕ → ℕ → Type 0
 AboveOneOf r ns a = (m : ℕ) × Contains ns m × Ancestor r a m

@@ -4,6 +4,7 @@
 ghost use Rattle.ip_spec.specs.Repository.{Repository, IsRepository};
 ghost use Rattle.ip_history.specs.History.{Shows, history_of};
 
+mod frontier;
 mod table;
 #[cfg(test)]
 mod tests;

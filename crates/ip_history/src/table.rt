@@ -1,10 +1,12 @@
-// The table, and sweeps over marks of its commits, one mark a commit in the order of the numbers.
-ghost use Rattle.std.specs.Prelude.{◌≡◌, ◌↔◌, ℕ, ◌+◌, ◌-◌, ◌^◌, ◌<◌, ◌≤◌, ◌==◌, ◌&&◌, List, [], ◌∷◌, ◌++◌, length, drop, reverse, filter, All, Contains, slice_index_or, IfOk, OnOk, OnErr, cond};
-ghost use Rattle.std.specs.List.{range_with_len, list_any};
+// The table, and walks from commits down their parents. A parent's number is less than its child's, so by descending numbers a commit comes
+// after all of its descendants.
+ghost use Rattle.std.specs.Prelude.{◌≡◌, ◌+◌, ◌-◌, ◌^◌, ◌<◌, ◌≤◌, [], ◌∷◌, ◌++◌, length, drop, reverse, All, IfOk, OnOk, OnErr, cond};
 ghost use Rattle.ip_spec.specs.Repository.{Repository};
 ghost use Rattle.ip_spec.specs.History.{ancestors, common, lcas};
-ghost use Rattle.ip_history.specs.History.{History, HasParentsFirst, Holds, Shows, mark, IsMarked, Above, AboveOneOf};
+ghost use Rattle.ip_history.specs.History.{HasParentsFirst, Holds, Shows};
+ghost use Rattle.ip_history.specs.Frontier.{is_least, IsHeads, Passes};
 
+use crate::frontier::{Flags, Frontier};
 use ip_base::{Memory, Number, Numbers};
 use std::alloc::Global;
 use std::marker::Model;
@@ -81,8 +83,7 @@ impl Table {
         requires { Holds self.now number }
         ensures { (r : Repository) → Shows self.now r → IfOk result (λ ns. ns ≡ ancestors r number) }
     {
-        let marks = self.marked(alloc, &[number])?;
-        self.numbers(alloc, &marks)
+        Ok(reversed(self.log(alloc, number)?))
     }
 
     /// The commit and its ancestors, descending by number.
@@ -90,9 +91,15 @@ impl Table {
         requires { Holds self.now number }
         ensures { (r : Repository) → Shows self.now r → IfOk result (λ ns. ns ≡ reverse (ancestors r number)) }
     {
-        let mut numbers = self.ancestors(alloc, number)?.into_vec();
-        numbers.reverse();
-        Ok(Numbers::of(numbers))
+        // the table's invariant, that parents come first, is known from here on
+        let _ = &self.floor;
+        let mut numbers = Numbers::empty(alloc);
+        let mut frontier = heads(alloc, &[], number)?;
+        while let Some((next, flags)) = frontier.pop() {
+            numbers.push(Number(next))?;
+            self.add_parents(next, flags, &mut frontier)?;
+        }
+        Ok(numbers)
     }
 
     /// The least common ancestors of two commits, ascending by number: the common ancestors that are a proper ancestor of no other one.
@@ -110,98 +117,92 @@ impl Table {
         requires number { Holds self.now number }
         ensures { (r : Repository) → Shows self.now r → IfOk result (λ ns. ns ≡ common r list.now number) }
     {
-        let others = self.marked(alloc, list)?;
-        let mut own = self.marked(alloc, &[number])?;
-        let marks = own.as_mut_slice();
-        intersect(marks, &others);
-        self.keep_childless(marks);
-        self.numbers(alloc, marks)
+        let Meeting { least, .. } = self.meet(alloc, list, number)?;
+        Ok(least)
     }
 
-    // Gives the retained parents of a commit this mark.
-    fn mark_parents(&self, index: usize, to: bool, marks: &mut [bool])
-        requires commit { index < length self.now.parents }
-        requires marks { length marks.old ≡ length self.now.parents }
-        ensures { (k : ℕ) → mark marks.new k ≡ cond (list_any (λ p. p == self.now.floor + k) (slice_index_or self.now.parents index [])) to (mark marks.old k) }
+    // Goes down by number from the given commits. It ends once all ancestors that are left of the one commit, or all of the list, are proper
+    // ancestors of a common one: of these none is a least one, and any other is no common one.
+    pub(crate) fn meet(
+        &self,
+        alloc: Global,
+        list: &[Number],
+        number: Number,
+    ) -> Result<Meeting, Memory>
+        requires list { All (Holds self.now) list.now }
+        requires number { Holds self.now number }
+        ensures least { (r : Repository) → Shows self.now r → IfOk result (λ m. m.least ≡ common r list.now number) }
+        ensures once { IfOk result (λ m. m.looked_at ≤ length self.now.parents) }
     {
-        let parents = self.parents[index].as_slice();
+        // the table's invariant, that parents come first, is known from here on
+        let _ = &self.floor;
+        let mut least = Numbers::empty(alloc);
+        let mut looked_at = 0;
+        let mut frontier = heads(alloc, list, number)?;
+        while let Some((next, flags)) = frontier.pop_unsettled() {
+            looked_at += 1;
+            push_least(&mut least, next, flags)?;
+            self.add_parents(next, flags.passed(), &mut frontier)?;
+        }
+        Ok(Meeting {
+            least: reversed(least),
+            looked_at,
+        })
+    }
+
+    // Puts in the retained parents of a commit, or adds to their flags.
+    fn add_parents(&self, number: u64, flags: Flags, frontier: &mut Frontier) -> Result<(), Memory>
+        requires { Holds self.now number }
+        ensures first { HasParentsFirst self.now }
+        ensures passes { OnOk result (Passes self.now number flags frontier.old frontier.new) }
+    {
+        let parents = self.parents[(number - self.floor) as usize].as_slice();
         for parent in parents {
-            if self.floor <= parent.0 {
-                marks[(parent.0 - self.floor) as usize] = to;
+            if self.floor <= parent.get() {
+                frontier.add(parent.get(), flags)?;
             }
         }
-    }
-
-    // Marks the ancestors of what is marked. Parents have lower numbers, so one descending pass finds them.
-    fn spread(&self, marks: &mut [bool])
-        requires marks { length marks.old ≡ length self.now.parents }
-        ensures { (r : Repository) → Shows self.now r → (k : ℕ) → IsMarked marks.new k ↔ Above r self.now.floor marks.old (self.now.floor + k) }
-    {
-        // the table's invariant, that parents come first, is known from here on
-        let _ = &self.floor;
-        for i in (0..marks.len()).rev() {
-            if marks[i] {
-                self.mark_parents(i, true, marks);
-            }
-        }
-    }
-
-    // Marks of these commits and of their ancestors.
-    fn marked(&self, alloc: Global, list: &[Number]) -> Result<Vec<bool>, Memory>
-        requires { All (Holds self.now) list.now }
-        ensures first { IfOk result (λ _. HasParentsFirst self.now) }
-        ensures marks { IfOk result (λ marks. length marks.items ≡ length self.now.parents) }
-        ensures above { (r : Repository) → Shows self.now r → IfOk result (λ marks. (k : ℕ) → IsMarked marks.items k ↔ AboveOneOf r list.now (self.now.floor + k)) }
-    {
-        let mut marks = vec![in alloc; false; self.len()]?;
-        for number in list {
-            marks[(number.0 - self.floor) as usize] = true;
-        }
-        self.spread(&mut marks);
-        Ok(marks)
-    }
-
-    // Keeps the marks of commits that are no parent of a marked one. Parents have lower numbers, so in an ascending pass a mark stands as
-    // it was when its turn comes.
-    fn keep_childless(&self, marks: &mut [bool])
-        requires marks { length marks.old ≡ length self.now.parents }
-        ensures { (k : ℕ) → IsMarked marks.new k ↔ IsMarked marks.old k × ((j : ℕ) → IsMarked marks.old j → ¬ (Contains (slice_index_or self.now.parents j []) (self.now.floor + k))) }
-    {
-        // the table's invariant, that parents come first, is known from here on
-        let _ = &self.floor;
-        for i in 0..marks.len() {
-            if marks[i] {
-                self.mark_parents(i, false, marks);
-            }
-        }
-    }
-
-    // The numbers of the marked commits, ascending.
-    fn numbers(&self, alloc: Global, marks: &[bool]) -> Result<Numbers, Memory>
-        requires marks { length marks.now ≡ length self.now.parents }
-        ensures { IfOk result (λ ns. ns ≡ filter (λ a. mark marks.now (a - self.now.floor)) (range_with_len self.now.floor (length self.now.parents))) }
-    {
-        let count = marks.iter().filter(|mark| **mark).count();
-        let mut numbers = Numbers::of(Vec::with_capacity(alloc, count)?);
-        for i in 0..marks.len() {
-            if marks[i] {
-                numbers.push(Number(self.floor + i as u64))?;
-            }
-        }
-        Ok(numbers)
+        Ok(())
     }
 }
 
-// Keeps the marks that stand in both.
-fn intersect(marks: &mut [bool], others: &[bool])
-    requires { length marks.old ≡ length others.now }
-    ensures { (k : ℕ) → mark marks.new k ≡ (mark marks.old k && mark others.now k) }
+/// What a walk from given commits found.
+#[derive(Drop)]
+pub(crate) struct Meeting {
+    /// The least common ancestors, ascending.
+    pub(crate) least: Numbers,
+    /// How many commits were looked at.
+    pub(crate) looked_at: usize,
+}
+
+// The frontier that a walk begins with.
+fn heads(alloc: Global, list: &[Number], number: Number) -> Result<Frontier, Memory>
+    ensures { IfOk result (IsHeads list.now number) }
 {
-    for i in 0..marks.len() {
-        if !others[i] {
-            marks[i] = false;
-        }
+    let mut frontier = Frontier::new(alloc);
+    frontier.add(number.get(), Flags::own())?;
+    for number in list {
+        frontier.add(number.get(), Flags::listed())?;
     }
+    Ok(frontier)
+}
+
+// Puts in a commit that was looked at, if it is a least common one.
+fn push_least(least: &mut Numbers, number: u64, flags: Flags) -> Result<(), Memory>
+    ensures { OnOk result (least.new ≡ least.old ++ cond (is_least flags) (number ∷ []) []) }
+{
+    if flags.is_least() {
+        least.push(Number(number))?;
+    }
+    Ok(())
+}
+
+fn reversed(numbers: Numbers) -> Numbers
+    ensures { result ≡ reverse numbers }
+{
+    let mut numbers = numbers.into_vec();
+    numbers.reverse();
+    Numbers::of(numbers)
 }
 
 fn drop_front(parents: &mut Vec<Numbers>, count: usize)

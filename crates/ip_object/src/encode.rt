@@ -243,3 +243,17 @@ pub fn encode_into(rec: &Record, out: &mut Vec<u8>) -> Result<(), Memory>
     out[start + 1..start + 5].copy_from_slice(&length.to_le_bytes());
     Ok(())
 }
+
+/// Puts the spelling of a record of contents behind what is there, as `encode_into` does, from contents that stay where they are. Where
+/// memory is refused, a part of the spelling may stand there.
+#[tactic(auto, unfolding(ip_spec::specs::Record::body, ip_spec::specs::Record::spelling), using(crate::proofs::PutLemmas::extends_same, crate::proofs::PutLemmas::extends_on))]
+pub fn put_contents(bytes: &[u8], out: &mut Vec<u8>) -> Result<(), Memory>
+    requires { length bytes.now < 2 ^ 32 }
+    ensures ok { OnOk result (out.new.items ≡ out.old.items ++ spelling (Record.Contents bytes.now)) }
+    ensures err { OnErr result (Extends out.old.items out.new.items) }
+{
+    out.reserve(bytes.len() + 5)?;
+    put_u8(out, 1)?;
+    put_u32(out, bytes.len() as u32)?;
+    put_bytes(out, bytes)
+}

@@ -1,4 +1,6 @@
-use crate::{RecordFault, encode_into, hash_contents, name_of_record, read_record, references};
+use crate::{
+    RecordFault, encode_into, hash_contents, name_of_record, put_contents, read_record, references,
+};
 use ip_base::Hash;
 use std::alloc::Global;
 use std::test::Fail;
@@ -40,6 +42,14 @@ fn records_are_read_and_spelled_again(rt: HostRuntime) -> Result<(), Fail> {
     ] {
         assert_eq!(rt; spelled_again(alloc, bytes)?.as_slice(), bytes);
     }
+    Ok(())
+}
+
+#[test]
+fn contents_are_put_behind(rt: HostRuntime) -> Result<(), Fail> {
+    let mut out = Vec::from_slice(rt.alloc(), b"\x07")?;
+    assert_eq!(rt; put_contents(b"abc", &mut out), Ok(()));
+    assert_eq!(rt; out.as_slice(), b"\x07\x01\x03\0\0\0abc".as_slice());
     Ok(())
 }
 

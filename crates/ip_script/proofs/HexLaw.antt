@@ -1,14 +1,15 @@
 -- Hex texts: what decodes is spelled, and one text has one value.
-use Rattle.std.proofs.Common.{◌≡◌, ◌⊎◌, inl, inr, ℕ, ◌+◌, ◌*◌, ◌/◌, ◌%◌, ◌<◌, ◌≤◌, Bool, true, false, ◌&&◌, List, [], ◌∷◌, length, refl, sym, ap, ◌∙◌, subst, arith, IsTrue, Option, Some, None, Result, Ok, Err, codes, nat_le}
+use Rattle.std.proofs.Common.{◌≡◌, ◌⊎◌, inl, inr, ℕ, ◌+◌, ◌*◌, ◌/◌, ◌%◌, ◌<◌, ◌≤◌, true, List, [], ◌∷◌, length, refl, sym, ap, ◌∙◌, subst, arith, IsTrue, Option, Some, None, Result, Ok, Err, codes}
 use Rattle.std.specs.List.{list_all}
 use Rattle.std.specs.Result.{result_unwrap_or}
 use Rattle.std.proofs.lemmas.List.Sums.{AllPass-from_list_all}
-use Rattle.std.proofs.lemmas.Bool.Decides.{nat_tests}
 use Rattle.hex.specs.Hex.{hex_digit_value, is_hex_digit, digit_or_error, value_at, ◌>>=◌, pair_value, decode_pairs, decode_of}
 use Rattle.hex.specs.declared.error.FromHexError.{FromHexError}
 use Rattle.hex.proofs.HexLemmas.{decode_of-even, decode_of-digits, decode_of-ok}
 use Rattle.ip_spec.specs.Path.{Bytes}
 use Rattle.ip_spec.specs.Line.{IsHexDigit, IsHexPairs, IsHexText}
+use Rattle.ip_script.specs.Words.{contents_of}
+use Rattle.ip_script.proofs.Prefix.{lt_or_ge, both_true}
 
 -- one or more pairs of digits
 pub record ArePairs (text : Bytes) : Type 0 where
@@ -17,13 +18,6 @@ pub record ArePairs (text : Bytes) : Type 0 where
   pub each : IsTrue (list_all is_hex_digit text)
 
 -- ---- digits
-
-pub lt_or_ge : (m n : ℕ) → (m < n) ⊎ (n ≤ m)
-lt_or_ge m n = elim (tested (nat_le n m) refl) [ inl h ↦ inr (grind (arith, nat_tests)) | inr h ↦ inl (grind (arith, nat_tests)) ]
-  where
-    tested : (b : Bool) {c : Bool} → c ≡ b → (b ≡ true) ⊎ (b ≡ false)
-    tested true e = inl refl
-    tested false e = inr refl
 
 digit_of_value : (c v : ℕ) → hex_digit_value c ≡ Some v → IsHexDigit v c
 digit_of_value c v h =
@@ -115,9 +109,6 @@ hex_of text (inr p) = let d = decode_of-digits text p.even (AllPass-from_list_al
 
 -- ---- what is spelled
 
-both_true : (a b : Bool) → a ≡ true → b ≡ true → (a && b) ≡ true
-both_true a b h k = cc
-
 pairs_of : (bytes text : Bytes) → IsHexPairs bytes text → (length text % 2 ≡ 0) × IsTrue (list_all is_hex_digit text)
 pairs_of [] [] p = (refl, refl)
 pairs_of [] (c ∷ text) p = absurd p
@@ -152,3 +143,13 @@ one_value [] [] text p q = refl
 one_value [] (y ∷ b) text p q = absurd (subst (λ (t : Bytes). IsHexPairs (y ∷ b) t) p q)
 one_value (x ∷ a) [] text p q = absurd (subst (λ (t : Bytes). IsHexPairs (x ∷ a) t) q p)
 one_value (x ∷ a) (y ∷ b) text p q = one_pairs (x ∷ a) (y ∷ b) text p q
+
+-- a text says what decodes of it
+pub contents_read : (bytes text : Bytes) → IsHexText bytes text → bytes ≡ contents_of text
+contents_read bytes text h =
+    elim (field_of_hex bytes text h) [
+      | inl dash ↦ one_value bytes [] text h dash ∙ sym (ap contents_of dash)
+      | inr pairs ↦
+          let d = decode_of-digits text pairs.even (AllPass-from_list_all is_hex_digit text pairs.each) in
+          one_value bytes d.0 text h (decoded text d.0 pairs.some d.1) ∙ sym (ap (λ (r : Result Bytes FromHexError). result_unwrap_or r []) d.1)
+    ]

@@ -1,188 +1,230 @@
--- Which line is which command, by its form.
-use Rattle.std.proofs.Common.{◌≡◌, inl, inr, ℕ, ◌+◌, [], ◌∷◌, ◌++◌, length, take, drop, refl, sym, ap, ◌∙◌, subst, arith, codes, length-append}
+-- Which line is which command: the first word tells the form, and the words behind it the rest.
+use Rattle.std.proofs.Common.{◌≡◌, inl, inr, ℕ, Bool, ◌==◌, if◌then◌else◌, not, List, [], ◌∷◌, ◌++◌, length, take, drop, refl, sym, ap, ◌∙◌, subst, arith, IsTrue, append_assoc, decimal}
+use Rattle.std.specs.List.{list_all, prefix_len}
 use Rattle.std.proofs.lemmas.List.{take_at, drop_at}
-use Rattle.std.proofs.lemmas.List.Elements.{All-cons, All-nil}
-use Rattle.ip_base.specs.PathText.{IsStep, IsPath}
-use Rattle.ip_spec.specs.Path.{Bytes, Path}
+use Rattle.ip_spec.specs.Path.{Bytes, same_bytes}
+use Rattle.ip_spec.specs.Record.{Info}
 use Rattle.ip_spec.specs.declared.command.Command.{Command}
-use Rattle.ip_spec.specs.Line.{IsHexText, IsPathText, IsServedLine, IsBadAt}
-use Rattle.ip_script.specs.declared.field.Field.TheVariants.{Step, Hex}
+use Rattle.ip_spec.specs.Line.{LineOf, first_word, forms_of, IsLineOf, IsInfoText, IsServedLine, IsBadAt}
+use Rattle.ip_script.specs.declared.field.Field.{Field}
+use Rattle.ip_script.specs.declared.field.Field.TheVariants.{Date, Author, Message}
 use Rattle.ip_script.specs.declared.line.Form.{Form}
+use Rattle.ip_script.specs.declared.line.TheConstants.{FORMS}
 use Rattle.ip_script.specs.Fields.{field_length}
-use Rattle.ip_script.specs.Forms.{IsField, IsOf}
-use Rattle.ip_script.proofs.FieldLaw.{field_taken}
-use Rattle.ip_script.proofs.FormLaw.{no_more}
-use Rattle.ip_script.proofs.HexLaw.{one_value, lt_or_ge}
+use Rattle.ip_script.specs.Words.{word_at, left_at}
+use Rattle.ip_script.specs.Forms.{word_of, fields_of, command_at}
+use Rattle.ip_script.proofs.Prefix.{lt_or_ge, no_more, prefix_stops, Stops}
+use Rattle.ip_script.proofs.Values.{Of, IsValue, Values, AreValues, AreFields, value_at, values_at, IsOf, command_with}
+use Rattle.ip_script.proofs.FormLaw.{law, Ordered, ordered_rest, fields_end}
+
+-- ---- a first word, and words of forms behind it
+
+abbrev pub Spells : List (Bytes → Type 0) → Bytes → Type 0
+Spells [] text = text ≡ []
+Spells (Is ∷ forms) text = (word : Bytes) × (rest : Bytes) × Is word × Spells forms rest × (text ≡ 32 ∷ (word ++ rest))
+
+line_spells : (forms : List (Bytes → Type 0)) (head line : Bytes) → LineOf head forms line → (rest : Bytes) × Spells forms rest × (line ≡ head ++ rest)
+line_spells [] head line e = ([], refl, e ∙ sym (no_more head))
+line_spells (Is ∷ forms) head line (word, is, l) =
+    let s = line_spells forms (head ++ 32 ∷ word) line l in
+    (32 ∷ (word ++ s.0), (word, s.0, is, s.1, refl), s.2 ∙ append_assoc head (32 ∷ word) s.0)
+
+spells_line : (forms : List (Bytes → Type 0)) (head rest : Bytes) → Spells forms rest → LineOf head forms (head ++ rest)
+spells_line [] head rest e = ap (λ (u : Bytes). head ++ u) e ∙ no_more head
+spells_line (Is ∷ forms) head rest (word, more, is, s, e) =
+    (word, is, subst (LineOf (head ++ 32 ∷ word) forms) (append_assoc head (32 ∷ word) more ∙ ap (λ (u : Bytes). head ++ u) (sym e)) (spells_line forms (head ++ 32 ∷ word) more s))
+
+parts : (c : Command) (line : Bytes) → IsLineOf c line → (rest : Bytes) × Spells (forms_of c) rest × (line ≡ first_word c ++ rest)
+parts c line l = line_spells (forms_of c) (first_word c) line l
+
+joined : (c : Command) (line rest : Bytes) → Spells (forms_of c) rest → line ≡ first_word c ++ rest → IsLineOf c line
+joined c line rest s e = subst (IsLineOf c) (sym e) (spells_line (forms_of c) (first_word c) rest s)
+
+-- ---- values read back
+
+are_fields : (fields : List Field) (values : Values fields) (text : Bytes) → AreValues fields values text → AreFields fields text
+are_fields [] values text e = e
+are_fields (f ∷ fields) values text (word, rest, is, more, e) = (word, rest, (values.0, is), are_fields fields values.1 rest more, e)
+
+-- the first of some fields is taken whole
+first_read : (f : Field) (fields : List Field) (text word rest : Bytes) → Ordered (f ∷ fields) → (v : Of f) → IsValue f v word → AreFields fields rest → text ≡ 32 ∷ (word ++ rest) → (word_at f text ≡ word) × (left_at f text ≡ rest)
+first_read f fields text word rest o v is more e =
+    let t : drop 1 text ≡ word ++ rest = ap (drop 1) e in
+    let n : field_length f (word ++ rest) ≡ length word = ((law f).taken word rest (v, is) (fields_end f fields rest o more)).0 in (
+      ap (λ (u : Bytes). take (field_length f u) u) t ∙ take_at word rest (field_length f (word ++ rest)) (sym n),
+      ap (λ (u : Bytes). drop (field_length f u) u) t ∙ drop_at word rest (field_length f (word ++ rest)) (sym n),
+    )
+
+pair : {A B : Type 0} → A → B → A × B
+pair a b = (a, b)
+
+-- words say the values that they were written of
+read_back : (fields : List Field) (values : Values fields) (text : Bytes) → Ordered fields → AreValues fields values text → values ≡ values_at fields text
+unfolding pair
+read_back [] values text o s = refl
+read_back (f ∷ fields) values text o (word, rest, is, more, e) =
+    let first = first_read f fields text word rest o values.0 is (are_fields fields values.1 rest more) e in
+    let value : values.0 ≡ value_at f (word_at f text) = (law f).one values.0 word is ∙ ap (value_at f) (sym first.0) in
+    let others : values.1 ≡ values_at fields (left_at f text) = read_back fields values.1 rest (ordered_rest f fields o) more ∙ ap (values_at fields) (sym first.1) in
+    ap (λ (v : Of f). pair v values.1) value ∙ ap (λ (vs : Values fields). pair (value_at f (word_at f text)) vs) others
+
+-- fields have the values that are read of them
+are_read : (fields : List Field) (text : Bytes) → Ordered fields → AreFields fields text → AreValues fields (values_at fields text) text
+are_read [] text o e = e
+are_read (f ∷ fields) text o (word, rest, (v, is), more, e) =
+    let first = first_read f fields text word rest o v is more e in (
+      word,
+      rest,
+      subst (λ (x : Of f). IsValue f x word) ((law f).one v word is ∙ ap (value_at f) (sym first.0)) is,
+      subst (λ (u : Bytes). AreValues fields (values_at fields u) rest) (sym first.1) (are_read fields rest (ordered_rest f fields o) more),
+      e,
+    )
+
+-- ---- info is three fields
+
+info_text : ℕ → Bytes → Bytes → Bytes
+info_text date author message = (decimal date ++ 32 ∷ author) ++ 32 ∷ message
+
+info_joined : (values : Values (Date ∷ Author ∷ Message ∷ [])) (text : Bytes) → AreValues (Date ∷ Author ∷ Message ∷ []) values text → Spells (IsInfoText (record { date = values.0; author = values.1.0; message = values.1.1.0 }) ∷ []) text
+unfolding info_text
+info_joined (date, (author, (message, u))) text (d, rest, (small, d_is), (a, rest', (author_is, a_is), (m, none, (message_is, m_is), n, e''), e'), e) =
+    let whole = info_text date author message in
+    let last : rest' ≡ 32 ∷ message = e'' ∙ (ap (λ (w : Bytes). 32 ∷ (w ++ none)) m_is ∙ (ap (λ (w : Bytes). 32 ∷ (message ++ w)) n ∙ ap (λ (w : Bytes). 32 ∷ w) (no_more message))) in
+    let tail : rest ≡ (32 ∷ author) ++ 32 ∷ message = e' ∙ (ap (λ (w : Bytes). 32 ∷ (w ++ rest')) a_is ∙ ap (λ (w : Bytes). 32 ∷ (author ++ w)) last) in (
+      whole,
+      [],
+      (record { date = small; author_some = author_is.some; author_short = author_is.short; author = author_is.each; message_some = message_is.some; message_short = message_is.short; message = message_is.each }, refl),
+      refl,
+      e ∙ (ap (λ (w : Bytes). 32 ∷ (w ++ rest)) d_is ∙ (ap (λ (w : Bytes). 32 ∷ (decimal date ++ w)) tail
+          ∙ ap (λ (w : Bytes). 32 ∷ w) (sym (no_more whole ∙ append_assoc (decimal date) (32 ∷ author) (32 ∷ message))))),
+    )
+
+info_split : (info : Info) (text : Bytes) → Spells (IsInfoText info ∷ []) text → AreValues (Date ∷ Author ∷ Message ∷ []) (info.date, (info.author, (info.message, tt))) text
+unfolding info_text
+info_split info text (word, none, (is, w), n, e) =
+    let whole = info_text info.date info.author info.message in (
+      decimal info.date,
+      (32 ∷ info.author) ++ 32 ∷ info.message,
+      (is.date, refl),
+      (
+        info.author,
+        32 ∷ info.message,
+        (record { some = is.author_some; short = is.author_short; each = is.author }, refl),
+        (info.message, [], (record { some = is.message_some; short = is.message_short; each = is.message }, refl), refl, ap (λ (m : Bytes). 32 ∷ m) (sym (no_more info.message))),
+        refl,
+      ),
+      e ∙ (ap (λ (u : Bytes). 32 ∷ (word ++ u)) n ∙ (ap (λ (u : Bytes). 32 ∷ u) (no_more word ∙ (w ∙ append_assoc (decimal info.date) (32 ∷ info.author) (32 ∷ info.message))))),
+    )
 
 -- ---- commands of forms
 
-step_path : (step : Bytes) → IsStep step → IsPathText (step ∷ []) step
-step_path step s = (record { some = omega arith; short = omega arith; each = All-cons IsStep step [] s (All-nil IsStep) }, refl)
+-- the command of a line of this form
+abbrev pub said_by : Form → Bytes → Command
+said_by form line = command_at form (drop (length (word_of form)) line)
 
-first_step : (step : Bytes) → IsPath (step ∷ []) → IsStep step
-first_step step p = p.each 0 [] (omega arith)
+command_is : (form : Form) (text : Bytes) → command_at form text ≡ command_with form (values_at (fields_of form) text)
+command_is Form.Empty text = refl
+command_is _ text = refl
 
-pub set_line : (line step text bytes : Bytes) → IsStep step → IsHexText bytes text → line ≡ codes "set " ++ (step ++ 32 ∷ text) → IsServedLine (Command.Set (step ∷ []) bytes) line
-set_line line step text bytes s h e = (refl, (step, step_path step s, (text, h, e)))
+pub ordered : (form : Form) → Ordered (fields_of form)
+ordered Form.Empty = tt
+ordered _ = tt
 
-pub get_line : (line step : Bytes) → IsStep step → line ≡ codes "get " ++ step → IsServedLine (Command.Get (step ∷ [])) line
-get_line line step s e = (refl, (step, step_path step s, e))
+served_with : (form : Form) (values : Values (fields_of form)) (rest line : Bytes) → AreValues (fields_of form) values rest → line ≡ word_of form ++ rest → IsServedLine (command_with form values) line
+served_with Form.Empty values rest line s e = (tt, joined (command_with Form.Empty values) line rest s e)
+served_with Form.Set values rest line s e = (refl, joined (command_with Form.Set values) line rest s e)
+served_with Form.Get values rest line s e = (refl, joined (command_with Form.Get values) line rest s e)
+served_with Form.Commit values rest line (name, more, is, s, f) e = (tt, joined (command_with Form.Commit values) line rest (name, more, is, info_joined values.1 more s, f) e)
+served_with Form.Hash values rest line s e = (tt, joined (command_with Form.Hash values) line rest s e)
+served_with Form.Stat values rest line s e = (tt, joined (command_with Form.Stat values) line rest s e)
 
-pub hash_line : (line text bytes : Bytes) → IsHexText bytes text → line ≡ codes "hash " ++ text → IsServedLine (Command.Hash bytes) line
-hash_line line text bytes h e = (tt, (text, h, e))
+rest_is : (form : Form) (line rest : Bytes) → line ≡ word_of form ++ rest → drop (length (word_of form)) line ≡ rest
+rest_is form line rest e = ap (drop (length (word_of form))) e ∙ drop_at (word_of form) rest (length (word_of form)) refl
 
--- the parts of a line
-pub empty_parts : (line : Bytes) → IsOf Form.Empty line → line ≡ codes "empty"
-empty_parts line s = s.2 ∙ ap (λ (u : Bytes). codes "empty" ++ u) s.1
+-- a line of a form is of a command
+pub command_in : (form : Form) (line : Bytes) → IsOf form line → IsServedLine (said_by form line) line
+command_in form line (rest, fields, e) =
+    subst (λ (c : Command). IsServedLine c line) (sym (ap (command_at form) (rest_is form line rest e) ∙ command_is form rest))
+    (served_with form (values_at (fields_of form) rest) rest line (are_read (fields_of form) rest (ordered form) fields) e)
 
-pub set_parts : (line : Bytes) → IsOf Form.Set line → (step : Bytes) × (text : Bytes) × IsStep step × IsField Hex text × (line ≡ codes "set " ++ (step ++ 32 ∷ text))
-set_parts line s =
-    let first = s.1 in
-    let second = first.3 in
-    let tail : first.1 ≡ 32 ∷ second.0 = second.4 ∙ (ap (λ (u : Bytes). 32 ∷ (second.0 ++ u)) second.3 ∙ ap (λ (u : Bytes). 32 ∷ u) (no_more second.0)) in
-    (first.0, second.0, first.2, second.2, s.2 ∙ (ap (λ (u : Bytes). codes "set" ++ u) first.4 ∙ ap (λ (u : Bytes). codes "set " ++ (first.0 ++ u)) tail))
+-- the form of a command's line, and its values there
+record Formed (c : Command) (line : Bytes) : Type 0 where
+  form : Form
+  values : Values (fields_of form)
+  rest : Bytes
+  words : AreValues (fields_of form) values rest
+  line_is : line ≡ word_of form ++ rest
+  command : c ≡ command_with form values
 
-pub get_parts : (line : Bytes) → IsOf Form.Get line → (step : Bytes) × IsStep step × (line ≡ codes "get " ++ step)
-get_parts line s =
-    let first = s.1 in
-    (first.0, first.2, s.2 ∙ (ap (λ (u : Bytes). codes "get" ++ u) first.4 ∙ (ap (λ (u : Bytes). codes "get " ++ (first.0 ++ u)) first.3 ∙ ap (λ (u : Bytes). codes "get " ++ u) (no_more first.0))))
+formed : (c : Command) (line : Bytes) → IsServedLine c line → Formed c line
+formed Command.Empty line (u, l) = let p = parts Command.Empty line l in record { form = Form.Empty; values = tt; rest = p.0; words = p.1; line_is = p.2; command = refl }
+formed (Command.Set (s ∷ []) bytes) line (u, l) = let p = parts (Command.Set (s ∷ []) bytes) line l in record { form = Form.Set; values = (s, (bytes, tt)); rest = p.0; words = p.1; line_is = p.2; command = refl }
+formed (Command.Get (s ∷ [])) line (u, l) = let p = parts (Command.Get (s ∷ [])) line l in record { form = Form.Get; values = (s, tt); rest = p.0; words = p.1; line_is = p.2; command = refl }
+formed (Command.Commit branch info) line (u, l) =
+    let p = parts (Command.Commit branch info) line l in
+    let s = p.1 in
+    record { form = Form.Commit; values = (branch, (info.date, (info.author, (info.message, tt)))); rest = p.0; words = (s.0, s.1, s.2, info_split info s.1 s.3, s.4); line_is = p.2; command = refl }
+formed (Command.Hash bytes) line (u, l) = let p = parts (Command.Hash bytes) line l in record { form = Form.Hash; values = (bytes, tt); rest = p.0; words = p.1; line_is = p.2; command = refl }
+formed Command.Stat line (u, l) = let p = parts Command.Stat line l in record { form = Form.Stat; values = tt; rest = p.0; words = p.1; line_is = p.2; command = refl }
+formed (Command.Set [] bytes) line (u, l) = absurd (omega (arith, u))
+formed (Command.Set (s ∷ r ∷ path) bytes) line (u, l) = absurd (omega (arith, u))
+formed (Command.Get []) line (u, l) = absurd (omega (arith, u))
+formed (Command.Get (s ∷ r ∷ path)) line (u, l) = absurd (omega (arith, u))
+formed _ line h = absurd h.0
 
-pub hash_parts : (line : Bytes) → IsOf Form.Hash line → (text : Bytes) × IsField Hex text × (line ≡ codes "hash " ++ text)
-hash_parts line s =
-    let first = s.1 in
-    (first.0, first.2, s.2 ∙ (ap (λ (u : Bytes). codes "hash" ++ u) first.4 ∙ (ap (λ (u : Bytes). codes "hash " ++ (first.0 ++ u)) first.3 ∙ ap (λ (u : Bytes). codes "hash " ++ u) (no_more first.0))))
+-- a command's line is of a form, whose reading gives the command
+pub form_in : (c : Command) (line : Bytes) → IsServedLine c line → (form : Form) × IsOf form line × (c ≡ said_by form line)
+form_in c line h =
+    let f = formed c line h in (
+      f.form,
+      (f.rest, are_fields (fields_of f.form) f.values f.rest f.words, f.line_is),
+      f.command ∙ (ap (command_with f.form) (read_back (fields_of f.form) f.values f.rest (ordered f.form) f.words)
+          ∙ sym (ap (command_at f.form) (rest_is f.form line f.rest f.line_is) ∙ command_is f.form f.rest)),
+    )
 
--- a line of a form is one of a command
-pub command_in : (form : Form) (line : Bytes) → IsOf form line → (c : Command) × IsServedLine c line
-command_in Form.Empty line s = (Command.Empty, (tt, empty_parts line s))
-command_in Form.Set line s = let p = set_parts line s in (Command.Set (p.0 ∷ []) p.3.0, set_line line p.0 p.1 p.3.0 p.2 p.3.1 p.4)
-command_in Form.Get line s = let p = get_parts line s in (Command.Get (p.0 ∷ []), get_line line p.0 p.1 p.2)
-command_in Form.Hash line s = let p = hash_parts line s in (Command.Hash p.1.0, hash_line line p.0 p.1.0 p.1.1 p.2)
+-- ---- the first word tells the form
 
-set_form : (line step text : Bytes) → IsStep step → IsField Hex text → line ≡ codes "set " ++ (step ++ 32 ∷ text) → IsOf Form.Set line
-set_form line step text s h e = (32 ∷ (step ++ 32 ∷ text), (step, 32 ∷ text, s, (text, [], h, refl, ap (λ (u : Bytes). 32 ∷ u) (sym (no_more text))), refl), e)
+abbrev in_word : ℕ → Bool
+in_word b = not (b == 32)
 
-get_form : (line step : Bytes) → IsStep step → line ≡ codes "get " ++ step → IsOf Form.Get line
-get_form line step s e = (32 ∷ step, (step, [], s, refl, ap (λ (u : Bytes). 32 ∷ u) (sym (no_more step))), e)
+begin_word : (fields : List Field) (rest : Bytes) → AreFields fields rest → Stops in_word rest
+begin_word [] rest e = subst (Stops in_word) (sym e) tt
+begin_word (f ∷ fields) rest s = subst (Stops in_word) (sym s.4) refl
 
-hash_form : (line text : Bytes) → IsField Hex text → line ≡ codes "hash " ++ text → IsOf Form.Hash line
-hash_form line text h e = (32 ∷ text, (text, [], h, refl, ap (λ (u : Bytes). 32 ∷ u) (sym (no_more text))), e)
+no_space : (form : Form) → IsTrue (list_all in_word (word_of form))
+no_space Form.Empty = refl
+no_space _ = refl
 
--- the parts of a command's line
-set_of : (path : Path) (bytes line : Bytes) → IsServedLine (Command.Set path bytes) line → (step : Bytes) × (text : Bytes) × IsStep step × IsHexText bytes text × (line ≡ codes "set " ++ (step ++ 32 ∷ text)) × (path ≡ step ∷ [])
-set_of [] bytes line (h, rest) = absurd (omega (arith, h))
-set_of (s ∷ r ∷ path) bytes line (h, rest) = absurd (omega (arith, h))
-set_of (s ∷ []) bytes line (h, (word, p, (text, x, e))) = (s, text, first_step s p.0, x, e ∙ ap (λ (u : Bytes). codes "set " ++ (u ++ 32 ∷ text)) p.1, refl)
+first : Bytes → Bytes
+first line = take (prefix_len in_word line) line
 
-get_of : (path : Path) (line : Bytes) → IsServedLine (Command.Get path) line → (step : Bytes) × IsStep step × (line ≡ codes "get " ++ step) × (path ≡ step ∷ [])
-get_of [] line (h, rest) = absurd (omega (arith, h))
-get_of (s ∷ r ∷ path) line (h, rest) = absurd (omega (arith, h))
-get_of (s ∷ []) line (h, (word, p, e)) = (s, first_step s p.0, e ∙ ap (λ (u : Bytes). codes "get " ++ u) p.1, refl)
+first_is : (form : Form) (line : Bytes) → IsOf form line → first line ≡ word_of form
+unfolding first
+first_is form line (rest, fields, e) =
+    let word = word_of form in
+    let n : prefix_len in_word (word ++ rest) ≡ length word = prefix_stops in_word word rest (no_space form) (begin_word (fields_of form) rest fields) in
+    ap first e ∙ take_at word rest (prefix_len in_word (word ++ rest)) (sym n)
 
--- a command's line is of a form
-pub form_in : (c : Command) (line : Bytes) → IsServedLine c line → (form : Form) × IsOf form line
-form_in Command.Empty line h = (Form.Empty, ([], refl, h.1))
-form_in (Command.Set path bytes) line h = let p = set_of path bytes line h in (Form.Set, set_form line p.0 p.1 p.2 (bytes, p.3) p.4)
-form_in (Command.Get path) line h = let p = get_of path line h in (Form.Get, get_form line p.0 p.1 p.2)
-form_in (Command.Hash bytes) line (u, (text, x, e)) = (Form.Hash, hash_form line text (bytes, x) e)
-form_in _ line h = absurd h.0
+form_named : List Form → Bytes → Form
+form_named [] word = Form.Empty
+form_named (form ∷ forms) word = if same_bytes (word_of form) word then form else form_named forms word
 
--- ---- a line is of one command
+named : (form : Form) → form_named FORMS (word_of form) ≡ form
+unfolding form_named
+named Form.Empty = refl
+named _ = refl
 
-front_taken : (step rest : Bytes) → IsStep step → take (field_length Step (step ++ 32 ∷ rest)) (step ++ 32 ∷ rest) ≡ step
-front_taken step rest s = ap (λ n. take n (step ++ 32 ∷ rest)) (field_taken Step step (32 ∷ rest) s refl).0 ∙ take_at step (32 ∷ rest) (length step) refl
+pub one_form : (f g : Form) (line : Bytes) → IsOf f line → IsOf g line → f ≡ g
+one_form f g line s t = sym (named f) ∙ (ap (form_named FORMS) (sym (first_is f line s) ∙ first_is g line t) ∙ named g)
 
-pub front_is : (step rest text : Bytes) → IsStep step → text ≡ step ++ 32 ∷ rest → take (field_length Step text) text ≡ step
-front_is step rest text s e = ap (λ (u : Bytes). take (field_length Step u) u) e ∙ front_taken step rest s
-
-pub alone_is : (step : Bytes) → IsStep step → take (field_length Step step) step ≡ step
-alone_is step s =
-    let long : field_length Step step ≡ length step = ap (field_length Step) (sym (no_more step)) ∙ (field_taken Step step [] s tt).0 in
-    ap (λ n. take n step) long ∙ (ap (take (length step)) (sym (no_more step)) ∙ take_at step [] (length step) refl)
-
-pub behind_is : (step rest text : Bytes) → IsStep step → text ≡ step ++ 32 ∷ rest → (field_length Step text ≡ length step) × (drop (field_length Step text + 1) text ≡ rest)
-behind_is step rest text s e =
-    let long : field_length Step text ≡ length step = ap (field_length Step) e ∙ (field_taken Step step (32 ∷ rest) s refl).0 in
-    let more : field_length Step text + 1 ≡ length (step ++ 32 ∷ []) = omega (arith, long, length-append step (32 ∷ [])) in
-    (long, ap (λ (u : Bytes). drop (field_length Step text + 1) u) (e ∙ sym (append_space step rest)) ∙ drop_at (step ++ 32 ∷ []) rest (field_length Step text + 1) (sym more))
-  where
-    append_space : (step rest : Bytes) → (step ++ 32 ∷ []) ++ rest ≡ step ++ 32 ∷ rest
-    append_space [] rest = refl
-    append_space (x ∷ step) rest = ap (λ (u : Bytes). x ∷ u) (append_space step rest)
-
-head_of : Bytes → ℕ
-head_of [] = 0
-head_of (b ∷ bytes) = b
-
-one_set : (path path' : Path) (bytes bytes' line : Bytes) → IsServedLine (Command.Set path bytes) line → IsServedLine (Command.Set path' bytes') line → Command.Set path bytes ≡ Command.Set path' bytes'
-one_set path path' bytes bytes' line h g =
-    let p = set_of path bytes line h in
-    let q = set_of path' bytes' line g in
-    let front = front_is p.0 p.1 (drop 4 line) p.2 (ap (drop 4) p.4) in
-    let front' = front_is q.0 q.1 (drop 4 line) q.2 (ap (drop 4) q.4) in
-    let rest = behind_is p.0 p.1 (drop 4 line) p.2 (ap (drop 4) p.4) in
-    let rest' = behind_is q.0 q.1 (drop 4 line) q.2 (ap (drop 4) q.4) in
-    let text : q.1 ≡ p.1 = sym rest'.1 ∙ rest.1 in
-    let same : path ≡ path' = p.5 ∙ (ap (λ (s : Bytes). s ∷ []) (sym front ∙ front') ∙ sym q.5) in
-    let value : bytes ≡ bytes' = one_value bytes bytes' p.1 p.3 (subst (IsHexText bytes') text q.3) in
-    ap (λ (t : Path). Command.Set t bytes) same ∙ ap (λ (b : Bytes). Command.Set path' b) value
-
-one_get : (path path' : Path) (line : Bytes) → IsServedLine (Command.Get path) line → IsServedLine (Command.Get path') line → Command.Get path ≡ Command.Get path'
-one_get path path' line h g =
-    let p = get_of path line h in
-    let q = get_of path' line g in
-    let same : p.0 ≡ q.0 = ap (drop 4) (sym p.2 ∙ q.2) in
-    ap (λ (t : Path). Command.Get t) (p.3 ∙ (ap (λ (s : Bytes). s ∷ []) same ∙ sym q.3))
-
-one_hash : (bytes bytes' line : Bytes) → IsServedLine (Command.Hash bytes) line → IsServedLine (Command.Hash bytes') line → Command.Hash bytes ≡ Command.Hash bytes'
-one_hash bytes bytes' line (u, (text, x, e)) (v, (text', y, f)) =
-    let same : text' ≡ text = ap (drop 5) (sym f ∙ e) in
-    ap (λ (b : Bytes). Command.Hash b) (one_value bytes bytes' text x (subst (IsHexText bytes') same y))
-
--- the first byte of a command's line
-first_byte : Command → ℕ
-first_byte Command.Empty = 101
-first_byte (Command.Set path bytes) = 115
-first_byte (Command.Get path) = 103
-first_byte (Command.Hash bytes) = 104
-first_byte _ = 0
-
-begins_with : (c : Command) (line : Bytes) → IsServedLine c line → head_of line ≡ first_byte c
-unfolding head_of first_byte
-begins_with Command.Empty line h = ap head_of h.1
-begins_with (Command.Set path bytes) line h = ap head_of (set_of path bytes line h).4
-begins_with (Command.Get path) line h = ap head_of (get_of path line h).2
-begins_with (Command.Hash bytes) line (u, (text, x, e)) = ap head_of e
-begins_with _ line h = absurd h.0
-
-same_byte : (c d : Command) (line : Bytes) → IsServedLine c line → IsServedLine d line → first_byte c ≡ first_byte d
-same_byte c d line h g = sym (begins_with c line h) ∙ begins_with d line g
+-- ---- a line is of one command, and goes wrong at one place
 
 pub one_command : (line : Bytes) (c d : Command) → IsServedLine c line → IsServedLine d line → c ≡ d
-unfolding first_byte
-one_command line Command.Empty Command.Empty h g = refl
-one_command line (Command.Set path bytes) (Command.Set path' bytes') h g = one_set path path' bytes bytes' line h g
-one_command line (Command.Get path) (Command.Get path') h g = one_get path path' line h g
-one_command line (Command.Hash bytes) (Command.Hash bytes') h g = one_hash bytes bytes' line h g
-one_command line Command.Empty (Command.Set p b) h g = let e : 101 ≡ 115 = same_byte Command.Empty (Command.Set p b) line h g in absurd (omega (arith, e))
-one_command line Command.Empty (Command.Get p) h g = let e : 101 ≡ 103 = same_byte Command.Empty (Command.Get p) line h g in absurd (omega (arith, e))
-one_command line Command.Empty (Command.Hash b) h g = let e : 101 ≡ 104 = same_byte Command.Empty (Command.Hash b) line h g in absurd (omega (arith, e))
-one_command line (Command.Set p b) Command.Empty h g = let e : 115 ≡ 101 = same_byte (Command.Set p b) Command.Empty line h g in absurd (omega (arith, e))
-one_command line (Command.Set p b) (Command.Get q) h g = let e : 115 ≡ 103 = same_byte (Command.Set p b) (Command.Get q) line h g in absurd (omega (arith, e))
-one_command line (Command.Set p b) (Command.Hash d) h g = let e : 115 ≡ 104 = same_byte (Command.Set p b) (Command.Hash d) line h g in absurd (omega (arith, e))
-one_command line (Command.Get p) Command.Empty h g = let e : 103 ≡ 101 = same_byte (Command.Get p) Command.Empty line h g in absurd (omega (arith, e))
-one_command line (Command.Get p) (Command.Set q b) h g = let e : 103 ≡ 115 = same_byte (Command.Get p) (Command.Set q b) line h g in absurd (omega (arith, e))
-one_command line (Command.Get p) (Command.Hash b) h g = let e : 103 ≡ 104 = same_byte (Command.Get p) (Command.Hash b) line h g in absurd (omega (arith, e))
-one_command line (Command.Hash b) Command.Empty h g = let e : 104 ≡ 101 = same_byte (Command.Hash b) Command.Empty line h g in absurd (omega (arith, e))
-one_command line (Command.Hash b) (Command.Set p d) h g = let e : 104 ≡ 115 = same_byte (Command.Hash b) (Command.Set p d) line h g in absurd (omega (arith, e))
-one_command line (Command.Hash b) (Command.Get p) h g = let e : 104 ≡ 103 = same_byte (Command.Hash b) (Command.Get p) line h g in absurd (omega (arith, e))
-one_command line Command.Empty _ h g = absurd g.0
-one_command line (Command.Set p b) _ h g = absurd g.0
-one_command line (Command.Get p) _ h g = absurd g.0
-one_command line (Command.Hash b) _ h g = absurd g.0
-one_command line _ _ h g = absurd h.0
+one_command line c d h g =
+    let f = form_in c line h in
+    let k = form_in d line g in
+    f.2 ∙ (ap (λ (form : Form). said_by form line) (one_form f.0 k.0 line f.1 k.1) ∙ sym k.2)
 
--- a line goes wrong at one place
 pub one_place : (line : Bytes) (a b : ℕ) → IsBadAt IsServedLine line a → IsBadAt IsServedLine line b → a ≡ b
 one_place line a b h g = elim (lt_or_ge a b) [
   | inl less ↦ absurd (h.longest b less g.in_line g.begins)

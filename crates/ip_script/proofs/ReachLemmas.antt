@@ -29,11 +29,6 @@ word_step at word line fields h l =
 pub word_differs : (at : ℕ) (word line : List ℕ) (fields : List Field) → at < length word → at < length line → get_or line at 0 ≢ get_or word at 0 → reach_from at (drop at word) fields (drop at line) ≡ record { at = at; whole = false }
 word_differs at word line fields h l d = word_step at word line fields h l ∙ if_false _ _ _ (unequal_test _ _ (λ e. d (sym e)))
 
-pub word_agrees : (at : ℕ) (word line : List ℕ) (fields : List Field) → at < length word → at < length line → get_or line at 0 ≡ get_or word at 0 → reach_from at (drop at word) fields (drop at line) ≡ reach_from (at + 1) (drop (at + 1) word) fields (drop (at + 1) line)
-word_agrees at word line fields h l d =
-    let e : suc at ≡ at + 1 = omega arith in
-    word_step at word line fields h l ∙ (if_true _ _ _ (equal_test _ _ (sym d)) ∙ ap (λ k. reach_from (at + 1) (drop k word) fields (drop k line)) e)
-
 -- ---- fields
 
 -- the line ends before a field does

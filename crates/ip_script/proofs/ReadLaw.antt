@@ -1,89 +1,73 @@
 -- What reading a line comes to.
-use Rattle.std.proofs.Common.{◌≡◌, ◌⊎◌, inl, inr, ℕ, ◌+◌, ◌<◌, ◌≤◌, true, false, ◌==◌, [], ◌∷◌, ◌++◌, length, take, drop, max, refl, sym, ap, ◌∙◌, subst, arith, codes, length-append, nat_le, slice_index_or, Ok}
+use Rattle.std.proofs.Common.{◌≡◌, ◌⊎◌, inl, inr, ℕ, zero, suc, ◌+◌, ◌<◌, ◌≤◌, Bool, true, false, ◌==◌, ◌||◌, if◌then◌else◌, List, [], ◌∷◌, ◌++◌, length, take, drop, max, refl, sym, ap, ◌∙◌, subst, arith, codes, nat_le, nat_lt, slice_index_or, length-append}
 use Rattle.std.specs.List.{list_any}
 use Rattle.std.specs.Ordering.{ord_max, nat_cmp}
 use Rattle.std.proofs.lemmas.Bool.Decides.{nat_tests}
-use Rattle.hex.specs.Hex.{decode_of}
-use Rattle.ip_spec.specs.Path.{Bytes, Path}
+use Rattle.std.proofs.lemmas.List.Folds.{list_any-append}
+use Rattle.ip_spec.specs.Path.{Bytes, same_bytes}
 use Rattle.ip_spec.specs.declared.command.Command.{Command}
-use Rattle.ip_spec.specs.Line.{IsHexText, IsServedLine, Begins, IsBadAt}
-use Rattle.ip_script.specs.declared.field.Field.TheVariants.{Step, Hex}
+use Rattle.ip_spec.specs.Line.{IsServedLine, Begins, IsBadAt}
+use Rattle.ip_script.specs.declared.field.Field.{Field}
 use Rattle.ip_script.specs.declared.line.Form.{Form}
 use Rattle.ip_script.specs.declared.line.Fit.{Fit}
-use Rattle.ip_script.specs.Fields.{field_length, reach}
-use Rattle.ip_script.specs.Forms.{word_of, fields_of, IsField, IsOf}
-use Rattle.ip_script.proofs.FieldLaw.{either}
+use Rattle.ip_script.specs.declared.line.TheConstants.{FORMS}
+use Rattle.ip_script.specs.Fields.{reach}
+use Rattle.ip_script.specs.Forms.{word_of, fields_of, command_at}
+use Rattle.ip_script.proofs.Prefix.{either, lt_or_ge}
+use Rattle.ip_script.proofs.Values.{AreFields, IsOf}
 use Rattle.ip_script.proofs.FormLaw.{Reaches, word_reach}
-use Rattle.ip_script.proofs.HexLaw.{ArePairs, field_of_hex, decoded, lt_or_ge}
-use Rattle.ip_script.proofs.LineLaw.{set_line, get_line, set_parts, get_parts, hash_parts, command_in, form_in, front_is, alone_is, behind_is}
+use Rattle.ip_script.proofs.LineLaw.{said_by, command_in, form_in, ordered}
 
--- ---- the command of a line of a form
+-- ---- a line of a form
 
-some_hex : (text : Bytes) → (text ≡ codes "-") ⊎ ArePairs text → 0 < length text
-some_hex text (inl e) = omega (arith, ap length e)
-some_hex text (inr p) = p.some
+-- the words behind the first one lie within the line
+pub room : (form : Form) (line : Bytes) → IsOf form line → length (word_of form) ≤ length line
+room form line (rest, fields, e) = omega (arith, ap length e, length-append (word_of form) rest)
 
-pub bytes_read : (text bytes : Bytes) → IsField Hex text → decode_of text ≡ Ok bytes → IsHexText bytes text
-bytes_read text bytes f h = decoded text bytes (some_hex text (field_of_hex f.0 text f.1)) h
+pub is_read : (form : Form) (line text : Bytes) (c : Command) → IsOf form line → text ≡ drop (length (word_of form)) line → c ≡ command_at form text → IsServedLine c line
+is_read form line text c is t e = subst (λ (d : Command). IsServedLine d line) (sym (e ∙ ap (command_at form) t)) (command_in form line is)
 
-pub get_read : (line text : Bytes) (path : Path) → IsOf Form.Get line → text ≡ drop 4 line → path ≡ take (field_length Step text) text ∷ [] → IsServedLine (Command.Get path) line
-get_read line text path s e is =
-    let p = get_parts line s in
-    let step : take (field_length Step text) text ≡ p.0 = ap (λ (u : Bytes). take (field_length Step u) u) (e ∙ ap (drop 4) p.2) ∙ alone_is p.0 p.1 in
-    subst (λ (t : Path). IsServedLine (Command.Get t) line) (sym (is ∙ ap (λ (u : Bytes). u ∷ []) step)) (get_line line p.0 p.1 p.2)
+-- a line without a space is of a form without fields
+pub one_word : (form : Form) (line : Bytes) → IsOf form line → list_any (λ b. b == 32) line ≡ false → fields_of form ≡ []
+one_word form line (rest, fields, e) none = no_fields (fields_of form) rest fields e
+  where
+    no_true : (a b : Bool) → b ≡ true → (a || b) ≡ false → ⊥
+    no_true true b h f = cc
+    no_true false b h f = cc
 
-set_text : (line text : Bytes) → IsOf Form.Set line → text ≡ drop 4 line → (step : Bytes) × (rest : Bytes) × (text ≡ step ++ 32 ∷ rest) × (field_length Step text ≡ length step) × (drop (field_length Step text + 1) text ≡ rest) × IsField Hex rest × (take (field_length Step text) text ≡ step)
-set_text line text s e =
-    let p = set_parts line s in
-    let t : text ≡ p.0 ++ 32 ∷ p.1 = e ∙ ap (drop 4) p.4 in
-    let behind = behind_is p.0 p.1 text p.2 t in
-    (p.0, p.1, t, behind.0, behind.1, p.3, front_is p.0 p.1 text p.2 t)
-
-pub set_room : (line text : Bytes) → IsOf Form.Set line → text ≡ drop 4 line → field_length Step text < length text
-set_room line text s e = let t = set_text line text s e in omega (arith, t.3, ap length t.2, length-append t.0 (32 ∷ t.1))
-
-pub set_hex : (line text rest : Bytes) → IsOf Form.Set line → text ≡ drop 4 line → rest ≡ drop (field_length Step text + 1) text → IsField Hex rest
-set_hex line text rest s e r = let t = set_text line text s e in subst (IsField Hex) (sym (r ∙ t.4)) t.5
-
-pub set_read : (line text rest bytes : Bytes) (path : Path) → IsOf Form.Set line → text ≡ drop 4 line → path ≡ take (field_length Step text) text ∷ [] → rest ≡ drop (field_length Step text + 1) text → IsHexText bytes rest → IsServedLine (Command.Set path bytes) line
-set_read line text rest bytes path s e is r h =
-    let p = set_parts line s in
-    let t : text ≡ p.0 ++ 32 ∷ p.1 = e ∙ ap (drop 4) p.4 in
-    let behind = behind_is p.0 p.1 text p.2 t in
-    let front = front_is p.0 p.1 text p.2 t in
-    subst (λ (q : Path). IsServedLine (Command.Set q bytes) line) (sym (is ∙ ap (λ (u : Bytes). u ∷ []) front)) (set_line line p.0 p.1 bytes p.2 (subst (IsHexText bytes) (r ∙ behind.1) h) p.4)
-
--- all forms but one have a space in their lines
-pub spaced : (form : Form) (line : Bytes) → IsOf form line → (form ≡ Form.Empty) ⊎ (list_any (λ b. b == 32) line ≡ true)
-spaced Form.Empty line s = inl refl
-spaced Form.Set line s = let p = set_parts line s in inr (ap (list_any (λ b. b == 32)) p.4)
-spaced Form.Get line s = let p = get_parts line s in inr (ap (list_any (λ b. b == 32)) p.2)
-spaced Form.Hash line s = let p = hash_parts line s in inr (ap (list_any (λ b. b == 32)) p.2)
+    no_fields : (fields : List Field) (rest : Bytes) → AreFields fields rest → line ≡ word_of form ++ rest → fields ≡ []
+    no_fields [] rest s is = refl
+    no_fields (f ∷ fields) rest s is =
+        absurd (no_true (list_any (λ b. b == 32) (word_of form)) (list_any (λ b. b == 32) rest) (ap (list_any (λ b. b == 32)) s.4)
+        (sym (ap (list_any (λ b. b == 32)) is ∙ list_any-append (λ b. b == 32) (word_of form) rest) ∙ none))
 
 -- ---- one form after another
 
 abbrev pub form_at : ℕ → Form
-form_at k = slice_index_or (Form.Empty ∷ Form.Set ∷ Form.Get ∷ Form.Hash ∷ []) k Form.Empty
+form_at k = slice_index_or FORMS k Form.Empty
+
+index_in : List Form → Bytes → ℕ
+index_in [] word = 0
+index_in (form ∷ forms) word = if same_bytes (word_of form) word then 0 else suc (index_in forms word)
 
 index_of : Form → ℕ
-index_of Form.Empty = 0
-index_of Form.Set = 1
-index_of Form.Get = 2
-index_of Form.Hash = 3
+index_of form = index_in FORMS (word_of form)
 
 at_index : (form : Form) → form_at (index_of form) ≡ form
-unfolding index_of
+unfolding index_of index_in
 at_index Form.Empty = refl
-at_index Form.Set = refl
-at_index Form.Get = refl
-at_index Form.Hash = refl
+at_index _ = refl
 
-index_low : (form : Form) → index_of form < 4
-unfolding index_of
-index_low Form.Empty = omega arith
-index_low Form.Set = omega arith
-index_low Form.Get = omega arith
-index_low Form.Hash = omega arith
+index_tested : (form : Form) → nat_lt (index_of form) (length FORMS) ≡ true
+unfolding index_of index_in
+index_tested Form.Empty = refl
+index_tested _ = refl
+
+index_low : (form : Form) → index_of form < length FORMS
+index_low form = below _ _ (index_tested form)
+  where
+    below : (m n : ℕ) → nat_lt m n ≡ true → m < n
+    below m n h = grind (arith, nat_tests)
 
 -- a line was held against the first so many forms, and goes along with one of them for most bytes
 pub record Tried (line : Bytes) (tried most : ℕ) : Type 0 where
@@ -101,10 +85,14 @@ tried_none line = record {
 }
 
 form_reach : (form : Form) (line : Bytes) → Reaches (IsOf form) 0 line (reach (word_of form) (fields_of form) line)
-form_reach form line = word_reach (word_of form) (fields_of form) 0 line
+form_reach form line = word_reach (word_of form) (fields_of form) 0 line (ordered form)
 
 reached : (form : Form) (line : Bytes) (fit : Fit) → fit ≡ reach (word_of form) (fields_of form) line → Reaches (IsOf form) 0 line fit
 reached form line fit e = subst (Reaches (IsOf form) 0 line) (sym e) (form_reach form line)
+
+-- how far a line goes along with what a form's functions give
+pub fit_is : (form : Form) (line word : Bytes) (fields : List Field) (fit : Fit) → fit ≡ reach word fields line → word ≡ word_of form → fields ≡ fields_of form → fit ≡ reach (word_of form) (fields_of form) line
+fit_is form line word fields fit e w f = e ∙ (ap (λ (u : Bytes). reach u fields line) w ∙ ap (λ (fs : List Field). reach (word_of form) fs line) f)
 
 pub whole_is : (form : Form) (line : Bytes) (fit : Fit) → fit ≡ reach (word_of form) (fields_of form) line → fit.whole ≡ true → IsOf form line
 whole_is form line fit e w = (reached form line fit e).whole w
@@ -131,8 +119,8 @@ last_or_earlier k i h = elim (lt_or_ge k i) [ inl l ↦ inl l | inr m ↦ inr (o
 fit_begins : (form : Form) (line : Bytes) (fit : Fit) → Reaches (IsOf form) 0 line fit → Begins IsServedLine (take fit.at line)
 fit_begins form line fit r =
     let at : r.k ≡ fit.at = omega (arith, r.at_is) in
-    let c = command_in form (take r.k line ++ r.begins.0) r.begins.1 in
-    subst (λ n. Begins IsServedLine (take n line)) at (c.0, r.begins.0, c.1)
+    let text = take r.k line ++ r.begins.0 in
+    subst (λ n. Begins IsServedLine (take n line)) at (said_by form text, r.begins.0, command_in form text r.begins.1)
 
 -- what `max` of two numbers answers
 greater_is : (now a b : ℕ) → now ≡ ord_max nat_cmp a b → now ≡ max a b
@@ -155,7 +143,7 @@ tried_more line i most now form fit t is e part max_is =
       ];
     }
 
-pub tried_all : (line : Bytes) (i most : ℕ) → 4 ≤ i → Tried line i most → IsBadAt IsServedLine line most
+pub tried_all : (line : Bytes) (i most : ℕ) → length FORMS ≤ i → Tried line i most → IsBadAt IsServedLine line most
 tried_all line i most all t = record {
   no_command = λ c h. let f = form_in c line h in t.none (index_of f.0) (omega (arith, index_low f.0, all)) (subst (λ g. IsOf g line) (sym (at_index f.0)) f.1);
   in_line = t.within;
@@ -164,3 +152,17 @@ tried_all line i most all t = record {
       let f = form_in b.0 (take n line ++ b.1) b.2 in
       t.longest (index_of f.0) (omega (arith, index_low f.0, all)) n far high b.1 (subst (λ g. IsOf g (take n line ++ b.1)) (sym (at_index f.0)) f.1);
 }
+
+-- each line is of a command, or goes wrong at a place
+pub each_line : (line : Bytes) → ((command : Command) × IsServedLine command line) ⊎ ((at : ℕ) × IsBadAt IsServedLine line at)
+each_line line = from (length FORMS) 0 0 refl (tried_none line)
+  where
+    from : (left i most : ℕ) → i + left ≡ length FORMS → Tried line i most → ((command : Command) × IsServedLine command line) ⊎ ((at : ℕ) × IsBadAt IsServedLine line at)
+    from zero i most e t = inr (most, tried_all line i most (omega (arith, e)) t)
+    from (suc left) i most e t =
+        let form = form_at i in
+        let fit = reach (word_of form) (fields_of form) line in
+        elim (either fit.whole) [
+          | inl whole ↦ inl (said_by form line, command_in form line (whole_is form line fit refl whole))
+          | inr part ↦ from left (i + 1) (ord_max nat_cmp most fit.at) (omega (arith, e)) (tried_more line i most (ord_max nat_cmp most fit.at) form fit t refl refl part refl)
+        ]

@@ -6,22 +6,34 @@ use Rattle.std.specs.List.{prefix_len}
 use Rattle.hex.specs.Hex.{is_hex_digit}
 use Rattle.ip_spec.specs.Path.{Bytes}
 use Rattle.ip_script.specs.declared.field.Field.{Field}
-use Rattle.ip_script.specs.declared.field.Field.TheVariants.{Step, Hex}
+use Rattle.ip_script.specs.declared.field.Field.TheVariants.{Step, Hex, Name, Date, Author, Message}
 use Rattle.ip_script.specs.declared.line.Fit.{Fit}
+use Rattle.ip_script.specs.Dates.{date_length}
 
--- bytes that a step is made of
+-- bytes that a message, a word and a step are made of
+abbrev pub is_message_byte : ℕ → Bool
+is_message_byte b = nat_lt b 256 && not (b == 10) && not (b == 0)
+
+abbrev pub is_word_byte : ℕ → Bool
+is_word_byte b = is_message_byte b && not (b == 32)
+
 abbrev pub is_step_byte : ℕ → Bool
-is_step_byte b = nat_lt b 256 && not (b == 47) && not (b == 32) && not (b == 10) && not (b == 0)
+is_step_byte b = is_word_byte b && not (b == 47)
 
 abbrev pub field_length : Field → Bytes → ℕ
 field_length Step text = min 255 (prefix_len is_step_byte text)
 field_length Hex [] = 0
 field_length Hex (b ∷ text) = if b == 45 then 1 else prefix_len is_hex_digit (b ∷ text)
+field_length Name [] = 0
+field_length Name (b ∷ text) = if b == 64 then 0 else min 255 (prefix_len is_word_byte (b ∷ text))
+field_length Date text = date_length text
+field_length Author text = min 255 (prefix_len is_word_byte text)
+field_length Message text = min 4096 (prefix_len is_message_byte text)
 
 abbrev pub is_whole_field : Field → Bytes → ℕ → Bool
-is_whole_field Step text n = nat_lt 0 n
 is_whole_field Hex [] n = false
 is_whole_field Hex (b ∷ text) n = (b == 45) || (nat_lt 0 n && n % 2 == 0)
+is_whole_field _ text n = nat_lt 0 n
 
 -- fields, each behind one space, from a place on
 abbrev pub reach_fields : List Field → ℕ → Bytes → Fit

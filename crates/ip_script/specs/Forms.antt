@@ -1,36 +1,34 @@
 -- The forms of the lines that are served: a first word, and fields behind it.
---     IsField field text      the texts of a field
---     IsForm word fields line      a word, and fields behind it, each behind one space
-use Rattle.std.specs.Prelude.{◌≡◌, List, [], ◌∷◌, ◌++◌, codes}
-use Rattle.ip_base.specs.PathText.{IsStep}
+--     word_of form, fields_of form      its first word, and the fields behind it
+--     command_at form text      the command of a form whose words these are
+use Rattle.std.specs.Prelude.{List, [], ◌∷◌, codes}
 use Rattle.ip_spec.specs.Path.{Bytes}
-use Rattle.ip_spec.specs.Line.{IsHexText}
+use Rattle.ip_spec.specs.declared.command.Command.{Command}
 use Rattle.ip_script.specs.declared.field.Field.{Field}
-use Rattle.ip_script.specs.declared.field.Field.TheVariants.{Step, Hex}
+use Rattle.ip_script.specs.declared.field.Field.TheVariants.{Step, Hex, Name, Date, Author, Message}
 use Rattle.ip_script.specs.declared.line.Form.{Form}
+use Rattle.ip_script.specs.Words.{word_at, left_at, contents_of, info_at}
 
 abbrev pub word_of : Form → Bytes
 word_of Form.Empty = codes "empty"
 word_of Form.Set = codes "set"
 word_of Form.Get = codes "get"
+word_of Form.Commit = codes "commit"
 word_of Form.Hash = codes "hash"
+word_of Form.Stat = codes "stat"
 
 abbrev pub fields_of : Form → List Field
 fields_of Form.Empty = []
 fields_of Form.Set = Step ∷ Hex ∷ []
 fields_of Form.Get = Step ∷ []
+fields_of Form.Commit = Name ∷ Date ∷ Author ∷ Message ∷ []
 fields_of Form.Hash = Hex ∷ []
+fields_of Form.Stat = []
 
-abbrev pub IsField : Field → Bytes → Type 0
-IsField Step text = IsStep text
-IsField Hex text = (bytes : Bytes) × IsHexText bytes text
-
-abbrev pub AreFields : List Field → Bytes → Type 0
-AreFields [] text = text ≡ []
-AreFields (field ∷ fields) text = (value : Bytes) × (rest : Bytes) × IsField field value × AreFields fields rest × (text ≡ 32 ∷ (value ++ rest))
-
-abbrev pub IsForm : Bytes → List Field → Bytes → Type 0
-IsForm word fields line = (rest : Bytes) × AreFields fields rest × (line ≡ word ++ rest)
-
-abbrev pub IsOf : Form → Bytes → Type 0
-IsOf form line = IsForm (word_of form) (fields_of form) line
+abbrev pub command_at : Form → Bytes → Command
+command_at Form.Empty text = Command.Empty
+command_at Form.Set text = Command.Set (word_at Step text ∷ []) (contents_of (word_at Hex (left_at Step text)))
+command_at Form.Get text = Command.Get (word_at Step text ∷ [])
+command_at Form.Commit text = Command.Commit (word_at Name text) (info_at (left_at Name text))
+command_at Form.Hash text = Command.Hash (contents_of (word_at Hex text))
+command_at Form.Stat text = Command.Stat

@@ -1,3 +1,5 @@
 pub mod Brief
+pub mod Dates
 pub mod Fields
 pub mod Forms
+pub mod Words

@@ -2,19 +2,37 @@
 ghost use Rattle.std.specs.Prelude.{◌≡◌, ◌≤◌, length};
 ghost use Rattle.std.specs.List.{prefix_len};
 ghost use Rattle.hex.specs.Hex.{is_hex_digit};
-ghost use Rattle.ip_script.specs.Fields.{is_step_byte, field_length, is_whole_field};
+ghost use Rattle.ip_script.specs.Fields.{is_message_byte, is_word_byte, is_step_byte, field_length, is_whole_field};
 
-/// What a word may say.
+use crate::date::date_at;
+
+/// What a word may say. The bytes of a message are the rest of its line, so nothing stands behind it.
 #[derive(Clone, Copy, Debug, PartialEq, Eq)]
 pub enum Field {
     Step,
     Hex,
+    Name,
+    Date,
+    Author,
+    Message,
+}
+
+fn is_message_byte(byte: u8) -> bool
+    ensures { result ≡ is_message_byte byte }
+{
+    byte != b'\n' && byte != 0
+}
+
+fn is_word_byte(byte: u8) -> bool
+    ensures { result ≡ is_word_byte byte }
+{
+    is_message_byte(byte) && byte != b' '
 }
 
 fn is_step_byte(byte: u8) -> bool
     ensures { result ≡ is_step_byte byte }
 {
-    byte != b'/' && byte != b' ' && byte != b'\n' && byte != 0
+    is_word_byte(byte) && byte != b'/'
 }
 
 fn is_hex_digit(byte: u8) -> bool
@@ -23,28 +41,34 @@ fn is_hex_digit(byte: u8) -> bool
     matches!(byte, b'A'..=b'F' | b'a'..=b'f' | b'0'..=b'9')
 }
 
+fn message_length(text: &[u8]) -> usize
+    ensures value { result ≡ prefix_len is_message_byte text.now }
+    ensures bound { result ≤ length text.now }
+{
+    text.iter()
+        .take_while(|byte| is_message_byte(**byte))
+        .count()
+}
+
+fn word_length(text: &[u8]) -> usize
+    ensures value { result ≡ prefix_len is_word_byte text.now }
+    ensures bound { result ≤ length text.now }
+{
+    text.iter().take_while(|byte| is_word_byte(**byte)).count()
+}
+
 fn step_length(text: &[u8]) -> usize
     ensures value { result ≡ prefix_len is_step_byte text.now }
     ensures bound { result ≤ length text.now }
 {
-    for (i, byte) in text.iter().enumerate() {
-        if !is_step_byte(*byte) {
-            return i;
-        }
-    }
-    text.len()
+    text.iter().take_while(|byte| is_step_byte(**byte)).count()
 }
 
 fn digits_length(text: &[u8]) -> usize
     ensures value { result ≡ prefix_len is_hex_digit text.now }
     ensures bound { result ≤ length text.now }
 {
-    for (i, byte) in text.iter().enumerate() {
-        if !is_hex_digit(*byte) {
-            return i;
-        }
-    }
-    text.len()
+    text.iter().take_while(|byte| is_hex_digit(**byte)).count()
 }
 
 /// How many bytes from the front may be part of the field.
@@ -59,6 +83,13 @@ pub fn field_length(field: Field, text: &[u8]) -> usize
             [b'-', ..] => 1,
             _ => digits_length(text),
         },
+        Field::Name => match text {
+            [] | [b'@', ..] => 0,
+            _ => word_length(text).min(255),
+        },
+        Field::Date => date_at(text).length,
+        Field::Author => word_length(text).min(255),
+        Field::Message => message_length(text).min(4096),
     }
 }
 
@@ -66,12 +97,10 @@ pub fn field_length(field: Field, text: &[u8]) -> usize
 pub fn is_whole(field: Field, text: &[u8], length: usize) -> bool
     ensures { result ≡ is_whole_field field text.now length }
 {
-    match field {
-        Field::Step => length > 0,
-        Field::Hex => match text {
-            [] => false,
-            [b'-', ..] => true,
-            _ => length > 0 && length % 2 == 0,
-        },
+    match (field, text) {
+        (Field::Hex, []) => false,
+        (Field::Hex, [b'-', ..]) => true,
+        (Field::Hex, _) => length > 0 && length % 2 == 0,
+        _ => length > 0,
     }
 }

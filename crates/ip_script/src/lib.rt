@@ -1,12 +1,14 @@
 //! A script's side of the store: where its bytes come from, which line is which command, and the texts of replies.
 #![tactic(auto)]
 
+mod date;
 mod field;
 mod line;
 mod reply;
 mod source;
 #[cfg(test)]
 mod tests;
+mod words;
 
 pub use ip_spec::command::{Command, LineFault, Target};
 pub use ip_spec::reply::Reply;

@@ -1,18 +1,17 @@
 // Which line is which command.
-ghost use Rattle.std.specs.Prelude.{◌≡◌, ◌⊎◌, ◌≢◌, ℕ, ◌+◌, ◌<◌, [], ◌∷◌, length, take, drop, Err, IfOk, IsOk, IsFalse, ◌==◌};
+ghost use Rattle.std.specs.Prelude.{◌≡◌, ◌⊎◌, ◌≢◌, ℕ, [], Err, IfOk, IsOk, IsFalse, ◌==◌};
 ghost use Rattle.std.specs.List.{list_any};
 ghost use Rattle.ip_base.specs.PathText.{space};
 ghost use Rattle.ip_spec.specs.Path.{Bytes};
 ghost use Rattle.ip_spec.specs.declared.command.Command.{Command};
 ghost use Rattle.ip_spec.specs.declared.command.LineFault.TheVariants as LineFault;
-ghost use Rattle.ip_spec.specs.Line.{Reads, IsServedLine, IsBadAt, IsHexText};
-ghost use Rattle.ip_script.specs.Fields.{reach, field_length};
-ghost use Rattle.ip_script.specs.Forms.{word_of, fields_of, IsField, IsOf};
-ghost use Rattle.ip_script.specs.declared.field.Field.TheVariants as Field;
-ghost use Rattle.ip_script.specs.declared.line.Form.TheVariants as Form;
+ghost use Rattle.ip_spec.specs.Line.{Reads, IsServedLine, IsBadAt};
+ghost use Rattle.ip_script.specs.Fields.{reach};
+ghost use Rattle.ip_script.specs.Forms.{word_of, fields_of, command_at};
 
 use crate::field::{Field, field_length, is_whole};
-use ip_base::{Blob, Items, Memory, Path, Step};
+use crate::words::Words;
+use ip_base::Memory;
 use ip_spec::command::{Command, LineFault};
 use std::alloc::Global;
 
@@ -22,10 +21,19 @@ enum Form {
     Empty,
     Set,
     Get,
+    Commit,
     Hash,
+    Stat,
 }
 
-const FORMS: [Form; 4] = [Form::Empty, Form::Set, Form::Get, Form::Hash];
+const FORMS: [Form; 6] = [
+    Form::Empty,
+    Form::Set,
+    Form::Get,
+    Form::Commit,
+    Form::Hash,
+    Form::Stat,
+];
 
 impl Form {
     fn word(self) -> &'static [u8]
@@ -35,7 +43,9 @@ impl Form {
             Form::Empty => b"empty",
             Form::Set => b"set",
             Form::Get => b"get",
+            Form::Commit => b"commit",
             Form::Hash => b"hash",
+            Form::Stat => b"stat",
         }
     }
 
@@ -46,7 +56,9 @@ impl Form {
             Form::Empty => &[],
             Form::Set => &[Field::Step, Field::Hex],
             Form::Get => &[Field::Step],
+            Form::Commit => &[Field::Name, Field::Date, Field::Author, Field::Message],
             Form::Hash => &[Field::Hex],
+            Form::Stat => &[],
         }
     }
 }
@@ -86,76 +98,25 @@ fn reach(word: &[u8], fields: &[Field], line: &[u8]) -> Fit
     }
 }
 
-// The path of one step at the front of a text.
-fn path_at(alloc: Global, text: &[u8]) -> Result<Path, Memory>
-    ensures { IfOk result (λ path. path ≡ take (field_length Field.Step text.now) text.now ∷ []) }
+// The command of the words behind the first one.
+fn command_of(alloc: Global, form: Form, text: &[u8]) -> Result<Command, Memory>
+    ensures command { IfOk result (λ command. command ≡ command_at form text.now) }
+    ensures no_words { fields_of form ≡ [] → IsOk result }
 {
-    let length = field_length(Field::Step, text);
-    let step = Step::of(Blob::copy_of(alloc, &text[..length])?);
-    let mut steps = Items::empty(alloc);
-    steps.push(step)?;
-    Ok(Path::of(steps))
-}
-
-// The bytes that a whole text spells.
-fn bytes_of(alloc: Global, text: &[u8]) -> Result<Blob, Memory>
-    requires { IsField Field.Hex text.now }
-    ensures { IfOk result (λ bytes. IsHexText bytes text.now) }
-{
-    if text == b"-".as_slice() {
-        return Ok(Blob::empty(alloc));
-    }
-    match hex::decode(alloc, text) {
-        Ok(bytes) => Ok(Blob::of(bytes)),
-        Err(_) => Err(Memory),
-    }
-}
-
-// What stands behind the step at the front of a text and one byte more.
-fn behind_step(text: &[u8]) -> &[u8]
-    requires { field_length Field.Step text.now < length text.now }
-    ensures { result.now ≡ drop (field_length Field.Step text.now + 1) text.now }
-{
-    let step = field_length(Field::Step, text);
-    &text[step + 1..]
-}
-
-fn set_of(alloc: Global, line: &[u8]) -> Result<Command, Memory>
-    requires { IsOf Form.Set line.now }
-    ensures { IfOk result (λ command. IsServedLine command line.now) }
-{
-    let text = &line[b"set ".len()..];
-    Ok(Command::Set {
-        path: path_at(alloc, text)?,
-        contents: bytes_of(alloc, behind_step(text))?,
-    })
-}
-
-fn get_of(alloc: Global, line: &[u8]) -> Result<Command, Memory>
-    requires { IsOf Form.Get line.now }
-    ensures { IfOk result (λ command. IsServedLine command line.now) }
-{
-    Ok(Command::Get(path_at(alloc, &line[b"get ".len()..])?))
-}
-
-fn hash_of(alloc: Global, line: &[u8]) -> Result<Command, Memory>
-    requires { IsOf Form.Hash line.now }
-    ensures { IfOk result (λ command. IsServedLine command line.now) }
-{
-    Ok(Command::Hash(bytes_of(alloc, &line[b"hash ".len()..])?))
-}
-
-// The command of a line of this form.
-fn command_of(alloc: Global, form: Form, line: &[u8]) -> Result<Command, Memory>
-    requires { IsOf form line.now }
-    ensures command { IfOk result (λ command. IsServedLine command line.now) }
-    ensures empty { form ≡ Form.Empty → IsOk result }
-{
+    let mut words = Words::new(text);
     match form {
         Form::Empty => Ok(Command::Empty),
-        Form::Set => set_of(alloc, line),
-        Form::Get => get_of(alloc, line),
-        Form::Hash => hash_of(alloc, line),
+        Form::Set => Ok(Command::Set {
+            path: words.path(alloc)?,
+            contents: words.contents(alloc)?,
+        }),
+        Form::Get => Ok(Command::Get(words.path(alloc)?)),
+        Form::Commit => Ok(Command::Commit {
+            branch: words.text(alloc, Field::Name)?,
+            info: words.info(alloc)?,
+        }),
+        Form::Hash => Ok(Command::Hash(words.contents(alloc)?)),
+        Form::Stat => Ok(Command::Stat),
     }
 }
 
@@ -166,9 +127,10 @@ pub fn read_line(alloc: Global, line: &[u8]) -> Result<Command, LineFault>
 {
     let mut most = 0;
     for form in FORMS {
-        let fit = reach(form.word(), form.fields(), line);
+        let word = form.word();
+        let fit = reach(word, form.fields(), line);
         if fit.whole {
-            return match command_of(alloc, form, line) {
+            return match command_of(alloc, form, &line[word.len()..]) {
                 Ok(command) => Ok(command),
                 Err(Memory) => Err(LineFault::Memory),
             };

@@ -4,7 +4,7 @@ ghost use Rattle.std.specs.Vec.{vec_capacity};
 ghost use Rattle.std.specs.Fmt.{decimal};
 ghost use Rattle.std.specs.List.{join_with_byte};
 ghost use Rattle.ip_base.specs.PathText.{space, slash, path_text};
-ghost use Rattle.ip_spec.specs.Text.{digit, hex_text, value_text, reply_text, words_of, limit_text, exit_text, seen_text, kind_text, counted, phase_words, left_words, produced_text};
+ghost use Rattle.ip_spec.specs.Text.{digit, hex_text, reply_text, words_of, limit_text, exit_text, seen_text, kind_text, counted, phase_words, left_words, produced_text};
 ghost use Rattle.ip_spec.specs.declared.reply.Reply.TheVariants as Reply;
 ghost use Rattle.ip_script.specs.Brief.{is_brief};
 
@@ -38,10 +38,11 @@ fn put_hex(bytes: &[u8], out: &mut Vec<u8>) -> Result<(), Memory>
 }
 
 fn put_value(bytes: &[u8], out: &mut Vec<u8>) -> Result<(), Memory>
-    ensures ok { OnOk result (out.new.items ≡ out.old.items ++ value_text bytes.now) }
-    ensures room { OnErr result (vec_capacity out.old < vec_len out.old + length (value_text bytes.now)) }
+    ensures ok { OnOk result (out.new.items ≡ out.old.items ++ join_with_byte space (words_of (Reply.Value bytes.now))) }
+    ensures room { OnErr result (vec_capacity out.old < vec_len out.old + length (join_with_byte space (words_of (Reply.Value bytes.now)))) }
     ensures capacity { vec_capacity out.old ≤ vec_capacity out.new }
 {
+    out.extend_from_slice(b"value ")?;
     match bytes {
         [] => Ok(out.push(b'-')?),
         _ => put_hex(bytes, out),
@@ -233,6 +234,15 @@ fn put_path(steps: &[Step], out: &mut Vec<u8>) -> Result<(), Memory>
     }
 }
 
+fn put_conflict(steps: &[Step], out: &mut Vec<u8>) -> Result<(), Memory>
+    ensures ok { OnOk result (out.new.items ≡ out.old.items ++ join_with_byte space (words_of (Reply.Conflict steps.now))) }
+    ensures room { OnErr result (vec_capacity out.old < vec_len out.old + length (join_with_byte space (words_of (Reply.Conflict steps.now)))) }
+    ensures capacity { vec_capacity out.old ≤ vec_capacity out.new }
+{
+    out.extend_from_slice(b"conflict ")?;
+    put_path(steps, out)
+}
+
 // A word, the number of hashes, and each.
 fn put_counted(word: &[u8], hashes: &[Hash], out: &mut Vec<u8>) -> Result<(), Memory>
     ensures ok { OnOk result (out.new.items ≡ out.old.items ++ join_with_byte space (word.now ∷ counted hashes.now)) }
@@ -393,10 +403,7 @@ fn put_longer(reply: &Reply, out: &mut Vec<u8>) -> Result<(), Memory>
 {
     match reply {
         Reply::Collected { floor, left } => put_collected(*floor, *left, out),
-        Reply::Value(bytes) => {
-            out.extend_from_slice(b"value ")?;
-            put_value(bytes.as_slice(), out)
-        }
+        Reply::Value(bytes) => put_value(bytes.as_slice(), out),
         Reply::List(items) => put_listing(items.as_slice(), out),
         Reply::Branches(heads) => put_branches(heads.as_slice(), out),
         Reply::Commit {
@@ -410,10 +417,7 @@ fn put_longer(reply: &Reply, out: &mut Vec<u8>) -> Result<(), Memory>
         Reply::Lcas(hashes) => put_counted(b"lcas", hashes.as_slice(), out),
         Reply::Held(name) => put_word(b"held", name.as_slice(), out),
         Reply::NoBranch(name) => put_word(b"no-branch", name.as_slice(), out),
-        Reply::Conflict(path) => {
-            out.extend_from_slice(b"conflict ")?;
-            put_path(path.steps(), out)
-        }
+        Reply::Conflict(path) => put_conflict(path.steps(), out),
         Reply::Limit(limit) => put_word(b"limit", limit_word(*limit), out),
         Reply::RejectedExit(exit) => {
             out.extend_from_slice(b"rejected exit ")?;

@@ -19,7 +19,7 @@ fn bad_at(alloc: Global, line: &[u8]) -> Option<u64> {
 fn lines_go_wrong_where_the_grammar_says(rt: HostRuntime) {
     let lines = [
         (b"".as_slice(), Some(0)),
-        (b"comit", Some(0)),
+        (b"comit", Some(3)),
         (b"em", Some(2)),
         (b"empty", None),
         (b"empty ", Some(5)),
@@ -33,6 +33,20 @@ fn lines_go_wrong_where_the_grammar_says(rt: HostRuntime) {
         (b"get a//b", Some(5)),
         (b"hash -0", Some(6)),
         (b"hash 0g", Some(6)),
+        (b"stat", None),
+        (b"stat x", Some(4)),
+        (b"commit main 0 a m", None),
+        (b"commit main 0 a  m ", None),
+        (b"commit @x 0 a m", Some(7)),
+        (b"commit a@ 0 a m", None),
+        (b"commit main 007 a m", Some(13)),
+        (b"commit main -1 a m", Some(12)),
+        (b"commit main 18446744073709551615 a m", None),
+        (b"commit main 18446744073709551616 a m", Some(31)),
+        (b"commit main 0  m", Some(14)),
+        (b"commit main 0 a", Some(15)),
+        (b"commit main 0 a ", Some(16)),
+        (b"commit main 0 a \0", Some(16)),
     ];
     for (line, want) in lines {
         assert_eq!(rt; bad_at(rt.alloc(), line), want, "{line:?}");
@@ -40,15 +54,24 @@ fn lines_go_wrong_where_the_grammar_says(rt: HostRuntime) {
 }
 
 #[test]
-fn a_step_has_255_bytes_at_most(rt: HostRuntime) -> Result<(), Fail> {
+fn a_word_has_so_many_bytes_at_most(rt: HostRuntime) -> Result<(), Fail> {
     let alloc = rt.alloc();
-    let mut line = Vec::from_slice(alloc, b"get ")?;
-    for _ in 0..255 {
-        line.push(b's')?;
+    let rows = [
+        (b"get ".as_slice(), 255, b"".as_slice(), None),
+        (b"get ", 256, b"", Some(259)),
+        (b"commit ", 255, b" 0 a m", None),
+        (b"commit ", 256, b" 0 a m", Some(262)),
+        (b"commit b 0 ", 255, b" m", None),
+        (b"commit b 0 ", 256, b" m", Some(266)),
+        (b"commit b 0 a ", 4096, b"", None),
+        (b"commit b 0 a ", 4097, b"", Some(4109)),
+    ];
+    for (front, size, back, want) in rows {
+        let mut line = Vec::from_slice(alloc, front)?;
+        line.resize(line.len() + size, b's')?;
+        line.extend_from_slice(back)?;
+        assert_eq!(rt; bad_at(alloc, &line), want, "{front:?}");
     }
-    assert_eq!(rt; bad_at(alloc, &line), None);
-    line.push(b's')?;
-    assert_eq!(rt; bad_at(alloc, &line), Some(259));
     Ok(())
 }
 
@@ -59,6 +82,23 @@ fn digits_of_either_case_are_read(rt: HostRuntime) -> Result<(), Fail> {
             assert_eq!(rt; path.steps().len(), 1);
             assert_eq!(rt; path.steps()[0].bytes(), b"step".as_slice());
             assert_eq!(rt; contents.as_slice(), [10, 255].as_slice());
+            Ok(())
+        }
+        _ => Err("no command")?,
+    }
+}
+
+#[test]
+fn a_message_is_the_rest_of_the_line(rt: HostRuntime) -> Result<(), Fail> {
+    match read_line(
+        rt.alloc(),
+        b"commit main 18446744073709551615 me  all of it ",
+    ) {
+        Ok(Command::Commit { branch, info }) => {
+            assert_eq!(rt; branch.as_slice(), b"main".as_slice());
+            assert_eq!(rt; info.date, u64::MAX);
+            assert_eq!(rt; info.author.as_slice(), b"me".as_slice());
+            assert_eq!(rt; info.message.as_slice(), b" all of it ".as_slice());
             Ok(())
         }
         _ => Err("no command")?,

@@ -147,13 +147,15 @@ none_served text apart (c, rest, (served, is)) =
     no_true : {b : Bool} → b ≡ false → b ≡ true → ⊥
     no_true f t = cc
 
-st_apart : (tail : Bytes) (c : Command) → IsServed c → agree (115 ∷ 116 ∷ tail) (first_word c) ≡ false
+sh_apart : (tail : Bytes) (c : Command) → IsServed c → agree (115 ∷ 104 ∷ tail) (first_word c) ≡ false
 unfolding agree
-st_apart tail Command.Empty served = refl
-st_apart tail (Command.Set path bytes) served = refl
-st_apart tail (Command.Get path) served = refl
-st_apart tail (Command.Hash bytes) served = refl
-st_apart tail _ served = absurd served
+sh_apart tail Command.Empty served = refl
+sh_apart tail (Command.Set path bytes) served = refl
+sh_apart tail (Command.Get path) served = refl
+sh_apart tail (Command.Commit branch info) served = refl
+sh_apart tail (Command.Hash bytes) served = refl
+sh_apart tail Command.Stat served = refl
+sh_apart tail _ served = absurd served
 
 one_step : IsPath (codes "a" ∷ [])
 one_step = record { some = lit< tt; short = lit≤ tt; each = All-from_recursion IsStep (codes "a" ∷ []) (step, tt) }
@@ -164,15 +166,15 @@ one_step = record { some = lit< tt; short = lit≤ tt; each = All-from_recursion
 set_line : IsServedLine (Command.Set (codes "a" ∷ []) []) (codes "set a -")
 set_line = (refl, (codes "a", (one_step, refl), (codes "-", refl, refl)))
 
-stat_longest : (n : ℕ) → 1 < n → n ≤ 4 → ¬ (Begins IsServedLine (take n (codes "stat")))
-stat_longest zero l h = absurd (omega (arith, l))
-stat_longest (suc zero) l h = absurd (omega (arith, l))
-stat_longest (suc (suc n)) l h = none_served (115 ∷ 116 ∷ take n (codes "at")) (st_apart (take n (codes "at")))
+show_longest : (n : ℕ) → 1 < n → n ≤ 4 → ¬ (Begins IsServedLine (take n (codes "show")))
+show_longest zero l h = absurd (omega (arith, l))
+show_longest (suc zero) l h = absurd (omega (arith, l))
+show_longest (suc (suc n)) l h = none_served (115 ∷ 104 ∷ take n (codes "ow")) (sh_apart (take n (codes "ow")))
 
-a_line_not_served_goes_wrong_where_the_served_ones_end : IsBadAt IsServedLine (codes "stat") 1
+a_line_not_served_goes_wrong_where_the_served_ones_end : IsBadAt IsServedLine (codes "show") 1
 a_line_not_served_goes_wrong_where_the_served_ones_end = record {
-  no_command = λ c is. none_served (codes "stat") (st_apart (codes "at")) (c, [], is);
+  no_command = λ c is. none_served (codes "show") (sh_apart (codes "ow")) (c, [], is);
   in_line = lit≤ tt;
   begins = (Command.Set (codes "a" ∷ []) [], codes "et a -", set_line);
-  longest = stat_longest;
+  longest = show_longest;
 }

@@ -113,7 +113,9 @@ abbrev pub IsServed : Command → Type 0
 IsServed Command.Empty = Unit {0}
 IsServed (Command.Set path bytes) = length path ≡ 1
 IsServed (Command.Get path) = length path ≡ 1
+IsServed (Command.Commit branch info) = Unit {0}
 IsServed (Command.Hash bytes) = Unit {0}
+IsServed Command.Stat = Unit {0}
 IsServed command = ⊥
 
 -- which lines each command has

@@ -129,7 +129,7 @@ module _ (ys : Entries) (sorted : T (is_sorted bytes_cmp ys)) (s : Bytes) where
 
 -- ---- the width
 
-abbrev with_sub : Bytes × Bytes → Bytes × Tree
+abbrev pub with_sub : Bytes × Bytes → Bytes × Tree
 with_sub y = (y.0, contents y.1)
 
 below_sub : (x : Bytes) (ys : Entries) → below_all bytes_cmp x (map with_sub ys) ≡ below_all bytes_cmp x ys
@@ -167,11 +167,15 @@ module _ (ys : Entries) (sorted : T (is_sorted bytes_cmp ys)) where
   unfolding directory
   entries_flat = same_map nat_list_cmp_total step_antisymmetric _ _ (λ s. get-entries_of (flat ys) s ∙ entry_at (find bytes_cmp s ys) (subtree (flat ys) (s ∷ [])) (subtree_flat ys sorted s) ∙ sym (find_sub s ys))
 
+  pub sub_entries : (entries_of (flat ys)).entries ≡ map with_sub ys
+  unfolding directory
+  sub_entries = ap (λ (m : Map bytes_cmp Tree). m.entries) entries_flat
+
   width : len (entries_of (subtree (flat ys) [])) ≡ length ys
   unfolding directory
   width = ap (λ (t : Tree). len (entries_of t)) (subtree_root (flat ys)) ∙ ap len entries_flat ∙ length_map with_sub ys
 
-  flat_entries : (flat ys).entries ≡ map at_root ys
+  pub flat_entries : (flat ys).entries ≡ map at_root ys
   unfolding flat
   flat_entries = ap (λ (t : Tree). t.entries) (same_tree (flat ys) as_map (λ q. get-sorted (map at_root ys) q as_map.sorted))
     where

@@ -1,4 +1,12 @@
+pub mod Batches
+pub mod Commits
 pub mod Control
 pub mod Opening
+pub mod Found
+pub mod Laid
 pub mod Entries
+pub mod Publishing
+pub mod Store
+pub mod Walk
+pub mod Window
 pub mod Work

@@ -1,16 +1,16 @@
 -- What making a store does, and opening one, between what a ground tells before and after.
-use Rattle.std.specs.Prelude.{◌≡◌, ◌≢◌, ℕ, None, IsSome, Result, OnOk, IsErrOf}
+use Rattle.std.specs.Prelude.{◌≡◌, ◌≢◌, ℕ, None, IsSome, Result, OnOk, IfOk, IsErrOf}
 use Rattle.ip_ground.specs.declared.names.FileName.{FileName}
 use Rattle.ip_ground.specs.declared.names.FileName.TheVariants.{Control}
 use Rattle.ip_ground.specs.Told.{Told, ChangesOnly, Only, NoFile, IsKept, EachImageNow}
-use Rattle.ip_spec.specs.Path.{Bytes}
-use Rattle.ip_spec.specs.Repository.{no_repository}
-use Rattle.ip_image.specs.Slot.{live_index, fresh_control}
-use Rattle.ip_image.specs.Standing.{StandsFor}
+use Rattle.ip_spec.specs.Repository.{Repository, no_repository}
+use Rattle.ip_image.specs.Slot.{live_index}
+use Rattle.ip_image.specs.Standing.{StandsFor, NoStore, DamagedAt}
 use Rattle.ip_store.specs.declared.store.InitFault.{InitFault}
-use Rattle.ip_store.specs.declared.store.OpenFault.{OpenFault}
+use Rattle.ip_store.specs.declared.opening.OpenFault.{OpenFault}
 use Rattle.ip_store.specs.declared.store.Store.{Store}
-use Rattle.ip_store.specs.Control.{control_in, default_chunk, IsFresh}
+use Rattle.ip_store.specs.Control.{control_in, IsFresh}
+use Rattle.ip_store.specs.Store.{IsSound}
 
 pub record Makes (chunk : ℕ) (result : Result (Unit {0}) InitFault) (old new : Told) : Type 0 where
   -- no other file changes at any moment, nothing is said, none is lent or settled
@@ -24,20 +24,9 @@ pub record Makes (chunk : ℕ) (result : Result (Unit {0}) InitFault) (old new :
   pub kept : OnOk result (IsKept new Control)
   pub stands : OnOk result (EachImageNow new (λ image. StandsFor image no_repository))
 
--- what is found in the first bytes of a control file
-pub record OpensOn (control : Bytes) (result : Result Store OpenFault) : Type 0 where
-  pub no_store : IsErrOf result OpenFault.NoStore → live_index control ≡ None
-  pub damaged : (file : FileName) (at : ℕ) → IsErrOf result (OpenFault.Damaged file at)
-      → IsSome (live_index control) × (control ≢ fresh_control default_chunk) × (file ≡ Control) × (at ≡ 0)
-  pub fresh : OnOk result (control ≡ fresh_control default_chunk)
-  pub no_fault : ¬ (IsErrOf result OpenFault.Ground)
-
 pub record Opens (result : Result Store OpenFault) (old new : Told) : Type 0 where
   -- no file changes at any moment, nothing is said, none is lent or settled
   pub only : ChangesOnly NoFile old new
-  pub no_store : IsErrOf result OpenFault.NoStore → live_index (control_in new.held) ≡ None
-  pub damaged : (file : FileName) (at : ℕ) → IsErrOf result (OpenFault.Damaged file at)
-      → IsSome (live_index (control_in new.held)) × ¬ (IsFresh default_chunk new.held) × (file ≡ Control) × (at ≡ 0)
-  pub fresh : OnOk result (IsFresh default_chunk new.held)
-  pub kept : OnOk result (IsKept new Control)
-  pub stands : OnOk result (EachImageNow new (λ image. StandsFor image no_repository))
+  pub no_store : IsErrOf result OpenFault.NoStore → NoStore new.held
+  pub damaged : (file : FileName) (at : ℕ) → IsErrOf result (OpenFault.Damaged file at) → DamagedAt new.held file at
+  pub holds : IfOk result (λ store. IsSound store new)

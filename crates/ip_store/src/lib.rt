@@ -1,10 +1,21 @@
 //! The store: making its folder's control file, opening it, and the work of a session.
 #![tactic(auto)]
 
+mod batch;
+mod branches;
+mod committing;
+mod opening;
+mod publish;
 mod store;
 mod tree;
+mod walk;
+mod window;
 mod work;
 
-pub use store::{DEFAULT_CHUNK, InitFault, OpenFault, Store, chunk_allowed};
+pub use batch::{Batch, CommitFields};
+pub use branches::Branches;
+pub use committing::StoreFault;
+pub use opening::OpenFault;
+pub use store::{DEFAULT_CHUNK, InitFault, Store, chunk_allowed};
 pub use tree::{Tree, TreeFault};
 pub use work::Work;

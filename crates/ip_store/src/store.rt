@@ -4,9 +4,13 @@ ghost use Rattle.ip_ground.specs.Counts.{NoneFalls, Rose};
 ghost use Rattle.ip_ground.specs.Told.{NoFile, ChangesOnly};
 ghost use Rattle.ip_image.specs.Slot.{IsChunkSize, live_index, fresh_control};
 ghost use Rattle.ip_store.specs.Control.{control_in};
-ghost use Rattle.ip_store.specs.Opening.{Makes, Opens, OpensOn};
+ghost use Rattle.ip_store.specs.Opening.{Makes};
 
+use crate::Branches;
+use ip_audit::Names;
+use ip_control::Slot;
 use ip_ground::{FileName, Ground, GroundFault};
+use ip_spec::met::Met;
 
 /// The bytes of a chunk where nothing else was asked for.
 pub const DEFAULT_CHUNK: u64 = 1048576;
@@ -40,30 +44,15 @@ impl From<GroundFault> for InitFault {
     }
 }
 
-/// Why no store was opened.
-#[derive(Clone, Copy, Debug, PartialEq, Eq)]
-pub enum OpenFault {
-    /// None is there: no slot of the control file is open.
-    NoStore,
-    /// The files are no store's, and this is the first place that shows it.
-    Damaged { file: FileName, at: u64 },
-    /// A call on the ground failed.
-    Ground,
-}
-
-impl From<GroundFault> for OpenFault {
-    ghost use Rattle.ip_store.specs.declared.store.OpenFault.TheVariants as OpenFault;
-
-    ghost from_gives = { λ _ e. e ≡ OpenFault.Ground };
-
-    fn from(_: GroundFault) -> Self {
-        OpenFault::Ground
-    }
-}
-
-/// An open store. So far it is the one without commits.
+/// An open store: its live slot, and what its records say of commits and branches.
 #[derive(Drop)]
-pub struct Store {}
+pub struct Store {
+    pub(crate) index: u8,
+    pub(crate) slot: Slot,
+    pub(crate) names: Names,
+    pub(crate) branches: Branches,
+    pub(crate) met: Met,
+}
 
 impl Store {
     /// Makes a store without commits, whose chunks have so many bytes. It is there for good once this is `Ok`.
@@ -81,38 +70,6 @@ impl Store {
         outside.write(FileName::Control, 0, &fresh_control(chunk))?;
         Ok(outside.sync(FileName::Control)?)
     }
-
-    /// Opens the store. It takes no memory.
-    pub fn open_at<G: Ground>(outside: &mut G) -> Result<Store, OpenFault>
-        ensures does { IsTrue G.tells → Opens result (G.told outside.old) (G.told outside.new) }
-        ensures counts { NoneFalls (G.counts_of outside.old) (G.counts_of outside.new) }
-        ensures cause { IsErrOf result OpenFault.Ground → Rose (G.counts_of outside.old).file_faults (G.counts_of outside.new).file_faults }
-    {
-        if outside.length(FileName::Control)?.is_none() {
-            return Err(OpenFault::NoStore);
-        }
-        // What is read from here on is what a crash leaves.
-        outside.sync(FileName::Control)?;
-        let mut room = [0; 256];
-        let count = outside.read(FileName::Control, 0, &mut room)?;
-        open_on(&room[..count])
-    }
-}
-
-// The store whose control file begins with these bytes.
-fn open_on(control: &[u8]) -> Result<Store, OpenFault>
-    ensures does { OpensOn control.now result }
-{
-    if !has_open_slot(control) {
-        return Err(OpenFault::NoStore);
-    }
-    if control != fresh_control(DEFAULT_CHUNK).as_slice() {
-        return Err(OpenFault::Damaged {
-            file: FileName::Control,
-            at: 0,
-        });
-    }
-    Ok(Store {})
 }
 
 // Whether one of the two slots is whole and open.
@@ -182,18 +139,6 @@ mod tests {
         }
     }
 
-    fn open(bench: &mut Bench) -> Result<(), OpenFault> {
-        Store::open_at(bench)?;
-        Ok(())
-    }
-
-    fn damaged(at: u64) -> Result<(), OpenFault> {
-        Err(OpenFault::Damaged {
-            file: FileName::Control,
-            at,
-        })
-    }
-
     #[test]
     fn chunks_are_powers_of_two(rt: HostRuntime) {
         for (chunk, allowed) in [
@@ -215,7 +160,6 @@ mod tests {
         assert_eq!(rt; ground.read(FileName::Control, 0, &mut out), Ok(256));
         assert_eq!(rt; &out[..256], FRESH.as_slice());
         assert_eq!(rt; init(&mut ground, 4096), Some(Err(InitFault::Existing)));
-        assert_eq!(rt; open(&mut ground), Ok(()));
     }
 
     #[test]
@@ -225,16 +169,5 @@ mod tests {
         let mut out = [0xee; 8];
         assert_eq!(rt; ground.read(FileName::Control, 24, &mut out), Ok(8));
         assert_eq!(rt; out, [0, 0x20, 0, 0, 0, 0, 0, 0]);
-        assert_eq!(rt; open(&mut ground), damaged(0));
-    }
-
-    #[test]
-    fn other_files_are_no_store(rt: HostRuntime) {
-        let mut ground = bench(&rt);
-        assert_eq!(rt; open(&mut ground), Err(OpenFault::NoStore));
-        assert_eq!(rt; ground.write(FileName::Control, 0, &[0; 128]), Ok(()));
-        assert_eq!(rt; open(&mut ground), Err(OpenFault::NoStore));
-        assert_eq!(rt; ground.write(FileName::Control, 0, &[0xa5]), Ok(()));
-        assert_eq!(rt; open(&mut ground), damaged(0));
     }
 }

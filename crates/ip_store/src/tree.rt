@@ -1,8 +1,10 @@
 // The tree of a work. Its paths have one step.
-ghost use Rattle.std.specs.Prelude.{◌≡◌, None, Some, [], ◌∷◌, length, IfOk, OnOk, OnErr, IsErrOf};
+ghost use Rattle.std.specs.Prelude.{◌≡◌, nat_lt, None, Some, [], ◌∷◌, length, IfOk, OnOk, OnErr, IsErrOf};
 ghost use Rattle.ip_base.specs.declared.limit.Limit.{Limit};
-ghost use Rattle.ip_spec.specs.Path.{Bytes};
+ghost use Rattle.ip_image.specs.Appending.{IsFlat};
+ghost use Rattle.ip_spec.specs.Path.{Bytes, IsPath, AreBytes};
 ghost use Rattle.ip_spec.specs.Tree.{no_tree, put, got_at, widest};
+ghost use Rattle.ip_store.specs.Entries.{tree_of, AreKept};
 ghost use Rattle.ip_store.specs.Work.{limit_of};
 ghost use Rattle.ip_store.specs.declared.tree.TreeFault.TheVariants.{Memory};
 
@@ -41,9 +43,8 @@ pub struct Tree {
 }
 
 impl Model for Tree {
-    ghost use Rattle.std.specs.BTreeMap.{IsOrdered};
     ghost use Rattle.ip_spec.specs.Tree.{Tree};
-    ghost use Rattle.ip_store.specs.Entries.{step_cmp, tree_of, tree_code};
+    ghost use Rattle.ip_store.specs.Entries.{tree_of, tree_code, AreKept};
 
     ghost Value = { Tree };
 
@@ -51,7 +52,7 @@ impl Model for Tree {
 
     ghost view = { λ t. tree_of t.entries };
 
-    ghost invariant = { λ t. IsOrdered step_cmp t.entries };
+    ghost invariant = { λ t. AreKept t.entries };
 }
 
 impl Tree {
@@ -77,12 +78,13 @@ impl Tree {
 
     /// Puts contents at a path of one step, over what stood there. An `Err` changes nothing.
     pub fn set(&mut self, path: Path, contents: Blob) -> Result<(), TreeFault>
-        requires { length path ≡ 1 }
+        requires one_step { length path ≡ 1 }
+        requires lawful { IsPath path }
         ensures ok { OnOk result ((limit_of self.old path contents ≡ None) × (self.new ≡ put self.old path contents)) }
         ensures limit { (limit : Limit) → IsErrOf result (TreeFault.Limit limit) → limit_of self.old path contents ≡ Some limit }
         ensures err { OnErr result (self.new ≡ self.old) }
     {
-        if contents.len() > MOST_CONTENTS {
+        if is_long(contents.as_slice()) {
             return Err(TreeFault::Limit(Limit::Contents));
         }
         let step = only_step(path);
@@ -91,6 +93,15 @@ impl Tree {
         }
         self.entries.insert(step, contents)?;
         Ok(())
+    }
+
+    // Its steps in the order of their bytes, each with its contents.
+    pub(crate) fn entries(&self) -> &BTreeMap<Vec<u8>, Blob>
+        ensures tree { tree_of result.now ≡ self.now }
+        ensures kept { AreKept result.now }
+        ensures flat { IsFlat self.now }
+    {
+        &self.entries
     }
 
     // How many entries the tree has once something stands at this step.
@@ -103,6 +114,14 @@ impl Tree {
             self.entries.len() + 1
         }
     }
+}
+
+// Whether contents pass their limit. That each of them is a byte is known of a slice, and not of the list that a `Blob` is seen as.
+fn is_long(contents: &[u8]) -> bool
+    ensures long { result ≡ nat_lt 1048576 (length contents.now) }
+    ensures bytes { AreBytes contents.now }
+{
+    contents.len() > MOST_CONTENTS
 }
 
 // The step of a path that has one.
@@ -119,14 +138,14 @@ fn only_step(path: Path) -> Vec<u8>
 #[cfg(test)]
 mod tests {
     use super::*;
-    use ip_base::{Items, Step};
 
     fn path(alloc: Global, step: u8) -> Result<Path, Memory>
-        ensures { IfOk result (λ p. length p ≡ 1) }
+        ensures { IfOk result (λ p. (length p ≡ 1) × IsPath p) }
     {
-        let mut steps = Items::empty(alloc);
-        steps.push(Step::of(Blob::copy_of(alloc, &[step])?))?;
-        Ok(Path::of(steps))
+        match Path::read(alloc, &[step]) {
+            Ok(path) if path.steps().len() == 1 => Ok(path),
+            _ => Err(Memory),
+        }
     }
 
     fn set(alloc: Global, tree: &mut Tree, step: u8, contents: &[u8]) -> Result<(), TreeFault> {

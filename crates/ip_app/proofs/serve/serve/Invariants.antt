@@ -1,9 +1,6 @@
 use Rattle.std.proofs.Common.{◌-◌, ◌^◌, length}
-use Rattle.ip_spec.specs.Repository.{no_repository}
-use Rattle.ip_spec.specs.Machine.{opened}
 use Rattle.ip_app.specs.Outside.{outside}
 use Rattle.ip_app.specs.Serving.{Served}
-use Rattle.ip_app.specs.Session.{state_of}
 use Rattle.ip_app.specs.Rooms.{IsRoomy}
 use Rattle.ip_app.specs.Pending.{pending}
 use Rattle.ip_app.proofs.serve.serve.Given as goal
@@ -13,7 +10,7 @@ invariant-lines g l =
     let told = outside g.S.Source.tells g.S.Source.left g.S.Source.read_faults g.G.Ground.tells g.G.Ground.told g.G.Ground.counts_of g.L.Log.tells g.L.Log.turns in
     record {
       roomy : IsRoomy l.room;
-      served : Served (told l.fn.source l.fn.ground l.fn.log) (told l.source l.ground l.log) l.room.lines l.counts (opened no_repository) (state_of l.session);
+      served : Served (told l.fn.source l.fn.ground l.fn.log) (told l.source l.ground l.log) l.room.lines l.counts l.session;
     }
 
 abbrev pub decreases-lines : goal.decreases-lines

@@ -1,106 +1,75 @@
-use Rattle.std.proofs.Common.{refl, ◌≡◌, ◌++◌, sym, ap, ◌∙◌, subst, None, OnOk, Result}
-use Rattle.ip_ground.specs.declared.names.GroundCounts.{GroundCounts}
-use Rattle.ip_ground.specs.declared.names.GroundFault.{GroundFault}
-use Rattle.ip_ground.specs.Counts.{NoneFalls}
-use Rattle.ip_ground.specs.Told.{Told, said}
-use Rattle.ip_ground.specs.Calls.{Says}
-use Rattle.ip_image.specs.declared.counts.TurnCounts.{TurnCounts}
-use Rattle.ip_spec.specs.declared.met.Met.{Met}
-use Rattle.ip_spec.specs.declared.reply.Reply.{Reply}
-use Rattle.ip_spec.specs.Path.{Bytes}
-use Rattle.ip_spec.specs.Machine.{State}
-use Rattle.ip_spec.specs.Script.{LineStep}
-use Rattle.ip_app.specs.Exchanges.{Exchange, no_rules}
-use Rattle.ip_app.specs.Session.{state_of, conditions_of}
-use Rattle.ip_app.specs.Serving.{SaysPart}
-use Rattle.ip_app.specs.Turns.{turn_counts, IsLater}
-use Rattle.ip_app.proofs.RunLemmas.{keeps_said, says_part}
+use Rattle.std.proofs.Common.{refl, ap, ◌∙◌}
+use Rattle.ip_ground.proofs.Rising.{none_falls_on, falls_itself, rose_after}
+use Rattle.ip_app.specs.Session.{state_in}
+use Rattle.ip_app.specs.Turns.{turn_counts}
+use Rattle.ip_app.proofs.RunLemmas.{keeps_itself, keeps_two}
+use Rattle.ip_app.proofs.SameFiles.{holds_along}
+use Rattle.ip_app.proofs.TurnLemmas.{exchange_of, turned_of, files_of, said_of, part_of, nothing_said, stops_reading}
 use Rattle.ip_app.proofs.serve.LineRoom.turn.Goals as goal
 
-step_along : (s s' : State) (r : Reply) {l l' : Bytes} {m m' : Met} → l ≡ l' → m ≡ m' → LineStep no_rules s l (conditions_of m) r s' → LineStep no_rules s l' (conditions_of m') r s'
-step_along s s' r {l = l} {m' = m'} e f h = subst (λ (k : Bytes). LineStep no_rules s k (conditions_of m') r s') e (subst (λ (n : Met). LineStep no_rules s l (conditions_of n) r s') f h)
+pub returns-in-Err-clause-stops : goal.returns-in-Err-clause-stops
+returns-in-Err-clause-stops g c r is holds = stops_reading c.in-Err.status _ _ _ _ _ _ (state_in c.args.session.now r) (record {
+  rest = c.next_line.new.line.items;
+  goes_on = record { source_tells = refl; ground_tells = refl; log_tells = λ tells. tells; read_faults = c.next_line.ensures.faults; counts = falls_itself (g.G.Ground.counts_of c.args.ground.now) };
+  files = λ told. keeps_itself (g.G.Ground.told c.args.ground.now);
+  stands = λ told. (holds told).stands;
+  front = c.in-Err.ensures.bytes;
+  no_line_feed = c.in-Err.ensures.rest;
+  count = c.in-Err.ensures.count_err;
+  ends = c.in-Err.ensures.err.ends;
+  cause = c.in-Err.ensures.err.cause;
+  same_said = λ told. refl;
+  same_turns = refl;
+  same_counts = refl;
+  until = c.requires.counted;
+})
 
-risen : (before after : TurnCounts) (a : GroundCounts) → after ≡ turn_counts a → IsLater before (turn_counts a) → IsLater before after
-risen before after a e h = subst (λ (t : TurnCounts). IsLater before t) (sym e) h
+pub returns-in-Ok-say-clause-turned : goal.returns-in-Ok-say-clause-turned
+returns-in-Ok-say-clause-turned g c r is holds =
+    let answered = c.in-Ok.ensures.goes r is in
+    let goes = answered.1 in
+    let text = c.deref-in-Ok.ensures.value ∙ answered.2 in
+    record {
+      exchange = exchange_of c.next_line.new.line.items c.met.result c.args.counts.now c.turn_counts.result answered.0 (state_in c.answer-answered.new.self goes.after);
+      after = goes.after;
+      turned = turned_of _ _ _ _ _ _ _ _ _ _ _ _ answered.0 (g.G.Ground.counts_of c.answer-answered.new.ground)
+          (record { source_tells = refl; ground_tells = refl; log_tells = c.note.ensures.told; read_faults = c.next_line.ensures.faults; counts = none_falls_on _ _ _ c.answer-answered.ensures.counts c.say.ensures.counts })
+          (λ told. files_of _ _ _ answered.0 (goes.only told (holds told)) _ _ (c.say.ensures.does told))
+          c.in_default.ensures.ok c.in_default.ensures.count goes.gives c.deref.ensures.value c.met.ensures c.note.ensures.noted (c.turn_counts.ensures ∙ ap turn_counts c.counts.ensures) c.requires.counted c.answer-answered.ensures.counts c.say.ensures.counts;
+      now_at = refl;
+      is_in = goes.is_in;
+      holds = λ told. holds_along _ _ _ goes.after (c.say.ensures.does told).goes (c.say.ensures.does told).files (goes.holds told (holds told));
+      said = λ told. said_of _ _ _ answered.0 (goes.only told (holds told)) _ _ (c.in-Ok-say.ensures.does told) _ text;
+    }
 
-until : (after : TurnCounts) (a b : GroundCounts) → after ≡ turn_counts a → NoneFalls a b → IsLater after (turn_counts b)
-until after a b e h = subst (λ (t : TurnCounts). IsLater t (turn_counts b)) (sym e) (record { file = h.file_faults; remove = h.remove_faults; spawner = refl })
-
-said_whole : (text reply : Bytes) (r : Result (Unit {0}) GroundFault) (a b : Told) → text ≡ reply → Says text r a b → OnOk r (said b ≡ said a ++ reply)
-said_whole text reply r a b e says = subst (λ (t : Bytes). OnOk r (said b ≡ said a ++ t)) e says.ok
-
-said_front : (text reply : Bytes) (r : Result (Unit {0}) GroundFault) (a b : Told) → text ≡ reply → Says text r a b → SaysPart reply (said a) (said b)
-said_front text reply r a b e says = subst (λ (t : Bytes). SaysPart t (said a) (said b)) e (says_part text r a b says)
-
-pub returns-in-Ok-clause-turned : goal.returns-in-Ok-clause-turned
-returns-in-Ok-clause-turned g c =
-    let counted : c.turn_counts.result ≡ turn_counts (g.G.Ground.counts_of c.args.ground.now) = c.turn_counts.ensures ∙ ap turn_counts c.counts.ensures in
-    let x : Exchange = record {
-      line = c.next_line.new.line.items;
-      turn = record { met = c.met.result; before = c.args.counts.now; after = c.turn_counts.result };
-      difference = None;
-      reply = c.answer.ensures.step.0;
-      after = state_of c.answer.new.self;
-    } in (
-      x,
+pub returns-in-Err-say-clause-stops : goal.returns-in-Err-say-clause-stops
+returns-in-Err-say-clause-stops g c r is holds =
+    let answered = c.in-Ok.ensures.goes r is in
+    let goes = answered.1 in
+    let text = c.deref-in-Ok.ensures.value ∙ answered.2 in (
       record {
-        goes_on = record {
-          source_tells = refl;
-          ground_tells = refl;
-          log_tells = c.note.ensures.told;
-          read_faults = c.next_line.ensures.faults;
-          counts = c.say.ensures.counts;
-        };
-        files = λ told. keeps_said _ _ _ _ (c.say.ensures.does told);
-        front = c.in_ok-next_line.ensures.ok.front;
-        no_line_feed = c.in_ok-next_line.ensures.ok.no_line_feed;
-        short = c.in_ok-next_line.ensures.ok.short;
-        count = c.in_ok-next_line.ensures.count;
-        step = step_along (state_of c.args.session.now) (state_of c.answer.new.self) c.answer.ensures.step.0 c.deref.ensures.value (sym c.met.ensures) c.answer.ensures.step.1;
-        noted = c.note.ensures.noted;
-        after = refl;
-        begins_at = refl;
-        ends_at = refl;
-        rises = risen _ _ (g.G.Ground.counts_of c.args.ground.now) counted c.requires.counted;
-        until = until _ (g.G.Ground.counts_of c.args.ground.now) (g.G.Ground.counts_of c.say.new.self) counted c.say.ensures.counts;
+        exchange = exchange_of c.next_line.new.line.items c.met.result c.args.counts.now c.turn_counts.result answered.0 (state_in c.answer-answered.new.self goes.after);
+        turned = turned_of _ _ _ _ _ _ _ _ _ _ _ _ answered.0 (g.G.Ground.counts_of c.answer-answered.new.ground)
+            (record { source_tells = refl; ground_tells = refl; log_tells = c.note.ensures.told; read_faults = c.next_line.ensures.faults; counts = none_falls_on _ _ _ c.answer-answered.ensures.counts c.say.ensures.counts })
+            (λ told. files_of _ _ _ answered.0 (goes.only told (holds told)) _ _ (c.say.ensures.does told))
+            c.in_default.ensures.ok c.in_default.ensures.count goes.gives c.deref.ensures.value c.met.ensures c.note.ensures.noted (c.turn_counts.ensures ∙ ap turn_counts c.counts.ensures) c.requires.counted c.answer-answered.ensures.counts c.say.ensures.counts;
+        part = λ told. part_of _ _ _ answered.0 (goes.only told (holds told)) _ _ (c.say.ensures.does told) _ text;
+        stands = λ told whole. (holds_along _ _ _ goes.after (c.say.ensures.does told).goes (c.say.ensures.does told).files (goes.holds told (holds told))).stands;
       },
-      λ told. said_whole _ _ _ _ _ (c.deref-2.ensures.value ∙ c.answer.ensures.step.2) (c.in-Ok.ensures.does told),
+      rose_after _ _ _ c.answer-answered.ensures.counts.say_faults c.in-Err-say.ensures.cause,
     )
 
-pub returns-in-Err-clause-stops : goal.returns-in-Err-clause-stops
-returns-in-Err-clause-stops g c =
-    let counted : c.turn_counts.result ≡ turn_counts (g.G.Ground.counts_of c.args.ground.now) = c.turn_counts.ensures ∙ ap turn_counts c.counts.ensures in
-    let x : Exchange = record {
-      line = c.next_line.new.line.items;
-      turn = record { met = c.met.result; before = c.args.counts.now; after = c.turn_counts.result };
-      difference = None;
-      reply = c.answer.ensures.step.0;
-      after = state_of c.answer.new.self;
-    } in (
+pub returns-in-Err-Ground-clause-stops : goal.returns-in-Err-Ground-clause-stops
+returns-in-Err-Ground-clause-stops g c r is holds =
+    let cut = c.in-Err-Ground.ensures.cut r is in (
       record {
-        exchange = x;
-        turned = record {
-          goes_on = record {
-            source_tells = refl;
-            ground_tells = refl;
-            log_tells = c.note.ensures.told;
-            read_faults = c.next_line.ensures.faults;
-            counts = c.say.ensures.counts;
-          };
-          files = λ told. keeps_said _ _ _ _ (c.say.ensures.does told);
-          front = c.in_ok-next_line.ensures.ok.front;
-          no_line_feed = c.in_ok-next_line.ensures.ok.no_line_feed;
-          short = c.in_ok-next_line.ensures.ok.short;
-          count = c.in_ok-next_line.ensures.count;
-          step = step_along (state_of c.args.session.now) (state_of c.answer.new.self) c.answer.ensures.step.0 c.deref.ensures.value (sym c.met.ensures) c.answer.ensures.step.1;
-          noted = c.note.ensures.noted;
-          after = refl;
-          begins_at = refl;
-          ends_at = refl;
-          rises = risen _ _ (g.G.Ground.counts_of c.args.ground.now) counted c.requires.counted;
-          until = until _ (g.G.Ground.counts_of c.args.ground.now) (g.G.Ground.counts_of c.say.new.self) counted c.say.ensures.counts;
-        };
-        part = λ told. said_front _ _ _ _ _ (c.deref-2.ensures.value ∙ c.answer.ensures.step.2) (c.say.ensures.does told);
+        exchange = exchange_of c.next_line.new.line.items c.met.result c.args.counts.now c.turn_counts.result cut.reply cut.after;
+        turned = turned_of _ _ _ _ _ _ _ _ _ _ _ _ cut.reply (g.G.Ground.counts_of c.answer-answered.new.ground)
+            (record { source_tells = refl; ground_tells = refl; log_tells = c.note.ensures.told; read_faults = c.next_line.ensures.faults; counts = c.answer-answered.ensures.counts })
+            (λ told. keeps_two _ _ (cut.only told (holds told)))
+            c.in_default.ensures.ok c.in_default.ensures.count cut.gives c.deref.ensures.value c.met.ensures c.note.ensures.noted (c.turn_counts.ensures ∙ ap turn_counts c.counts.ensures) c.requires.counted c.answer-answered.ensures.counts (falls_itself (g.G.Ground.counts_of c.answer-answered.new.ground));
+        part = λ told. nothing_said _ _ _ (cut.only told (holds told));
+        stands = λ told whole. absurd (cc whole);
       },
-      c.in-Err.ensures.cause,
+      c.in-Err-Ground.ensures.cause,
     )

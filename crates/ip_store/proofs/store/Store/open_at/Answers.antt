@@ -1,24 +1,18 @@
-use Rattle.std.proofs.Common.{refl}
-use Rattle.ip_store.proofs.Opening.{no_file, fails, sync_only, opens}
-use Rattle.ip_ground.proofs.Spans.{only_on}
-use Rattle.ip_ground.specs.Told.{NoFile}
+use Rattle.std.proofs.Common.{sym, ◌∙◌}
+use Rattle.ip_store.proofs.OpenedStores.{tables_at_end, opens_bad_as, opens_by}
 use Rattle.ip_store.proofs.store.Store.open_at.Goals as goal
 
-pub returns-then-is_none-clause-does : goal.returns-then-is_none-clause-does
-returns-then-is_none-clause-does g c told = no_file _ _ c.in_ok-length.field-0 (c.if-is_none.ensures) (c.in_ok-length.ensures.does told)
+pub returns-in_err-found-clause-does : goal.returns-in_err-found-clause-does
+returns-in_err-found-clause-does g c told =
+    let order = c.in_ok-index.ensures.order in
+    let read = c.in_err-found.ensures in
+    opens_bad_as c.in_ok-index.index c.in_ok-index.slot order.0 order.1 _ _ _ (c.in_ok-index.ensures.does told) (read.only told) _ _ c.from_residual-in_err-found.ensures read.there (read.damaged told)
 
-pub returns-in_err-sync-clause-does : goal.returns-in_err-sync-clause-does
-returns-in_err-sync-clause-does g c told =
-    let measures = c.in_ok-length.ensures.does told in
-    fails _ _ _ c.from_residual-in_err-sync.ensures.1 (sync_only _ _ _ measures.only _ (c.sync.ensures.does told))
-
-pub returns-in_err-count-clause-does : goal.returns-in_err-count-clause-does
-returns-in_err-count-clause-does g c told =
-    let measures = c.in_ok-length.ensures.does told in
-    let reads = c.read.ensures.does told in
-    fails _ _ _ c.from_residual-in_err-count.ensures.1 (only_on _ _ _ NoFile (sync_only _ _ _ measures.only _ (c.in_ok-sync.ensures.does told)) reads.only)
+pub returns-clause-tables : goal.returns-clause-tables
+returns-clause-tables g c = let order = c.in_ok-index.ensures.order in tables_at_end c.in_ok-index.index c.in_ok-index.slot order.1 order.0 _ _ c.in_ok-found.found c.finish.result c.in_ok-found.ensures.covers c.finish.ensures
 
 pub returns-clause-does : goal.returns-clause-does
 returns-clause-does g c told =
-    let measures = c.in_ok-length.ensures.does told in
-    opens _ _ _ _ _ _ _ _ measures.only (c.in_ok-sync.ensures.does told) refl (c.in_ok-count.ensures.does told) c.open_on.ensures.does
+    let order = c.in_ok-index.ensures.order in
+    let read = c.in_ok-found.ensures in
+    opens_by c.in_ok-index.index c.in_ok-index.slot order.0 order.1 _ _ _ (c.in_ok-index.ensures.does told) (read.only told) c.in_ok-found.found c.finish.result _ told read.covers c.finish.ensures

@@ -1,0 +1,96 @@
+-- One line of a run: its command was run and noted, and its reply said; or it was the last.
+--     turned_of      the record Turned of what was read, run and noted
+--     files_of, said_of, part_of      the files and what was said, once the reply was said, or not
+--     stops_reading      why a source is read no further
+use Rattle.std.proofs.Common.{◌≡◌, ◌+◌, ◌++◌, [], ◌∷◌, length, refl, sym, ap, ◌∙◌, subst, arith, None, OnOk, Result, IsTrue}
+use Rattle.ip_ground.specs.declared.names.FileName.{FileName}
+use Rattle.ip_ground.specs.declared.names.GroundCounts.{GroundCounts}
+use Rattle.ip_ground.specs.declared.names.GroundFault.{GroundFault}
+use Rattle.ip_ground.specs.Counts.{NoneFalls}
+use Rattle.ip_ground.specs.Told.{Told, said, ChangesOnly}
+use Rattle.ip_ground.specs.Calls.{Says}
+use Rattle.ip_ground.proofs.Spans.{only_more, said_now}
+use Rattle.ip_image.specs.declared.counts.TurnCounts.{TurnCounts}
+use Rattle.ip_spec.specs.declared.met.Met.{Met}
+use Rattle.ip_spec.specs.declared.reply.Reply.{Reply}
+use Rattle.ip_spec.specs.declared.reply.Reply.TheVariants as reply
+use Rattle.ip_spec.specs.Path.{Bytes}
+use Rattle.ip_spec.specs.Machine.{State}
+use Rattle.ip_spec.specs.Script.{LineStep}
+use Rattle.ip_store.specs.Publishing.{TheTwo}
+use Rattle.ip_app.specs.declared.lines.Lines.{Lines}
+use Rattle.ip_app.specs.declared.statuses.Status.{Status}
+use Rattle.ip_app.specs.declared.statuses.Status.TheVariants as status
+use Rattle.ip_app.specs.Pending.{pending}
+use Rattle.ip_app.specs.Reading.{GetsLine}
+use Rattle.ip_app.specs.Exchanges.{Exchange, no_rules}
+use Rattle.ip_app.specs.Outside.{Outside, GoesOn, KeepsFiles}
+use Rattle.ip_app.specs.Session.{conditions_of, ChangedBy}
+use Rattle.ip_app.specs.Serving.{SaysPart, Turned, Stopped, Stops}
+use Rattle.ip_app.specs.Turns.{turn_counts, IsLater}
+use Rattle.ip_app.proofs.RunLemmas.{keeps_on, keeps_two, keeps_said, says_part}
+
+-- a line's exchange
+abbrev pub exchange_of : Bytes → Met → TurnCounts → TurnCounts → Reply → State → Exchange
+exchange_of line met before later reply after = record { line = line; turn = record { met = met; before = before; after = later }; difference = None; reply = reply; after = after }
+
+later_on : (counts : TurnCounts) (a b : GroundCounts) → IsLater counts (turn_counts a) → NoneFalls a b → IsLater counts (turn_counts b)
+later_on counts a b l n = record { file = omega (arith, l.file, n.file_faults); remove = omega (arith, l.remove, n.remove_faults); spawner = refl }
+
+itself : (a : GroundCounts) → IsLater (turn_counts a) (turn_counts a)
+itself a = record { file = omega arith; remove = omega arith; spawner = refl }
+
+pub turned_of : (old new : Outside) (lines lines' : Lines) (counts counts' : TurnCounts) (state after : State) (line read : Bytes) (met told_met : Met) (reply : Reply) (mid : GroundCounts) → GoesOn old new → (IsTrue old.ground_tells → KeepsFiles old.told new.told)
+    → GetsLine line old.source_tells (pending lines ++ old.left) (pending lines' ++ new.left) → lines'.taken + length (pending lines) ≡ lines.taken + (length line + 1) + length (pending lines')
+    → LineStep no_rules state read (conditions_of met) reply after → read ≡ line → told_met ≡ met
+    → (IsTrue new.log_tells → new.turns ≡ old.turns ++ record { met = told_met; before = counts; after = counts' } ∷ [])
+    → counts' ≡ turn_counts mid → IsLater counts (turn_counts old.counts) → NoneFalls old.counts mid → NoneFalls mid new.counts
+    → Turned old new lines lines' counts counts' state (exchange_of line told_met counts counts' reply after)
+turned_of old new lines lines' counts counts' state after line read met told_met reply mid g files gets count step same same_met noted counted before falls still = record {
+  goes_on = g;
+  files = files;
+  front = gets.front;
+  no_line_feed = gets.no_line_feed;
+  short = gets.short;
+  count = count;
+  step = subst (λ (k : Bytes). LineStep no_rules state k (conditions_of told_met) reply after) same (subst (λ (m : Met). LineStep no_rules state read (conditions_of m) reply after) (sym same_met) step);
+  noted = noted;
+  begins_at = refl;
+  ends_at = refl;
+  rises = subst (λ (t : TurnCounts). IsLater counts t) (sym counted) (later_on counts old.counts mid before falls);
+  until = subst (λ (t : TurnCounts). IsLater t (turn_counts new.counts)) (sym counted) (later_on (turn_counts mid) mid new.counts (itself mid) still);
+}
+
+-- whatever the reply, a command changes no files but two
+changed_is_two : (given : Reply) (file : FileName) → ChangedBy given file → TheTwo file
+changed_is_two (reply.Committed name) file h = h
+changed_is_two _ file h = absurd h
+
+pub two_of : (given : Reply) (a b : Told) → ChangesOnly (ChangedBy given) a b → ChangesOnly TheTwo a b
+two_of given a b only = only_more a b (ChangedBy given) TheTwo (changed_is_two given) only
+
+module _ (old mid new : Told) (given : Reply) (only : ChangesOnly (ChangedBy given) old mid) (text : Bytes) (r : Result (Unit {0}) GroundFault) (says : Says text r mid new) where
+  quiet : said mid ≡ said old
+  quiet = said_now old mid only.goes only.said
+
+  pub files_of : KeepsFiles old new
+  files_of = keeps_on old mid new (keeps_two old mid (two_of given old mid only)) (keeps_said text r mid new says)
+
+  pub said_of : (reply : Bytes) → text ≡ reply → OnOk r (said new ≡ said old ++ reply)
+  said_of reply e = subst (λ (t : Bytes). OnOk r (said new ≡ said old ++ t)) e (subst (λ (s : Bytes). OnOk r (said new ≡ s ++ text)) quiet says.ok)
+
+  pub part_of : (reply : Bytes) → text ≡ reply → SaysPart reply (said old) (said new)
+  part_of reply e = subst (λ (t : Bytes). SaysPart t (said old) (said new)) e (subst (λ (s : Bytes). SaysPart text s (said new)) quiet (says_part text r mid new says))
+
+append_nil : (t : Bytes) → t ++ [] ≡ t
+append_nil [] = refl
+append_nil (b ∷ t) = ap (λ (u : Bytes). b ∷ u) (append_nil t)
+
+-- nothing of the reply was said
+pub nothing_said : (old new : Told) (reply : Bytes) → ChangesOnly TheTwo old new → SaysPart reply (said old) (said new)
+nothing_said old new reply only = ([], reply, refl, said_now old new only.goes only.said ∙ sym (append_nil (said old)))
+
+pub stops_reading : (s : Status) (old new : Outside) (lines lines' : Lines) (counts counts' : TurnCounts) (state : State) → Stopped s old new lines lines' counts counts' state → Stops s old new lines lines' counts counts' state
+stops_reading status.SayFault old new lines lines' counts counts' state t = absurd t.ends
+stops_reading status.GroundFault old new lines lines' counts counts' state t = absurd t.ends
+stops_reading _ old new lines lines' counts counts' state t = t

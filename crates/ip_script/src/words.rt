@@ -1,0 +1,91 @@
+// What the words of a line say, one behind the other.
+ghost use Rattle.std.specs.Prelude.{◌≡◌, [], ◌∷◌, IfOk};
+ghost use Rattle.ip_script.specs.Dates.{date_value};
+ghost use Rattle.ip_script.specs.Words.{left_of, word_at, left_at, contents_of, info_at};
+ghost use Rattle.ip_script.specs.declared.field.Field.TheVariants as Field;
+
+use crate::date::date_at;
+use crate::field::{Field, field_length};
+use ip_base::{Blob, Info, Items, Memory, Path, Step};
+use std::alloc::Global;
+
+/// The words of a line that are still to be read, each behind a space. Each call reads the next one, of a line that was found
+/// to have such a word there.
+#[derive(Clone, Copy, Debug)]
+pub struct Words<'a> {
+    left: &'a [u8],
+}
+
+impl<'a> Words<'a> {
+    /// All words of this text are left.
+    pub fn new(text: &'a [u8]) -> Self
+        ensures { left_of result ≡ text.now }
+    {
+        Words { left: text }
+    }
+
+    fn next(&mut self, field: Field) -> &'a [u8]
+        ensures word { result.now ≡ word_at field (left_of self.old) }
+        ensures left { left_of self.new ≡ left_at field (left_of self.old) }
+    {
+        let text = match self.left {
+            [] => self.left,
+            [_, text @ ..] => text,
+        };
+        let (word, left) = text.split_at(field_length(field, text));
+        self.left = left;
+        word
+    }
+
+    /// A path of one step.
+    pub fn path(&mut self, alloc: Global) -> Result<Path, Memory>
+        ensures value { IfOk result (λ path. path ≡ word_at Field.Step (left_of self.old) ∷ []) }
+        ensures left { left_of self.new ≡ left_at Field.Step (left_of self.old) }
+    {
+        let step = self.text(alloc, Field::Step)?;
+        let mut steps = Items::empty(alloc);
+        steps.push(Step::of(step))?;
+        Ok(Path::of(steps))
+    }
+
+    /// Bytes by their digits. The word was found to be digits, so it is refused for want of memory alone.
+    pub fn contents(&mut self, alloc: Global) -> Result<Blob, Memory>
+        ensures value { IfOk result (λ bytes. bytes ≡ contents_of (word_at Field.Hex (left_of self.old))) }
+        ensures left { left_of self.new ≡ left_at Field.Hex (left_of self.old) }
+    {
+        let word = self.next(Field::Hex);
+        if word == b"-".as_slice() {
+            return Ok(Blob::empty(alloc));
+        }
+        match hex::decode(alloc, word) {
+            Ok(bytes) => Ok(Blob::of(bytes)),
+            Err(_) => Err(Memory),
+        }
+    }
+
+    /// Who made a commit, when and why: three words.
+    pub fn info(&mut self, alloc: Global) -> Result<Info, Memory>
+        ensures { IfOk result (λ info. info ≡ info_at (left_of self.old)) }
+    {
+        Ok(Info {
+            date: self.date(),
+            author: self.text(alloc, Field::Author)?,
+            message: self.text(alloc, Field::Message)?,
+        })
+    }
+
+    fn date(&mut self) -> u64
+        ensures value { result ≡ date_value (word_at Field.Date (left_of self.old)) }
+        ensures left { left_of self.new ≡ left_at Field.Date (left_of self.old) }
+    {
+        date_at(self.next(Field::Date)).value
+    }
+
+    /// The bytes of a word as they stand.
+    pub fn text(&mut self, alloc: Global, field: Field) -> Result<Blob, Memory>
+        ensures value { IfOk result (λ bytes. bytes ≡ word_at field (left_of self.old)) }
+        ensures left { left_of self.new ≡ left_at field (left_of self.old) }
+    {
+        Blob::copy_of(alloc, self.next(field))
+    }
+}

@@ -1,0 +1,193 @@
+-- The store that is made of a slot and of what was found, and what opening answers.
+--     whole_of      the test at the end.      tables_of, holds_of      the repository of the store, which it holds
+--     sync_only, finds_fault, finds, finds_form      the exits of finding the slot.      opens_bad, opens_at_end      those of opening
+use Rattle.std.proofs.Common.{◌≡◌, ◌≢◌, ℕ, ◌+◌, ◌*◌, ◌<◌, Bool, true, List, [], ◌∷◌, map, length, refl, sym, ◌∙◌, ap, subst, arith}
+use Rattle.std.specs.Prelude.{Option, Some, None, Result, Ok, Err, IfOk, OnOk, IsErr, IsErrAnd, IsErrOf, IsTrue, All}
+use Rattle.std.specs.List.{AllByRecursion}
+use Rattle.std.proofs.lemmas.List.{length-map}
+use Rattle.std.proofs.lemmas.List.Elements.{All-from_recursion}
+use Rattle.ip_ground.specs.declared.names.FileName.{FileName}
+use Rattle.ip_ground.specs.declared.names.FileName.TheVariants.{Control}
+use Rattle.ip_ground.specs.declared.names.GroundFault.{GroundFault}
+use Rattle.ip_ground.specs.Contents.{Content}
+use Rattle.ip_ground.specs.Told.{Told, NoFile, ChangesOnly, IsKept}
+use Rattle.ip_ground.specs.Calls.{Syncs}
+use Rattle.ip_ground.proofs.Spans.{only_on}
+use Rattle.ip_ground.proofs.Durable.{sync_changes, kept_passes}
+use Rattle.ip_spec.specs.Map.{Map}
+use Rattle.ip_spec.specs.Path.{Bytes, bytes_cmp}
+use Rattle.ip_spec.specs.declared.record.CommitRecord.{CommitRecord}
+use Rattle.ip_spec.specs.Record.{Names, IsHash}
+use Rattle.ip_spec.specs.TreeAt.{Records}
+use Rattle.ip_spec.specs.Repository.{Repository, next}
+use Rattle.ip_image.specs.declared.slot.Slot.{Slot}
+use Rattle.ip_image.specs.Slot.{IsSlot, IsLive, live_index}
+use Rattle.ip_image.specs.Virtual.{byte_of}
+use Rattle.ip_image.specs.Standing.{EndToEnd, AreRetained, WholeFits, DamagedAt, commits_in, named}
+use Rattle.ip_control.specs.declared.fault.ControlFault.{ControlFault}
+use Rattle.ip_control.specs.declared.fault.ControlFault.TheVariants as ControlFault
+use Rattle.ip_control.specs.Finding.{Finds}
+use Rattle.ip_audit.specs.Audits.{commit_name}
+use Rattle.ip_store.specs.declared.opening.OpenFault.{OpenFault}
+use Rattle.ip_store.specs.declared.opening.OpenFault.TheVariants as OpenFault
+use Rattle.ip_store.specs.declared.store.Store.{Store}
+use Rattle.ip_store.specs.declared.walk.Found.{Found}
+use Rattle.ip_store.specs.Control.{control_in}
+use Rattle.ip_store.specs.Window.{chunk}
+use Rattle.ip_store.specs.Walk.{Tells, Covers, BadRecord}
+use Rattle.ip_store.specs.Found.{FoundIn, FindsSlot, Finished, Finishes}
+use Rattle.ip_store.specs.Store.{IsOf, Holds}
+use Rattle.ip_store.specs.Opening.{Opens}
+use Rattle.ip_store.proofs.Hashes.{sha_is_hash}
+use Rattle.ip_store.proofs.Reading.{own, control_passes}
+use Rattle.ip_store.proofs.OpenedImages.{form_damaged, bad_damaged, misfit_damaged, whole_from, repository_of, repository_names, repository_floor, repository_branches, repository_size, stands_for}
+
+abbrev Branching : Type 0
+Branching = Map bytes_cmp ℕ
+
+same_fault : {A : Type 0} (one other : OpenFault) → IsErrOf {T = A} (Err one) other → one ≡ other
+same_fault one other e = cc
+
+-- the names are the commits'
+names_size : (names : _) (records : Records) → names ≡ map commit_name (commits_in records) → length names ≡ length (commits_in records)
+names_size names records is = ap length is ∙ length-map (commits_in records) commit_name
+
+pub whole_of : (s : Slot) (found : Found) (names : _) (records : Records) → Tells s found records → names ≡ map commit_name (commits_in records)
+    → (s.next ≡ s.floor + length names) × AreRetained s found.branches → WholeFits s records
+whole_of s found names records tells is whole =
+    let size = names_size names records is in
+    whole_from s records tells.good (let n = whole.0 in omega (arith, n, size)) (subst (λ (m : Branching). AreRetained s m) tells.branches whole.1)
+
+are_hashes : (cs : List CommitRecord) → All IsHash (map commit_name cs)
+are_hashes cs = All-from_recursion IsHash (map commit_name cs) (each cs)
+  where
+    each : (cs : List CommitRecord) → AllByRecursion IsHash (map commit_name cs)
+    each [] = tt
+    each (c ∷ cs) = (sha_is_hash _, each cs)
+
+module _ (index : ℕ) (s : Slot) (is : IsSlot s) (below : index < 2) (found : Found) (store : Store) (records : Records) (tells : Tells s found records) (finished : Finished index s found store) where
+  fits : WholeFits s records
+  fits = finished.fits records tells
+
+  pub tables_of : IsOf store (repository_of s records tells.good)
+  tables_of =
+      let floor = repository_floor s records tells.good in
+      let size = repository_size s records tells.good in
+      let branches = repository_branches s records tells.good in
+      let whole = fits.next in
+      record {
+        slot = subst IsSlot (sym finished.slot) is;
+        index = subst (λ (n : ℕ). n < 2) (sym finished.index) below;
+        floor = floor ∙ ap (λ (t : Slot). t.floor) (sym finished.slot);
+        next = (let e : next (repository_of s records tells.good) ≡ s.next = omega (arith, floor, size, whole) in e) ∙ ap (λ (t : Slot). t.next) (sym finished.slot);
+        names = repository_names s records tells.good ∙ finished.names records tells;
+        hashes = subst (All IsHash) (finished.names records tells) (are_hashes (commits_in records));
+        branches = branches ∙ finished.branches records tells;
+        retained = subst (λ (t : Slot). AreRetained t (repository_of s records tells.good).branches) (sym finished.slot) (subst (λ (m : Branching). AreRetained s m) (sym branches) fits.branches);
+      }
+
+  pub holds_of : (told : Told) → IsLive (control_in told.held) index s → IsKept told Control → EndToEnd (byte_of (chunk told)) 0 records s.end → Holds store told (repository_of s records tells.good)
+  holds_of told live kept lies = record {
+    tables = tables_of;
+    stands = stands_for s records tells.good told.held index live lies fits;
+    live = subst (λ (n : ℕ). IsLive (control_in told.held) n store.slot) (sym finished.index) (subst (IsLive (control_in told.held) index) (sym finished.slot) live);
+    kept = kept;
+  }
+
+-- ---- finding the slot
+
+-- the calls up to the sync
+pub sync_only : (a b c : Told) (result : Result (Unit {0}) GroundFault) → ChangesOnly NoFile a b → Syncs Control result b c → ChangesOnly NoFile a c
+sync_only a b c result passes syncs = only_on a b c NoFile passes (sync_changes Control own result b c syncs)
+
+pub finds_fault : (r : Result (ℕ × Slot) OpenFault) (a b : Told) → IsErrAnd r (λ e. e ≡ OpenFault.Ground) → ChangesOnly NoFile a b → FindsSlot r a b
+finds_fault (Ok live) a b is only = absurd is
+finds_fault (Err fault) a b is only = record { only = only; finds = subst (λ (f : OpenFault). FoundIn b.held (Err f)) (sym is) tt; kept = tt }
+
+on_ok : {A E : Type 0} (r : Result A E) (P : Type 0) → P → OnOk r P
+on_ok (Ok x) P p = p
+on_ok (Err e) P p = tt
+
+abbrev Live : Type 0
+Live = Option (ℕ × Slot)
+
+-- what was read of the control file, by its case
+pub found_some : (control : Bytes) (o : Live) (live : ℕ × Slot) → o ≡ Some live → Finds control (Ok o) → IsLive control live.0 live.1
+found_some control o live is found = subst (λ (x : Live). Finds control (Ok x)) is found
+
+pub found_none : (control : Bytes) (o : Live) → o ≡ None → Finds control (Ok o) → live_index control ≡ None
+found_none control o is found = subst (λ (x : Live). Finds control (Ok x)) is found
+
+pub found_form : (control : Bytes) (fault : ControlFault) (index : ℕ) → fault ≡ ControlFault.Form index → Finds control (Err fault) → Finds control (Err (ControlFault.Form index))
+found_form control fault index is found = subst (λ (x : ControlFault). Finds control (Err x)) is found
+
+module _ (a b c d : Told) (passes : ChangesOnly NoFile a b) (syncs : Syncs Control (Ok tt) b c) (reads : ChangesOnly NoFile c d) where
+  pub finds : (r : Result (ℕ × Slot) OpenFault) → FoundIn d.held r → FindsSlot r a d
+  finds r found = record {
+    only = only_on a c d NoFile (sync_only a b c (Ok tt) passes syncs) reads;
+    finds = found;
+    kept = on_ok r (IsKept d Control) (kept_passes Control own c d reads (syncs.ok (λ x. x)));
+  }
+
+  pub finds_form : (index : ℕ) (out : OpenFault) → Finds (control_in d.held) (Err (ControlFault.Form index)) → out ≡ OpenFault.Damaged Control (128 * index) → FindsSlot (Err out) a d
+  finds_form index out found is = finds (Err out) (subst (λ (f : OpenFault). FoundIn d.held (Err f)) (sym is) (form_damaged d.held index found.0 found.1))
+
+-- ---- opening
+
+module _ (index : ℕ) (s : Slot) (below : index < 2) (is : IsSlot s) (a b c : Told) (slot : FindsSlot (Ok (index, s)) a b) (reads : ChangesOnly NoFile b c) where
+  live_now : IsLive (control_in c.held) index s
+  live_now = subst (λ (bytes : Bytes). IsLive bytes index s) (sym (control_passes b c reads)) slot.finds
+
+  only_now : ChangesOnly NoFile a c
+  only_now = only_on a b c NoFile slot.only reads
+
+  pub opens_bad : (fault : OpenFault) → (fault ≡ OpenFault.NoStore → ⊥) → ((file : FileName) (at : ℕ) → fault ≡ OpenFault.Damaged file at → BadRecord s (chunk c) file at) → Opens (Err fault) a c
+  opens_bad fault there bad = record {
+    only = only_now;
+    no_store = λ none. absurd (there (same_fault fault OpenFault.NoStore none));
+    damaged = λ file at damaged. bad_damaged c.held index s live_now file at (bad file at (same_fault fault (OpenFault.Damaged file at) damaged));
+    holds = tt;
+  }
+
+  pub opens_at_end : (found : Found) (r : Result Store OpenFault) → Covers s true (chunk c) found → Finishes index s found r → Opens r a c
+  opens_at_end found (Ok store) covers finished = record {
+    only = only_now;
+    no_store = λ none. absurd (cc (none));
+    damaged = λ file at damaged. absurd (cc (damaged));
+    holds = (
+      repository_of s covers.records covers.true_of.good,
+      holds_of index s is below found store covers.records covers.true_of finished c live_now (kept_passes Control own b c reads slot.kept) (covers.lies refl),
+    );
+  }
+  opens_at_end found (Err fault) covers finished = record {
+    only = only_now;
+    no_store = λ none. absurd (other_fault (sym finished.0 ∙ same_fault fault OpenFault.NoStore none));
+    damaged = λ file at damaged. at_slot file at (sym finished.0 ∙ same_fault fault (OpenFault.Damaged file at) damaged);
+    holds = tt;
+  }
+    where
+      other_fault : OpenFault.Damaged Control (128 * index) ≡ OpenFault.NoStore → ⊥
+      other_fault e = cc
+
+      at_slot : (file : FileName) (at : ℕ) → OpenFault.Damaged Control (128 * index) ≡ OpenFault.Damaged file at → DamagedAt c.held file at
+      at_slot file at e =
+          let f : Control ≡ file = cc in
+          let n : 128 * index ≡ at = cc in
+          subst (λ (m : ℕ). DamagedAt c.held file m) n
+          (subst (λ (g : FileName). DamagedAt c.held g (128 * index)) f
+          (misfit_damaged c.held index s live_now covers.records covers.true_of.good (covers.lies refl) (finished.1 covers.records covers.true_of)))
+
+  -- by the flag that the ground tells
+  pub opens_by : (found : Found) (r : Result Store OpenFault) (tells : Bool) → IsTrue tells → Covers s tells (chunk c) found → Finishes index s found r → Opens r a c
+  opens_by found r tells told covers finished = opens_at_end found r (subst (λ (b : Bool). Covers s b (chunk c) found) told covers) finished
+
+  pub opens_bad_as : (r : Result Store OpenFault) (fault : OpenFault) → IsErr r × IsErrAnd r (λ e. e ≡ fault) → (IsErrOf {T = Found} (Err fault) OpenFault.NoStore → ⊥)
+      → ((file : FileName) (at : ℕ) → IsErrOf {T = Found} (Err fault) (OpenFault.Damaged file at) → BadRecord s (chunk c) file at) → Opens r a c
+  opens_bad_as (Ok store) fault is there bad = absurd is.1
+  opens_bad_as (Err other) fault is there bad =
+      opens_bad other (λ none. there (ap (λ (f : OpenFault). Err f) (sym is.1 ∙ none))) (λ file at damaged. bad file at (ap (λ (f : OpenFault). Err f) (sym is.1 ∙ damaged)))
+
+pub tables_at_end : (index : ℕ) (s : Slot) → IsSlot s → index < 2 → (tells : Bool) (content : Content) (found : Found) (r : Result Store OpenFault) → Covers s tells content found → Finishes index s found r
+    → IfOk r (λ store. (q : Repository) × IsOf store q)
+tables_at_end index s is below tells content found (Ok store) covers finished = (repository_of s covers.records covers.true_of.good, tables_of index s is below found store covers.records covers.true_of finished)
+tables_at_end index s is below tells content found (Err fault) covers finished = tt

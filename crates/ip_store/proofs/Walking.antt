@@ -1,0 +1,95 @@
+-- The walk over records, step by step.
+--     good_push, named_push      one good record behind those before it
+--     takes_good      a record that the audit took.      some_bytes, beyond_push      offsets ascend
+--     stands_front, stands_behind, front_of      bytes that stand, in two parts, and a front of bytes by its members
+use Rattle.std.proofs.Common.{◌≡◌, ◌≢◌, ℕ, zero, suc, ◌+◌, ◌-◌, ◌<◌, ◌≤◌, List, [], ◌∷◌, ◌++◌, length, take, drop, get_or, refl, sym, ◌∙◌, ap, subst, arith, append_assoc, append-nil, length-append}
+use Rattle.std.specs.Prelude.{slice_get, Option, Some, None}
+use Rattle.std.specs.List.{AllByRecursion}
+use Rattle.std.proofs.lemmas.List.Sums.{fold-append}
+use Rattle.ip_spec.specs.declared.record.Record.{Record}
+use Rattle.ip_spec.specs.Record.{Names, Fits, spelling}
+use Rattle.ip_spec.specs.TreeAt.{Records}
+use Rattle.ip_spec.specs.Path.{Bytes}
+use Rattle.ip_image.specs.declared.slot.Slot.{Slot}
+use Rattle.ip_image.specs.declared.terms.Terms.{Terms}
+use Rattle.ip_image.specs.Slot.{IsSlot}
+use Rattle.ip_image.specs.Virtual.{Stands}
+use Rattle.ip_image.specs.Standing.{terms_of, RecordFits, IsServedKind, IsGood, AreGood, named, names_after}
+use Rattle.ip_audit.specs.Audits.{Audited, IsBeyond}
+use Rattle.ip_store.specs.declared.walk.Found.{Found}
+use Rattle.ip_store.specs.Walk.{Tells}
+
+-- ---- one record more
+
+pub good_push : (s : Slot) (pre before : Records) (x : ℕ × Record) → AreGood s pre before → IsGood s (pre ++ before) x → AreGood s pre (before ++ x ∷ [])
+good_push s pre [] x good one = (subst (λ (bs : Records). IsGood s bs x) (append-nil pre) one, tt)
+good_push s pre (y ∷ before) x good one = (good.0, good_push s (pre ++ y ∷ []) before x good.1 (subst (λ (bs : Records). IsGood s bs x) (sym (append_assoc pre (y ∷ []) before)) one))
+
+pub named_push : (names : Names) (before : Records) (x : ℕ × Record) → named names (before ++ x ∷ []) ≡ names_after names (named names before) x.1
+named_push names before x = fold-append _ _ before (x ∷ [])
+
+pub beyond_push : (at to : ℕ) (before : Records) (r : Record) → at < to → IsBeyond at before → IsBeyond to (before ++ (at, r) ∷ [])
+beyond_push at to [] r later beyond = (later, tt)
+beyond_push at to (x ∷ before) r later beyond = (let b = beyond.0 in omega (arith, b, later), beyond_push at to before r later beyond.1)
+
+-- no record of a collection is there
+pub no_horizon : (s : Slot) → IsSlot s → s.horizon ≡ 0
+no_horizon s is = is.none_live.0 is.served
+
+pub is_good : (s : Slot) (before : Records) (at : ℕ) (r : Record) → IsSlot s → Fits s.version r → IsServedKind r → RecordFits (terms_of s) before at r → IsGood s before (at, r)
+is_good s before at r is fits served good = record {
+  bounds = fits;
+  served = served;
+  kept_kind = λ below. let none = no_horizon s is in absurd (omega (arith, below, none));
+  first = λ some. absurd (some is.served);
+  fits = good;
+}
+
+module _ (s : Slot) (before : Records) (at : ℕ) (r : Record) (old new : Found) (is : IsSlot s) (fits : Fits s.version r) (served : IsServedKind r) (tells : Tells s old before) where
+  pub takes_good : RecordFits old.audit.terms before at r → Audited new.audit (before ++ (at, r) ∷ []) → new.audit.terms ≡ old.audit.terms
+      → new.branches ≡ names_after Names.branches old.branches r → IsGood s before (at, r) × Tells s new (before ++ (at, r) ∷ [])
+  takes_good good audited terms branches =
+      let one : IsGood s before (at, r) = is_good s before at r is fits served (subst (λ (t : Terms). RecordFits t before at r) tells.terms good) in (
+        one,
+        record {
+          good = good_push s [] before (at, r) tells.good one;
+          audited = audited;
+          terms = terms ∙ tells.terms;
+          branches = branches ∙ ap (λ m. names_after Names.branches m r) tells.branches ∙ sym (named_push Names.branches before (at, r));
+        },
+      )
+
+-- ---- bytes that stand
+
+pub some_bytes : (r : Record) → 0 < length (spelling r)
+unfolding spelling
+some_bytes r = omega arith
+
+within : (xs ys : Bytes) (k : ℕ) → k < length xs → slice_get (xs ++ ys) k ≡ slice_get xs k
+within [] ys k below = absurd (omega arith)
+within (x ∷ xs) ys zero below = refl
+within (x ∷ xs) ys (suc k) below = within xs ys k (omega (arith, below))
+
+behind : (xs ys : Bytes) (k : ℕ) → slice_get (xs ++ ys) (length xs + k) ≡ slice_get ys k
+behind [] ys k = let e : 0 + k ≡ k = omega arith in ap (slice_get ys) e
+behind (x ∷ xs) ys k = let e : suc (length xs) + k ≡ suc (length xs + k) = omega arith in ap (slice_get (x ∷ (xs ++ ys))) e ∙ behind xs ys k
+
+pub stands_front : (bytes_at : ℕ → Option ℕ) (at : ℕ) (xs ys : Bytes) → Stands bytes_at at (xs ++ ys) → Stands bytes_at at xs
+stands_front bytes_at at xs ys stands k below = stands k (let l = length-append xs ys in omega (arith, l, below)) ∙ within xs ys k below
+
+pub stands_behind : (bytes_at : ℕ → Option ℕ) (at : ℕ) (xs ys : Bytes) → Stands bytes_at at (xs ++ ys) → Stands bytes_at (at + length xs) ys
+stands_behind bytes_at at xs ys stands k below =
+    let e : at + length xs + k ≡ at + (length xs + k) = omega arith in
+    ap bytes_at e ∙ stands (length xs + k) (let l = length-append xs ys in omega (arith, l, below)) ∙ behind xs ys k
+
+-- bytes that agree with a list as far as that goes have it in front
+pub front_of : (xs ys : Bytes) → length xs ≤ length ys → ((k : ℕ) → k < length xs → slice_get ys k ≡ slice_get xs k) → ys ≡ xs ++ drop (length xs) ys
+front_of [] [] long same = refl
+front_of [] (y ∷ ys) long same = refl
+front_of (x ∷ xs) [] long same = absurd (omega (arith, long))
+front_of (x ∷ xs) (y ∷ ys) long same =
+    let first : y ≡ x = same_some y x (same 0 (omega arith)) in
+    (λ i. first i ∷ front_of xs ys (omega (arith, long)) (λ k below. same (suc k) (omega (arith, below))) i)
+  where
+    same_some : (a b : ℕ) → Some a ≡ Some b → a ≡ b
+    same_some a b e = cc

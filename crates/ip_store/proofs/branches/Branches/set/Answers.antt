@@ -1,0 +1,11 @@
+use Rattle.std.proofs.Common.{◌∙◌}
+use Rattle.ip_store.proofs.Kept.{on_err}
+use Rattle.ip_store.proofs.Numbered.{same_branches, set_is}
+use Rattle.ip_store.proofs.branches.Branches.set.Goals as goal
+
+pub returns-in_err-insert-clause-err : goal.returns-in_err-insert-clause-err
+returns-in_err-insert-clause-err c = on_err c.from_residual.result _ (same_branches c.self.inside.entries c.insert.new.self c.in_err-insert.ensures.err ∙ c.self.view_is)
+
+pub returns-clause-ok : goal.returns-clause-ok
+returns-clause-ok c =
+    set_is c.self.inside.entries c.self.invariant c.args.self.now c.self.view_is c.insert.new.self c.in_ok-insert.ensures.ordered c.args.name c.args.number c.in_ok-insert.ensures.entries

@@ -1,0 +1,25 @@
+use Rattle.ip_store.proofs.OpenedImages.{no_store}
+use Rattle.ip_store.proofs.OpenedStores.{sync_only, finds_fault, finds, finds_form, found_some, found_none, found_form}
+use Rattle.ip_store.proofs.opening.find_slot.Goals as goal
+
+pub returns-in_err-sync-clause-does : goal.returns-in_err-sync-clause-does
+returns-in_err-sync-clause-does g c told =
+    finds_fault _ _ _ c.from_residual-in_err-sync.ensures.1 (sync_only _ _ _ _ (c.in_ok-length.ensures.does told).only (c.sync.ensures.does told))
+
+pub returns-in-Ok-Some-clause-does : goal.returns-in-Ok-Some-clause-does
+returns-in-Ok-Some-clause-does g c told =
+    finds _ _ _ _ (c.in_ok-length.ensures.does told).only (c.in_ok-sync.ensures.does told) (c.read_live.ensures.only told) _
+    (found_some _ _ _ c.in-Ok-Some.field-0-is (c.in-Ok-Some.ensures.finds told))
+
+pub returns-in-Ok-None-clause-does : goal.returns-in-Ok-None-clause-does
+returns-in-Ok-None-clause-does g c told =
+    finds _ _ _ _ (c.in_ok-length.ensures.does told).only (c.in_ok-sync.ensures.does told) (c.read_live.ensures.only told) _
+    (no_store (g.G.Ground.told c.read_live.new.outside).held (found_none _ _ c.in-Ok-None.field-0-is (c.in-Ok-None.ensures.finds told)))
+
+pub returns-in-Err-Form-clause-does : goal.returns-in-Err-Form-clause-does
+returns-in-Err-Form-clause-does g c told =
+    finds_form _ _ _ _ (c.in_ok-length.ensures.does told).only (c.in_ok-sync.ensures.does told) (c.read_live.ensures.only told) c.in-Err-Form.index _
+    (found_form _ _ _ c.in-Err-Form.field-0-is (c.in-Err-Form.ensures.finds told)) c.slot_damaged.ensures
+
+pub returns-in-Err-Ground-clause-does : goal.returns-in-Err-Ground-clause-does
+returns-in-Err-Ground-clause-does g c told = finds _ _ _ _ (c.in_ok-length.ensures.does told).only (c.in_ok-sync.ensures.does told) (c.read_live.ensures.only told) _ tt

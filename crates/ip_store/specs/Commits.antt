@@ -1,0 +1,148 @@
+-- What a commit does.
+--     reply_to result      the reply; a fault of the ground has none.      IsRefused result      another answer than the commit's name and that fault
+--     Answers s command met reply store work      the reply and the next state are the machine's, for what was met
+--     Commits r work branch info result store store' old new      what it does to what a ground tells
+--     LimitsSpace      which limit is met
+use Rattle.std.specs.Prelude.{◌≡◌, ◌⊎◌, ℕ, ◌+◌, ◌^◌, ◌<◌, ◌≤◌, [], ◌∷◌, length, true, false, Option, Some, None, IsSome, IfSome, IsErr, IsErrOf, Result, Ok, Err, OnOk}
+use Rattle.ip_base.specs.declared.info.Info.{Info}
+use Rattle.ip_ground.specs.Told.{Told, NoFile, ChangesOnly, EachImage}
+use Rattle.ip_spec.specs.declared.met.Met.{Met}
+use Rattle.ip_spec.specs.declared.met.Child.TheVariants as Child
+use Rattle.ip_spec.specs.Path.{Bytes}
+use Rattle.ip_spec.specs.Record.{Hash}
+use Rattle.ip_spec.specs.declared.record.Parent.{Parent}
+use Rattle.ip_spec.specs.Repository.{Repository, next, name_at}
+use Rattle.ip_base.specs.declared.limit.Limit.{Limit}
+use Rattle.ip_base.specs.declared.limit.Limit.TheVariants as Limit
+use Rattle.ip_spec.specs.declared.command.Command.{Command}
+use Rattle.ip_spec.specs.declared.command.Command.TheVariants as Command
+use Rattle.ip_spec.specs.declared.reply.Reply.{Reply}
+use Rattle.ip_spec.specs.declared.reply.Reply.TheVariants as Reply
+use Rattle.ip_spec.specs.Machine.{State, Phase, Conditions}
+use Rattle.ip_spec.specs.Step.{IsMet, turned, Refused, Turned, new_commit, with_commit}
+use Rattle.ip_spec.specs.TreeAt.{Records}
+use Rattle.ip_image.specs.Standing.{StandsFor}
+use Rattle.ip_image.specs.declared.slot.Slot.{Slot}
+use Rattle.ip_image.specs.Appending.{next_slot, fields_of, batch_of, batch_end_of, bytes_of_records, AreWithin, MayCommit}
+use Rattle.ip_store.specs.declared.store.Store.{Store}
+use Rattle.ip_store.specs.declared.work.Work.{Work}
+use Rattle.ip_store.specs.declared.committing.Plan.{Plan}
+use Rattle.ip_store.specs.declared.committing.StoreFault.{StoreFault}
+use Rattle.ip_store.specs.declared.committing.StoreFault.TheVariants as StoreFault
+use Rattle.ip_store.specs.Publishing.{TheTwo}
+use Rattle.ip_store.specs.Store.{IsOf, Holds, IsInOrder, session, IsLawful}
+
+-- nothing met but a limit, or want of memory
+abbrev pub met_nothing : Met
+met_nothing = record { child = Child.NotAsked; checking = None; start_failed = false; kill_failed = false; left = 0; short = None; refused = false }
+
+-- the limits that depend on more than the machine's state
+abbrev pub short_of : Limit → Option Limit
+short_of Limit.Space = Some Limit.Space
+short_of Limit.Sequence = Some Limit.Sequence
+short_of limit = None
+
+-- what was met by an answer
+abbrev pub met_by : Result Hash StoreFault → Met
+met_by (Err (StoreFault.Limit limit)) = record met_nothing { short = short_of limit }
+met_by (Err StoreFault.Memory) = record met_nothing { refused = true }
+met_by result = met_nothing
+
+abbrev pub conditions_of : Met → Conditions
+conditions_of met = record { told = met; difference = None }
+
+abbrev pub fault_reply : StoreFault → Option Reply
+fault_reply (StoreFault.HeadMoved name) = Some (Reply.HeadMoved name)
+fault_reply (StoreFault.Existing name) = Some (Reply.Existing name)
+fault_reply (StoreFault.Limit limit) = Some (Reply.Limit limit)
+fault_reply StoreFault.Memory = Some Reply.Memory
+fault_reply StoreFault.Ground = None
+
+abbrev pub reply_to : Result Hash StoreFault → Option Reply
+reply_to (Ok name) = Some (Reply.Committed name)
+reply_to (Err fault) = fault_reply fault
+
+-- a refusal, as the machine has it
+abbrev pub refusal : StoreFault → Reply
+refusal (StoreFault.HeadMoved name) = Reply.HeadMoved name
+refusal (StoreFault.Existing name) = Reply.Existing name
+refusal (StoreFault.Limit limit) = Reply.Limit limit
+refusal StoreFault.Memory = Reply.Memory
+refusal StoreFault.Ground = Reply.Memory
+
+abbrev pub refused_by : Result (Unit {0}) StoreFault → Refused (Unit {0})
+refused_by (Ok u) = Ok tt
+refused_by (Err fault) = Err (refusal fault)
+
+abbrev pub IsRefused : Result Hash StoreFault → Type 0
+IsRefused result = IsErr result × IsSome (reply_to result)
+
+-- the machine refuses the commit so, and stays as it is
+abbrev pub IsRefusal : Repository → Work → Bytes → Info → StoreFault → Type 0
+IsRefusal r work branch info fault = IfSome (fault_reply fault) (λ reply.
+    IsMet (session r work) (Command.Commit branch info) (conditions_of (met_by (Err fault))) reply
+    × (turned (session r work) (Command.Commit branch info) (conditions_of (met_by (Err fault))) ≡ (reply, session r work)))
+
+-- a parent as a commit record has it
+abbrev pub parent_named : Repository → ℕ → Parent
+parent_named r n = record { number = n; name = name_at r n }
+
+-- the slot behind the live one, where so many bytes of records follow
+abbrev pub SlotBehind : Slot → ℕ → Result Slot StoreFault → Type 0
+SlotBehind s length (Ok next) = (next ≡ next_slot s (s.end + length)) × (s.end + length ≤ 2 ^ 62) × (s.sequence < 2 ^ 62)
+SlotBehind s length (Err (StoreFault.Limit Limit.Space)) = 2 ^ 62 < s.end + length
+SlotBehind s length (Err (StoreFault.Limit Limit.Sequence)) = (s.end + length ≤ 2 ^ 62) × (2 ^ 62 ≤ s.sequence)
+SlotBehind s length (Err fault) = ⊥
+
+-- the turn of a commit that nothing refuses
+abbrev pub committed : Repository → Work → Bytes → Info → Turned
+committed r work branch info =
+    let c = new_commit r work.tree work.parents info in
+    (Reply.Committed c.name, record { repository = with_commit r c branch; phase = Phase.Idle; work = record { tree = work.tree; parents = next r ∷ []; least = Some (next r) } })
+
+abbrev pub records_of : Repository → Work → Bytes → Info → Store → Records
+records_of r work branch info store = batch_of work.tree (fields_of r work.parents info branch) store.slot.end
+
+abbrev pub end_of : Repository → Work → Bytes → Info → Store → ℕ
+end_of r work branch info store = batch_end_of work.tree (fields_of r work.parents info branch) store.slot.end
+
+-- what a commit will do, once none of its refusals came
+pub record IsPlan (r : Repository) (work : Work) (branch : Bytes) (info : Info) (store : Store) (plan : Plan) : Type 0 where
+  pub number : plan.number ≡ next r
+  pub name : plan.batch.name ≡ (new_commit r work.tree work.parents info).name
+  pub bytes : plan.batch.bytes.items ≡ bytes_of_records (records_of r work branch info store)
+  pub same_branch : plan.branch ≡ branch
+  pub parents : plan.parents ≡ next r ∷ []
+  pub slot : plan.slot ≡ next_slot store.slot (end_of r work branch info store)
+  pub ends : end_of r work branch info store ≤ 2 ^ 62
+  pub behind : end_of r work branch info store ≡ store.slot.end + length plan.batch.bytes.items
+  pub sequence : store.slot.sequence < 2 ^ 62
+  pub may : MayCommit r work.tree work.parents info branch
+  pub within : AreWithin store.slot.version (records_of r work branch info store)
+  pub turn : turned (session r work) (Command.Commit branch info) (conditions_of met_nothing) ≡ committed r work branch info
+
+pub record Answers (s : State) (command : Command) (met : Met) (reply : Reply) (store : Store) (work : Work) : Type 0 where
+  pub after : Repository
+  pub is_met : IsMet s command (conditions_of met) reply
+  pub turn : turned s command (conditions_of met) ≡ (reply, session after work)
+  pub tables : IsOf store after
+  pub lawful : IsLawful after work
+
+-- the repository after the commit, where nothing is refused it and none of its writes fails
+abbrev pub repository_after : Repository → Work → Bytes → Info → Repository
+repository_after r work branch info = (turned (session r work) (Command.Commit branch info) (conditions_of met_nothing)).1.repository
+
+pub record Commits (r : Repository) (work : Work) (branch : Bytes) (info : Info) (result : Result Hash StoreFault) (store store' : Store) (old new : Told) : Type 0 where
+  pub only : ChangesOnly TheTwo old new
+  -- a refused commit changes nothing
+  pub refused : IsRefused result → ChangesOnly NoFile old new × Holds store' new r
+  pub ok : OnOk result (Holds store' new (repository_after r work branch info))
+  -- where nothing was pending, each image at each moment stands for the repository before or after the commit, and nothing is pending in the end
+  pub images : IsInOrder store old → EachImage old new (λ said image. StandsFor image r ⊎ StandsFor image (repository_after r work branch info))
+  pub order : IsInOrder store old → IsSome (reply_to result) → IsInOrder store' new
+
+-- the place after the commit's records would pass the greatest one, or the slot's sequence is the greatest
+pub record LimitsSpace (r : Repository) (work : Work) (branch : Bytes) (info : Info) (result : Result Hash StoreFault) (store : Store) : Type 0 where
+  pub space : IsErrOf result (StoreFault.Limit Limit.Space) → 2 ^ 62 < batch_end_of work.tree (fields_of r work.parents info branch) store.slot.end
+  pub sequence : IsErrOf result (StoreFault.Limit Limit.Sequence) → (batch_end_of work.tree (fields_of r work.parents info branch) store.slot.end ≤ 2 ^ 62) × (store.slot.sequence ≡ 2 ^ 62)
+  pub enough : OnOk result ((batch_end_of work.tree (fields_of r work.parents info branch) store.slot.end ≤ 2 ^ 62) × (store.slot.sequence < 2 ^ 62))

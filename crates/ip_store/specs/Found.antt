@@ -1,0 +1,43 @@
+-- The beginning and the end of opening a store.
+--     FindsSlot result old new      what finding the live slot does.      Finishes index s found result      what makes a store of it, and of what was found
+use Rattle.std.specs.Prelude.{◌≡◌, ℕ, ◌*◌, map, Result, Ok, Err, OnOk}
+use Rattle.ip_ground.specs.declared.names.FileName.TheVariants.{Control}
+use Rattle.ip_ground.specs.Told.{Told, ChangesOnly, NoFile, IsKept}
+use Rattle.ip_ground.specs.Contents.{Image}
+use Rattle.ip_spec.specs.Record.{Names}
+use Rattle.ip_spec.specs.TreeAt.{Records}
+use Rattle.ip_image.specs.declared.slot.Slot.{Slot}
+use Rattle.ip_image.specs.Slot.{IsLive}
+use Rattle.ip_image.specs.Standing.{NoStore, DamagedAt, WholeFits, commits_in, named}
+use Rattle.ip_audit.specs.Audits.{commit_name}
+use Rattle.ip_store.specs.declared.opening.OpenFault.{OpenFault}
+use Rattle.ip_store.specs.declared.opening.OpenFault.TheVariants as OpenFault
+use Rattle.ip_store.specs.declared.store.Store.{Store}
+use Rattle.ip_store.specs.declared.walk.Found.{Found}
+use Rattle.ip_store.specs.Control.{control_in}
+use Rattle.ip_store.specs.Walk.{Tells}
+
+-- a fault of the ground apart, the slot that is live, or why there is none
+abbrev pub FoundIn : Image → Result (ℕ × Slot) OpenFault → Type 0
+FoundIn image (Ok live) = IsLive (control_in image) live.0 live.1
+FoundIn image (Err OpenFault.NoStore) = NoStore image
+FoundIn image (Err (OpenFault.Damaged file at)) = DamagedAt image file at
+FoundIn image (Err OpenFault.Ground) = Unit {0}
+FoundIn image (Err OpenFault.Memory) = Unit {0}
+
+pub record FindsSlot (result : Result (ℕ × Slot) OpenFault) (old new : Told) : Type 0 where
+  pub only : ChangesOnly NoFile old new
+  pub finds : FoundIn new.held result
+  pub kept : OnOk result (IsKept new Control)
+
+-- whatever the records are of which it is true
+pub record Finished (number : ℕ) (s : Slot) (found : Found) (store : Store) : Type 0 where
+  pub index : store.index ≡ number
+  pub slot : store.slot ≡ s
+  pub fits : (records : Records) → Tells s found records → WholeFits s records
+  pub names : (records : Records) → Tells s found records → map commit_name (commits_in records) ≡ store.names
+  pub branches : (records : Records) → Tells s found records → named Names.branches records ≡ store.branches
+
+abbrev pub Finishes : ℕ → Slot → Found → Result Store OpenFault → Type 0
+Finishes index s found (Ok store) = Finished index s found store
+Finishes index s found (Err fault) = (fault ≡ OpenFault.Damaged Control (128 * index)) × ((records : Records) → Tells s found records → ¬ WholeFits s records)

@@ -1,0 +1,109 @@
+// The branches of a store.
+ghost use Rattle.std.specs.Prelude.{◌≡◌, ◌↔◌, ◌≤◌, ◌<◌, ◌&&◌, nat_le, nat_lt, IsTrue, IfSome, OnOk, OnErr};
+ghost use Rattle.std.specs.List.{list_all};
+ghost use Rattle.std.specs.BTreeMap.{values};
+ghost use Rattle.ip_spec.specs.Path.{Bytes};
+ghost use Rattle.ip_spec.specs.Map.{empty, get, insert, len};
+
+use ip_base::{Memory, Number};
+use std::alloc::Global;
+use std::collections::BTreeMap;
+use std::marker::Model;
+
+/// Names of branches and the numbers of their commits, ascending by the bytes of the names, which contracts see as a map.
+#[derive(Drop)]
+pub struct Branches {
+    entries: BTreeMap<Vec<u8>, Number>,
+}
+
+impl Model for Branches {
+    ghost use Rattle.std.specs.BTreeMap.{IsOrdered};
+    ghost use Rattle.std.specs.Prelude.{ℕ};
+    ghost use Rattle.ip_spec.specs.Map.{Map};
+    ghost use Rattle.ip_spec.specs.Path.{bytes_cmp};
+    ghost use Rattle.ip_store.specs.Entries.{step_cmp, branches_of, branches_code};
+
+    ghost Value = { Map bytes_cmp ℕ };
+
+    ghost coded = { branches_code };
+
+    ghost view = { λ b. branches_of b.entries };
+
+    ghost invariant = { λ b. IsOrdered step_cmp b.entries };
+}
+
+impl Branches {
+    /// No branch.
+    pub fn new(alloc: Global) -> Self
+        ensures { result ≡ empty }
+    {
+        Branches {
+            entries: BTreeMap::new(alloc),
+        }
+    }
+
+    /// How many there are.
+    pub fn len(&self) -> usize
+        ensures { result ≡ len self.now }
+    {
+        self.entries.len()
+    }
+
+    /// The number of the commit that a branch is at.
+    pub fn get(&self, name: &[u8]) -> Option<Number>
+        ensures { result ≡ get self.now name.now }
+    {
+        self.entries.get(name).copied()
+    }
+
+    /// Puts a branch at a commit. Where memory is refused nothing changes.
+    pub fn set(&mut self, name: Vec<u8>, number: Number) -> Result<(), Memory>
+        ensures ok { OnOk result (self.new ≡ insert self.old name.items number) }
+        ensures err { OnErr result (self.new ≡ self.old) }
+    {
+        self.entries.insert(name, number)?;
+        Ok(())
+    }
+
+    /// Whether each is at a commit with a number from `low` on and below `high`.
+    pub fn are_within(&self, low: u64, high: u64) -> bool
+        ensures { IsTrue result ↔ ((name : Bytes) → IfSome (get self.now name) (λ n. (low ≤ n) × (n < high))) }
+    {
+        all_within(&self.entries, low, high)
+    }
+}
+
+fn all_within(entries: &BTreeMap<Vec<u8>, Number>, low: u64, high: u64) -> bool
+    ensures { result ≡ list_all (λ n. nat_le low n && nat_lt n high) (values entries.now) }
+{
+    entries
+        .values()
+        .all(|number| low <= number.get() && number.get() < high)
+}
+
+#[cfg(test)]
+mod tests {
+    use super::*;
+    use std::test::Fail;
+
+    fn set(alloc: Global, branches: &mut Branches, name: &[u8], number: u64) -> Result<(), Memory> {
+        branches.set(Vec::from_slice(alloc, name)?, Number(number))
+    }
+
+    #[test]
+    fn branches_move(rt: HostRuntime) -> Result<(), Fail> {
+        let alloc = rt.alloc();
+        let mut branches = Branches::new(alloc);
+        for (name, number) in [(b"b", 4), (b"a", 2), (b"b", 7)] {
+            assert_eq!(rt; set(alloc, &mut branches, name, number), Ok(()));
+        }
+        assert_eq!(rt; branches.len(), 2);
+        assert_eq!(rt; branches.get(b"a"), Some(Number(2)));
+        assert_eq!(rt; branches.get(b"b"), Some(Number(7)));
+        assert_eq!(rt; branches.get(b"ab"), None);
+        for (low, high, within) in [(2, 8, true), (3, 8, false), (2, 7, false)] {
+            assert_eq!(rt; branches.are_within(low, high), within, "{low} {high}");
+        }
+        Ok(())
+    }
+}

@@ -1,0 +1,312 @@
+// Committing a work: its refusals, its records, and the durable step.
+ghost use Rattle.std.specs.Prelude.{◌≡◌, ◌++◌, [], ◌∷◌, ◌==◌, ◌≤◌, ◌<◌, ◌^◌, None, map, position, All, length, IsTrue, IfSome, IfOk, IfErr, OnOk, OnErr, IsErrOf};
+ghost use Rattle.std.specs.List.{list_any};
+ghost use Rattle.ip_ground.specs.Counts.{NoneFalls, Rose};
+ghost use Rattle.ip_spec.specs.declared.command.Command.TheVariants as Command;
+ghost use Rattle.ip_spec.specs.declared.reply.Reply.TheVariants as Reply;
+ghost use Rattle.ip_spec.specs.Map.{insert};
+ghost use Rattle.ip_spec.specs.Path.{same_bytes};
+ghost use Rattle.ip_base.specs.declared.limit.Limit.TheVariants as Limit;
+ghost use Rattle.ip_spec.specs.Record.{IsBranchName, IsInfo, IsHash, IsU64};
+ghost use Rattle.ip_spec.specs.Repository.{Repository, head, is_retained, name_at};
+ghost use Rattle.ip_spec.specs.Step.{unless_some, moved_head, room_for_branch, not_existing};
+ghost use Rattle.ip_image.specs.Slot.{IsSlot};
+ghost use Rattle.ip_image.specs.Appending.{fields_of};
+ghost use Rattle.ip_store.specs.Batches.{fields_told, AreFields};
+ghost use Rattle.ip_store.specs.declared.committing.StoreFault.TheVariants as StoreFault;
+ghost use Rattle.ip_store.specs.Commits.{parent_named, reply_to, refused_by, met_by, SlotBehind, IsRefusal, IsPlan, end_of, Answers, Commits, LimitsSpace};
+ghost use Rattle.ip_store.specs.Store.{IsOf, Holds, IsSound, session, IsLawful};
+
+use crate::publish::durable_step;
+use crate::{Batch, CommitFields, Store, Work};
+use ip_base::{Blob, Hash, Info, Limit, Memory, Number, Numbers};
+use ip_control::Slot;
+use ip_ground::{Ground, GroundFault};
+use ip_spec::met::{Child, Met};
+use ip_spec::record::{Parent, Parents};
+use std::alloc::Global;
+
+/// Branches of a store.
+const MOST_BRANCHES: usize = 4096;
+
+/// Of offsets and sequences.
+const GREATEST: u64 = 1 << 62;
+
+/// Why a call of the store did nothing.
+#[derive(Clone, Copy, Debug, PartialEq, Eq)]
+pub enum StoreFault {
+    /// The branch is at this commit, which is none of the work's parents.
+    HeadMoved(Hash),
+    /// There is a commit of this name.
+    Existing(Hash),
+    /// The limit that it would pass.
+    Limit(Limit),
+    /// A call on the ground failed: what the files hold is known again once the store is opened anew.
+    Ground,
+    Memory,
+}
+
+impl From<GroundFault> for StoreFault {
+    ghost use Rattle.ip_store.specs.declared.committing.StoreFault.TheVariants as StoreFault;
+
+    ghost from_gives = { λ _ e. e ≡ StoreFault.Ground };
+
+    fn from(_: GroundFault) -> Self {
+        StoreFault::Ground
+    }
+}
+
+// A commit that nothing refuses.
+#[derive(Drop)]
+pub struct Plan {
+    number: Number,
+    branch: Blob,
+    batch: Batch,
+    slot: Slot,
+    parents: Numbers,
+}
+
+// What was met by an answer.
+fn met_by(answer: &Result<Hash, StoreFault>) -> Met
+    ensures { result ≡ met_by answer.now }
+{
+    Met {
+        child: Child::NotAsked,
+        checking: None,
+        start_failed: false,
+        kill_failed: false,
+        left: 0,
+        short: match answer {
+            Err(StoreFault::Limit(Limit::Space)) => Some(Limit::Space),
+            Err(StoreFault::Limit(Limit::Sequence)) => Some(Limit::Sequence),
+            _ => None,
+        },
+        refused: matches!(answer, Err(StoreFault::Memory)),
+    }
+}
+
+// A list of one number.
+fn only(alloc: Global, number: Number) -> Result<Numbers, Memory>
+    ensures { IfOk result (λ numbers. numbers ≡ number ∷ []) }
+{
+    let mut numbers = Numbers::empty(alloc);
+    numbers.push(number)?;
+    Ok(numbers)
+}
+
+impl From<Memory> for StoreFault {
+    ghost use Rattle.ip_store.specs.declared.committing.StoreFault.TheVariants as StoreFault;
+
+    ghost from_gives = { λ _ e. e ≡ StoreFault.Memory };
+
+    fn from(_: Memory) -> Self {
+        StoreFault::Memory
+    }
+}
+
+impl Store {
+    // The name of a retained commit.
+    fn retained_name(&self, number: Number) -> Hash
+        requires tables { (r : Repository) × IsOf self.now r × IsTrue (is_retained r number) }
+        ensures { (r : Repository) → IsOf self.now r → IsTrue (is_retained r number) → result ≡ name_at r number }
+    {
+        match self.names.at((number.get() - self.slot.floor) as usize) {
+            Some(name) => name,
+            None => unreachable!(),
+        }
+    }
+
+    // The parent of this number as a commit record has it.
+    fn parent_named(&self, number: Number) -> Parent
+        requires tables { (r : Repository) × IsOf self.now r × IsTrue (is_retained r number) }
+        ensures value { (r : Repository) → IsOf self.now r → IsTrue (is_retained r number) → result ≡ parent_named r number }
+        ensures within { IsU64 result.number × IsHash result.name }
+    {
+        let name = self.retained_name(number);
+        name.as_slice();
+        Parent { number, name }
+    }
+
+    // Refused where the branch is at a commit that is none of these.
+    fn head_among(&self, parents: &[Number], branch: &[u8]) -> Result<(), StoreFault>
+        requires tables { (r : Repository) × IsOf self.now r }
+        ensures { (r : Repository) → IsOf self.now r → unless_some (moved_head (head r branch.now) parents.now) (λ n. Reply.HeadMoved (name_at r n)) ≡ refused_by result }
+    {
+        match self.branches.get(branch) {
+            Some(head) if !parents.contains(&head) => Err(StoreFault::HeadMoved(self.retained_name(head))),
+            _ => Ok(()),
+        }
+    }
+
+    // Refused where the branch would be one too many.
+    fn room_for(&self, branch: &[u8]) -> Result<(), StoreFault>
+        ensures { (r : Repository) → IsOf self.now r → room_for_branch r branch.now ≡ refused_by result }
+    {
+        if self.branches.get(branch).is_none() && self.branches.len() >= MOST_BRANCHES {
+            return Err(StoreFault::Limit(Limit::Branches));
+        }
+        Ok(())
+    }
+
+    // Refused where a commit has the name.
+    fn is_new(&self, name: Hash) -> Result<(), StoreFault>
+        ensures { (r : Repository) → IsOf self.now r → not_existing r name ≡ refused_by result }
+    {
+        if self.names.place_of(&name).is_some() {
+            return Err(StoreFault::Existing(name));
+        }
+        Ok(())
+    }
+
+    // The parents as a commit record has them.
+    fn parents_named(&self, alloc: Global, numbers: &[Number]) -> Result<Parents, Memory>
+        requires tables { (r : Repository) × IsOf self.now r × All (λ n. IsTrue (is_retained r n)) numbers.now }
+        ensures named { (r : Repository) → IsOf self.now r → All (λ n. IsTrue (is_retained r n)) numbers.now → IfOk result (λ parents. parents ≡ map (parent_named r) numbers.now) }
+        ensures within { IfOk result (λ parents. All (λ p. IsU64 p.number × IsHash p.name) parents) }
+    {
+        let mut parents = Parents::empty(alloc);
+        for number in numbers {
+            parents.push(self.parent_named(*number))?;
+        }
+        Ok(parents)
+    }
+
+    // The slot behind the live one, where so many bytes of records follow.
+    fn slot_behind(&self, length: usize) -> Result<Slot, StoreFault>
+        requires { IsSlot self.now.slot }
+        ensures { SlotBehind self.now.slot length result }
+    {
+        if length as u64 > GREATEST - self.slot.end {
+            return Err(StoreFault::Limit(Limit::Space));
+        }
+        if self.slot.sequence >= GREATEST {
+            return Err(StoreFault::Limit(Limit::Sequence));
+        }
+        Ok(Slot {
+            sequence: self.slot.sequence + 1,
+            end: self.slot.end + length as u64,
+            next: self.slot.next + 1,
+            ..self.slot
+        })
+    }
+
+    // Enters a commit's name and its branch. Where memory is refused nothing is entered.
+    fn enter(&mut self, name: Hash, branch: Blob, number: Number) -> Result<(), Memory>
+        requires { position (λ n. same_bytes n name) self.old.names ≡ None }
+        ensures ok { OnOk result ((self.new.names ≡ self.old.names ++ name ∷ []) × (self.new.branches ≡ insert self.old.branches branch number)) }
+        ensures err { OnErr result ((self.new.names ≡ self.old.names) × (self.new.branches ≡ self.old.branches)) }
+        ensures rest { (self.new.index ≡ self.old.index) × (self.new.slot ≡ self.old.slot) }
+    {
+        self.names.push(name)?;
+        if let Err(Memory) = self.branches.set(branch.into_vec(), number) {
+            self.names.pop();
+            return Err(Memory);
+        }
+        Ok(())
+    }
+}
+impl Store {
+    /// Commits the work's tree to a branch, and answers the commit's name. Afterwards the work goes on from that commit. Once it is `Ok` the
+    /// commit is there for good. After `Ground` the store may not be used any more.
+    pub fn commit<G: Ground>(
+        &mut self,
+        alloc: Global,
+        outside: &mut G,
+        work: &mut Work,
+        branch: &[u8],
+        info: Info,
+    ) -> Result<Hash, StoreFault>
+        requires branch { IsBranchName branch.now }
+        requires info { IsInfo info }
+        requires tables { (r : Repository) × IsOf self.old r × IsLawful r work.old }
+        requires held { IsTrue G.tells → IsSound self.old (G.told outside.old) }
+        ensures answers { (r : Repository) → IsOf self.old r → IsLawful r work.old →
+            IfSome (reply_to result) (λ reply. Answers (session r work.old) (Command.Commit branch.now info) self.new.met reply self.new work.new) }
+        ensures limits { (r : Repository) → IsOf self.old r → IsLawful r work.old → LimitsSpace r work.old branch.now info result self.old }
+        ensures does { IsTrue G.tells → (r : Repository) → Holds self.old (G.told outside.old) r → IsLawful r work.old →
+            Commits r work.old branch.now info result self.old self.new (G.told outside.old) (G.told outside.new) }
+        ensures counts { NoneFalls (G.counts_of outside.old) (G.counts_of outside.new) }
+        ensures cause { IsErrOf result StoreFault.Ground → Rose (G.counts_of outside.old).file_faults (G.counts_of outside.new).file_faults }
+    {
+        let answer = self.commit_work(alloc, outside, work, branch, info);
+        self.met = met_by(&answer);
+        answer
+    }
+
+    // The refusals in their order, the records, and all memory but for the tables.
+    fn plan(&self, alloc: Global, work: &Work, branch: &[u8], info: Info) -> Result<Plan, StoreFault>
+        requires branch { IsBranchName branch.now }
+        requires info { IsInfo info }
+        requires tables { (r : Repository) × IsOf self.now r × IsLawful r work.now }
+        ensures refused { (r : Repository) → IsOf self.now r → IsLawful r work.now → IfErr result (IsRefusal r work.now branch.now info) }
+        ensures planned { (r : Repository) → IsOf self.now r → IsLawful r work.now → IfOk result (IsPlan r work.now branch.now info self.now) }
+        ensures space { (r : Repository) → IsOf self.now r → IsLawful r work.now → IsErrOf result (StoreFault.Limit Limit.Space) → 2 ^ 62 < end_of r work.now branch.now info self.now }
+        ensures sequence { (r : Repository) → IsOf self.now r → IsLawful r work.now → IsErrOf result (StoreFault.Limit Limit.Sequence) →
+            (end_of r work.now branch.now info self.now ≤ 2 ^ 62) × (self.now.slot.sequence ≡ 2 ^ 62) }
+        ensures no_fault { IsErrOf result StoreFault.Ground → ⊥ }
+    {
+        self.head_among(work.parents.as_slice(), branch)?;
+        self.room_for(branch)?;
+        let fields = self.fields(alloc, work.parents.as_slice(), branch, info)?;
+        let batch = Batch::of(alloc, &work.tree, &fields, self.slot.end)?;
+        self.is_new(batch.name())?;
+        let slot = self.slot_behind(batch.bytes().len())?;
+        let parents = only(alloc, fields.number)?;
+        Ok(Plan {
+            number: fields.number,
+            branch: fields.branch,
+            batch,
+            slot,
+            parents,
+        })
+    }
+
+    // What the commit's record and its branch's are made of.
+    fn fields(&self, alloc: Global, parents: &[Number], branch: &[u8], info: Info) -> Result<CommitFields, Memory>
+        requires branch { IsBranchName branch.now }
+        requires info { IsInfo info }
+        requires tables { (r : Repository) × IsOf self.now r × All (λ n. IsTrue (is_retained r n)) parents.now }
+        requires few { length parents.now ≤ 16 }
+        ensures fields { (r : Repository) → IsOf self.now r → All (λ n. IsTrue (is_retained r n)) parents.now →
+            IfOk result (λ fields. fields_told fields ≡ fields_of r parents.now info branch.now) }
+        ensures within { IfOk result (λ fields. AreFields (fields_told fields)) }
+    {
+        Ok(CommitFields {
+            number: Number(self.slot.next),
+            parents: self.parents_named(alloc, parents)?,
+            info,
+            branch: Blob::copy_of(alloc, branch)?,
+        })
+    }
+
+    fn commit_work<G: Ground>(
+        &mut self,
+        alloc: Global,
+        outside: &mut G,
+        work: &mut Work,
+        branch: &[u8],
+        info: Info,
+    ) -> Result<Hash, StoreFault>
+        requires branch { IsBranchName branch.now }
+        requires info { IsInfo info }
+        requires tables { (r : Repository) × IsOf self.old r × IsLawful r work.old }
+        requires held { IsTrue G.tells → IsSound self.old (G.told outside.old) }
+        ensures answers { (r : Repository) → IsOf self.old r → IsLawful r work.old →
+            IfSome (reply_to result) (λ reply. Answers (session r work.old) (Command.Commit branch.now info) (met_by result) reply self.new work.new) }
+        ensures limits { (r : Repository) → IsOf self.old r → IsLawful r work.old → LimitsSpace r work.old branch.now info result self.old }
+        ensures does { IsTrue G.tells → (r : Repository) → Holds self.old (G.told outside.old) r → IsLawful r work.old →
+            Commits r work.old branch.now info result self.old self.new (G.told outside.old) (G.told outside.new) }
+        ensures counts { NoneFalls (G.counts_of outside.old) (G.counts_of outside.new) }
+        ensures cause { IsErrOf result StoreFault.Ground → Rose (G.counts_of outside.old).file_faults (G.counts_of outside.new).file_faults }
+    {
+        let plan = self.plan(alloc, work, branch, info)?;
+        let name = plan.batch.name();
+        self.enter(name, plan.branch, plan.number)?;
+        durable_step(outside, self.slot.end, plan.batch.bytes(), 1 - self.index, &plan.slot)?;
+        self.index = 1 - self.index;
+        self.slot = plan.slot;
+        work.parents = plan.parents;
+        work.least = Some(plan.number);
+        Ok(name)
+    }
+}

@@ -1,0 +1,296 @@
+// Opening a store: its control file is read, and then each of its records, once.
+ghost use Rattle.std.specs.Prelude.{◌≡◌, ◌↔◌, ◌+◌, ◌*◌, ◌<◌, length, IsTrue, IfOk, IsErrOf};
+ghost use Rattle.ip_ground.specs.Counts.{NoneFalls, Rose};
+ghost use Rattle.ip_spec.specs.Repository.{Repository};
+ghost use Rattle.ip_image.specs.Slot.{IsSlot};
+ghost use Rattle.ip_image.specs.Standing.{AreRetained};
+ghost use Rattle.ip_store.specs.Opening.{Opens};
+ghost use Rattle.ip_store.specs.Found.{FindsSlot, Finishes};
+ghost use Rattle.ip_store.specs.Store.{IsOf};
+ghost use Rattle.ip_ground.specs.declared.names.FileName.TheVariants.{Control};
+
+use crate::walk::{Found, read_records};
+use crate::{Branches, Store};
+use ip_audit::Names;
+use ip_base::Memory;
+use ip_control::{ControlFault, Slot, read_live};
+use ip_ground::{FileName, Ground, GroundFault};
+use ip_spec::met::{Child, Met};
+use std::alloc::Global;
+
+/// Branches of one store.
+const MOST_BRANCHES: usize = 4096;
+
+/// Why no store was opened.
+#[derive(Clone, Copy, Debug, PartialEq, Eq)]
+pub enum OpenFault {
+    /// None is there: no slot of the control file is open.
+    NoStore,
+    /// The files are no store's, and this is the first place that shows it.
+    Damaged { file: FileName, at: u64 },
+    /// A call on the ground failed, as its counts show.
+    Ground,
+    /// Want of memory, for the buffer, for a record or for the tables.
+    Memory,
+}
+
+impl From<GroundFault> for OpenFault {
+    ghost use Rattle.ip_store.specs.declared.opening.OpenFault.TheVariants as OpenFault;
+
+    ghost from_gives = { λ _ e. e ≡ OpenFault.Ground };
+
+    fn from(_: GroundFault) -> Self {
+        OpenFault::Ground
+    }
+}
+
+impl From<Memory> for OpenFault {
+    ghost use Rattle.ip_store.specs.declared.opening.OpenFault.TheVariants as OpenFault;
+
+    ghost from_gives = { λ _ e. e ≡ OpenFault.Memory };
+
+    fn from(_: Memory) -> Self {
+        OpenFault::Memory
+    }
+}
+
+impl Store {
+    /// Opens the store: it reads each byte of its records once, and keeps the names of the commits and the branches. Besides these it
+    /// takes memory for a buffer of two mebibytes at most and for one record. `NoStore` and `Damaged` are final; after the other two it
+    /// may be tried again.
+    pub fn open_at<G: Ground>(alloc: Global, outside: &mut G) -> Result<Store, OpenFault>
+        ensures tables { IfOk result (λ store. (r : Repository) × IsOf store r) }
+        ensures does { IsTrue G.tells → Opens result (G.told outside.old) (G.told outside.new) }
+        ensures counts { NoneFalls (G.counts_of outside.old) (G.counts_of outside.new) }
+        ensures cause { IsErrOf result OpenFault.Ground → Rose (G.counts_of outside.old).file_faults (G.counts_of outside.new).file_faults }
+    {
+        let (index, slot) = find_slot(outside)?;
+        let found = read_records(alloc, outside, &slot)?;
+        finish(index, slot, found)
+    }
+}
+
+// The live slot, and which one it is. From the sync on, what is read of the control file is what a crash leaves.
+fn find_slot<G: Ground>(outside: &mut G) -> Result<(u8, Slot), OpenFault>
+    ensures order { IfOk result (λ live. (live.0 < 2) × IsSlot live.1) }
+    ensures does { IsTrue G.tells → FindsSlot result (G.told outside.old) (G.told outside.new) }
+    ensures counts { NoneFalls (G.counts_of outside.old) (G.counts_of outside.new) }
+    ensures cause { IsErrOf result OpenFault.Ground → Rose (G.counts_of outside.old).file_faults (G.counts_of outside.new).file_faults }
+{
+    if outside.length(FileName::Control)?.is_none() {
+        return Err(OpenFault::NoStore);
+    }
+    outside.sync(FileName::Control)?;
+    match read_live(outside) {
+        Ok(Some(live)) => Ok(live),
+        Ok(None) => Err(OpenFault::NoStore),
+        Err(ControlFault::Form(index)) => Err(slot_damaged(index)),
+        Err(ControlFault::Ground) => Err(OpenFault::Ground),
+    }
+}
+
+// What shows that the files are no store's: the slot of this number.
+fn slot_damaged(index: u8) -> OpenFault
+    ensures { result ≡ OpenFault.Damaged Control (128 * index) }
+{
+    OpenFault::Damaged {
+        file: FileName::Control,
+        at: 128 * u64::from(index),
+    }
+}
+
+// The store of a slot and its records, where the two go together.
+fn finish(index: u8, slot: Slot, found: Found) -> Result<Store, OpenFault>
+    requires { IsSlot slot }
+    ensures { Finishes index slot found result }
+{
+    let Found { audit, branches } = found;
+    let names = audit.into_names();
+    if !is_whole(&slot, &names, &branches) {
+        return Err(slot_damaged(index));
+    }
+    Ok(Store {
+        index,
+        slot,
+        names,
+        branches,
+        met: nothing_met(),
+    })
+}
+
+// Whether there are as many commits as the slot says, and each branch is at one of them.
+fn is_whole(slot: &Slot, names: &Names, branches: &Branches) -> bool
+    requires { IsSlot slot.now }
+    ensures { IsTrue result ↔ ((slot.now.next ≡ slot.now.floor + length names.now) × AreRetained slot.now branches.now) }
+{
+    slot.next - slot.floor == names.len() as u64
+        && branches.len() <= MOST_BRANCHES
+        && branches.are_within(slot.floor, slot.next)
+}
+
+fn nothing_met() -> Met {
+    Met {
+        child: Child::NotAsked,
+        checking: None,
+        start_failed: false,
+        kill_failed: false,
+        left: 0,
+        short: None,
+        refused: false,
+    }
+}
+
+#[cfg(test)]
+mod tests {
+    use super::*;
+    use ip_ground::Bench;
+    use ip_object::hash_contents;
+    use std::test::Fail;
+
+    const CHUNK: FileName = FileName::Chunk(0);
+
+    // The control file of an empty store, whose slot 1 was then published: these low bytes are its end, its next commit and its
+    // live attempt.
+    fn control(end: u8, next: u8, live: u8) -> [u8; 256] {
+        let mut out = [0; 256];
+        out[0] = 0xa5;
+        out[8] = 1;
+        out[16] = 1;
+        out[26] = 0x10;
+        out[72] = 1;
+        out[104] = 1;
+        out[128] = 0xa5;
+        out[136] = 1;
+        out[144] = 2;
+        out[154] = 0x10;
+        out[168] = end;
+        out[184] = next;
+        out[192] = live;
+        out[200] = 4;
+        out[232] = 1;
+        out
+    }
+
+    // An empty directory, a commit of it by `a` with the message `m`, and the branch `main` at a commit. They end at 9, 76 and 94.
+    fn records(alloc: Global, branch: u8) -> Result<Vec<u8>, Memory> {
+        let mut out = Vec::from_slice(alloc, &[2, 4, 0, 0, 0, 0, 0, 0, 0])?;
+        out.extend_from_slice(&[4, 62, 0, 0, 0, 0, 0, 0, 0, 0, 0, 0, 0])?;
+        out.extend_from_slice(hash_contents(&[2, 0, 0, 0, 0]).as_slice())?;
+        out.extend_from_slice(&[
+            0, 0, 0, 0, 0, 0, 0, 0, 0, 7, 0, 0, 0, 0, 0, 0, 0, 1, b'a', 1, 0, b'm',
+        ])?;
+        out.extend_from_slice(&[5, 13, 0, 0, 0, branch, 0, 0, 0, 0, 0, 0, 0, 4])?;
+        out.extend_from_slice(b"main")?;
+        Ok(out)
+    }
+
+    // What is open of these files: how many commits and branches, and where `main` is.
+    fn opened(
+        rt: &HostRuntime,
+        control: &[u8],
+        chunk: &[u8],
+    ) -> Result<(usize, usize, Option<u64>), OpenFault> {
+        let alloc = rt.alloc();
+        let mut ground = Bench::new(alloc, Vec::new(alloc), None, Vec::new(alloc));
+        ground.write(FileName::Control, 0, control)?;
+        ground.write(CHUNK, 0, chunk)?;
+        let store = Store::open_at(alloc, &mut ground)?;
+        let main = store.branches.get(b"main").map(|number| number.get());
+        Ok((store.names.len(), store.branches.len(), main))
+    }
+
+    fn damaged(file: FileName, at: u64) -> Result<(usize, usize, Option<u64>), OpenFault> {
+        Err(OpenFault::Damaged { file, at })
+    }
+
+    fn front(bytes: &[u8], length: usize) -> &[u8] {
+        &bytes[..length.min(bytes.len())]
+    }
+
+    #[test]
+    fn a_slot_and_its_records_go_together(rt: HostRuntime) -> Result<(), Fail> {
+        let rows = [
+            (control(94, 1, 0), 0, Ok((1, 1, Some(0)))),
+            (control(76, 1, 0), 0, Ok((1, 0, None))),
+            (control(94, 1, 0), 1, damaged(FileName::Control, 128)),
+            (control(94, 2, 0), 0, damaged(FileName::Control, 128)),
+            (control(9, 1, 0), 0, damaged(FileName::Control, 128)),
+            (control(94, 1, 3), 0, damaged(FileName::Control, 128)),
+            (control(93, 1, 0), 0, damaged(CHUNK, 76)),
+            (control(100, 1, 0), 0, damaged(CHUNK, 94)),
+        ];
+        for (control, branch, expected) in &rows {
+            let chunk = records(rt.alloc(), *branch)?;
+            assert_eq!(&rt; opened(&rt, control, &chunk), *expected);
+        }
+        Ok(())
+    }
+
+    #[test]
+    fn a_file_that_was_cut_shows_where(rt: HostRuntime) -> Result<(), Fail> {
+        let chunk = records(rt.alloc(), 0)?;
+        let whole = control(94, 1, 0);
+        for length in 0..94 {
+            let place = if length < 9 {
+                0
+            } else if length < 76 {
+                9
+            } else {
+                76
+            };
+            assert_eq!(&rt;
+                opened(&rt, &whole, front(&chunk, length)),
+                damaged(CHUNK, place),
+                "{length}"
+            );
+        }
+        for length in 0..256 {
+            let expected = if length < 128 {
+                Err(OpenFault::NoStore)
+            } else {
+                Ok((0, 0, None))
+            };
+            assert_eq!(&rt;
+                opened(&rt, front(&whole, length), &chunk),
+                expected,
+                "{length}"
+            );
+        }
+        Ok(())
+    }
+
+    #[test]
+    fn other_records_are_none_yet(rt: HostRuntime) -> Result<(), Fail> {
+        // An inode, and behind an empty directory one whose entry is a directory.
+        let mut inode = Vec::from_slice(rt.alloc(), &[3, 50, 0, 0, 0, 0, 1, 0, 0, 0, 40, 0, 0, 0])?;
+        inode.extend_from_slice(&[0; 50])?;
+        let mut nested = Vec::from_slice(rt.alloc(), &[2, 4, 0, 0, 0, 0, 0, 0, 0])?;
+        nested.extend_from_slice(&[2, 48, 0, 0, 0, 1, 0, 0, 0, 1, b'd', 2, 1])?;
+        nested.extend_from_slice(&[0; 50])?;
+        assert_eq!(&rt; opened(&rt, &control(55, 0, 0), &inode), damaged(CHUNK, 0));
+        assert_eq!(&rt; opened(&rt, &control(62, 0, 0), &nested), damaged(CHUNK, 9));
+        Ok(())
+    }
+
+    #[test]
+    fn a_store_is_read_by_the_mebibyte(rt: HostRuntime) -> Result<(), Fail> {
+        let alloc = rt.alloc();
+        let mut chunk = Vec::new(alloc);
+        for _ in 0..3 {
+            chunk.extend_from_slice(&[1, 0, 0, 16, 0])?;
+            chunk.extend_from_slice(&vec![in alloc; 7; 1048576]?)?;
+        }
+        // Three contents of 1048576 bytes end at 3145743.
+        let mut whole = control(0x0f, 0, 0);
+        whole[170] = 0x30;
+        let mut ground = Bench::new(alloc, Vec::new(alloc), None, Vec::new(alloc));
+        ground
+            .write(FileName::Control, 0, &whole)
+            .ok()
+            .ok_or("control")?;
+        ground.write(CHUNK, 0, &chunk).ok().ok_or("chunk")?;
+        assert_eq!(&rt; Store::open_at(alloc, &mut ground).is_ok(), true);
+        assert_eq!(&rt; ground.reads(CHUNK), 2);
+        Ok(())
+    }
+}
