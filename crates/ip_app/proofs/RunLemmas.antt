@@ -55,7 +55,7 @@ follow_more : (start last : TurnCounts) (ts : List Turn) (t : Turn) → Follow s
 follow_more start last [] t h e l = (e ∙ h, l, refl)
 follow_more start last (u ∷ ts) t h e l = (h.0, h.1, follow_more u.after last ts t h.2 e l)
 
-append_nil : {A : Type 0} (t : List A) → t ++ [] ≡ t
+pub append_nil : {A : Type 0} (t : List A) → t ++ [] ≡ t
 append_nil [] = refl
 append_nil {A = A} (b ∷ t) = ap (λ (u : List A). b ∷ u) (append_nil t)
 
@@ -195,7 +195,7 @@ serves_none old new s g f left turns begins row =
       first_is = refl;
       run = tt;
       stands = λ b whole h. stands_after old.told new.told (f b) first.repository h;
-      said_part = λ b. record { whole = []; cut = []; part = []; unsaid = []; all = refl; one = omega arith; text = refl; said_is = quiet b ∙ (sym (append_nil (said old.told)) ∙ sym (append_nil (said old.told ++ []))) };
+      said_part = λ b. record { whole = []; cut = []; part = []; unsaid = []; all = refl; one = omega arith; text = refl; said_is = quiet b ∙ (sym (append_nil (said old.told)) ∙ sym (append_nil (said old.told ++ []))); silent = λ cut_short. refl };
       said_all = λ b c. quiet b ∙ sym (append_nil (said old.told));
       noted = λ b. turns ∙ sym (append_nil old.turns);
       since = record { file = g.counts.file_faults; remove = g.counts.remove_faults; spawner = refl };
@@ -284,7 +284,7 @@ serves_stopped s old mid new lines lines' counts counts' session h t =
       first_is = refl;
       run = h.run;
       stands = λ b whole began. subst (λ (state : State). StandsFor new.told.held state.repository) h.now_at (t.stands (told_before _ _ h.goes_on.ground_tells b));
-      said_part = λ b. record { whole = h.exchanges; cut = []; part = []; unsaid = []; all = append_nil h.exchanges; one = omega arith; text = refl; said_is = quiet b ∙ sym (append_nil (said old.told ++ texts_in h.exchanges)) };
+      said_part = λ b. record { whole = h.exchanges; cut = []; part = []; unsaid = []; all = append_nil h.exchanges; one = omega arith; text = refl; said_is = quiet b ∙ sym (append_nil (said old.told ++ texts_in h.exchanges)); silent = λ cut_short. refl };
       said_all = λ b c. quiet b;
       noted = λ l. t.same_turns ∙ h.noted (t.goes_on.log_tells l);
       follow = subst (λ (e : TurnCounts). Follow h.start (turns_in h.exchanges) e) (sym t.same_counts) h.follow;
@@ -318,7 +318,7 @@ serves_unsaid s old mid new lines lines' counts counts' session h cut opened_so 
       first_is = refl;
       run = run_more no_rules first (state_in session h.repository) h.exchanges x h.now_at h.run t.step;
       stands = λ b whole began. subst (λ (state : State). StandsFor new.told.held state.repository) (sym (after_more first h.exchanges x)) (u.stands (told_before _ _ h.goes_on.ground_tells b) whole);
-      said_part = λ b. let p = u.part (told_before _ _ h.goes_on.ground_tells b) in record { whole = h.exchanges; cut = x ∷ []; part = p.0; unsaid = p.1; all = refl; one = omega arith; text = p.2 ∙ sym (append_nil (reply_text x.reply)); said_is = p.3 ∙ ap (λ (v : Bytes). v ++ p.0) (h.said b) };
+      said_part = λ b. let p = u.part (told_before _ _ h.goes_on.ground_tells b) in record { whole = h.exchanges; cut = x ∷ []; part = p.0; unsaid = p.1; all = refl; one = omega arith; text = p.2 ∙ sym (append_nil (reply_text x.reply)); said_is = p.3 ∙ ap (λ (v : Bytes). v ++ p.0) (h.said b); silent = u.silent (told_before _ _ h.goes_on.ground_tells b) };
       said_all = λ b c. absurd (cc (c, cut));
       noted = λ l. t.noted l ∙ (ap (λ u. u ++ x.turn ∷ []) (h.noted (t.goes_on.log_tells l)) ∙ (append_assoc old.turns (turns_in h.exchanges) (x.turn ∷ []) ∙ ap (λ u. old.turns ++ u) (sym (map-append (λ x. x.turn) h.exchanges (x ∷ [])))));
       follow = subst (λ (ts : List Turn). Follow h.start ts counts') (sym (map-append (λ x. x.turn) h.exchanges (x ∷ [])))

@@ -34,19 +34,16 @@ use Rattle.ip_app.proofs.SessionLemmas.{at, floor_zero, stat_of, empty_done, set
 lawful_with : (r : Repository) (work : Work) (tree : Tree) → IsLawful r work → IsLawful r (record work { tree = tree })
 lawful_with r work tree l = record { retained = l.retained; distinct = l.distinct; few = l.few }
 
-empty_lawful : (r : Repository) (work : Work) → work_of work ≡ empty_work → IsLawful r work
+-- a session that just begins, or whose work was emptied
+pub begins_in : (r : Repository) (work : Work) → work_of work ≡ empty_work → IsLawful r work
 unfolding empty_work
-empty_lawful r work e =
+begins_in r work e =
     let none : work.parents ≡ [] = ap (λ w. w.parents) e in
     record {
       retained = subst (All (λ n. IsTrue (is_retained r n))) (sym none) (All-nil (λ n. IsTrue (is_retained r n)));
       distinct = λ i j d before inside. absurd (omega (arith, inside, ap length none));
       few = omega (arith, ap length none);
     }
-
--- a session that just begins
-pub begins_in : (r : Repository) (work : Work) → work_of work ≡ empty_work → IsLawful r work
-begins_in r work e = empty_lawful r work e
 
 module _ (tells : Bool) (a : Told) (s : Session) (r : Repository) (is : IsIn s r) where
   -- the work's tree is this one now, and the files are as before
@@ -70,7 +67,7 @@ module _ (tells : Bool) (a : Told) (s : Session) (r : Repository) (is : IsIn s r
   empty_goes work met e empty = record {
     after = r;
     gives = met_as Command.Empty met (met_only false) Reply.Accepted (at r (work_of work)) e (subst (λ w. Step no_rules (state_in s r) Command.Empty (conditions_of (met_only false)) Reply.Accepted (at r w)) (sym empty) (empty_done r (work_of s.work)));
-    is_in = (is.0, empty_lawful r work empty);
+    is_in = (is.0, begins_in r work empty);
     holds = λ told h. h;
     only = λ told h. only_nowhere a (ChangedBy Reply.Accepted);
     spared = λ long. absurd (ok_is_short long);

@@ -198,5 +198,6 @@ has_words line fault is one = by_test (has_space line) one
 
 -- the words of a line are those that its command may have
 pub words_of_line : (command : Command) (line : Bytes) → IsServedLine command line → HasWords command
+words_of_line (Command.Set path bytes) line is = (is.0, is.1.1.0)
 words_of_line (Command.Commit branch info) line is = (is.1.1.0, is.1.2.1.0)
 words_of_line _ line is = is.0

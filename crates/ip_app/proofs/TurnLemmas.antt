@@ -2,7 +2,7 @@
 --     turned_of      the record Turned of what was read, run and noted
 --     files_of, said_of, part_of      the files and what was said, once the reply was said, or not
 --     stops_reading      why a source is read no further
-use Rattle.std.proofs.Common.{◌≡◌, ◌+◌, ◌++◌, [], ◌∷◌, length, refl, sym, ap, ◌∙◌, subst, arith, None, OnOk, Result, IsTrue}
+use Rattle.std.proofs.Common.{◌≡◌, ◌+◌, ◌++◌, [], ◌∷◌, length, refl, sym, ◌∙◌, subst, arith, None, OnOk, Result, IsTrue}
 use Rattle.ip_ground.specs.declared.names.FileName.{FileName}
 use Rattle.ip_ground.specs.declared.names.GroundCounts.{GroundCounts}
 use Rattle.ip_ground.specs.declared.names.GroundFault.{GroundFault}
@@ -28,7 +28,7 @@ use Rattle.ip_app.specs.Outside.{Outside, GoesOn, KeepsFiles}
 use Rattle.ip_app.specs.Session.{conditions_of, ChangedBy}
 use Rattle.ip_app.specs.Serving.{SaysPart, Turned, Stopped, Stops}
 use Rattle.ip_app.specs.Turns.{turn_counts, IsLater}
-use Rattle.ip_app.proofs.RunLemmas.{keeps_on, keeps_two, keeps_said, says_part}
+use Rattle.ip_app.proofs.RunLemmas.{append_nil, keeps_on, keeps_two, keeps_said, says_part}
 
 -- a line's exchange
 abbrev pub exchange_of : Bytes → Met → TurnCounts → TurnCounts → Reply → State → Exchange
@@ -82,12 +82,8 @@ module _ (old mid new : Told) (given : Reply) (only : ChangesOnly (ChangedBy giv
   pub part_of : (reply : Bytes) → text ≡ reply → SaysPart reply (said old) (said new)
   part_of reply e = subst (λ (t : Bytes). SaysPart t (said old) (said new)) e (subst (λ (s : Bytes). SaysPart text s (said new)) quiet (says_part text r mid new says))
 
-append_nil : (t : Bytes) → t ++ [] ≡ t
-append_nil [] = refl
-append_nil (b ∷ t) = ap (λ (u : Bytes). b ∷ u) (append_nil t)
-
 -- nothing of the reply was said
-pub nothing_said : (old new : Told) (reply : Bytes) → ChangesOnly TheTwo old new → SaysPart reply (said old) (said new)
+abbrev pub nothing_said : (old new : Told) (reply : Bytes) → ChangesOnly TheTwo old new → SaysPart reply (said old) (said new)
 nothing_said old new reply only = ([], reply, refl, said_now old new only.goes only.said ∙ sym (append_nil (said old)))
 
 pub stops_reading : (s : Status) (old new : Outside) (lines lines' : Lines) (counts counts' : TurnCounts) (state : State) → Stopped s old new lines lines' counts counts' state → Stops s old new lines lines' counts counts' state

@@ -71,8 +71,8 @@ is_cut_off Status.SayFault = true
 is_cut_off Status.GroundFault = true
 is_cut_off _ = false
 
--- what was said of the replies: all, or all but the last and a part of that
-pub record SaysUpTo (exchanges : List Exchange) (old new : Bytes) : Type 0 where
+-- what was said of the replies: all, or all but the last and a part of that; nothing of one whose command was cut short
+pub record SaysUpTo (status : Status) (exchanges : List Exchange) (old new : Bytes) : Type 0 where
   pub whole : List Exchange
   pub cut : List Exchange
   pub part : Bytes
@@ -81,6 +81,7 @@ pub record SaysUpTo (exchanges : List Exchange) (old new : Bytes) : Type 0 where
   pub one : length cut ≤ 1
   pub text : part ++ unsaid ≡ texts_in cut
   pub said_is : new ≡ old ++ texts_in whole ++ part
+  pub silent : is_cut_short status ≡ true → part ≡ []
 
 -- no byte was taken, no command begun, nothing said, and no file changed at any moment
 pub record IsUntouched (old new : Outside) (taken : Bytes) : Type 0 where
@@ -128,7 +129,7 @@ pub record Serves (old new : Outside) (status : Status) : Type 0 where
   -- in the end the files stand for the repository after all of them, unless a fault of the ground cut the last one short
   pub stands : IsTrue old.ground_tells → is_cut_short status ≡ false → StandsFor old.told.held first.repository → StandsFor new.told.held (after_all first exchanges).repository
   -- what was said grows by the replies' texts
-  pub said_part : IsTrue old.ground_tells → SaysUpTo exchanges (said old.told) (said new.told)
+  pub said_part : IsTrue old.ground_tells → SaysUpTo status exchanges (said old.told) (said new.told)
   pub said_all : IsTrue old.ground_tells → is_cut_off status ≡ false → said new.told ≡ said old.told ++ texts_in exchanges
   -- the log has their turns, each beginning with the counts that the one before it ended with
   pub noted : IsTrue new.log_tells → new.turns ≡ old.turns ++ turns_in exchanges

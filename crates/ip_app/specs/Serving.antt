@@ -78,6 +78,8 @@ pub record Unsaid (status : Status) (old new : Outside) (lines lines' : Lines) (
   pub exchange : Exchange
   pub turned : Turned old new lines lines' counts counts' state exchange
   pub part : IsTrue old.ground_tells → SaysPart (reply_text exchange.reply) (said old.told) (said new.told)
+  -- a command that was cut short says nothing
+  pub silent : (told : IsTrue old.ground_tells) → is_cut_short status ≡ true → (part told).0 ≡ []
   pub stands : IsTrue old.ground_tells → is_cut_short status ≡ false → StandsFor new.told.held exchange.after.repository
 
 abbrev pub Stops : Status → Outside → Outside → Lines → Lines → TurnCounts → TurnCounts → State → Type 0

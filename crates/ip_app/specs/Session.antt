@@ -13,7 +13,7 @@ use Rattle.ip_spec.specs.declared.met.Child.TheVariants as Child
 use Rattle.ip_spec.specs.declared.met.Met.{Met}
 use Rattle.ip_spec.specs.declared.reply.Reply.{Reply}
 use Rattle.ip_spec.specs.Line.{IsServed}
-use Rattle.ip_spec.specs.Path.{Bytes}
+use Rattle.ip_spec.specs.Path.{Bytes, IsPath}
 use Rattle.ip_spec.specs.Machine.{State, Conditions}
 use Rattle.ip_spec.specs.Record.{IsBranchName, IsInfo}
 use Rattle.ip_spec.specs.Text.{reply_text}
@@ -35,6 +35,7 @@ conditions_of met = record { told = met; difference = None }
 
 -- a command that is served, with the words that its line may have
 abbrev pub HasWords : Command → Type 0
+HasWords (Command.Set path bytes) = (length path ≡ 1) × IsPath path
 HasWords (Command.Commit branch info) = IsBranchName branch × IsInfo info
 HasWords command = IsServed command
 

@@ -62,40 +62,178 @@ const SCRIPT: &[u8] = b"empty\nset a 01\nget a\nget b\nhash -\n";
 const REPLIES: &[u8] =
     b"ok\nok\nvalue 01\nabsent\nhash e3b0c44298fc1c149afbf4c8996fb92427ae41e4649b934ca495991b7852b855\n";
 
-// `init` makes calls 0 to 3 of the ground, `serve` 4 to 7 before the first line; then each line is one.
+// The empty tree, committed; then once more, to another branch; then once more, while the branch is at the commit.
+const COMMITS: &[u8] =
+    b"empty\ncommit main 0 a m\nempty\ncommit dev 0 a m\nempty\ncommit main 0 a m\nstat\n";
+
+// The name of the empty root is the SHA-256 of 02 00000000, and that of the commit of 04, the root's name, 00, 8 zeros, 01 61
+// and 0100 6d.
+const COMMIT_REPLIES: &[u8] = b"ok\n\
+    committed 363243354106fe784e750f162f5147ec8fd3d66a3f3b58508b264639b524e93c\n\
+    ok\n\
+    existing 363243354106fe784e750f162f5147ec8fd3d66a3f3b58508b264639b524e93c\n\
+    ok\n\
+    head-moved 363243354106fe784e750f162f5147ec8fd3d66a3f3b58508b264639b524e93c\n\
+    stat 0 1 1 idle\n";
+
 #[test]
 fn scripts_are_answered(rt: HostRuntime) -> Result<(), Fail> {
     let alloc = rt.alloc();
-    let rows: [(&[u8], &[u64], &[u64], Status, &[u8]); 10] = [
-        (SCRIPT, &[], &[], Status::Done, REPLIES),
-        (b"", &[], &[], Status::Done, b""),
-        (b"stat", &[], &[], Status::Unfinished, b""),
-        (b"empty\nget a", &[], &[], Status::Unfinished, b"ok\n"),
-        (b"empty\n", &[0], &[], Status::ReadFault, b""),
-        (SCRIPT, &[1], &[], Status::ReadFault, REPLIES),
-        (SCRIPT, &[], &[8], Status::SayFault, b""),
-        (SCRIPT, &[], &[10], Status::SayFault, b"ok\nok\n"),
-        (SCRIPT, &[], &[6], Status::GroundFault, b""),
+    let rows: [(&[u8], &[u64], Status, &[u8]); 9] = [
+        (SCRIPT, &[], Status::Done, REPLIES),
+        (b"", &[], Status::Done, b""),
+        (b"stat", &[], Status::Unfinished, b""),
+        (b"empty\nget a", &[], Status::Unfinished, b"ok\n"),
+        (b"empty\n", &[0], Status::ReadFault, b""),
+        (SCRIPT, &[1], Status::ReadFault, REPLIES),
+        (b"stat\n", &[], Status::Done, b"stat 0 0 0 idle\n"),
+        (COMMITS, &[], Status::Done, COMMIT_REPLIES),
         (
             b"hash 616263\n",
-            &[],
             &[],
             Status::Done,
             b"hash ba7816bf8f01cfea414140de5dae2223b00361a396177a9cb410ff61f20015ad\n",
         ),
     ];
-    for (script, read_fails, ground_fails, status, said) in rows {
-        let (ended, replies) = answers(alloc, script, read_fails, ground_fails)?;
+    for (script, read_fails, status, said) in rows {
+        let (ended, replies) = answers(alloc, script, read_fails, &[])?;
         assert_eq!(rt; ended, status);
         assert_eq!(rt; replies.as_slice(), said);
     }
     Ok(())
 }
 
+// What `stat` answers over a ground that was stopped: with the files as they were, or as they were synced last.
+fn stat_after(alloc: Global, bench: Bench, keep: bool) -> Result<(Status, Vec<u8>), AllocError> {
+    let mut bench = bench.after_stop(keep)?;
+    let mut script = source(alloc, b"stat\n", &[])?;
+    let status = serve(alloc, &mut script, &mut bench, &mut Silent)?;
+    let said = bench.said(alloc)?;
+    Ok((status, said))
+}
+
+// Where so many calls of the ground went well and the next one fails: how serving ends, what was said, and what stands then.
+fn with_fault(
+    alloc: Global,
+    fault: u64,
+    keep: bool,
+) -> Result<(Status, Vec<u8>, Vec<u8>), AllocError> {
+    let mut bench = bench(alloc, &[fault])?;
+    let _ = init(alloc, &mut bench)?;
+    let mut script = source(alloc, b"empty\ncommit main 0 a m\n", &[])?;
+    let status = serve(alloc, &mut script, &mut bench, &mut Silent)?;
+    let said = bench.said(alloc)?;
+    let (_, stands) = stat_after(alloc, bench, keep)?;
+    Ok((status, said, stands))
+}
+
+// `init` makes calls 0 to 3 of the ground. Wherever a later one fails, the store is opened again with the commit or without it:
+// with it, where it was acknowledged; and a command that was cut short has no reply.
+#[test]
+fn each_call_of_the_ground_fails_once(rt: HostRuntime) -> Result<(), Fail> {
+    let alloc = rt.alloc();
+    let mut cut_short = false;
+    for fault in 4..40 {
+        for keep in [false, true] {
+            let (status, said, stands) = with_fault(alloc, fault, keep)?;
+            let without = stands.as_slice() == b"stat 0 0 0 idle\n".as_slice();
+            assert!(rt; without || stands.as_slice() == b"stat 0 1 1 idle\n".as_slice());
+            match status {
+                Status::GroundFault => {
+                    let begun = said.as_slice() == b"ok\n".as_slice();
+                    assert!(rt; begun || said.len() == 0);
+                    cut_short = cut_short || begun;
+                }
+                Status::SayFault => assert!(rt; said.len() <= 3),
+                _ => {
+                    assert_eq!(rt; status, Status::Done);
+                    assert_eq!(rt; said.as_slice(), COMMITTED);
+                    assert!(rt; !without);
+                }
+            }
+        }
+    }
+    assert!(rt; cut_short);
+    Ok(())
+}
+
+// Slot 1 with an open gate, version 1, sequence 2, the chunk size 1048576, the records' end at 94, 1 as the number of the next commit, and
+// next and first attempt 1; all else is zero.
+fn slot_after_one_commit() -> [u8; 128] {
+    let mut slot = [0; 128];
+    slot[0] = 0xa5;
+    slot[8] = 1;
+    slot[16] = 2;
+    slot[26] = 0x10;
+    slot[40] = 94;
+    slot[56] = 1;
+    slot[72] = 1;
+    slot[104] = 1;
+    slot
+}
+
+const REOPENED_REPLIES: &[u8] =
+    b"ok\nexisting 363243354106fe784e750f162f5147ec8fd3d66a3f3b58508b264639b524e93c\nstat 0 1 1 idle\n";
+
+const COMMITTED: &[u8] =
+    b"ok\ncommitted 363243354106fe784e750f162f5147ec8fd3d66a3f3b58508b264639b524e93c\n";
+
+#[test]
+fn a_commit_stands_when_the_store_is_opened_again(rt: HostRuntime) -> Result<(), Fail> {
+    let alloc = rt.alloc();
+    let mut bench = bench(alloc, &[])?;
+    let _ = init(alloc, &mut bench)?;
+    let mut script = source(alloc, COMMITS, &[])?;
+    assert_eq!(rt;
+        serve(alloc, &mut script, &mut bench, &mut Silent)?,
+        Status::Done
+    );
+    let mut slot = [0; 128];
+    assert_eq!(rt;
+        bench.read(FileName::Control, 128, &mut slot).ok(),
+        Some(128)
+    );
+    assert_eq!(rt; slot.as_slice(), slot_after_one_commit().as_slice());
+    let again = b"empty\ncommit dev 0 a m\nstat\n";
+    let mut bench = bench.after_stop(true)?;
+    let mut script = source(alloc, again, &[])?;
+    assert_eq!(rt;
+        serve(alloc, &mut script, &mut bench, &mut Silent)?,
+        Status::Done
+    );
+    let said = bench.said(alloc)?;
+    assert_eq!(rt; said.as_slice(), REOPENED_REPLIES);
+    Ok(())
+}
+
+// The branch's record, which begins at 76, lacks its last byte.
+#[test]
+fn a_chunk_that_is_cut_is_damaged(rt: HostRuntime) -> Result<(), Fail> {
+    let alloc = rt.alloc();
+    let mut whole = bench(alloc, &[])?;
+    let _ = init(alloc, &mut whole)?;
+    let mut script = source(alloc, b"empty\ncommit main 0 a m\n", &[])?;
+    let _ = serve(alloc, &mut script, &mut whole, &mut Silent)?;
+    let mut control = [0; 256];
+    let mut chunk = [0; 93];
+    assert!(rt; whole.read(FileName::Control, 0, &mut control).is_ok());
+    assert!(rt; whole.read(FileName::Chunk(0), 0, &mut chunk).is_ok());
+    let mut cut = bench(alloc, &[])?;
+    assert!(rt; cut.write(FileName::Control, 0, &control).is_ok());
+    assert!(rt; cut.write(FileName::Chunk(0), 0, &chunk).is_ok());
+    let damaged = Status::Damaged {
+        file: FileName::Chunk(0),
+        at: 76,
+    };
+    assert_eq!(rt; serve(alloc, &mut script, &mut cut, &mut Silent)?, damaged);
+    assert_eq!(rt; cut.said(alloc)?.len(), 0);
+    Ok(())
+}
+
 #[test]
 fn lines_outside_the_grammar(rt: HostRuntime) -> Result<(), Fail> {
     let alloc = rt.alloc();
-    let rows: [(&[u8], &[u8]); 14] = [
+    let rows: [(&[u8], &[u8]); 18] = [
         (b"\n", b"bad 0\n"),
         (b"x\n", b"bad 0\n"),
         (b"sex\n", b"bad 2\n"),
@@ -110,6 +248,10 @@ fn lines_outside_the_grammar(rt: HostRuntime) -> Result<(), Fail> {
         (b"set a 01 \n", b"bad 8\n"),
         (b"get a\0\n", b"bad 5\n"),
         (b"hash -0\n", b"bad 6\n"),
+        (b"stat \n", b"bad 4\n"),
+        (b"commit main 0 a\n", b"bad 15\n"),
+        (b"commit main 01 a m\n", b"bad 13\n"),
+        (b"commit @main 0 a m\n", b"bad 7\n"),
     ];
     for (line, said) in rows {
         let (ended, replies) = answers(alloc, line, &[], &[])?;
@@ -203,7 +345,7 @@ fn other_bytes_behind_an_open_gate_are_damage(rt: HostRuntime) -> Result<(), Fai
     let mut bench = bench(alloc, &[])?;
     let _ = init(alloc, &mut bench)?;
     let mut control = fresh_control();
-    control[17] = 1;
+    control[8] = 9;
     assert!(rt; bench.write(FileName::Control, 0, &control).is_ok());
     let mut script = source(alloc, SCRIPT, &[])?;
     let status = serve(alloc, &mut script, &mut bench, &mut Silent)?;

@@ -2,32 +2,30 @@
 --     same_tables      a store with the same tables.      after_tables, after_lawful      the tables and the work after the commit
 --     can_step      what the durable step asks.      stands_old, stands_new      the images that it leaves
 --     made, cut, refused      the relation of a commit that was made, that a fault cut short, and that was refused
-use Rattle.std.proofs.Common.{◌≡◌, ◌≢◌, ◌⊎◌, inl, inr, ℕ, zero, suc, ◌+◌, ◌-◌, ◌*◌, ◌<◌, ◌≤◌, ◌^◌, Bool, true, false, List, [], ◌∷◌, ◌++◌, map, length, Option, Some, None, refl, sym, ◌∙◌, ap, subst, arith, get_or, take, length-append}
-use Rattle.std.specs.Prelude.{Result, Ok, Err, IsErr, IsSome, OnOk, All, AllPairs, IsTrue, IfSome, nat_le, nat_lt, ◌&&◌, flat_map, cond}
+use Rattle.std.proofs.Common.{◌≡◌, ◌≢◌, ◌⊎◌, inl, inr, ℕ, ◌+◌, ◌-◌, ◌<◌, ◌≤◌, Bool, true, false, List, [], ◌∷◌, ◌++◌, length, Option, Some, None, refl, sym, ◌∙◌, ap, subst, arith, take, length-append}
+use Rattle.std.specs.Prelude.{Result, Ok, Err, All, AllPairs, IsTrue, IfSome, nat_le, nat_lt, ◌&&◌, cond}
 use Rattle.std.specs.List.{AllByRecursion}
-use Rattle.std.proofs.lemmas.List.{length-map, map-append, length-take-le, get_or-take}
+use Rattle.std.proofs.lemmas.List.{map-append, length-take-le, get_or-take}
 use Rattle.std.proofs.lemmas.Grind.{same_number_lists}
 use Rattle.std.proofs.lemmas.Result.{on_ok_weaker}
 use Rattle.std.proofs.lemmas.List.Elements.{All-from_recursion, recursion_from_All}
 use Rattle.std.proofs.lemmas.Bool.Decides.{nat_tests}
 use Rattle.std.specs.Cmp.Lexicographic.{nat_list_cmp_total}
 use Rattle.std.specs.Ordering.{eq_by_cmp}
-use Rattle.sha2.specs.Sha256.{sha256}
 use Rattle.ip_base.specs.declared.info.Info.{Info}
 use Rattle.ip_ground.specs.declared.names.FileName.TheVariants.{Control, Chunk}
 use Rattle.ip_ground.specs.declared.names.GroundFault.{GroundFault}
-use Rattle.ip_ground.specs.Contents.{Content, Image, bytes_of, size_of}
-use Rattle.ip_ground.specs.Told.{Told, IsKept, IsPossible, EachImage, NoFile, ChangesOnly}
+use Rattle.ip_ground.specs.Contents.{Content, Image, bytes_of}
+use Rattle.ip_ground.specs.Told.{Told, EachImage, NoFile}
 use Rattle.ip_ground.proofs.Spans.{only_nowhere}
 use Rattle.ip_spec.specs.declared.command.Command.{Command}
-use Rattle.ip_spec.specs.declared.command.Command.TheVariants as Command
 use Rattle.ip_spec.specs.declared.met.Met.{Met}
 use Rattle.ip_spec.specs.Machine.{State}
 use Rattle.ip_spec.specs.declared.record.Record.{Record}
 use Rattle.ip_spec.specs.declared.reply.Reply.{Reply}
-use Rattle.ip_spec.specs.Map.{get, insert, len, get-insert}
+use Rattle.ip_spec.specs.Map.{get, insert, get-insert}
 use Rattle.ip_spec.specs.Path.{Bytes, bytes_cmp}
-use Rattle.ip_spec.specs.Record.{Hash, IsHash, spelling, spelling_of, hashed_commit}
+use Rattle.ip_spec.specs.Record.{Hash, IsHash, spelling, spelling_of}
 use Rattle.ip_spec.specs.Repository.{Repository, Commit, next, is_retained}
 use Rattle.ip_spec.specs.TreeAt.{Records}
 use Rattle.ip_spec.specs.View.{View}
@@ -39,18 +37,16 @@ use Rattle.ip_image.specs.Standing.{StandsFor, AreRetained}
 use Rattle.ip_image.specs.Appending.{BeginsWith, front_of, HasLive, next_slot, bytes_of_records}
 use Rattle.ip_image.proofs.InChunk.{in_chunk, all_inside}
 use Rattle.ip_image.proofs.AppendingLaws.{stands_still, stands_next}
-use Rattle.ip_control.specs.Live.{Live, no_slot, live_slot, tied, live_of}
+use Rattle.ip_control.specs.Live.{no_slot, live_slot, live_of}
 use Rattle.ip_control.specs.Changes.{control}
 use Rattle.ip_control.proofs.LiveLaws.{is_live, live_from, spare_from, newer_from, reaches_from}
 use Rattle.ip_store.specs.declared.committing.Plan.{Plan}
 use Rattle.ip_store.specs.declared.committing.StoreFault.{StoreFault}
-use Rattle.ip_store.specs.declared.committing.StoreFault.TheVariants as StoreFault
 use Rattle.ip_store.specs.declared.store.Store.{Store}
 use Rattle.ip_store.specs.declared.work.Work.{Work}
-use Rattle.ip_store.specs.Commits.{IsPlan, IsRefusal, Commits, Answers, committed, repository_after, fault_reply, met_by, conditions_of, met_nothing, end_of, records_of}
+use Rattle.ip_store.specs.Commits.{IsPlan, IsRefusal, Commits, Answers, repository_after, fault_reply, met_by, conditions_of, met_nothing, end_of}
 use Rattle.ip_store.specs.Publishing.{StandsAs, LeavesFront, CanStep, MakesStep, TheTwo}
 use Rattle.ip_store.specs.Store.{IsOf, Holds, IsInOrder, IsLawful, session}
-use Rattle.ip_spec.specs.declared.reply.Reply.TheVariants as Reply
 use Rattle.ip_store.proofs.Hashes.{sha_is_hash}
 use Rattle.ip_store.proofs.Machine.{met_done}
 
@@ -272,8 +268,15 @@ pub commits_none : (r : Repository) (work : Work) (branch : Bytes) (info : Info)
     → store'.slot ≡ store.slot → store'.index ≡ store.index → store'.names ≡ store.names → store'.branches ≡ store.branches → Holds store a r → Commits r work branch info (Err fault) store store' a a
 commits_none r work branch info fault store store' a slot index names branches held = record {
   only = only_nowhere a TheTwo;
-  refused = λ _. (only_nowhere a NoFile, record { tables = same_tables store store' r slot index names branches held.tables; stands = held.stands;
-    live = subst (λ (i : ℕ). IsLive (bytes_of (a.held Control)) i store'.slot) (sym index) (subst (λ (s : Slot). IsLive (bytes_of (a.held Control)) store.index s) (sym slot) held.live); kept = held.kept });
+  refused = λ _. (
+    only_nowhere a NoFile,
+    record {
+      tables = same_tables store store' r slot index names branches held.tables;
+      stands = held.stands;
+      live = subst (λ (i : ℕ). IsLive (bytes_of (a.held Control)) i store'.slot) (sym index) (subst (λ (s : Slot). IsLive (bytes_of (a.held Control)) store.index s) (sym slot) held.live);
+      kept = held.kept;
+    },
+  );
   ok = tt;
   images = λ order t image late le. absurd (omega (arith, late, le));
   order = λ order some. subst (λ (n : ℕ). LeavesFront (front_of n a.held) a) (ap (λ (s : Slot). s.end) (sym slot)) order;

@@ -1,24 +1,22 @@
 -- The records of a flat tree's commit are within the bounds of the first version of the format.
-use Rattle.std.proofs.Common.{inl, ◌≡◌, ℕ, suc, ◌+◌, ◌*◌, ◌<◌, ◌≤◌, ◌^◌, Bool, true, false, T, List, [], ◌∷◌, ◌++◌, map, length, flat_map, refl, sym, ◌∙◌, ap, subst, arith}
-use Rattle.std.specs.Prelude.{◌&&◌, IsTrue, All}
+use Rattle.std.proofs.Common.{inl, ◌≡◌, ℕ, suc, ◌+◌, ◌*◌, ◌<◌, ◌≤◌, ◌^◌, Bool, true, false, T, List, [], ◌∷◌, ◌++◌, map, length, flat_map, refl, ◌∙◌, ap, arith}
+use Rattle.std.specs.Prelude.{◌&&◌}
 use Rattle.std.proofs.lemmas.List.{length-append}
 use Rattle.std.specs.Ordering.{is_lt}
 use Rattle.std.specs.List.{AllByRecursion}
 use Rattle.std.specs.FinMap.Entries.{is_sorted, below_all}
 use Rattle.std.proofs.lemmas.List.Elements.{All-from_recursion, recursion_from_All}
-use Rattle.sha2.specs.Sha256.{sha256}
 use Rattle.ip_base.specs.declared.info.Info.{Info}
 use Rattle.ip_spec.specs.declared.record.Record.{Record}
 use Rattle.ip_spec.specs.declared.record.LeafEntry.{LeafEntry}
 use Rattle.ip_spec.specs.declared.record.Parent.{Parent}
-use Rattle.ip_spec.specs.Path.{Bytes, bytes_cmp, IsStep}
-use Rattle.ip_spec.specs.Record.{Hash, u8, u16, u32, u64, short_text, long_text, entry_spelling, info_spelling, spelling, body, are_rising, IsLeafEntry, IsLeaf, IsHash, IsU64, IsInfo, IsBranchName, Fits}
+use Rattle.ip_spec.specs.Path.{Bytes, bytes_cmp}
+use Rattle.ip_spec.specs.Record.{Hash, u8, u64, short_text, long_text, entry_spelling, info_spelling, spelling, body, are_rising, IsLeafEntry, IsHash, IsU64, IsInfo, Fits}
 use Rattle.ip_spec.specs.Batch.{CommitFields}
 use Rattle.ip_image.specs.Standing.{IsServedKind}
-use Rattle.ip_image.specs.Appending.{AreWithin}
 use Rattle.ip_store.specs.Batches.{AreFields}
 use Rattle.ip_store.specs.Entries.{IsEntry}
-use Rattle.ip_store.specs.Laid.{contents_bytes, entry_at, entries_at, commit_record}
+use Rattle.ip_store.specs.Laid.{contents_bytes, entries_at, commit_record}
 use Rattle.ip_store.proofs.Hashes.{sha_is_hash}
 
 -- ---- lengths

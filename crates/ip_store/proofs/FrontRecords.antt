@@ -1,10 +1,9 @@
 -- The record that some bytes begin with.
 --     front_read, front_none      what reading it gives.      none_served, other_served      where none is read, or one that is not served
-use Rattle.std.proofs.Common.{◌≡◌, ◌⊎◌, inl, inr, ℕ, List, ◌++◌, length, Bool, false, refl, sym, ◌∙◌, ap, subst}
+use Rattle.std.proofs.Common.{◌≡◌, inl, inr, ℕ, ◌++◌, length, sym, ◌∙◌, ap, subst}
 use Rattle.std.specs.Prelude.{Result, Ok, Err, Option, Some, None}
 use Rattle.ip_spec.specs.declared.record.Record.{Record}
 use Rattle.ip_spec.specs.declared.record.RecordFault.{RecordFault}
-use Rattle.ip_spec.specs.declared.record.RecordFault.TheVariants as RecordFault
 use Rattle.ip_spec.specs.Path.{Bytes}
 use Rattle.ip_spec.specs.Record.{Fits, spelling}
 use Rattle.ip_spec.specs.Reading.{reading}

@@ -1,12 +1,12 @@
 -- The batch of a flat tree, written out by its list of steps and contents.
 --     batch_is, end_is      its records and where they end.      bytes_are      the bytes of its records
 --     root_name_is      the name of its root is that of its leaf
-use Rattle.std.proofs.Common.{◌≡◌, ℕ, suc, ◌+◌, ◌≤◌, Bool, true, false, cond, T, List, [], ◌∷◌, ◌++◌, map, length, flat_map, Option, Some, None, refl, sym, ◌∙◌, ap, subst, arith, append_assoc}
+use Rattle.std.proofs.Common.{◌≡◌, ℕ, suc, ◌+◌, ◌≤◌, Bool, true, false, cond, T, List, [], ◌∷◌, ◌++◌, map, length, flat_map, Option, Some, refl, sym, ◌∙◌, ap, subst, arith, append_assoc}
 use Rattle.std.specs.Prelude.{◌&&◌, ◌||◌, if◌then◌else◌, filter, is_some, unwrap_or, nat_le}
 use Rattle.std.specs.Ordering.{is_eq, is_lt, ordering_reverse}
 use Rattle.std.specs.List.{AllByRecursion}
 use Rattle.std.specs.Cmp.Lexicographic.{nat_list_cmp_total}
-use Rattle.std.specs.FinMap.Entries.{find, is_sorted, below_all}
+use Rattle.std.specs.FinMap.Entries.{is_sorted, below_all}
 use Rattle.std.specs.declared.cmp.Ordering.{Ordering}
 use Rattle.std.specs.declared.cmp.Ordering.TheVariants.{Less, Equal, Greater}
 use Rattle.std.proofs.lemmas.Bool.Decides.{nat_tests}
@@ -16,12 +16,12 @@ use Rattle.ip_spec.specs.Map.{get}
 use Rattle.ip_spec.specs.Path.{Bytes, Step, Path, bytes_cmp, same_bytes, same_path}
 use Rattle.ip_spec.specs.declared.record.Record.{Record}
 use Rattle.ip_spec.specs.declared.record.LeafEntry.{LeafEntry}
-use Rattle.ip_spec.specs.Record.{Child, Hash, spelling, spelling_of, body, hashed_leaf, hashed_inode, name_of}
+use Rattle.ip_spec.specs.Record.{Child, spelling, spelling_of, hashed_leaf, hashed_inode, name_of}
 use Rattle.ip_spec.specs.Tree.{Tree, contents, entries_of, is_contents, height, tree_runs}
 use Rattle.ip_spec.specs.Shape.{is_leaf, child_of, children_of, part_name, root_name}
 use Rattle.ip_spec.specs.TreeAt.{Records}
 use Rattle.ip_spec.specs.View.{View}
-use Rattle.ip_spec.specs.Batch.{CommitFields, Spelled, Row, there_already, in_front, behind, entry_record, spell_entry, spell_entries, spell_directory, placed, place_among, contents_end, contents_record, contents_offset, new_contents, is_own, sources, root_spelled, tree_batch, batch, batch_end}
+use Rattle.ip_spec.specs.Batch.{CommitFields, Spelled, Row, there_already, in_front, behind, entry_record, spell_entry, spell_entries, spell_directory, placed, place_among, contents_end, contents_record, contents_offset, new_contents, sources, root_spelled, tree_batch, batch, batch_end}
 use Rattle.ip_spec.proofs.Subtrees.{same_itself, same_apart, get-contents}
 use Rattle.ip_spec.proofs.Naming.{Member, here, there, member_found, root_name-entries}
 use Rattle.ip_image.specs.Appending.{unread, batch_of, batch_end_of, bytes_of_records}

@@ -1,24 +1,20 @@
 -- What the machine answers to a commit, by its refusals in their order, where nothing is given up.
 --     chain      the refusals.      answered, refused      the turn where one of them refuses, and where none does
-use Rattle.std.proofs.Common.{◌≡◌, ◌≢◌, ℕ, ◌<◌, ◌≤◌, Bool, true, false, List, [], ◌∷◌, map, length, Option, Some, None, refl, sym, ◌∙◌, ap, subst, arith}
-use Rattle.std.specs.Prelude.{Result, Ok, Err, nat_lt, if◌then◌else◌, IsTrue, IfSome, IfErr}
+use Rattle.std.proofs.Common.{◌≡◌, ℕ, false, length, Option, Some, None, refl, sym, ◌∙◌, ap, subst, arith}
+use Rattle.std.specs.Prelude.{Result, Ok, Err, nat_lt, if◌then◌else◌, IfSome, IfErr}
 use Rattle.std.proofs.lemmas.Bool.Decides.{nat_tests}
 use Rattle.ip_base.specs.declared.info.Info.{Info}
 use Rattle.ip_base.specs.declared.limit.Limit.{Limit}
-use Rattle.ip_base.specs.declared.limit.Limit.TheVariants as Limit
 use Rattle.ip_spec.specs.declared.command.Command.{Command}
-use Rattle.ip_spec.specs.declared.command.Command.TheVariants as Command
 use Rattle.ip_spec.specs.declared.met.Met.{Met}
 use Rattle.ip_spec.specs.declared.reply.Reply.{Reply}
-use Rattle.ip_spec.specs.declared.reply.Reply.TheVariants as Reply
 use Rattle.ip_spec.specs.Path.{Bytes}
-use Rattle.ip_spec.specs.Repository.{Repository, Commit, head, next, name_at}
-use Rattle.ip_spec.specs.Machine.{State, Phase, Conditions}
-use Rattle.ip_spec.specs.Step.{IsMet, Refused, Turned, outcome, turned, answer, or_refused, state_with_exit, MayBeShort, below, unless_some, not_given_up, head_among_parents, moved_head, not_leaving, room_for_branch, not_existing, enough, new_commit, with_commit, ◌>>◌}
+use Rattle.ip_spec.specs.Repository.{Repository, Commit, head, name_at}
+use Rattle.ip_spec.specs.Machine.{State}
+use Rattle.ip_spec.specs.Step.{IsMet, Refused, Turned, outcome, turned, answer, or_refused, state_with_exit, MayBeShort, below, unless_some, not_given_up, head_among_parents, moved_head, room_for_branch, not_existing, enough, new_commit, ◌>>◌}
 use Rattle.ip_store.specs.declared.work.Work.{Work}
 use Rattle.ip_image.specs.declared.slot.Slot.{Slot}
 use Rattle.ip_store.specs.declared.committing.StoreFault.{StoreFault}
-use Rattle.ip_store.specs.declared.committing.StoreFault.TheVariants as StoreFault
 use Rattle.ip_store.specs.Commits.{met_nothing, met_by, short_of, conditions_of, refusal, refused_by, SlotBehind, IsRefusal, committed}
 use Rattle.ip_store.specs.Store.{session}
 

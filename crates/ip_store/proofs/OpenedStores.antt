@@ -1,7 +1,7 @@
 -- The store that is made of a slot and of what was found, and what opening answers.
 --     whole_of      the test at the end.      tables_of, holds_of      the repository of the store, which it holds
 --     sync_only, finds_fault, finds, finds_form      the exits of finding the slot.      opens_bad, opens_at_end      those of opening
-use Rattle.std.proofs.Common.{◌≡◌, ◌≢◌, ℕ, ◌+◌, ◌*◌, ◌<◌, Bool, true, List, [], ◌∷◌, map, length, refl, sym, ◌∙◌, ap, subst, arith}
+use Rattle.std.proofs.Common.{◌≡◌, ℕ, ◌+◌, ◌*◌, ◌<◌, Bool, true, List, [], ◌∷◌, map, length, refl, sym, ◌∙◌, ap, subst, arith}
 use Rattle.std.specs.Prelude.{Option, Some, None, Result, Ok, Err, IfOk, OnOk, IsErr, IsErrAnd, IsErrOf, IsTrue, All}
 use Rattle.std.specs.List.{AllByRecursion}
 use Rattle.std.proofs.lemmas.List.{length-map}
@@ -17,19 +17,17 @@ use Rattle.ip_ground.proofs.Durable.{sync_changes, kept_passes}
 use Rattle.ip_spec.specs.Map.{Map}
 use Rattle.ip_spec.specs.Path.{Bytes, bytes_cmp}
 use Rattle.ip_spec.specs.declared.record.CommitRecord.{CommitRecord}
-use Rattle.ip_spec.specs.Record.{Names, IsHash}
+use Rattle.ip_spec.specs.Record.{IsHash}
 use Rattle.ip_spec.specs.TreeAt.{Records}
 use Rattle.ip_spec.specs.Repository.{Repository, next}
 use Rattle.ip_image.specs.declared.slot.Slot.{Slot}
 use Rattle.ip_image.specs.Slot.{IsSlot, IsLive, live_index}
 use Rattle.ip_image.specs.Virtual.{byte_of}
-use Rattle.ip_image.specs.Standing.{EndToEnd, AreRetained, WholeFits, DamagedAt, commits_in, named}
+use Rattle.ip_image.specs.Standing.{EndToEnd, AreRetained, WholeFits, DamagedAt, commits_in}
 use Rattle.ip_control.specs.declared.fault.ControlFault.{ControlFault}
-use Rattle.ip_control.specs.declared.fault.ControlFault.TheVariants as ControlFault
 use Rattle.ip_control.specs.Finding.{Finds}
 use Rattle.ip_audit.specs.Audits.{commit_name}
 use Rattle.ip_store.specs.declared.opening.OpenFault.{OpenFault}
-use Rattle.ip_store.specs.declared.opening.OpenFault.TheVariants as OpenFault
 use Rattle.ip_store.specs.declared.store.Store.{Store}
 use Rattle.ip_store.specs.declared.walk.Found.{Found}
 use Rattle.ip_store.specs.Control.{control_in}

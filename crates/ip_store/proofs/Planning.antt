@@ -1,17 +1,15 @@
 -- A plan is one of the machine's commit.
-use Rattle.std.proofs.Common.{◌≡◌, ◌≢◌, ℕ, suc, ◌+◌, ◌<◌, ◌≤◌, ◌^◌, Bool, true, false, List, [], ◌∷◌, map, length, Option, Some, None, refl, sym, ◌∙◌, ap, subst, arith}
-use Rattle.std.specs.Prelude.{Result, Ok, Err, is_some, option_map, position, All, IsTrue, IfSome, not, ◌&&◌, nat_le, if◌then◌else◌}
+use Rattle.std.proofs.Common.{◌≡◌, ℕ, ◌+◌, ◌≤◌, ◌^◌, Bool, true, false, List, [], ◌∷◌, map, length, Option, Some, None, refl, sym, ◌∙◌, ap, subst, arith}
+use Rattle.std.specs.Prelude.{Ok, is_some, All, IsTrue, not, ◌&&◌, nat_le, if◌then◌else◌}
 use Rattle.std.proofs.lemmas.Bool.Decides.{nat_tests}
 use Rattle.std.specs.Cmp.Lexicographic.{nat_list_cmp_total}
 use Rattle.std.specs.FinMap.Entries as E
 use Rattle.sha2.specs.Sha256.{sha256}
 use Rattle.ip_base.specs.declared.info.Info.{Info}
 use Rattle.ip_base.specs.declared.limit.Limit.TheVariants as Limit
-use Rattle.ip_spec.specs.declared.command.Command.TheVariants as Command
-use Rattle.ip_spec.specs.declared.record.Record.{Record}
 use Rattle.ip_spec.specs.declared.reply.Reply.TheVariants as Reply
 use Rattle.ip_image.specs.declared.slot.Slot.{Slot}
-use Rattle.ip_spec.specs.Map.{Map, get, insert, len, entries-insert}
+use Rattle.ip_spec.specs.Map.{insert, len, entries-insert}
 use Rattle.ip_spec.specs.Path.{Bytes, bytes_cmp}
 use Rattle.ip_spec.specs.Record.{Hash, hashed_commit, IsInfo, IsBranchName}
 use Rattle.ip_spec.specs.Shape.{root_name}
@@ -19,13 +17,13 @@ use Rattle.ip_spec.specs.Tree.{Tree}
 use Rattle.ip_spec.specs.Batch as Batches
 use Rattle.ip_spec.specs.Repository.{Repository, next, head, number_named, is_retained}
 use Rattle.ip_spec.specs.Step.{room_for_branch, not_existing, refuse_if, new_commit, as_parent}
-use Rattle.ip_image.specs.Appending.{unread, fields_of, batch_of, batch_end_of, bytes_of_records, next_slot, AreWithin, IsFlat, MayCommit}
+use Rattle.ip_image.specs.Appending.{unread, fields_of, batch_of, batch_end_of, bytes_of_records, next_slot, AreWithin, IsFlat}
 use Rattle.ip_store.specs.declared.batch.Batch.{Batch}
 use Rattle.ip_store.specs.declared.batch.CommitFields.{CommitFields}
 use Rattle.ip_store.specs.declared.store.Store.{Store}
 use Rattle.ip_store.specs.declared.work.Work.{Work}
 use Rattle.ip_store.specs.Batches.{fields_told, IsBatch}
-use Rattle.ip_store.specs.Commits.{parent_named, SlotBehind, IsPlan, committed, conditions_of, met_nothing}
+use Rattle.ip_store.specs.Commits.{parent_named, SlotBehind, IsPlan}
 use Rattle.ip_store.specs.Store.{IsOf, IsLawful}
 use Rattle.ip_store.proofs.Machine.{Head, turn_is_done}
 use Rattle.ip_store.proofs.Tables.{none_below}

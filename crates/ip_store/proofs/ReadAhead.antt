@@ -2,7 +2,7 @@
 --     own_chunk, chunk_passes      calls that change no file leave the chunk as it was
 --     held_size, held_byte      the bytes that a window holds, one by one
 --     passed, kept_on, filled_on      what is held behind some bytes, after a read that failed, and after one that did not
-use Rattle.std.proofs.Common.{◌≡◌, ◌⊎◌, inl, inr, ℕ, ◌+◌, ◌-◌, ◌*◌, ◌<◌, ◌≤◌, min, List, length, take, drop, get_or, Some, refl, sym, ◌∙◌, ap, subst, arith, length-drop}
+use Rattle.std.proofs.Common.{◌≡◌, inl, inr, ℕ, ◌+◌, ◌-◌, ◌<◌, ◌≤◌, List, length, take, drop, get_or, Some, sym, ◌∙◌, ap, subst, arith, length-drop}
 use Rattle.std.specs.Prelude.{slice_get}
 use Rattle.std.proofs.lemmas.Bool.{cases_lt}
 use Rattle.std.proofs.lemmas.List.{length-take, get_or-take, get_or-drop, drop-drop, drop-take}
@@ -13,7 +13,7 @@ use Rattle.ip_ground.specs.Told.{Told, NoFile, ChangesOnly}
 use Rattle.ip_ground.proofs.Durable.{IsOwn, held_passes}
 use Rattle.ip_image.specs.Virtual.{byte_of, Stands}
 use Rattle.ip_store.specs.declared.window.Window.{Window}
-use Rattle.ip_store.specs.Window.{chunk, longest, held_in, IsWindow, Shows, FillsFrom, Filled}
+use Rattle.ip_store.specs.Window.{chunk, held_in, IsWindow, Shows, FillsFrom, Filled}
 
 pub own_chunk : IsOwn (Chunk 0)
 own_chunk = record { own = λ told x. x; firm = λ told x. x; unmarked = λ attempt custody i. custody }

@@ -1,30 +1,27 @@
 -- The walk, from one record to the next.
 --     walks_filled, goes_on      after a read, and behind a record
 --     fails_front      the audit fails the record in front.      further      a record has bytes.      bad_record      where no good record stands
-use Rattle.std.proofs.Common.{◌≡◌, ◌⊎◌, inl, inr, ℕ, ◌+◌, ◌-◌, ◌<◌, ◌≤◌, min, Bool, List, [], ◌∷◌, ◌++◌, length, drop, get_or, refl, sym, ◌∙◌, ap, subst, arith, length-append}
-use Rattle.std.specs.Prelude.{slice_get, Option, Some, None, Result, Ok, Err, OnOk, IsTrue, IsErrOf}
+use Rattle.std.proofs.Common.{◌≡◌, inl, inr, ℕ, ◌+◌, ◌-◌, ◌<◌, ◌≤◌, Bool, [], ◌∷◌, ◌++◌, length, drop, refl, sym, ◌∙◌, ap, subst, arith}
+use Rattle.std.specs.Prelude.{Option, Some, None, Result, Ok, Err, OnOk, IsTrue, IsErrOf}
 use Rattle.std.proofs.lemmas.Option.{slice_get-get_or}
 use Rattle.ip_ground.specs.declared.names.FileName.{FileName}
 use Rattle.ip_ground.specs.declared.names.FileName.TheVariants.{Chunk}
-use Rattle.ip_ground.specs.Contents.{Content, size_of}
+use Rattle.ip_ground.specs.Contents.{Content}
 use Rattle.ip_spec.specs.declared.record.Record.{Record}
 use Rattle.ip_spec.specs.Record.{Fits, spelling}
-use Rattle.ip_spec.specs.TreeAt.{Records}
 use Rattle.ip_spec.specs.Path.{Bytes}
 use Rattle.ip_image.specs.declared.slot.Slot.{Slot}
 use Rattle.ip_image.specs.Slot.{IsSlot}
 use Rattle.ip_image.specs.Virtual.{byte_of, Stands}
-use Rattle.ip_image.specs.Standing.{EndToEnd, IsServedKind, IsGood}
+use Rattle.ip_image.specs.Standing.{EndToEnd, IsGood}
 use Rattle.ip_image.proofs.InChunk.{byte_inside, ends_append}
 use Rattle.ip_audit.specs.Audits.{IsBeyond}
 use Rattle.ip_audit.specs.declared.audit.AuditFault.{AuditFault}
-use Rattle.ip_audit.specs.declared.audit.AuditFault.TheVariants as AuditFault
 use Rattle.ip_store.specs.declared.opening.OpenFault.{OpenFault}
-use Rattle.ip_store.specs.declared.opening.OpenFault.TheVariants as OpenFault
 use Rattle.ip_store.specs.declared.window.Window.{Window}
 use Rattle.ip_store.specs.declared.walk.Found.{Found}
-use Rattle.ip_store.specs.Window.{longest, held_in, IsFull, Shows}
-use Rattle.ip_store.specs.Walk.{HasFront, ReadsServed, Tells, TakesOne, Took, TakesFront, Walks, Covers, BadRecord}
+use Rattle.ip_store.specs.Window.{held_in, IsFull, Shows}
+use Rattle.ip_store.specs.Walk.{HasFront, ReadsServed, TakesOne, Took, TakesFront, Walks, BadRecord}
 use Rattle.ip_store.proofs.LongestRecord.{longest_served}
 use Rattle.ip_store.proofs.Walking.{some_bytes, beyond_push, stands_front, stands_behind, front_of}
 

@@ -1,14 +1,14 @@
 -- What is told in a durable step.
 use Rattle.std.proofs.Common.{◌≡◌, ◌≢◌, ◌⊎◌, inl, inr, ℕ, ◌*◌, ◌≤◌, List, ◌++◌, length, refl, sym, ◌∙◌, ap, subst, arith}
-use Rattle.std.specs.Prelude.{Result, Ok, IsErr, OnOk}
+use Rattle.std.specs.Prelude.{Result, Ok, IsErr}
 use Rattle.std.proofs.lemmas.Result.{IfOk-from_err, on_ok_weaker}
 use Rattle.std.proofs.lemmas.List.{length-take-le}
 use Rattle.ip_ground.specs.declared.names.FileName.TheVariants.{Control, Chunk}
 use Rattle.ip_ground.specs.declared.names.GroundFault.{GroundFault}
 use Rattle.ip_ground.specs.Contents.{Image, bytes_of, size_of, Torn}
-use Rattle.ip_ground.specs.Told.{Told, KeepsFile, IsPossibleNow, IsKept, EachSince, EachNow, EachImage, Only, NoFile, ChangesOnly}
+use Rattle.ip_ground.specs.Told.{Told, KeepsFile, IsPossibleNow, EachSince, EachNow, EachImage, Only, NoFile, ChangesOnly}
 use Rattle.ip_ground.specs.Calls.{Writes, Syncs}
-use Rattle.ip_ground.proofs.Exits.{Exit, exit_ok, exit_holds, both_ok}
+use Rattle.ip_ground.proofs.Exits.{Exit, exit_ok, exit_holds}
 use Rattle.ip_ground.proofs.Spans.{only_on, only_more, each_on, each_stays, each_steps, each_weaker, left_now, held_since, images_on, images_of_two}
 use Rattle.ip_ground.proofs.Durable.{IsOwn, sync_changes, now_from_kept}
 use Rattle.ip_image.specs.declared.slot.Slot.{Slot}

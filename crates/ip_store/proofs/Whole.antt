@@ -1,6 +1,5 @@
 -- What putting the records of a commit one behind the other comes to.
-use Rattle.std.proofs.Common.{◌≡◌, ℕ, ◌+◌, ◌<◌, ◌≤◌, ◌^◌, T, List, [], ◌∷◌, ◌++◌, length, map, Some, Vec, refl, sym, ◌∙◌, ap, subst, arith}
-use Rattle.std.specs.Prelude.{All}
+use Rattle.std.proofs.Common.{◌≡◌, ℕ, ◌+◌, ◌≤◌, ◌^◌, T, List, [], ◌∷◌, ◌++◌, length, map, Some, Vec, sym, ◌∙◌, ap, subst, arith}
 use Rattle.std.specs.List.{AllByRecursion}
 use Rattle.std.specs.BTreeMap.{BTreeMap}
 use Rattle.std.specs.FinMap.Entries.{is_sorted}
@@ -14,9 +13,9 @@ use Rattle.ip_spec.specs.Record.{Hash, IsHash, Fits, spelling, name_of, hashed_l
 use Rattle.ip_spec.specs.Shape.{root_name}
 use Rattle.ip_spec.specs.Tree.{Tree}
 use Rattle.ip_spec.specs.TreeAt.{Records}
-use Rattle.ip_spec.specs.Batch.{CommitFields, batch_name}
+use Rattle.ip_spec.specs.Batch.{CommitFields}
 use Rattle.ip_image.specs.Standing.{IsServedKind}
-use Rattle.ip_image.specs.Appending.{unread, batch_of, batch_end_of, bytes_of_records, AreWithin}
+use Rattle.ip_image.specs.Appending.{batch_of, AreWithin}
 use Rattle.ip_store.specs.declared.batch.Batch.{Batch}
 use Rattle.ip_store.specs.Batches.{AreFields, IsBatch}
 use Rattle.ip_store.specs.Entries.{tree_of, entries_in, IsEntry, AreKept}

@@ -13,11 +13,8 @@ use Rattle.ip_spec.specs.Record.{Hash}
 use Rattle.ip_spec.specs.declared.record.Parent.{Parent}
 use Rattle.ip_spec.specs.Repository.{Repository, next, name_at}
 use Rattle.ip_base.specs.declared.limit.Limit.{Limit}
-use Rattle.ip_base.specs.declared.limit.Limit.TheVariants as Limit
 use Rattle.ip_spec.specs.declared.command.Command.{Command}
-use Rattle.ip_spec.specs.declared.command.Command.TheVariants as Command
 use Rattle.ip_spec.specs.declared.reply.Reply.{Reply}
-use Rattle.ip_spec.specs.declared.reply.Reply.TheVariants as Reply
 use Rattle.ip_spec.specs.Machine.{State, Phase, Conditions}
 use Rattle.ip_spec.specs.Step.{IsMet, turned, Refused, Turned, new_commit, with_commit}
 use Rattle.ip_spec.specs.TreeAt.{Records}
@@ -28,7 +25,6 @@ use Rattle.ip_store.specs.declared.store.Store.{Store}
 use Rattle.ip_store.specs.declared.work.Work.{Work}
 use Rattle.ip_store.specs.declared.committing.Plan.{Plan}
 use Rattle.ip_store.specs.declared.committing.StoreFault.{StoreFault}
-use Rattle.ip_store.specs.declared.committing.StoreFault.TheVariants as StoreFault
 use Rattle.ip_store.specs.Publishing.{TheTwo}
 use Rattle.ip_store.specs.Store.{IsOf, Holds, IsInOrder, session, IsLawful}
 

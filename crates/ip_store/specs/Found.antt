@@ -11,7 +11,6 @@ use Rattle.ip_image.specs.Slot.{IsLive}
 use Rattle.ip_image.specs.Standing.{NoStore, DamagedAt, WholeFits, commits_in, named}
 use Rattle.ip_audit.specs.Audits.{commit_name}
 use Rattle.ip_store.specs.declared.opening.OpenFault.{OpenFault}
-use Rattle.ip_store.specs.declared.opening.OpenFault.TheVariants as OpenFault
 use Rattle.ip_store.specs.declared.store.Store.{Store}
 use Rattle.ip_store.specs.declared.walk.Found.{Found}
 use Rattle.ip_store.specs.Control.{control_in}

@@ -1,9 +1,9 @@
 -- What making a store does, and opening one, between what a ground tells before and after.
-use Rattle.std.specs.Prelude.{◌≡◌, ◌≢◌, ℕ, None, IsSome, Result, OnOk, IfOk, IsErrOf}
+use Rattle.std.specs.Prelude.{◌≡◌, ℕ, None, IsSome, Result, OnOk, IfOk, IsErrOf}
 use Rattle.ip_ground.specs.declared.names.FileName.{FileName}
 use Rattle.ip_ground.specs.declared.names.FileName.TheVariants.{Control}
 use Rattle.ip_ground.specs.Told.{Told, ChangesOnly, Only, NoFile, IsKept, EachImageNow}
-use Rattle.ip_spec.specs.Repository.{Repository, no_repository}
+use Rattle.ip_spec.specs.Repository.{no_repository}
 use Rattle.ip_image.specs.Slot.{live_index}
 use Rattle.ip_image.specs.Standing.{StandsFor, NoStore, DamagedAt}
 use Rattle.ip_store.specs.declared.store.InitFault.{InitFault}

@@ -2,7 +2,7 @@
 --     IsOf store r      its tables are the repository's
 --     Holds store told r      and so is what the ground reads as.      IsInOrder store told      nothing of its records is pending
 --     session r work      the machine's state.      IsLawful r work      the work goes on from commits of the repository
-use Rattle.std.specs.Prelude.{◌≡◌, ◌≢◌, ℕ, ◌<◌, ◌≤◌, ◌+◌, length, map, All, AllPairs, IsTrue, None, Some}
+use Rattle.std.specs.Prelude.{◌≡◌, ◌≢◌, ◌<◌, ◌≤◌, length, map, All, AllPairs, IsTrue}
 use Rattle.ip_ground.specs.declared.names.FileName.TheVariants.{Control}
 use Rattle.ip_ground.specs.Told.{Told, IsKept}
 use Rattle.ip_spec.specs.Record.{IsHash}

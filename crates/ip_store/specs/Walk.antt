@@ -5,7 +5,7 @@
 --     Walks s tells content w found      so far the records stand in the content, and the window shows what follows
 --     Covers s tells content found      so they do up to the end
 --     BadRecord s content file at      behind good records, none that is good stands at this place
-use Rattle.std.specs.Prelude.{◌≡◌, ℕ, ◌+◌, ◌<◌, ◌≤◌, Bool, List, [], ◌∷◌, ◌++◌, length, Option, Some, None, Result, Ok, Err, IsTrue}
+use Rattle.std.specs.Prelude.{◌≡◌, ℕ, ◌+◌, ◌<◌, ◌≤◌, Bool, [], ◌∷◌, ◌++◌, length, Option, Some, None, Result, Ok, Err, IsTrue}
 use Rattle.ip_base.specs.declared.memory.Memory.{Memory}
 use Rattle.ip_ground.specs.declared.names.FileName.{FileName}
 use Rattle.ip_ground.specs.declared.names.FileName.TheVariants.{Chunk}
@@ -20,12 +20,10 @@ use Rattle.ip_image.specs.Virtual.{byte_of, Stands}
 use Rattle.ip_image.specs.Standing.{terms_of, EndToEnd, IsServedKind, IsGood, AreGood, named}
 use Rattle.ip_audit.specs.Audits.{Audited, IsBeyond}
 use Rattle.ip_audit.specs.declared.audit.AuditFault.{AuditFault}
-use Rattle.ip_audit.specs.declared.audit.AuditFault.TheVariants as AuditFault
 use Rattle.ip_store.specs.declared.opening.OpenFault.{OpenFault}
-use Rattle.ip_store.specs.declared.opening.OpenFault.TheVariants as OpenFault
 use Rattle.ip_store.specs.declared.window.Window.{Window}
 use Rattle.ip_store.specs.declared.walk.Found.{Found}
-use Rattle.ip_store.specs.Window.{held_in, IsWindow, Shows}
+use Rattle.ip_store.specs.Window.{held_in, Shows}
 
 -- they begin with this record, served or not
 pub record HasFront (version : ℕ) (bytes : Bytes) (r : Record) : Type 0 where

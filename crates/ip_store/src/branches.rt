@@ -1,5 +1,5 @@
 // The branches of a store.
-ghost use Rattle.std.specs.Prelude.{◌≡◌, ◌↔◌, ◌≤◌, ◌<◌, ◌&&◌, nat_le, nat_lt, IsTrue, IfSome, OnOk, OnErr};
+ghost use Rattle.std.specs.Prelude.{◌≡◌, ◌↔◌, ◌≤◌, ◌<◌, ◌&&◌, nat_le, nat_lt, IsTrue, IfSome, OnOk, OnErr, MatchOption, slice_get, None, Some};
 ghost use Rattle.std.specs.List.{list_all};
 ghost use Rattle.std.specs.BTreeMap.{values};
 ghost use Rattle.ip_spec.specs.Path.{Bytes};
@@ -63,6 +63,20 @@ impl Branches {
     {
         self.entries.insert(name, number)?;
         Ok(())
+    }
+
+    /// The branch at a place, counted from 0 in the order of the names. It passes over those before it.
+    pub fn at(&self, place: usize) -> Option<(&[u8], Number)>
+        ensures { MatchOption result (slice_get (self.now).entries place ≡ None) (λ e. slice_get (self.now).entries place ≡ Some (e.0.now, e.1)) }
+    {
+        let mut left = place;
+        for (name, number) in &self.entries {
+            if left == 0 {
+                return Some((name, *number));
+            }
+            left -= 1;
+        }
+        None
     }
 
     /// Whether each is at a commit with a number from `low` on and below `high`.

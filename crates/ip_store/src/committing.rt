@@ -133,7 +133,9 @@ impl Store {
         ensures { (r : Repository) → IsOf self.now r → unless_some (moved_head (head r branch.now) parents.now) (λ n. Reply.HeadMoved (name_at r n)) ≡ refused_by result }
     {
         match self.branches.get(branch) {
-            Some(head) if !parents.contains(&head) => Err(StoreFault::HeadMoved(self.retained_name(head))),
+            Some(head) if !parents.contains(&head) => Err(StoreFault::HeadMoved(self.retained_name(
+                head,
+            ))),
             _ => Ok(()),
         }
     }
@@ -205,6 +207,7 @@ impl Store {
         Ok(())
     }
 }
+
 impl Store {
     /// Commits the work's tree to a branch, and answers the commit's name. Afterwards the work goes on from that commit. Once it is `Ok` the
     /// commit is there for good. After `Ground` the store may not be used any more.
@@ -234,7 +237,13 @@ impl Store {
     }
 
     // The refusals in their order, the records, and all memory but for the tables.
-    fn plan(&self, alloc: Global, work: &Work, branch: &[u8], info: Info) -> Result<Plan, StoreFault>
+    fn plan(
+        &self,
+        alloc: Global,
+        work: &Work,
+        branch: &[u8],
+        info: Info,
+    ) -> Result<Plan, StoreFault>
         requires branch { IsBranchName branch.now }
         requires info { IsInfo info }
         requires tables { (r : Repository) × IsOf self.now r × IsLawful r work.now }
@@ -262,7 +271,13 @@ impl Store {
     }
 
     // What the commit's record and its branch's are made of.
-    fn fields(&self, alloc: Global, parents: &[Number], branch: &[u8], info: Info) -> Result<CommitFields, Memory>
+    fn fields(
+        &self,
+        alloc: Global,
+        parents: &[Number],
+        branch: &[u8],
+        info: Info,
+    ) -> Result<CommitFields, Memory>
         requires branch { IsBranchName branch.now }
         requires info { IsInfo info }
         requires tables { (r : Repository) × IsOf self.now r × All (λ n. IsTrue (is_retained r n)) parents.now }
@@ -302,7 +317,13 @@ impl Store {
         let plan = self.plan(alloc, work, branch, info)?;
         let name = plan.batch.name();
         self.enter(name, plan.branch, plan.number)?;
-        durable_step(outside, self.slot.end, plan.batch.bytes(), 1 - self.index, &plan.slot)?;
+        durable_step(
+            outside,
+            self.slot.end,
+            plan.batch.bytes(),
+            1 - self.index,
+            &plan.slot,
+        )?;
         self.index = 1 - self.index;
         self.slot = plan.slot;
         work.parents = plan.parents;

@@ -1,16 +1,21 @@
 // The control file of a store without commits.
-ghost use Rattle.std.specs.Prelude.{◌≡◌, ◌↔◌, IsTrue, OnErr, IfOk, IsErrOf, is_some, take, length, ◌+◌, ◌≤◌, nat_le, ◌&&◌, ◌==◌, slice_index};
+ghost use Rattle.std.specs.Prelude.{◌≡◌, ◌↔◌, IsTrue, OnErr, IfOk, IsErrOf, is_some, take, length, ◌+◌, ◌≤◌, nat_le, ◌&&◌, ◌==◌, slice_index, slice_get, option_map, MatchOption, None, Some};
 ghost use Rattle.ip_ground.specs.Counts.{NoneFalls, Rose};
 ghost use Rattle.ip_ground.specs.Told.{NoFile, ChangesOnly};
 ghost use Rattle.ip_image.specs.Slot.{IsChunkSize, live_index, fresh_control};
 ghost use Rattle.ip_store.specs.Control.{control_in};
+ghost use Rattle.ip_spec.specs.Map.{len};
+ghost use Rattle.ip_spec.specs.Repository.{Repository, next, head, number_named, commit_at};
+ghost use Rattle.ip_spec.specs.declared.met.Phase.TheVariants as Phase;
 ghost use Rattle.ip_store.specs.Opening.{Makes};
+ghost use Rattle.ip_store.specs.Store.{IsOf};
 
 use crate::Branches;
 use ip_audit::Names;
+use ip_base::{Hash, Number};
 use ip_control::Slot;
 use ip_ground::{FileName, Ground, GroundFault};
-use ip_spec::met::Met;
+use ip_spec::met::{Met, Phase};
 
 /// The bytes of a chunk where nothing else was asked for.
 pub const DEFAULT_CHUNK: u64 = 1048576;
@@ -69,6 +74,75 @@ impl Store {
         }
         outside.write(FileName::Control, 0, &fresh_control(chunk))?;
         Ok(outside.sync(FileName::Control)?)
+    }
+
+    /// The number of the first commit that is retained.
+    pub fn floor(&self) -> Number
+        ensures { (r : Repository) → IsOf self.now r → result ≡ r.floor }
+    {
+        Number(self.slot.floor)
+    }
+
+    /// The number of the commit that comes next.
+    pub fn next(&self) -> Number
+        ensures { (r : Repository) → IsOf self.now r → result ≡ next r }
+    {
+        Number(self.slot.next)
+    }
+
+    /// Whether a collection runs: none does so far.
+    pub fn phase(&self) -> Phase
+        ensures { result ≡ Phase.Idle }
+    {
+        Phase::Idle
+    }
+
+    /// What the last call that changes the store met.
+    pub fn met(&self) -> Met
+        ensures { result ≡ self.now.met }
+    {
+        self.met
+    }
+
+    /// The number of the commit that a branch is at.
+    pub fn head(&self, name: &[u8]) -> Option<Number>
+        ensures { (r : Repository) → IsOf self.now r → result ≡ head r name.now }
+    {
+        self.branches.get(name)
+    }
+
+    /// How many branches there are.
+    pub fn branch_count(&self) -> u32
+        ensures { (r : Repository) → IsOf self.now r → result ≡ len r.branches }
+    {
+        self.branches.len().min(4096) as u32
+    }
+
+    /// The branch at a place, counted from 0 in the order of the names' bytes, and the number of the commit that it is at.
+    pub fn branch_at(&self, place: u32) -> Option<(&[u8], Number)>
+        ensures { (r : Repository) → IsOf self.now r →
+            MatchOption result (slice_get r.branches.entries place ≡ None) (λ e. slice_get r.branches.entries place ≡ Some (e.0.now, e.1)) }
+    {
+        self.branches.at(place as usize)
+    }
+
+    /// The number of the retained commit of a name.
+    pub fn commit_named(&self, name: &Hash) -> Option<Number>
+        requires { (r : Repository) × IsOf self.now r }
+        ensures { (r : Repository) → IsOf self.now r → result ≡ number_named r name.now }
+    {
+        let place = self.names.place_of(name)?;
+        Some(Number(self.slot.floor + place))
+    }
+
+    /// The name of the retained commit of a number.
+    pub fn name_of(&self, number: Number) -> Option<Hash>
+        ensures { (r : Repository) → IsOf self.now r → result ≡ option_map (λ c. c.name) (commit_at r number) }
+    {
+        if number.get() < self.slot.floor {
+            return None;
+        }
+        self.names.at((number.get() - self.slot.floor) as usize)
     }
 }
 

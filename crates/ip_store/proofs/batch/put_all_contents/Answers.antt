@@ -1,7 +1,5 @@
-use Rattle.std.proofs.Common.{◌≡◌, ◌+◌, ◌<◌, ◌^◌, ℕ, List, ◌∷◌, [], ◌++◌, length, Vec, sym, ap, subst, ◌∙◌, rules}
-use Rattle.std.specs.declared.alloc.Global.{Global}
+use Rattle.std.proofs.Common.{◌≡◌, ◌+◌, ◌<◌, ◌^◌, ℕ, List, ◌∷◌, [], ◌++◌, length, sym, ap, subst, ◌∙◌, rules}
 use Rattle.sha2.specs.Sha256.{sha256}
-use Rattle.ip_spec.specs.declared.record.LeafEntry.{LeafEntry}
 use Rattle.ip_store.specs.Laid.{entry_at}
 use Rattle.ip_store.proofs.Keyed.{Pairs}
 use Rattle.ip_store.proofs.Placing.{Placing, placing_first, placing_more, placing_last, short_enough, named_sha}

@@ -54,6 +54,7 @@ returns-in-Err-say-clause-stops g c r is holds =
             (λ told. files_of _ _ _ answered.0 (goes.only told (holds told)) _ _ (c.say.ensures.does told))
             c.in_default.ensures.ok c.in_default.ensures.count goes.gives c.deref.ensures.value c.met.ensures c.note.ensures.noted (c.turn_counts.ensures ∙ ap turn_counts c.counts.ensures) c.requires.counted c.answer-answered.ensures.counts c.say.ensures.counts;
         part = λ told. part_of _ _ _ answered.0 (goes.only told (holds told)) _ _ (c.say.ensures.does told) _ text;
+        silent = λ told cut_short. absurd (cc cut_short);
         stands = λ told whole. (holds_along _ _ _ goes.after (c.say.ensures.does told).goes (c.say.ensures.does told).files (goes.holds told (holds told))).stands;
       },
       rose_after _ _ _ c.answer-answered.ensures.counts.say_faults c.in-Err-say.ensures.cause,
@@ -69,6 +70,7 @@ returns-in-Err-Ground-clause-stops g c r is holds =
             (λ told. keeps_two _ _ (cut.only told (holds told)))
             c.in_default.ensures.ok c.in_default.ensures.count cut.gives c.deref.ensures.value c.met.ensures c.note.ensures.noted (c.turn_counts.ensures ∙ ap turn_counts c.counts.ensures) c.requires.counted c.answer-answered.ensures.counts (falls_itself (g.G.Ground.counts_of c.answer-answered.new.ground));
         part = λ told. nothing_said _ _ _ (cut.only told (holds told));
+        silent = λ told cut_short. refl;
         stands = λ told whole. absurd (cc whole);
       },
       c.in-Err-Ground.ensures.cause,

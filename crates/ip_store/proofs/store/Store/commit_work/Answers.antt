@@ -1,11 +1,11 @@
 use Rattle.std.proofs.Common.{◌≡◌, ◌-◌, ◌++◌, [], ◌∷◌, ℕ, None, rules, refl, sym, ◌∙◌, ap, subst}
-use Rattle.std.specs.Prelude.{Ok, Err, IfSome, position}
+use Rattle.std.specs.Prelude.{Err, IfSome, position}
 use Rattle.ip_spec.specs.declared.command.Command.TheVariants as Command
 use Rattle.ip_spec.specs.Path.{same_bytes}
 use Rattle.ip_image.specs.declared.slot.Slot.{Slot}
 use Rattle.ip_store.specs.declared.committing.StoreFault.TheVariants as StoreFault
-use Rattle.ip_store.specs.Commits.{IsPlan, Answers, Commits, reply_to, met_by}
-use Rattle.ip_store.specs.Store.{IsOf, session}
+use Rattle.ip_store.specs.Commits.{Answers, Commits, reply_to, met_by}
+use Rattle.ip_store.specs.Store.{session}
 use Rattle.ip_store.proofs.AfterCommit.{same_tables, after_tables, after_lawful, can_step, made, cut, commits_none, answers_refused, answers_made, same_can_step, same_step}
 use Rattle.ip_store.proofs.Machine.{refused_memory}
 use Rattle.ip_store.proofs.Tables.{none_below, free, same_lawful}

@@ -1,4 +1,4 @@
-use Rattle.std.proofs.Common.{◌≡◌, Some, ap, rules}
+use Rattle.std.proofs.Common.{◌≡◌, Some, rules}
 use Rattle.ip_spec.specs.Map.{get}
 use Rattle.ip_store.proofs.Tables.{head_retained}
 use Rattle.ip_store.proofs.store.Store.head_among.Goals as goal

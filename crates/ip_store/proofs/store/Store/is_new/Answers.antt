@@ -1,4 +1,4 @@
-use Rattle.std.proofs.Common.{◌∙◌, ◌≡◌, true, false, ap, sym, rules}
+use Rattle.std.proofs.Common.{◌≡◌, true, false, rules}
 use Rattle.std.specs.Prelude.{is_some, position}
 use Rattle.ip_spec.specs.Path.{same_bytes}
 use Rattle.ip_store.proofs.Tables.{existing, not_there}

@@ -1,4 +1,3 @@
-use Rattle.std.proofs.Common.{sym, ◌∙◌}
 use Rattle.ip_store.proofs.OpenedStores.{tables_at_end, opens_bad_as, opens_by}
 use Rattle.ip_store.proofs.store.Store.open_at.Goals as goal
 

@@ -4,6 +4,7 @@ use Rattle.ip_store.proofs.store.Store.parent_named.Goals as goal
 pub returns-clause-within : goal.returns-clause-within
 returns-clause-within c =
     let r = c.requires.tables.0 in
-    let of = c.requires.tables.1 in
-    (retained_small c.args.self.now r of c.args.number c.requires.tables.2,
-      retained_hash c.args.self.now r of c.args.number c.requires.tables.2 c.retained_name-name.result (c.retained_name-name.ensures r of c.requires.tables.2))
+    let of = c.requires.tables.1 in (
+      retained_small c.args.self.now r of c.args.number c.requires.tables.2,
+      retained_hash c.args.self.now r of c.args.number c.requires.tables.2 c.retained_name-name.result (c.retained_name-name.ensures r of c.requires.tables.2),
+    )

@@ -1,4 +1,4 @@
-use Rattle.std.proofs.Common.{◌≡◌, ◌<◌, length, rules, refl, sym, subst}
+use Rattle.std.proofs.Common.{sym, subst}
 use Rattle.std.specs.Prelude.{IsTrue}
 use Rattle.ip_spec.specs.Repository.{is_retained}
 use Rattle.ip_store.proofs.store.Store.parents_named.Goals as goal

@@ -1,4 +1,4 @@
-use Rattle.std.proofs.Common.{◌≡◌, ◌<◌, rules, refl, sym, ◌∙◌, ap, subst, ℕ, List, length, get_or}
+use Rattle.std.proofs.Common.{◌≡◌, ◌<◌, rules, sym, ◌∙◌, subst, length, get_or}
 use Rattle.std.specs.Prelude.{Ok, Err, IsTrue}
 use Rattle.ip_spec.specs.Repository.{is_retained}
 use Rattle.ip_spec.specs.Step.{room_for_branch, not_existing, new_commit}
@@ -8,7 +8,7 @@ use Rattle.ip_store.specs.Batches.{fields_told}
 use Rattle.ip_store.specs.Commits.{refused_by, SlotBehind, IsRefusal}
 use Rattle.ip_store.proofs.Planning.{told_from, name_from, planned}
 use Rattle.ip_store.proofs.Tables.{none_below}
-use Rattle.ip_store.proofs.Machine.{if_err_is, Head, refused_head, refused_room, refused_name, refused_short, refused_memory, turn_is_done}
+use Rattle.ip_store.proofs.Machine.{if_err_is, Head, refused_head, refused_room, refused_name, refused_short, refused_memory}
 use Rattle.ip_store.proofs.store.Store.plan.Goals as goal
 
 pub returns-in_err-head_among-clause-refused : goal.returns-in_err-head_among-clause-refused
@@ -29,9 +29,12 @@ returns-in_err-room_for-clause-refused c r of lawful =
     (refused_room r c.args.work.now c.args.branch.now c.args.info (none_below c.args.self.now r of) head fault guard)
 
 pub fields-requires-clause-tables : goal.fields-requires-clause-tables
-fields-requires-clause-tables c =
-    (c.requires.tables.0, c.requires.tables.1, λ k d l.
-      subst (λ ns. IsTrue (is_retained c.requires.tables.0 (get_or ns k d))) (sym c.as_slice-2.ensures) (c.requires.tables.2.retained k d (subst (λ ns. k < length ns) c.as_slice-2.ensures l)))
+fields-requires-clause-tables c = (
+  c.requires.tables.0,
+  c.requires.tables.1,
+  λ k d l.
+      subst (λ ns. IsTrue (is_retained c.requires.tables.0 (get_or ns k d))) (sym c.as_slice-2.ensures) (c.requires.tables.2.retained k d (subst (λ ns. k < length ns) c.as_slice-2.ensures l)),
+)
 
 pub returns-in_err-fields-clause-refused : goal.returns-in_err-fields-clause-refused
 returns-in_err-fields-clause-refused c r of lawful =
@@ -52,10 +55,10 @@ returns-in_err-is_new-clause-refused c r of lawful =
     let head : Head r c.args.work.now c.args.branch.now c.args.info (none_below c.args.self.now r of) ≡ Ok tt = search rules in
     let room : room_for_branch r c.args.branch.now ≡ Ok tt = search rules in
     let told : fields_told c.in_ok-fields.fields ≡ fields_of r c.args.work.now.parents c.args.info c.args.branch.now =
-        told_from r c.in_ok-fields.fields c.args.info c.args.branch.now c.as_slice-2.result.now c.args.work.now.parents c.as_slice-2.ensures (c.in_ok-fields.ensures.fields r of) lawful.retained in
+    told_from r c.in_ok-fields.fields c.args.info c.args.branch.now c.as_slice-2.result.now c.args.work.now.parents c.as_slice-2.ensures (c.in_ok-fields.ensures.fields r of) lawful.retained in
     let guard : not_existing r c.name.result ≡ refused_by (Err fault) = search rules in
     let name : c.name.result ≡ (new_commit r c.args.work.now.tree c.args.work.now.parents c.args.info).name =
-        c.name.ensures ∙ name_from r c.args.work.now c.args.info c.args.branch.now c.in_ok-fields.fields c.args.self.now.slot.end c.in_ok-batch.batch told c.in_ok-batch.ensures.batch in
+    c.name.ensures ∙ name_from r c.args.work.now c.args.info c.args.branch.now c.in_ok-fields.fields c.args.self.now.slot.end c.in_ok-batch.batch told c.in_ok-batch.ensures.batch in
     if_err_is c.from_residual-in_err-is_new.result fault (IsRefusal r c.args.work.now c.args.branch.now c.args.info) is
     (refused_name r c.args.work.now c.args.branch.now c.args.info (none_below c.args.self.now r of) head room fault (subst (λ h. not_existing r h ≡ refused_by (Err fault)) name guard))
 
@@ -66,10 +69,10 @@ returns-in_err-slot-clause-refused c r of lawful =
     let head : Head r c.args.work.now c.args.branch.now c.args.info (none_below c.args.self.now r of) ≡ Ok tt = search rules in
     let room : room_for_branch r c.args.branch.now ≡ Ok tt = search rules in
     let told : fields_told c.in_ok-fields.fields ≡ fields_of r c.args.work.now.parents c.args.info c.args.branch.now =
-        told_from r c.in_ok-fields.fields c.args.info c.args.branch.now c.as_slice-2.result.now c.args.work.now.parents c.as_slice-2.ensures (c.in_ok-fields.ensures.fields r of) lawful.retained in
+    told_from r c.in_ok-fields.fields c.args.info c.args.branch.now c.as_slice-2.result.now c.args.work.now.parents c.as_slice-2.ensures (c.in_ok-fields.ensures.fields r of) lawful.retained in
     let fresh : not_existing r c.name.result ≡ Ok tt = search rules in
     let name : c.name.result ≡ (new_commit r c.args.work.now.tree c.args.work.now.parents c.args.info).name =
-        c.name.ensures ∙ name_from r c.args.work.now c.args.info c.args.branch.now c.in_ok-fields.fields c.args.self.now.slot.end c.in_ok-batch.batch told c.in_ok-batch.ensures.batch in
+    c.name.ensures ∙ name_from r c.args.work.now c.args.info c.args.branch.now c.in_ok-fields.fields c.args.self.now.slot.end c.in_ok-batch.batch told c.in_ok-batch.ensures.batch in
     if_err_is c.from_residual-in_err-slot.result fault (IsRefusal r c.args.work.now c.args.branch.now c.args.info) is
     (refused_short r c.args.work.now c.args.branch.now c.args.info (none_below c.args.self.now r of) head room (subst (λ h. not_existing r h ≡ Ok tt) name fresh) c.args.self.now.slot _ fault c.in_err-slot.ensures)
 
@@ -84,7 +87,7 @@ returns-clause-planned c r of lawful =
     let head : Head r c.args.work.now c.args.branch.now c.args.info (none_below c.args.self.now r of) ≡ Ok tt = search rules in
     let room : room_for_branch r c.args.branch.now ≡ Ok tt = search rules in
     let told : fields_told c.in_ok-fields.fields ≡ fields_of r c.args.work.now.parents c.args.info c.args.branch.now =
-        told_from r c.in_ok-fields.fields c.args.info c.args.branch.now c.as_slice-2.result.now c.args.work.now.parents c.as_slice-2.ensures (c.in_ok-fields.ensures.fields r of) lawful.retained in
+    told_from r c.in_ok-fields.fields c.args.info c.args.branch.now c.as_slice-2.result.now c.args.work.now.parents c.as_slice-2.ensures (c.in_ok-fields.ensures.fields r of) lawful.retained in
     let fresh : not_existing r c.name.result ≡ Ok tt = search rules in
     planned r c.args.work.now c.args.branch.now c.args.info c.args.self.now of lawful c.requires.branch c.requires.info c.in_ok-fields.fields c.in_ok-batch.batch c.in_ok-slot.slot c.in_ok-parents.parents
     told c.in_ok-batch.ensures.batch c.in_ok-batch.ensures.flat c.in_ok-batch.ensures.within head room (subst (λ h. not_existing r h ≡ Ok tt) c.name.ensures fresh)

@@ -1,4 +1,4 @@
-use Rattle.std.proofs.Common.{arith, refl, rules}
+use Rattle.std.proofs.Common.{arith, refl}
 use Rattle.ip_store.proofs.store.Store.slot_behind.Goals as goal
 
 pub overflow_sub-self : goal.overflow_sub-self
