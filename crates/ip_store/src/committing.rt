@@ -123,7 +123,6 @@ impl Store {
         ensures within { IsU64 result.number × IsHash result.name }
     {
         let name = self.retained_name(number);
-        name.as_slice();
         Parent { number, name }
     }
 
