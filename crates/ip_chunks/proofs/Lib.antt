@@ -1,0 +1,4 @@
+mod Gaps
+mod Bytes
+mod Writing
+pub mod Behind
