@@ -1,6 +1,6 @@
 -- For whoever knows that the bytes up to an end are kept, and writes behind it.
---     leaves_on, since_on      what a crash leaves goes on over moments.      leaves_stay      over calls that change no chunk
---     stand_from      what a crash leaves, the files read as.      images_hold, images_with      it is in each image
+--     leaves_on, since_on      what a crash leaves goes on over moments.      leaves_stay, byte_stays      over calls that change no chunk
+--     stand_from, leaves_from_kept      what a crash leaves, the files read as, and back.      images_hold, images_with      it is in each image
 --     stops_at_append, appends_kept      the exits of an append and a sync behind it
 use Rattle.std.proofs.Common.{◌≡◌, ℕ, ◌+◌, ◌<◌, ◌≤◌, List, ◌++◌, length, Bool, Some, inl, inr, refl, sym, ◌∙◌, ap, subst, arith, length-append}
 use Rattle.std.specs.Prelude.{is_some, IsSome, IsTrue, slice_get, Result, Ok, IsErr}
@@ -12,7 +12,7 @@ use Rattle.ip_ground.specs.declared.names.FileName.{FileName}
 use Rattle.ip_ground.specs.declared.names.FileName.TheVariants.{Chunk}
 use Rattle.ip_ground.specs.declared.names.GroundFault.{GroundFault}
 use Rattle.ip_ground.specs.Contents.{Content, Image}
-use Rattle.ip_ground.specs.Told.{Told, said, KeepsPast, KeepsFile, KeepsSaid, EachSince, EachImage, EachImageNow, IsAbout, IsPossibleNow, NoFile}
+use Rattle.ip_ground.specs.Told.{Told, said, KeepsPast, KeepsFile, KeepsSaid, EachSince, EachImage, EachImageNow, IsAbout, IsPossibleNow, IsKept, NoFile}
 use Rattle.ip_ground.proofs.Exits.{Exit, exit_ok, exit_holds}
 use Rattle.ip_ground.proofs.Spans.{goes_on, only_on, only_more, each_on, each_stays, each_steps, left_now}
 use Rattle.ip_image.specs.Virtual.{chunk_of}
@@ -38,6 +38,11 @@ module _ (size at : ℕ) (bytes : List ℕ) where
   pub stand_from : (told : Told) → IsPossibleNow told → Leaves size at bytes told → Holds size at bytes told.held
   unfolding chunk_byte
   stand_from told possible leaves k lt = leaves k lt (told.held (chunk_file size (at + k))) (possible (chunk_file size (at + k)))
+
+  -- and where nothing of their chunks is pending, a crash leaves what they read as
+  pub leaves_from_kept : (told : Told) → ((k : ℕ) → k < length bytes → IsKept told (chunk_file size (at + k))) → Holds size at bytes told.held → Leaves size at bytes told
+  unfolding chunk_byte
+  leaves_from_kept told kept holds k lt content may = ap (byte_in size (at + k)) (kept k lt content may) ∙ holds k lt
 
   pub images_hold : (a b : Told) → LeavesSince size at bytes a b → EachImage a b (λ said image. Holds size at bytes image)
   unfolding chunk_byte
@@ -65,6 +70,11 @@ same_front front rest k lt = slice_get-get_or (front ++ rest) k 0 (omega (arith,
 pub leaves_front : (size at : ℕ) (front rest : List ℕ) (told : Told) → Leaves size at (front ++ rest) told → Leaves size at front told
 leaves_front size at front rest told leaves k lt content may = leaves k (omega (arith, length-append front rest, lt)) content may ∙ same_front front rest k lt
 
+-- what the places read as, over calls that change no chunk
+pub byte_stays : (size at : ℕ) (a b : Told) → ((number : ℕ) → KeepsFile a b (Chunk number)) → chunk_byte size b.held at ≡ chunk_byte size a.held at
+unfolding chunk_byte
+byte_stays size at a b stays = ap (byte_in size at) ((stays (chunk_of size at)).held (λ x. x))
+
 -- an append may follow bytes that begin not behind its chunk
 pub no_gap_before : (size from end : ℕ) (image : Image) → from ≤ chunk_start size end → NoGap size image from end → NoGap size image (chunk_start size end) end
 no_gap_before size from end image before no_gap at between = no_gap at (omega (arith, before, between.0), between.1)
@@ -83,7 +93,7 @@ module _ (size from : ℕ) (front bytes : List ℕ) (a b : Told) (holds : Holds 
   front_stands k lt = appends.others (from + k) (λ between. absurd (omega (arith, between.0, lt))) ∙ holds k lt
 
   pub stops_at_append : (s : Result (Unit {0}) GroundFault) → IsErr s → AppendsKept size from front bytes s a b
-  stops_at_append s failed = record { only = appends.only; held = IfOk-from_err s _ failed; since = front_since; kept = λ leaves. IfOk-from_err s _ failed }
+  stops_at_append s failed = record { only = appends.only; held = IfOk-from_err s _ failed; synced = IfOk-from_err s _ failed; since = front_since; kept = λ leaves. IfOk-from_err s _ failed }
 
 module _ (size from : ℕ) (front bytes : List ℕ) (a b c : Told) (holds : Holds size from front a.held) (appends : Appends size (from + length front) bytes (Ok tt) a b)
     (r : Result (Unit {0}) GroundFault) (syncs : SyncsRange size (from + length front) (from + length front + length bytes) r b c) where
@@ -117,6 +127,7 @@ module _ (size from : ℕ) (front bytes : List ℕ) (a b c : Told) (holds : Hold
   appends_kept s exit = record {
     only = only_on a b c (IsChunkBetween size behind (behind + length bytes)) appends.only (only_more b c NoFile (IsChunkBetween size behind (behind + length bytes)) (λ f none. absurd none) syncs.only);
     held = exit_holds r s _ exit both_stand;
+    synced = exit_ok r s _ exit syncs.ok;
     since = since_both;
     kept = λ leaves. on_ok_weaker s (both_left leaves) (exit_ok r s _ exit syncs.ok);
   }

@@ -1,4 +1,4 @@
 mod Gaps
-mod Bytes
+pub mod Bytes
 mod Writing
 pub mod Behind

@@ -7,9 +7,10 @@
 --     AppendsKept size from front bytes result old new      an append behind a front and a sync of it
 use Rattle.std.specs.Prelude.{◌≡◌, ℕ, ◌+◌, ◌<◌, List, ◌++◌, length, filter_map, Option, slice_get, Result, OnOk}
 use Rattle.std.specs.List.{range_with_len}
+use Rattle.ip_ground.specs.declared.names.FileName.{FileName}
 use Rattle.ip_ground.specs.declared.names.GroundFault.{GroundFault}
 use Rattle.ip_ground.specs.Contents.{Image}
-use Rattle.ip_ground.specs.Told.{Told, EachSince, EachNow, ChangesOnly}
+use Rattle.ip_ground.specs.Told.{Told, EachSince, EachNow, IsKept, ChangesOnly}
 use Rattle.ip_image.specs.Virtual.{Stands}
 use Rattle.ip_chunks.specs.Places.{chunk_file, byte_in, chunk_byte, IsChunkBetween}
 
@@ -32,10 +33,11 @@ Leaves size at bytes told = (k : ℕ) → k < length bytes → EachByteNow size 
 abbrev pub LeavesSince : ℕ → ℕ → List ℕ → Told → Told → Type 0
 LeavesSince size at bytes old new = (k : ℕ) → k < length bytes → EachByteSince size (at + k) old new (λ byte. byte ≡ slice_get bytes k)
 
--- Bytes were appended behind a front, and their chunks were synced. Ok: they stand there. Where a crash left the front before, it does so at
--- each moment, and then both.
+-- Bytes were appended behind a front, and their chunks were synced. Ok: they stand there, and nothing of these chunks is pending. Where a
+-- crash left the front before, it does so at each moment, and after Ok it leaves both.
 pub record AppendsKept (size from : ℕ) (front bytes : List ℕ) (result : Result (Unit {0}) GroundFault) (old new : Told) : Type 0 where
   pub only : ChangesOnly (IsChunkBetween size (from + length front) (from + length front + length bytes)) old new
   pub held : OnOk result (Holds size from (front ++ bytes) new.held)
+  pub synced : OnOk result ((file : FileName) → IsChunkBetween size (from + length front) (from + length front + length bytes) file → IsKept new file)
   pub since : Leaves size from front old → LeavesSince size from front old new
   pub kept : Leaves size from front old → OnOk result (Leaves size from (front ++ bytes) new)
