@@ -1,8 +1,8 @@
 -- For whoever knows that the bytes up to an end are kept, and writes behind it.
 --     leaves_on, since_on      what a crash leaves goes on over moments.      leaves_stay, byte_stays      over calls that change no chunk
 --     stand_from, leaves_from_kept      what a crash leaves, the files read as, and back.      images_hold, images_with      it is in each image
---     stops_at_append, appends_kept      the exits of an append and a sync behind it
-use Rattle.std.proofs.Common.{◌≡◌, ℕ, ◌+◌, ◌<◌, ◌≤◌, List, ◌++◌, length, Bool, Some, inl, inr, refl, sym, ◌∙◌, ap, subst, arith, length-append}
+--     front_holds, front_ends      the front, by its places.      stops_at_append, appends_kept      the exits of an append and a sync behind it
+use Rattle.std.proofs.Common.{◌≡◌, ℕ, ◌+◌, ◌-◌, ◌<◌, ◌≤◌, List, ◌++◌, length, Bool, Some, inl, inr, refl, sym, ◌∙◌, ap, subst, arith, length-append}
 use Rattle.std.specs.Prelude.{is_some, IsSome, IsTrue, slice_get, Result, Ok, IsErr}
 use Rattle.std.proofs.lemmas.Bool.{cases_lt}
 use Rattle.std.proofs.lemmas.List.{get_or_append_left}
@@ -18,8 +18,8 @@ use Rattle.ip_ground.proofs.Spans.{goes_on, only_on, only_more, each_on, each_st
 use Rattle.ip_image.specs.Virtual.{chunk_of}
 use Rattle.ip_chunks.specs.Places.{chunk_file, chunk_start, byte_in, chunk_byte, NoGap, IsChunkBetween}
 use Rattle.ip_chunks.specs.Effects.{TornChunk, Appends, SyncsRange}
-use Rattle.ip_chunks.specs.Fronts.{Holds, Leaves, LeavesSince, AppendsKept}
-use Rattle.ip_chunks.proofs.Bytes.{stands_both}
+use Rattle.ip_chunks.specs.Fronts.{Holds, Leaves, LeavesSince, AppendsKept, bytes_from}
+use Rattle.ip_chunks.proofs.Bytes.{some_bytes, length-bytes_from, stands_both}
 
 module _ (size at : ℕ) (bytes : List ℕ) where
   -- the byte of one of the places
@@ -79,53 +79,58 @@ byte_stays size at a b stays = ap (byte_in size at) ((stays (chunk_of size at)).
 pub no_gap_before : (size from end : ℕ) (image : Image) → from ≤ chunk_start size end → NoGap size image from end → NoGap size image (chunk_start size end) end
 no_gap_before size from end image before no_gap at between = no_gap at (omega (arith, before, between.0), between.1)
 
-module _ (size from : ℕ) (front bytes : List ℕ) (a b : Told) (holds : Holds size from front a.held) (r : Result (Unit {0}) GroundFault) (appends : Appends size (from + length front) bytes r a b) where
-  abbrev end : ℕ
-  end = from + length front
+-- the bytes from a place up to an end, where there is no gap between
+module _ (size from end : ℕ) (image : Image) (order : from ≤ end) (no_gap : NoGap size image from end) where
+  no_gap_on : NoGap size image from (from + (end - from))
+  no_gap_on at between = no_gap at (between.0, omega (arith, between.1, order))
 
+  pub front_holds : Holds size from (bytes_from size image from (end - from)) image
+  front_holds = some_bytes size from (end - from) image no_gap_on
+
+  pub front_ends : from + length (bytes_from size image from (end - from)) ≡ end
+  front_ends = omega (arith, length-bytes_from size from (end - from) image no_gap_on, order)
+
+module _ (size from end : ℕ) (front bytes : List ℕ) (ends : from + length front ≡ end) (a b : Told) (holds : Holds size from front a.held) (r : Result (Unit {0}) GroundFault) (appends : Appends size end bytes r a b) where
   -- a byte of the front is torn by no append behind it
   front_since : Leaves size from front a → LeavesSince size from front a b
   front_since leaves k lt =
       each_steps a b (chunk_file size (from + k)) (Has size from front k) (Has size from front k) (TornChunk size end (length bytes) (chunk_of size (from + k))) (appends.left (chunk_of size (from + k))) (leaves k lt)
-      (λ x y was torn. (torn (from + k) refl).before (omega (arith, lt)) (subst IsSome (sym was) (ap is_some (slice_get-get_or front k 0 lt))) ∙ was)
+        (λ x y was torn. (torn (from + k) refl).before (omega (arith, lt, ends)) (subst IsSome (sym was) (ap is_some (slice_get-get_or front k 0 lt))) ∙ was)
 
   front_stands : Holds size from front b.held
-  front_stands k lt = appends.others (from + k) (λ between. absurd (omega (arith, between.0, lt))) ∙ holds k lt
+  front_stands k lt = appends.others (from + k) (λ between. absurd (omega (arith, between.0, lt, ends))) ∙ holds k lt
 
-  pub stops_at_append : (s : Result (Unit {0}) GroundFault) → IsErr s → AppendsKept size from front bytes s a b
+  pub stops_at_append : (s : Result (Unit {0}) GroundFault) → IsErr s → AppendsKept size from end front bytes s a b
   stops_at_append s failed = record { only = appends.only; held = IfOk-from_err s _ failed; synced = IfOk-from_err s _ failed; since = front_since; kept = λ leaves. IfOk-from_err s _ failed }
 
-module _ (size from : ℕ) (front bytes : List ℕ) (a b c : Told) (holds : Holds size from front a.held) (appends : Appends size (from + length front) bytes (Ok tt) a b)
-    (r : Result (Unit {0}) GroundFault) (syncs : SyncsRange size (from + length front) (from + length front + length bytes) r b c) where
-  abbrev behind : ℕ
-  behind = from + length front
-
+module _ (size from end : ℕ) (front bytes : List ℕ) (ends : from + length front ≡ end) (a b c : Told) (holds : Holds size from front a.held) (appends : Appends size end bytes (Ok tt) a b)
+    (r : Result (Unit {0}) GroundFault) (syncs : SyncsRange size end (end + length bytes) r b c) where
   stays : (number : ℕ) → KeepsFile b c (Chunk number)
   stays number = syncs.only.others (Chunk number) (λ none. none)
 
   both_stand : Holds size from (front ++ bytes) c.held
-  unfolding chunk_byte
   both_stand k lt =
-      ap (byte_in size (from + k)) ((stays (chunk_of size (from + k))).held (λ x. x))
-      ∙ stands_both (chunk_byte size b.held) from front bytes (front_stands size from front bytes a b holds (Ok tt) appends) appends.ok k lt
+      byte_stays size (from + k) b c stays
+      ∙ stands_both (chunk_byte size b.held) from front bytes (front_stands size from end front bytes ends a b holds (Ok tt) appends) (subst (λ (p : ℕ). Holds size p bytes b.held) (sym ends) appends.ok) k lt
 
   since_both : Leaves size from front a → LeavesSince size from front a c
   since_both leaves =
-      let first = front_since size from front bytes a b holds (Ok tt) appends leaves in
+      let first = front_since size from end front bytes ends a b holds (Ok tt) appends leaves in
       since_on size from front a b c syncs.only.goes first (leaves_stay size from front b c stays (leaves_on size from front a b appends.only.goes leaves first))
 
   -- of a place in front a crash leaves what it left, of one behind what its synced chunk reads as
-  both_left : Leaves size from front a → ((file : FileName) → IsChunkBetween size behind (behind + length bytes) file → (content : Content) → c.may_leave c.moment file content → content ≡ c.held file)
-      → Leaves size from (front ++ bytes) c
+  both_left : Leaves size from front a → ((file : FileName) → IsChunkBetween size end (end + length bytes) file → IsKept c file) → Leaves size from (front ++ bytes) c
   unfolding chunk_byte
   both_left leaves kept k lt content may = elim (cases_lt k (length front)) [
     | inl early ↦ leaves_on size from front a c (goes_on a b c appends.only.goes syncs.only.goes) leaves (since_both leaves) k early content may ∙ sym (same_front front bytes k early)
-    | inr late ↦ ap (byte_in size (from + k)) (kept (chunk_file size (from + k)) (from + k, (omega (arith, late), omega (arith, lt, length-append front bytes)), refl) content may) ∙ both_stand k lt
+    | inr late ↦
+        ap (byte_in size (from + k)) (kept (chunk_file size (from + k)) (from + k, (omega (arith, late, ends), omega (arith, lt, ends, length-append front bytes)), refl) content may)
+        ∙ both_stand k lt
   ]
 
-  pub appends_kept : (s : Result (Unit {0}) GroundFault) → Exit r s → AppendsKept size from front bytes s a c
+  pub appends_kept : (s : Result (Unit {0}) GroundFault) → Exit r s → AppendsKept size from end front bytes s a c
   appends_kept s exit = record {
-    only = only_on a b c (IsChunkBetween size behind (behind + length bytes)) appends.only (only_more b c NoFile (IsChunkBetween size behind (behind + length bytes)) (λ f none. absurd none) syncs.only);
+    only = only_on a b c (IsChunkBetween size end (end + length bytes)) appends.only (only_more b c NoFile (IsChunkBetween size end (end + length bytes)) (λ f none. absurd none) syncs.only);
     held = exit_holds r s _ exit both_stand;
     synced = exit_ok r s _ exit syncs.ok;
     since = since_both;

@@ -4,7 +4,7 @@
 --     bytes_from size image at n      the n bytes that it has from a place on
 --     EachByteNow, EachByteSince      each byte that a crash may leave at a place
 --     Leaves size at bytes told      a crash leaves these bytes.      LeavesSince size at bytes old new      at each moment since old
---     AppendsKept size from front bytes result old new      an append behind a front and a sync of it
+--     AppendsKept size from end front bytes result old new      an append at the end of a front and a sync of it
 use Rattle.std.specs.Prelude.{◌≡◌, ℕ, ◌+◌, ◌<◌, List, ◌++◌, length, filter_map, Option, slice_get, Result, OnOk}
 use Rattle.std.specs.List.{range_with_len}
 use Rattle.ip_ground.specs.declared.names.FileName.{FileName}
@@ -33,11 +33,11 @@ Leaves size at bytes told = (k : ℕ) → k < length bytes → EachByteNow size 
 abbrev pub LeavesSince : ℕ → ℕ → List ℕ → Told → Told → Type 0
 LeavesSince size at bytes old new = (k : ℕ) → k < length bytes → EachByteSince size (at + k) old new (λ byte. byte ≡ slice_get bytes k)
 
--- Bytes were appended behind a front, and their chunks were synced. Ok: they stand there, and nothing of these chunks is pending. Where a
+-- Bytes were appended at the end of a front, and their chunks were synced. Ok: they stand there, and nothing of these chunks is pending. Where a
 -- crash left the front before, it does so at each moment, and after Ok it leaves both.
-pub record AppendsKept (size from : ℕ) (front bytes : List ℕ) (result : Result (Unit {0}) GroundFault) (old new : Told) : Type 0 where
-  pub only : ChangesOnly (IsChunkBetween size (from + length front) (from + length front + length bytes)) old new
+pub record AppendsKept (size from end : ℕ) (front bytes : List ℕ) (result : Result (Unit {0}) GroundFault) (old new : Told) : Type 0 where
+  pub only : ChangesOnly (IsChunkBetween size end (end + length bytes)) old new
   pub held : OnOk result (Holds size from (front ++ bytes) new.held)
-  pub synced : OnOk result ((file : FileName) → IsChunkBetween size (from + length front) (from + length front + length bytes) file → IsKept new file)
+  pub synced : OnOk result ((file : FileName) → IsChunkBetween size end (end + length bytes) file → IsKept new file)
   pub since : Leaves size from front old → LeavesSince size from front old new
   pub kept : Leaves size from front old → OnOk result (Leaves size from (front ++ bytes) new)

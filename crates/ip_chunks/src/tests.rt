@@ -22,7 +22,7 @@ fn append_kept<G: Ground>(
     requires room { from + length front.now + length bytes.now ≤ 2 ^ 62 }
     requires begins { from ≤ chunk_start chunks.size (from + length front.now) }
     requires holds { IsTrue G.tells → Holds chunks.size from front.now (G.told outside.old).held }
-    ensures { IsTrue G.tells → AppendsKept chunks.size from front.now bytes.now result (G.told outside.old) (G.told outside.new) }
+    ensures { IsTrue G.tells → AppendsKept chunks.size from (from + length front.now) front.now bytes.now result (G.told outside.old) (G.told outside.new) }
 {
     let end = from + front.len() as u64;
     chunks.append(outside, end, bytes)?;

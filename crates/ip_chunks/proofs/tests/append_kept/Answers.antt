@@ -7,7 +7,7 @@ pub append-requires-clause-no_gap : goal.append-requires-clause-no_gap
 append-requires-clause-no_gap g c told = no_gap_before c.args.chunks.size c.args.from _ _ c.requires.begins (no_gap_from c.args.chunks.size c.args.from c.args.front.now _ (c.requires.holds told))
 
 pub returns-in_err-append : goal.returns-in_err-append
-returns-in_err-append g c told = stops_at_append c.args.chunks.size c.args.from c.args.front.now c.args.bytes.now _ _ (c.requires.holds told) _ (c.append.ensures.does told) _ c.from_residual.ensures.0
+returns-in_err-append g c told = stops_at_append c.args.chunks.size c.args.from _ c.args.front.now c.args.bytes.now refl _ _ (c.requires.holds told) _ (c.append.ensures.does told) _ c.from_residual.ensures.0
 
 pub returns : goal.returns
-returns g c told = appends_kept c.args.chunks.size c.args.from c.args.front.now c.args.bytes.now _ _ _ (c.requires.holds told) (c.in_ok-append.ensures.does told) _ (c.sync_range.ensures.does told) _ (inr refl)
+returns g c told = appends_kept c.args.chunks.size c.args.from _ c.args.front.now c.args.bytes.now refl _ _ _ (c.requires.holds told) (c.in_ok-append.ensures.does told) _ (c.sync_range.ensures.does told) _ (inr refl)
