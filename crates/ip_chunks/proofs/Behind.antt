@@ -1,8 +1,8 @@
 -- For whoever knows that the bytes up to an end are kept, and writes behind it.
---     leaves_on, since_on      what a crash leaves goes on over moments.      leaves_stay, byte_stays      over calls that change no chunk
+--     leaves_on, since_on      what a crash leaves goes on over moments.      leaves_stay, byte_stays, holds_stay      over calls that change no chunk
 --     stand_from, leaves_from_kept      what a crash leaves, the files read as, and back.      images_hold, images_with      it is in each image
---     front_holds, front_ends      the front, by its places.      stops_at_append, appends_kept      the exits of an append and a sync behind it
-use Rattle.std.proofs.Common.{◌≡◌, ℕ, ◌+◌, ◌-◌, ◌<◌, ◌≤◌, List, ◌++◌, length, Bool, Some, inl, inr, refl, sym, ◌∙◌, ap, subst, arith, length-append}
+--     front_holds, front_ends, holds_front      the front, by its places, and of more bytes.      stops_at_append, appends_kept      the exits of an append and a sync behind it
+use Rattle.std.proofs.Common.{◌≡◌, ℕ, ◌+◌, ◌<◌, ◌≤◌, List, ◌++◌, length, Bool, Some, inl, inr, refl, sym, ◌∙◌, ap, subst, arith, length-append}
 use Rattle.std.specs.Prelude.{is_some, IsSome, IsTrue, slice_get, Result, Ok, IsErr}
 use Rattle.std.proofs.lemmas.Bool.{cases_lt}
 use Rattle.std.proofs.lemmas.List.{get_or_append_left}
@@ -19,7 +19,7 @@ use Rattle.ip_image.specs.Virtual.{chunk_of}
 use Rattle.ip_chunks.specs.Places.{chunk_file, chunk_start, byte_in, chunk_byte, NoGap, IsChunkBetween}
 use Rattle.ip_chunks.specs.Effects.{TornChunk, Appends, SyncsRange}
 use Rattle.ip_chunks.specs.Fronts.{Holds, Leaves, LeavesSince, AppendsKept, bytes_from}
-use Rattle.ip_chunks.proofs.Bytes.{some_bytes, length-bytes_from, stands_both}
+use Rattle.ip_chunks.proofs.Bytes.{some_bytes, length-bytes_from, stands_front, stands_both}
 
 module _ (size at : ℕ) (bytes : List ℕ) where
   -- the byte of one of the places
@@ -75,27 +75,34 @@ pub byte_stays : (size at : ℕ) (a b : Told) → ((number : ℕ) → KeepsFile 
 unfolding chunk_byte
 byte_stays size at a b stays = ap (byte_in size at) ((stays (chunk_of size at)).held (λ x. x))
 
+pub holds_stay : (size at : ℕ) (bytes : List ℕ) (a b : Told) → ((number : ℕ) → KeepsFile a b (Chunk number)) → Holds size at bytes a.held → Holds size at bytes b.held
+holds_stay size at bytes a b stays holds k lt = byte_stays size (at + k) a b stays ∙ holds k lt
+
 -- an append may follow bytes that begin not behind its chunk
 pub no_gap_before : (size from end : ℕ) (image : Image) → from ≤ chunk_start size end → NoGap size image from end → NoGap size image (chunk_start size end) end
 no_gap_before size from end image before no_gap at between = no_gap at (omega (arith, before, between.0), between.1)
 
--- the bytes from a place up to an end, where there is no gap between
-module _ (size from end : ℕ) (image : Image) (order : from ≤ end) (no_gap : NoGap size image from end) where
-  no_gap_on : NoGap size image from (from + (end - from))
-  no_gap_on at between = no_gap at (between.0, omega (arith, between.1, order))
+-- the n bytes up to an end, where there is no gap in front of it
+module _ (size from n end : ℕ) (ends : from + n ≡ end) (image : Image) (no_gap : NoGap size image from end) where
+  no_gap_on : NoGap size image from (from + n)
+  no_gap_on at between = no_gap at (between.0, omega (arith, between.1, ends))
 
-  pub front_holds : Holds size from (bytes_from size image from (end - from)) image
-  front_holds = some_bytes size from (end - from) image no_gap_on
+  pub front_holds : Holds size from (bytes_from size image from n) image
+  front_holds = some_bytes size from n image no_gap_on
 
-  pub front_ends : from + length (bytes_from size image from (end - from)) ≡ end
-  front_ends = omega (arith, length-bytes_from size from (end - from) image no_gap_on, order)
+  pub front_ends : from + length (bytes_from size image from n) ≡ end
+  front_ends = omega (arith, length-bytes_from size from n image no_gap_on, ends)
+
+-- the first bytes of those that an image has
+pub holds_front : (size at : ℕ) (front rest : List ℕ) (image : Image) → Holds size at (front ++ rest) image → Holds size at front image
+holds_front size at front rest image holds = stands_front (chunk_byte size image) at front rest holds
 
 module _ (size from end : ℕ) (front bytes : List ℕ) (ends : from + length front ≡ end) (a b : Told) (holds : Holds size from front a.held) (r : Result (Unit {0}) GroundFault) (appends : Appends size end bytes r a b) where
   -- a byte of the front is torn by no append behind it
   front_since : Leaves size from front a → LeavesSince size from front a b
   front_since leaves k lt =
       each_steps a b (chunk_file size (from + k)) (Has size from front k) (Has size from front k) (TornChunk size end (length bytes) (chunk_of size (from + k))) (appends.left (chunk_of size (from + k))) (leaves k lt)
-        (λ x y was torn. (torn (from + k) refl).before (omega (arith, lt, ends)) (subst IsSome (sym was) (ap is_some (slice_get-get_or front k 0 lt))) ∙ was)
+      (λ x y was torn. (torn (from + k) refl).before (omega (arith, lt, ends)) (subst IsSome (sym was) (ap is_some (slice_get-get_or front k 0 lt))) ∙ was)
 
   front_stands : Holds size from front b.held
   front_stands k lt = appends.others (from + k) (λ between. absurd (omega (arith, between.0, lt, ends))) ∙ holds k lt
@@ -109,9 +116,9 @@ module _ (size from end : ℕ) (front bytes : List ℕ) (ends : from + length fr
   stays number = syncs.only.others (Chunk number) (λ none. none)
 
   both_stand : Holds size from (front ++ bytes) c.held
-  both_stand k lt =
-      byte_stays size (from + k) b c stays
-      ∙ stands_both (chunk_byte size b.held) from front bytes (front_stands size from end front bytes ends a b holds (Ok tt) appends) (subst (λ (p : ℕ). Holds size p bytes b.held) (sym ends) appends.ok) k lt
+  both_stand =
+      holds_stay size from (front ++ bytes) b c stays
+      (stands_both (chunk_byte size b.held) from front bytes (front_stands size from end front bytes ends a b holds (Ok tt) appends) (subst (λ (p : ℕ). Holds size p bytes b.held) (sym ends) appends.ok))
 
   since_both : Leaves size from front a → LeavesSince size from front a c
   since_both leaves =
