@@ -40,18 +40,18 @@ pub use Rattle.ip_image.proofs.SpelledCommits.{some_repository}
 
 -- ---- bytes
 
-get_take : (n : ℕ) (xs : Bytes) (k b : ℕ) → k < n → slice_get xs k ≡ Some b → slice_get (take n xs) k ≡ Some b
+pub get_take : (n : ℕ) (xs : Bytes) (k b : ℕ) → k < n → slice_get xs k ≡ Some b → slice_get (take n xs) k ≡ Some b
 get_take zero xs k b l is = absurd (omega (arith, l))
 get_take (suc n) [] k b l is = is
 get_take (suc n) (x ∷ xs) zero b l is = is
 get_take (suc n) (x ∷ xs) (suc k) b l is = get_take n xs k b (omega (arith, l)) is
 
-get_front : (xs ys : Bytes) (k b : ℕ) → slice_get xs k ≡ Some b → slice_get (xs ++ ys) k ≡ Some b
+pub get_front : (xs ys : Bytes) (k b : ℕ) → slice_get xs k ≡ Some b → slice_get (xs ++ ys) k ≡ Some b
 get_front [] ys k b is = absurd (false≢true (ap is_some is))
 get_front (x ∷ xs) ys zero b is = is
 get_front (x ∷ xs) ys (suc k) b is = get_front xs ys k b is
 
-get_behind : (xs ys : Bytes) (k : ℕ) → slice_get (xs ++ ys) (length xs + k) ≡ slice_get ys k
+pub get_behind : (xs ys : Bytes) (k : ℕ) → slice_get (xs ++ ys) (length xs + k) ≡ slice_get ys k
 get_behind [] ys k = ap (slice_get ys) (omega arith)
 get_behind (x ∷ xs) ys k =
     let e : suc (length xs) + k ≡ suc (length xs + k) = omega arith in
@@ -123,7 +123,7 @@ IsWithin version x = Fits version x.1 × IsServedKind x.1
 
 module _ (s : Slot) (fields : IsSlot s) where
   -- no generation is live, so its tests of kinds say nothing
-  good_one : (before : Records) (x : ℕ × Record) → IsWithin s.version x → RecordFits (terms_of s) before x.0 x.1 → IsGood s before x
+  pub good_one : (before : Records) (x : ℕ × Record) → IsWithin s.version x → RecordFits (terms_of s) before x.0 x.1 → IsGood s before x
   good_one before x within fits = record {
     bounds = within.0;
     served = within.1;

@@ -3,7 +3,8 @@
 --     HasLive s image      this slot is live, and has the right form.      next_slot s end      the slot that follows it, when a commit's records end there
 --     MayCommit r tree parents info branch      what a commit is made of, that no refusal stands against
 --     batch_of, batch_end_of      the records of the commit, and where they end
---     StandsStill, StandsNext      the two laws
+--     later_slot s end      the slot that follows when other records end there.      MayName r x, renamed r x      a record that changes the branches, and the repository after it
+--     StandsStill, StandsNext, StandsRenamed      the laws
 use Rattle.std.specs.Prelude.{◌≡◌, ◌≢◌, ℕ, ◌+◌, ◌<◌, ◌≤◌, List, ◌++◌, length, map, take, All, AllPairs, None, Some, IsSome, IsTrue, slice_index}
 use Rattle.ip_base.specs.declared.info.Info.{Info}
 use Rattle.ip_ground.specs.declared.names.FileName.TheVariants.{Control, Chunk}
@@ -11,7 +12,7 @@ use Rattle.ip_ground.specs.Contents.{Content, Image, bytes_of, size_of}
 use Rattle.ip_spec.specs.Map.{get, insert, len}
 use Rattle.ip_spec.specs.Path.{Bytes, Path, AreBytes}
 use Rattle.ip_spec.specs.declared.record.Record.{Record}
-use Rattle.ip_spec.specs.Record.{Fits, IsInfo, IsBranchName, contents_limit, spelling_of}
+use Rattle.ip_spec.specs.Record.{Names, Fits, IsInfo, IsBranchName, contents_limit, spelling, spelling_of}
 use Rattle.ip_spec.specs.Tree.{Tree, IsTree}
 use Rattle.ip_spec.specs.TreeAt.{Records}
 use Rattle.ip_spec.specs.View.{View}
@@ -19,7 +20,7 @@ use Rattle.ip_spec.specs.Batch.{CommitFields, sources, batch, batch_end}
 use Rattle.ip_spec.specs.Repository.{Repository, next, is_retained, number_named, name_at}
 use Rattle.ip_spec.specs.Step.{new_commit, with_commit}
 use Rattle.ip_image.specs.Slot.{Slot, IsLive}
-use Rattle.ip_image.specs.Standing.{StandsFor, IsServedKind}
+use Rattle.ip_image.specs.Standing.{StandsFor, IsServedKind, names_after}
 
 pub record BeginsWith (front : Bytes) (content : Content) : Type 0 where
   pub long : length front ≤ size_of content
@@ -74,6 +75,19 @@ bytes_of_records records = spelling_of (map (λ x. x.1) records)
 abbrev pub AreWithin : ℕ → Records → Type 0
 AreWithin version records = All (λ (x : ℕ × Record). Fits version x.1 × IsServedKind x.1) records
 
+-- the slot that follows when records end there that are no commit
+abbrev pub later_slot : Slot → ℕ → Slot
+later_slot s end = record s { sequence = s.sequence + 1; end = end }
+
+-- a record that sets a branch or takes one away, and may stand behind those of a repository
+abbrev pub MayName : Repository → Record → Type 0
+MayName r (Record.BranchSet number name) = IsTrue (is_retained r number) × (len (insert r.branches name number) ≤ 4096)
+MayName r (Record.BranchRemove name) = Unit {0}
+MayName r _ = ⊥
+
+abbrev pub renamed : Repository → Record → Repository
+renamed r x = record r { branches = names_after Names.branches r.branches x }
+
 -- an image with the same live slot and the same records stands for the same repository
 abbrev pub StandsStill : Type 0
 StandsStill = (image other : Image) (r : Repository) (s : Slot) → StandsFor image r → HasLive s image → HasLive s other
@@ -87,3 +101,8 @@ StandsNext = (image other : Image) (r : Repository) (s : Slot) (tree : Tree) (pa
     → HasLive (next_slot s (batch_end_of tree (fields_of r parents info branch) s.end)) other
     → BeginsWith (front_of s.end image ++ bytes_of_records (batch_of tree (fields_of r parents info branch) s.end)) (other (Chunk 0))
     → StandsFor other (with_commit r (new_commit r tree parents info) branch)
+
+-- and one with a record of a branch behind them, for the repository with its branches changed
+abbrev pub StandsRenamed : Type 0
+StandsRenamed = (image other : Image) (r : Repository) (s : Slot) (x : Record) → StandsFor image r → HasLive s image → MayName r x → Fits s.version x
+    → HasLive (later_slot s (s.end + length (spelling x))) other → BeginsWith (front_of s.end image ++ spelling x) (other (Chunk 0)) → StandsFor other (renamed r x)
