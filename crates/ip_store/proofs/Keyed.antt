@@ -2,22 +2,24 @@
 --     told es      the keys as byte lists
 --     entries_made      a map made of a list in order has that list
 use Rattle.std.proofs.Common.{◌≡◌, ℕ, suc, Bool, true, false, cond, T, List, [], ◌∷◌, ◌++◌, map, length, Vec, refl, sym, ◌∙◌, ap, subst, append_assoc}
-use Rattle.std.specs.Prelude.{◌&&◌}
+use Rattle.std.specs.Prelude.{◌&&◌, not}
 use Rattle.std.proofs.lemmas.List.{append-nil}
-use Rattle.std.specs.Ordering.{is_eq, is_lt, ordering_reverse, match_ordering}
+use Rattle.std.specs.Ordering.{is_eq, is_lt, eq_by_cmp, ordering_reverse, match_ordering}
 use Rattle.std.specs.Cmp.{IsTotalOrder}
 use Rattle.std.specs.List.{AllByRecursion}
 use Rattle.std.specs.List.Sorted.{IsStrictlySortedBy}
-use Rattle.std.specs.Map.{keys_of, lookup}
+use Rattle.std.specs.Map.{keys_of, lookup, remove_entry}
 use Rattle.std.specs.BTreeMap.{BTreeMap, IsOrdered, insert_entry}
 use Rattle.std.specs.declared.alloc.Global.{Global}
 use Rattle.std.specs.declared.cmp.Ordering.{Ordering}
 use Rattle.std.specs.declared.cmp.Ordering.TheVariants.{Less, Equal, Greater}
 use Rattle.std.specs.FinMap.Entries as E
-use Rattle.std.specs.FinMap.Entries.{find, is_sorted, below_all}
+use Rattle.std.specs.FinMap.Entries.{find, is_sorted, below_all, where_key}
 use Rattle.std.specs.Prelude.{Some}
 use Rattle.ip_spec.specs.Map.{Map, empty, insert, insert_all, from_entries, entries-insert}
 use Rattle.ip_spec.specs.Path.{Bytes, bytes_cmp}
+use Rattle.ip_spec.proofs.Subtrees.{step_antisymmetric}
+use Rattle.ip_image.proofs.InChunk.{eq_of}
 use Rattle.ip_store.specs.Entries.{step_cmp}
 
 less : (o : Ordering) → o ≡ Less → T (is_lt o)
@@ -74,6 +76,30 @@ module _ {X : Type 0} where
       by Less h = refl
       by Equal h = refl
       by Greater h = ap (λ ys. (e.0.items, e.1) ∷ ys) h
+
+  -- nothing is taken out where the key is below all
+  untouched : (name : Bytes) (es : List (Bytes × X)) → T (below_all bytes_cmp name es) → where_key bytes_cmp (λ x. not (eq_by_cmp bytes_cmp name x)) es ≡ es
+  untouched name [] h = refl
+  untouched name (e ∷ es) h = by (bytes_cmp name e.0) refl (first (is_lt (bytes_cmp name e.0)) (below_all bytes_cmp name es) h) (untouched name es (second (is_lt (bytes_cmp name e.0)) (below_all bytes_cmp name es) h))
+    where
+      by : (o : Ordering) → bytes_cmp name e.0 ≡ o → T (is_lt o) → where_key bytes_cmp (λ x. not (eq_by_cmp bytes_cmp name x)) es ≡ es
+          → where_key bytes_cmp (λ x. not (eq_by_cmp bytes_cmp name x)) (e ∷ es) ≡ e ∷ es
+      by Less is less rest = ap (λ o. cond (not (is_eq o)) (e ∷ where_key bytes_cmp (λ x. not (eq_by_cmp bytes_cmp name x)) es) (where_key bytes_cmp (λ x. not (eq_by_cmp bytes_cmp name x)) es)) is ∙ ap (λ ys. e ∷ ys) rest
+      by Equal is less rest = absurd less
+      by Greater is less rest = absurd less
+
+  pub out_in : (name : Bytes) (es : Pairs X) → T (is_sorted bytes_cmp (told es))
+      → told (remove_entry (λ k. is_eq (bytes_cmp name k.items)) es) ≡ where_key bytes_cmp (λ x. not (eq_by_cmp bytes_cmp name x)) (told es)
+  out_in name [] sorted = refl
+  out_in name (e ∷ es) sorted = by (is_eq (bytes_cmp name e.0.items)) refl (out_in name es (second (below_all bytes_cmp e.0.items (told es)) (is_sorted bytes_cmp (told es)) sorted))
+    where
+      below_it : T (below_all bytes_cmp e.0.items (told es))
+      below_it = first (below_all bytes_cmp e.0.items (told es)) (is_sorted bytes_cmp (told es)) sorted
+
+      by : (b : Bool) → is_eq (bytes_cmp name e.0.items) ≡ b → told (remove_entry (λ k. is_eq (bytes_cmp name k.items)) es) ≡ where_key bytes_cmp (λ x. not (eq_by_cmp bytes_cmp name x)) (told es)
+          → told (cond b es (e ∷ remove_entry (λ k. is_eq (bytes_cmp name k.items)) es)) ≡ cond (not b) ((e.0.items, e.1) ∷ where_key bytes_cmp (λ x. not (eq_by_cmp bytes_cmp name x)) (told es)) (where_key bytes_cmp (λ x. not (eq_by_cmp bytes_cmp name x)) (told es))
+      by true is rest = sym (untouched name (told es) (subst (λ (k : Bytes). T (below_all bytes_cmp k (told es))) (sym (step_antisymmetric name e.0.items (eq_of (bytes_cmp name e.0.items) is))) below_it))
+      by false is rest = ap (λ ys. (e.0.items, e.1) ∷ ys) rest
 
   pub length_told : (es : Pairs X) → length (told es) ≡ length es
   length_told [] = refl

@@ -11,6 +11,8 @@ mod Tables
 mod Machine
 mod Hashes
 mod Planning
+pub mod Secured
+mod Stepping
 mod AfterCommit
 mod Numbered
 mod FrontRecords

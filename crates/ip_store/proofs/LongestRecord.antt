@@ -71,7 +71,7 @@ body_size (Record.BranchSet number name) fits served =
     let short = fits.fields.1.short in
     let a = length-append (u64 number) (short_text name) in
     omega arith
-body_size (Record.BranchRemove name) fits served = absurd served
+body_size (Record.BranchRemove name) fits served = let short = fits.fields.short in omega (arith, short)
 body_size (Record.BranchTable rows) fits served = absurd served
 body_size (Record.TagSet number name) fits served = absurd served
 body_size (Record.TagRemove name) fits served = absurd served

@@ -1,14 +1,19 @@
 -- What making a store does, exit by exit.
-use Rattle.std.proofs.Common.{take, List, subst, ◌≡◌, ℕ, false, sym, ◌∙◌, ap, Ok, Err}
+use Rattle.std.proofs.Common.{take, List, [], ◌∷◌, arith, subst, ◌≡◌, ℕ, false, sym, ◌∙◌, ap, Ok, Err}
 use Rattle.std.specs.Prelude.{Result, IsSome, IsErrAnd, is_some}
-use Rattle.ip_ground.specs.declared.names.FileName.TheVariants.{Control}
+use Rattle.ip_ground.specs.declared.names.FileName.TheVariants.{Control, Chunk}
 use Rattle.ip_ground.specs.declared.names.GroundFault.{GroundFault}
-use Rattle.ip_ground.specs.Contents.{bytes_of}
+use Rattle.ip_ground.specs.Contents.{Content, bytes_of}
 use Rattle.ip_ground.specs.Told.{Told, Only, NoFile, ChangesOnly}
 use Rattle.ip_ground.specs.Calls.{Writes, Syncs}
 use Rattle.ip_ground.proofs.Spans.{only_on, only_more}
 use Rattle.ip_ground.proofs.Durable.{sync_changes}
-use Rattle.ip_image.specs.Slot.{live_index, IsChunkSize, fresh_control}
+use Rattle.ip_image.specs.declared.slot.Slot.{Slot}
+use Rattle.ip_image.specs.Slot.{live_index, IsChunkSize, fresh, fresh_control}
+use Rattle.ip_image.specs.Appending.{BeginsWith, front_of}
+use Rattle.ip_image.specs.Headline.{IsInOrder}
+use Rattle.ip_image.proofs.FreshLaws.{is_live}
+use Rattle.ip_image.proofs.HeadlineLaws.{one_slot}
 use Rattle.ip_store.specs.declared.store.InitFault.{InitFault}
 use Rattle.ip_store.specs.Control.{control_in, IsFresh}
 use Rattle.ip_store.specs.Opening.{Makes}
@@ -26,6 +31,7 @@ is_there chunk a b passes live = record {
   made = tt;
   kept = tt;
   stands = tt;
+  order = tt;
 }
   where
     subst_live : control_in b.held ≡ control_in a.held → IsSome (live_index (control_in a.held))
@@ -42,6 +48,7 @@ fails chunk (Err e) a b fault only = record {
   made = tt;
   kept = tt;
   stands = tt;
+  order = tt;
 }
 
 pub of_spelled : (chunk : ℕ) (bytes : List ℕ) (r : Result (Unit {0}) GroundFault) (a b : Told) → bytes ≡ fresh_control chunk → Writes Control 0 bytes r a b → Writes Control 0 (fresh_control chunk) r a b
@@ -55,6 +62,17 @@ module _ (chunk : ℕ) (a b c d : Told) (passes : ChangesOnly NoFile a b) (write
   pub sync_only : ChangesOnly (Only Control) a d
   sync_only = only_on a c d (Only Control) (write_only chunk a b c passes (Ok tt) writes) (to_control c d (sync_changes Control own result c d syncs))
 
+-- no record is named, so none is pending
+none_begins : (bytes : List ℕ) (content : Content) → BeginsWith (take 0 bytes) content
+none_begins [] content = record { long = omega arith; same = λ place low. absurd (omega (arith, low)) }
+none_begins (b ∷ bytes) content = record { long = omega arith; same = λ place low. absurd (omega (arith, low)) }
+
+fresh_order : (chunk : ℕ) → IsChunkSize chunk → (told : Told) → IsFresh chunk told.held → IsInOrder told
+fresh_order chunk size told is s has content left =
+    let begun : take 256 has.control ≡ fresh_control chunk = ap (λ c. take 256 (bytes_of c)) (sym has.held) ∙ is in
+    let same : fresh chunk ≡ s = one_slot (fresh chunk) s told.held (record { control = has.control; index = 0; held = has.held; live = is_live has.control chunk size begun }) has in
+    subst (λ (u : Slot). BeginsWith (front_of u.end told.held) content) same (none_begins (bytes_of (told.held (Chunk 0))) content)
+
 pub makes : (chunk : ℕ) → IsChunkSize chunk → (a b c d : Told) → ChangesOnly NoFile a b → is_some (live_index (control_in b.held)) ≡ false → Writes Control 0 (fresh_control chunk) (Ok tt) b c → Syncs Control (Ok tt) c d → Makes chunk (Ok tt) a d
 makes chunk size a b c d passes closed writes syncs = record {
   only = sync_only chunk a b c d passes writes (Ok tt) syncs;
@@ -64,6 +82,7 @@ makes chunk size a b c d passes closed writes syncs = record {
   made = made;
   kept = syncs.ok (λ x. x);
   stands = fresh_now chunk size d made (syncs.ok (λ x. x));
+  order = fresh_order chunk size d made;
 }
   where
     made : IsFresh chunk d.held

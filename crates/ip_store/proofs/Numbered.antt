@@ -1,22 +1,22 @@
 -- The branches that a store keeps, as a map from names to numbers.
 use Rattle.std.proofs.Common.{◌≡◌, ℕ, ◌<◌, ◌≤◌, Bool, true, false, cond, [], ◌∷◌, length, Option, Some, Vec, refl, sym, ◌∙◌, ap, subst, arith}
-use Rattle.std.specs.Prelude.{◌&&◌, ◌↔◌, nat_le, nat_lt, IfSome, IsTrue}
-use Rattle.std.specs.Ordering.{is_eq}
+use Rattle.std.specs.Prelude.{◌&&◌, not, ◌↔◌, nat_le, nat_lt, IfSome, IsTrue}
+use Rattle.std.specs.Ordering.{is_eq, eq_by_cmp}
 use Rattle.std.specs.Cmp.{IsTotalOrder}
 use Rattle.std.specs.Cmp.Lexicographic.{nat_list_cmp_total}
 use Rattle.std.specs.List.{AllByRecursion, list_all}
-use Rattle.std.specs.Map.{values_of, lookup}
+use Rattle.std.specs.Map.{values_of, lookup, remove_entry}
 use Rattle.std.specs.BTreeMap.{BTreeMap, IsOrdered, insert_entry}
 use Rattle.std.specs.declared.alloc.Global.{Global}
 use Rattle.std.specs.FinMap.Entries as E
-use Rattle.std.specs.FinMap.Entries.{find}
+use Rattle.std.specs.FinMap.Entries.{find, where_key}
 use Rattle.std.proofs.lemmas.Bool.Decides.{nat_tests}
 use Rattle.std.proofs.lemmas.List.Elements.{recursion_from_All}
 use Rattle.std.proofs.lemmas.Map.Views.{All-found}
-use Rattle.ip_spec.specs.Map.{Map, empty, get, insert, len, from_entries, entries-insert, same_entries_map}
+use Rattle.ip_spec.specs.Map.{Map, empty, get, insert, remove, retain_keys, len, from_entries, entries-insert, same_entries_map}
 use Rattle.ip_spec.specs.Path.{Bytes, bytes_cmp}
 use Rattle.ip_store.specs.Entries.{step_cmp, branches_of}
-use Rattle.ip_store.proofs.Keyed.{Pairs, told, sorted_in, find_in, put_in, length_told, entries_made}
+use Rattle.ip_store.proofs.Keyed.{Pairs, told, sorted_in, find_in, put_in, out_in, length_told, entries_made}
 
 abbrev Kept : Type 0
 Kept = BTreeMap (Vec ℕ Global) ℕ
@@ -95,6 +95,13 @@ module _ (m : Kept) (ordered : IsOrdered step_cmp m) (b : Map bytes_cmp ℕ) (vi
   set_is n sorted k v inserted =
       same_entries_map (branches_of n) (insert b k.items v) (
       entries_of_branches n sorted ∙ ap told inserted ∙ put_in k v m.entries ∙ ap (E.put bytes_cmp k.items v) (sym entries_are) ∙ sym (entries-insert nat_list_cmp_total b k.items v)
+      )
+
+  pub out_is : (n : Kept) → IsOrdered step_cmp n → (name : Bytes) → n.entries ≡ remove_entry (λ k. is_eq (bytes_cmp name k.items)) m.entries → branches_of n ≡ remove b name
+  unfolding retain_keys
+  out_is n sorted name removed =
+      same_entries_map (branches_of n) (remove b name) (
+      entries_of_branches n sorted ∙ ap told removed ∙ out_in name m.entries (sorted_in m ordered) ∙ ap (where_key bytes_cmp (λ x. not (eq_by_cmp bytes_cmp name x))) (sym entries_are)
       )
 
   pub within_is : (low high : ℕ) (r : Bool) → r ≡ list_all (is_within low high) (values_of m.entries) → IsTrue r ↔ ((name : Bytes) → IfSome (get b name) (IsWithin low high))

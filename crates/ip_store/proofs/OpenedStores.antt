@@ -1,16 +1,17 @@
 -- The store that is made of a slot and of what was found, and what opening answers.
 --     whole_of      the test at the end.      tables_of, holds_of      the repository of the store, which it holds
 --     sync_only, finds_fault, finds, finds_form      the exits of finding the slot.      opens_bad, opens_at_end      those of opening
-use Rattle.std.proofs.Common.{◌≡◌, ℕ, ◌+◌, ◌*◌, ◌<◌, Bool, true, List, [], ◌∷◌, map, length, refl, sym, ◌∙◌, ap, subst, arith}
-use Rattle.std.specs.Prelude.{Option, Some, None, Result, Ok, Err, IfOk, OnOk, IsErr, IsErrAnd, IsErrOf, IsTrue, All}
+use Rattle.std.proofs.Common.{◌≡◌, ℕ, ◌+◌, ◌*◌, ◌<◌, ◌≤◌, inl, inr, Bool, true, List, [], ◌∷◌, map, length, refl, sym, ◌∙◌, ap, subst, arith}
+use Rattle.std.specs.Prelude.{Option, Some, None, Result, Ok, Err, IfOk, OnOk, IsErr, IsErrAnd, IsErrOf, IsSome, IfSome, IsTrue, All, is_none, option_map}
 use Rattle.std.specs.List.{AllByRecursion}
+use Rattle.std.proofs.lemmas.Bool.{cases_lt}
 use Rattle.std.proofs.lemmas.List.{length-map}
 use Rattle.std.proofs.lemmas.List.Elements.{All-from_recursion}
 use Rattle.ip_ground.specs.declared.names.FileName.{FileName}
-use Rattle.ip_ground.specs.declared.names.FileName.TheVariants.{Control}
+use Rattle.ip_ground.specs.declared.names.FileName.TheVariants.{Control, Chunk}
 use Rattle.ip_ground.specs.declared.names.GroundFault.{GroundFault}
 use Rattle.ip_ground.specs.Contents.{Content}
-use Rattle.ip_ground.specs.Told.{Told, NoFile, ChangesOnly, IsKept}
+use Rattle.ip_ground.specs.Told.{Told, NoFile, KeepsFile, ChangesOnly, IsKept}
 use Rattle.ip_ground.specs.Calls.{Syncs}
 use Rattle.ip_ground.proofs.Spans.{only_on}
 use Rattle.ip_ground.proofs.Durable.{sync_changes, kept_passes}
@@ -24,6 +25,8 @@ use Rattle.ip_image.specs.declared.slot.Slot.{Slot}
 use Rattle.ip_image.specs.Slot.{IsSlot, IsLive, live_index}
 use Rattle.ip_image.specs.Virtual.{byte_of}
 use Rattle.ip_image.specs.Standing.{EndToEnd, AreRetained, WholeFits, DamagedAt, commits_in}
+use Rattle.ip_image.specs.Headline.{IsInOrder}
+use Rattle.ip_image.proofs.HeadlineLaws.{order_passes}
 use Rattle.ip_control.specs.declared.fault.ControlFault.{ControlFault}
 use Rattle.ip_control.specs.Finding.{Finds}
 use Rattle.ip_audit.specs.Audits.{commit_name}
@@ -33,9 +36,10 @@ use Rattle.ip_store.specs.declared.walk.Found.{Found}
 use Rattle.ip_store.specs.Control.{control_in}
 use Rattle.ip_store.specs.Window.{chunk}
 use Rattle.ip_store.specs.Walk.{Tells, Covers, BadRecord}
-use Rattle.ip_store.specs.Found.{FoundIn, FindsSlot, Finished, Finishes}
+use Rattle.ip_store.specs.Found.{IsReached, FoundIn, FindsSlot, Finished, Finishes}
 use Rattle.ip_store.specs.Store.{IsOf, Holds}
-use Rattle.ip_store.specs.Opening.{Opens}
+use Rattle.ip_store.specs.Opening.{SecuresOpening, Opens}
+use Rattle.ip_store.proofs.Secured.{secures_from}
 use Rattle.ip_store.proofs.Hashes.{sha_is_hash}
 use Rattle.ip_store.proofs.Reading.{own, control_passes}
 use Rattle.ip_store.proofs.OpenedImages.{form_damaged, bad_damaged, misfit_damaged, whole_from, repository_of, repository_names, repository_floor, repository_branches, repository_size, stands_for}
@@ -98,9 +102,43 @@ module _ (index : ℕ) (s : Slot) (is : IsSlot s) (below : index < 2) (found : F
 pub sync_only : (a b c : Told) (result : Result (Unit {0}) GroundFault) → ChangesOnly NoFile a b → Syncs Control result b c → ChangesOnly NoFile a c
 sync_only a b c result passes syncs = only_on a b c NoFile passes (sync_changes Control own result b c syncs)
 
+-- no moment is so late
+too_late : {X : Type 0} (now t : ℕ) → now + 1 ≤ t → t ≤ now → X
+too_late now t late le = absurd (omega (arith, late, le))
+
 pub finds_fault : (r : Result (ℕ × Slot) OpenFault) (a b : Told) → IsErrAnd r (λ e. e ≡ OpenFault.Ground) → ChangesOnly NoFile a b → FindsSlot r a b
 finds_fault (Ok live) a b is only = absurd is
-finds_fault (Err fault) a b is only = record { only = only; finds = subst (λ (f : OpenFault). FoundIn b.held (Err f)) (sym is) tt; kept = tt }
+finds_fault (Err fault) a b is only = record {
+  only = only;
+  finds = subst (λ (f : OpenFault). FoundIn b.held (Err f)) (sym is) tt;
+  kept = tt;
+  since = b.moment + 1;
+  begins = (let later = only.goes.later in omega (arith, later));
+  reached = λ answered. absurd (subst (λ (f : OpenFault). IsReached {A = ℕ × Slot} (Err f)) is answered);
+  left = λ t late le. too_late b.moment t late le;
+}
+
+pub measured : (size : Option ℕ) (content : Content) → is_none size ≡ true → size ≡ option_map length content → content ≡ None
+measured size None none is = refl
+measured size (Some bytes) none is = let e : is_none (Some (length bytes)) ≡ true = sym (ap is_none is) ∙ none in absurd (cc (e))
+
+-- no control file is there
+pub finds_none : (a b : Told) → ChangesOnly NoFile a b → b.held Control ≡ None → FindsSlot (Err OpenFault.NoStore) a b
+finds_none a b only none = record {
+  only = only;
+  finds = subst (λ (c : Content). IfSome c (λ control. live_index control ≡ None)) (sym none) tt;
+  kept = tt;
+  since = b.moment + 1;
+  begins = (let later = only.goes.later in omega (arith, later));
+  reached = λ answered some. no_file (subst IsSome (sym ((only.others Control (λ x. absurd x)).held (λ x. x)) ∙ none) some);
+  left = λ t late le. too_late b.moment t late le;
+}
+  where
+    none_held : Content
+    none_held = None
+
+    no_file : {X : Type 0} → IsSome none_held → X
+    no_file some = absurd (cc (some))
 
 on_ok : {A E : Type 0} (r : Result A E) (P : Type 0) → P → OnOk r P
 on_ok (Ok x) P p = p
@@ -125,12 +163,53 @@ module _ (a b c d : Told) (passes : ChangesOnly NoFile a b) (syncs : Syncs Contr
     only = only_on a c d NoFile (sync_only a b c (Ok tt) passes syncs) reads;
     finds = found;
     kept = on_ok r (IsKept d Control) (kept_passes Control own c d reads (syncs.ok (λ x. x)));
+    since = c.moment;
+    begins = (let later = passes.goes.later in let next = syncs.advances in omega (arith, later, next));
+    reached = λ answered some. reads.goes.later;
+    left = left_since;
   }
+    where
+      stays : KeepsFile c d Control
+      stays = reads.others Control (λ x. absurd x)
+
+      left_since : (t : ℕ) → c.moment ≤ t → t ≤ d.moment → (content : Content) → d.may_leave t Control content → content ≡ d.held Control
+      left_since t late le content left = elim (cases_lt c.moment t) [
+        | inl now ↦ syncs.ok (λ x. x) content (stays.left (λ x. x) t content now le left) ∙ sym (stays.held (λ x. x))
+        | inr still ↦
+            let same : t ≡ c.moment = omega (arith, late, still) in
+            syncs.ok (λ x. x) content (subst (λ n. c.may_leave n Control content) same (reads.goes.left t Control content still left)) ∙ sym (stays.held (λ x. x))
+      ]
 
   pub finds_form : (index : ℕ) (out : OpenFault) → Finds (control_in d.held) (Err (ControlFault.Form index)) → out ≡ OpenFault.Damaged Control (128 * index) → FindsSlot (Err out) a d
   finds_form index out found is = finds (Err out) (subst (λ (f : OpenFault). FoundIn d.held (Err f)) (sym is) (form_damaged d.held index found.0 found.1))
 
 -- ---- opening
+
+passes_order : (a b : Told) → ChangesOnly NoFile a b → IsInOrder a → IsInOrder b
+passes_order a b only = order_passes a b only.goes (only.others Control (λ x. absurd x)) (only.others (Chunk 0) (λ x. absurd x))
+
+-- no slot was found
+pub opens_none : (fault : OpenFault) (r : Result Store OpenFault) (a b : Told) → IsErr r × IsErrAnd r (λ e. e ≡ fault) → FindsSlot (Err fault) a b → Opens r a b
+opens_none fault (Ok store) a b is slot = absurd is.1
+opens_none fault (Err other) a b is slot = record {
+  only = slot.only;
+  no_store = λ none. subst (λ (f : OpenFault). FoundIn b.held (Err f)) (sym is.1 ∙ same_fault other OpenFault.NoStore none) slot.finds;
+  damaged = λ file at damaged. subst (λ (f : OpenFault). FoundIn b.held (Err f)) (sym is.1 ∙ same_fault other (OpenFault.Damaged file at) damaged) slot.finds;
+  holds = tt;
+  opening = record {
+    since = slot.since;
+    begins = slot.begins;
+    secures = secures_from a b slot.since slot.begins slot.only slot.left;
+    order = passes_order a b slot.only;
+  };
+  reached = λ answered some. slot.reached (subst (λ (f : OpenFault). IsReached {A = ℕ × Slot} (Err f)) is.1 (by other answered)) some;
+}
+  where
+    by : (f : OpenFault) → IsReached {A = Store} (Err f) → IsReached {A = ℕ × Slot} (Err f)
+    by OpenFault.NoStore answered = tt
+    by (OpenFault.Damaged file at) answered = tt
+    by OpenFault.Ground answered = answered
+    by OpenFault.Memory answered = tt
 
 module _ (index : ℕ) (s : Slot) (below : index < 2) (is : IsSlot s) (a b c : Told) (slot : FindsSlot (Ok (index, s)) a b) (reads : ChangesOnly NoFile b c) where
   live_now : IsLive (control_in c.held) index s
@@ -139,12 +218,34 @@ module _ (index : ℕ) (s : Slot) (below : index < 2) (is : IsSlot s) (a b c : T
   only_now : ChangesOnly NoFile a c
   only_now = only_on a b c NoFile slot.only reads
 
+  reached_now : IsSome (a.held Control) → slot.since ≤ c.moment
+  reached_now some = let was = slot.reached tt some in let later = reads.goes.later in omega (arith, was, later)
+
+  stays : KeepsFile b c Control
+  stays = reads.others Control (λ x. absurd x)
+
+  left_now : (t : ℕ) → slot.since ≤ t → t ≤ c.moment → (content : Content) → c.may_leave t Control content → content ≡ c.held Control
+  left_now t late le content left = elim (cases_lt b.moment t) [
+    | inl now ↦ slot.kept content (stays.left (λ x. x) t content now le left) ∙ sym (stays.held (λ x. x))
+    | inr was ↦ slot.left t late was content (reads.goes.left t Control content was left) ∙ sym (stays.held (λ x. x))
+  ]
+
+  abbrev opening_now : SecuresOpening a c
+  opening_now = record {
+    since = slot.since;
+    begins = slot.begins;
+    secures = secures_from a c slot.since slot.begins only_now left_now;
+    order = passes_order a c only_now;
+  }
+
   pub opens_bad : (fault : OpenFault) → (fault ≡ OpenFault.NoStore → ⊥) → ((file : FileName) (at : ℕ) → fault ≡ OpenFault.Damaged file at → BadRecord s (chunk c) file at) → Opens (Err fault) a c
   opens_bad fault there bad = record {
     only = only_now;
     no_store = λ none. absurd (there (same_fault fault OpenFault.NoStore none));
     damaged = λ file at damaged. bad_damaged c.held index s live_now file at (bad file at (same_fault fault (OpenFault.Damaged file at) damaged));
     holds = tt;
+    opening = opening_now;
+    reached = λ answered some. reached_now some;
   }
 
   pub opens_at_end : (found : Found) (r : Result Store OpenFault) → Covers s true (chunk c) found → Finishes index s found r → Opens r a c
@@ -156,12 +257,16 @@ module _ (index : ℕ) (s : Slot) (below : index < 2) (is : IsSlot s) (a b c : T
       repository_of s covers.records covers.true_of.good,
       holds_of index s is below found store covers.records covers.true_of finished c live_now (kept_passes Control own b c reads slot.kept) (covers.lies refl),
     );
+    opening = opening_now;
+    reached = λ answered some. reached_now some;
   }
   opens_at_end found (Err fault) covers finished = record {
     only = only_now;
     no_store = λ none. absurd (other_fault (sym finished.0 ∙ same_fault fault OpenFault.NoStore none));
     damaged = λ file at damaged. at_slot file at (sym finished.0 ∙ same_fault fault (OpenFault.Damaged file at) damaged);
     holds = tt;
+    opening = opening_now;
+    reached = λ answered some. reached_now some;
   }
     where
       other_fault : OpenFault.Damaged Control (128 * index) ≡ OpenFault.NoStore → ⊥

@@ -1,11 +1,10 @@
 -- What a commit does.
---     reply_to result      the reply; a fault of the ground has none.      IsRefused result      another answer than the commit's name and that fault
+--     reply_to result      the reply; a fault of the ground has none
 --     Answers s command met reply store work      the reply and the next state are the machine's, for what was met
---     Commits r work branch info result store store' old new      what it does to what a ground tells
---     LimitsSpace      which limit is met
-use Rattle.std.specs.Prelude.{◌≡◌, ◌⊎◌, ℕ, ◌+◌, ◌^◌, ◌<◌, ◌≤◌, [], ◌∷◌, length, true, false, Option, Some, None, IsSome, IfSome, IsErr, IsErrOf, Result, Ok, Err, OnOk}
+--     Commits r work branch info result store' old new      what it does to what a ground tells
+use Rattle.std.specs.Prelude.{◌≡◌, ℕ, ◌+◌, ◌^◌, ◌<◌, ◌≤◌, [], ◌∷◌, length, true, false, Option, Some, None, IsSome, IfSome, IsErr, IsErrOf, Result, Ok, Err, OnOk}
 use Rattle.ip_base.specs.declared.info.Info.{Info}
-use Rattle.ip_ground.specs.Told.{Told, NoFile, ChangesOnly, EachImage}
+use Rattle.ip_ground.specs.Told.{Told}
 use Rattle.ip_spec.specs.declared.met.Met.{Met}
 use Rattle.ip_spec.specs.declared.met.Child.TheVariants as Child
 use Rattle.ip_spec.specs.Path.{Bytes}
@@ -18,15 +17,14 @@ use Rattle.ip_spec.specs.declared.reply.Reply.{Reply}
 use Rattle.ip_spec.specs.Machine.{State, Phase, Conditions}
 use Rattle.ip_spec.specs.Step.{IsMet, turned, Refused, Turned, new_commit, with_commit}
 use Rattle.ip_spec.specs.TreeAt.{Records}
-use Rattle.ip_image.specs.Standing.{StandsFor}
 use Rattle.ip_image.specs.declared.slot.Slot.{Slot}
 use Rattle.ip_image.specs.Appending.{next_slot, fields_of, batch_of, batch_end_of, bytes_of_records, AreWithin, MayCommit}
 use Rattle.ip_store.specs.declared.store.Store.{Store}
 use Rattle.ip_store.specs.declared.work.Work.{Work}
 use Rattle.ip_store.specs.declared.committing.Plan.{Plan}
 use Rattle.ip_store.specs.declared.committing.StoreFault.{StoreFault}
-use Rattle.ip_store.specs.Publishing.{TheTwo}
-use Rattle.ip_store.specs.Store.{IsOf, Holds, IsInOrder, session, IsLawful}
+use Rattle.ip_store.specs.Changes.{Changes}
+use Rattle.ip_store.specs.Store.{IsOf, Holds, session, IsLawful}
 
 -- nothing met but a limit, or want of memory
 abbrev pub met_nothing : Met
@@ -69,9 +67,6 @@ refusal StoreFault.Ground = Reply.Memory
 abbrev pub refused_by : Result (Unit {0}) StoreFault → Refused (Unit {0})
 refused_by (Ok u) = Ok tt
 refused_by (Err fault) = Err (refusal fault)
-
-abbrev pub IsRefused : Result Hash StoreFault → Type 0
-IsRefused result = IsErr result × IsSome (reply_to result)
 
 -- the machine refuses the commit so, and stays as it is
 abbrev pub IsRefusal : Repository → Work → Bytes → Info → StoreFault → Type 0
@@ -128,17 +123,5 @@ pub record Answers (s : State) (command : Command) (met : Met) (reply : Reply) (
 abbrev pub repository_after : Repository → Work → Bytes → Info → Repository
 repository_after r work branch info = (turned (session r work) (Command.Commit branch info) (conditions_of met_nothing)).1.repository
 
-pub record Commits (r : Repository) (work : Work) (branch : Bytes) (info : Info) (result : Result Hash StoreFault) (store store' : Store) (old new : Told) : Type 0 where
-  pub only : ChangesOnly TheTwo old new
-  -- a refused commit changes nothing
-  pub refused : IsRefused result → ChangesOnly NoFile old new × Holds store' new r
-  pub ok : OnOk result (Holds store' new (repository_after r work branch info))
-  -- where nothing was pending, each image at each moment stands for the repository before or after the commit, and nothing is pending in the end
-  pub images : IsInOrder store old → EachImage old new (λ said image. StandsFor image r ⊎ StandsFor image (repository_after r work branch info))
-  pub order : IsInOrder store old → IsSome (reply_to result) → IsInOrder store' new
-
--- the place after the commit's records would pass the greatest one, or the slot's sequence is the greatest
-pub record LimitsSpace (r : Repository) (work : Work) (branch : Bytes) (info : Info) (result : Result Hash StoreFault) (store : Store) : Type 0 where
-  pub space : IsErrOf result (StoreFault.Limit Limit.Space) → 2 ^ 62 < batch_end_of work.tree (fields_of r work.parents info branch) store.slot.end
-  pub sequence : IsErrOf result (StoreFault.Limit Limit.Sequence) → (batch_end_of work.tree (fields_of r work.parents info branch) store.slot.end ≤ 2 ^ 62) × (store.slot.sequence ≡ 2 ^ 62)
-  pub enough : OnOk result ((batch_end_of work.tree (fields_of r work.parents info branch) store.slot.end ≤ 2 ^ 62) × (store.slot.sequence < 2 ^ 62))
+abbrev pub Commits : Repository → Work → Bytes → Info → Result Hash StoreFault → Store → Told → Told → Type 0
+Commits r work branch info result store' old new = Changes r (repository_after r work branch info) result store' old new

@@ -1,9 +1,9 @@
 -- The beginning and the end of opening a store.
 --     FindsSlot result old new      what finding the live slot does.      Finishes index s found result      what makes a store of it, and of what was found
-use Rattle.std.specs.Prelude.{◌≡◌, ℕ, ◌*◌, map, Result, Ok, Err, OnOk}
+use Rattle.std.specs.Prelude.{◌≡◌, ℕ, ◌*◌, ◌<◌, ◌≤◌, map, Result, Ok, Err, OnOk, IsSome}
 use Rattle.ip_ground.specs.declared.names.FileName.TheVariants.{Control}
 use Rattle.ip_ground.specs.Told.{Told, ChangesOnly, NoFile, IsKept}
-use Rattle.ip_ground.specs.Contents.{Image}
+use Rattle.ip_ground.specs.Contents.{Content, Image}
 use Rattle.ip_spec.specs.Record.{Names}
 use Rattle.ip_spec.specs.TreeAt.{Records}
 use Rattle.ip_image.specs.declared.slot.Slot.{Slot}
@@ -24,10 +24,20 @@ FoundIn image (Err (OpenFault.Damaged file at)) = DamagedAt image file at
 FoundIn image (Err OpenFault.Ground) = Unit {0}
 FoundIn image (Err OpenFault.Memory) = Unit {0}
 
+-- every answer but a fault of the ground comes after the sync
+abbrev pub IsReached : {A : Type 0} → Result A OpenFault → Type 0
+IsReached (Err OpenFault.Ground) = ⊥
+IsReached result = Unit {0}
+
 pub record FindsSlot (result : Result (ℕ × Slot) OpenFault) (old new : Told) : Type 0 where
   pub only : ChangesOnly NoFile old new
   pub finds : FoundIn new.held result
   pub kept : OnOk result (IsKept new Control)
+  -- the moment of the sync: from then on a crash leaves the control file that is read
+  pub since : ℕ
+  pub begins : old.moment < since
+  pub reached : IsReached result → IsSome (old.held Control) → since ≤ new.moment
+  pub left : (t : ℕ) → since ≤ t → t ≤ new.moment → (content : Content) → new.may_leave t Control content → content ≡ new.held Control
 
 -- whatever the records are of which it is true
 pub record Finished (number : ℕ) (s : Slot) (found : Found) (store : Store) : Type 0 where

@@ -1,4 +1,5 @@
 pub mod Batches
+pub mod Changes
 pub mod Commits
 pub mod Control
 pub mod Opening

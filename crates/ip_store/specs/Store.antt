@@ -1,6 +1,6 @@
 -- What an open store holds.
 --     IsOf store r      its tables are the repository's
---     Holds store told r      and so is what the ground reads as.      IsInOrder store told      nothing of its records is pending
+--     Holds store told r      and so is what the ground reads as
 --     session r work      the machine's state.      IsLawful r work      the work goes on from commits of the repository
 use Rattle.std.specs.Prelude.{◌≡◌, ◌≢◌, ◌<◌, ◌≤◌, length, map, All, AllPairs, IsTrue}
 use Rattle.ip_ground.specs.declared.names.FileName.TheVariants.{Control}
@@ -10,9 +10,7 @@ use Rattle.ip_spec.specs.Repository.{Repository, next, is_retained}
 use Rattle.ip_spec.specs.Machine.{State, Phase}
 use Rattle.ip_image.specs.Slot.{IsSlot, IsLive}
 use Rattle.ip_image.specs.Standing.{StandsFor, AreRetained}
-use Rattle.ip_image.specs.Appending.{front_of}
 use Rattle.ip_store.specs.Control.{control_in}
-use Rattle.ip_store.specs.Publishing.{LeavesFront}
 use Rattle.ip_store.specs.Work.{work_of}
 use Rattle.ip_store.specs.declared.store.Store.{Store}
 use Rattle.ip_store.specs.declared.work.Work.{Work}
@@ -36,9 +34,6 @@ pub record Holds (store : Store) (told : Told) (r : Repository) : Type 0 where
 -- it holds some repository
 abbrev pub IsSound : Store → Told → Type 0
 IsSound store told = (r : Repository) × Holds store told r
-
-abbrev pub IsInOrder : Store → Told → Type 0
-IsInOrder store told = LeavesFront (front_of store.slot.end told.held) told
 
 abbrev pub session : Repository → Work → State
 session r work = record { repository = r; phase = Phase.Idle; work = work_of work }

@@ -3,12 +3,15 @@ ghost use Rattle.std.specs.Prelude.{◌≡◌, ◌↔◌, ◌≤◌, ◌<◌, �
 ghost use Rattle.std.specs.List.{list_all};
 ghost use Rattle.std.specs.BTreeMap.{values};
 ghost use Rattle.ip_spec.specs.Path.{Bytes};
-ghost use Rattle.ip_spec.specs.Map.{empty, get, insert, len};
+ghost use Rattle.ip_spec.specs.Map.{empty, get, insert, remove, len};
 
 use ip_base::{Memory, Number};
 use std::alloc::Global;
 use std::collections::BTreeMap;
 use std::marker::Model;
+
+/// Branches of one store.
+pub(crate) const MOST_BRANCHES: usize = 4096;
 
 /// Names of branches and the numbers of their commits, ascending by the bytes of the names, which contracts see as a map.
 #[derive(Drop)]
@@ -63,6 +66,13 @@ impl Branches {
     {
         self.entries.insert(name, number)?;
         Ok(())
+    }
+
+    /// Takes a branch away, if there is one of this name.
+    pub fn remove(&mut self, name: &[u8])
+        ensures { self.new ≡ remove self.old name.now }
+    {
+        self.entries.remove(name);
     }
 
     /// The branch at a place, counted from 0 in the order of the names. It passes over those before it.

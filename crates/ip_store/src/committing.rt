@@ -14,20 +14,20 @@ ghost use Rattle.ip_image.specs.Slot.{IsSlot};
 ghost use Rattle.ip_image.specs.Appending.{fields_of};
 ghost use Rattle.ip_store.specs.Batches.{fields_told, AreFields};
 ghost use Rattle.ip_store.specs.declared.committing.StoreFault.TheVariants as StoreFault;
-ghost use Rattle.ip_store.specs.Commits.{parent_named, reply_to, refused_by, met_by, SlotBehind, IsRefusal, IsPlan, end_of, Answers, Commits, LimitsSpace};
+ghost use Rattle.ip_store.specs.Commits.{parent_named, reply_to, refused_by, met_by, SlotBehind, IsRefusal, IsPlan, end_of, Answers, Commits};
+ghost use Rattle.ip_store.specs.Changes.{LimitsSpace};
 ghost use Rattle.ip_store.specs.Store.{IsOf, Holds, IsSound, session, IsLawful};
 
+use crate::branches::MOST_BRANCHES;
+use crate::opening::nothing_met;
 use crate::publish::durable_step;
 use crate::{Batch, CommitFields, Store, Work};
 use ip_base::{Blob, Hash, Info, Limit, Memory, Number, Numbers};
 use ip_control::Slot;
 use ip_ground::{Ground, GroundFault};
-use ip_spec::met::{Child, Met};
+use ip_spec::met::Met;
 use ip_spec::record::{Parent, Parents};
 use std::alloc::Global;
-
-/// Branches of a store.
-const MOST_BRANCHES: usize = 4096;
 
 /// Of offsets and sequences.
 const GREATEST: u64 = 1 << 62;
@@ -71,17 +71,13 @@ fn met_by(answer: &Result<Hash, StoreFault>) -> Met
     ensures { result ≡ met_by answer.now }
 {
     Met {
-        child: Child::NotAsked,
-        checking: None,
-        start_failed: false,
-        kill_failed: false,
-        left: 0,
         short: match answer {
             Err(StoreFault::Limit(Limit::Space)) => Some(Limit::Space),
             Err(StoreFault::Limit(Limit::Sequence)) => Some(Limit::Sequence),
             _ => None,
         },
         refused: matches!(answer, Err(StoreFault::Memory)),
+        ..nothing_met()
     }
 }
 
@@ -224,9 +220,9 @@ impl Store {
         requires held { IsTrue G.tells → IsSound self.old (G.told outside.old) }
         ensures answers { (r : Repository) → IsOf self.old r → IsLawful r work.old →
             IfSome (reply_to result) (λ reply. Answers (session r work.old) (Command.Commit branch.now info) self.new.met reply self.new work.new) }
-        ensures limits { (r : Repository) → IsOf self.old r → IsLawful r work.old → LimitsSpace r work.old branch.now info result self.old }
+        ensures limits { (r : Repository) → IsOf self.old r → IsLawful r work.old → LimitsSpace (end_of r work.old branch.now info self.old) result self.old }
         ensures does { IsTrue G.tells → (r : Repository) → Holds self.old (G.told outside.old) r → IsLawful r work.old →
-            Commits r work.old branch.now info result self.old self.new (G.told outside.old) (G.told outside.new) }
+            Commits r work.old branch.now info result self.new (G.told outside.old) (G.told outside.new) }
         ensures counts { NoneFalls (G.counts_of outside.old) (G.counts_of outside.new) }
         ensures cause { IsErrOf result StoreFault.Ground → Rose (G.counts_of outside.old).file_faults (G.counts_of outside.new).file_faults }
     {
@@ -307,9 +303,9 @@ impl Store {
         requires held { IsTrue G.tells → IsSound self.old (G.told outside.old) }
         ensures answers { (r : Repository) → IsOf self.old r → IsLawful r work.old →
             IfSome (reply_to result) (λ reply. Answers (session r work.old) (Command.Commit branch.now info) (met_by result) reply self.new work.new) }
-        ensures limits { (r : Repository) → IsOf self.old r → IsLawful r work.old → LimitsSpace r work.old branch.now info result self.old }
+        ensures limits { (r : Repository) → IsOf self.old r → IsLawful r work.old → LimitsSpace (end_of r work.old branch.now info self.old) result self.old }
         ensures does { IsTrue G.tells → (r : Repository) → Holds self.old (G.told outside.old) r → IsLawful r work.old →
-            Commits r work.old branch.now info result self.old self.new (G.told outside.old) (G.told outside.new) }
+            Commits r work.old branch.now info result self.new (G.told outside.old) (G.told outside.new) }
         ensures counts { NoneFalls (G.counts_of outside.old) (G.counts_of outside.new) }
         ensures cause { IsErrOf result StoreFault.Ground → Rose (G.counts_of outside.old).file_faults (G.counts_of outside.new).file_faults }
     {

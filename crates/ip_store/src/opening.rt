@@ -6,9 +6,11 @@ ghost use Rattle.ip_image.specs.Slot.{IsSlot};
 ghost use Rattle.ip_image.specs.Standing.{AreRetained};
 ghost use Rattle.ip_store.specs.Opening.{Opens};
 ghost use Rattle.ip_store.specs.Found.{FindsSlot, Finishes};
+ghost use Rattle.ip_store.specs.Commits.{met_nothing};
 ghost use Rattle.ip_store.specs.Store.{IsOf};
 ghost use Rattle.ip_ground.specs.declared.names.FileName.TheVariants.{Control};
 
+use crate::branches::MOST_BRANCHES;
 use crate::walk::{Found, read_records};
 use crate::{Branches, Store};
 use ip_audit::Names;
@@ -17,9 +19,6 @@ use ip_control::{ControlFault, Slot, read_live};
 use ip_ground::{FileName, Ground, GroundFault};
 use ip_spec::met::{Child, Met};
 use std::alloc::Global;
-
-/// Branches of one store.
-const MOST_BRANCHES: usize = 4096;
 
 /// Why no store was opened.
 #[derive(Clone, Copy, Debug, PartialEq, Eq)]
@@ -60,6 +59,7 @@ impl Store {
     /// may be tried again.
     pub fn open_at<G: Ground>(alloc: Global, outside: &mut G) -> Result<Store, OpenFault>
         ensures tables { IfOk result (λ store. (r : Repository) × IsOf store r) }
+        ensures met { IfOk result (λ store. store.met ≡ met_nothing) }
         ensures does { IsTrue G.tells → Opens result (G.told outside.old) (G.told outside.new) }
         ensures counts { NoneFalls (G.counts_of outside.old) (G.counts_of outside.new) }
         ensures cause { IsErrOf result OpenFault.Ground → Rose (G.counts_of outside.old).file_faults (G.counts_of outside.new).file_faults }
@@ -102,7 +102,8 @@ fn slot_damaged(index: u8) -> OpenFault
 // The store of a slot and its records, where the two go together.
 fn finish(index: u8, slot: Slot, found: Found) -> Result<Store, OpenFault>
     requires { IsSlot slot }
-    ensures { Finishes index slot found result }
+    ensures finishes { Finishes index slot found result }
+    ensures met { IfOk result (λ store. store.met ≡ met_nothing) }
 {
     let Found { audit, branches } = found;
     let names = audit.into_names();
@@ -128,7 +129,10 @@ fn is_whole(slot: &Slot, names: &Names, branches: &Branches) -> bool
         && branches.are_within(slot.floor, slot.next)
 }
 
-fn nothing_met() -> Met {
+// What a store meets that nothing was asked of.
+pub(crate) fn nothing_met() -> Met
+    ensures { result ≡ met_nothing }
+{
     Met {
         child: Child::NotAsked,
         checking: None,
@@ -223,6 +227,11 @@ mod tests {
             let chunk = records(rt.alloc(), *branch)?;
             assert_eq!(&rt; opened(&rt, control, &chunk), *expected);
         }
+        // The branch is taken away again.
+        let mut chunk = records(rt.alloc(), 0)?;
+        chunk.extend_from_slice(&[6, 5, 0, 0, 0, 4])?;
+        chunk.extend_from_slice(b"main")?;
+        assert_eq!(&rt; opened(&rt, &control(104, 1, 0), &chunk), Ok((1, 0, None)));
         Ok(())
     }
 

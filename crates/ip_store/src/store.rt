@@ -13,15 +13,12 @@ ghost use Rattle.ip_store.specs.Store.{IsOf};
 use crate::Branches;
 use ip_audit::Names;
 use ip_base::{Hash, Number};
-use ip_control::Slot;
+use ip_control::{GATE_OPEN, Slot};
 use ip_ground::{FileName, Ground, GroundFault};
 use ip_spec::met::{Met, Phase};
 
 /// The bytes of a chunk where nothing else was asked for.
 pub const DEFAULT_CHUNK: u64 = 1048576;
-
-/// The first byte of a slot that counts.
-const GATE_OPEN: u8 = 0xA5;
 
 /// Whether a store may have chunks of so many bytes: a power of two from 4096 to 2^30.
 pub fn chunk_allowed(chunk: u64) -> bool

@@ -17,8 +17,8 @@ use std::marker::Model;
 /// Bytes of one value.
 const MOST_CONTENTS: usize = 1048576;
 
-/// Entries of one directory.
-const MOST_ENTRIES: usize = 32;
+/// Entries of one directory, which is one leaf.
+pub(crate) const MOST_ENTRIES: usize = 32;
 
 /// Why a tree was not changed.
 #[derive(Clone, Copy, Debug, PartialEq, Eq)]

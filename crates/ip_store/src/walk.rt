@@ -12,6 +12,7 @@ ghost use Rattle.ip_spec.specs.declared.record.RecordFault.TheVariants as Record
 ghost use Rattle.ip_ground.specs.declared.names.FileName.{FileName};
 ghost use Rattle.ip_ground.specs.declared.names.FileName.TheVariants.{Chunk};
 
+use crate::tree::MOST_ENTRIES;
 use crate::window::Window;
 use crate::{Branches, OpenFault};
 use ip_audit::{Audit, AuditFault, Terms};
@@ -21,9 +22,6 @@ use ip_ground::{FileName, Ground};
 use ip_object::read_record;
 use ip_spec::record::{Record, RecordFault};
 use std::alloc::Global;
-
-/// Entries of a leaf that is a whole directory.
-const MOST_ENTRIES: usize = 32;
 
 /// What the records so far come to.
 #[derive(Drop)]
@@ -54,20 +52,24 @@ impl Found {
         ensures { TakesOne at rec self.old self.new result }
     {
         self.audit.take(at, &rec)?;
-        match set_branch(&mut self.branches, rec) {
+        match name_branch(&mut self.branches, rec) {
             Ok(()) => Ok(()),
             Err(_) => Err(AuditFault::Memory),
         }
     }
 }
 
-// Puts a branch where the record says.
-fn set_branch(branches: &mut Branches, rec: Record) -> Result<(), Memory>
+// Puts a branch where the record says, or takes it away.
+fn name_branch(branches: &mut Branches, rec: Record) -> Result<(), Memory>
     requires { IsServedKind rec }
     ensures { OnOk result (branches.new ≡ names_after Names.branches branches.old rec) }
 {
     match rec {
         Record::BranchSet { number, name } => branches.set(name.into_vec(), number),
+        Record::BranchRemove { name } => {
+            branches.remove(name.as_slice());
+            Ok(())
+        }
         _ => Ok(()),
     }
 }
@@ -77,7 +79,10 @@ fn is_served(rec: &Record) -> bool
     ensures { IsTrue result ↔ IsServedKind rec.now }
 {
     match rec {
-        Record::Contents(_) | Record::Commit(_) | Record::BranchSet { .. } => true,
+        Record::Contents(_)
+        | Record::Commit(_)
+        | Record::BranchSet { .. }
+        | Record::BranchRemove { .. } => true,
         Record::Leaf(entries) => {
             let entries = entries.as_slice();
             entries.len() <= MOST_ENTRIES && entries.iter().all(|entry| entry.kind == 1)

@@ -1,6 +1,17 @@
 use Rattle.ip_store.proofs.OpenedImages.{no_store}
-use Rattle.ip_store.proofs.OpenedStores.{sync_only, finds_fault, finds, finds_form, found_some, found_none, found_form}
+use Rattle.std.proofs.Common.{◌≡◌, None, rules}
+use Rattle.ip_ground.specs.declared.names.FileName.TheVariants.{Control}
+use Rattle.ip_store.proofs.OpenedStores.{measured, sync_only, finds_fault, finds_none, finds, finds_form, found_some, found_none, found_form}
 use Rattle.ip_store.proofs.opening.find_slot.Goals as goal
+
+pub returns-in_err-length-clause-does : goal.returns-in_err-length-clause-does
+returns-in_err-length-clause-does g c told = finds_fault _ _ _ c.from_residual.ensures.1 (c.in_err-length.ensures.does told).only
+
+pub returns-then-is_none-clause-does : goal.returns-then-is_none-clause-does
+returns-then-is_none-clause-does g c told =
+    let measures = c.in_ok-length.ensures.does told in
+    let none : (g.G.Ground.told c.length.new.self).held Control ≡ None = measured _ _ (search rules) measures.ok in
+    finds_none _ _ measures.only none
 
 pub returns-in_err-sync-clause-does : goal.returns-in_err-sync-clause-does
 returns-in_err-sync-clause-does g c told =

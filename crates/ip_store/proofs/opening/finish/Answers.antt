@@ -2,8 +2,8 @@ use Rattle.std.proofs.Common.{refl, sym}
 use Rattle.ip_store.proofs.OpenedStores.{whole_of}
 use Rattle.ip_store.proofs.opening.finish.Goals as goal
 
-pub returns : goal.returns
-returns c = record {
+pub returns-clause-finishes : goal.returns-clause-finishes
+returns-clause-finishes c = record {
   index = refl;
   slot = refl;
   fits = λ records tells. whole_of c.args.slot c.args.found c.into_names-names.result records tells (c.into_names-names.ensures records tells.audited) (c.is_whole.ensures.0 c.if-not-is_whole.false);

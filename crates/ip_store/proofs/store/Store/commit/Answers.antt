@@ -4,7 +4,8 @@ use Rattle.ip_spec.specs.declared.command.Command.TheVariants as Command
 use Rattle.ip_store.specs.Commits.{Answers, reply_to}
 use Rattle.ip_store.specs.declared.store.Store.{Store}
 use Rattle.ip_store.specs.Store.{session}
-use Rattle.ip_store.proofs.AfterCommit.{same_answers, same_commits}
+use Rattle.ip_store.proofs.AfterCommit.{same_answers}
+use Rattle.ip_store.proofs.Stepping.{same_changes}
 use Rattle.ip_store.proofs.store.Store.commit.Goals as goal
 
 pub returns-clause-answers : goal.returns-clause-answers
@@ -14,4 +15,4 @@ returns-clause-answers g c r of lawful =
     (same_answers c.commit_work-answer.new.self store refl refl refl refl _ _ _ _ _ (c.commit_work-answer.ensures.answers r of lawful))
 
 pub returns-clause-does : goal.returns-clause-does
-returns-clause-does g c told r held lawful = same_commits c.commit_work-answer.new.self _ refl refl refl refl r _ _ _ _ _ _ _ (c.commit_work-answer.ensures.does told r held lawful)
+returns-clause-does g c told r held lawful = same_changes c.commit_work-answer.new.self _ refl refl refl refl r _ _ _ _ (c.commit_work-answer.ensures.does told r held lawful)

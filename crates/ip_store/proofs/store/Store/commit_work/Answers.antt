@@ -4,9 +4,10 @@ use Rattle.ip_spec.specs.declared.command.Command.TheVariants as Command
 use Rattle.ip_spec.specs.Path.{same_bytes}
 use Rattle.ip_image.specs.declared.slot.Slot.{Slot}
 use Rattle.ip_store.specs.declared.committing.StoreFault.TheVariants as StoreFault
-use Rattle.ip_store.specs.Commits.{Answers, Commits, reply_to, met_by}
+use Rattle.ip_store.specs.Commits.{Answers, Commits, repository_after, reply_to, met_by}
 use Rattle.ip_store.specs.Store.{session}
-use Rattle.ip_store.proofs.AfterCommit.{same_tables, after_tables, after_lawful, can_step, made, cut, commits_none, answers_refused, answers_made, same_can_step, same_step}
+use Rattle.ip_store.proofs.Stepping.{same_tables, changes_none, same_can_step, same_step}
+use Rattle.ip_store.proofs.AfterCommit.{after_tables, after_lawful, can_step, made, cut, answers_refused, answers_made}
 use Rattle.ip_store.proofs.Machine.{refused_memory}
 use Rattle.ip_store.proofs.Tables.{none_below, free, same_lawful}
 use Rattle.ip_store.proofs.store.Store.commit_work.Goals as goal
@@ -25,6 +26,13 @@ returns-in_err-plan-clause-answers g c r of lawful =
     subst (λ res. IfSome (reply_to res) (λ reply. Answers (session r c.args.work.now) (Command.Commit c.args.branch.now c.args.info) (met_by res) reply c.args.self.now c.args.work.now)) (sym is)
     (answers_refused r c.args.work.now c.args.branch.now c.args.info fault c.args.self.now of lawful (c.in_err-plan.ensures.refused r of lawful))
 
+pub returns-in_err-plan-clause-does : goal.returns-in_err-plan-clause-does
+returns-in_err-plan-clause-does g c told r held lawful =
+    let fault = c.in_err-plan.field-0.0 in
+    let is : c.from_residual.result ≡ Err fault = search rules in
+    subst (λ res. Commits r c.args.work.now c.args.branch.now c.args.info res c.args.self.now (g.G.Ground.told c.args.outside.now) (g.G.Ground.told c.args.outside.now)) (sym is)
+    (changes_none r (repository_after r c.args.work.now c.args.branch.now c.args.info) fault c.args.self.now c.args.self.now (g.G.Ground.told c.args.outside.now) refl refl refl refl held)
+
 pub returns-in_err-enter-clause-answers : goal.returns-in_err-enter-clause-answers
 returns-in_err-enter-clause-answers g c r of lawful =
     let is : c.from_residual-in_err-enter.result ≡ Err StoreFault.Memory = search rules in
@@ -35,8 +43,8 @@ returns-in_err-enter-clause-answers g c r of lawful =
 pub returns-in_err-enter-clause-does : goal.returns-in_err-enter-clause-does
 returns-in_err-enter-clause-does g c told r held lawful =
     let is : c.from_residual-in_err-enter.result ≡ Err StoreFault.Memory = search rules in
-    subst (λ res. Commits r c.args.work.now c.args.branch.now c.args.info res c.args.self.now c.enter.new.self (g.G.Ground.told c.args.outside.now) (g.G.Ground.told c.args.outside.now)) (sym is)
-    (commits_none r c.args.work.now c.args.branch.now c.args.info StoreFault.Memory c.args.self.now c.enter.new.self (g.G.Ground.told c.args.outside.now) c.enter.ensures.rest.1 c.enter.ensures.rest.0 c.in_err-enter.ensures.err.0 c.in_err-enter.ensures.err.1 held)
+    subst (λ res. Commits r c.args.work.now c.args.branch.now c.args.info res c.enter.new.self (g.G.Ground.told c.args.outside.now) (g.G.Ground.told c.args.outside.now)) (sym is)
+    (changes_none r (repository_after r c.args.work.now c.args.branch.now c.args.info) StoreFault.Memory c.args.self.now c.enter.new.self (g.G.Ground.told c.args.outside.now) c.enter.ensures.rest.1 c.enter.ensures.rest.0 c.in_err-enter.ensures.err.0 c.in_err-enter.ensures.err.1 held)
 
 pub durable_step-requires-clause-sound : goal.durable_step-requires-clause-sound
 durable_step-requires-clause-sound g c told =
@@ -53,7 +61,7 @@ returns-in_err-durable_step-clause-does g c told r held lawful =
     let plan = c.in_ok-plan.plan in
     let step = same_step c.enter.new.self.slot.end c.args.self.now.slot.end c.enter.new.self.index c.args.self.now.index c.bytes.result.now plan.batch.bytes.items plan.slot _ (g.G.Ground.told c.args.outside.now) (g.G.Ground.told c.durable_step.new.outside)
     (ap (λ (s : Slot). s.end) c.enter.ensures.rest.1) c.enter.ensures.rest.0 c.bytes.ensures (c.durable_step.ensures.does told) in
-    subst (λ res. Commits r c.args.work.now c.args.branch.now c.args.info res c.args.self.now c.enter.new.self (g.G.Ground.told c.args.outside.now) (g.G.Ground.told c.durable_step.new.outside)) (sym is)
+    subst (λ res. Commits r c.args.work.now c.args.branch.now c.args.info res c.enter.new.self (g.G.Ground.told c.args.outside.now) (g.G.Ground.told c.durable_step.new.outside)) (sym is)
     (cut r c.args.work.now c.args.branch.now c.args.info c.args.self.now plan held.tables (c.in_ok-plan.ensures.planned r held.tables lawful) (g.G.Ground.told c.args.outside.now) held (g.G.Ground.told c.durable_step.new.outside) c.enter.new.self _ step)
 
 pub returns-clause-answers : goal.returns-clause-answers

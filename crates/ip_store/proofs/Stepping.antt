@@ -1,0 +1,188 @@
+-- A durable step from a repository to the next one, whatever command takes it.
+--     may_step      what the durable step asks.      changed, cut_short      the relation of a call that was made, and of one that a fault cut short
+--     same_tables, same_holds, same_changes      a store with the same tables.      changes_none      the relation of a call that was refused
+--     same_can_step, same_step      what a step asks and does, of a slot and bytes that are the same
+use Rattle.std.proofs.Common.{◌≡◌, ◌≢◌, ◌⊎◌, inl, inr, ℕ, ◌+◌, ◌-◌, ◌<◌, ◌≤◌, List, ◌++◌, length, take, refl, sym, ◌∙◌, ap, subst, arith, length-append}
+use Rattle.std.specs.Prelude.{Result, Ok, Err, All}
+use Rattle.std.proofs.lemmas.List.{length-take-le}
+use Rattle.std.proofs.lemmas.Result.{on_ok_weaker}
+use Rattle.ip_ground.specs.declared.names.FileName.TheVariants.{Control, Chunk}
+use Rattle.ip_ground.specs.declared.names.GroundFault.{GroundFault}
+use Rattle.ip_ground.specs.Contents.{Image, Possible, bytes_of}
+use Rattle.ip_ground.specs.Told.{Told, NoFile}
+use Rattle.ip_ground.proofs.Spans.{only_nowhere}
+use Rattle.ip_spec.specs.Record.{IsHash}
+use Rattle.ip_spec.specs.Repository.{Repository}
+use Rattle.ip_image.specs.declared.slot.Slot.{Slot}
+use Rattle.ip_image.specs.Slot.{IsSlot, IsLive, slot_bytes}
+use Rattle.ip_image.specs.Standing.{StandsFor, AreRetained}
+use Rattle.ip_image.specs.Appending.{front_of, HasLive}
+use Rattle.ip_image.specs.Headline.{IsInOrder, Keeps, Secures}
+use Rattle.ip_image.proofs.HeadlineLaws.{begins_take}
+use Rattle.ip_image.proofs.InChunk.{in_chunk, all_inside}
+use Rattle.ip_image.proofs.AppendingLaws.{stands_still}
+use Rattle.ip_control.specs.Live.{live_slot, live_of}
+use Rattle.ip_control.specs.Changes.{control}
+use Rattle.ip_control.proofs.LiveLaws.{is_live, live_from, spare_from, newer_from, reaches_from}
+use Rattle.ip_store.specs.declared.committing.StoreFault.{StoreFault}
+use Rattle.ip_store.specs.declared.store.Store.{Store}
+use Rattle.ip_store.specs.Changes.{Changes}
+use Rattle.ip_store.specs.Publishing.{StandsAs, LeavesFront, CanStep, MakesStep, TheTwo}
+use Rattle.ip_store.specs.Store.{IsOf, Holds}
+use Rattle.ip_store.proofs.Secured.{in_image, front_left, order_of, secures_now, orderly_step}
+
+-- ---- tables
+
+pub same_tables : (store store' : Store) (r : Repository) → store'.slot ≡ store.slot → store'.index ≡ store.index → store'.names ≡ store.names → store'.branches ≡ store.branches → IsOf store r → IsOf store' r
+same_tables store store' r slot index names branches of = record {
+  slot = subst IsSlot (sym slot) of.slot;
+  index = subst (λ (i : ℕ). i < 2) (sym index) of.index;
+  floor = of.floor ∙ ap (λ (s : Slot). s.floor) (sym slot);
+  next = of.next ∙ ap (λ (s : Slot). s.next) (sym slot);
+  names = of.names ∙ sym names;
+  hashes = subst (All IsHash) (sym names) of.hashes;
+  branches = of.branches ∙ sym branches;
+  retained = subst (λ (s : Slot). AreRetained s r.branches) (sym slot) of.retained;
+}
+
+module _ (store store' : Store) (slot : store'.slot ≡ store.slot) (index : store'.index ≡ store.index) (names : store'.names ≡ store.names) (branches : store'.branches ≡ store.branches) where
+  pub same_holds : (r : Repository) (a : Told) → Holds store a r → Holds store' a r
+  same_holds r a held = record {
+    tables = same_tables store store' r slot index names branches held.tables;
+    stands = held.stands;
+    live = subst (λ (i : ℕ). IsLive (bytes_of (a.held Control)) i store'.slot) (sym index) (subst (λ (s : Slot). IsLive (bytes_of (a.held Control)) store.index s) (sym slot) held.live);
+    kept = held.kept;
+  }
+
+  pub same_changes : {A : Type 0} (r after : Repository) (res : Result A StoreFault) (a b : Told) → Changes r after res store a b → Changes r after res store' a b
+  same_changes r after res a b is = record {
+    only = is.only;
+    refused = λ ref. let both = is.refused ref in (both.0, same_holds r b both.1);
+    ok = on_ok_weaker res (same_holds after b) is.ok;
+    keeps = is.keeps;
+    secures = is.secures;
+    secures_refused = is.secures_refused;
+    order = is.order;
+  }
+
+-- ---- the files
+
+module _ (r after : Repository) (store : Store) (next : Slot) (bytes : List ℕ) (of : IsOf store r) (next_is : IsSlot next) (newer : store.slot.sequence < next.sequence) (ends : store.slot.end + length bytes ≡ next.end)
+    (a : Told) (held : Holds store a r) where
+  old_live : live_of (control a) ≡ live_slot store.index (slot_bytes store.slot)
+  old_live = live_from (control a) store.index store.slot held.live
+
+  pub old_has : HasLive store.slot a.held
+  old_has = in_image store.index store.slot a.held of.slot old_live
+
+  other : store.index ≢ 1 - store.index
+  other e = let two = of.index in absurd (omega (arith, e))
+
+  pub may_step : CanStep store.slot.end (1 - store.index) next a
+  may_step = record {
+    long = all_inside (a.held (Chunk 0)) 0 (in_chunk a.held store.slot old_has r held.stands).records store.slot.end (omega arith) (in_chunk a.held store.slot old_has r held.stands).lies;
+    ready = record {
+      kept = held.kept;
+      reaches = reaches_from (control a) store.index (1 - store.index) store.slot held.live (omega arith) (λ e. other (sym e));
+      spare = spare_from (control a) store.index (1 - store.index) store.slot held.live other;
+    };
+    newer = newer_from (control a) store.index next.sequence store.slot held.live newer;
+  }
+
+  stands_old : (image : Image) → StandsAs (live_slot store.index (slot_bytes store.slot)) (front_of store.slot.end a.held) image → StandsFor image r
+  stands_old image (live, begins) = stands_still a.held image r store.slot held.stands old_has (in_image store.index store.slot image of.slot live) begins
+
+  abbrev whole : List ℕ
+  whole = front_of store.slot.end a.held ++ bytes
+
+  front_size : length (front_of store.slot.end a.held) ≡ store.slot.end
+  front_size = length-take-le store.slot.end (bytes_of (a.held (Chunk 0))) may_step.long
+
+  whole_end : length whole ≡ next.end
+  whole_end =
+      let front = front_size in
+      let both = length-append (front_of store.slot.end a.held) bytes in
+      omega (arith, front, both, ends)
+
+  abbrev NewStands : Type 0
+  NewStands = (image : Image) → StandsAs (live_slot (1 - store.index) (slot_bytes next)) (front_of store.slot.end a.held ++ bytes) image → StandsFor image after
+
+  module _ (stands_new : NewStands) where
+    keeps_of : (b : Told) (res : Result (Unit {0}) GroundFault) → MakesStep store.slot.end bytes (1 - store.index) next res a b → IsInOrder a → Keeps a b r after
+    keeps_of b res step order t late le = record {
+      stands = λ image possible. elim (images image possible) [
+        | inl old ↦ inl (stands_old image old)
+        | inr new ↦ inr (stands_new image new)
+      ];
+      orderly = orderly_step (b.may_leave t) store.index (1 - store.index) store.slot next (front_of store.slot.end a.held) whole of.slot next_is other front_size whole_end images;
+    }
+      where
+        images : (image : Image) → Possible (b.may_leave t) image
+            → StandsAs (live_slot store.index (slot_bytes store.slot)) (front_of store.slot.end a.held) image ⊎ StandsAs (live_slot (1 - store.index) (slot_bytes next)) (front_of store.slot.end a.held ++ bytes) image
+        images image possible = elim (step.images (front_left store r a held order) t image late le possible) [
+          | inl old ↦ inl (old.0 ∙ old_live, old.1)
+          | inr new ↦ inr new
+        ]
+
+    -- it was made
+    pub changed : {A : Type 0} (x : A) (b : Told) (store' : Store) → store'.slot ≡ next → store'.index ≡ 1 - store.index → IsOf store' after
+        → MakesStep store.slot.end bytes (1 - store.index) next (Ok tt) a b → Changes r after (Ok x) store' a b
+    changed x b store' slot index tables step = record {
+      only = step.only;
+      refused = λ r. absurd (cc (r.0));
+      ok = holds;
+      keeps = keeps_of b (Ok tt) step;
+      secures = λ order. secures_now store' after b holds order_now;
+      secures_refused = λ order r. absurd (cc (r.0));
+      order = λ order some. order_now;
+    }
+      where
+        live_now : IsLive (bytes_of (b.held Control)) store'.index store'.slot
+        live_now = subst (λ (i : ℕ). IsLive (bytes_of (b.held Control)) i store'.slot) (sym index)
+            (subst (λ (s : Slot). IsLive (bytes_of (b.held Control)) (1 - store.index) s) (sym slot) (is_live (b.held Control) (1 - store.index) next step.held.0 next_is))
+
+        holds : Holds store' b after
+        holds = record { tables = tables; stands = stands_new b.held step.held; live = live_now; kept = step.kept }
+
+        end_is : store'.slot.end ≡ length whole
+        end_is = ap (λ (s : Slot). s.end) slot ∙ sym whole_end
+
+        front_is : front_of store'.slot.end b.held ≡ whole
+        front_is = ap (λ (n : ℕ). take n (bytes_of (b.held (Chunk 0)))) end_is ∙ begins_take whole (b.held (Chunk 0)) step.held.1
+
+        order_now : IsInOrder b
+        order_now = order_of store' after b holds (subst (λ front. LeavesFront front b) (sym front_is) step.front)
+
+    -- a fault of the ground cut it short
+    pub cut_short : {A : Type 0} (b : Told) (store' : Store) (res : Result (Unit {0}) GroundFault) → MakesStep store.slot.end bytes (1 - store.index) next res a b → Changes {A = A} r after (Err StoreFault.Ground) store' a b
+    cut_short b store' res step = record {
+      only = step.only;
+      refused = λ r. absurd (r.1);
+      ok = tt;
+      keeps = keeps_of b res step;
+      secures = λ order. tt;
+      secures_refused = λ order r. absurd (r.1);
+      order = λ order some. absurd some;
+    }
+
+-- it was refused, of a store with the same tables
+pub changes_none : {A : Type 0} (r after : Repository) (fault : StoreFault) (store store' : Store) (a : Told)
+    → store'.slot ≡ store.slot → store'.index ≡ store.index → store'.names ≡ store.names → store'.branches ≡ store.branches → Holds store a r → Changes {A = A} r after (Err fault) store' a a
+changes_none r after fault store store' a slot index names branches held = record {
+  only = only_nowhere a TheTwo;
+  refused = λ _. (only_nowhere a NoFile, same_holds store store' slot index names branches r a held);
+  ok = tt;
+  keeps = λ order t late le. absurd (omega (arith, late, le));
+  secures = λ order. tt;
+  secures_refused = λ order _ t low high.
+      let now : t ≡ a.moment = omega (arith, low, high) in
+      subst (λ (n : ℕ). Secures (a.may_leave n) r) (sym now) (secures_now store r a held order);
+  order = λ order some. order;
+}
+
+pub same_can_step : (end end' index index' : ℕ) (slot : Slot) (a : Told) → end ≡ end' → index ≡ index' → CanStep end' (1 - index') slot a → CanStep end (1 - index) slot a
+same_can_step end end' index index' slot a ends indexes can = subst (λ (i : ℕ). CanStep end (1 - i) slot a) (sym indexes) (subst (λ (e : ℕ). CanStep e (1 - index') slot a) (sym ends) can)
+
+pub same_step : (end end' index index' : ℕ) (bytes bytes' : List ℕ) (slot : Slot) (res : Result (Unit {0}) GroundFault) (a b : Told) → end ≡ end' → index ≡ index' → bytes ≡ bytes' → MakesStep end bytes (1 - index) slot res a b → MakesStep end' bytes' (1 - index') slot res a b
+same_step end end' index index' bytes bytes' slot res a b ends indexes same step =
+    subst (λ (e : ℕ). MakesStep e bytes' (1 - index') slot res a b) ends (subst (λ bs. MakesStep end bs (1 - index') slot res a b) same (subst (λ (i : ℕ). MakesStep end bytes (1 - i) slot res a b) indexes step))
