@@ -3,7 +3,10 @@
 use Rattle.std.proofs.Common.{rules, ◌≡◌, Bool, true, false, length, refl, sym, ap, ◌∙◌, subst, arith, Some, None, Ok, Err, IsTrue, length-append, ◌++◌, ◌∷◌, [], Option, ◌*◌}
 use Rattle.std.specs.Prelude.{Result, IfSome, IfOk, MatchBool, if◌then◌else◌, codes, IsErrOf}
 use Rattle.ip_base.specs.declared.info.Info.{Info}
+use Rattle.ip_ground.specs.declared.names.FileName.TheVariants.{Control, Chunk}
 use Rattle.ip_ground.specs.Told.{Told, NoFile, ChangesOnly}
+use Rattle.ip_image.specs.Headline.{Keeps}
+use Rattle.ip_image.proofs.HeadlineLaws.{order_passes}
 use Rattle.ip_spec.specs.declared.command.Command.{Command}
 use Rattle.ip_spec.specs.declared.met.Met.{Met}
 use Rattle.ip_spec.specs.declared.reply.Reply.{Reply}
@@ -22,6 +25,7 @@ use Rattle.ip_store.specs.Work.{work_of}
 use Rattle.ip_app.specs.declared.session.Session.{Session}
 use Rattle.ip_app.specs.Exchanges.{no_rules}
 use Rattle.ip_app.specs.Session.{state_in, met_only, conditions_of, IsLong, ChangedBy, Goes, Cut}
+use Rattle.ip_app.proofs.Moments.{keeps_still}
 use Rattle.ip_app.proofs.SessionLemmas.{at, plainly, commit_refused}
 
 abbrev IsCommitted : Reply → Type 0
@@ -143,10 +147,12 @@ module _ (tells : Bool) (a b : Told) (s : Session) (store : Store) (work : Work)
         is_in = (A.tables, A.lawful);
         holds = λ told h. subst (Holds store b) (sym repository) (does told h).1;
         only = λ told h. same_files (does told h).0;
+        keeps = λ told h order. keeps_still s.store r A.after a b h order (does told h).0;
+        order = λ told h order. order_passes a b (does told h).0.goes ((does told h).0.others Control (λ none. none)) ((does told h).0.others (Chunk 0) (λ none. none)) order;
         spared = λ long. record { same = state; refused = commit_refused branch info r (work_of s.work); still = still };
       }
 
-  committed_so : (name : Hash) → length name ≡ 32 → Answered (Reply.Committed name) → (IsTrue tells → Holds s.store a r → Commits r s.work branch info (Ok name) s.store store a b)
+  committed_so : (name : Hash) → length name ≡ 32 → Answered (Reply.Committed name) → (IsTrue tells → Holds s.store a r → Commits r s.work branch info (Ok name) store a b)
       → Goes tells a b s after_it r It (Reply.Committed name)
   committed_so name long_name A does =
       let same = as_nothing_met r (work_of s.work) branch info store.met (Reply.Committed name) (session A.after work) A.turn tt in
@@ -157,6 +163,8 @@ module _ (tells : Bool) (a b : Told) (s : Session) (store : Store) (work : Work)
         is_in = (A.tables, A.lawful);
         holds = λ told h. subst (Holds store b) (sym repository) (does told h).ok;
         only = λ told h. (does told h).only;
+        keeps = λ told h order. subst (λ (q : Repository). Keeps a b r q) (sym repository) ((does told h).keeps order);
+        order = λ told h order. (does told h).order order (search rules);
         spared = λ long. absurd (name_is_short name long_name long);
       }
 
@@ -167,11 +175,11 @@ reply_in (Some reply) = reply
 -- the store answered the commit
 pub commit_goes : (tells : Bool) (a b : Told) (s : Session) (store : Store) (work : Work) (met : Met) (r : Repository) (branch : Bytes) (info : Info) (made : Result Hash StoreFault) (reply : Reply)
     → met ≡ store.met → reply_to made ≡ Some reply → IfOk made (λ name. length name ≡ 32) → IfSome (reply_to made) (λ reply. Answers (session r s.work) (Command.Commit branch info) store.met reply store work)
-    → (IsTrue tells → Holds s.store a r → Commits r s.work branch info made s.store store a b)
+    → (IsTrue tells → Holds s.store a r → Commits r s.work branch info made store a b)
     → Goes tells a b s (record s { store = store; work = work; met = met }) r (Step no_rules (state_in s r) (Command.Commit branch info)) reply
 commit_goes tells a b s store work met r branch info made reply m e long A does = subst (λ (x : Met). Goes tells a b s (record s { store = store; work = work; met = x }) r (It tells a b s store work r branch info) reply) (sym m) (subst (Goes tells a b s (after_it tells a b s store work r branch info) r (It tells a b s store work r branch info)) (ap reply_in e) (by made long A e does))
   where
-    by : (made : Result Hash StoreFault) → IfOk made (λ name. length name ≡ 32) → IfSome (reply_to made) (λ reply. Answers (session r s.work) (Command.Commit branch info) store.met reply store work) → reply_to made ≡ Some reply → (IsTrue tells → Holds s.store a r → Commits r s.work branch info made s.store store a b)
+    by : (made : Result Hash StoreFault) → IfOk made (λ name. length name ≡ 32) → IfSome (reply_to made) (λ reply. Answers (session r s.work) (Command.Commit branch info) store.met reply store work) → reply_to made ≡ Some reply → (IsTrue tells → Holds s.store a r → Commits r s.work branch info made store a b)
         → Goes tells a b s (after_it tells a b s store work r branch info) r (It tells a b s store work r branch info) (reply_in (reply_to made))
     by (Ok name) long A e does = committed_so tells a b s store work r branch info name long A does
     by (Err (StoreFault.HeadMoved name)) long A e does = refused_so tells a b s store work r branch info (Reply.HeadMoved name) (λ h. h) (λ file h. h) A (λ told h. (does told h).refused (search rules)) (λ only. only)
@@ -191,7 +199,7 @@ is_ground (Err StoreFault.Ground) e = refl
 
 -- what the machine gives where nothing was met
 pub commit_cut : (tells : Bool) (a b : Told) (s : Session) (store : Store) (work : Work) (met : Met) (r : Repository) (branch : Bytes) (info : Info) (made : Result Hash StoreFault) → met ≡ met_only false
-    → (IsTrue tells → Holds s.store a r → Commits r s.work branch info made s.store store a b)
+    → (IsTrue tells → Holds s.store a r → Commits r s.work branch info made store a b)
     → Cut tells a b s (record s { store = store; work = work; met = met }) r (Step no_rules (state_in s r) (Command.Commit branch info))
 commit_cut tells a b s store work met r branch info made e does =
     let t = answer (state_in s r) (Command.Commit branch info) (conditions_of (met_only false)) in
@@ -200,4 +208,5 @@ commit_cut tells a b s store work met r branch info made e does =
       after = t.1;
       gives = subst (λ (m : Met). Step no_rules (state_in s r) (Command.Commit branch info) (conditions_of m) t.0 t.1) (sym e) (plainly r (work_of s.work) (Command.Commit branch info) false t.0 (λ h. absurd (cc h)), refl);
       only = λ told h. (does told h).only;
+      keeps = λ told h order. subst (λ (q : Repository). Keeps a b r q) (ap (λ (u : Turned). u.1.repository) (turned_by r (work_of s.work) branch info met_nothing false refl)) ((does told h).keeps order);
     }

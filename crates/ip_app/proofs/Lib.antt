@@ -1,5 +1,6 @@
 pub mod LineLemmas
 pub mod SameFiles
+pub mod Moments
 pub mod RunLemmas
 pub mod TurnLemmas
 pub mod EndingLaw

@@ -1,6 +1,6 @@
 -- A run that goes on by a line, and how it ends.
 use Rattle.std.specs.Prelude.{IfSome}
-use Rattle.std.proofs.Common.{true, ◌≡◌, inl, inr, ℕ, ◌≤◌, Bool, false, List, [], ◌∷◌, ◌++◌, length, refl, sym, ap, ◌∙◌, subst, arith, append_assoc, length-append, IsTrue, All, take, drop, Some, None, Result}
+use Rattle.std.proofs.Common.{true, ◌≡◌, inl, inr, ℕ, ◌≤◌, Bool, false, List, [], ◌∷◌, ◌++◌, length, refl, sym, ap, ◌∙◌, subst, arith, append_assoc, length-append, map, IsTrue, All, take, drop, Some, None, Result}
 use Rattle.std.proofs.lemmas.Bool.{cases_lt}
 use Rattle.std.proofs.lemmas.List.{map-append, take-append-drop}
 use Rattle.std.proofs.lemmas.List.Elements.{All-append, All-cons, All-nil}
@@ -14,7 +14,10 @@ use Rattle.ip_ground.proofs.Rising.{none_falls_on, rose_after}
 use Rattle.ip_image.specs.declared.counts.TurnCounts.{TurnCounts}
 use Rattle.ip_image.specs.Slot.{live_index}
 use Rattle.ip_image.specs.Standing.{StandsFor, NoStore}
+use Rattle.ip_image.specs.Headline.{Headline}
 use Rattle.ip_image.proofs.DamageLaws.{not_damaged}
+use Rattle.ip_image.proofs.HeadlineLaws.{headline_later}
+use Rattle.ip_image.proofs.OneRepository.{one_repository}
 use Rattle.ip_spec.specs.Path.{Bytes, line_feed}
 use Rattle.ip_spec.specs.Merge.{Rule}
 use Rattle.ip_ground.specs.Contents.{Image, Content, bytes_of}
@@ -24,6 +27,7 @@ use Rattle.ip_spec.specs.Script.{whole_lines, LineStep}
 use Rattle.ip_spec.specs.Text.{reply_text}
 use Rattle.ip_store.specs.Control.{control_in}
 use Rattle.ip_store.specs.Publishing.{TheTwo}
+use Rattle.ip_store.specs.Opening.{SecuresOpening}
 use Rattle.ip_store.specs.Store.{Holds}
 use Rattle.ip_app.specs.declared.session.Session.{Session}
 use Rattle.ip_app.specs.Session.{IsIn, state_in}
@@ -35,12 +39,13 @@ use Rattle.ip_app.specs.declared.statuses.Bound.TheVariants as bound
 use Rattle.ip_app.specs.Lines.{longest_line, last_piece}
 use Rattle.ip_app.specs.Pending.{pending}
 use Rattle.ip_app.specs.Reading.{EndsReading, IsCaused}
-use Rattle.ip_app.specs.Exchanges.{Exchange, conditions, no_rules, Run, after_all, lines_in, turns_in, texts_in}
+use Rattle.ip_app.specs.Exchanges.{Exchange, conditions, answer_of, no_rules, Run, after_all, lines_in, turns_in, texts_in}
 use Rattle.ip_app.specs.Turns.{turn_counts, IsLater, Follow}
 use Rattle.ip_app.specs.Outside.{Outside, GoesOn, KeepsFiles}
 use Rattle.ip_app.specs.Serving.{SaysPart, TurnedIn, Stopped, Unsaid, Stops, Served}
 use Rattle.ip_app.specs.Run.{CouldNotOpen, IsUntouched, IsOpened, Begins, is_cut_off, Row, Serves, EndsWhereAllIsWell}
 use Rattle.ip_app.proofs.SameFiles.{stands_after}
+use Rattle.ip_app.proofs.Moments.{headline_none, headline_turn}
 use Rattle.ip_app.proofs.LineLemmas.{whole_lines-line, whole_lines-rest, last_piece-line, last_piece-rest}
 
 after_more : (first : State) (xs : List Exchange) (x : Exchange) → after_all first (xs ++ x ∷ []) ≡ x.after
@@ -138,6 +143,11 @@ served_more old mid new lines lines' counts counts' s s' h turned =
       run = run_more no_rules (opened h.first) (state_in s h.repository) h.exchanges x h.now_at h.run t.step;
       now_at = sym turned.now_at ∙ sym (after_more (opened h.first) h.exchanges x);
       said = λ g. turned.said (told_before _ _ h.goes_on.ground_tells g) ∙ (ap (λ (u : Bytes). u ++ reply_text x.reply) (h.said g) ∙ (append_assoc (said old.told) (texts_in h.exchanges) (reply_text x.reply) ∙ ap (λ (u : Bytes). said old.told ++ u) (sym (texts_more h.exchanges x))));
+      opened_at = h.opened_at;
+      headline = λ g order. headline_turn (h.opened_at g) old.told mid.told new.told (opened h.first) h.exchanges x (h.headline g order) (t.files (told_before _ _ h.goes_on.ground_tells g)).goes (h.over g) (h.said g)
+          h.repository turned.after (ap (λ (state : State). state.repository) h.now_at) (ap (λ (state : State). state.repository) (sym turned.now_at)) (turned.turning (told_before _ _ h.goes_on.ground_tells g) (h.order g order));
+      over = λ g. let was = h.over g in let later = (t.files (told_before _ _ h.goes_on.ground_tells g)).goes.later in omega (arith, was, later);
+      order = λ g order. turned.order (told_before _ _ h.goes_on.ground_tells g) (h.order g order);
       noted = λ l. t.noted l ∙ (ap (λ u. u ++ x.turn ∷ []) (h.noted (t.goes_on.log_tells l)) ∙ (append_assoc old.turns (turns_in h.exchanges) (x.turn ∷ []) ∙ ap (λ u. old.turns ++ u) (sym (map-append (λ x. x.turn) h.exchanges (x ∷ [])))));
       start = h.start;
       since = h.since;
@@ -148,8 +158,9 @@ served_more old mid new lines lines' counts counts' s s' h turned =
 
 -- no line was served yet
 pub served_first : (old now : Outside) (lines : Lines) (counts : TurnCounts) (s : Session) (r : Repository) → IsIn s r → state_in s r ≡ opened r → (IsTrue old.ground_tells → Holds s.store now.told r) → (IsTrue old.ground_tells → StandsFor old.told.held r)
+    → (opening : IsTrue old.ground_tells → SecuresOpening old.told now.told) → ((told : IsTrue old.ground_tells) → (opening told).since ≤ now.told.moment)
     → counts ≡ turn_counts now.counts → GoesOn old now → (IsTrue old.ground_tells → ChangesOnly NoFile old.told now.told) → now.left ≡ old.left → now.turns ≡ old.turns → pending lines ≡ [] → lines.taken ≡ 0 → Served old now lines counts s
-served_first old now lines counts s r is_in begun holds began counted g f left turns none zero =
+served_first old now lines counts s r is_in begun holds began opening over counted g f left turns none zero =
     record {
       done = [];
       exchanges = [];
@@ -168,6 +179,10 @@ served_first old now lines counts s r is_in begun holds began counted g f left t
       is_in = is_in;
       holds = holds;
       said = λ b. said_now old.told now.told (f b).goes (f b).said ∙ sym (append_nil (said old.told));
+      opened_at = λ b. (opening b).since;
+      over = over;
+      headline = λ b order. headline_none old.told now.told (f b) (opening b) r (began b) order;
+      order = λ b order. (opening b).order order;
       noted = λ b. turns ∙ sym (append_nil old.turns);
       start = turn_counts now.counts;
       since = record { file = g.counts.file_faults; remove = g.counts.remove_faults; spawner = refl };
@@ -176,8 +191,8 @@ served_first old now lines counts s r is_in begun holds began counted g f left t
     }
 
 -- no line was served at all
-pub serves_none : (old new : Outside) (s : Status) → GoesOn old new → (IsTrue old.ground_tells → ChangesOnly NoFile old.told new.told) → new.left ≡ old.left → new.turns ≡ old.turns → Begins s old (opened no_repository) [] → Row s old new [] → Serves old new s
-serves_none old new s g f left turns begins row =
+pub serves_none : (old new : Outside) (s : Status) → GoesOn old new → (IsTrue old.ground_tells → ChangesOnly NoFile old.told new.told) → (IsTrue old.ground_tells → SecuresOpening old.told new.told) → new.left ≡ old.left → new.turns ≡ old.turns → Begins s old (opened no_repository) [] → Row s old new [] → Serves old new s
+serves_none old new s g f opening left turns begins row =
     let first = opened no_repository in
     let quiet : IsTrue old.ground_tells → said new.told ≡ said old.told = λ b. said_now old.told new.told (f b).goes (f b).said in
     record {
@@ -195,6 +210,8 @@ serves_none old new s g f left turns begins row =
       first_is = refl;
       run = tt;
       stands = λ b whole h. stands_after old.told new.told (f b) first.repository h;
+      headline = λ b r stands order. ((opening b).since, headline_none old.told new.told (f b) (opening b) r stands order);
+      again = λ b may. record { repository = may.repository; stands = stands_after old.told new.told (f b) may.repository may.stands; order = (opening b).order may.order };
       said_part = λ b. record { whole = []; cut = []; part = []; unsaid = []; all = refl; one = omega arith; text = refl; said_is = quiet b ∙ (sym (append_nil (said old.told)) ∙ sym (append_nil (said old.told ++ []))); silent = λ cut_short. refl };
       said_all = λ b c. quiet b ∙ sym (append_nil (said old.told));
       noted = λ b. turns ∙ sym (append_nil old.turns);
@@ -205,21 +222,21 @@ serves_none old new s g f left turns begins row =
     }
 
 -- the store could not be opened
-pub begins_unopened : (old new : Outside) (s : Status) → GoesOn old new → (IsTrue old.ground_tells → ChangesOnly NoFile old.told new.told) → new.left ≡ old.left → new.turns ≡ old.turns → CouldNotOpen s old.ground_tells old.told old.counts new.counts → Serves old new s
-begins_unopened old new s g f left turns could_not = by_status s could_not
+pub begins_unopened : (old new : Outside) (s : Status) → GoesOn old new → (IsTrue old.ground_tells → ChangesOnly NoFile old.told new.told) → (IsTrue old.ground_tells → SecuresOpening old.told new.told) → new.left ≡ old.left → new.turns ≡ old.turns → CouldNotOpen s old.ground_tells old.told old.counts new.counts → Serves old new s
+begins_unopened old new s g f opening left turns could_not = by_status s could_not
   where
     untouched : IsUntouched old new []
     untouched = record { none_taken = refl; left = left; said_nothing = λ told. said_now old.told new.told (f told).goes (f told).said; only = f; turns = turns }
 
     by_status : (s : Status) → CouldNotOpen s old.ground_tells old.told old.counts new.counts → Serves old new s
-    by_status status.NoStore h = serves_none old new status.NoStore g f left turns refl (untouched, h)
-    by_status (status.Damaged file at) h = serves_none old new (status.Damaged file at) g f left turns refl (untouched, h)
-    by_status status.GroundFault h = serves_none old new status.GroundFault g f left turns (inl refl) h
+    by_status status.NoStore h = serves_none old new status.NoStore g f opening left turns refl (untouched, h)
+    by_status (status.Damaged file at) h = serves_none old new (status.Damaged file at) g f opening left turns refl (untouched, h)
+    by_status status.GroundFault h = serves_none old new status.GroundFault g f opening left turns (inl refl) h
     by_status status.Done h = absurd h
     by_status status.Usage h = absurd h
     by_status status.ReadFault h = absurd h
     by_status status.SayFault h = absurd h
-    by_status status.Memory h = serves_none old new status.Memory g f left turns refl untouched
+    by_status status.Memory h = serves_none old new status.Memory g f opening left turns refl untouched
     by_status (status.Limit bound) h = absurd h
     by_status status.Unfinished h = absurd h
     by_status status.Exists h = absurd h
@@ -258,6 +275,11 @@ row_of status.GroundFault old mid new taken first xs o e f c = absurd e
 row_of status.Memory old mid new taken first xs o e f c = absurd e
 row_of status.Exists old mid new taken first xs o e f c = absurd e
 
+-- the files stood for one repository at most when the run began
+of_opened : (since : ℕ) (old new : Outside) (first : Repository) (xs : List Exchange) → StandsFor old.told.held first → (r : Repository) → StandsFor old.told.held r → Headline since old.told new.told (opened first) (map answer_of xs)
+    → (since : ℕ) × Headline since old.told new.told (opened r) (map answer_of xs)
+of_opened since old new first xs began r stands run = (since, subst (λ (q : Repository). Headline since old.told new.told (opened q) (map answer_of xs)) (one_repository old.told.held first r began stands) run)
+
 -- the source is read no further
 serves_stopped : (s : Status) (old mid new : Outside) (lines lines' : Lines) (counts counts' : TurnCounts) (session : Session) (h : Served old mid lines counts session) → Stopped s mid new lines lines' counts counts' (state_in session h.repository) → Serves old new s
 serves_stopped s old mid new lines lines' counts counts' session h t =
@@ -284,6 +306,9 @@ serves_stopped s old mid new lines lines' counts counts' session h t =
       first_is = refl;
       run = h.run;
       stands = λ b whole began. subst (λ (state : State). StandsFor new.told.held state.repository) h.now_at (t.stands (told_before _ _ h.goes_on.ground_tells b));
+      headline = λ b r stands order. of_opened (h.opened_at b) old new h.first h.exchanges (h.began b) r stands
+          (headline_later (h.opened_at b) old.told mid.told new.told first (map answer_of h.exchanges) (h.headline b order) (t.files (told_before _ _ h.goes_on.ground_tells b)).goes (t.same_moment (told_before _ _ h.goes_on.ground_tells b)));
+      again = λ b may. record { repository = h.repository; stands = t.stands (told_before _ _ h.goes_on.ground_tells b); order = t.order (told_before _ _ h.goes_on.ground_tells b) (h.order b may.order) };
       said_part = λ b. record { whole = h.exchanges; cut = []; part = []; unsaid = []; all = append_nil h.exchanges; one = omega arith; text = refl; said_is = quiet b ∙ sym (append_nil (said old.told ++ texts_in h.exchanges)); silent = λ cut_short. refl };
       said_all = λ b c. quiet b;
       noted = λ l. t.same_turns ∙ h.noted (t.goes_on.log_tells l);
@@ -318,6 +343,10 @@ serves_unsaid s old mid new lines lines' counts counts' session h cut opened_so 
       first_is = refl;
       run = run_more no_rules first (state_in session h.repository) h.exchanges x h.now_at h.run t.step;
       stands = λ b whole began. subst (λ (state : State). StandsFor new.told.held state.repository) (sym (after_more first h.exchanges x)) (u.stands (told_before _ _ h.goes_on.ground_tells b) whole);
+      headline = λ b r stands order. of_opened (h.opened_at b) old new h.first xs (h.began b) r stands
+          (headline_turn (h.opened_at b) old.told mid.told new.told first h.exchanges x (h.headline b order) (t.files (told_before _ _ h.goes_on.ground_tells b)).goes (h.over b) (h.said b)
+          h.repository x.after.repository (ap (λ (state : State). state.repository) h.now_at) refl (u.turning (told_before _ _ h.goes_on.ground_tells b) (h.order b order)));
+      again = λ b may. u.again (told_before _ _ h.goes_on.ground_tells b) (h.order b may.order);
       said_part = λ b. let p = u.part (told_before _ _ h.goes_on.ground_tells b) in record { whole = h.exchanges; cut = x ∷ []; part = p.0; unsaid = p.1; all = refl; one = omega arith; text = p.2 ∙ sym (append_nil (reply_text x.reply)); said_is = p.3 ∙ ap (λ (v : Bytes). v ++ p.0) (h.said b); silent = u.silent (told_before _ _ h.goes_on.ground_tells b) };
       said_all = λ b c. absurd (cc (c, cut));
       noted = λ l. t.noted l ∙ (ap (λ u. u ++ x.turn ∷ []) (h.noted (t.goes_on.log_tells l)) ∙ (append_assoc old.turns (turns_in h.exchanges) (x.turn ∷ []) ∙ ap (λ u. old.turns ++ u) (sym (map-append (λ x. x.turn) h.exchanges (x ∷ [])))));

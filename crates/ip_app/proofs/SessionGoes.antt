@@ -8,7 +8,7 @@ use Rattle.std.proofs.lemmas.List.Elements.{All-nil}
 use Rattle.sha2.specs.Sha256.{sha256}
 use Rattle.ip_base.specs.declared.limit.Limit.{Limit}
 use Rattle.ip_ground.specs.Told.{Told}
-use Rattle.ip_ground.proofs.Spans.{only_nowhere, only_more}
+use Rattle.ip_ground.proofs.Spans.{no_moment, only_nowhere, only_more}
 use Rattle.ip_spec.specs.declared.command.Command.{Command}
 use Rattle.ip_spec.specs.declared.met.Met.{Met}
 use Rattle.ip_spec.specs.declared.reply.Reply.{Reply}
@@ -56,6 +56,8 @@ module _ (tells : Bool) (a : Told) (s : Session) (r : Repository) (is : IsIn s r
     is_in = (is.0, lawful_with r s.work tree is.1);
     holds = λ told h. h;
     only = λ told h. only_nowhere a (ChangedBy reply);
+    keeps = λ told h order t late le. absurd (no_moment a.moment t late le);
+    order = λ told h order. order;
     spared = spared;
   }
 
@@ -70,6 +72,8 @@ module _ (tells : Bool) (a : Told) (s : Session) (r : Repository) (is : IsIn s r
     is_in = (is.0, begins_in r work empty);
     holds = λ told h. h;
     only = λ told h. only_nowhere a (ChangedBy Reply.Accepted);
+    keeps = λ told h order t late le. absurd (no_moment a.moment t late le);
+    order = λ told h order. order;
     spared = λ long. absurd (ok_is_short long);
   }
 
@@ -136,6 +140,8 @@ lined tells a b s s' met r command line reply served h = record {
   is_in = h.is_in;
   holds = h.holds;
   only = h.only;
+  keeps = h.keeps;
+  order = h.order;
   spared = λ long. let x = h.spared long in record { same = x.same; refused = inl (command, served, x.refused); still = x.still };
 }
 
@@ -147,7 +153,7 @@ lined_ok tells a b s s' met r command line (Err end) served h = tt
 pub lined_cut : (tells : Bool) (a b : Told) (s s' : Session) (met : Met) (r : Repository) (command : Command) (line : Bytes) (result : Result Reply SessionEnd) → IsServedLine command line
     → OnErr result (Cut tells a b (record s { met = met }) s' r (Step no_rules (state_in s r) command)) → OnErr result (Cut tells a b s s' r (LineStep no_rules (state_in s r) line))
 lined_cut tells a b s s' met r command line (Ok reply) served h = tt
-lined_cut tells a b s s' met r command line (Err end) served h = record { reply = h.reply; after = h.after; gives = inl (command, served, h.gives); only = h.only }
+lined_cut tells a b s s' met r command line (Err end) served h = record { reply = h.reply; after = h.after; gives = inl (command, served, h.gives); only = h.only; keeps = h.keeps }
 
 -- a line that is no command
 pub bad_goes : (tells : Bool) (a : Told) (s : Session) (met : Met) (r : Repository) (line : Bytes) (place : ℕ) → IsIn s r → met ≡ met_only false → IsBadAt IsServedLine line place → length line < 2 ^ 64
@@ -167,6 +173,8 @@ memory_instead tells a b s s' met r Gives reply h long e =
       is_in = h.is_in;
       holds = h.holds;
       only = λ told here. only_more a b (ChangedBy reply) (ChangedBy Reply.Memory) (λ file changed. absurd (x.still file changed)) (h.only told here);
+      keeps = h.keeps;
+      order = h.order;
       spared = λ again. absurd (omega (arith, again, memory_is_short));
     }
 

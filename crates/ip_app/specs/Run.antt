@@ -2,7 +2,7 @@
 --     Inits, Serves      one record for each call; its last field is the row of the status
 --     EndsAsBytes, EndsWhereAllIsWell      of a serving call: the source's bytes give the status; and which statuses need a fault
 --     LeavesAll      of a call that is refused: nothing changes
-use Rattle.std.specs.Prelude.{◌≤◌, ◌≡◌, ◌⊎◌, Bool, true, false, IsTrue, List, [], ◌++◌, length, All, None, IsSome, Result, Ok, Err}
+use Rattle.std.specs.Prelude.{ℕ, ◌≤◌, ◌≡◌, ◌⊎◌, Bool, true, false, IsTrue, List, [], ◌++◌, length, map, All, None, IsSome, Result, Ok, Err}
 use Rattle.ip_ground.specs.declared.names.FileName.TheVariants.{Control}
 use Rattle.ip_ground.specs.declared.names.GroundCounts.{GroundCounts}
 use Rattle.ip_ground.specs.Counts.{Rose}
@@ -10,6 +10,7 @@ use Rattle.ip_ground.specs.Told.{Told, said, ChangesOnly, Only, NoFile, IsKept, 
 use Rattle.ip_image.specs.declared.counts.TurnCounts.{TurnCounts}
 use Rattle.ip_image.specs.Slot.{live_index}
 use Rattle.ip_image.specs.Standing.{StandsFor, NoStore, DamagedAt}
+use Rattle.ip_image.specs.Headline.{IsInOrder, MayServe, Headline}
 use Rattle.ip_spec.specs.Path.{Bytes}
 use Rattle.ip_spec.specs.Repository.{Repository, no_repository}
 use Rattle.ip_spec.specs.Machine.{State, opened}
@@ -18,12 +19,13 @@ use Rattle.ip_store.specs.Control.{control_in, default_chunk, IsFresh}
 use Rattle.ip_store.specs.declared.store.InitFault.{InitFault}
 use Rattle.ip_store.specs.declared.opening.OpenFault.{OpenFault}
 use Rattle.ip_store.specs.declared.store.Store.{Store}
+use Rattle.ip_store.specs.Opening.{SecuresOpening}
 use Rattle.ip_store.specs.Store.{IsOf, Holds}
 use Rattle.ip_app.specs.declared.statuses.Status.{Status}
 use Rattle.ip_app.specs.Lines.{longest_line, last_piece}
 use Rattle.ip_app.specs.Reading.{EndsReading}
 use Rattle.ip_app.specs.Ending.{ending_of, IsOfBytes}
-use Rattle.ip_app.specs.Exchanges.{Exchange, no_rules, Run, lines_in, turns_in, texts_in, after_all}
+use Rattle.ip_app.specs.Exchanges.{Exchange, answer_of, no_rules, Run, lines_in, turns_in, texts_in, after_all}
 use Rattle.ip_app.specs.Serving.{is_cut_short}
 use Rattle.ip_app.specs.Turns.{turn_counts, IsLater, Follow}
 use Rattle.ip_app.specs.Outside.{Outside, GoesOn, KeepsFiles}
@@ -50,6 +52,8 @@ pub record OpensAs (tells : Bool) (old new : Told) (store : Store) : Type 0 wher
   pub tables : IsOf store repository
   pub holds : IsTrue tells → Holds store new repository
   pub stands : IsTrue tells → StandsFor old.held repository
+  pub opening : IsTrue tells → SecuresOpening old new
+  pub over : (told : IsTrue tells) → (opening told).since ≤ new.moment
 
 -- what the files read as when the call began stands for the repository with which the run begins
 abbrev pub IsOpened : Outside → State → Type 0
@@ -128,6 +132,11 @@ pub record Serves (old new : Outside) (status : Status) : Type 0 where
   pub run : Run no_rules first exchanges
   -- in the end the files stand for the repository after all of them, unless a fault of the ground cut the last one short
   pub stands : IsTrue old.ground_tells → is_cut_short status ≡ false → StandsFor old.told.held first.repository → StandsFor new.told.held (after_all first exchanges).repository
+  -- At every moment from the first sync of opening on, where the ground was in order: what had been said was a front of the replies' texts, and whatever a crash leaves
+  -- stands for the repository after some first commands, all acknowledged ones among them.
+  pub headline : IsTrue old.ground_tells → (r : Repository) → StandsFor old.told.held r → IsInOrder old.told → (since : ℕ) × Headline since old.told new.told (opened r) (map answer_of exchanges)
+  -- and the ground that is left may be served again, however this run ended
+  pub again : IsTrue old.ground_tells → MayServe old.told → MayServe new.told
   -- what was said grows by the replies' texts
   pub said_part : IsTrue old.ground_tells → SaysUpTo status exchanges (said old.told) (said new.told)
   pub said_all : IsTrue old.ground_tells → is_cut_off status ≡ false → said new.told ≡ said old.told ++ texts_in exchanges
@@ -174,6 +183,7 @@ pub record IsMade (old new : Told) : Type 0 where
   pub fresh : IsFresh default_chunk new.held
   pub kept : IsKept new Control
   pub stands : EachImageNow new (λ image. StandsFor image no_repository)
+  pub order : IsInOrder new
 
 -- a slot was open, and nothing was changed
 pub record IsThere (old new : Told) : Type 0 where

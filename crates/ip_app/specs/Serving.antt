@@ -2,11 +2,12 @@
 --     Turned      a line was taken, its command run and noted.      TurnedIn      and its reply said, by a session in a repository
 --     Stops      why there is no further line
 --     Served      so far: the whole lines that were taken, what came of them, and the repository that the session is in
-use Rattle.std.specs.Prelude.{◌+◌, ◌≤◌, ◌≡◌, Bool, true, false, IsTrue, List, [], ◌∷◌, ◌++◌, length, All}
+use Rattle.std.specs.Prelude.{ℕ, ◌+◌, ◌≤◌, ◌≡◌, Bool, true, false, IsTrue, List, [], ◌∷◌, ◌++◌, length, map, All}
 use Rattle.ip_ground.specs.Counts.{Rose}
 use Rattle.ip_ground.specs.Told.{said}
 use Rattle.ip_image.specs.declared.counts.TurnCounts.{TurnCounts}
 use Rattle.ip_image.specs.Standing.{StandsFor}
+use Rattle.ip_image.specs.Headline.{IsInOrder, MayServe, Turning, Headline}
 use Rattle.ip_spec.specs.Path.{Bytes, line_feed}
 use Rattle.ip_spec.specs.Machine.{State, opened}
 use Rattle.ip_spec.specs.Repository.{Repository}
@@ -19,7 +20,7 @@ use Rattle.ip_app.specs.declared.lines.Lines.{Lines}
 use Rattle.ip_app.specs.Lines.{longest_line, HasNoLineFeed, last_piece}
 use Rattle.ip_app.specs.Pending.{pending}
 use Rattle.ip_app.specs.Reading.{EndsReading, IsCaused}
-use Rattle.ip_app.specs.Exchanges.{Exchange, conditions, no_rules, Run, lines_in, turns_in, texts_in, after_all}
+use Rattle.ip_app.specs.Exchanges.{Exchange, conditions, answer_of, no_rules, Run, lines_in, turns_in, texts_in, after_all}
 use Rattle.ip_app.specs.Turns.{turn_counts, IsLater, Follow}
 use Rattle.ip_app.specs.Outside.{Outside, GoesOn, KeepsFiles}
 use Rattle.ip_app.specs.Session.{IsIn, state_in}
@@ -50,6 +51,8 @@ pub record TurnedIn (old new : Outside) (lines lines' : Lines) (counts counts' :
   pub is_in : IsIn s' after
   pub holds : IsTrue old.ground_tells → Holds s'.store new.told after
   pub said : IsTrue old.ground_tells → said new.told ≡ said old.told ++ reply_text exchange.reply
+  pub turning : IsTrue old.ground_tells → IsInOrder old.told → Turning old.told new.told (reply_text exchange.reply) r after
+  pub order : IsTrue old.ground_tells → IsInOrder old.told → IsInOrder new.told
 
 -- `rest` is what stands behind the last line feed
 pub record Stopped (status : Status) (old new : Outside) (lines lines' : Lines) (counts counts' : TurnCounts) (state : State) : Type 0 where
@@ -63,6 +66,8 @@ pub record Stopped (status : Status) (old new : Outside) (lines lines' : Lines) 
   pub ends : EndsReading status (length rest) lines'.taken (IsTrue old.source_tells → new.left ≡ [])
   pub cause : IsCaused status old.read_faults new.read_faults
   pub same_said : IsTrue old.ground_tells → said new.told ≡ said old.told
+  pub same_moment : IsTrue old.ground_tells → new.told.moment ≡ old.told.moment
+  pub order : IsTrue old.ground_tells → IsInOrder old.told → IsInOrder new.told
   pub same_turns : new.turns ≡ old.turns
   pub same_counts : counts' ≡ counts
   pub until : IsLater counts' (turn_counts new.counts)
@@ -81,6 +86,8 @@ pub record Unsaid (status : Status) (old new : Outside) (lines lines' : Lines) (
   -- a command that was cut short says nothing
   pub silent : (told : IsTrue old.ground_tells) → is_cut_short status ≡ true → (part told).0 ≡ []
   pub stands : IsTrue old.ground_tells → is_cut_short status ≡ false → StandsFor new.told.held exchange.after.repository
+  pub turning : IsTrue old.ground_tells → IsInOrder old.told → Turning old.told new.told (reply_text exchange.reply) state.repository exchange.after.repository
+  pub again : IsTrue old.ground_tells → IsInOrder old.told → MayServe new.told
 
 abbrev pub Stops : Status → Outside → Outside → Lines → Lines → TurnCounts → TurnCounts → State → Type 0
 Stops Status.SayFault old new lines lines' counts counts' state = Unsaid Status.SayFault old new lines lines' counts counts' state × Rose old.counts.say_faults new.counts.say_faults
@@ -105,6 +112,10 @@ pub record Served (old now : Outside) (lines : Lines) (counts : TurnCounts) (ses
   pub is_in : IsIn session repository
   pub holds : IsTrue old.ground_tells → Holds session.store now.told repository
   pub said : IsTrue old.ground_tells → said now.told ≡ said old.told ++ texts_in exchanges
+  pub opened_at : IsTrue old.ground_tells → ℕ
+  pub over : (told : IsTrue old.ground_tells) → opened_at told ≤ now.told.moment
+  pub headline : (told : IsTrue old.ground_tells) → IsInOrder old.told → Headline (opened_at told) old.told now.told (opened first) (map answer_of exchanges)
+  pub order : IsTrue old.ground_tells → IsInOrder old.told → IsInOrder now.told
   pub noted : IsTrue now.log_tells → now.turns ≡ old.turns ++ turns_in exchanges
   pub start : TurnCounts
   pub since : IsLater (turn_counts old.counts) start

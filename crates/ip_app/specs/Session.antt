@@ -17,6 +17,7 @@ use Rattle.ip_spec.specs.Path.{Bytes, IsPath}
 use Rattle.ip_spec.specs.Machine.{State, Conditions}
 use Rattle.ip_spec.specs.Record.{IsBranchName, IsInfo}
 use Rattle.ip_spec.specs.Text.{reply_text}
+use Rattle.ip_image.specs.Headline.{IsInOrder, Keeps}
 use Rattle.ip_store.specs.Publishing.{TheTwo}
 use Rattle.ip_store.specs.Store.{IsOf, Holds, session, IsLawful}
 use Rattle.ip_app.specs.declared.session.Session.{Session}
@@ -64,6 +65,9 @@ pub record Goes (tells : Bool) (old new : Told) (s s' : Session) (r : Repository
   pub is_in : IsIn s' after
   pub holds : IsTrue tells → Holds s.store old r → Holds s'.store new after
   pub only : IsTrue tells → Holds s.store old r → ChangesOnly (ChangedBy reply) old new
+  -- at every moment whatever a crash leaves stands for the repository before or after it
+  pub keeps : IsTrue tells → Holds s.store old r → IsInOrder old → Keeps old new r after
+  pub order : IsTrue tells → Holds s.store old r → IsInOrder old → IsInOrder new
   pub spared : IsLong reply → IsSpared (state_in s r) (state_in s' after) Gives reply
 
 -- the reply and the next state are those that the machine gives where none of its writes fails
@@ -72,3 +76,4 @@ pub record Cut (tells : Bool) (old new : Told) (s s' : Session) (r : Repository)
   pub after : State
   pub gives : Gives (conditions_of s'.met) reply after
   pub only : IsTrue tells → Holds s.store old r → ChangesOnly TheTwo old new
+  pub keeps : IsTrue tells → Holds s.store old r → IsInOrder old → Keeps old new r after.repository

@@ -3,6 +3,7 @@ ghost use Rattle.std.specs.Prelude.{◌≡◌, [], IsTrue, OnOk, IfOk, IfErr};
 ghost use Rattle.ip_ground.specs.Counts.{NoneFalls};
 ghost use Rattle.ip_ground.specs.Told.{ChangesOnly, NoFile};
 ghost use Rattle.ip_spec.specs.Repository.{Repository};
+ghost use Rattle.ip_store.specs.Opening.{SecuresOpening};
 ghost use Rattle.ip_store.specs.Store.{Holds, IsSound};
 ghost use Rattle.ip_app.specs.Outside.{outside};
 ghost use Rattle.ip_app.specs.Turns.{turn_counts, IsLater};
@@ -109,6 +110,7 @@ fn opening_status(fault: OpenFault) -> Status
 // Binds the folder and opens the store in it.
 fn open_in<G: Ground>(alloc: Global, folder: &str, ground: &mut G) -> Result<Store, Status>
     ensures only { IsTrue G.tells → ChangesOnly NoFile (G.told ground.old) (G.told ground.new) }
+    ensures opening { IsTrue G.tells → SecuresOpening (G.told ground.old) (G.told ground.new) }
     ensures opened { IfOk result (OpensAs G.tells (G.told ground.old) (G.told ground.new)) }
     ensures refused { IfErr result (λ status. CouldNotOpen status G.tells (G.told ground.old) (G.counts_of ground.old) (G.counts_of ground.new)) }
     ensures counts { NoneFalls (G.counts_of ground.old) (G.counts_of ground.new) }

@@ -339,6 +339,151 @@ fn stores_are_made_once(rt: HostRuntime) -> Result<(), Fail> {
     Ok(())
 }
 
+// How serving a script ends over this control file, when the ground is stopped at its call of this number, and what was said. The control file takes calls 0 and 1.
+fn stopped(
+    alloc: Global,
+    control: &[u8; 256],
+    script: &[u8],
+    stop: u64,
+) -> Result<(Status, Vec<u8>, Bench), AllocError> {
+    let mut bench = Bench::new(alloc, Vec::new(alloc), Some(stop), Vec::new(alloc));
+    let _ = bench.write(FileName::Control, 0, control);
+    let _ = bench.sync(FileName::Control);
+    let mut script = source(alloc, script, &[])?;
+    let status = serve(alloc, &mut script, &mut bench, &mut Silent)?;
+    let said = bench.said(alloc)?;
+    Ok((status, said, bench))
+}
+
+const ONE_COMMIT: &[u8] = b"empty\ncommit main 0 a m\n";
+
+const NO_COMMIT_STANDS: &[u8] = b"stat 0 0 0 idle\n";
+
+const ONE_COMMIT_STANDS: &[u8] = b"stat 0 1 1 idle\n";
+
+// The call of this number is the first of the commit: all before it are of opening and of the first reply.
+fn first_of_commit(alloc: Global, control: &[u8; 256]) -> Result<u64, AllocError> {
+    for stop in 2..20 {
+        let (_, said, _) = stopped(alloc, control, ONE_COMMIT, stop)?;
+        if said.as_slice() == b"ok\n".as_slice() {
+            return Ok(stop);
+        }
+    }
+    Ok(0)
+}
+
+// A commit makes seven calls and its reply one more: it writes and syncs the records, reads the control file, writes and syncs the slot, and writes
+// and syncs its gate. It is stopped at each of them; the files are as they were then, or as they were synced last.
+#[test]
+fn a_commit_is_stopped_at_each_of_its_calls(rt: HostRuntime) -> Result<(), Fail> {
+    let alloc = rt.alloc();
+    let mut closed = fresh_control();
+    for place in 129..256 {
+        closed[place] = 0xff;
+    }
+    let rows: [(&[u8], &[u8]); 8] = [
+        (NO_COMMIT_STANDS, NO_COMMIT_STANDS),
+        (NO_COMMIT_STANDS, NO_COMMIT_STANDS),
+        (NO_COMMIT_STANDS, NO_COMMIT_STANDS),
+        (NO_COMMIT_STANDS, NO_COMMIT_STANDS),
+        (NO_COMMIT_STANDS, NO_COMMIT_STANDS),
+        (NO_COMMIT_STANDS, NO_COMMIT_STANDS),
+        (ONE_COMMIT_STANDS, NO_COMMIT_STANDS),
+        (ONE_COMMIT_STANDS, ONE_COMMIT_STANDS),
+    ];
+    for control in [fresh_control(), closed] {
+        let mut stop = first_of_commit(alloc, &control)?;
+        for (with_all, with_synced) in rows {
+            for (keep, stands) in [(true, with_all), (false, with_synced)] {
+                let (_, said, bench) = stopped(alloc, &control, ONE_COMMIT, stop)?;
+                assert_eq!(rt; said.as_slice(), b"ok\n".as_slice());
+                let (status, stat) = stat_after(alloc, bench, keep)?;
+                assert_eq!(rt; status, Status::Done);
+                assert_eq!(rt; stat.as_slice(), stands, "{stop}");
+            }
+            stop = stop.saturating_add(1);
+        }
+        let (status, said, _) = stopped(alloc, &control, ONE_COMMIT, stop)?;
+        assert_eq!(rt; status, Status::Done);
+        assert_eq!(rt; said.as_slice(), COMMITTED);
+    }
+    Ok(())
+}
+
+// So many commits, ten at most to `main` and those behind them to `dev`, each of another tree.
+fn commits(alloc: Global, count: u8) -> Result<Vec<u8>, AllocError> {
+    let mut script = Vec::new(alloc);
+    for commit in 0..count {
+        let mut buffer = itoa::Buffer::new();
+        script.extend_from_slice(b"set a 0")?;
+        script.push(b'0' + commit % 10)?;
+        script.extend_from_slice(if commit < 10 {
+            b"\ncommit main "
+        } else {
+            b"\ncommit dev "
+        })?;
+        script.extend_from_slice(buffer.format(commit).as_bytes())?;
+        script.extend_from_slice(b" a m\n")?;
+    }
+    Ok(script)
+}
+
+// What stands: the numbers, and the heads of both branches, which refuse a commit without parents by their names.
+const QUERY: &[u8] = b"stat\nempty\ncommit main 99 a m\nempty\ncommit dev 99 b m\n";
+
+// What stands of a ground that was stopped.
+fn stands_after(alloc: Global, bench: Bench, keep: bool) -> Result<Vec<u8>, AllocError> {
+    let mut bench = bench.after_stop(keep)?;
+    let mut query = source(alloc, QUERY, &[])?;
+    let _ = serve(alloc, &mut query, &mut bench, &mut Silent)?;
+    bench.said(alloc)
+}
+
+fn count_lines(bytes: &[u8]) -> usize {
+    bytes.iter().filter(|byte| **byte == b'\n').count()
+}
+
+// What stands after each number of commits, none of which was stopped.
+fn all_stands(alloc: Global, most: u8) -> Result<Vec<Vec<u8>>, AllocError> {
+    let mut all = Vec::new(alloc);
+    for count in 0..=most {
+        let script = commits(alloc, count)?;
+        let (_, _, bench) = stopped(alloc, &fresh_control(), &script, u64::MAX)?;
+        all.push(stands_after(alloc, bench, true)?)?;
+    }
+    Ok(all)
+}
+
+// Of the commands of a script that was stopped, all are kept that were answered, and of one that was not, all or nothing.
+#[test]
+fn twenty_commits_are_stopped_at_each_call(rt: HostRuntime) -> Result<(), Fail> {
+    let alloc = rt.alloc();
+    let script = commits(alloc, 20)?;
+    let all = all_stands(alloc, 20)?;
+    let (_, replies, _) = stopped(alloc, &fresh_control(), &script, u64::MAX)?;
+    assert_eq!(rt; count_lines(&replies), 40);
+    let mut last = 0;
+    for stop in 2..1000 {
+        let (status, said, _) = stopped(alloc, &fresh_control(), &script, stop)?;
+        if status == Status::Done {
+            break;
+        }
+        last = stop;
+        assert!(rt; replies.starts_with(&said));
+        let answered = count_lines(&said);
+        for keep in [false, true] {
+            let (_, _, bench) = stopped(alloc, &fresh_control(), &script, stop)?;
+            let stands = stands_after(alloc, bench, keep)?;
+            let before = all.get(answered / 2) == Some(&stands);
+            let after = answered % 2 == 1 && all.get(answered / 2 + 1) == Some(&stands);
+            assert!(rt; before || after, "{stop}");
+        }
+    }
+    // Opening makes calls 2 to 5, then come twenty lines with a reply alone, the first commit with seven calls and its reply, and nineteen with nine.
+    assert_eq!(rt; last, 5 + 20 + 8 + 19 * 10);
+    Ok(())
+}
+
 #[test]
 fn other_bytes_behind_an_open_gate_are_damage(rt: HostRuntime) -> Result<(), Fail> {
     let alloc = rt.alloc();

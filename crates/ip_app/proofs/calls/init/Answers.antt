@@ -33,6 +33,7 @@ init_row made s tells old mid new a b d e only makes falls cause = subst (λ (t 
       fresh = (m told).made;
       kept = (m told).kept;
       stands = (m told).stands;
+      order = (m told).order;
     }
     by_answer (Err InitFault.Existing) m h = λ told. record {
       gate_open = subst (λ bytes. IsSome (live_index bytes)) (same_control old mid (only told)) ((m told).existing refl);

@@ -1,4 +1,6 @@
-use Rattle.std.proofs.Common.{refl, ◌≡◌, sym, subst, true, false, IsTrue, Bool, Err, IsErrOf}
+use Rattle.std.proofs.Common.{refl, ◌≡◌, sym, ap, ◌∙◌, subst, true, false, IsTrue, Bool, Ok, Err, IsErrOf}
+use Rattle.std.specs.Prelude.{is_some}
+use Rattle.ip_ground.specs.declared.names.FileName.TheVariants.{Control}
 use Rattle.ip_ground.specs.declared.names.GroundCounts.{GroundCounts}
 use Rattle.ip_ground.specs.Counts.{Rose, NoneFalls}
 use Rattle.ip_ground.specs.Told.{Told, ChangesOnly, NoFile}
@@ -6,11 +8,12 @@ use Rattle.ip_ground.proofs.Spans.{only_on}
 use Rattle.ip_ground.proofs.Rising.{rose_after}
 use Rattle.ip_spec.specs.Repository.{Repository}
 use Rattle.ip_store.specs.Opening.{Opens}
-use Rattle.ip_store.specs.Store.{IsOf, IsSound}
+use Rattle.ip_store.specs.Store.{IsOf}
 use Rattle.ip_store.specs.declared.store.Store.{Store}
 use Rattle.ip_store.specs.declared.opening.OpenFault.{OpenFault}
 use Rattle.ip_app.specs.declared.statuses.Status.{Status}
 use Rattle.ip_app.specs.Run.{opening_status, CouldNotOpen, OpensAs}
+use Rattle.ip_app.proofs.Moments.{opening_none, opening_after}
 use Rattle.ip_app.proofs.SameFiles.{stands_before, none_before, damaged_before}
 use Rattle.ip_app.proofs.serve.open_in.Goals as goal
 
@@ -21,14 +24,32 @@ pub returns-in-Err-clause-only : goal.returns-in-Err-clause-only
 returns-in-Err-clause-only g c told = only_on _ _ _ NoFile (c.attach.ensures.does told).only (c.open_at.ensures.does told).only
 
 -- a repository that the store's tables are of; where the ground tells, one that it holds
-opens_as : (tells : Bool) (old new : Told) (store : Store) → ((r : Repository) × IsOf store r) → (IsTrue tells → ChangesOnly NoFile old new) → (IsTrue tells → IsSound store new) → OpensAs tells old new store
-opens_as true old new store tables only sound =
-    let held = sound refl in
-    record { repository = held.0; tables = held.1.tables; holds = λ told. held.1; stands = λ told. stands_before old new (only refl) held.0 held.1.stands }
-opens_as false old new store tables only sound = record { repository = tables.0; tables = tables.1; holds = λ told. absurd (cc told); stands = λ told. absurd (cc told) }
+opens_as : (tells : Bool) (old mid new : Told) (store : Store) → ((r : Repository) × IsOf store r) → (IsTrue tells → ChangesOnly NoFile old mid) → (IsTrue tells → Opens (Ok store) mid new) → OpensAs tells old new store
+opens_as true old mid new store tables passes does =
+    let opens = does refl in
+    let held = opens.holds in
+    let stands = stands_before old new (only_on old mid new NoFile (passes refl) opens.only) held.0 held.1.stands in
+    record {
+      repository = held.0;
+      tables = held.1.tables;
+      holds = λ told. held.1;
+      stands = λ told. stands;
+      opening = λ told. opening_after old mid new (passes refl) opens.opening;
+      over = λ told. opens.reached tt (ap is_some (((passes refl).others Control (λ none. none)).held (λ x. x) ∙ stands.standing.held));
+    }
+opens_as false old mid new store tables passes does = record { repository = tables.0; tables = tables.1; holds = λ told. absurd (cc told); stands = λ told. absurd (cc told); opening = λ told. absurd (cc told); over = λ told. absurd (cc told) }
 
 pub returns-in-Ok-clause-opened : goal.returns-in-Ok-clause-opened
-returns-in-Ok-clause-opened g c = opens_as g.G.Ground.tells _ _ c.in-Ok.store c.in-Ok.ensures.tables (returns-in-Ok-clause-only g c) (λ told. (c.in-Ok.ensures.does told).holds)
+returns-in-Ok-clause-opened g c = opens_as g.G.Ground.tells _ _ _ c.in-Ok.store c.in-Ok.ensures.tables (λ told. (c.attach.ensures.does told).only) c.in-Ok.ensures.does
+
+pub returns-then-is_err-clause-opening : goal.returns-then-is_err-clause-opening
+returns-then-is_err-clause-opening g c told = opening_none _ _ (c.attach.ensures.does told).only
+
+pub returns-in-Ok-clause-opening : goal.returns-in-Ok-clause-opening
+returns-in-Ok-clause-opening g c told = opening_after _ _ _ (c.attach.ensures.does told).only (c.open_at.ensures.does told).opening
+
+pub returns-in-Err-clause-opening : goal.returns-in-Err-clause-opening
+returns-in-Err-clause-opening g c told = opening_after _ _ _ (c.attach.ensures.does told).only (c.open_at.ensures.does told).opening
 
 could_not_open : (f : OpenFault) (s : Status) (tells : Bool) (old mid new : Told) (a b d : GroundCounts) → s ≡ opening_status f
     → (IsTrue tells → ChangesOnly NoFile old new) → (IsTrue tells → Opens (Err f) mid new) → NoneFalls a b → (IsErrOf {T = Store} (Err f) OpenFault.Ground → Rose b.file_faults d.file_faults)

@@ -9,11 +9,11 @@ use Rattle.ip_app.proofs.serve.serve.Goals as goal
 
 pub returns-in-Err-clause-serves : goal.returns-in-Err-clause-serves
 returns-in-Err-clause-serves g c = begins_unopened _ _ _ (record { source_tells = refl; ground_tells = refl; log_tells = λ t. t; read_faults = le_refl (g.S.Source.read_faults c.args.source.now); counts = c.open_in.ensures.counts })
-    c.open_in.ensures.only refl refl c.in-Err.ensures.refused
+    c.open_in.ensures.only c.open_in.ensures.opening refl refl c.in-Err.ensures.refused
 
 pub returns-in_default-clause-serves : goal.returns-in_default-clause-serves
 returns-in_default-clause-serves g c = begins_unopened _ _ status.Memory (record { source_tells = refl; ground_tells = refl; log_tells = λ t. t; read_faults = le_refl (g.S.Source.read_faults c.args.source.now); counts = c.open_in.ensures.counts })
-    c.open_in.ensures.only refl refl tt
+    c.open_in.ensures.only c.open_in.ensures.opening refl refl tt
 
 pub lines-init : goal.lines-init
 lines-init g c =
@@ -21,7 +21,7 @@ lines-init g c =
     record {
       roomy = c.in-Ok-new.ensures.roomy;
       served = served_first _ _ c.in-Ok-new.room.lines c.turn_counts-counts.result c.new-session.result opened.repository (c.new-session.ensures.is_in opened.repository opened.tables) (c.new-session.ensures.state opened.repository)
-          (λ told. holds_as _ _ _ opened.repository c.new-session.ensures.store (opened.holds told)) opened.stands (c.turn_counts-counts.ensures ∙ ap turn_counts c.counts.ensures)
+          (λ told. holds_as _ _ _ opened.repository c.new-session.ensures.store (opened.holds told)) opened.stands opened.opening opened.over (c.turn_counts-counts.ensures ∙ ap turn_counts c.counts.ensures)
           (record { source_tells = refl; ground_tells = refl; log_tells = λ t. t; read_faults = le_refl (g.S.Source.read_faults c.args.source.now); counts = c.open_in.ensures.counts })
           c.open_in.ensures.only refl refl c.in-Ok-new.ensures.pending c.in-Ok-new.ensures.taken;
     }

@@ -1,0 +1,116 @@
+-- The moments of a command, and of opening.
+--     cut_again      one that was cut short.      keeps_still      one that changes no file.      turned_moments      one whose reply is said, or not whole
+--     order_says      the ground stays in order.      opening_after      opening behind a call that changes no file.      opening_none      and where it came to nothing
+--     headline_none      no command was begun.      headline_turn      one command more
+use Rattle.std.proofs.Common.{◌≡◌, inl, inr, ℕ, suc, ◌+◌, ◌<◌, ◌≤◌, List, [], ◌∷◌, ◌++◌, length, map, refl, sym, ap, ◌∙◌, subst, arith, take, Result, Ok, Err}
+use Rattle.std.proofs.lemmas.Bool.{cases_lt}
+use Rattle.std.proofs.lemmas.List.{map-append}
+use Rattle.ip_ground.specs.declared.names.FileName.{FileName}
+use Rattle.ip_ground.specs.declared.names.FileName.TheVariants.{Control, Chunk}
+use Rattle.ip_ground.specs.declared.names.GroundFault.{GroundFault}
+use Rattle.ip_ground.specs.Contents.{Content}
+use Rattle.ip_ground.specs.Told.{Told, said, NoFile, KeepsPast, IsPossibleNow, ChangesOnly}
+use Rattle.ip_ground.specs.Calls.{Says}
+use Rattle.ip_ground.proofs.Spans.{said_now, only_on}
+use Rattle.ip_image.specs.Standing.{StandsFor}
+use Rattle.ip_image.specs.Headline.{IsInOrder, MayServe, SecuresEither, Keeps, Turning, Headline}
+use Rattle.ip_image.proofs.HeadlineLaws.{order_passes, in_order, turns_quietly, turns_saying, turning_on, headline_begins, headline_more}
+use Rattle.ip_spec.specs.declared.reply.Reply.{Reply}
+use Rattle.ip_spec.specs.Path.{Bytes}
+use Rattle.ip_spec.specs.Repository.{Repository}
+use Rattle.ip_spec.specs.Machine.{State, opened}
+use Rattle.ip_spec.specs.Script.{Answered, state_after}
+use Rattle.ip_spec.specs.Text.{reply_text}
+use Rattle.ip_store.specs.declared.store.Store.{Store}
+use Rattle.ip_store.specs.Opening.{SecuresOpening}
+use Rattle.ip_store.specs.Store.{Holds}
+use Rattle.ip_store.proofs.Secured.{secures_now, secures_since}
+use Rattle.ip_app.specs.Exchanges.{Exchange, answer_of, texts_in, after_all}
+use Rattle.ip_app.specs.Session.{ChangedBy}
+use Rattle.ip_app.proofs.SameFiles.{stands_after}
+
+pub keeps_still : (store : Store) (r after : Repository) (a b : Told) → Holds store a r → IsInOrder a → ChangesOnly NoFile a b → Keeps a b r after
+keeps_still store r after a b holds order only t late le =
+    let now = secures_since store r a holds order b (only.others Control (λ none. none)) (only.others (Chunk 0) (λ none. none)) t late le in
+    record { stands = λ image possible. inl (now.stands image possible); orderly = now.orderly }
+
+-- the reply is said, or a part of it
+module _ (mid new : Told) (text : Bytes) (result : Result (Unit {0}) GroundFault) (says : Says text result mid new) where
+  pub order_says : IsInOrder mid → IsInOrder new
+  order_says order = order_passes mid new says.goes (says.files Control) (says.files (Chunk 0)) order
+
+  saying : (reply : Bytes) → text ≡ reply → (store : Store) (before after : Repository) → Holds store mid after → IsInOrder mid → Turning mid new reply before after
+  saying reply e store before after holds order =
+      turns_saying mid new reply before after
+      (λ t late le. subst (λ (bytes : Bytes). (n : ℕ) × (n ≤ length bytes) × (new.said_at t ≡ said mid ++ take n bytes)) e (says.front t late le))
+      (secures_since store after mid holds order new (says.files Control) (says.files (Chunk 0)))
+
+  pub turned_moments : (old : Told) (given : Reply) → ChangesOnly (ChangedBy given) old mid → (reply : Bytes) → text ≡ reply → (before after : Repository) → Keeps old mid before after
+      → (store : Store) → Holds store mid after → IsInOrder mid → Turning old new reply before after
+  turned_moments old given only reply e before after keeps store holds order =
+      turning_on old mid new reply before after says.goes (said_now old mid only.goes only.said)
+      (turns_quietly old mid reply before after only.said keeps)
+      (saying reply e store before after holds order)
+
+-- A command that was cut short leaves a ground that may be served again.
+pub cut_again : (store : Store) (r after : Repository) (a b : Told) → Holds store a r → IsInOrder a → KeepsPast a b → Keeps a b r after → IsPossibleNow b → MayServe b
+cut_again store r after a b holds order goes keeps possible = elim (cases_lt a.moment b.moment) [
+  | inl later ↦ now (keeps b.moment later (omega arith))
+  | inr still ↦
+      let same : b.moment ≡ a.moment = omega (arith, goes.later) in
+      let was = secures_now store r a holds order in
+      let left : (file : FileName) (content : Content) → b.may_leave b.moment file content → a.may_leave a.moment file content = λ file content here. subst (λ n. a.may_leave n file content) same (goes.left b.moment file content still here) in
+      record {
+        repository = r;
+        stands = was.stands b.held (λ file. left file (b.held file) (possible file));
+        order = λ s has content here. was.orderly b.held (λ file. left file (b.held file) (possible file)) s has content (left (Chunk 0) content here);
+      }
+]
+  where
+    now : SecuresEither (b.may_leave b.moment) r after → MayServe b
+    now is = elim (is.stands b.held possible) [
+      | inl before ↦ record { repository = r; stands = before; order = in_order b possible is.orderly }
+      | inr done ↦ record { repository = after; stands = done; order = in_order b possible is.orderly }
+    ]
+
+-- ---- opening
+
+-- nothing was synced
+pub opening_none : (a b : Told) → ChangesOnly NoFile a b → SecuresOpening a b
+opening_none a b only = record {
+  since = b.moment + 1;
+  begins = (let later = only.goes.later in omega (arith, later));
+  secures = λ r stands order t late le. absurd (omega (arith, late, le));
+  order = order_passes a b only.goes (only.others Control (λ none. none)) (only.others (Chunk 0) (λ none. none));
+}
+
+abbrev pub opening_after : (a b c : Told) → ChangesOnly NoFile a b → SecuresOpening b c → SecuresOpening a c
+opening_after a b c only opening = record {
+  since = opening.since;
+  begins = (let later = only.goes.later in let begins = opening.begins in omega (arith, later, begins));
+  secures = λ r stands order. opening.secures r (stands_after a b only r stands) (order_on order);
+  order = λ order. opening.order (order_on order);
+}
+  where
+    order_on : IsInOrder a → IsInOrder b
+    order_on order = order_passes a b only.goes (only.others Control (λ none. none)) (only.others (Chunk 0) (λ none. none)) order
+
+-- ---- a run
+
+pub headline_none : (old new : Told) → ChangesOnly NoFile old new → (opening : SecuresOpening old new) → (r : Repository) → StandsFor old.held r → IsInOrder old → Headline opening.since old new (opened r) []
+headline_none old new only opening r stands order = headline_begins old new (opened r) opening.since opening.begins only.said
+    (λ t late early le. record { left = λ file firm content left. (only.others file (λ none. none)).left firm t content late le left; said = only.said t late le })
+    (opening.secures r stands order)
+
+after_steps : (first : State) (xs : List Exchange) → state_after first (map answer_of xs) (length (map answer_of xs)) ≡ after_all first xs
+after_steps first [] = refl
+after_steps first (x ∷ xs) = after_steps x.after xs
+
+-- from the repository in which the commands before left the machine
+pub headline_turn : (since : ℕ) (old mid new : Told) (first : State) (xs : List Exchange) (x : Exchange) → Headline since old mid first (map answer_of xs) → KeepsPast mid new → since ≤ mid.moment → said mid ≡ said old ++ texts_in xs
+    → (before after : Repository) → before ≡ (after_all first xs).repository → after ≡ x.after.repository → Turning mid new (reply_text x.reply) before after → Headline since old new first (map answer_of (xs ++ x ∷ []))
+headline_turn since old mid new first xs x run goes over all before after before_is after_is turning =
+    subst (λ (steps : List Answered). Headline since old new first steps) (sym (map-append answer_of xs (x ∷ [])))
+    (headline_more since old mid new first (map answer_of xs) run goes (answer_of x) over all
+    (subst (λ (r : Repository). Turning mid new (reply_text x.reply) r x.after.repository) (before_is ∙ ap (λ (s : State). s.repository) (sym (after_steps first xs)))
+    (subst (λ (r : Repository). Turning mid new (reply_text x.reply) before r) after_is turning)))
