@@ -1,0 +1,8 @@
+pub mod HeldBytes
+pub mod StoodBytes
+pub mod ReadFronts
+pub mod Stayed
+pub mod Filled
+pub mod Answered
+pub mod Passing
+mod Laws

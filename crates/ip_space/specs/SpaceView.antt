@@ -1,0 +1,69 @@
+-- What a space knows, the records that stand in files under it, and calls that only read them.
+--     byte_in image space, byte_at told space      the byte at an offset, if it is there.
+--     read_at told space      what the bytes from an offset on are read as
+--     records_in image space, records_of told space      the record at each offset
+--     grown space end      the space up to a later end.      SameBelow space old new      below the end two images have the same bytes
+--     IsLayout layout      what a layout is so far
+--     IsReadable told space      what is read stays so: nobody else changes the files
+--     OnlyReads old new space now      a call changed no file at any moment, and the records stay
+use Rattle.std.specs.Prelude.{◌≡◌, ◌≢◌, ℕ, ◌-◌, ◌^◌, ◌<◌, ◌≤◌, List, [], Option, Result}
+use Rattle.ip_ground.specs.declared.names.FileName.TheVariants.{Prefix}
+use Rattle.ip_ground.specs.Contents.{Image}
+use Rattle.ip_ground.specs.Told.{Told, IsForeign, NoFile, ChangesOnly}
+use Rattle.ip_spec.specs.declared.record.Record.{Record}
+use Rattle.ip_spec.specs.declared.record.RecordFault.{RecordFault}
+use Rattle.ip_spec.specs.Reading.{reading}
+use Rattle.ip_image.specs.declared.layout.Layout.{Layout}
+use Rattle.ip_image.specs.Slot.{newest_version, IsChunkSize}
+use Rattle.ip_image.specs.declared.run.Run.{Run}
+use Rattle.ip_image.specs.Virtual.{virtual_byte}
+use Rattle.ip_image.specs.Stored.{bytes_from, stored}
+
+-- the layout, and the runs of the mapping that was read
+pub record SpaceView : Type 0 where
+  pub layout : Layout
+  pub runs : List Run
+
+abbrev pub records_in : Image → SpaceView → ℕ → Option Record
+records_in image space = stored image space.layout space.runs
+
+abbrev pub records_of : Told → SpaceView → ℕ → Option Record
+records_of told space = records_in told.held space
+
+abbrev pub byte_in : Image → SpaceView → ℕ → Option ℕ
+byte_in image space = virtual_byte image space.layout space.runs
+
+abbrev pub byte_at : Told → SpaceView → ℕ → Option ℕ
+byte_at told space = byte_in told.held space
+
+-- the space up to a later end
+abbrev pub grown : SpaceView → ℕ → SpaceView
+grown space end = record space { layout = record space.layout { end = end } }
+
+-- below the end the bytes are the same
+abbrev pub SameBelow : SpaceView → Image → Image → Type 0
+SameBelow space old new = (at : ℕ) → at < space.layout.end → byte_in new space at ≡ byte_in old space at
+
+-- the record that the bytes from an offset up to the end begin with, and its length, or why they begin with none
+abbrev pub read_at : Told → SpaceView → ℕ → Result (Record × ℕ) RecordFault
+read_at told space at = reading newest_version (bytes_from (byte_at told space) at (space.layout.end - at))
+
+-- No generation of a collection is read so far: none is live, and the horizon is then 0, as in the live slot.
+pub record IsLayout (layout : Layout) : Type 0 where
+  pub chunk : IsChunkSize layout.chunk
+  pub order : layout.horizon ≤ layout.end
+  pub ends : layout.end ≤ 2 ^ 62
+  pub none_live : layout.live ≡ 0
+  pub nothing_below : layout.horizon ≡ 0
+
+-- the live prefix is no child's, and where none is live there are no runs
+pub record IsReadable (told : Told) (space : SpaceView) : Type 0 where
+  pub own : space.layout.live ≢ 0 → ¬ IsForeign told (Prefix space.layout.live)
+  pub none : space.layout.live ≡ 0 → space.runs ≡ []
+
+pub record OnlyReads (old new : Told) (space now : SpaceView) : Type 0 where
+  pub only : ChangesOnly NoFile old new
+  pub layout : now.layout ≡ space.layout
+  pub runs : now.runs ≡ space.runs
+  pub readable : IsReadable old space → IsReadable new now
+  pub records : IsReadable old space → (at : ℕ) → records_of new now at ≡ records_of old space at

@@ -1,0 +1,55 @@
+//! Records by reference, in a store's chunk files and its live prefix. Above this crate nobody speaks of a byte, a file, a chunk or a
+//! generation, but of the record at an offset.
+#![tactic(auto)]
+
+ghost use Rattle.std.specs.Prelude.{◌≡◌, ℕ, ◌≤◌, [], map, Option, Some, Result};
+ghost use Rattle.ip_ground.specs.Contents.{Image};
+ghost use Rattle.ip_spec.specs.declared.record.Record.{Record};
+ghost use Rattle.ip_spec.specs.declared.record.Ref.{Ref};
+ghost use Rattle.ip_spec.specs.TreeAt.{present};
+ghost use Rattle.ip_image.specs.Slot.{layout_of};
+ghost use Rattle.ip_image.specs.Virtual.{run_of};
+ghost use Rattle.ip_image.specs.Standing.{Standing};
+ghost use Rattle.ip_space.specs.SpaceView.{SpaceView, records_in, grown, SameBelow};
+ghost use Rattle.ip_space.specs.Fetching.{Fetches, Meets, IsFetched};
+ghost use Rattle.ip_space.specs.ScanView.{ScanView};
+ghost use Rattle.ip_space.specs.Scanning.{Finds, Moves, RunsTo, IsWalked};
+ghost use Rattle.ip_space.specs.declared.fault.FetchFault.{FetchFault};
+
+mod ahead;
+mod fault;
+mod scan;
+mod source;
+mod space;
+#[cfg(test)]
+mod tests;
+
+pub use fault::{FetchFault, SpaceFault};
+pub use ip_image::layout::Layout;
+pub use scan::Scan;
+pub use space::Space;
+
+/// In an image that stands, the space of the live slot's layout and of the live mapping's runs has each of its records at its offset,
+/// and from the horizon on they lie end to end. Where no generation is live there are no runs.
+pub fn standing_records()
+    ensures records { (image : Image) (standing : Standing image) (space : SpaceView) → space.layout ≡ layout_of standing.slot → space.runs ≡ map run_of standing.rows →
+        (at : ℕ) (r : Record) → present standing.records at ≡ Some r → records_in image space at ≡ Some r }
+    ensures runs { (image : Image) (standing : Standing image) (space : SpaceView) → space.layout ≡ layout_of standing.slot → space.runs ≡ map run_of standing.rows →
+        RunsTo (records_in image space) standing.slot.horizon standing.slot.end }
+    ensures none_live { (image : Image) (standing : Standing image) → standing.slot.live ≡ 0 → map run_of standing.rows ≡ [] }
+{}
+
+/// A record that stands somewhere does so while the bytes below the end stay, also where the end is raised.
+pub fn records_stay()
+    ensures { (old new : Image) (space : SpaceView) (end : ℕ) → space.layout.end ≤ end → SameBelow space old new →
+        (at : ℕ) (r : Record) → records_in old space at ≡ Some r → records_in new (grown space end) at ≡ Some r }
+{}
+
+/// Where the record of a reference stands, fetching it gives that record, faults of the ground and want of memory aside. Where records
+/// lie end to end up to the end of a walk, it goes through all of them.
+pub fn present_records()
+    ensures fetched { (records : ℕ → Option Record) (r : Ref) (found : Record) (result : Result Record FetchFault) →
+        records r.at ≡ Some found → Meets r found → Fetches records r result → IsFetched found result }
+    ensures walked { (records : ℕ → Option Record) (old new : ScanView) (result : Result (Option (ℕ × Record)) FetchFault) →
+        RunsTo records old.next old.to → Moves old new result → Finds records old.next result → IsWalked records old new result }
+{}

@@ -1,0 +1,219 @@
+// Records by reference over a ground in memory.
+use crate::{FetchFault, Layout, Space};
+use ip_base::Hash;
+use ip_ground::{Bench, FileName, Ground};
+use ip_object::hash_contents;
+use ip_spec::record::{Record, RecordFault, Ref};
+use std::alloc::Global;
+use std::test::Fail;
+
+// Five records end to end, spelled by hand: contents, a leaf, an inode, a commit, and a branch that is removed. They begin at 0, 8, 61, 161
+// and 228, and end at 238.
+const RECORDS: &[u8] =
+    b"\x01\x03\0\0\0abc\x02\x30\x00\x00\x00\x01\x00\x00\x00\x01\x61\x01\x00\x4b\xf5\x12\x2f\x34\x45\x54\xc5\x3b\xde\x2e\xbb\x8c\xd2\xb7\xe3\xd1\x60\x0a\xd6\x31\xc3\x85\xa5\xd7\xcc\xe2\x3c\x77\x85\x45\x9a\x00\x00\x00\x00\x00\x00\x00\x00\x03\x5f\x00\x00\x00\x00\x02\x00\x00\x80\x14\x00\x00\x00\x01\x39\x5c\x2f\x55\x98\xa1\x64\x3a\x20\x51\x54\xc6\xf4\xc4\x6c\xe3\x68\x95\xb2\x8e\x6c\x35\x66\x0a\x95\xe5\xc6\xfd\x5e\xf9\xae\xab\x07\x00\x00\x00\x00\x00\x00\x00\x0d\x00\x00\x00\x01\x4b\xf5\x12\x2f\x34\x45\x54\xc5\x3b\xde\x2e\xbb\x8c\xd2\xb7\xe3\xd1\x60\x0a\xd6\x31\xc3\x85\xa5\xd7\xcc\xe2\x3c\x77\x85\x45\x9a\x09\x00\x00\x00\x00\x00\x00\x00\x04\x3e\x00\x00\x00\x00\x00\x00\x00\x00\x00\x00\x00\x39\x5c\x2f\x55\x98\xa1\x64\x3a\x20\x51\x54\xc6\xf4\xc4\x6c\xe3\x68\x95\xb2\x8e\x6c\x35\x66\x0a\x95\xe5\xc6\xfd\x5e\xf9\xae\xab\x00\x00\x00\x00\x00\x00\x00\x00\x00\x00\x00\x00\x00\x00\x00\x00\x00\x01\x61\x01\x00\x6d\x06\x05\0\0\0\x04main";
+
+// Their names, by another program.
+const CONTENTS: Hash = Hash(
+    *b"\xba\x78\x16\xbf\x8f\x01\xcf\xea\x41\x41\x40\xde\x5d\xae\x22\x23\xb0\x03\x61\xa3\x96\x17\x7a\x9c\xb4\x10\xff\x61\xf2\x00\x15\xad",
+);
+
+const LEAF: Hash = Hash(
+    *b"\xb7\xe4\x25\x91\x75\x13\x0c\x72\xed\x16\x07\x1f\x4d\xe9\xa1\xe9\x31\x1b\xad\x6c\x9e\x54\xdd\xa4\x24\xdb\xc0\xad\x31\xaf\x63\x62",
+);
+
+const INODE: Hash = Hash(
+    *b"\xd0\xc2\xd3\xef\x7b\x7c\xca\x31\xca\xbc\x13\x87\x69\x67\x6f\x85\xb0\x5a\x9e\x1b\x54\xb9\x5a\x07\xed\x23\x38\x9f\xd6\x59\x75\xd2",
+);
+
+const COMMIT: Hash = Hash(
+    *b"\x36\x32\x43\x35\x41\x06\xfe\x78\x4e\x75\x0f\x16\x2f\x51\x47\xec\x8f\xd3\xd6\x6a\x3f\x3b\x58\x50\x8b\x26\x46\x39\xb5\x24\xe9\x3c",
+);
+
+// A ground whose chunk has these bytes; the call of the number `fails` fails, of which the write is 0.
+fn bench_of(alloc: Global, bytes: &[u8], fails: u64) -> Result<Bench, Fail> {
+    let mut bench = Bench::new(alloc, vec![in alloc; fails]?, None, Vec::new(alloc));
+    if bench.write(FileName::Chunk(0), 0, bytes).is_err() {
+        return Err("not written")?;
+    }
+    Ok(bench)
+}
+
+fn space_to(alloc: Global, bench: &mut Bench, end: u32) -> Result<Space, Fail> {
+    let layout = Layout {
+        chunk: 4096,
+        horizon: 0,
+        end: end as u64,
+        live: 0,
+        prefix_len: 0,
+        rows: 0,
+    };
+    match Space::of(alloc, bench, layout) {
+        Ok(space) => Ok(space),
+        Err(_) => Err("no space")?,
+    }
+}
+
+// The kind that a record has.
+fn shown(rec: Record) -> u8 {
+    match rec {
+        Record::Contents(_) => 1,
+        Record::Leaf(_) => 2,
+        Record::Inode { .. } => 3,
+        Record::Commit(_) => 4,
+        _ => 5,
+    }
+}
+
+fn form(at: u64, fault: RecordFault) -> Result<u8, FetchFault> {
+    Err(FetchFault::Form { at, fault })
+}
+
+#[test]
+fn records_are_fetched_by_reference(rt: HostRuntime) -> Result<(), Fail> {
+    let misnamed = FetchFault::Name {
+        at: 0,
+        want: LEAF,
+        got: CONTENTS,
+    };
+    let rows = [
+        (0, CONTENTS, 1, Ok(1)),
+        (8, LEAF, 2, Ok(2)),
+        (61, INODE, 2, Ok(3)),
+        (161, COMMIT, 4, Ok(4)),
+        (0, LEAF, 1, Err(misnamed)),
+        (0, CONTENTS, 2, form(0, RecordFault::Kind(1))),
+        (61, LEAF, 4, form(61, RecordFault::Kind(3))),
+        (228, COMMIT, 6, form(228, RecordFault::Kind(6))),
+        (5, CONTENTS, 1, form(5, RecordFault::Kind(97))),
+        (1, CONTENTS, 1, form(1, RecordFault::Short)),
+        (238, CONTENTS, 1, form(238, RecordFault::Short)),
+        (u64::MAX, CONTENTS, 1, form(u64::MAX, RecordFault::Short)),
+    ];
+    let mut bench = bench_of(rt.alloc(), RECORDS, 99)?;
+    let mut space = space_to(rt.alloc(), &mut bench, 238)?;
+    for (at, name, kind, answer) in rows {
+        let found = space.fetch(&mut bench, Ref { at, name, kind });
+        assert_eq!(rt; found.map(shown), answer);
+    }
+    assert_eq!(rt; bench.reads(FileName::Chunk(0)), 10);
+    Ok(())
+}
+
+// Records of contents that are zeros, so many of each, and a part of one more.
+fn zeros(alloc: Global, count: u32, length: u32, part: usize) -> Result<Vec<u8>, Fail> {
+    let mut bytes = Vec::new(alloc);
+    for i in 0..=count {
+        bytes.extend_from_slice(&[1])?;
+        bytes.extend_from_slice(&length.to_le_bytes())?;
+        let held = if i < count { length as usize } else { part };
+        bytes.extend_from_slice(vec![in alloc; 0; held]?.as_slice())?;
+    }
+    Ok(bytes)
+}
+
+// What is read of 5000 bytes of contents where so many are held, below an end and then below 5005, with a call that fails: by each end, and
+// how often the chunk was read.
+#[test]
+fn a_long_record_takes_two_reads(rt: HostRuntime) -> Result<(), Fail> {
+    let alloc = rt.alloc();
+    let name = hash_contents(vec![in alloc; 0; 5000]?.as_slice());
+    let reference = Ref {
+        at: 0,
+        name,
+        kind: 1,
+    };
+    let short = form(0, RecordFault::Short);
+    let ground = Err(FetchFault::Ground);
+    let rows = [
+        (5000, 5005, 9, Ok(1), Ok(1), 4),
+        (5000, 5004, 9, short, Ok(1), 4),
+        (4999, 5005, 9, short, short, 4),
+        (5000, 4, 9, short, Ok(1), 3),
+        (5000, 5005, 1, ground, Ok(1), 3),
+        (5000, 5005, 2, ground, Ok(1), 4),
+    ];
+    for (held, end, fails, first, second, reads) in rows {
+        let bytes = zeros(alloc, 0, 5000, held)?;
+        let mut bench = bench_of(alloc, bytes.as_slice(), fails)?;
+        let mut space = space_to(alloc, &mut bench, end)?;
+        assert_eq!(rt; space.fetch(&mut bench, reference).map(shown), first);
+        if space.layout().end < 5005 {
+            space.grow(5005);
+        }
+        assert_eq!(rt; space.layout().end, 5005);
+        assert_eq!(rt; space.fetch(&mut bench, reference).map(shown), second);
+        assert_eq!(rt; bench.reads(FileName::Chunk(0)), reads);
+    }
+    Ok(())
+}
+
+// Where the records of a walk begin, and where it stood then, with its fault.
+fn walked(
+    alloc: Global,
+    bench: &mut Bench,
+    space: &Space,
+    from: u64,
+    to: u64,
+) -> Result<(Vec<u64>, u64, Option<FetchFault>), Fail> {
+    let mut places = Vec::new(alloc);
+    let mut scan = space.scan(from, to);
+    for _ in 0..9 {
+        match scan.step(bench, space) {
+            Ok(Some((at, _))) => places.push(at)?,
+            Ok(None) => return Ok((places, scan.next(), None)),
+            Err(fault) => return Ok((places, scan.next(), Some(fault))),
+        }
+    }
+    Err("no end")?
+}
+
+#[test]
+fn a_walk_goes_from_record_to_record(rt: HostRuntime) -> Result<(), Fail> {
+    let alloc = rt.alloc();
+    let short = |at| {
+        Some(FetchFault::Form {
+            at,
+            fault: RecordFault::Short,
+        })
+    };
+    let rows = [
+        (0, 238, [0, 8, 61, 161, 228].as_slice(), 238, None, 1),
+        (8, 161, [8, 61].as_slice(), 161, None, 1),
+        (61, 61, [].as_slice(), 61, None, 0),
+        (0, 9, [0, 8].as_slice(), 61, None, 3),
+        (161, 239, [161, 228].as_slice(), 238, short(238), 1),
+        (1, 238, [].as_slice(), 1, short(1), 1),
+    ];
+    for (from, to, places, at, fault, reads) in rows {
+        let mut bench = bench_of(alloc, RECORDS, 99)?;
+        let space = space_to(alloc, &mut bench, 238)?;
+        let (found, next, end) = walked(alloc, &mut bench, &space, from, to)?;
+        assert_eq!(rt; found.as_slice(), places);
+        assert_eq!(rt; (next, end), (at, fault));
+        assert_eq!(rt; bench.reads(FileName::Chunk(0)), reads);
+    }
+    Ok(())
+}
+
+// Three records of 700000 bytes of contents and a half: each mebibyte is read once.
+#[test]
+fn a_walk_reads_each_byte_once(rt: HostRuntime) -> Result<(), Fail> {
+    let alloc = rt.alloc();
+    let bytes = zeros(alloc, 3, 700000, 350000)?;
+    let mut bench = bench_of(alloc, bytes.as_slice(), 1)?;
+    let space = space_to(alloc, &mut bench, 2450020)?;
+    let mut scan = space.scan(0, 2100015);
+    let answers = [
+        Err(FetchFault::Ground),
+        Ok(Some(0)),
+        Ok(Some(700005)),
+        Ok(Some(1400010)),
+        Ok(None),
+    ];
+    for answer in answers {
+        let found = scan.step(&mut bench, &space);
+        assert_eq!(rt; found.map(|found| found.map(|(at, _)| at)), answer);
+    }
+    assert_eq!(rt; bench.reads(FileName::Chunk(0)), 4);
+    Ok(())
+}
