@@ -163,7 +163,6 @@ impl Ahead {
         ensures cause { IsErrOf result FetchFault.Ground → (Rose (G.counts_of outside.old).file_faults (G.counts_of outside.new).file_faults) }
     {
         if self.stop - self.start >= HEAD {
-            outside.counts();
             return Ok(());
         }
         self.more(source, outside, at, page.max(HEAD as u64))
@@ -189,7 +188,6 @@ impl Ahead {
     {
         let need = needed(self.held());
         if self.stop - self.start >= need {
-            outside.counts();
             return Ok(());
         }
         self.more(source, outside, at, page.max(need as u64))
@@ -216,7 +214,6 @@ impl Ahead {
         let want = want.min(source.layout.end.saturating_sub(at)) as usize;
         self.make_room(want)?;
         if self.stop >= want {
-            outside.counts();
             return Ok(());
         }
         let behind = at + self.stop as u64;

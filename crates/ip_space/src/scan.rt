@@ -79,7 +79,6 @@ impl Scan {
     {
         let at = self.next;
         if at >= self.to {
-            outside.counts();
             return Ok(None);
         }
         self.ahead

@@ -4,7 +4,7 @@ ghost use Rattle.ip_ground.specs.Counts.{NoneFalls, Rose};
 ghost use Rattle.ip_ground.specs.Told.{NoFile, ChangesOnly};
 ghost use Rattle.ip_spec.specs.Record.{Fits, kind_of};
 ghost use Rattle.ip_image.specs.Slot.{newest_version, IsChunkSize};
-ghost use Rattle.ip_space.specs.SpaceView.{OnlyReads, IsReadable, records_of, read_at};
+ghost use Rattle.ip_space.specs.SpaceView.{grown, OnlyReads, IsReadable, records_of, read_at};
 ghost use Rattle.ip_space.specs.Fetching.{Blames, Fetches, IsBecause, Meets, Refers};
 ghost use Rattle.ip_space.specs.ScanView.{ScanView};
 ghost use Rattle.ip_space.specs.declared.fault.FetchFault.TheVariants as FetchFault;
@@ -65,7 +65,6 @@ impl Space {
         ensures counts { NoneFalls (G.counts_of outside.old) (G.counts_of outside.new) }
         ensures cause { IsErrOf result SpaceFault.Ground → Rose (G.counts_of outside.old).file_faults (G.counts_of outside.new).file_faults }
     {
-        outside.counts();
         Ok(Space {
             alloc,
             source: Source { layout },
@@ -122,7 +121,7 @@ impl Space {
     pub fn grow(&mut self, end: u64)
         requires further { self.old.layout.end ≤ end }
         requires ends { end ≤ 2 ^ 62 }
-        ensures { self.new ≡ record self.old { layout = record self.old.layout { end = end } } }
+        ensures { self.new ≡ grown self.old end }
     {
         self.source.layout.end = end;
     }
