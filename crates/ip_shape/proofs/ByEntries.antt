@@ -27,27 +27,28 @@ module _ {C : Type 0} where
         | false ↦ steps_at_place depth i es
       ]
 
-  as_long : (es : List (Step × C)) → length (steps_of es) ≡ length es
+  pub as_long : (es : List (Step × C)) → length (steps_of es) ≡ length es
   as_long [] = refl
   as_long (e ∷ es) = ap suc (as_long es)
 
-  pub leaf_by : (depth : ℕ) (es : List (Step × C)) (part : Part) → depth ≤ deepest → is_leaf depth es ≡ true → IsPart (deepest - depth) depth (steps_of es) part → IsLeafOf (steps_of es) (out-Part part)
+module _ {C R : Type 0} where
+  pub leaf_by : (depth : ℕ) (es : List (Step × C)) (part : Part R) → depth ≤ deepest → is_leaf depth es ≡ true → IsPart (deepest - depth) depth (steps_of es) part → IsLeafOf (steps_of es) (out-Part R part)
   leaf_by depth es part le leaf is = by_levels (deepest - depth) refl is
     where
-      by_levels : (levels : ℕ) → levels ≡ deepest - depth → IsPart levels depth (steps_of es) part → IsLeafOf (steps_of es) (out-Part part)
+      by_levels : (levels : ℕ) → levels ≡ deepest - depth → IsPart levels depth (steps_of es) part → IsLeafOf (steps_of es) (out-Part R part)
       by_levels zero e x = x
       by_levels (suc levels) e x = few_part levels depth (steps_of es) part (ap (λ n. nat_le n leaf_limit) (as_long es) ∙ at_limit (length es) depth leaf (omega (arith, e, le))) x
 
-  pub inode_by : (depth : ℕ) (es : List (Step × C)) (part : Part) → depth ≤ deepest → is_leaf depth es ≡ false → IsPart (deepest - depth) depth (steps_of es) part
-      → IsInodeOf (length es) (λ i child. IsPart (deepest - (depth + 1)) (depth + 1) (steps_of (at_place depth i es)) child) (out-Part part)
+  pub inode_by : (depth : ℕ) (es : List (Step × C)) (part : Part R) → depth ≤ deepest → is_leaf depth es ≡ false → IsPart (deepest - depth) depth (steps_of es) part
+      → IsInodeOf (length es) (λ i child. IsPart (deepest - (depth + 1)) (depth + 1) (steps_of (at_place depth i es)) child) (out-Part R part)
   inode_by depth es part le inode is =
       let apart = neither (nat_le (length es) leaf_limit) (nat_le deepest depth) inode in
       let many : 32 < length es = above (length es) apart.0 in
       let lt : depth < 51 = not_deepest depth apart.1 in
       let levels : deepest - depth ≡ suc (deepest - (depth + 1)) = omega arith in
       let next : suc depth ≡ depth + 1 = omega arith in
-      subst (λ n. IsInodeOf n (λ i child. IsPart (deepest - (depth + 1)) (depth + 1) (steps_of (at_place depth i es)) child) (out-Part part)) (as_long es)
+      subst (λ n. IsInodeOf n (λ i child. IsPart (deepest - (depth + 1)) (depth + 1) (steps_of (at_place depth i es)) child) (out-Part R part)) (as_long es)
       (in_order (length (steps_of es)) (λ i child. IsPart (deepest - (depth + 1)) (suc depth) (steps_at depth i (steps_of es)) child) (λ i child. IsPart (deepest - (depth + 1)) (depth + 1) (steps_of (at_place depth i es)) child)
-      (out-Part part)
+      (out-Part R part)
       (λ i child x. subst (λ n. IsPart (deepest - (depth + 1)) n (steps_of (at_place depth i es)) child) next (subst (λ (ss : List Step). IsPart (deepest - (depth + 1)) (suc depth) ss child) (sym (steps_at_place depth i es)) x))
       (many_part (deepest - (depth + 1)) depth (steps_of es) part (omega (arith, many, as_long es)) (subst (λ n. IsPart n depth (steps_of es) part) levels is)))

@@ -23,3 +23,7 @@ of_bytes m = words (final_hash initial_hash_256 m) 8
 pub in_digest : (i : ℕ) (digest : List ℕ) (s : Step) (depth : ℕ) → i ≡ place_in digest depth → digest ≡ sha256 s → i ≡ place s depth
 unfolding shape_runs
 in_digest i digest s depth e is = e ∙ ap (λ d. place_in d depth) is
+
+pub place_small : (s : Step) (depth : ℕ) → place s depth < 32
+unfolding place
+place_small s depth = omega arith

@@ -101,23 +101,23 @@ pub from_last : {C : Type 0} (given : List (Step × C)) (e : Step × C) (es : Li
 from_last [] e es = refl
 from_last (f ∷ given) e es = ap (put bytes_cmp f.0 f.1) (from_last given e es)
 
-pub own : {C : Type 0} (dir : Dir C) (es : List (Step × C)) → IsDir dir es → IsDir dir dir.entries.entries
-own dir es is = subst (λ l. IsDir dir l) (sym is.0) is
+pub own : {C R : Type 0} (dir : Dir C R) (es : List (Step × C)) → IsDir dir es → IsDir dir dir.entries.entries
+own dir es is = subst (λ l. IsDir dir l) (sym is.0.0) is
 
 -- one more of those given goes into its place
 pub moved : {C : Type 0} (given left es new all : List (Step × C)) (s : Step) (x : C) → given ≡ left ++ (s, x) ∷ [] → new ≡ put bytes_cmp s x es → entries_from given es ≡ all → entries_from left new ≡ all
 moved given left es new all s x is put_in before =
     ap (entries_from left) put_in ∙ sym (from_last left (s, x) es) ∙ ap (λ l. entries_from l es) (sym is) ∙ before
 
-nil_of : {A : Type 0} (xs : List A) → length xs ≡ 0 → xs ≡ []
+pub nil_of : {A : Type 0} (xs : List A) → length xs ≡ 0 → xs ≡ []
 nil_of [] e = refl
 nil_of (x ∷ xs) e = absurd (omega (arith, e))
 
 -- with none left, all stand in the directory
-pub all_in : {C : Type 0} (dir : Dir C) (left es all : List (Step × C)) → length left ≡ 0 → IsDir dir es → entries_from left es ≡ all → IsDir dir all
+pub all_in : {C R : Type 0} (dir : Dir C R) (left es all : List (Step × C)) → length left ≡ 0 → IsDir dir es → entries_from left es ≡ all → IsDir dir all
 all_in dir left es all none is e = subst (λ l. IsDir dir l) (ap (λ l. entries_from l es) (sym (nil_of left none)) ∙ e) is
 
-below_absent : (s : Step) (ts : List Step) → T (is_below_all s ts) → has s ts ≡ false
+pub below_absent : (s : Step) (ts : List Step) → T (is_below_all s ts) → has s ts ≡ false
 below_absent s [] h = refl
 below_absent s (t ∷ ts) h =
     ap (λ o. is_eq o || has s ts) (less (bytes_cmp s t) (first (is_lt (bytes_cmp s t)) (is_below_all s ts) h)) ∙ below_absent s ts (second (is_lt (bytes_cmp s t)) (is_below_all s ts) h)

@@ -6,6 +6,7 @@ use Rattle.std.proofs.lemmas.List.Folds.{list_any_more}
 use Rattle.ip_spec.specs.Path.{Step, same_bytes}
 use Rattle.ip_spec.specs.Shape.{place}
 use Rattle.ip_shape.specs.Shape.{AreUnited, add, has, steps_at}
+use Rattle.ip_shape.proofs.Digests.{place_small}
 use Rattle.ip_shape.proofs.Members.{has-add, has-filter}
 
 first_last : (a b c : Bool) → (a || (b || c)) ≡ (b || (c || a))
@@ -41,10 +42,6 @@ next_below depth i steps old all more below united q =
     united q ∙ ap (λ b. b || has q (steps_at depth i steps)) (below q)
     ∙ ap (λ b. (has q old || (has q steps && nat_lt (place q depth) i)) || b) (has-filter (λ t. place t depth == i) q steps)
     ∙ with_next (has q old) (has q steps) (nat_lt (place q depth) i) (place q depth == i) (nat_lt (place q depth) (i + 1)) (next_place (place q depth) i)
-
-place_small : (s : Step) (depth : ℕ) → place s depth < 32
-unfolding place
-place_small s depth = omega arith
 
 lt_all : (p i : ℕ) → p < 32 → 32 ≤ i → nat_lt p i ≡ true
 lt_all p i lt le = grind (arith, nat_tests)

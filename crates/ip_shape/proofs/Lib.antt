@@ -2,9 +2,15 @@ mod Bits
 mod ByEntries
 mod Digests
 mod Edits
+mod Entering
 mod Entries
 mod Gathering
+mod InodeRead
+mod LeafRead
 mod Members
+mod Needs
 mod OneShape
+mod Partly
 mod Shapes
 mod Steps
+mod Ways

@@ -148,11 +148,11 @@ out_swaps p s ss = filters_swap (λ t. not (same_bytes s t)) p ss
 itself : (s : Step) → same_bytes s s ≡ true
 itself s = ap is_eq (tied_itself nat_list_cmp_total s)
 
-or_more : (a b : Bool) → b ≡ true → (a || b) ≡ true
+pub or_more : (a b : Bool) → b ≡ true → (a || b) ≡ true
 or_more true b e = refl
 or_more false b e = e
 
-at_head : (s : Step) (ss : List Step) → has s (s ∷ ss) ≡ true
+pub at_head : (s : Step) (ss : List Step) → has s (s ∷ ss) ≡ true
 at_head s ss = ap (λ b. b || has s ss) (itself s)
 
 pub all_pass : (p : Step → Bool) (ss : List Step) → ((t : Step) → has t ss ≡ true → p t ≡ true) → filter p ss ≡ ss

@@ -1,22 +1,23 @@
--- What a directory is: a finite map from steps to children, kept in the one shape of its steps.
+-- What a directory is: a finite map from steps to children, kept in the one shape of its steps, of which some parts may not be read so far.
 --     steps_of entries      the steps of entries
 --     root_of dir      the part that is the whole directory
 --     entries_from given entries      these entries and those given, each in its place, the first of two at one step
 --     without step entries      the entries at all other steps
---     IsDir dir entries      the directory has these entries, in the order of their steps, and is in their one shape
-use Rattle.std.specs.Prelude.{◌≡◌, List, [], ◌∷◌, map, filter, not}
-use Rattle.std.specs.FinMap.Entries.{put}
+--     is_read_to dir s      each part on the way to a step was read
+--     IsPartly dir steps entries      the directory has these steps and is in their one shape, and these are its entries at those whose parts were read, in the order of their steps
+--     IsTaken removed s steps old new      what an attempt to take out a step leaves of what is known: all of it where nothing was there
+--     IsDir dir entries      all of the directory was read, and it has these entries
+use Rattle.std.specs.Prelude.{◌≡◌, Bool, true, List, [], ◌∷◌, Option, Some, None, map, filter, not, is_none}
+use Rattle.std.specs.FinMap.Entries.{find, put}
 use Rattle.ip_spec.specs.Path.{Step, bytes_cmp, same_bytes}
 use Rattle.ip_spec.specs.Shape.{deepest}
-use Rattle.ip_shape.specs.Shape.{AreSteps, IsPart}
+use Rattle.ip_shape.specs.Shape.{AreSteps, IsPart, has}
+use Rattle.ip_shape.specs.Loaded.{IsLessened, IsRead, IsUnchanged, unread_in, way_to}
 use Rattle.ip_shape.specs.declared.dir.Dir.{Dir}
 use Rattle.ip_shape.specs.declared.part.Part.{Part}
 
 abbrev pub steps_of : {C : Type 0} → List (Step × C) → List Step
 steps_of entries = map (λ e. e.0) entries
-
-abbrev pub root_of : {C : Type 0} → Dir C → Part
-root_of dir = dir.root
 
 abbrev pub entries_from : {C : Type 0} → List (Step × C) → List (Step × C) → List (Step × C)
 entries_from [] entries = entries
@@ -25,5 +26,24 @@ entries_from (e ∷ es) entries = put bytes_cmp e.0 e.1 (entries_from es entries
 abbrev pub without : {C : Type 0} → Step → List (Step × C) → List (Step × C)
 without step entries = filter (λ e. not (same_bytes step e.0)) entries
 
-abbrev pub IsDir : {C : Type 0} → Dir C → List (Step × C) → Type 0
-IsDir dir entries = (dir.entries.entries ≡ entries) × AreSteps (steps_of entries) × IsPart deepest 0 (steps_of entries) (root_of dir)
+-- entries at steps that ascend, none of which has an entry already
+abbrev pub AreNew : {C : Type 0} → List (Step × C) → List (Step × C) → Type 0
+AreNew given entries = AreSteps (steps_of given) × ((s : Step) → has s (steps_of given) ≡ true → find bytes_cmp s entries ≡ None)
+
+module _ {C R : Type 0} where
+  abbrev pub root_of : Dir C R → Part R
+  root_of dir = dir.root
+
+  abbrev pub is_read_to : Dir C R → Step → Bool
+  is_read_to dir s = is_none (unread_in (way_to s) (root_of dir))
+
+  abbrev pub IsPartly : Dir C R → List Step → List (Step × C) → Type 0
+  IsPartly dir steps entries =
+      (dir.entries.entries ≡ entries) × AreSteps steps × IsPart deepest 0 steps (root_of dir) × (steps_of entries ≡ filter (is_read_to dir) steps)
+
+  abbrev pub IsDir : Dir C R → List (Step × C) → Type 0
+  IsDir dir entries = IsPartly dir (steps_of entries) entries × IsRead (root_of dir)
+
+  abbrev pub IsTaken : Option C → Step → List Step → Part R → Part R → Type 0
+  IsTaken None s steps old new = IsUnchanged old new
+  IsTaken (Some child) s steps old new = IsLessened deepest 0 s steps old new

@@ -1,3 +1,5 @@
 pub mod Place
 pub mod Shape
+pub mod Loaded
 pub mod Directory
+pub mod Reading

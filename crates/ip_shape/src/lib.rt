@@ -4,5 +4,6 @@
 pub mod dir;
 pub mod part;
 pub mod places;
+pub mod reading;
 #[cfg(test)]
 mod tests;

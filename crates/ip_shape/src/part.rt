@@ -1,11 +1,12 @@
 // The parts of a directory, over the steps of its entries.
-ghost use Rattle.std.specs.Prelude.{◌≡◌, ◌-◌, ◌≤◌, ◌<◌, ℕ, true, false, List, map, length, insert, IfOk, IfErr, OnOk, OnErr};
+ghost use Rattle.std.specs.Prelude.{◌≡◌, ◌-◌, ◌≤◌, ◌<◌, ℕ, true, false, List, [], map, length, insert, Option, IfOk, IfErr, OnOk, OnErr};
 ghost use Rattle.sha2.specs.Sha256.{sha256};
 ghost use Rattle.ip_spec.specs.Path.{Step as TheStep};
 ghost use Rattle.ip_spec.specs.Shape.{place, deepest};
-ghost use Rattle.ip_shape.specs.declared.part.Part.{Part};
+ghost use Rattle.ip_shape.specs.declared.part.Part.{Part, out-Part};
 ghost use Rattle.ip_shape.specs.declared.part.Part.TheVariants as variant;
-ghost use Rattle.ip_shape.specs.Shape.{AreSteps, AreAlike, AreUnited, IsChainTo, IsPart, add, has, steps_at, take_out};
+ghost use Rattle.ip_shape.specs.Shape.{AreSteps, AreAlike, AreUnited, IsChainTo, IsLeafOf, IsPart, add, has, steps_at, take_out};
+ghost use Rattle.ip_shape.specs.Loaded.{IsEdited, IsFresh, IsLessened, IsRead, IsUnchanged};
 
 use crate::places::{DEEPEST, Places};
 use ip_base::{Memory, Step};
@@ -14,38 +15,51 @@ use std::cmp::Ordering;
 use std::mem;
 
 /// The most steps of a leaf above the deepest parts.
-const LEAF_LIMIT: usize = 32;
+pub(crate) const LEAF_LIMIT: usize = 32;
 
 /// How many children an inode has.
-const CHILDREN: u8 = 32;
+pub(crate) const CHILDREN: u8 = 32;
 
-/// A part of a directory.
+/// A part of a directory. `known` is the record that spells it, where there is one.
 #[derive(Drop)]
-pub enum Part {
+pub enum Part<R> {
     /// The steps of its entries, ascending.
-    Leaf(Vec<Step>),
+    Leaf {
+        known: Option<R>,
+        steps: Vec<Step>,
+    },
     /// How many entries it has, and its children by place. One that is an empty leaf is absent.
-    Inode { count: usize, children: Vec<Part> },
+    Inode {
+        known: Option<R>,
+        count: usize,
+        children: Vec<Part<R>>,
+    },
+    /// A part that was not read so far: the record that spells it, and how many entries it has.
+    Unread {
+        record: R,
+        count: usize,
+    },
 }
 
-impl Part {
+impl<R> Part<R> {
     /// How many entries it has. It takes no walk.
     pub fn count(&self) -> usize
         ensures { (depth : ℕ) (steps : List TheStep) → IsPart (deepest - depth) depth steps self.now → result ≡ length steps }
     {
         match self {
-            Part::Leaf(steps) => steps.len(),
+            Part::Leaf { steps, .. } => steps.len(),
             Part::Inode { count, .. } => *count,
+            Part::Unread { count, .. } => *count,
         }
     }
 }
 
-/// Laws, which do nothing when they are called. Steps have one shape at a depth: two parts that are it differ in nothing, whatever edits led to them. More than 32 steps that
-/// agree in all places are one leaf at depth 51, with one inode above another.
-pub fn one_shape()
-    ensures alike { (depth : ℕ) (steps : List TheStep) (one other : Part) → IsPart (deepest - depth) depth steps one → IsPart (deepest - depth) depth steps other →
+/// Laws, which do nothing when they are called. Steps have one shape at a depth: two parts that are it differ in nothing, whatever edits led to them, but for what is not read.
+/// More than 32 steps that agree in all places are one leaf at depth 51, with one inode above another.
+pub fn one_shape<R>()
+    ensures alike { (depth : ℕ) (steps : List TheStep) (one other : Part R) → IsPart (deepest - depth) depth steps one → IsPart (deepest - depth) depth steps other →
         AreAlike (deepest - depth) one other }
-    ensures agreeing { (s : TheStep) (steps : List TheStep) (part : Part) → 32 < length steps →
+    ensures agreeing { (s : TheStep) (steps : List TheStep) (part : Part R) → 32 < length steps →
         ((t : TheStep) (depth : ℕ) → has t steps ≡ true → depth < deepest → place t depth ≡ place s depth) →
         IsPart deepest 0 steps part → IsChainTo deepest 0 s steps part }
 {}
@@ -96,12 +110,21 @@ fn copies_at(
 }
 
 // The one shape of steps that ascend, at a depth.
-fn part_of(alloc: Global, steps: &[Step], places: &[Places], depth: u8) -> Result<Part, Memory>
+fn part_of<R: Drop>(
+    alloc: Global,
+    steps: &[Step],
+    places: &[Places],
+    depth: u8,
+) -> Result<Part<R>, Memory>
     requires { places.now ≡ map sha256 steps.now }
-    ensures { IfOk result (λ part. IsPart (deepest - depth) depth steps.now part) }
+    ensures shape { IfOk result (λ part. IsPart (deepest - depth) depth steps.now part) }
+    ensures fresh { IfOk result IsFresh }
 {
     if steps.len() <= LEAF_LIMIT || depth >= DEEPEST {
-        return Ok(Part::Leaf(copies_of(alloc, steps, steps.len())?));
+        return Ok(Part::Leaf {
+            known: None,
+            steps: copies_of(alloc, steps, steps.len())?,
+        });
     }
     let mut children = Vec::with_capacity(alloc, CHILDREN as usize)?;
     for index in 0..CHILDREN {
@@ -109,9 +132,21 @@ fn part_of(alloc: Global, steps: &[Step], places: &[Places], depth: u8) -> Resul
         children.push(part_of(alloc, &below, &their_places, depth + 1)?)?;
     }
     Ok(Part::Inode {
+        known: None,
         count: steps.len(),
         children,
     })
+}
+
+// What stands where a part was taken out, while it is edited. It takes no memory.
+pub(crate) fn no_part<R>(alloc: Global) -> Part<R>
+    ensures empty { IsLeafOf [] (out-Part R result) }
+    ensures fresh { IsFresh result }
+{
+    Part::Leaf {
+        known: None,
+        steps: Vec::new(alloc),
+    }
 }
 
 // Where a step stands among steps that ascend, or would stand.
@@ -145,15 +180,16 @@ fn add_to(alloc: Global, steps: &mut Vec<Step>, step: &Step) -> Result<(), Memor
 }
 
 // A part of the steps of a leaf and of one more.
-fn grown(
+fn grown<R: Drop>(
     alloc: Global,
     steps: &[Step],
     step: &Step,
     places: &Places,
     depth: u8,
-) -> Result<Part, Memory>
+) -> Result<Part<R>, Memory>
     requires { places.now ≡ sha256 step.now }
-    ensures { IfOk result (λ part. IsPart (deepest - depth) depth (add step.now steps.now) part) }
+    ensures shape { IfOk result (λ part. IsPart (deepest - depth) depth (add step.now steps.now) part) }
+    ensures fresh { IfOk result IsFresh }
 {
     let mut more = copies_of(alloc, steps, steps.len() + 1)?;
     let mut all_places = places_of(alloc, steps, steps.len() + 1)?;
@@ -165,72 +201,92 @@ fn grown(
 }
 
 // The part of the steps of a leaf and of one more, or for want of memory the leaf itself.
-fn leaf_with(
+fn leaf_with<R: Drop>(
     alloc: Global,
+    known: Option<R>,
     leaf: Vec<Step>,
     places: &Places,
     depth: u8,
     step: &Step,
-) -> Result<Part, Part>
+) -> Result<Part<R>, Part<R>>
     requires { places.now ≡ sha256 step.now }
-    ensures added { (steps : List TheStep) → IsPart (deepest - depth) depth steps (variant.Leaf leaf) → IfOk result (IsPart (deepest - depth) depth (add step.now steps)) }
-    ensures refused { (steps : List TheStep) → IsPart (deepest - depth) depth steps (variant.Leaf leaf) → IfErr result (IsPart (deepest - depth) depth steps) }
+    ensures added { (steps : List TheStep) → IsPart (deepest - depth) depth steps (variant.Leaf known leaf) → IfOk result (IsPart (deepest - depth) depth (add step.now steps)) }
+    ensures refused { (steps : List TheStep) → IsPart (deepest - depth) depth steps (variant.Leaf known leaf) → IfErr result (IsPart (deepest - depth) depth steps) }
+    ensures fresh { IfOk result IsFresh }
+    ensures left { IfErr result (IsUnchanged (variant.Leaf known leaf)) }
 {
     let mut steps = leaf;
     if steps.len() < LEAF_LIMIT || depth >= DEEPEST {
         return match add_to(alloc, &mut steps, step) {
-            Ok(()) => Ok(Part::Leaf(steps)),
-            Err(_) => Err(Part::Leaf(steps)),
+            Ok(()) => Ok(Part::Leaf { known: None, steps }),
+            Err(_) => Err(Part::Leaf { known, steps }),
         };
     }
     match grown(alloc, &steps, step, places, depth) {
         Ok(more) => Ok(more),
-        Err(_) => Err(Part::Leaf(steps)),
+        Err(_) => Err(Part::Leaf { known, steps }),
     }
 }
 
-// The part at a depth with a step more that it lacks, or for want of memory the part itself.
-pub(crate) fn with_step(
+// The part at a depth with a step more that it lacks, or the part itself, for want of memory or of what is not read.
+pub(crate) fn with_step<R: Drop>(
     alloc: Global,
-    part: Part,
+    part: Part<R>,
     places: &Places,
     depth: u8,
     step: &Step,
-) -> Result<Part, Part>
+) -> Result<Part<R>, Part<R>>
     requires { places.now ≡ sha256 step.now }
     ensures added { (steps : List TheStep) → AreSteps steps → has step.now steps ≡ false → IsPart (deepest - depth) depth steps part →
         IfOk result (IsPart (deepest - depth) depth (add step.now steps)) }
     ensures refused { (steps : List TheStep) → IsPart (deepest - depth) depth steps part → IfErr result (IsPart (deepest - depth) depth steps) }
+    ensures edited { IfOk result (IsEdited depth step.now part) }
+    ensures left { IfErr result (IsUnchanged part) }
 {
     match part {
-        Part::Leaf(steps) => leaf_with(alloc, steps, places, depth, step),
+        Part::Leaf { known, steps } => leaf_with(alloc, known, steps, places, depth, step),
         Part::Inode {
+            known,
             count,
             mut children,
         } => {
             if depth >= DEEPEST {
-                return Ok(Part::Inode { count, children });
+                return Err(Part::Inode {
+                    known,
+                    count,
+                    children,
+                });
             }
             let index = places.at(depth) as usize;
             // Neither is so in a directory: an inode has 32 children, and no memory holds more steps than a count can tell.
             if index >= children.len() || count == usize::MAX {
-                return Err(Part::Inode { count, children });
+                return Err(Part::Inode {
+                    known,
+                    count,
+                    children,
+                });
             }
-            let below = mem::replace(&mut children[index], Part::Leaf(Vec::new(alloc)));
+            let below = mem::replace(&mut children[index], no_part(alloc));
             match with_step(alloc, below, places, depth + 1, step) {
                 Ok(more) => {
                     children[index] = more;
                     Ok(Part::Inode {
+                        known: None,
                         count: count + 1,
                         children,
                     })
                 }
                 Err(same) => {
                     children[index] = same;
-                    Err(Part::Inode { count, children })
+                    Err(Part::Inode {
+                        known,
+                        count,
+                        children,
+                    })
                 }
             }
         }
+        Part::Unread { record, count } => Err(Part::Unread { record, count }),
     }
 }
 
@@ -244,22 +300,24 @@ fn add_all(alloc: Global, into: &mut Vec<Step>, steps: &[Step]) -> Result<(), Me
     Ok(())
 }
 
-// Adds the steps of a part at a depth to steps that ascend.
-fn gather(alloc: Global, into: &mut Vec<Step>, part: &Part, depth: u8) -> Result<(), Memory>
-    ensures { (steps : List TheStep) → IsPart (deepest - depth) depth steps part.now → AreSteps into.old.items →
+// Adds the steps of a part at a depth to steps that ascend. It fails also where something below is not read.
+fn gather<R>(alloc: Global, into: &mut Vec<Step>, part: &Part<R>, depth: u8) -> Result<(), Memory>
+    ensures gathered { (steps : List TheStep) → IsPart (deepest - depth) depth steps part.now → AreSteps into.old.items →
         OnOk result (AreSteps into.new.items × AreUnited into.old.items steps into.new.items) }
+    ensures read { OnOk result (IsRead part.now) }
 {
     match part {
-        Part::Leaf(steps) => add_all(alloc, into, steps),
+        Part::Leaf { steps, .. } => add_all(alloc, into, steps),
         Part::Inode { children, .. } => {
             if depth >= DEEPEST {
-                return Ok(());
+                return Err(Memory);
             }
             for i in 0..children.len() {
                 gather(alloc, into, &children[i], depth + 1)?;
             }
             Ok(())
         }
+        Part::Unread { .. } => Err(Memory),
     }
 }
 
@@ -270,14 +328,29 @@ fn take_from(steps: &mut Vec<Step>, step: &Step)
     steps.retain(|other| step.cmp(other).is_ne());
 }
 
-// The steps of a part at a depth without one of them.
-fn joined(alloc: Global, part: &Part, depth: u8, step: &Step) -> Result<Vec<Step>, Memory>
-    ensures { (steps : List TheStep) → AreSteps steps → IsPart (deepest - depth) depth steps part.now → IfOk result (λ left. left.items ≡ take_out step.now steps) }
+// The steps of a part at a depth without one of them. It fails also where something below is not read.
+fn joined<R>(alloc: Global, part: &Part<R>, depth: u8, step: &Step) -> Result<Vec<Step>, Memory>
+    ensures read { OnOk result (IsRead part.now) }
+    ensures left { (steps : List TheStep) → AreSteps steps → IsPart (deepest - depth) depth steps part.now → IfOk result (λ left. left.items ≡ take_out step.now steps) }
 {
     let mut steps = Vec::with_capacity(alloc, LEAF_LIMIT + 1)?;
     gather(alloc, &mut steps, part, depth)?;
     take_from(&mut steps, step);
     Ok(steps)
+}
+
+// A part at a depth as the leaf of its steps without one of them, or the part itself, for want of memory or of what is not read.
+fn join<R: Drop>(alloc: Global, part: Part<R>, depth: u8, step: &Step) -> Result<Part<R>, Part<R>>
+    ensures removed { (steps : List TheStep) → AreSteps steps → has step.now steps ≡ true → IsPart (deepest - depth) depth steps part → length steps ≡ 33 →
+        IfOk result (IsPart (deepest - depth) depth (take_out step.now steps)) }
+    ensures read { OnOk result (IsRead part) }
+    ensures fresh { IfOk result IsFresh }
+    ensures whole { IfErr result (λ same. same ≡ part) }
+{
+    match joined(alloc, &part, depth, step) {
+        Ok(steps) => Ok(Part::Leaf { known: None, steps }),
+        Err(_) => Err(part),
+    }
 }
 
 // Steps without one of them. Where none is left, they take no memory.
@@ -292,53 +365,121 @@ fn without(alloc: Global, steps: Vec<Step>, step: &Step) -> Vec<Step>
     left
 }
 
-// The part at a depth without a step that it has, or for want of memory the part itself.
-pub(crate) fn without_step(
+// The part at a depth without a step that it has, or the part itself, for want of memory or of what is not read.
+pub(crate) fn without_step<R: Drop>(
     alloc: Global,
-    part: Part,
+    part: Part<R>,
     places: &Places,
     depth: u8,
     step: &Step,
-) -> Result<Part, Part>
+) -> Result<Part<R>, Part<R>>
     requires { places.now ≡ sha256 step.now }
     ensures removed { (steps : List TheStep) → AreSteps steps → has step.now steps ≡ true → IsPart (deepest - depth) depth steps part →
         IfOk result (IsPart (deepest - depth) depth (take_out step.now steps)) }
     ensures refused { (steps : List TheStep) → IsPart (deepest - depth) depth steps part → IfErr result (IsPart (deepest - depth) depth steps) }
+    ensures edited { (steps : List TheStep) → IsPart (deepest - depth) depth steps part → IfOk result (IsLessened (deepest - depth) depth step.now steps part) }
+    ensures left { IfErr result (IsUnchanged part) }
 {
-    // A part that falls to the limit becomes a leaf before anything below it is touched.
-    if part.count() == LEAF_LIMIT + 1 && depth < DEEPEST {
-        return match joined(alloc, &part, depth, step) {
-            Ok(steps) => Ok(Part::Leaf(steps)),
-            Err(_) => Err(part),
-        };
-    }
     match part {
-        Part::Leaf(steps) => Ok(Part::Leaf(without(alloc, steps, step))),
+        Part::Leaf { steps, .. } => Ok(Part::Leaf {
+            known: None,
+            steps: without(alloc, steps, step),
+        }),
         Part::Inode {
+            known,
             count,
             mut children,
         } => {
             if depth >= DEEPEST || count == 0 {
-                return Ok(Part::Inode { count, children });
+                return Err(Part::Inode {
+                    known,
+                    count,
+                    children,
+                });
+            }
+            // A part that falls to the limit becomes a leaf before anything below it is touched.
+            if count == LEAF_LIMIT + 1 {
+                let whole = Part::Inode {
+                    known,
+                    count,
+                    children,
+                };
+                return join(alloc, whole, depth, step);
             }
             let index = places.at(depth) as usize;
             if index >= children.len() {
-                return Ok(Part::Inode { count, children });
+                return Err(Part::Inode {
+                    known,
+                    count,
+                    children,
+                });
             }
-            let below = mem::replace(&mut children[index], Part::Leaf(Vec::new(alloc)));
+            let below = mem::replace(&mut children[index], no_part(alloc));
             match without_step(alloc, below, places, depth + 1, step) {
                 Ok(less) => {
                     children[index] = less;
                     Ok(Part::Inode {
+                        known: None,
                         count: count - 1,
                         children,
                     })
                 }
                 Err(whole) => {
                     children[index] = whole;
-                    Err(Part::Inode { count, children })
+                    Err(Part::Inode {
+                        known,
+                        count,
+                        children,
+                    })
                 }
             }
         }
+        Part::Unread { record, count } => Err(Part::Unread { record, count }),
+    }
+}
+
+// The part at a depth where something else stands at a step: no part on the way there is known any more.
+pub(crate) fn forgotten<R: Drop>(
+    alloc: Global,
+    part: Part<R>,
+    places: &Places,
+    depth: u8,
+    step: &Step,
+) -> Part<R>
+    requires { places.now ≡ sha256 step.now }
+    ensures kept { (steps : List TheStep) → IsPart (deepest - depth) depth steps part → IsPart (deepest - depth) depth steps result }
+    ensures edited { (steps : List TheStep) → IsPart (deepest - depth) depth steps part → IsEdited depth step.now part result }
+{
+    match part {
+        Part::Leaf { steps, .. } => Part::Leaf { known: None, steps },
+        Part::Inode {
+            known,
+            count,
+            mut children,
+        } => {
+            if depth >= DEEPEST {
+                return Part::Inode {
+                    known,
+                    count,
+                    children,
+                };
+            }
+            let index = places.at(depth) as usize;
+            if index >= children.len() {
+                return Part::Inode {
+                    known,
+                    count,
+                    children,
+                };
+            }
+            let below = mem::replace(&mut children[index], no_part(alloc));
+            children[index] = forgotten(alloc, below, places, depth + 1, step);
+            Part::Inode {
+                known: None,
+                count,
+                children,
+            }
+        }
+        Part::Unread { record, count } => Part::Unread { record, count },
     }
 }

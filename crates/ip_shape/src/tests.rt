@@ -1,10 +1,13 @@
 // Seeded sets of entries: in whatever order the edits come, a directory has the shape and the counts of its set.
-ghost use Rattle.std.specs.Prelude.{◌<◌};
+ghost use Rattle.std.specs.Prelude.{◌<◌, ◌≤◌};
 ghost use Rattle.ip_spec.specs.Shape.{deepest};
 
-use crate::dir::{Dir, Entries, build, find, insert, remove};
+use crate::dir::{Dir, Entries, build, exchange, find, forget, insert, remove};
 use crate::part::Part;
 use crate::places::place;
+use crate::reading::{
+    Child, UnreadPart, missing, missing_to_remove, read_inode, read_leaf, unread,
+};
 use ip_base::{Blob, Memory, Step};
 use std::alloc::Global;
 
@@ -46,7 +49,7 @@ fn entries(alloc: Global, seed: u16, order: &[u16]) -> Result<Entries<u16>, Memo
 // Inserts the numbers from one on, each for the first time.
 fn insert_from(
     alloc: Global,
-    dir: &mut Dir<u16>,
+    dir: &mut Dir<u16, u64>,
     seed: u16,
     from: u16,
     order: &[u16],
@@ -62,7 +65,7 @@ fn insert_from(
 // Removes the numbers from one on, and each once more.
 fn remove_from(
     alloc: Global,
-    dir: &mut Dir<u16>,
+    dir: &mut Dir<u16, u64>,
     seed: u16,
     from: u16,
     order: &[u16],
@@ -79,14 +82,19 @@ fn remove_from(
 }
 
 // Whether two parts differ in nothing, with so many depths below them.
-fn alike(one: &Part, other: &Part, levels: u8) -> bool {
+fn alike(one: &Part<u64>, other: &Part<u64>, levels: u8) -> bool {
     match (one, other) {
-        (Part::Leaf(steps), Part::Leaf(others)) => steps == others,
+        (Part::Leaf { steps, .. }, Part::Leaf { steps: others, .. }) => steps == others,
         (
-            Part::Inode { count, children },
+            Part::Inode {
+                count,
+                children,
+                ..
+            },
             Part::Inode {
                 count: other_count,
                 children: others,
+                ..
             },
         ) => {
             if levels == 0 || count != other_count || children.len() != others.len() {
@@ -99,16 +107,18 @@ fn alike(one: &Part, other: &Part, levels: u8) -> bool {
             }
             true
         }
+        (Part::Unread { count, .. }, other) => *count == other.count(),
         _ => false,
     }
 }
 
 // Whether all steps below a part have one index at a depth.
-fn has_index(part: &Part, levels: u8, depth: u8, index: usize) -> bool
+fn has_index(part: &Part<u64>, levels: u8, depth: u8, index: usize) -> bool
     requires { depth < deepest }
 {
     match part {
-        Part::Leaf(steps) => {
+        Part::Unread { .. } => false,
+        Part::Leaf { steps, .. } => {
             steps
                 .iter()
                 .all(|step| place(step, depth) as usize == index)
@@ -125,14 +135,19 @@ fn has_index(part: &Part, levels: u8, depth: u8, index: usize) -> bool
 }
 
 // How many entries a part has, where it is the one shape of its steps.
-fn total(part: &Part, depth: u8) -> Option<usize> {
+fn total(part: &Part<u64>, depth: u8) -> Option<usize> {
     match part {
-        Part::Leaf(steps) => if steps.len() <= 32 || depth == 51 {
+        Part::Unread { .. } => None,
+        Part::Leaf { steps, .. } => if steps.len() <= 32 || depth == 51 {
             Some(steps.len())
         } else {
             None
         },
-        Part::Inode { count, children } => {
+        Part::Inode {
+            count,
+            children,
+            ..
+        } => {
             if depth >= 51 || children.len() != 32 {
                 return None;
             }
@@ -152,7 +167,7 @@ fn total(part: &Part, depth: u8) -> Option<usize> {
     }
 }
 
-fn holds(alloc: Global, dir: &Dir<u16>, seed: u16, size: u16) -> Result<bool, Memory> {
+fn holds(alloc: Global, dir: &Dir<u16, u64>, seed: u16, size: u16) -> Result<bool, Memory> {
     for n in 0..300u16 {
         let found = match find(dir, &step(alloc, seed, n)?) {
             Some(child) => Some(*child),
@@ -166,9 +181,9 @@ fn holds(alloc: Global, dir: &Dir<u16>, seed: u16, size: u16) -> Result<bool, Me
 }
 
 // Whether a directory is the one that is built afresh, in another order.
-fn is_fresh(alloc: Global, dir: &Dir<u16>, seed: u16, size: u16) -> Result<bool, Memory> {
+fn is_fresh(alloc: Global, dir: &Dir<u16, u64>, seed: u16, size: u16) -> Result<bool, Memory> {
     let order = shuffled(alloc, size, 1000 + seed as u64)?;
-    let fresh = build(alloc, entries(alloc, seed, &order)?)?;
+    let fresh: Dir<u16, u64> = build(alloc, entries(alloc, seed, &order)?)?;
     Ok(
         alike(dir.root(), fresh.root(), 51)
             && total(dir.root(), 0) == Some(size as usize)
@@ -203,7 +218,7 @@ fn each_set_has_one_shape(rt: HostRuntime) {
 }
 
 fn replaced(alloc: Global) -> Result<[Option<u16>; 4], Memory> {
-    let mut dir = build(alloc, entries(alloc, 0, &shuffled(alloc, 40, 0)?)?)?;
+    let mut dir: Dir<u16, u64> = build(alloc, entries(alloc, 0, &shuffled(alloc, 40, 0)?)?)?;
     let one = insert(alloc, &mut dir, &step(alloc, 0, 7)?, 107)?;
     let none = insert(alloc, &mut dir, &step(alloc, 0, 40)?, 140)?;
     let gone = remove(alloc, &mut dir, &step(alloc, 0, 7)?)?;
@@ -214,4 +229,208 @@ fn replaced(alloc: Global) -> Result<[Option<u16>; 4], Memory> {
 #[test]
 fn what_an_edit_gives(rt: HostRuntime) {
     assert_eq!(rt; replaced(rt.alloc()), Ok([Some(7), None, Some(107), None]));
+}
+
+// The record of a part in these tests, by the record of the part above it.
+fn record_below(above: u64, index: u8) -> u64 {
+    above.wrapping_mul(33).wrapping_add(index as u64 + 1)
+}
+
+fn record_at(indexes: &[u8]) -> u64 {
+    let mut record = 0;
+    for index in indexes {
+        record = record_below(record, *index);
+    }
+    record
+}
+
+fn part_at<'a>(part: &'a Part<u64>, indexes: &[u8], at: usize) -> Option<&'a Part<u64>> {
+    if at >= indexes.len() {
+        return Some(part);
+    }
+    match part {
+        Part::Inode { children, .. } => {
+            let index = indexes[at] as usize;
+            if index >= children.len() {
+                return None;
+            }
+            part_at(&children[index], indexes, at + 1)
+        }
+        _ => None,
+    }
+}
+
+// Enters the part at these indexes of a directory that is whole into one that is not.
+fn enter_from(
+    alloc: Global,
+    dir: &mut Dir<u16, u64>,
+    whole: &Dir<u16, u64>,
+    indexes: &[u8],
+) -> Result<bool, Memory> {
+    match part_at(whole.root(), indexes, 0) {
+        Some(Part::Leaf { steps, .. }) => {
+            let mut entries = Vec::new(alloc);
+            for step in steps {
+                if let Some(child) = find(whole, step) {
+                    entries.push((step.copy(alloc)?, *child))?;
+                }
+            }
+            read_leaf(alloc, dir, indexes, entries)?;
+            Ok(true)
+        }
+        Some(Part::Inode { children, .. }) => {
+            let mut given = Vec::new(alloc);
+            for index in 0..32u8 {
+                let at = index as usize;
+                if at < children.len() && children[at].count() > 0 {
+                    let record = record_below(record_at(indexes), index);
+                    let count = children[at].count();
+                    given.push(Child {
+                        index,
+                        record,
+                        count,
+                    })?;
+                }
+            }
+            read_inode(alloc, dir, indexes, given)?;
+            Ok(true)
+        }
+        _ => Ok(false),
+    }
+}
+
+// Reads what a look-up or a removal at a step needs, each part once, and tells how many parts these were.
+fn read_to(
+    alloc: Global,
+    dir: &mut Dir<u16, u64>,
+    whole: &Dir<u16, u64>,
+    step: &Step,
+    removal: bool,
+) -> Result<Option<u16>, Memory> {
+    for parts in 0..100u16 {
+        let found = if removal {
+            missing_to_remove(alloc, dir, step)?
+        } else {
+            missing(alloc, dir, step)?
+        };
+        match found {
+            None => return Ok(Some(parts)),
+            Some(UnreadPart { indexes, record }) => {
+                if record != record_at(&indexes) || !enter_from(alloc, dir, whole, &indexes)? {
+                    return Ok(None);
+                }
+            }
+        }
+    }
+    Ok(None)
+}
+
+// Whether each known part has its own record, and none on the way to a step is known.
+fn knows(part: &Part<u64>, record: u64, levels: u8, depth: u8, step: &Step, on_way: bool) -> bool
+    requires { depth ≤ deepest }
+{
+    match part {
+        Part::Unread { record: it, .. } => *it == record && !on_way,
+        Part::Leaf { known, .. } => *known == None || *known == Some(record) && !on_way,
+        Part::Inode {
+            known,
+            children,
+            ..
+        } => {
+            if levels == 0 || depth >= 51 || *known != None && (*known != Some(record) || on_way) {
+                return false;
+            }
+            for index in 0..32u8 {
+                let at = index as usize;
+                let leads = on_way && place(step, depth) == index;
+                if at >= children.len()
+                    || !knows(
+                        &children[at],
+                        record_below(record, index),
+                        levels - 1,
+                        depth + 1,
+                        step,
+                        leads,
+                    )
+                {
+                    return false;
+                }
+            }
+            true
+        }
+    }
+}
+
+// One edit of a directory of which nothing was read: it reads as many parts as it should at most, and leaves the shape of the set.
+fn edited_lazily(alloc: Global, seed: u16, size: u16, n: u16, most: u16) -> Result<bool, Memory> {
+    let order = shuffled(alloc, size, seed as u64)?;
+    let mut whole: Dir<u16, u64> = build(alloc, entries(alloc, seed, &order)?)?;
+    let mut dir: Dir<u16, u64> = unread(alloc, 0, size as usize);
+    let step = step(alloc, seed, n)?;
+    let removal = n < size;
+    match read_to(alloc, &mut dir, &whole, &step, removal)? {
+        None => return Ok(false),
+        Some(parts) => if parts > most {
+            return Ok(false);
+        },
+    }
+    let done = if removal {
+        find(&dir, &step) == Some(&n)
+            && remove(alloc, &mut dir, &step)? == Some(n)
+            && remove(alloc, &mut whole, &step)? == Some(n)
+    } else {
+        find(&dir, &step) == None
+            && insert(alloc, &mut dir, &step, n)? == None
+            && insert(alloc, &mut whole, &step, n)? == None
+    };
+    Ok(
+        done && alike(dir.root(), whole.root(), 51)
+            && dir.root().count() == whole.root().count()
+            && knows(dir.root(), 0, 51, 0, &step, true),
+    )
+}
+
+// The size, the number that is removed or inserted, and how many parts are read at most.
+const LAZY_EDITS: [(u16, u16, u16); 8] = [
+    (1, 0, 1),
+    (32, 32, 1),
+    (33, 33, 2),
+    (33, 5, 34),
+    (34, 5, 2),
+    (300, 7, 2),
+    (300, 300, 2),
+    (900, 899, 3),
+];
+
+#[test]
+fn edits_read_their_way(rt: HostRuntime) {
+    for seed in 0..SEEDS {
+        for (size, n, most) in LAZY_EDITS {
+            assert_eq!(rt;
+                edited_lazily(rt.alloc(), seed, size, n, most),
+                Ok(true),
+                "seed {seed}, size {size}"
+            );
+        }
+    }
+}
+
+// A child that is exchanged leaves what is known, until that is forgotten.
+fn exchanged(alloc: Global) -> Result<[bool; 5], Memory> {
+    let whole: Dir<u16, u64> = build(alloc, entries(alloc, 3, &shuffled(alloc, 100, 3)?)?)?;
+    let mut dir: Dir<u16, u64> = unread(alloc, 0, 100);
+    let one = step(alloc, 3, 1)?;
+    let none = exchange(&mut dir, &one, 5) == None;
+    let read = read_to(alloc, &mut dir, &whole, &one, false)? == Some(2);
+    let old = exchange(&mut dir, &one, 5) == Some(1) && find(&dir, &one) == Some(&5);
+    let known = knows(dir.root(), 0, 51, 0, &one, false)
+        && !knows(dir.root(), 0, 51, 0, &one, true);
+    forget(alloc, &mut dir, &one);
+    let forgotten = knows(dir.root(), 0, 51, 0, &one, true) && dir.entries().len() < 33;
+    Ok([none, read, old, known, forgotten])
+}
+
+#[test]
+fn a_child_is_exchanged(rt: HostRuntime) {
+    assert_eq!(rt; exchanged(rt.alloc()), Ok([true, true, true, true, true]));
 }

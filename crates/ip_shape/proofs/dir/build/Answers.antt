@@ -1,14 +1,18 @@
 use Rattle.std.proofs.Common.{◌∙◌, sym, []}
-use Rattle.ip_shape.specs.Directory.{entries_from}
+use Rattle.ip_shape.specs.Directory.{entries_from, steps_of}
 use Rattle.ip_shape.proofs.Entries.{own, moved, all_in}
+use Rattle.ip_shape.proofs.Partly.{whole_put, whole_read}
 use Rattle.ip_shape.proofs.dir.build.Goals as goal
 
 pub loop-step-preserved : goal.loop-step-preserved
 loop-step-preserved g c =
-    let done = c.in_ok-insert.ensures.inserted c.loop-step.dir.entries.entries c.loop-step.invariant.0 in
+    let es = c.loop-step.dir.entries.entries in
+    let s = c.in-Some.step in
+    let is = c.loop-step.invariant.0 in
+    let done = c.in_ok-insert.ensures.inserted (steps_of es) es is.0 (whole_read c.loop-step.dir es s is) in
     let last = c.in-Some.ensures.items in (
-      own c.insert.new.dir _ done.1,
-      moved c.loop-step.left.items c.pop.new.self.items c.loop-step.dir.entries.entries c.insert.new.dir.entries.entries (entries_from c.args.entries.items []) c.in-Some.step c.in-Some.child last done.1.0 c.loop-step.invariant.1,
+      own c.insert.new.dir _ (whole_put c.loop-step.dir c.insert.new.dir es s c.in-Some.child is done.1 (λ q. (done.2 q).0)),
+      moved c.loop-step.left.items c.pop.new.self.items es c.insert.new.dir.entries.entries (entries_from c.args.entries.items []) s c.in-Some.child last done.1.0 c.loop-step.invariant.1,
     )
 
 pub returns : goal.returns

@@ -13,7 +13,7 @@ digests_with ss i s =
     ∙ sym (map-append sha256 (take i ss) (s ∷ drop i ss))
 
 pub part_of-requires : goal.part_of-requires
-part_of-requires c =
+part_of-requires g c =
     c.deref-2.ensures.value ∙ elim c.match-position.branch [
       | in-Err+in_ok-copy+in_ok-insert+in_ok-insert-2 w ↦
           let steps = c.args.steps.now in

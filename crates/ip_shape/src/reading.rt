@@ -1,0 +1,398 @@
+// What was not read so far of a directory, and how it is entered when it is.
+ghost use Rattle.std.specs.Prelude.{◌≡◌, ◌≤◌, ◌-◌, ◌+◌, ℕ, true, List, [], length, take, drop, Option, Some, None, slice_get, option_map, IfOk, IfErr, OnOk, OnErr, IfSome};
+ghost use Rattle.sha2.specs.Sha256.{sha256};
+ghost use Rattle.ip_spec.specs.Path.{Step as TheStep};
+ghost use Rattle.ip_spec.specs.Shape.{deepest, is_leaf};
+ghost use Rattle.ip_shape.specs.Shape.{AreSteps, IsLeafOf, IsPart};
+ghost use Rattle.ip_shape.specs.Loaded.{IsFresh, join_of, known_in, unread_in, way, way_to};
+ghost use Rattle.ip_shape.specs.Reading.{AreChildren, IsEntered, IsInodeRead, IsLeafRead, IsMissing, IsNeeded, IsFirstBelow, IsToJoin, IsUnreadOn, Steps, placed_from, spelled_by, steps_under};
+ghost use Rattle.ip_shape.specs.Directory.{AreNew, IsPartly, entries_from, root_of, steps_of};
+ghost use Rattle.ip_shape.specs.declared.part.Part.{Part, out-Part};
+ghost use Rattle.ip_shape.specs.declared.part.Part.TheVariants as variant;
+ghost use Rattle.std.proofs.Math.ListN.{set};
+
+use crate::dir::{Dir, Entries};
+use crate::part::{CHILDREN, LEAF_LIMIT, Part, no_part};
+use crate::places::{DEEPEST, Places};
+use ip_base::{Memory, Step};
+use std::alloc::Global;
+use std::collections::BTreeMap;
+use std::mem;
+
+/// A part that has to be read before a call can go on.
+#[derive(Drop)]
+pub struct UnreadPart<R> {
+    /// The indexes that lead to it, for `read_leaf` and `read_inode`.
+    pub indexes: Vec<u8>,
+    /// The record that spells it.
+    pub record: R,
+}
+
+// The depth and the record of the first unread part on the way to a step.
+fn unread_on<'a, R>(part: &'a Part<R>, places: &Places, depth: u8) -> Option<(u8, &'a R)>
+    requires { depth ≤ deepest }
+    ensures within { IfSome result (λ f. f.0 ≤ deepest) }
+    ensures found { (s : TheStep) → places.now ≡ sha256 s →
+        IsUnreadOn depth (way (deepest - depth) depth s) part.now (option_map {U = ℕ × R} (λ f. (f.0, f.1.now)) result) }
+{
+    match part {
+        Part::Leaf { .. } => None,
+        Part::Inode { children, .. } => {
+            if depth >= DEEPEST {
+                return None;
+            }
+            let index = places.at(depth) as usize;
+            if index >= children.len() {
+                return None;
+            }
+            unread_on(&children[index], places, depth + 1)
+        }
+        Part::Unread { record, .. } => Some((depth, record)),
+    }
+}
+
+// The first of the indexes that lead to a step.
+fn first_indexes(alloc: Global, places: &Places, depth: u8) -> Result<Vec<u8>, Memory>
+    requires { depth ≤ deepest }
+    ensures { (s : TheStep) → places.now ≡ sha256 s → IfOk result (λ indexes. indexes.items ≡ take depth (way_to s)) }
+{
+    let mut indexes = Vec::with_capacity(alloc, depth as usize)?;
+    for i in 0..depth {
+        indexes.push(places.at(i))?;
+    }
+    Ok(indexes)
+}
+
+/// The part that has to be read first before `find` and `insert` can go on at a step, or `None` where each part on the way to it was read.
+pub fn missing<C, R: Copy>(
+    alloc: Global,
+    dir: &Dir<C, R>,
+    step: &Step,
+) -> Result<Option<UnreadPart<R>>, Memory>
+    ensures { IfOk result (λ found. IsMissing step.now (root_of dir.now) (option_map {U = List ℕ × R} (λ m. (m.indexes.items, m.record)) found)) }
+{
+    let places = Places::of(step);
+    match unread_on(dir.root(), &places, 0) {
+        None => Ok(None),
+        Some((depth, record)) => {
+            let indexes = first_indexes(alloc, &places, depth)?;
+            Ok(Some(UnreadPart {
+                indexes,
+                record: *record,
+            }))
+        }
+    }
+}
+
+// The first unread part of a part at a depth: its indexes, the last one first, and its record.
+fn first_unread<'a, R>(
+    alloc: Global,
+    part: &'a Part<R>,
+    depth: u8,
+) -> Result<Option<(Vec<u8>, &'a R)>, Memory>
+    ensures { (steps : List TheStep) → depth ≤ deepest → IsPart (deepest - depth) depth steps part.now →
+        IfOk result (λ found. IsFirstBelow part.now (option_map {U = List ℕ × R} (λ f. (f.0.items, f.1.now)) found)) }
+{
+    match part {
+        Part::Leaf { .. } => Ok(None),
+        Part::Inode { children, .. } => {
+            if depth >= DEEPEST {
+                return Ok(None);
+            }
+            for index in 0..CHILDREN {
+                if index as usize >= children.len() {
+                    return Ok(None);
+                }
+                let found = first_unread(alloc, &children[index as usize], depth + 1)?;
+                if let Some((mut indexes, record)) = found {
+                    indexes.push(index)?;
+                    return Ok(Some((indexes, record)));
+                }
+            }
+            Ok(None)
+        }
+        Part::Unread { record, .. } => Ok(Some((Vec::new(alloc), record))),
+    }
+}
+
+// An unread part below the uppermost part on the way to a step that becomes a leaf without the step.
+fn unread_to_join<'a, R>(
+    alloc: Global,
+    part: &'a Part<R>,
+    places: &Places,
+    depth: u8,
+) -> Result<Option<(Vec<u8>, &'a R)>, Memory>
+    ensures { (s : TheStep) (steps : List TheStep) → places.now ≡ sha256 s → depth ≤ deepest → IsPart (deepest - depth) depth steps part.now →
+        unread_in (way (deepest - depth) depth s) part.now ≡ None →
+        IfOk result (λ found. IsToJoin (join_of (deepest - depth) depth s steps) part.now (option_map {U = List ℕ × R} (λ f. (f.0.items, f.1.now)) found)) }
+{
+    match part {
+        Part::Leaf { .. } => Ok(None),
+        Part::Inode {
+            count,
+            children,
+            ..
+        } => {
+            if depth >= DEEPEST {
+                return Ok(None);
+            }
+            if *count == LEAF_LIMIT + 1 {
+                return first_unread(alloc, part, depth);
+            }
+            let index = places.at(depth);
+            if index as usize >= children.len() {
+                return Ok(None);
+            }
+            match unread_to_join(alloc, &children[index as usize], places, depth + 1)? {
+                None => Ok(None),
+                Some((mut indexes, record)) => {
+                    indexes.push(index)?;
+                    Ok(Some((indexes, record)))
+                }
+            }
+        }
+        Part::Unread { .. } => Ok(None),
+    }
+}
+
+/// The part that has to be read next before `remove` can go on at a step, or `None` where each of them was read: those on the way to the step, and where it is there and an
+/// inode becomes a leaf without it, each part below that inode.
+pub fn missing_to_remove<C, R: Copy>(
+    alloc: Global,
+    dir: &Dir<C, R>,
+    step: &Step,
+) -> Result<Option<UnreadPart<R>>, Memory>
+    ensures { (steps : List TheStep) (entries : List (TheStep × C)) → IsPartly dir.now steps entries →
+        IfOk result (λ found. IsNeeded step.now steps (root_of dir.now) (option_map {U = List ℕ × R} (λ m. (m.indexes.items, m.record)) found)) }
+{
+    let places = Places::of(step);
+    if let Some((depth, record)) = unread_on(dir.root(), &places, 0) {
+        let indexes = first_indexes(alloc, &places, depth)?;
+        return Ok(Some(UnreadPart {
+            indexes,
+            record: *record,
+        }));
+    }
+    if !dir.entries.contains_key(step) {
+        return Ok(None);
+    }
+    match unread_to_join(alloc, dir.root(), &places, 0)? {
+        None => Ok(None),
+        Some((mut indexes, record)) => {
+            indexes.reverse();
+            Ok(Some(UnreadPart {
+                indexes,
+                record: *record,
+            }))
+        }
+    }
+}
+
+// What was read of a part.
+#[derive(Drop)]
+pub enum Content<R> {
+    Leaf(Vec<Step>),
+    Inode(Vec<Part<R>>),
+}
+
+// The part that a record spells, which holds so many steps.
+fn spelled<R: Drop>(by: R, count: usize, content: Content<R>) -> Part<R>
+    ensures { result ≡ spelled_by by count content }
+{
+    let known = Some(by);
+    match content {
+        Content::Leaf(steps) => Part::Leaf { known, steps },
+        Content::Inode(children) => Part::Inode {
+            known,
+            count,
+            children,
+        },
+    }
+}
+
+// The part where what was read is entered in place of an unread part, to which the indexes from one place on lead.
+fn entered<R: Drop>(
+    alloc: Global,
+    part: Part<R>,
+    indexes: &[u8],
+    at: usize,
+    content: Content<R>,
+) -> Part<R>
+    requires { at ≤ length indexes.now }
+    ensures shape { (depth : ℕ) (steps : List TheStep) (r : R) → depth ≤ deepest → IsPart (deepest - depth) depth steps part → unread_in (drop at indexes.now) part ≡ Some (r, []) →
+        Steps depth (drop at indexes.now) steps (spelled_by r (length (steps_under depth (drop at indexes.now) steps)) content) → IsPart (deepest - depth) depth steps result }
+    ensures put { (depth : ℕ) (steps : List TheStep) (r : R) → depth ≤ deepest → IsPart (deepest - depth) depth steps part → unread_in (drop at indexes.now) part ≡ Some (r, []) →
+        IsEntered (drop at indexes.now) (spelled_by r (length (steps_under depth (drop at indexes.now) steps)) content) part result }
+{
+    match part {
+        Part::Leaf { known, steps } => Part::Leaf { known, steps },
+        Part::Inode {
+            known,
+            count,
+            mut children,
+        } => {
+            if at >= indexes.len() {
+                return Part::Inode {
+                    known,
+                    count,
+                    children,
+                };
+            }
+            let index = indexes[at] as usize;
+            if index >= children.len() {
+                return Part::Inode {
+                    known,
+                    count,
+                    children,
+                };
+            }
+            let below = mem::replace(&mut children[index], no_part(alloc));
+            children[index] = entered(alloc, below, indexes, at + 1, content);
+            Part::Inode {
+                known,
+                count,
+                children,
+            }
+        }
+        Part::Unread { record, count } => {
+            if at < indexes.len() {
+                return Part::Unread { record, count };
+            }
+            spelled(record, count, content)
+        }
+    }
+}
+
+// The steps of entries.
+fn steps_in<C>(alloc: Global, entries: &[(Step, C)]) -> Result<Vec<Step>, Memory>
+    ensures { IfOk result (λ steps. steps.items ≡ steps_of entries.now) }
+{
+    let mut steps = Vec::with_capacity(alloc, entries.len())?;
+    for i in 0..entries.len() {
+        steps.push(entries[i].0.copy(alloc)?)?;
+    }
+    Ok(steps)
+}
+
+// Puts entries into a map that has none of their steps. An `Err` leaves the map as it was. It calls itself once for each entry, of which a leaf above depth 51 has at most 32.
+fn enter<C: Drop>(
+    alloc: Global,
+    map: &mut BTreeMap<Step, C>,
+    entries: Entries<C>,
+) -> Result<(), Memory>
+    ensures entered { OnOk result (map.new.entries ≡ entries_from entries.items map.old.entries) }
+    ensures refused { AreNew entries.items map.old.entries → OnErr result (map.new.entries ≡ map.old.entries) }
+{
+    let mut left = entries;
+    match left.pop() {
+        None => Ok(()),
+        Some((step, child)) => {
+            let key = step.copy(alloc)?;
+            map.insert(key, child)?;
+            match enter(alloc, map, left) {
+                Ok(()) => Ok(()),
+                Err(_) => {
+                    map.remove(&step);
+                    Err(Memory)
+                }
+            }
+        }
+    }
+}
+
+/// Enters what was read of the unread part at these indexes: the entries of a leaf, in the order of their steps. An `Err` leaves the directory as it was.
+pub fn read_leaf<C: Drop, R: Drop>(
+    alloc: Global,
+    dir: &mut Dir<C, R>,
+    indexes: &[u8],
+    entries: Entries<C>,
+) -> Result<(), Memory>
+    ensures read { (steps : List TheStep) (old : List (TheStep × C)) (r : R) → IsPartly dir.old steps old → unread_in indexes.now (root_of dir.old) ≡ Some (r, []) →
+        steps_of entries.items ≡ steps_under 0 indexes.now steps → is_leaf (length indexes.now) entries.items ≡ true →
+        OnOk result (IsPartly dir.new steps (entries_from entries.items old) × IsLeafRead indexes.now r (root_of dir.old) (root_of dir.new)) }
+    ensures refused { (steps : List TheStep) (old : List (TheStep × C)) (r : R) → IsPartly dir.old steps old → unread_in indexes.now (root_of dir.old) ≡ Some (r, []) →
+        steps_of entries.items ≡ steps_under 0 indexes.now steps → OnErr result (IsPartly dir.new steps old × (root_of dir.new ≡ root_of dir.old)) }
+{
+    let steps = steps_in(alloc, &entries)?;
+    enter(alloc, &mut dir.entries, entries)?;
+    let root = mem::replace(&mut dir.root, no_part(alloc));
+    dir.root = entered(alloc, root, indexes, 0, Content::Leaf(steps));
+    Ok(())
+}
+
+/// A child of an inode that was read.
+#[derive(Drop)]
+pub struct Child<R> {
+    /// Its index, below 32.
+    pub index: u8,
+    /// The record that spells it.
+    pub record: R,
+    /// How many entries it has.
+    pub count: usize,
+}
+
+// As many empty parts as an inode has children.
+fn no_children<R: Drop>(alloc: Global) -> Result<Vec<Part<R>>, Memory>
+    ensures long { IfOk result (λ parts. length parts.items ≡ 32) }
+    ensures empty { IfOk result (λ parts. (i : ℕ) (part : Part R) → slice_get parts.items i ≡ Some part → IsLeafOf [] (out-Part R part) × IsFresh part) }
+{
+    let mut parts = Vec::with_capacity(alloc, CHILDREN as usize)?;
+    for _ in 0..CHILDREN {
+        parts.push(no_part(alloc))?;
+    }
+    Ok(parts)
+}
+
+// Puts a child at its index. One that has no place is left out.
+fn put_child<R: Drop>(parts: &mut Vec<Part<R>>, child: Child<R>)
+    ensures { parts.new.items ≡ set parts.old.items child.index (variant.Unread child.record child.count) }
+{
+    let index = child.index as usize;
+    if index < parts.len() {
+        parts[index] = Part::Unread {
+            record: child.record,
+            count: child.count,
+        };
+    }
+}
+
+// Parts where the children stand, each at its index. Of two with one index the first counts.
+fn with_children<R: Drop>(parts: Vec<Part<R>>, children: Vec<Child<R>>) -> Vec<Part<R>>
+    ensures { result.items ≡ placed_from children.items parts.items }
+{
+    let mut placed = parts;
+    let mut left = children;
+    while let Some(child) = left.pop() {
+        put_child(&mut placed, child);
+    }
+    placed
+}
+
+/// Enters what was read of the unread part at these indexes: the children of an inode. An `Err` leaves the directory as it was.
+pub fn read_inode<C, R: Drop>(
+    alloc: Global,
+    dir: &mut Dir<C, R>,
+    indexes: &[u8],
+    children: Vec<Child<R>>,
+) -> Result<(), Memory>
+    ensures read { (steps : List TheStep) (old : List (TheStep × C)) (r : R) → IsPartly dir.old steps old → unread_in indexes.now (root_of dir.old) ≡ Some (r, []) →
+        AreChildren (length indexes.now) (steps_under 0 indexes.now steps) children.items →
+        OnOk result (IsPartly dir.new steps old × IsInodeRead indexes.now r children.items (root_of dir.old) (root_of dir.new)) }
+    ensures refused { OnErr result (dir.new ≡ dir.old) }
+{
+    let parts = with_children(no_children(alloc)?, children);
+    let root = mem::replace(&mut dir.root, no_part(alloc));
+    dir.root = entered(alloc, root, indexes, 0, Content::Inode(parts));
+    Ok(())
+}
+
+/// A directory of which nothing was read so far but how many entries it has.
+pub fn unread<C, R>(alloc: Global, by: R, count: usize) -> Dir<C, R>
+    ensures partly { (steps : List TheStep) → AreSteps steps → count ≡ length steps → IsPartly result steps [] }
+    ensures known { (is : List ℕ) → (unread_in is (root_of result) ≡ Some (by, is)) × (known_in is (root_of result) ≡ None) }
+{
+    Dir {
+        entries: BTreeMap::new(alloc),
+        root: Part::Unread { record: by, count },
+    }
+}
