@@ -188,7 +188,7 @@ pub fn missing_to_remove<C, R: Copy>(
     }
 }
 
-// What was read of a part.
+/// What was read of a part.
 #[derive(Drop)]
 pub enum Content<R> {
     Leaf(Vec<Step>),
