@@ -2,21 +2,19 @@
 --     same_tables      a store with the same tables.      after_tables, after_lawful      the tables and the work after the commit
 --     can_step      what the durable step asks.      stands_old, stands_new      the images that it leaves
 --     made, cut, refused      the relation of a commit that was made, that a fault cut short, and that was refused
-use Rattle.std.proofs.Common.{◌≡◌, ◌≢◌, ◌⊎◌, inl, inr, ℕ, ◌+◌, ◌-◌, ◌<◌, ◌≤◌, Bool, true, false, List, [], ◌∷◌, ◌++◌, length, Option, Some, None, sym, ◌∙◌, ap, subst, arith, take, length-append}
+use Rattle.std.proofs.Common.{◌≡◌, ◌≢◌, ℕ, ◌+◌, ◌-◌, ◌<◌, ◌≤◌, Bool, true, false, List, [], ◌∷◌, ◌++◌, length, Option, Some, None, sym, ◌∙◌, ap, subst, arith, length-append}
 use Rattle.std.specs.Prelude.{Result, Ok, Err, All, AllPairs, IsTrue, IfSome, nat_le, nat_lt, ◌&&◌, cond}
 use Rattle.std.specs.List.{AllByRecursion}
-use Rattle.std.proofs.lemmas.List.{map-append, length-take-le}
-use Rattle.std.proofs.lemmas.Result.{on_ok_weaker}
+use Rattle.std.proofs.lemmas.List.{map-append}
 use Rattle.std.proofs.lemmas.List.Elements.{All-from_recursion, recursion_from_All}
 use Rattle.std.proofs.lemmas.Bool.Decides.{nat_tests}
 use Rattle.std.specs.Cmp.Lexicographic.{nat_list_cmp_total}
 use Rattle.std.specs.Ordering.{eq_by_cmp}
 use Rattle.ip_base.specs.declared.info.Info.{Info}
-use Rattle.ip_ground.specs.declared.names.FileName.TheVariants.{Control, Chunk}
+use Rattle.ip_ground.specs.declared.names.FileName.TheVariants.{Chunk}
 use Rattle.ip_ground.specs.declared.names.GroundFault.{GroundFault}
-use Rattle.ip_ground.specs.Contents.{Image, Possible, bytes_of}
-use Rattle.ip_ground.specs.Told.{Told, NoFile}
-use Rattle.ip_ground.proofs.Spans.{only_nowhere}
+use Rattle.ip_ground.specs.Contents.{Image}
+use Rattle.ip_ground.specs.Told.{Told}
 use Rattle.ip_spec.specs.declared.command.Command.{Command}
 use Rattle.ip_spec.specs.declared.met.Met.{Met}
 use Rattle.ip_spec.specs.Machine.{State}
@@ -31,26 +29,25 @@ use Rattle.ip_spec.specs.View.{View}
 use Rattle.ip_spec.specs.Batch.{Sources, CommitFields, tree_batch, batch}
 use Rattle.ip_spec.specs.Step.{new_commit, with_commit, turned, Turned, IsMet}
 use Rattle.ip_image.specs.declared.slot.Slot.{Slot}
-use Rattle.ip_image.specs.Slot.{IsSlot, IsLive, slot_bytes}
+use Rattle.ip_image.specs.Slot.{IsSlot, slot_bytes}
 use Rattle.ip_image.specs.Standing.{StandsFor, AreRetained}
 use Rattle.ip_image.specs.Appending.{BeginsWith, front_of, HasLive, next_slot, bytes_of_records}
-use Rattle.ip_image.specs.Headline.{IsInOrder, Keeps, Secures}
-use Rattle.ip_image.proofs.HeadlineLaws.{begins_take}
-use Rattle.ip_image.proofs.InChunk.{in_chunk, all_inside}
-use Rattle.ip_image.proofs.AppendingLaws.{stands_still, stands_next}
-use Rattle.ip_control.specs.Live.{live_slot, live_of}
-use Rattle.ip_control.specs.Changes.{control}
-use Rattle.ip_control.proofs.LiveLaws.{is_live, live_from, spare_from, newer_from, reaches_from}
+use Rattle.ip_image.proofs.AppendingLaws.{stands_next}
+use Rattle.ip_control.specs.Live.{live_slot}
+use Rattle.ip_history.specs.History.{History, HasParentsFirst}
+use Rattle.ip_history.proofs.Parents.{first_push}
+use Rattle.ip_store.specs.Histories.{with_parents, MayEnter}
 use Rattle.ip_store.specs.declared.committing.Plan.{Plan}
 use Rattle.ip_store.specs.declared.committing.StoreFault.{StoreFault}
 use Rattle.ip_store.specs.declared.store.Store.{Store}
 use Rattle.ip_store.specs.declared.work.Work.{Work}
-use Rattle.ip_store.specs.Commits.{IsPlan, IsRefusal, Commits, Answers, repository_after, fault_reply, met_by, conditions_of, met_nothing, end_of}
-use Rattle.ip_store.specs.Publishing.{StandsAs, LeavesFront, CanStep, MakesStep, TheTwo}
+use Rattle.ip_store.specs.Commits.{IsPlan, IsRefusal, Commits, Answers, repository_after, fault_reply, met_of, conditions_of, met_nothing, end_of}
+use Rattle.ip_store.specs.Publishing.{StandsAs, CanStep, MakesStep}
 use Rattle.ip_store.specs.Store.{IsOf, Holds, IsLawful, session}
 use Rattle.ip_store.proofs.Secured.{in_image, held_has}
 use Rattle.ip_store.proofs.Stepping.{same_tables, may_step, changed, cut_short}
 use Rattle.ip_store.proofs.Hashes.{sha_is_hash}
+use Rattle.ip_store.proofs.Histories.{history_committed}
 use Rattle.ip_store.proofs.Machine.{met_done}
 
 -- ---- tables
@@ -123,8 +120,9 @@ module _ (r : Repository) (work : Work) (branch : Bytes) (info : Info) (store : 
       each : (name : Bytes) → IfSome (get (insert r.branches branch (next r)) name) (λ n. (store.slot.floor ≤ n) × (n < store.slot.next + 1))
       each name = subst (λ o. IfSome o (λ n. (store.slot.floor ≤ n) × (n < store.slot.next + 1))) (sym (get-insert nat_list_cmp_total r.branches branch (next r) name)) (by_test (eq_by_cmp bytes_cmp name branch) (get r.branches name) (of.retained.each name))
 
-  pub after_tables : (store' : Store) → store'.slot ≡ plan.slot → store'.index ≡ 1 - store.index → store'.names ≡ store.names ++ plan.batch.name ∷ [] → store'.branches ≡ insert store.branches plan.branch plan.number → IsOf store' after
-  after_tables store' slot index names branches = record {
+  pub after_tables : (store' : Store) → store'.slot ≡ plan.slot → store'.index ≡ 1 - store.index → store'.names ≡ store.names ++ plan.batch.name ∷ [] → store'.branches ≡ insert store.branches plan.branch plan.number
+      → MayEnter store.history work.parents → store'.history ≡ with_parents store.history work.parents → IsOf store' after
+  after_tables store' slot index names branches enters history = record {
     slot = subst IsSlot (sym slot) slot_after;
     index = subst (λ (i : ℕ). i < 2) (sym index) (omega arith);
     floor = of.floor ∙ ap (λ (s : Slot). s.floor) (sym is.slot) ∙ ap (λ (s : Slot). s.floor) (sym slot);
@@ -133,6 +131,8 @@ module _ (r : Repository) (work : Work) (branch : Bytes) (info : Info) (store : 
     hashes = subst (All IsHash) (sym names) (All-from_recursion IsHash (store.names ++ plan.batch.name ∷ []) (all_append IsHash store.names plan.batch.name (recursion_from_All IsHash store.names of.hashes) (subst IsHash (sym is.name) (sha_is_hash _))));
     branches = ap (λ m. insert m branch (next r)) of.branches ∙ ap (λ b. insert store.branches b (next r)) (sym is.same_branch) ∙ ap (λ (n : ℕ). insert store.branches plan.branch n) (sym is.number) ∙ sym branches;
     retained = subst (λ (s : Slot). AreRetained s after.branches) (sym slot) retained_after;
+    history = history_committed r work.tree work.parents info branch ∙ ap (λ (h : History). with_parents h work.parents) of.history ∙ sym history;
+    parents_first = subst HasParentsFirst (sym history) (first_push store.history of.parents_first work.parents enters.1);
   }
 
   next_retained : IsTrue (is_retained after (next r))
@@ -179,12 +179,12 @@ module _ (r : Repository) (work : Work) (branch : Bytes) (info : Info) (store : 
 
 -- the answer of a refusal
 pub answers_refused : (r : Repository) (work : Work) (branch : Bytes) (info : Info) (fault : StoreFault) (store : Store) → IsOf store r → IsLawful r work → IsRefusal r work branch info fault
-    → IfSome (fault_reply fault) (λ reply. Answers (session r work) (Command.Commit branch info) (met_by (Err fault)) reply store work)
+    → IfSome (fault_reply fault) (λ reply. Answers (session r work) (Command.Commit branch info) (met_of fault) reply store work)
 answers_refused r work branch info fault store of lawful is = by_reply (fault_reply fault) is
   where
-    by_reply : (o : Option Reply) → IfSome o (λ reply. IsMet (session r work) (Command.Commit branch info) (conditions_of (met_by (Err fault))) reply
-        × (turned (session r work) (Command.Commit branch info) (conditions_of (met_by (Err fault))) ≡ (reply, session r work)))
-        → IfSome o (λ reply. Answers (session r work) (Command.Commit branch info) (met_by (Err fault)) reply store work)
+    by_reply : (o : Option Reply) → IfSome o (λ reply. IsMet (session r work) (Command.Commit branch info) (conditions_of (met_of fault)) reply
+        × (turned (session r work) (Command.Commit branch info) (conditions_of (met_of fault)) ≡ (reply, session r work)))
+        → IfSome o (λ reply. Answers (session r work) (Command.Commit branch info) (met_of fault) reply store work)
     by_reply None is = tt
     by_reply (Some reply) (met, turn) = record { after = r; is_met = met; turn = turn; tables = of; lawful = lawful }
 
@@ -207,7 +207,7 @@ answers_made r work work' branch info store store' plan name none is named work_
 
 -- ---- the same store, with what was met
 
-pub same_answers : (store store' : Store) → store'.slot ≡ store.slot → store'.index ≡ store.index → store'.names ≡ store.names → store'.branches ≡ store.branches
+pub same_answers : (store store' : Store) → store'.slot ≡ store.slot → store'.index ≡ store.index → store'.names ≡ store.names → store'.branches ≡ store.branches → store'.history ≡ store.history
     → (s : State) (command : Command) (met : Met) (work : Work) (o : Option Reply) → IfSome o (λ reply. Answers s command met reply store work) → IfSome o (λ reply. Answers s command met reply store' work)
-same_answers store store' slot index names branches s command met work None p = tt
-same_answers store store' slot index names branches s command met work (Some reply) p = record { after = p.after; is_met = p.is_met; turn = p.turn; tables = same_tables store store' p.after slot index names branches p.tables; lawful = p.lawful }
+same_answers store store' slot index names branches history s command met work None p = tt
+same_answers store store' slot index names branches history s command met work (Some reply) p = record { after = p.after; is_met = p.is_met; turn = p.turn; tables = same_tables store store' p.after slot index names branches history p.tables; lawful = p.lawful }

@@ -15,7 +15,7 @@ use Rattle.std.specs.declared.cmp.Ordering.{Ordering}
 use Rattle.std.specs.declared.cmp.Ordering.TheVariants.{Less, Equal, Greater}
 use Rattle.std.specs.FinMap.Entries as E
 use Rattle.std.specs.FinMap.Entries.{find, is_sorted, below_all, where_key}
-use Rattle.std.specs.Prelude.{Some}
+use Rattle.std.specs.Prelude.{Option, Some, None}
 use Rattle.ip_spec.specs.Map.{Map, empty, insert, insert_all, from_entries, entries-insert}
 use Rattle.ip_spec.specs.Path.{Bytes, bytes_cmp}
 use Rattle.ip_spec.proofs.Subtrees.{step_antisymmetric}
@@ -87,6 +87,16 @@ module _ {X : Type 0} where
       by Less is less rest = ap (λ o. cond (not (is_eq o)) (e ∷ where_key bytes_cmp (λ x. not (eq_by_cmp bytes_cmp name x)) es) (where_key bytes_cmp (λ x. not (eq_by_cmp bytes_cmp name x)) es)) is ∙ ap (λ ys. e ∷ ys) rest
       by Equal is less rest = absurd less
       by Greater is less rest = absurd less
+
+  -- nor where there is none
+  pub absent_stays : (name : Bytes) (es : List (Bytes × X)) → find bytes_cmp name es ≡ None → where_key bytes_cmp (λ x. not (eq_by_cmp bytes_cmp name x)) es ≡ es
+  absent_stays name [] none = refl
+  absent_stays name (e ∷ es) none = by (is_eq (bytes_cmp name e.0)) none (absent_stays name es)
+    where
+      by : (b : Bool) → ◌≡◌ {A = Option X} (cond b (Some e.1) (find bytes_cmp name es)) None → (find bytes_cmp name es ≡ None → where_key bytes_cmp (λ x. not (eq_by_cmp bytes_cmp name x)) es ≡ es)
+          → cond (not b) (e ∷ where_key bytes_cmp (λ x. not (eq_by_cmp bytes_cmp name x)) es) (where_key bytes_cmp (λ x. not (eq_by_cmp bytes_cmp name x)) es) ≡ e ∷ es
+      by true some rest = absurd (cc (some))
+      by false none rest = ap (λ ys. e ∷ ys) (rest none)
 
   pub out_in : (name : Bytes) (es : Pairs X) → T (is_sorted bytes_cmp (told es))
       → told (remove_entry (λ k. is_eq (bytes_cmp name k.items)) es) ≡ where_key bytes_cmp (λ x. not (eq_by_cmp bytes_cmp name x)) (told es)

@@ -13,8 +13,12 @@ mod Hashes
 mod Planning
 pub mod Secured
 mod Stepping
+mod Renamed
+mod BranchTurns
 mod AfterCommit
 mod Numbered
+mod Histories
+mod Removed
 mod FrontRecords
 mod LongestRecord
 mod ReadAhead

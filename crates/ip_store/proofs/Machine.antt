@@ -15,7 +15,7 @@ use Rattle.ip_spec.specs.Step.{IsMet, Refused, Turned, outcome, turned, answer, 
 use Rattle.ip_store.specs.declared.work.Work.{Work}
 use Rattle.ip_image.specs.declared.slot.Slot.{Slot}
 use Rattle.ip_store.specs.declared.committing.StoreFault.{StoreFault}
-use Rattle.ip_store.specs.Commits.{met_nothing, met_by, short_of, conditions_of, refusal, refused_by, SlotBehind, IsRefusal, committed}
+use Rattle.ip_store.specs.Commits.{met_nothing, met_of, short_of, conditions_of, refusal, refused_by, SlotBehind, IsRefusal, committed}
 use Rattle.ip_store.specs.Store.{session}
 
 -- what an answer is refused by
@@ -55,7 +55,7 @@ module _ (r : Repository) (work : Work) (branch : Bytes) (info : Info) (none_bel
       ap (λ b. if b then (Reply.Memory, state_with_exit s s.phase met.child) else answer s (Command.Commit branch info) (conditions_of met)) unrefused
       ∙ ap (or_refused s) (outcome_is met ∙ is)
 
-  turn_memory : turned s (Command.Commit branch info) (conditions_of (met_by (Err StoreFault.Memory))) ≡ (Reply.Memory, s)
+  turn_memory : turned s (Command.Commit branch info) (conditions_of (met_of StoreFault.Memory)) ≡ (Reply.Memory, s)
   unfolding turned
   turn_memory = refl
 
@@ -78,7 +78,7 @@ module _ (r : Repository) (work : Work) (branch : Bytes) (info : Info) (none_bel
         refused = λ t. absurd (cc (t));
       }
 
-  met_short : (limit : Limit) → IfSome (short_of limit) (λ l. (Reply.Limit limit ≡ Reply.Limit l) × MayBeShort l) → IsMet s (Command.Commit branch info) (conditions_of (met_by (Err (StoreFault.Limit limit)))) (Reply.Limit limit)
+  met_short : (limit : Limit) → IfSome (short_of limit) (λ l. (Reply.Limit limit ≡ Reply.Limit l) × MayBeShort l) → IsMet s (Command.Commit branch info) (conditions_of (met_of (StoreFault.Limit limit))) (Reply.Limit limit)
   met_short limit so = record {
     child = refl;
     checking = tt;
@@ -99,7 +99,7 @@ module _ (r : Repository) (work : Work) (branch : Bytes) (info : Info) (none_bel
   short_so Limit.Sequence = (refl, tt)
   short_so Limit.Attempt = tt
 
-  met_memory : IsMet s (Command.Commit branch info) (conditions_of (met_by (Err StoreFault.Memory))) Reply.Memory
+  met_memory : IsMet s (Command.Commit branch info) (conditions_of (met_of StoreFault.Memory)) Reply.Memory
   met_memory = record {
     child = refl;
     checking = tt;
@@ -117,7 +117,7 @@ module _ (r : Repository) (work : Work) (branch : Bytes) (info : Info) (none_bel
   by_fault : (fault : StoreFault) → ((met : Met) → chain met ≡ Err (refusal fault)) → IsRefusal r work branch info fault
   by_fault (StoreFault.HeadMoved name) is = (met_with met_nothing (Reply.HeadMoved name) refl, turn_refused met_nothing (Reply.HeadMoved name) refl (is met_nothing))
   by_fault (StoreFault.Existing name) is = (met_with met_nothing (Reply.Existing name) refl, turn_refused met_nothing (Reply.Existing name) refl (is met_nothing))
-  by_fault (StoreFault.Limit limit) is = (met_short limit (short_so limit), turn_refused (met_by (Err (StoreFault.Limit limit))) (Reply.Limit limit) refl (is (met_by (Err (StoreFault.Limit limit)))))
+  by_fault (StoreFault.Limit limit) is = (met_short limit (short_so limit), turn_refused (met_of (StoreFault.Limit limit)) (Reply.Limit limit) refl (is (met_of (StoreFault.Limit limit))))
   by_fault StoreFault.Memory is = (met_memory, turn_memory)
   by_fault StoreFault.Ground is = tt
 
@@ -150,8 +150,8 @@ module _ (r : Repository) (work : Work) (branch : Bytes) (info : Info) (none_bel
 
         -- space or sequence is short, and the met says so
         pub refused_short : (slot : Slot) (length : ℕ) (fault : StoreFault) → SlotBehind slot length (Err fault) → IsRefusal r work branch info fault
-        refused_short slot length (StoreFault.Limit Limit.Space) is = (met_short Limit.Space (refl, tt), turn_refused (met_by (Err (StoreFault.Limit Limit.Space))) (Reply.Limit Limit.Space) refl (behind_name (met_by (Err (StoreFault.Limit Limit.Space)))))
-        refused_short slot length (StoreFault.Limit Limit.Sequence) is = (met_short Limit.Sequence (refl, tt), turn_refused (met_by (Err (StoreFault.Limit Limit.Sequence))) (Reply.Limit Limit.Sequence) refl (behind_name (met_by (Err (StoreFault.Limit Limit.Sequence)))))
+        refused_short slot length (StoreFault.Limit Limit.Space) is = (met_short Limit.Space (refl, tt), turn_refused (met_of (StoreFault.Limit Limit.Space)) (Reply.Limit Limit.Space) refl (behind_name (met_of (StoreFault.Limit Limit.Space))))
+        refused_short slot length (StoreFault.Limit Limit.Sequence) is = (met_short Limit.Sequence (refl, tt), turn_refused (met_of (StoreFault.Limit Limit.Sequence)) (Reply.Limit Limit.Sequence) refl (behind_name (met_of (StoreFault.Limit Limit.Sequence))))
         refused_short slot length (StoreFault.Limit _) is = absurd is
         refused_short slot length (StoreFault.HeadMoved name) is = absurd is
         refused_short slot length (StoreFault.Existing name) is = absurd is

@@ -6,28 +6,31 @@
 use Rattle.std.proofs.Common.{◌≡◌, inl, ℕ, ◌+◌, ◌-◌, ◌*◌, List, [], ◌∷◌, ◌++◌, map, length, refl, sym, ◌∙◌, ap, subst, arith, append-nil}
 use Rattle.std.proofs.lemmas.Bool.Decides.{nat_tests}
 use Rattle.std.proofs.lemmas.List.{length-map}
-use Rattle.std.specs.Prelude.{Option, Some, None, true, nat_le, if◌then◌else◌, fold, IfSome}
+use Rattle.std.specs.Prelude.{Option, Some, None, true, nat_le, if◌then◌else◌, fold, filter_map, IfSome}
 use Rattle.std.specs.Option.{option_and_then, option_map}
-use Rattle.std.specs.List.{AllZip}
+use Rattle.std.specs.List.{AllZip, cons_option}
 use Rattle.ip_ground.specs.declared.names.FileName.{FileName}
 use Rattle.ip_ground.specs.declared.names.FileName.TheVariants.{Control, Chunk, Prefix}
 use Rattle.ip_ground.specs.Contents.{Content, Image, bytes_of}
 use Rattle.ip_spec.specs.declared.record.Record.{Record}
 use Rattle.ip_spec.specs.declared.record.CommitRecord.{CommitRecord}
+use Rattle.ip_spec.specs.declared.record.Parent.{Parent}
 use Rattle.ip_spec.specs.Record.{Names}
 use Rattle.ip_spec.specs.Map.{Map, empty}
 use Rattle.ip_spec.specs.Path.{Bytes, bytes_cmp}
 use Rattle.ip_spec.specs.TreeAt.{Records}
-use Rattle.ip_spec.specs.Repository.{Repository, Commit}
+use Rattle.ip_spec.specs.Repository.{Repository, Commit, CommitParent}
 use Rattle.ip_image.specs.declared.slot.Slot.{Slot}
 use Rattle.ip_image.specs.Slot.{IsSlot, IsLive, live_index, layout_of}
 use Rattle.ip_image.specs.Virtual.{locate, byte_of, virtual_byte, lies_at}
-use Rattle.ip_image.specs.Standing.{EndToEnd, RunByRun, FillTo, IsServedKind, AreGood, Generation, stretches, named, names_after, commits_in, AreRetained, WholeFits, Spells, StandsFor, NoStore, DamagedAt, no_form, no_record, no_whole}
+use Rattle.ip_image.specs.Standing.{EndToEnd, RunByRun, FillTo, IsServedKind, AreGood, Generation, stretches, named, names_after, commits_in, AreRetained, WholeFits, Spells, StandsFor, parent_of, NoStore, DamagedAt, no_form, no_record, no_whole}
 use Rattle.ip_image.specs.Appending.{HasLive}
 use Rattle.ip_image.proofs.InChunk.{stands_by}
 use Rattle.ip_image.proofs.SpelledCommits.{commits_spelled}
 use Rattle.ip_audit.specs.Audits.{commit_name}
+use Rattle.ip_history.specs.History.{history_of}
 use Rattle.ip_store.specs.Control.{control_in}
+use Rattle.ip_store.specs.Histories.{numbers_in, history_in}
 use Rattle.ip_store.specs.Walk.{BadRecord}
 
 -- ---- the control file
@@ -168,6 +171,18 @@ names_spelled records (c ∷ cs) (m ∷ ms) is =
     same_some : (a b : Bytes) → Some a ≡ Some b → b ≡ a
     same_some a b e = cc
 
+history_spelled : (records : Records) (cs : List CommitRecord) (ms : List Commit) → AllZip (Spells records) cs ms → map (λ (m : Commit). filter_map (λ (p : CommitParent). p.number) m.parents) ms ≡ map (λ (c : CommitRecord). numbers_in c.parents) cs
+history_spelled records [] [] is = refl
+history_spelled records [] (m ∷ ms) is = absurd is
+history_spelled records (c ∷ cs) [] is = absurd is
+history_spelled records (c ∷ cs) (m ∷ ms) is =
+    let first : filter_map (λ (p : CommitParent). p.number) m.parents ≡ numbers_in c.parents = ap (filter_map (λ (p : CommitParent). p.number)) is.0.parents ∙ known c.parents in
+    λ i. first i ∷ history_spelled records cs ms is.1 i
+  where
+    known : (ps : List Parent) → filter_map (λ (p : CommitParent). p.number) (map parent_of ps) ≡ numbers_in ps
+    known [] = refl
+    known (p ∷ ps) = ap (cons_option (parent_of p).number) (known ps)
+
 pub repository_of : (s : Slot) (records : Records) → AreGood s [] records → Repository
 repository_of s records good = record { floor = s.floor; commits = (commits_spelled s records good).0; branches = named Names.branches records; tags = named Names.tags records }
 
@@ -175,6 +190,10 @@ module _ (s : Slot) (records : Records) (good : AreGood s [] records) where
   pub repository_names : map (λ m. m.name) (repository_of s records good).commits ≡ map commit_name (commits_in records)
   unfolding repository_of
   repository_names = names_spelled records (commits_in records) (commits_spelled s records good).0 (commits_spelled s records good).1
+
+  pub repository_history : history_of (repository_of s records good) ≡ history_in s.floor records
+  unfolding repository_of
+  repository_history = ap (λ (ns : List (List ℕ)). record { floor = s.floor; parents = ns }) (history_spelled records (commits_in records) (commits_spelled s records good).0 (commits_spelled s records good).1)
 
   pub repository_floor : (repository_of s records good).floor ≡ s.floor
   unfolding repository_of

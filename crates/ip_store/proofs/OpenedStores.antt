@@ -42,7 +42,7 @@ use Rattle.ip_store.specs.Opening.{SecuresOpening, Opens}
 use Rattle.ip_store.proofs.Secured.{secures_from}
 use Rattle.ip_store.proofs.Hashes.{sha_is_hash}
 use Rattle.ip_store.proofs.Reading.{own, control_passes}
-use Rattle.ip_store.proofs.OpenedImages.{form_damaged, bad_damaged, misfit_damaged, whole_from, repository_of, repository_names, repository_floor, repository_branches, repository_size, stands_for}
+use Rattle.ip_store.proofs.OpenedImages.{form_damaged, bad_damaged, misfit_damaged, whole_from, repository_of, repository_names, repository_history, repository_floor, repository_branches, repository_size, stands_for}
 
 abbrev Branching : Type 0
 Branching = Map bytes_cmp ℕ
@@ -85,6 +85,8 @@ module _ (index : ℕ) (s : Slot) (is : IsSlot s) (below : index < 2) (found : F
         names = repository_names s records tells.good ∙ finished.names records tells;
         hashes = subst (All IsHash) (finished.names records tells) (are_hashes (commits_in records));
         branches = branches ∙ finished.branches records tells;
+        history = repository_history s records tells.good ∙ finished.history records tells;
+        parents_first = finished.parents_first records tells;
         retained = subst (λ (t : Slot). AreRetained t (repository_of s records tells.good).branches) (sym finished.slot) (subst (λ (m : Branching). AreRetained s m) (sym branches) fits.branches);
       }
 

@@ -60,8 +60,8 @@ module _ (r : Repository) (branch : Bytes) where
           by_test true e is = absurd (cc (is))
           by_test false e is = grind (arith, nat_tests)
 
-  room_after : room_for_branch r branch ≡ Ok tt → len r.branches ≤ 4096 → len (insert r.branches branch (next r)) ≤ 4096
-  room_after is few = subst (λ (n : ℕ). n ≤ 4096) (sym (ap length (entries-insert nat_list_cmp_total r.branches branch (next r)) ∙ E.length-put bytes_cmp nat_list_cmp_total branch (next r) r.branches.entries r.branches.sorted)) (roomy (head r branch) (len r.branches) is few)
+  pub room_after : (number : ℕ) → room_for_branch r branch ≡ Ok tt → len r.branches ≤ 4096 → len (insert r.branches branch number) ≤ 4096
+  room_after number is few = subst (λ (n : ℕ). n ≤ 4096) (sym (ap length (entries-insert nat_list_cmp_total r.branches branch number) ∙ E.length-put bytes_cmp nat_list_cmp_total branch number r.branches.entries r.branches.sorted)) (roomy (head r branch) (len r.branches) is few)
 
 module _ (r : Repository) (work : Work) (branch : Bytes) (info : Info) (store : Store) (of : IsOf store r) (lawful : IsLawful r work) (is_branch : IsBranchName branch) (is_info : IsInfo info) where
   version_is : store.slot.version ≡ 1
@@ -96,7 +96,7 @@ module _ (r : Repository) (work : Work) (branch : Bytes) (info : Info) (store : 
           is_info = is_info;
           is_branch = is_branch;
           new_name = none_of (number_named r (new_commit r work.tree work.parents info).name) (new_commit r work.tree work.parents info).name new_is;
-          room = room_after r branch room_is of.retained.few;
+          room = room_after r branch (next r) room_is of.retained.few;
         };
         within = subst (λ (v : ℕ). AreWithin v (batch_of work.tree (fields_of r work.parents info branch) store.slot.end)) (sym version_is)
             (subst (λ f. AreWithin 1 (batch_of work.tree f store.slot.end)) told within);

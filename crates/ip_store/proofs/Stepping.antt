@@ -2,7 +2,7 @@
 --     may_step      what the durable step asks.      changed, cut_short      the relation of a call that was made, and of one that a fault cut short
 --     same_tables, same_holds, same_changes      a store with the same tables.      changes_none      the relation of a call that was refused
 --     same_can_step, same_step      what a step asks and does, of a slot and bytes that are the same
-use Rattle.std.proofs.Common.{◌≡◌, ◌≢◌, ◌⊎◌, inl, inr, ℕ, ◌+◌, ◌-◌, ◌<◌, ◌≤◌, List, ◌++◌, length, take, refl, sym, ◌∙◌, ap, subst, arith, length-append}
+use Rattle.std.proofs.Common.{◌≡◌, ◌≢◌, ◌⊎◌, inl, inr, ℕ, ◌+◌, ◌-◌, ◌<◌, List, ◌++◌, length, take, refl, sym, ◌∙◌, ap, subst, arith, length-append}
 use Rattle.std.specs.Prelude.{Result, Ok, Err, All}
 use Rattle.std.proofs.lemmas.List.{length-take-le}
 use Rattle.std.proofs.lemmas.Result.{on_ok_weaker}
@@ -21,20 +21,21 @@ use Rattle.ip_image.specs.Headline.{IsInOrder, Keeps, Secures}
 use Rattle.ip_image.proofs.HeadlineLaws.{begins_take}
 use Rattle.ip_image.proofs.InChunk.{in_chunk, all_inside}
 use Rattle.ip_image.proofs.AppendingLaws.{stands_still}
+use Rattle.ip_history.specs.History.{HasParentsFirst}
 use Rattle.ip_control.specs.Live.{live_slot, live_of}
 use Rattle.ip_control.specs.Changes.{control}
 use Rattle.ip_control.proofs.LiveLaws.{is_live, live_from, spare_from, newer_from, reaches_from}
 use Rattle.ip_store.specs.declared.committing.StoreFault.{StoreFault}
 use Rattle.ip_store.specs.declared.store.Store.{Store}
-use Rattle.ip_store.specs.Changes.{Changes}
+use Rattle.ip_store.specs.Changes.{HasAnswer, Changes}
 use Rattle.ip_store.specs.Publishing.{StandsAs, LeavesFront, CanStep, MakesStep, TheTwo}
 use Rattle.ip_store.specs.Store.{IsOf, Holds}
 use Rattle.ip_store.proofs.Secured.{in_image, front_left, order_of, secures_now, orderly_step}
 
 -- ---- tables
 
-pub same_tables : (store store' : Store) (r : Repository) → store'.slot ≡ store.slot → store'.index ≡ store.index → store'.names ≡ store.names → store'.branches ≡ store.branches → IsOf store r → IsOf store' r
-same_tables store store' r slot index names branches of = record {
+pub same_tables : (store store' : Store) (r : Repository) → store'.slot ≡ store.slot → store'.index ≡ store.index → store'.names ≡ store.names → store'.branches ≡ store.branches → store'.history ≡ store.history → IsOf store r → IsOf store' r
+same_tables store store' r slot index names branches history of = record {
   slot = subst IsSlot (sym slot) of.slot;
   index = subst (λ (i : ℕ). i < 2) (sym index) of.index;
   floor = of.floor ∙ ap (λ (s : Slot). s.floor) (sym slot);
@@ -43,12 +44,14 @@ same_tables store store' r slot index names branches of = record {
   hashes = subst (All IsHash) (sym names) of.hashes;
   branches = of.branches ∙ sym branches;
   retained = subst (λ (s : Slot). AreRetained s r.branches) (sym slot) of.retained;
+  history = of.history ∙ sym history;
+  parents_first = subst HasParentsFirst (sym history) of.parents_first;
 }
 
-module _ (store store' : Store) (slot : store'.slot ≡ store.slot) (index : store'.index ≡ store.index) (names : store'.names ≡ store.names) (branches : store'.branches ≡ store.branches) where
+module _ (store store' : Store) (slot : store'.slot ≡ store.slot) (index : store'.index ≡ store.index) (names : store'.names ≡ store.names) (branches : store'.branches ≡ store.branches) (history : store'.history ≡ store.history) where
   pub same_holds : (r : Repository) (a : Told) → Holds store a r → Holds store' a r
   same_holds r a held = record {
-    tables = same_tables store store' r slot index names branches held.tables;
+    tables = same_tables store store' r slot index names branches history held.tables;
     stands = held.stands;
     live = subst (λ (i : ℕ). IsLive (bytes_of (a.held Control)) i store'.slot) (sym index) (subst (λ (s : Slot). IsLive (bytes_of (a.held Control)) store.index s) (sym slot) held.live);
     kept = held.kept;
@@ -167,10 +170,10 @@ module _ (r after : Repository) (store : Store) (next : Slot) (bytes : List ℕ)
 
 -- it was refused, of a store with the same tables
 pub changes_none : {A : Type 0} (r after : Repository) (fault : StoreFault) (store store' : Store) (a : Told)
-    → store'.slot ≡ store.slot → store'.index ≡ store.index → store'.names ≡ store.names → store'.branches ≡ store.branches → Holds store a r → Changes {A = A} r after (Err fault) store' a a
-changes_none r after fault store store' a slot index names branches held = record {
+    → store'.slot ≡ store.slot → store'.index ≡ store.index → store'.names ≡ store.names → store'.branches ≡ store.branches → store'.history ≡ store.history → Holds store a r → Changes {A = A} r after (Err fault) store' a a
+changes_none r after fault store store' a slot index names branches history held = record {
   only = only_nowhere a TheTwo;
-  refused = λ _. (only_nowhere a NoFile, same_holds store store' slot index names branches r a held);
+  refused = λ _. (only_nowhere a NoFile, same_holds store store' slot index names branches history r a held);
   ok = tt;
   keeps = λ order t late le. absurd (omega (arith, late, le));
   secures = λ order. tt;
@@ -178,6 +181,48 @@ changes_none r after fault store store' a slot index names branches held = recor
       let now : t ≡ a.moment = omega (arith, low, high) in
       subst (λ (n : ℕ). Secures (a.may_leave n) r) (sym now) (secures_now store r a held order);
   order = λ order some. order;
+}
+
+-- nothing was called
+pub changes_still : {A : Type 0} (x : A) (r : Repository) (store : Store) (a : Told) → Holds store a r → Changes r r (Ok x) store a a
+changes_still x r store a held = record {
+  only = only_nowhere a TheTwo;
+  refused = λ ref. absurd (cc (ref.0));
+  ok = held;
+  keeps = λ order t late le. absurd (omega (arith, late, le));
+  secures = λ order. secures_now store r a held order;
+  secures_refused = λ order ref. absurd (cc (ref.0));
+  order = λ order some. order;
+}
+
+-- the same with another value, and as the fault of another call
+pub with_value : {A B : Type 0} (x : A) (y : B) (r after : Repository) (store : Store) (a b : Told) → Changes r after (Ok x) store a b → Changes r after (Ok y) store a b
+with_value x y r after store a b is = record {
+  only = is.only;
+  refused = λ ref. absurd (cc (ref.0));
+  ok = is.ok;
+  keeps = is.keeps;
+  secures = is.secures;
+  secures_refused = λ order ref. absurd (cc (ref.0));
+  order = λ order some. is.order order tt;
+}
+
+with_answer : (A B : Type 0) (fault : StoreFault) → HasAnswer {A = B} (Err fault) → HasAnswer {A = A} (Err fault)
+with_answer A B (StoreFault.HeadMoved name) has = tt
+with_answer A B (StoreFault.Existing name) has = tt
+with_answer A B (StoreFault.Limit limit) has = tt
+with_answer A B StoreFault.Memory has = tt
+with_answer A B StoreFault.Ground has = has
+
+pub with_fault : {A B : Type 0} (fault : StoreFault) (r after : Repository) (store : Store) (a b : Told) → Changes {A = A} r after (Err fault) store a b → Changes {A = B} r after (Err fault) store a b
+with_fault {A = A} {B = B} fault r after store a b is = record {
+  only = is.only;
+  refused = λ ref. is.refused (refl, with_answer A B fault ref.1);
+  ok = tt;
+  keeps = is.keeps;
+  secures = λ order. tt;
+  secures_refused = λ order ref. is.secures_refused order (refl, with_answer A B fault ref.1);
+  order = λ order has. is.order order (with_answer A B fault has);
 }
 
 pub same_can_step : (end end' index index' : ℕ) (slot : Slot) (a : Told) → end ≡ end' → index ≡ index' → CanStep end' (1 - index') slot a → CanStep end (1 - index) slot a

@@ -16,7 +16,10 @@ use Rattle.ip_image.specs.Virtual.{Stands}
 use Rattle.ip_image.specs.Standing.{terms_of, RecordFits, IsServedKind, IsGood, AreGood, named, names_after}
 use Rattle.ip_audit.specs.Audits.{Audited, IsBeyond}
 use Rattle.ip_store.specs.declared.walk.Found.{Found}
+use Rattle.ip_history.specs.History.{History, HasParentsFirst}
+use Rattle.ip_store.specs.Histories.{history_after, RecordEnters}
 use Rattle.ip_store.specs.Walk.{Tells}
+use Rattle.ip_store.proofs.Histories.{after_record, first_after}
 
 -- ---- one record more
 
@@ -46,8 +49,8 @@ is_good s before at r is fits served good = record {
 
 module _ (s : Slot) (before : Records) (at : ℕ) (r : Record) (old new : Found) (is : IsSlot s) (fits : Fits s.version r) (served : IsServedKind r) (tells : Tells s old before) where
   pub takes_good : RecordFits old.audit.terms before at r → Audited new.audit (before ++ (at, r) ∷ []) → new.audit.terms ≡ old.audit.terms
-      → new.branches ≡ names_after Names.branches old.branches r → IsGood s before (at, r) × Tells s new (before ++ (at, r) ∷ [])
-  takes_good good audited terms branches =
+      → new.branches ≡ names_after Names.branches old.branches r → RecordEnters old.history r → new.history ≡ history_after old.history r → IsGood s before (at, r) × Tells s new (before ++ (at, r) ∷ [])
+  takes_good good audited terms branches enters history =
       let one : IsGood s before (at, r) = is_good s before at r is fits served (subst (λ (t : Terms). RecordFits t before at r) tells.terms good) in (
         one,
         record {
@@ -55,6 +58,8 @@ module _ (s : Slot) (before : Records) (at : ℕ) (r : Record) (old new : Found)
           audited = audited;
           terms = terms ∙ tells.terms;
           branches = branches ∙ ap (λ m. names_after Names.branches m r) tells.branches ∙ sym (named_push Names.branches before (at, r));
+          history = history ∙ ap (λ (h : History). history_after h r) tells.history ∙ after_record s.floor before at r;
+          parents_first = subst HasParentsFirst (sym history) (first_after old.history r tells.parents_first enters);
         },
       )
 

@@ -2,7 +2,7 @@
 --     HasAnswer result      it is no fault of the ground.      IsRefused result      another answer than Ok and that fault
 --     Changes r after result store old new      what it does to what a ground tells, and what the store holds then
 --     LimitsSpace end result store      which limit is met
-use Rattle.std.specs.Prelude.{◌≡◌, ℕ, ◌^◌, ◌<◌, ◌≤◌, IsErr, IsErrOf, Result, Ok, Err, OnOk}
+use Rattle.std.specs.Prelude.{◌≡◌, ℕ, ◌^◌, ◌<◌, ◌≤◌, IsErr, IsErrOf, Result, Err, OnOk}
 use Rattle.ip_base.specs.declared.limit.Limit.{Limit}
 use Rattle.ip_ground.specs.Told.{Told, NoFile, ChangesOnly}
 use Rattle.ip_spec.specs.Repository.{Repository}

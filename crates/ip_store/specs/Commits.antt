@@ -2,7 +2,7 @@
 --     reply_to result      the reply; a fault of the ground has none
 --     Answers s command met reply store work      the reply and the next state are the machine's, for what was met
 --     Commits r work branch info result store' old new      what it does to what a ground tells
-use Rattle.std.specs.Prelude.{◌≡◌, ℕ, ◌+◌, ◌^◌, ◌<◌, ◌≤◌, [], ◌∷◌, length, true, false, Option, Some, None, IsSome, IfSome, IsErr, IsErrOf, Result, Ok, Err, OnOk}
+use Rattle.std.specs.Prelude.{◌≡◌, ℕ, ◌+◌, ◌^◌, ◌<◌, ◌≤◌, [], ◌∷◌, length, true, false, Option, Some, None, IfSome, Result, Ok, Err}
 use Rattle.ip_base.specs.declared.info.Info.{Info}
 use Rattle.ip_ground.specs.Told.{Told}
 use Rattle.ip_spec.specs.declared.met.Met.{Met}
@@ -24,7 +24,7 @@ use Rattle.ip_store.specs.declared.work.Work.{Work}
 use Rattle.ip_store.specs.declared.committing.Plan.{Plan}
 use Rattle.ip_store.specs.declared.committing.StoreFault.{StoreFault}
 use Rattle.ip_store.specs.Changes.{Changes}
-use Rattle.ip_store.specs.Store.{IsOf, Holds, session, IsLawful}
+use Rattle.ip_store.specs.Store.{IsOf, session, IsLawful}
 
 -- nothing met but a limit, or want of memory
 abbrev pub met_nothing : Met
@@ -36,11 +36,15 @@ short_of Limit.Space = Some Limit.Space
 short_of Limit.Sequence = Some Limit.Sequence
 short_of limit = None
 
--- what was met by an answer
-abbrev pub met_by : Result Hash StoreFault → Met
-met_by (Err (StoreFault.Limit limit)) = record met_nothing { short = short_of limit }
-met_by (Err StoreFault.Memory) = record met_nothing { refused = true }
-met_by result = met_nothing
+-- what was met by a fault, and by an answer
+abbrev pub met_of : StoreFault → Met
+met_of (StoreFault.Limit limit) = record met_nothing { short = short_of limit }
+met_of StoreFault.Memory = record met_nothing { refused = true }
+met_of fault = met_nothing
+
+abbrev pub met_by : {A : Type 0} → Result A StoreFault → Met
+met_by (Ok x) = met_nothing
+met_by (Err fault) = met_of fault
 
 abbrev pub conditions_of : Met → Conditions
 conditions_of met = record { told = met; difference = None }
@@ -71,8 +75,8 @@ refused_by (Err fault) = Err (refusal fault)
 -- the machine refuses the commit so, and stays as it is
 abbrev pub IsRefusal : Repository → Work → Bytes → Info → StoreFault → Type 0
 IsRefusal r work branch info fault = IfSome (fault_reply fault) (λ reply.
-    IsMet (session r work) (Command.Commit branch info) (conditions_of (met_by (Err fault))) reply
-    × (turned (session r work) (Command.Commit branch info) (conditions_of (met_by (Err fault))) ≡ (reply, session r work)))
+    IsMet (session r work) (Command.Commit branch info) (conditions_of (met_of fault)) reply
+    × (turned (session r work) (Command.Commit branch info) (conditions_of (met_of fault)) ≡ (reply, session r work)))
 
 -- a parent as a commit record has it
 abbrev pub parent_named : Repository → ℕ → Parent

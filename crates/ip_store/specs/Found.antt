@@ -10,10 +10,12 @@ use Rattle.ip_image.specs.declared.slot.Slot.{Slot}
 use Rattle.ip_image.specs.Slot.{IsLive}
 use Rattle.ip_image.specs.Standing.{NoStore, DamagedAt, WholeFits, commits_in, named}
 use Rattle.ip_audit.specs.Audits.{commit_name}
+use Rattle.ip_history.specs.History.{HasParentsFirst}
 use Rattle.ip_store.specs.declared.opening.OpenFault.{OpenFault}
 use Rattle.ip_store.specs.declared.store.Store.{Store}
 use Rattle.ip_store.specs.declared.walk.Found.{Found}
 use Rattle.ip_store.specs.Control.{control_in}
+use Rattle.ip_store.specs.Histories.{history_in}
 use Rattle.ip_store.specs.Walk.{Tells}
 
 -- a fault of the ground apart, the slot that is live, or why there is none
@@ -46,6 +48,8 @@ pub record Finished (number : ℕ) (s : Slot) (found : Found) (store : Store) : 
   pub fits : (records : Records) → Tells s found records → WholeFits s records
   pub names : (records : Records) → Tells s found records → map commit_name (commits_in records) ≡ store.names
   pub branches : (records : Records) → Tells s found records → named Names.branches records ≡ store.branches
+  pub history : (records : Records) → Tells s found records → history_in s.floor records ≡ store.history
+  pub parents_first : (records : Records) → Tells s found records → HasParentsFirst store.history
 
 abbrev pub Finishes : ℕ → Slot → Found → Result Store OpenFault → Type 0
 Finishes index s found (Ok store) = Finished index s found store

@@ -4,6 +4,8 @@ pub mod Commits
 pub mod Control
 pub mod Opening
 pub mod Found
+pub mod Histories
+pub mod Naming
 pub mod Laid
 pub mod Entries
 pub mod Publishing

@@ -1,5 +1,5 @@
 -- What an open store holds.
---     IsOf store r      its tables are the repository's
+--     IsOf store r      its tables are the repository's, and in its history parents come first
 --     Holds store told r      and so is what the ground reads as
 --     session r work      the machine's state.      IsLawful r work      the work goes on from commits of the repository
 use Rattle.std.specs.Prelude.{◌≡◌, ◌≢◌, ◌<◌, ◌≤◌, length, map, All, AllPairs, IsTrue}
@@ -10,6 +10,7 @@ use Rattle.ip_spec.specs.Repository.{Repository, next, is_retained}
 use Rattle.ip_spec.specs.Machine.{State, Phase}
 use Rattle.ip_image.specs.Slot.{IsSlot, IsLive}
 use Rattle.ip_image.specs.Standing.{StandsFor, AreRetained}
+use Rattle.ip_history.specs.History.{HasParentsFirst, history_of}
 use Rattle.ip_store.specs.Control.{control_in}
 use Rattle.ip_store.specs.Work.{work_of}
 use Rattle.ip_store.specs.declared.store.Store.{Store}
@@ -24,6 +25,8 @@ pub record IsOf (store : Store) (r : Repository) : Type 0 where
   pub hashes : All IsHash store.names
   pub branches : r.branches ≡ store.branches
   pub retained : AreRetained store.slot r.branches
+  pub history : history_of r ≡ store.history
+  pub parents_first : HasParentsFirst store.history
 
 pub record Holds (store : Store) (told : Told) (r : Repository) : Type 0 where
   pub tables : IsOf store r

@@ -20,6 +20,8 @@ use Rattle.ip_image.specs.Virtual.{byte_of, Stands}
 use Rattle.ip_image.specs.Standing.{terms_of, EndToEnd, IsServedKind, IsGood, AreGood, named}
 use Rattle.ip_audit.specs.Audits.{Audited, IsBeyond}
 use Rattle.ip_audit.specs.declared.audit.AuditFault.{AuditFault}
+use Rattle.ip_history.specs.History.{HasParentsFirst}
+use Rattle.ip_store.specs.Histories.{history_in}
 use Rattle.ip_store.specs.declared.opening.OpenFault.{OpenFault}
 use Rattle.ip_store.specs.declared.window.Window.{Window}
 use Rattle.ip_store.specs.declared.walk.Found.{Found}
@@ -46,6 +48,12 @@ pub record Tells (s : Slot) (found : Found) (before : Records) : Type 0 where
   pub audited : Audited found.audit before
   pub terms : found.audit.terms ≡ terms_of s
   pub branches : found.branches ≡ named Names.branches before
+  pub history : found.history ≡ history_in s.floor before
+  pub parents_first : HasParentsFirst found.history
+
+-- it is true of some records that lie below this offset
+abbrev pub TellsSome : ℕ → Found → Type 0
+TellsSome at found = (s : Slot) × (before : Records) × IsSlot s × Tells s found before × IsBeyond at before
 
 abbrev pub TakesOne : ℕ → Record → Found → Found → Result (Unit {0}) AuditFault → Type 0
 TakesOne at r old new (Ok u) = (s : Slot) (before : Records) → IsSlot s → Fits s.version r → Tells s old before → IsBeyond at before → IsGood s before (at, r) × Tells s new (before ++ (at, r) ∷ [])

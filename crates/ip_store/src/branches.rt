@@ -59,16 +59,17 @@ impl Branches {
         self.entries.get(name).copied()
     }
 
-    /// Puts a branch at a commit. Where memory is refused nothing changes.
+    /// Puts a branch at a commit. Only a new branch takes memory. Where it is refused nothing changes.
     pub fn set(&mut self, name: Vec<u8>, number: Number) -> Result<(), Memory>
         ensures ok { OnOk result (self.new ≡ insert self.old name.items number) }
         ensures err { OnErr result (self.new ≡ self.old) }
+        ensures absent { OnErr result (get self.old name.items ≡ None) }
     {
         self.entries.insert(name, number)?;
         Ok(())
     }
 
-    /// Takes a branch away, if there is one of this name.
+    /// Takes a branch away, where there is one. It takes no memory.
     pub fn remove(&mut self, name: &[u8])
         ensures { self.new ≡ remove self.old name.now }
     {
@@ -125,6 +126,12 @@ mod tests {
         assert_eq!(rt; branches.get(b"a"), Some(Number(2)));
         assert_eq!(rt; branches.get(b"b"), Some(Number(7)));
         assert_eq!(rt; branches.get(b"ab"), None);
+        for name in [b"c", b"b", b"b"] {
+            branches.remove(name);
+        }
+        assert_eq!(rt; branches.len(), 1);
+        assert_eq!(rt; branches.get(b"b"), None);
+        assert_eq!(rt; set(alloc, &mut branches, b"b", 7), Ok(()));
         for (low, high, within) in [(2, 8, true), (3, 8, false), (2, 7, false)] {
             assert_eq!(rt; branches.are_within(low, high), within, "{low} {high}");
         }

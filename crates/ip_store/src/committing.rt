@@ -16,21 +16,23 @@ ghost use Rattle.ip_store.specs.Batches.{fields_told, AreFields};
 ghost use Rattle.ip_store.specs.declared.committing.StoreFault.TheVariants as StoreFault;
 ghost use Rattle.ip_store.specs.Commits.{parent_named, reply_to, refused_by, met_by, SlotBehind, IsRefusal, IsPlan, end_of, Answers, Commits};
 ghost use Rattle.ip_store.specs.Changes.{LimitsSpace};
+ghost use Rattle.ip_store.specs.Histories.{with_parents, MayEnter};
 ghost use Rattle.ip_store.specs.Store.{IsOf, Holds, IsSound, session, IsLawful};
 
 use crate::branches::MOST_BRANCHES;
 use crate::opening::nothing_met;
 use crate::publish::durable_step;
-use crate::{Batch, CommitFields, Store, Work};
+use crate::{Batch, Branches, CommitFields, Store, Work};
 use ip_base::{Blob, Hash, Info, Limit, Memory, Number, Numbers};
 use ip_control::Slot;
 use ip_ground::{Ground, GroundFault};
+use ip_history::Table;
 use ip_spec::met::Met;
 use ip_spec::record::{Parent, Parents};
 use std::alloc::Global;
 
 /// Of offsets and sequences.
-const GREATEST: u64 = 1 << 62;
+pub(crate) const GREATEST: u64 = 1 << 62;
 
 /// Why a call of the store did nothing.
 #[derive(Clone, Copy, Debug, PartialEq, Eq)]
@@ -67,7 +69,7 @@ pub struct Plan {
 }
 
 // What was met by an answer.
-fn met_by(answer: &Result<Hash, StoreFault>) -> Met
+pub(crate) fn met_by<T: Drop>(answer: &Result<T, StoreFault>) -> Met
     ensures { result ≡ met_by answer.now }
 {
     Met {
@@ -90,6 +92,35 @@ fn only(alloc: Global, number: Number) -> Result<Numbers, Memory>
     Ok(numbers)
 }
 
+// Puts a branch at a commit, and the commit's parents into the history. Where memory is refused both stay.
+fn enter_head(
+    branches: &mut Branches,
+    history: &mut Table,
+    parents: &[Number],
+    branch: &[u8],
+    key: Blob,
+    number: Number,
+) -> Result<(), Memory>
+    requires key { key ≡ branch.now }
+    requires parents { MayEnter history.old parents.now }
+    ensures ok { OnOk result ((branches.new ≡ insert branches.old branch.now number) × (history.new ≡ with_parents history.old parents.now)) }
+    ensures err { OnErr result ((branches.new ≡ branches.old) × (history.new ≡ history.old)) }
+{
+    if branches.get(branch).is_some() {
+        history.push(parents)?;
+        return match branches.set(key.into_vec(), number) {
+            Ok(()) => Ok(()),
+            Err(Memory) => unreachable!(),
+        };
+    }
+    branches.set(key.into_vec(), number)?;
+    if let Err(Memory) = history.push(parents) {
+        branches.remove(branch);
+        return Err(Memory);
+    }
+    Ok(())
+}
+
 impl From<Memory> for StoreFault {
     ghost use Rattle.ip_store.specs.declared.committing.StoreFault.TheVariants as StoreFault;
 
@@ -102,7 +133,7 @@ impl From<Memory> for StoreFault {
 
 impl Store {
     // The name of a retained commit.
-    fn retained_name(&self, number: Number) -> Hash
+    pub(crate) fn retained_name(&self, number: Number) -> Hash
         requires tables { (r : Repository) × IsOf self.now r × IsTrue (is_retained r number) }
         ensures { (r : Repository) → IsOf self.now r → IsTrue (is_retained r number) → result ≡ name_at r number }
     {
@@ -136,7 +167,7 @@ impl Store {
     }
 
     // Refused where the branch would be one too many.
-    fn room_for(&self, branch: &[u8]) -> Result<(), StoreFault>
+    pub(crate) fn room_for(&self, branch: &[u8]) -> Result<(), StoreFault>
         ensures { (r : Repository) → IsOf self.now r → room_for_branch r branch.now ≡ refused_by result }
     {
         if self.branches.get(branch).is_none() && self.branches.len() >= MOST_BRANCHES {
@@ -187,15 +218,33 @@ impl Store {
         })
     }
 
-    // Enters a commit's name and its branch. Where memory is refused nothing is entered.
-    fn enter(&mut self, name: Hash, branch: Blob, number: Number) -> Result<(), Memory>
-        requires { position (λ n. same_bytes n name) self.old.names ≡ None }
-        ensures ok { OnOk result ((self.new.names ≡ self.old.names ++ name ∷ []) × (self.new.branches ≡ insert self.old.branches branch number)) }
-        ensures err { OnErr result ((self.new.names ≡ self.old.names) × (self.new.branches ≡ self.old.branches)) }
+    // Enters a commit's name, its parents and its branch. Where memory is refused nothing is entered.
+    fn enter(
+        &mut self,
+        name: Hash,
+        parents: &[Number],
+        branch: &[u8],
+        key: Blob,
+        number: Number,
+    ) -> Result<(), Memory>
+        requires key { key ≡ branch.now }
+        requires new { position (λ n. same_bytes n name) self.old.names ≡ None }
+        requires parents { MayEnter self.old.history parents.now }
+        ensures ok { OnOk result ((self.new.names ≡ self.old.names ++ name ∷ []) × (self.new.branches ≡ insert self.old.branches branch.now number)) }
+        ensures history { OnOk result (self.new.history ≡ with_parents self.old.history parents.now) }
+        ensures err { OnErr result ((self.new.names ≡ self.old.names) × (self.new.branches ≡ self.old.branches) × (self.new.history ≡ self.old.history)) }
         ensures rest { (self.new.index ≡ self.old.index) × (self.new.slot ≡ self.old.slot) }
     {
         self.names.push(name)?;
-        if let Err(Memory) = self.branches.set(branch.into_vec(), number) {
+        let entered = enter_head(
+            &mut self.branches,
+            &mut self.history,
+            parents,
+            branch,
+            key,
+            number,
+        );
+        if let Err(Memory) = entered {
             self.names.pop();
             return Err(Memory);
         }
@@ -311,7 +360,13 @@ impl Store {
     {
         let plan = self.plan(alloc, work, branch, info)?;
         let name = plan.batch.name();
-        self.enter(name, plan.branch, plan.number)?;
+        self.enter(
+            name,
+            work.parents.as_slice(),
+            branch,
+            plan.branch,
+            plan.number,
+        )?;
         durable_step(
             outside,
             self.slot.end,

@@ -4,9 +4,13 @@
 mod batch;
 mod branches;
 mod committing;
+mod history;
+mod naming;
 mod opening;
 mod publish;
 mod store;
+#[cfg(test)]
+mod tests;
 mod tree;
 mod walk;
 mod window;

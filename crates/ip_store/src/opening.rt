@@ -7,7 +7,7 @@ ghost use Rattle.ip_image.specs.Standing.{AreRetained};
 ghost use Rattle.ip_store.specs.Opening.{Opens};
 ghost use Rattle.ip_store.specs.Found.{FindsSlot, Finishes};
 ghost use Rattle.ip_store.specs.Commits.{met_nothing};
-ghost use Rattle.ip_store.specs.Store.{IsOf};
+ghost use Rattle.ip_store.specs.Store.{IsOf, IsSound};
 ghost use Rattle.ip_ground.specs.declared.names.FileName.TheVariants.{Control};
 
 use crate::branches::MOST_BRANCHES;
@@ -105,7 +105,11 @@ fn finish(index: u8, slot: Slot, found: Found) -> Result<Store, OpenFault>
     ensures finishes { Finishes index slot found result }
     ensures met { IfOk result (λ store. store.met ≡ met_nothing) }
 {
-    let Found { audit, branches } = found;
+    let Found {
+        audit,
+        branches,
+        history,
+    } = found;
     let names = audit.into_names();
     if !is_whole(&slot, &names, &branches) {
         return Err(slot_damaged(index));
@@ -115,6 +119,7 @@ fn finish(index: u8, slot: Slot, found: Found) -> Result<Store, OpenFault>
         slot,
         names,
         branches,
+        history,
         met: nothing_met(),
     })
 }
@@ -147,6 +152,8 @@ pub(crate) fn nothing_met() -> Met
 #[cfg(test)]
 mod tests {
     use super::*;
+    use crate::StoreFault;
+    use ip_base::Number;
     use ip_ground::Bench;
     use ip_object::hash_contents;
     use std::test::Fail;
@@ -232,6 +239,38 @@ mod tests {
         chunk.extend_from_slice(&[6, 5, 0, 0, 0, 4])?;
         chunk.extend_from_slice(b"main")?;
         assert_eq!(&rt; opened(&rt, &control(104, 1, 0), &chunk), Ok((1, 0, None)));
+        Ok(())
+    }
+
+    // Puts `dev` where `main` is, and takes `main` away.
+    fn renamed(alloc: Global, ground: &mut Bench, store: &mut Store) -> Result<bool, StoreFault>
+        requires { IsSound store.old (⟦<Bench as Ground>⟧.told ground.old) }
+    {
+        let Some(number) = store.head(b"main") else {
+            return Ok(false);
+        };
+        store.set_branch(alloc, ground, b"dev", number)?;
+        store.remove_branch(alloc, ground, b"main")
+    }
+
+    #[test]
+    fn branches_stand_when_the_store_is_opened_again(rt: HostRuntime) -> Result<(), Fail> {
+        let alloc = rt.alloc();
+        let mut ground = Bench::new(alloc, Vec::new(alloc), None, Vec::new(alloc));
+        let chunk = records(alloc, 0)?;
+        let _ = ground.write(FileName::Control, 0, &control(94, 1, 0));
+        let _ = ground.write(CHUNK, 0, &chunk);
+        match Store::open_at(alloc, &mut ground) {
+            Ok(mut store) => {
+                assert_eq!(&rt; renamed(alloc, &mut ground, &mut store), Ok(true));
+            }
+            Err(_) => assert!(&rt; false),
+        }
+        let mut ground = ground.after_stop(false)?;
+        let store = Store::open_at(alloc, &mut ground).ok().ok_or("open")?;
+        assert_eq!(&rt; store.branch_count(), 1);
+        assert_eq!(&rt; store.head(b"main"), None);
+        assert_eq!(&rt; store.head(b"dev"), Some(Number(0)));
         Ok(())
     }
 

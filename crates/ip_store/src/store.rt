@@ -15,6 +15,7 @@ use ip_audit::Names;
 use ip_base::{Hash, Number};
 use ip_control::{GATE_OPEN, Slot};
 use ip_ground::{FileName, Ground, GroundFault};
+use ip_history::Table;
 use ip_spec::met::{Met, Phase};
 
 /// The bytes of a chunk where nothing else was asked for.
@@ -46,13 +47,14 @@ impl From<GroundFault> for InitFault {
     }
 }
 
-/// An open store: its live slot, and what its records say of commits and branches.
+/// An open store: its live slot, and what its records say of commits, branches and parents.
 #[derive(Drop)]
 pub struct Store {
     pub(crate) index: u8,
     pub(crate) slot: Slot,
     pub(crate) names: Names,
     pub(crate) branches: Branches,
+    pub(crate) history: Table,
     pub(crate) met: Met,
 }
 

@@ -1,12 +1,14 @@
 // The walk over a store's records: each is read once, in the order of the offsets, and tested behind those before it.
-ghost use Rattle.std.specs.Prelude.{◌≡◌, ◌↔◌, ℕ, [], ◌<◌, IsTrue, IfOk, OnOk, IsErrOf};
+ghost use Rattle.std.specs.Prelude.{◌≡◌, ◌↔◌, ℕ, [], ◌<◌, map, IsTrue, IfOk, OnOk, OnErr, IsErrOf};
 ghost use Rattle.ip_ground.specs.Counts.{NoneFalls, Rose};
 ghost use Rattle.ip_ground.specs.Told.{NoFile, ChangesOnly};
 ghost use Rattle.ip_spec.specs.Record.{Names, Fits};
 ghost use Rattle.ip_image.specs.Slot.{IsSlot};
 ghost use Rattle.ip_image.specs.Standing.{IsServedKind, names_after};
 ghost use Rattle.ip_store.specs.Window.{chunk, IsWindow};
-ghost use Rattle.ip_store.specs.Walk.{ReadsFront, ReadsServed, Tells, TakesOne, TakesFront, Walks, Covers, BadRecord};
+ghost use Rattle.ip_store.specs.Histories.{RecordEnters, history_after};
+ghost use Rattle.ip_spec.specs.declared.record.Parent.{Parent};
+ghost use Rattle.ip_store.specs.Walk.{ReadsFront, ReadsServed, Tells, TellsSome, TakesOne, TakesFront, Walks, Covers, BadRecord};
 ghost use Rattle.ip_store.specs.declared.opening.OpenFault.TheVariants as OpenFault;
 ghost use Rattle.ip_spec.specs.declared.record.RecordFault.TheVariants as RecordFault;
 ghost use Rattle.ip_ground.specs.declared.names.FileName.{FileName};
@@ -16,11 +18,12 @@ use crate::tree::MOST_ENTRIES;
 use crate::window::Window;
 use crate::{Branches, OpenFault};
 use ip_audit::{Audit, AuditFault, Terms};
-use ip_base::Memory;
+use ip_base::{Memory, Number, Numbers};
 use ip_control::Slot;
 use ip_ground::{FileName, Ground};
+use ip_history::Table;
 use ip_object::read_record;
-use ip_spec::record::{Record, RecordFault};
+use ip_spec::record::{Parent, Record, RecordFault};
 use std::alloc::Global;
 
 /// What the records so far come to.
@@ -28,6 +31,7 @@ use std::alloc::Global;
 pub struct Found {
     pub audit: Audit,
     pub branches: Branches,
+    pub history: Table,
 }
 
 impl Found {
@@ -42,27 +46,71 @@ impl Found {
         Found {
             audit: Audit::new(alloc, terms),
             branches: Branches::new(alloc),
+            history: Table::new(alloc, Number(slot.floor)),
         }
     }
 
     /// Takes the record at an offset beyond the others.
-    fn take(&mut self, at: u64, rec: Record) -> Result<(), AuditFault>
+    fn take(&mut self, alloc: Global, at: u64, rec: Record) -> Result<(), AuditFault>
+        requires told { TellsSome at self.old }
         requires bounds { (version : ℕ) × Fits version rec }
         requires served { IsServedKind rec }
         ensures { TakesOne at rec self.old self.new result }
     {
         self.audit.take(at, &rec)?;
-        match name_branch(&mut self.branches, rec) {
+        match enter(alloc, &mut self.history, &mut self.branches, rec) {
             Ok(()) => Ok(()),
             Err(_) => Err(AuditFault::Memory),
         }
     }
 }
 
+// Puts a commit's parents into the history, or a branch where the record says.
+fn enter(
+    alloc: Global,
+    history: &mut Table,
+    branches: &mut Branches,
+    rec: Record,
+) -> Result<(), Memory>
+    requires enters { RecordEnters history.old rec }
+    requires served { IsServedKind rec }
+    ensures history { OnOk result (history.new ≡ history_after history.old rec) }
+    ensures branches { OnOk result (branches.new ≡ names_after Names.branches branches.old rec) }
+{
+    enter_parents(alloc, history, &rec)?;
+    name_branch(branches, rec)
+}
+
+// Puts the parents of a commit into the history.
+fn enter_parents(alloc: Global, history: &mut Table, rec: &Record) -> Result<(), Memory>
+    requires { RecordEnters history.old rec.now }
+    ensures { OnOk result (history.new ≡ history_after history.old rec.now) }
+{
+    match rec {
+        Record::Commit(commit) => {
+            let numbers = numbers_of(alloc, commit.parents.as_slice())?;
+            history.push(numbers.as_slice())
+        }
+        _ => Ok(()),
+    }
+}
+
+// The numbers of these parents.
+fn numbers_of(alloc: Global, parents: &[Parent]) -> Result<Numbers, Memory>
+    ensures { IfOk result (λ numbers. numbers ≡ map (λ (p : Parent). p.number) parents.now) }
+{
+    let mut numbers = Numbers::empty(alloc);
+    for parent in parents {
+        numbers.push(parent.number)?;
+    }
+    Ok(numbers)
+}
+
 // Puts a branch where the record says, or takes it away.
-fn name_branch(branches: &mut Branches, rec: Record) -> Result<(), Memory>
+pub fn name_branch(branches: &mut Branches, rec: Record) -> Result<(), Memory>
     requires { IsServedKind rec }
-    ensures { OnOk result (branches.new ≡ names_after Names.branches branches.old rec) }
+    ensures ok { OnOk result (branches.new ≡ names_after Names.branches branches.old rec) }
+    ensures err { OnErr result (branches.new ≡ branches.old) }
 {
     match rec {
         Record::BranchSet { number, name } => branches.set(name.into_vec(), number),
@@ -140,7 +188,8 @@ fn take_front(
     window: &mut Window,
     found: &mut Found,
 ) -> Result<(), OpenFault>
-    requires { IsWindow window.old }
+    requires window { IsWindow window.old }
+    requires told { TellsSome window.old.at found.old }
     ensures window { IsWindow window.new }
     ensures takes { TakesFront version window.old window.new found.old found.new result }
 {
@@ -148,7 +197,7 @@ fn take_front(
     let Some((rec, length)) = read_served(alloc, version, window.bytes())? else {
         return Err(damaged_at(at));
     };
-    match found.take(at, rec) {
+    match found.take(alloc, at, rec) {
         Ok(()) => {
             window.pass(length as usize);
             Ok(())

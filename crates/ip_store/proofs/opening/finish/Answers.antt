@@ -9,4 +9,6 @@ returns-clause-finishes c = record {
   fits = λ records tells. whole_of c.args.slot c.args.found c.into_names-names.result records tells (c.into_names-names.ensures records tells.audited) (c.is_whole.ensures.0 c.if-not-is_whole.false);
   names = λ records tells. sym (c.into_names-names.ensures records tells.audited);
   branches = λ records tells. sym tells.branches;
+  history = λ records tells. sym tells.history;
+  parents_first = λ records tells. tells.parents_first;
 }

@@ -21,3 +21,9 @@ returns-clause-damaged g c told =
     let walks = walks_filled _ _ _ _ _ _ _ c.requires.walks fill.at (λ told. chunk_passes _ _ (fill.only told)) fill.shows in
     let more : c.fill.new.self.at < c.args.slot.now.end = rw fill.at c.requires.more in
     bad_record _ c.requires.slot _ _ _ _ _ walks told fill.full _ _ more c.take_front.ensures.takes
+
+pub take_front-requires-clause-told : goal.take_front-requires-clause-told
+take_front-requires-clause-told g c =
+    let fill = c.in_ok-fill.ensures in
+    let walks = walks_filled _ _ _ _ _ _ _ c.requires.walks fill.at (λ told. chunk_passes _ _ (fill.only told)) fill.shows in
+    (c.args.slot.now, walks.before, c.requires.slot, walks.true_of, walks.beyond)

@@ -1,0 +1,239 @@
+-- What the machine answers to the commands on branches.
+--     answers_fault, answers_done      where a refusal stands against a command, and where none does
+--     set_refused, set_answers      setting a branch.      remove_none, remove_answers      taking one away
+--     set_may, set_fits, remove_fits      the records
+use Rattle.std.proofs.Common.{◌≡◌, ℕ, ◌<◌, true, false, Option, Some, None, refl, ◌∙◌, ap, arith, length-append}
+use Rattle.std.specs.Prelude.{Result, Ok, Err, if◌then◌else◌, is_none, IsTrue, IfSome, nat_le, nat_lt, ◌&&◌}
+use Rattle.std.proofs.lemmas.Bool.Decides.{nat_tests}
+use Rattle.ip_base.specs.declared.limit.Limit.{Limit}
+use Rattle.ip_spec.specs.declared.command.Command.{Command}
+use Rattle.ip_spec.specs.declared.command.Target.{Target}
+use Rattle.ip_spec.specs.declared.met.Child.TheVariants as Child
+use Rattle.ip_spec.specs.declared.met.Met.{Met}
+use Rattle.ip_spec.specs.declared.record.Record.{Record}
+use Rattle.ip_spec.specs.declared.reply.Reply.{Reply}
+use Rattle.ip_spec.specs.Map.{remove, retain_keys, same_entries_map}
+use Rattle.ip_spec.specs.Path.{Bytes}
+use Rattle.ip_spec.specs.Record.{Fits, IsBranchName, body, short_text, u64}
+use Rattle.ip_spec.specs.Repository.{Repository, next, head, is_retained}
+use Rattle.ip_spec.specs.Machine.{State}
+use Rattle.ip_spec.specs.Step.{IsMet, MayRefuse, MayBeShort, Refused, Turned, outcome, turned, answer, or_refused, state_with_exit, resolve, present, not_leaving, room_for_branch, enough, with_branch, ◌>>◌, ◌>>=◌}
+use Rattle.ip_image.specs.Appending.{MayName}
+use Rattle.ip_store.specs.declared.committing.StoreFault.{StoreFault}
+use Rattle.ip_store.specs.declared.store.Store.{Store}
+use Rattle.ip_store.specs.declared.work.Work.{Work}
+use Rattle.ip_store.specs.Commits.{Answers, conditions_of, met_nothing, met_of, met_by, short_of, fault_reply, refusal}
+use Rattle.ip_store.specs.Naming.{branch_reply, AnswersSet, AnswersRemove, Renames, without_branch}
+use Rattle.ip_store.specs.Store.{IsOf, IsLawful, session}
+use Rattle.ip_store.proofs.Keyed.{absent_stays}
+use Rattle.ip_store.proofs.Planning.{room_after}
+use Rattle.ip_store.proofs.Stepping.{same_tables}
+
+module _ (r : Repository) (work : Work) (command : Command) (may : MayRefuse command Child.NotAsked) where
+  abbrev s : State
+  s = session r work
+
+  plain : (reply : Reply) → IsMet s command (conditions_of met_nothing) reply
+  plain reply = record {
+    child = refl;
+    checking = tt;
+    start = λ t. absurd (cc (t));
+    kill = λ t. absurd (cc (t));
+    left = λ l. absurd (omega (arith, l));
+    short = tt;
+    refused = λ t. absurd (cc (t));
+  }
+
+  short : (limit : Limit) → IfSome (short_of limit) (λ l. (Reply.Limit limit ≡ Reply.Limit l) × MayBeShort l) → IsMet s command (conditions_of (met_of (StoreFault.Limit limit))) (Reply.Limit limit)
+  short limit so = record {
+    child = refl;
+    checking = tt;
+    start = λ t. absurd (cc (t));
+    kill = λ t. absurd (cc (t));
+    left = λ l. absurd (omega (arith, l));
+    short = so;
+    refused = λ t. absurd (cc (t));
+  }
+
+  short_so : (limit : Limit) → IfSome (short_of limit) (λ l. (Reply.Limit limit ≡ Reply.Limit l) × MayBeShort l)
+  short_so Limit.Contents = tt
+  short_so Limit.Depth = tt
+  short_so Limit.Entries = tt
+  short_so Limit.Parents = tt
+  short_so Limit.Branches = tt
+  short_so Limit.Space = (refl, tt)
+  short_so Limit.Sequence = (refl, tt)
+  short_so Limit.Attempt = tt
+
+  wanting : IsMet s command (conditions_of (met_of StoreFault.Memory)) Reply.Memory
+  wanting = record {
+    child = refl;
+    checking = tt;
+    start = λ t. absurd (cc (t));
+    kill = λ t. absurd (cc (t));
+    left = λ l. absurd (omega (arith, l));
+    short = tt;
+    refused = λ t. may;
+  }
+
+  turn_is : (met : Met) (out : Refused Turned) → met.refused ≡ false → outcome s command (conditions_of met) ≡ out → turned s command (conditions_of met) ≡ or_refused s out
+  unfolding turned
+  turn_is met out unrefused is =
+      ap (λ b. if b then (Reply.Memory, state_with_exit s s.phase met.child) else answer s command (conditions_of met)) unrefused
+      ∙ ap (or_refused s) is
+
+  memory_turn : turned s command (conditions_of (met_of StoreFault.Memory)) ≡ (Reply.Memory, s)
+  unfolding turned
+  memory_turn = refl
+
+  module _ (store : Store) where
+    pub answers_reply : (reply : Reply) → outcome s command (conditions_of met_nothing) ≡ Err reply → IsOf store r → IsLawful r work → Answers s command met_nothing reply store work
+    answers_reply reply is of lawful = record { after = r; is_met = plain reply; turn = turn_is met_nothing (Err reply) refl is; tables = of; lawful = lawful }
+
+    pub answers_memory : IsOf store r → IsLawful r work → Answers s command (met_of StoreFault.Memory) Reply.Memory store work
+    answers_memory of lawful = record { after = r; is_met = wanting; turn = memory_turn; tables = of; lawful = lawful }
+
+    pub answers_fault : (fault : StoreFault) → outcome s command (conditions_of (met_of fault)) ≡ Err (refusal fault) → IsOf store r → IsLawful r work
+        → IfSome (fault_reply fault) (λ reply. Answers s command (met_of fault) reply store work)
+    answers_fault (StoreFault.HeadMoved name) is of lawful = answers_reply (Reply.HeadMoved name) is of lawful
+    answers_fault (StoreFault.Existing name) is of lawful = answers_reply (Reply.Existing name) is of lawful
+    answers_fault (StoreFault.Limit limit) is of lawful = record { after = r; is_met = short limit (short_so limit); turn = turn_is (met_of (StoreFault.Limit limit)) (Err (Reply.Limit limit)) refl is; tables = of; lawful = lawful }
+    answers_fault StoreFault.Memory is of lawful = answers_memory of lawful
+    answers_fault StoreFault.Ground is of lawful = tt
+
+    pub answers_done : (reply : Reply) (after : Repository) → outcome s command (conditions_of met_nothing) ≡ Ok (reply, session after work) → IsOf store after → IsLawful after work → Answers s command met_nothing reply store work
+    answers_done reply after is of lawful = record { after = after; is_met = plain reply; turn = turn_is met_nothing (Ok (reply, session after work)) refl is; tables = of; lawful = lawful }
+
+-- ---- setting a branch
+
+module _ (r : Repository) (name : Bytes) (number : ℕ) where
+  abbrev after : Repository
+  after = with_branch r name number
+
+  behind : Work → Met → Refused Turned
+  behind work met = enough (conditions_of met) Limit.Space >> (enough (conditions_of met) Limit.Sequence >> Ok (Reply.Accepted, session after work))
+
+  set_outcome : (work : Work) (target : Target) (met : Met) → resolve r target ≡ Ok number → outcome (session r work) (Command.Branch name target) (conditions_of met) ≡ (room_for_branch r name >> behind work met)
+  unfolding outcome behind
+  set_outcome work target met is = ap (λ (g : Refused ℕ). g >>= (λ n. not_leaving (session r work) (Some n) >> (room_for_branch r name >> (enough (conditions_of met) Limit.Space >> (enough (conditions_of met) Limit.Sequence >> Ok (Reply.Accepted, session (with_branch r name n) work)))))) is
+
+  same_lawful : (work : Work) → IsLawful r work → IsLawful after work
+  same_lawful work l = record { retained = l.retained; distinct = l.distinct; few = l.few }
+
+  -- there is no room for one more
+  pub set_refused : (store : Store) (fault : StoreFault) → room_for_branch r name ≡ Err (refusal fault) → IsOf store r → IfSome (branch_reply (Err fault)) (AnswersSet r name number (met_of fault) store)
+  set_refused store fault full of = by (fault_reply fault) (λ work target lawful is.
+      answers_fault r work (Command.Branch name target) tt store fault (set_outcome work target (met_of fault) is ∙ ap (λ g. g >> behind work (met_of fault)) full) of lawful)
+    where
+      by : (o : Option Reply) → ((work : Work) (target : Target) → IsLawful r work → resolve r target ≡ Ok number → IfSome o (λ reply. Answers (session r work) (Command.Branch name target) (met_of fault) reply store work))
+          → IfSome o (AnswersSet r name number (met_of fault) store)
+      by None all = tt
+      by (Some reply) all = all
+
+  -- the record's bytes could not be taken
+  pub set_memory : (store : Store) → IsOf store r → AnswersSet r name number (met_of StoreFault.Memory) store Reply.Memory
+  set_memory store of work target lawful is = answers_memory r work (Command.Branch name target) tt store of lawful
+
+  pub set_answers : (store : Store) (result : Result (Unit {0}) StoreFault) → room_for_branch r name ≡ Ok tt → Renames r (Record.BranchSet number name) result store → IfSome (branch_reply result) (AnswersSet r name number (met_by result) store)
+  unfolding behind
+  set_answers store (Ok u) room of = λ work target lawful is.
+      answers_done r work (Command.Branch name target) tt store Reply.Accepted after (set_outcome work target met_nothing is ∙ ap (λ g. g >> behind work met_nothing) room) of (same_lawful work lawful)
+  set_answers store (Err (StoreFault.Limit Limit.Space)) room of = λ work target lawful is.
+      answers_fault r work (Command.Branch name target) tt store (StoreFault.Limit Limit.Space) (set_outcome work target (met_of (StoreFault.Limit Limit.Space)) is ∙ ap (λ g. g >> behind work (met_of (StoreFault.Limit Limit.Space))) room) of lawful
+  set_answers store (Err (StoreFault.Limit Limit.Sequence)) room of = λ work target lawful is.
+      answers_fault r work (Command.Branch name target) tt store (StoreFault.Limit Limit.Sequence) (set_outcome work target (met_of (StoreFault.Limit Limit.Sequence)) is ∙ ap (λ g. g >> behind work (met_of (StoreFault.Limit Limit.Sequence))) room) of lawful
+  set_answers store (Err StoreFault.Memory) room of = set_memory store of
+  set_answers store (Err StoreFault.Ground) room of = tt
+  set_answers store (Err (StoreFault.Limit _)) room of = absurd of
+  set_answers store (Err (StoreFault.HeadMoved h)) room of = absurd of
+  set_answers store (Err (StoreFault.Existing h)) room of = absurd of
+
+  -- ---- its record
+
+  pub set_may : (store : Store) → IsOf store r → IsTrue (is_retained r number) → room_for_branch r name ≡ Ok tt → MayName r (Record.BranchSet number name)
+  set_may store of retained room = (retained, room_after r name number room of.retained.few)
+
+  pub set_fits : (store : Store) → IsOf store r → IsTrue (is_retained r number) → IsBranchName name → Fits 1 (Record.BranchSet number name)
+  unfolding body
+  set_fits store of retained is_name =
+      let high = high_of r.floor number (next r) retained in
+      let n = of.next in
+      let end = of.slot.next in
+      let most = of.slot.ends in
+      let short = is_name.short in
+      record {
+        size = omega (arith, length-append (u64 number) (short_text name), short);
+        fields = (omega (arith, high, n, end, most), is_name);
+      }
+    where
+      high_of : (floor n m : ℕ) → (nat_le floor n && nat_lt n m) ≡ true → n < m
+      high_of floor n m is = grind (arith, nat_tests)
+
+pub none_in : (o : Option ℕ) → is_none o ≡ true → o ≡ None
+none_in None e = refl
+none_in (Some n) e = absurd (cc (e))
+
+pub some_in : (o : Option ℕ) → is_none o ≡ false → (n : ℕ) × (o ≡ Some n)
+some_in None e = absurd (cc (e))
+some_in (Some n) e = (n, refl)
+
+-- ---- taking one away
+
+module _ (r : Repository) (name : Bytes) where
+  gone : Work → Met → Refused Turned
+  gone work met = enough (conditions_of met) Limit.Space >> (enough (conditions_of met) Limit.Sequence >> Ok (Reply.Accepted, session (without_branch r name) work))
+
+  remove_outcome : (work : Work) (met : Met) → outcome (session r work) (Command.BranchRm name) (conditions_of met) ≡ (present (head r name) (Reply.NoBranch name) >> gone work met)
+  unfolding outcome gone
+  remove_outcome work met = refl
+
+  there : (o : Option ℕ) (n : ℕ) → o ≡ Some n → present o (Reply.NoBranch name) ≡ Ok n
+  there o n is = ap (λ p. present p (Reply.NoBranch name)) is
+
+  pub remove_none : (store : Store) → IsOf store r → head r name ≡ None → AnswersRemove r name met_nothing store (Reply.NoBranch name)
+  remove_none store of none work lawful =
+      answers_reply r work (Command.BranchRm name) tt store (Reply.NoBranch name) (remove_outcome work met_nothing ∙ ap (λ o. present o (Reply.NoBranch name) >> gone work met_nothing) none) of lawful
+
+  pub remove_memory : (store : Store) → IsOf store r → AnswersRemove r name (met_of StoreFault.Memory) store Reply.Memory
+  remove_memory store of work lawful = answers_memory r work (Command.BranchRm name) tt store of lawful
+
+  pub remove_done : (store : Store) (n : ℕ) → head r name ≡ Some n → IsOf store (without_branch r name) → AnswersRemove r name met_nothing store Reply.Accepted
+  unfolding gone
+  remove_done store n is of work lawful =
+      answers_done r work (Command.BranchRm name) tt store Reply.Accepted (without_branch r name) (remove_outcome work met_nothing ∙ ap (λ o. present o (Reply.NoBranch name) >> gone work met_nothing) is) of
+      (record { retained = lawful.retained; distinct = lawful.distinct; few = lawful.few })
+
+  pub remove_cut : (store : Store) (n : ℕ) (fault : StoreFault) → head r name ≡ Some n → Renames r (Record.BranchRemove name) (Err fault) store → IfSome (fault_reply fault) (AnswersRemove r name (met_of fault) store)
+  unfolding gone
+  remove_cut store n (StoreFault.Limit Limit.Space) is of = λ work lawful.
+      answers_fault r work (Command.BranchRm name) tt store (StoreFault.Limit Limit.Space) (remove_outcome work (met_of (StoreFault.Limit Limit.Space)) ∙ ap (λ o. present o (Reply.NoBranch name) >> gone work (met_of (StoreFault.Limit Limit.Space))) is) of lawful
+  remove_cut store n (StoreFault.Limit Limit.Sequence) is of = λ work lawful.
+      answers_fault r work (Command.BranchRm name) tt store (StoreFault.Limit Limit.Sequence) (remove_outcome work (met_of (StoreFault.Limit Limit.Sequence)) ∙ ap (λ o. present o (Reply.NoBranch name) >> gone work (met_of (StoreFault.Limit Limit.Sequence))) is) of lawful
+  remove_cut store n StoreFault.Memory is of = remove_memory store of
+  remove_cut store n StoreFault.Ground is of = tt
+  remove_cut store n (StoreFault.Limit _) is of = absurd of
+  remove_cut store n (StoreFault.HeadMoved h) is of = absurd of
+  remove_cut store n (StoreFault.Existing h) is of = absurd of
+
+  -- where there is none, taking it away is nothing
+  pub absent_same : head r name ≡ None → without_branch r name ≡ r
+  unfolding retain_keys
+  absent_same none = ap (λ m. record r { branches = m }) (same_entries_map (remove r.branches name) r.branches (absent_stays name r.branches.entries none))
+
+  pub remove_fits : IsBranchName name → Fits 1 (Record.BranchRemove name)
+  unfolding body
+  remove_fits is_name = let short = is_name.short in record { size = omega (arith, short); fields = is_name }
+
+-- ---- the same store, with what was met
+
+module _ (store store' : Store) (slot : store'.slot ≡ store.slot) (index : store'.index ≡ store.index) (names : store'.names ≡ store.names) (branches : store'.branches ≡ store.branches) (history : store'.history ≡ store.history) (r : Repository) (name : Bytes) where
+  same_answer : (s : State) (command : Command) (met : Met) (reply : Reply) (work : Work) → Answers s command met reply store work → Answers s command met reply store' work
+  same_answer s command met reply work p = record { after = p.after; is_met = p.is_met; turn = p.turn; tables = same_tables store store' p.after slot index names branches history p.tables; lawful = p.lawful }
+
+  pub same_set : (number : ℕ) (met : Met) (o : Option Reply) → IfSome o (AnswersSet r name number met store) → IfSome o (AnswersSet r name number met store')
+  same_set number met None all = tt
+  same_set number met (Some reply) all = λ work target lawful is. same_answer (session r work) (Command.Branch name target) met reply work (all work target lawful is)
+
+  pub same_removed : (met : Met) (o : Option Reply) → IfSome o (AnswersRemove r name met store) → IfSome o (AnswersRemove r name met store')
+  same_removed met None all = tt
+  same_removed met (Some reply) all = λ work lawful. same_answer (session r work) (Command.BranchRm name) met reply work (all work lawful)

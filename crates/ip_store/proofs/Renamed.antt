@@ -1,0 +1,153 @@
+-- What the tables and the files hold after a record of a branch.
+--     renamed_tables      the tables after it.      can_rename      what the durable step asks
+--     was_renamed, rename_cut      the relation of a call that was made, and of one that a fault cut short
+use Rattle.std.proofs.Common.{◌≡◌, ℕ, ◌+◌, ◌-◌, ◌^◌, ◌<◌, ◌≤◌, Bool, true, false, ◌++◌, length, Option, Some, None, sym, ◌∙◌, ap, subst, arith}
+use Rattle.std.specs.Prelude.{Result, Ok, Err, All, IfSome, not, nat_le, nat_lt, ◌&&◌, cond}
+use Rattle.std.proofs.lemmas.Bool.Decides.{nat_tests}
+use Rattle.std.specs.Cmp.Lexicographic.{nat_list_cmp_total}
+use Rattle.std.specs.Ordering.{eq_by_cmp}
+use Rattle.ip_ground.specs.declared.names.GroundFault.{GroundFault}
+use Rattle.ip_ground.specs.Contents.{Image}
+use Rattle.ip_ground.specs.Told.{Told}
+use Rattle.ip_spec.specs.declared.record.Record.{Record}
+use Rattle.ip_spec.specs.Map.{get, insert, remove, len, get-insert}
+use Rattle.ip_spec.specs.Path.{Bytes, bytes_cmp}
+use Rattle.ip_spec.specs.Record.{Names, Fits, IsHash, spelling}
+use Rattle.ip_spec.specs.Repository.{Repository, next}
+use Rattle.ip_image.specs.declared.slot.Slot.{Slot}
+use Rattle.ip_image.specs.Slot.{IsSlot, slot_bytes}
+use Rattle.ip_image.specs.Standing.{StandsFor, AreRetained, names_after}
+use Rattle.ip_image.specs.Appending.{front_of, HasLive, later_slot, MayName, renamed}
+use Rattle.ip_image.proofs.Renaming.{get_without, few_without, stands_renamed}
+use Rattle.ip_history.specs.History.{HasParentsFirst}
+use Rattle.ip_control.specs.Live.{live_slot}
+use Rattle.ip_store.specs.declared.committing.StoreFault.{StoreFault}
+use Rattle.ip_store.specs.declared.store.Store.{Store}
+use Rattle.ip_store.specs.Changes.{Changes}
+use Rattle.ip_store.specs.Naming.{SlotLater}
+use Rattle.ip_store.specs.Publishing.{StandsAs, CanStep, MakesStep}
+use Rattle.ip_store.specs.Store.{IsOf, Holds}
+use Rattle.ip_store.proofs.Secured.{in_image, held_has}
+use Rattle.ip_store.proofs.Stepping.{may_step, changed, cut_short}
+
+abbrev IsAmong : Slot → ℕ → Type 0
+IsAmong s n = (s.floor ≤ n) × (n < s.next)
+
+within : (floor n m : ℕ) → (nat_le floor n && nat_lt n m) ≡ true → (floor ≤ n) × (n < m)
+within floor n m is = (low floor n m is, high floor n m is)
+  where
+    low : (floor n m : ℕ) → (nat_le floor n && nat_lt n m) ≡ true → floor ≤ n
+    low floor n m is = grind (arith, nat_tests)
+
+    high : (floor n m : ℕ) → (nat_le floor n && nat_lt n m) ≡ true → n < m
+    high floor n m is = grind (arith, nat_tests)
+
+-- the slot, by the length of the record
+pub slot_from : (s : Slot) (x : Record) (n : ℕ) (slot : Slot) → n ≡ length (spelling x) → SlotLater s n (Ok slot)
+    → (slot ≡ later_slot s (s.end + length (spelling x))) × (s.end + length (spelling x) ≤ 2 ^ 62) × (s.sequence < 2 ^ 62)
+slot_from s x n slot is = subst (λ (k : ℕ). SlotLater s n (Ok slot) → SlotLater s k (Ok slot)) is (λ later. later)
+
+-- whatever repository the tables are of
+pub may_same : (store : Store) (q r : Repository) (x : Record) → IsOf store q → IsOf store r → MayName q x → MayName r x
+may_same store q r (Record.BranchSet number name) a b may = (
+  subst (λ (f : ℕ). (nat_le f number && nat_lt number (next r)) ≡ true) (a.floor ∙ sym b.floor) (subst (λ (n : ℕ). (nat_le q.floor number && nat_lt number n) ≡ true) (a.next ∙ sym b.next) may.0),
+  subst (λ m. len (insert m name number) ≤ 4096) (a.branches ∙ sym b.branches) may.1,
+)
+may_same store q r (Record.BranchRemove name) a b may = tt
+may_same store q r _ a b may = absurd may
+
+module _ (r : Repository) (store : Store) (of : IsOf store r) where
+  retained_set : (name : Bytes) (number : ℕ) → IsAmong store.slot number → (q : Bytes) → IfSome (get (insert r.branches name number) q) (IsAmong store.slot)
+  retained_set name number among q = subst (λ (o : Option ℕ). IfSome o (IsAmong store.slot)) (sym (get-insert nat_list_cmp_total r.branches name number q)) (by (eq_by_cmp bytes_cmp q name) (get r.branches q) (of.retained.each q))
+    where
+      by : (b : Bool) (o : Option ℕ) → IfSome o (IsAmong store.slot) → IfSome (cond b (Some number) o) (IsAmong store.slot)
+      by true o is = among
+      by false o is = is
+
+  retained_without : (name q : Bytes) → IfSome (get (remove r.branches name) q) (IsAmong store.slot)
+  retained_without name q = subst (λ (o : Option ℕ). IfSome o (IsAmong store.slot)) (sym (get_without r.branches name q)) (by (not (eq_by_cmp bytes_cmp name q)) (get r.branches q) (of.retained.each q))
+    where
+      by : (b : Bool) (o : Option ℕ) → IfSome o (IsAmong store.slot) → IfSome (cond b o None) (IsAmong store.slot)
+      by true o is = is
+      by false o is = tt
+
+  retained_after : (x : Record) → MayName r x → AreRetained store.slot (names_after Names.branches r.branches x)
+  retained_after (Record.BranchSet number name) may = record {
+    each = retained_set name number (let (a, b) = within r.floor number (next r) may.0 in let f = of.floor in let n = of.next in (omega (arith, a, f), omega (arith, b, n)));
+    few = may.1;
+  }
+  retained_after (Record.BranchRemove name) may = record {
+    each = retained_without name;
+    few = (let few = few_without r.branches name in let was = of.retained.few in omega (arith, few, was));
+  }
+  retained_after _ may = absurd may
+
+  module _ (x : Record) (may : MayName r x) (fits : Fits 1 x) (slot : Slot) (slot_is : slot ≡ later_slot store.slot (store.slot.end + length (spelling x))) (small : store.slot.end + length (spelling x) ≤ 2 ^ 62) (low : store.slot.sequence < 2 ^ 62) where
+    abbrev after : Repository
+    after = renamed r x
+
+    abbrev later : Slot
+    later = later_slot store.slot (store.slot.end + length (spelling x))
+
+    later_is : IsSlot later
+    later_is = record {
+      version_low = of.slot.version_low;
+      version_high = of.slot.version_high;
+      chunk = of.slot.chunk;
+      sequence_low = omega arith;
+      sequence_high = omega (arith, low);
+      horizon = (let h = of.slot.horizon in omega (arith, h));
+      ends = small;
+      floor = of.slot.floor;
+      next = (let n = of.slot.next in omega (arith, n));
+      live = of.slot.live;
+      next_attempt = of.slot.next_attempt;
+      prefix_len = of.slot.prefix_len;
+      rows = of.slot.rows;
+      first_attempt_low = of.slot.first_attempt_low;
+      first_attempt_high = of.slot.first_attempt_high;
+      first_attempt_live = of.slot.first_attempt_live;
+      first_chunk = of.slot.first_chunk;
+      none_live = of.slot.none_live;
+      nothing_below = of.slot.nothing_below;
+      served = of.slot.served;
+    }
+
+    slot_after : IsSlot slot
+    slot_after = subst IsSlot (sym slot_is) later_is
+
+    newer : store.slot.sequence < slot.sequence
+    newer = subst (λ (s : Slot). store.slot.sequence < s.sequence) (sym slot_is) (omega arith)
+
+    ends : store.slot.end + length (spelling x) ≡ slot.end
+    ends = ap (λ (s : Slot). s.end) (sym slot_is)
+
+    pub renamed_tables : (store' : Store) → store'.slot ≡ slot → store'.index ≡ 1 - store.index → store'.names ≡ store.names → store'.branches ≡ names_after Names.branches store.branches x → store'.history ≡ store.history → IsOf store' after
+    renamed_tables store' slot' index names branches history = record {
+      slot = subst IsSlot (sym slot') slot_after;
+      index = subst (λ (i : ℕ). i < 2) (sym index) (omega arith);
+      floor = of.floor ∙ ap (λ (s : Slot). s.floor) (sym slot_is) ∙ ap (λ (s : Slot). s.floor) (sym slot');
+      next = of.next ∙ ap (λ (s : Slot). s.next) (sym slot_is) ∙ ap (λ (s : Slot). s.next) (sym slot');
+      names = of.names ∙ sym names;
+      hashes = subst (All IsHash) (sym names) of.hashes;
+      branches = ap (λ m. names_after Names.branches m x) of.branches ∙ sym branches;
+      history = of.history ∙ sym history;
+      parents_first = subst HasParentsFirst (sym history) of.parents_first;
+      retained = (let is = retained_after x may in subst (λ (s : Slot). AreRetained s after.branches) (sym slot_is ∙ sym slot') (record { each = is.each; few = is.few }));
+    }
+
+    module _ (a : Told) (held : Holds store a r) where
+      pub can_rename : CanStep store.slot.end (1 - store.index) slot a
+      can_rename = may_step r after store slot (spelling x) of slot_after newer ends a held
+
+      stands_new : (image : Image) → StandsAs (live_slot (1 - store.index) (slot_bytes slot)) (front_of store.slot.end a.held ++ spelling x) image → StandsFor image after
+      stands_new image (live, begins) = stands_renamed a.held image r store.slot x held.stands (held_has store r a held) may
+          (subst (λ (v : ℕ). Fits v x) (let l = of.slot.version_low in let h = of.slot.version_high in omega (arith, l, h)) fits)
+          (subst (λ (s : Slot). HasLive s image) slot_is (in_image (1 - store.index) slot image slot_after live)) begins
+
+      pub was_renamed : (b : Told) (store' : Store) → store'.slot ≡ slot → store'.index ≡ 1 - store.index → store'.names ≡ store.names → store'.branches ≡ names_after Names.branches store.branches x → store'.history ≡ store.history
+          → MakesStep store.slot.end (spelling x) (1 - store.index) slot (Ok tt) a b → Changes {A = Unit {0}} r after (Ok tt) store' a b
+      was_renamed b store' slot' index names branches history step = changed r after store slot (spelling x) of slot_after newer ends a held stands_new tt b store' slot' index (renamed_tables store' slot' index names branches history) step
+
+      pub rename_cut : (b : Told) (store' : Store) (res : Result (Unit {0}) GroundFault) → MakesStep store.slot.end (spelling x) (1 - store.index) slot res a b → Changes {A = Unit {0}} r after (Err StoreFault.Ground) store' a b
+      rename_cut b store' res step = cut_short r after store slot (spelling x) of slot_after newer ends a held stands_new b store' res step

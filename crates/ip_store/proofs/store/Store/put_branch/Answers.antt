@@ -1,0 +1,60 @@
+use Rattle.std.proofs.Common.{◌≡◌, rules, refl, sym, subst}
+use Rattle.std.specs.Prelude.{Ok, Err, IfSome}
+use Rattle.ip_spec.specs.Record.{Fits}
+use Rattle.ip_spec.specs.Step.{room_for_branch, with_branch}
+use Rattle.ip_image.specs.Appending.{MayName, renamed}
+use Rattle.ip_store.specs.declared.committing.StoreFault.TheVariants as StoreFault
+use Rattle.ip_store.specs.Changes.{Changes}
+use Rattle.ip_store.specs.Commits.{met_by, refusal}
+use Rattle.ip_store.specs.Naming.{branch_reply, AnswersSet, Renames}
+use Rattle.ip_store.proofs.Stepping.{changes_none}
+use Rattle.ip_store.proofs.BranchTurns.{set_refused, set_memory, set_answers, set_may, set_fits}
+use Rattle.ip_store.proofs.store.Store.put_branch.Goals as goal
+
+pub returns-in_err-room_for-clause-answers : goal.returns-in_err-room_for-clause-answers
+returns-in_err-room_for-clause-answers g c r of retained =
+    let fault = c.in_err-room_for.field-0.0 in
+    let is : c.from_residual.result ≡ Err fault = search rules in
+    let full : room_for_branch r c.args.name.now ≡ Err (refusal fault) = search rules in
+    subst (λ res. IfSome (branch_reply res) (AnswersSet r c.args.name.now c.args.number (met_by res) c.args.self.now)) (sym is) (set_refused r c.args.name.now c.args.number c.args.self.now fault full of)
+
+pub returns-in_err-room_for-clause-does : goal.returns-in_err-room_for-clause-does
+returns-in_err-room_for-clause-does g c told r held retained =
+    let fault = c.in_err-room_for.field-0.0 in
+    let is : c.from_residual.result ≡ Err fault = search rules in
+    subst (λ res. Changes {A = Unit {0}} r (with_branch r c.args.name.now c.args.number) res c.args.self.now (g.G.Ground.told c.args.outside.now) (g.G.Ground.told c.args.outside.now)) (sym is)
+    (changes_none r (with_branch r c.args.name.now c.args.number) fault c.args.self.now c.args.self.now (g.G.Ground.told c.args.outside.now) refl refl refl refl refl held)
+
+pub returns-in_err-rec-clause-answers : goal.returns-in_err-rec-clause-answers
+returns-in_err-rec-clause-answers g c r of retained =
+    let is : c.from_residual-in_err-rec.result ≡ Err StoreFault.Memory = search rules in
+    subst (λ res. IfSome (branch_reply res) (AnswersSet r c.args.name.now c.args.number (met_by res) c.args.self.now)) (sym is) (set_memory r c.args.name.now c.args.number c.args.self.now of)
+
+pub returns-in_err-rec-clause-does : goal.returns-in_err-rec-clause-does
+returns-in_err-rec-clause-does g c told r held retained =
+    let is : c.from_residual-in_err-rec.result ≡ Err StoreFault.Memory = search rules in
+    subst (λ res. Changes {A = Unit {0}} r (with_branch r c.args.name.now c.args.number) res c.args.self.now (g.G.Ground.told c.args.outside.now) (g.G.Ground.told c.args.outside.now)) (sym is)
+    (changes_none r (with_branch r c.args.name.now c.args.number) StoreFault.Memory c.args.self.now c.args.self.now (g.G.Ground.told c.args.outside.now) refl refl refl refl refl held)
+
+pub rename-requires-clause-tables : goal.rename-requires-clause-tables
+rename-requires-clause-tables g c =
+    let r = c.requires.tables.0 in
+    let of = c.requires.tables.1 in
+    let room : room_for_branch r c.args.name.now ≡ Ok tt = search rules in
+    (r, of, subst (MayName r) (sym c.in_ok-rec.ensures) (set_may r c.args.name.now c.args.number c.args.self.now of c.requires.tables.2 room))
+
+pub rename-requires-clause-fits : goal.rename-requires-clause-fits
+rename-requires-clause-fits g c = subst (Fits 1) (sym c.in_ok-rec.ensures) (set_fits c.requires.tables.0 c.args.name.now c.args.number c.args.self.now c.requires.tables.1 c.requires.tables.2 c.requires.name)
+
+pub returns-clause-answers : goal.returns-clause-answers
+returns-clause-answers g c r of retained =
+    let room : room_for_branch r c.args.name.now ≡ Ok tt = search rules in
+    set_answers r c.args.name.now c.args.number c.rename.new.self c.rename.result room
+    (subst (λ x. Renames r x c.rename.result c.rename.new.self) c.in_ok-rec.ensures (c.rename.ensures.tables r of (subst (MayName r) (sym c.in_ok-rec.ensures) (set_may r c.args.name.now c.args.number c.args.self.now of retained room))))
+
+pub returns-clause-does : goal.returns-clause-does
+returns-clause-does g c told r held retained =
+    let of = held.tables in
+    let room : room_for_branch r c.args.name.now ≡ Ok tt = search rules in
+    subst (λ x. Changes {A = Unit {0}} r (renamed r x) c.rename.result c.rename.new.self (g.G.Ground.told c.args.outside.now) (g.G.Ground.told c.rename.new.outside)) c.in_ok-rec.ensures
+    (c.rename.ensures.does told r held (subst (MayName r) (sym c.in_ok-rec.ensures) (set_may r c.args.name.now c.args.number c.args.self.now of retained room)))

@@ -1,0 +1,70 @@
+use Rattle.std.proofs.Common.{◌≡◌, rules, true, false, Bool, None, refl, sym, subst, ◌∙◌}
+use Rattle.std.specs.Prelude.{Ok, Err, IfSome}
+use Rattle.ip_spec.specs.Repository.{head}
+use Rattle.ip_spec.specs.Record.{Fits}
+use Rattle.ip_image.specs.Appending.{MayName, renamed}
+use Rattle.ip_store.specs.declared.committing.StoreFault.TheVariants as StoreFault
+use Rattle.ip_store.specs.Changes.{Changes}
+use Rattle.ip_store.specs.Commits.{met_by}
+use Rattle.ip_store.specs.Naming.{removed_reply, AnswersRemove, Renames, without_branch}
+use Rattle.ip_store.proofs.Stepping.{changes_none, changes_still, with_value, with_fault}
+use Rattle.ip_store.proofs.BranchTurns.{none_in, some_in, remove_none, remove_memory, remove_done, remove_cut, remove_fits, absent_same}
+use Rattle.ip_store.proofs.store.Store.take_branch.Goals as goal
+
+pub returns-then-is_none-clause-answers : goal.returns-then-is_none-clause-answers
+returns-then-is_none-clause-answers g c r of =
+    let none : head r c.args.name.now ≡ None = sym (c.head.ensures r of) ∙ none_in c.head.result (search rules) in
+    remove_none r c.args.name.now c.args.self.now of none
+
+pub returns-then-is_none-clause-does : goal.returns-then-is_none-clause-does
+returns-then-is_none-clause-does g c told r held =
+    let none : head r c.args.name.now ≡ None = sym (c.head.ensures r held.tables) ∙ none_in c.head.result (search rules) in
+    subst (λ q. Changes {A = Bool} r q (Ok false) c.args.self.now (g.G.Ground.told c.args.outside.now) (g.G.Ground.told c.args.outside.now)) (sym (absent_same r c.args.name.now none))
+    (changes_still false r c.args.self.now (g.G.Ground.told c.args.outside.now) held)
+
+pub returns-in_err-rec-clause-answers : goal.returns-in_err-rec-clause-answers
+returns-in_err-rec-clause-answers g c r of =
+    let is : c.from_residual.result ≡ Err StoreFault.Memory = search rules in
+    subst (λ res. IfSome (removed_reply c.args.name.now res) (AnswersRemove r c.args.name.now (met_by res) c.args.self.now)) (sym is) (remove_memory r c.args.name.now c.args.self.now of)
+
+pub returns-in_err-rec-clause-does : goal.returns-in_err-rec-clause-does
+returns-in_err-rec-clause-does g c told r held =
+    let is : c.from_residual.result ≡ Err StoreFault.Memory = search rules in
+    subst (λ res. Changes {A = Bool} r (without_branch r c.args.name.now) res c.args.self.now (g.G.Ground.told c.args.outside.now) (g.G.Ground.told c.args.outside.now)) (sym is)
+    (changes_none r (without_branch r c.args.name.now) StoreFault.Memory c.args.self.now c.args.self.now (g.G.Ground.told c.args.outside.now) refl refl refl refl refl held)
+
+pub rename-requires-clause-tables : goal.rename-requires-clause-tables
+rename-requires-clause-tables g c = (c.requires.tables.0, c.requires.tables.1, subst (MayName c.requires.tables.0) (sym c.in_ok-rec.ensures) tt)
+
+pub rename-requires-clause-fits : goal.rename-requires-clause-fits
+rename-requires-clause-fits g c = subst (Fits 1) (sym c.in_ok-rec.ensures) (remove_fits c.requires.tables.0 c.args.name.now c.requires.name)
+
+pub returns-in_err-rename-clause-answers : goal.returns-in_err-rename-clause-answers
+returns-in_err-rename-clause-answers g c r of =
+    let fault = c.in_err-rename.field-0.0 in
+    let is : c.from_residual-in_err-rename.result ≡ Err fault = search rules in
+    let there = some_in c.head.result (search rules) in
+    subst (λ res. IfSome (removed_reply c.args.name.now res) (AnswersRemove r c.args.name.now (met_by res) c.rename.new.self)) (sym is)
+    (remove_cut r c.args.name.now c.rename.new.self there.0 fault (sym (c.head.ensures r of) ∙ there.1)
+    (subst (λ x. Renames r x (Err fault) c.rename.new.self) c.in_ok-rec.ensures (c.in_err-rename.ensures.tables r of (subst (MayName r) (sym c.in_ok-rec.ensures) tt))))
+
+pub returns-in_err-rename-clause-does : goal.returns-in_err-rename-clause-does
+returns-in_err-rename-clause-does g c told r held =
+    let fault = c.in_err-rename.field-0.0 in
+    let is : c.from_residual-in_err-rename.result ≡ Err fault = search rules in
+    subst (λ res. Changes {A = Bool} r (without_branch r c.args.name.now) res c.rename.new.self (g.G.Ground.told c.args.outside.now) (g.G.Ground.told c.rename.new.outside)) (sym is)
+    (with_fault fault r (without_branch r c.args.name.now) c.rename.new.self (g.G.Ground.told c.args.outside.now) (g.G.Ground.told c.rename.new.outside)
+    (subst (λ x. Changes {A = Unit {0}} r (renamed r x) (Err fault) c.rename.new.self (g.G.Ground.told c.args.outside.now) (g.G.Ground.told c.rename.new.outside)) c.in_ok-rec.ensures
+    (c.in_err-rename.ensures.does told r held (subst (MayName r) (sym c.in_ok-rec.ensures) tt))))
+
+pub returns-clause-answers : goal.returns-clause-answers
+returns-clause-answers g c r of =
+    let there = some_in c.head.result (search rules) in
+    remove_done r c.args.name.now c.rename.new.self there.0 (sym (c.head.ensures r of) ∙ there.1)
+    (subst (λ x. Renames r x (Ok tt) c.rename.new.self) c.in_ok-rec.ensures (c.in_ok-rename.ensures.tables r of (subst (MayName r) (sym c.in_ok-rec.ensures) tt)))
+
+pub returns-clause-does : goal.returns-clause-does
+returns-clause-does g c told r held =
+    with_value tt true r (without_branch r c.args.name.now) c.rename.new.self (g.G.Ground.told c.args.outside.now) (g.G.Ground.told c.rename.new.outside)
+    (subst (λ x. Changes {A = Unit {0}} r (renamed r x) (Ok tt) c.rename.new.self (g.G.Ground.told c.args.outside.now) (g.G.Ground.told c.rename.new.outside)) c.in_ok-rec.ensures
+    (c.in_ok-rename.ensures.does told r held (subst (MayName r) (sym c.in_ok-rec.ensures) tt)))

@@ -1,0 +1,197 @@
+// Setting branches and taking them away: one record behind all others, and the slot that ends there.
+ghost use Rattle.std.specs.Prelude.{◌≡◌, ◌+◌, length, true, IsTrue, IfSome, IfOk, OnOk, OnErr, IsErrOf, IsSome};
+ghost use Rattle.ip_ground.specs.Counts.{NoneFalls, Rose};
+ghost use Rattle.ip_spec.specs.Record.{Fits, IsBranchName, spelling};
+ghost use Rattle.ip_spec.specs.Repository.{Repository, head, is_retained};
+ghost use Rattle.ip_spec.specs.Step.{with_branch};
+ghost use Rattle.ip_spec.specs.declared.record.Record.TheVariants as Record;
+ghost use Rattle.ip_image.specs.Slot.{IsSlot};
+ghost use Rattle.ip_image.specs.Appending.{MayName, renamed};
+ghost use Rattle.ip_store.specs.Changes.{Changes, LimitsSpace};
+ghost use Rattle.ip_store.specs.Commits.{met_by};
+ghost use Rattle.ip_store.specs.Naming.{branch_reply, removed_reply, AnswersSet, AnswersRemove, without_branch, SlotLater, Renames};
+ghost use Rattle.ip_store.specs.Store.{IsOf, Holds, IsSound};
+ghost use Rattle.ip_store.specs.declared.committing.StoreFault.TheVariants as StoreFault;
+
+use crate::committing::{GREATEST, met_by};
+use crate::publish::durable_step;
+use crate::walk::name_branch;
+use crate::{Store, StoreFault};
+use ip_base::{Blob, Limit, Memory, Number};
+use ip_control::Slot;
+use ip_ground::Ground;
+use ip_object::encode_into;
+use ip_spec::record::Record;
+use std::alloc::Global;
+
+// The record that puts a branch at a commit.
+fn set_record(alloc: Global, name: &[u8], number: Number) -> Result<Record, Memory>
+    ensures { IfOk result (λ rec. rec ≡ Record.BranchSet number name.now) }
+{
+    Ok(Record::BranchSet {
+        number,
+        name: Blob::copy_of(alloc, name)?,
+    })
+}
+
+// The record that takes a branch away.
+fn remove_record(alloc: Global, name: &[u8]) -> Result<Record, Memory>
+    ensures { IfOk result (λ rec. rec ≡ Record.BranchRemove name.now) }
+{
+    Ok(Record::BranchRemove {
+        name: Blob::copy_of(alloc, name)?,
+    })
+}
+
+// The bytes of a record.
+fn spelled(alloc: Global, rec: &Record) -> Result<Vec<u8>, Memory>
+    requires { Fits 1 rec.now }
+    ensures { IfOk result (λ bytes. bytes.items ≡ spelling rec.now) }
+{
+    let mut bytes = Vec::new(alloc);
+    encode_into(rec, &mut bytes)?;
+    Ok(bytes)
+}
+
+impl Store {
+    // The slot behind the live one, where so many bytes of records follow that are no commit.
+    fn slot_later(&self, length: usize) -> Result<Slot, StoreFault>
+        requires { IsSlot self.now.slot }
+        ensures { SlotLater self.now.slot length result }
+    {
+        if length as u64 > GREATEST - self.slot.end {
+            return Err(StoreFault::Limit(Limit::Space));
+        }
+        if self.slot.sequence >= GREATEST {
+            return Err(StoreFault::Limit(Limit::Sequence));
+        }
+        Ok(Slot {
+            sequence: self.slot.sequence + 1,
+            end: self.slot.end + length as u64,
+            ..self.slot
+        })
+    }
+
+    // Appends a record of a branch, and changes the branches as it says.
+    fn rename<G: Ground>(
+        &mut self,
+        alloc: Global,
+        outside: &mut G,
+        rec: Record,
+    ) -> Result<(), StoreFault>
+        requires tables { (r : Repository) × IsOf self.old r × MayName r rec }
+        requires fits { Fits 1 rec }
+        requires held { IsTrue G.tells → IsSound self.old (G.told outside.old) }
+        ensures tables { (r : Repository) → IsOf self.old r → MayName r rec → Renames r rec result self.new }
+        ensures limits { LimitsSpace (self.old.slot.end + length (spelling rec)) result self.old }
+        ensures does { IsTrue G.tells → (r : Repository) → Holds self.old (G.told outside.old) r → MayName r rec →
+            Changes r (renamed r rec) result self.new (G.told outside.old) (G.told outside.new) }
+        ensures counts { NoneFalls (G.counts_of outside.old) (G.counts_of outside.new) }
+        ensures cause { IsErrOf result StoreFault.Ground → Rose (G.counts_of outside.old).file_faults (G.counts_of outside.new).file_faults }
+    {
+        let spelled = spelled(alloc, &rec)?;
+        let bytes = spelled.as_slice();
+        let slot = self.slot_later(bytes.len())?;
+        name_branch(&mut self.branches, rec)?;
+        durable_step(outside, self.slot.end, bytes, 1 - self.index, &slot)?;
+        self.index = 1 - self.index;
+        self.slot = slot;
+        Ok(())
+    }
+}
+
+impl Store {
+    /// Puts a branch at a retained commit. Once it is `Ok` it is there for good. After `Ground` the store may not be used any more.
+    pub fn set_branch<G: Ground>(
+        &mut self,
+        alloc: Global,
+        outside: &mut G,
+        name: &[u8],
+        number: Number,
+    ) -> Result<(), StoreFault>
+        requires name { IsBranchName name.now }
+        requires tables { (r : Repository) × IsOf self.old r × IsTrue (is_retained r number) }
+        requires held { IsTrue G.tells → IsSound self.old (G.told outside.old) }
+        ensures answers { (r : Repository) → IsOf self.old r → IsTrue (is_retained r number) →
+            IfSome (branch_reply result) (AnswersSet r name.now number self.new.met self.new) }
+        ensures limits { LimitsSpace (self.old.slot.end + length (spelling (Record.BranchSet number name.now))) result self.old }
+        ensures does { IsTrue G.tells → (r : Repository) → Holds self.old (G.told outside.old) r → IsTrue (is_retained r number) →
+            Changes r (with_branch r name.now number) result self.new (G.told outside.old) (G.told outside.new) }
+        ensures counts { NoneFalls (G.counts_of outside.old) (G.counts_of outside.new) }
+        ensures cause { IsErrOf result StoreFault.Ground → Rose (G.counts_of outside.old).file_faults (G.counts_of outside.new).file_faults }
+    {
+        let answer = self.put_branch(alloc, outside, name, number);
+        self.met = met_by(&answer);
+        answer
+    }
+
+    fn put_branch<G: Ground>(
+        &mut self,
+        alloc: Global,
+        outside: &mut G,
+        name: &[u8],
+        number: Number,
+    ) -> Result<(), StoreFault>
+        requires name { IsBranchName name.now }
+        requires tables { (r : Repository) × IsOf self.old r × IsTrue (is_retained r number) }
+        requires held { IsTrue G.tells → IsSound self.old (G.told outside.old) }
+        ensures answers { (r : Repository) → IsOf self.old r → IsTrue (is_retained r number) →
+            IfSome (branch_reply result) (AnswersSet r name.now number (met_by result) self.new) }
+        ensures limits { LimitsSpace (self.old.slot.end + length (spelling (Record.BranchSet number name.now))) result self.old }
+        ensures does { IsTrue G.tells → (r : Repository) → Holds self.old (G.told outside.old) r → IsTrue (is_retained r number) →
+            Changes r (with_branch r name.now number) result self.new (G.told outside.old) (G.told outside.new) }
+        ensures counts { NoneFalls (G.counts_of outside.old) (G.counts_of outside.new) }
+        ensures cause { IsErrOf result StoreFault.Ground → Rose (G.counts_of outside.old).file_faults (G.counts_of outside.new).file_faults }
+    {
+        self.room_for(name)?;
+        let rec = set_record(alloc, name, number)?;
+        self.rename(alloc, outside, rec)
+    }
+
+    /// Takes a branch away. `Ok(false)`: no branch has the name, and nothing was done. Once it is `Ok(true)` it is gone for good. After
+    /// `Ground` the store may not be used any more.
+    pub fn remove_branch<G: Ground>(
+        &mut self,
+        alloc: Global,
+        outside: &mut G,
+        name: &[u8],
+    ) -> Result<bool, StoreFault>
+        requires name { IsBranchName name.now }
+        requires tables { (r : Repository) × IsOf self.old r }
+        requires held { IsTrue G.tells → IsSound self.old (G.told outside.old) }
+        ensures answers { (r : Repository) → IsOf self.old r → IfSome (removed_reply name.now result) (AnswersRemove r name.now self.new.met self.new) }
+        ensures limits { (r : Repository) → IsOf self.old r → IsSome (head r name.now) → LimitsSpace (self.old.slot.end + length (spelling (Record.BranchRemove name.now))) result self.old }
+        ensures does { IsTrue G.tells → (r : Repository) → Holds self.old (G.told outside.old) r →
+            Changes r (without_branch r name.now) result self.new (G.told outside.old) (G.told outside.new) }
+        ensures counts { NoneFalls (G.counts_of outside.old) (G.counts_of outside.new) }
+        ensures cause { IsErrOf result StoreFault.Ground → Rose (G.counts_of outside.old).file_faults (G.counts_of outside.new).file_faults }
+    {
+        let answer = self.take_branch(alloc, outside, name);
+        self.met = met_by(&answer);
+        answer
+    }
+
+    fn take_branch<G: Ground>(
+        &mut self,
+        alloc: Global,
+        outside: &mut G,
+        name: &[u8],
+    ) -> Result<bool, StoreFault>
+        requires name { IsBranchName name.now }
+        requires tables { (r : Repository) × IsOf self.old r }
+        requires held { IsTrue G.tells → IsSound self.old (G.told outside.old) }
+        ensures answers { (r : Repository) → IsOf self.old r → IfSome (removed_reply name.now result) (AnswersRemove r name.now (met_by result) self.new) }
+        ensures limits { (r : Repository) → IsOf self.old r → IsSome (head r name.now) → LimitsSpace (self.old.slot.end + length (spelling (Record.BranchRemove name.now))) result self.old }
+        ensures does { IsTrue G.tells → (r : Repository) → Holds self.old (G.told outside.old) r →
+            Changes r (without_branch r name.now) result self.new (G.told outside.old) (G.told outside.new) }
+        ensures counts { NoneFalls (G.counts_of outside.old) (G.counts_of outside.new) }
+        ensures cause { IsErrOf result StoreFault.Ground → Rose (G.counts_of outside.old).file_faults (G.counts_of outside.new).file_faults }
+    {
+        if self.head(name).is_none() {
+            return Ok(false);
+        }
+        let rec = remove_record(alloc, name)?;
+        self.rename(alloc, outside, rec)?;
+        Ok(true)
+    }
+}
