@@ -2,11 +2,11 @@
 use Rattle.std.proofs.Common.{◌≡◌, ◌≢◌, inl, inr, ℕ, zero, suc, ◌<◌, ◌≤◌, List, [], ◌∷◌, ◌++◌, refl, sym, ap, ◌∙◌, Option, Some, None, Bool, true, false, lit<, lit≤, arith, take}
 use Rattle.std.specs.Prelude.{codes, ◌==◌, ◌&&◌}
 use Rattle.std.proofs.Common.{append_assoc}
-use Rattle.ip_spec.specs.Path.{Bytes, space, IsWordByte, IsStep, IsPath}
+use Rattle.ip_spec.specs.Path.{Bytes, space, IsWordByte}
 use Rattle.std.specs.Fmt.{digits}
 use Rattle.std.proofs.lemmas.List.Elements.{All-from_recursion}
 use Rattle.ip_spec.specs.Record.{IsInfo, IsBranchName}
-use Rattle.ip_spec.specs.Machine.{Command}
+use Rattle.ip_spec.specs.Machine.{Command, Target}
 use Rattle.ip_spec.specs.Line.{LineOf, first_word, forms_of, IsLineOf, IsServed, IsServedLine, Begins, IsBadAt}
 
 abbrev StartsWith : Bytes → Bytes → Type 0
@@ -147,34 +147,35 @@ none_served text apart (c, rest, (served, is)) =
     no_true : {b : Bool} → b ≡ false → b ≡ true → ⊥
     no_true f t = cc
 
-sh_apart : (tail : Bytes) (c : Command) → IsServed c → agree (115 ∷ 104 ∷ tail) (first_word c) ≡ false
+loo_apart : (tail : Bytes) (c : Command) → IsServed c → agree (108 ∷ 111 ∷ 111 ∷ tail) (first_word c) ≡ false
 unfolding agree
-sh_apart tail Command.Empty served = refl
-sh_apart tail (Command.Set path bytes) served = refl
-sh_apart tail (Command.Get path) served = refl
-sh_apart tail (Command.Commit branch info) served = refl
-sh_apart tail (Command.Hash bytes) served = refl
-sh_apart tail Command.Stat served = refl
-sh_apart tail _ served = absurd served
+loo_apart tail Command.Empty served = refl
+loo_apart tail (Command.Set path bytes) served = refl
+loo_apart tail (Command.Parent target) served = refl
+loo_apart tail (Command.Get path) served = refl
+loo_apart tail (Command.Commit branch info) served = refl
+loo_apart tail (Command.Branch name target) served = refl
+loo_apart tail (Command.BranchRm name) served = refl
+loo_apart tail Command.Branches served = refl
+loo_apart tail (Command.Log target) served = refl
+loo_apart tail (Command.Lcas one other) served = refl
+loo_apart tail (Command.Hash bytes) served = refl
+loo_apart tail Command.Stat served = refl
+loo_apart tail _ served = absurd served
 
-one_step : IsPath (codes "a" ∷ [])
-one_step = record { some = lit< tt; short = lit≤ tt; each = All-from_recursion IsStep (codes "a" ∷ []) (step, tt) }
-  where
-    step : IsStep (codes "a")
-    step = record { some = lit< tt; short = lit≤ tt; each = All-from_recursion (λ b. IsWordByte b × (b ≢ 47)) (codes "a") ((is_word_byte 97 (lit< tt) (omega arith) (omega arith) (omega arith), omega arith), tt) }
+log_line : IsServedLine (Command.Log (Target.Branch (codes "m"))) (codes "log m")
+log_line = (tt, (codes "m", (short_name, refl), refl))
 
-set_line : IsServedLine (Command.Set (codes "a" ∷ []) []) (codes "set a -")
-set_line = (refl, (codes "a", (one_step, refl), (codes "-", refl, refl)))
+look_longest : (n : ℕ) → 2 < n → n ≤ 4 → ¬ (Begins IsServedLine (take n (codes "look")))
+look_longest zero l h = absurd (omega (arith, l))
+look_longest (suc zero) l h = absurd (omega (arith, l))
+look_longest (suc (suc zero)) l h = absurd (omega (arith, l))
+look_longest (suc (suc (suc n))) l h = none_served (108 ∷ 111 ∷ 111 ∷ take n (codes "k")) (loo_apart (take n (codes "k")))
 
-show_longest : (n : ℕ) → 1 < n → n ≤ 4 → ¬ (Begins IsServedLine (take n (codes "show")))
-show_longest zero l h = absurd (omega (arith, l))
-show_longest (suc zero) l h = absurd (omega (arith, l))
-show_longest (suc (suc n)) l h = none_served (115 ∷ 104 ∷ take n (codes "ow")) (sh_apart (take n (codes "ow")))
-
-a_line_not_served_goes_wrong_where_the_served_ones_end : IsBadAt IsServedLine (codes "show") 1
+a_line_not_served_goes_wrong_where_the_served_ones_end : IsBadAt IsServedLine (codes "look") 2
 a_line_not_served_goes_wrong_where_the_served_ones_end = record {
-  no_command = λ c is. none_served (codes "show") (sh_apart (codes "ow")) (c, [], is);
+  no_command = λ c is. none_served (codes "look") (loo_apart (codes "k")) (c, [], is);
   in_line = lit≤ tt;
-  begins = (Command.Set (codes "a" ∷ []) [], codes "et a -", set_line);
-  longest = show_longest;
+  begins = (Command.Log (Target.Branch (codes "m")), codes "g m", log_line);
+  longest = look_longest;
 }

@@ -112,8 +112,14 @@ IsLineOf command line = LineOf (first_word command) (forms_of command) line
 abbrev pub IsServed : Command → Type 0
 IsServed Command.Empty = Unit {0}
 IsServed (Command.Set path bytes) = length path ≡ 1
+IsServed (Command.Parent target) = Unit {0}
 IsServed (Command.Get path) = length path ≡ 1
 IsServed (Command.Commit branch info) = Unit {0}
+IsServed (Command.Branch name target) = Unit {0}
+IsServed (Command.BranchRm name) = Unit {0}
+IsServed Command.Branches = Unit {0}
+IsServed (Command.Log target) = Unit {0}
+IsServed (Command.Lcas one other) = Unit {0}
 IsServed (Command.Hash bytes) = Unit {0}
 IsServed Command.Stat = Unit {0}
 IsServed command = ⊥
