@@ -221,8 +221,8 @@ module _ {R : Type 0} where
       to_either (nat_le (length steps) leaf_limit) _ _ (subst (IsLeafOf steps) (sym (out_unread r n)) e)
       (subst (IsInodeOf (length steps) (λ i child. IsPart levels (suc depth) (steps_at depth i steps) child)) (sym (out_unread r n)) e)
 
-  pub is_above : (depth : ℕ) (steps : List Step) (known : Option R) (n : ℕ) (parts : Vec (Part R) Global) → depth ≤ deepest → IsPart (deepest - depth) depth steps (view.Inode known n parts) → depth < 51
-  is_above depth steps known n parts le is = by (deepest - depth) refl is
+  pub is_above : (depth : ℕ) (steps : List Step) (known : Option R) (n : ℕ) (parts : Vec (Part R) Global) → IsPart (deepest - depth) depth steps (view.Inode known n parts) → depth < 51
+  is_above depth steps known n parts is = by (deepest - depth) refl is
     where
       by : (levels : ℕ) → levels ≡ deepest - depth → IsPart levels depth steps (view.Inode known n parts) → depth < 51
       by zero e x = absurd (no_inode zero depth steps known n parts refl x)

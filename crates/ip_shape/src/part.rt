@@ -1,10 +1,13 @@
 // The parts of a directory, over the steps of its entries.
-ghost use Rattle.std.specs.Prelude.{◌≡◌, ◌-◌, ◌≤◌, ◌<◌, ℕ, true, false, List, [], map, length, insert, Option, IfOk, IfErr, OnOk, OnErr};
+ghost use Rattle.std.specs.Prelude.{◌≡◌, ◌-◌, ◌≤◌, ◌<◌, ℕ, true, false, List, [], map, length, insert, Option, None, Ok, Err, IfOk, IfErr, OnOk, OnErr, IfSome, IsSome};
+ghost use Rattle.std.specs.Vec.{with_item};
 ghost use Rattle.sha2.specs.Sha256.{sha256};
 ghost use Rattle.ip_spec.specs.Path.{Step as TheStep};
 ghost use Rattle.ip_spec.specs.Shape.{place, deepest};
 ghost use Rattle.ip_shape.specs.declared.part.Part.{Part, out-Part};
 ghost use Rattle.ip_shape.specs.declared.part.Part.TheVariants as variant;
+ghost use Rattle.ip_shape.specs.declared.part.Part.TheViews as view;
+ghost use Rattle.ip_shape.specs.Place.{place_in};
 ghost use Rattle.ip_shape.specs.Shape.{AreSteps, AreAlike, AreUnited, IsChainTo, IsLeafOf, IsPart, add, has, steps_at, take_out};
 ghost use Rattle.ip_shape.specs.Loaded.{IsEdited, IsFresh, IsLessened, IsRead, IsUnchanged};
 
@@ -228,6 +231,57 @@ fn leaf_with<R: Drop>(
     }
 }
 
+// The index of the child of an inode at a depth that a step goes to, or `None` where the inode has no such child, which is so in no directory.
+fn child_on_way<R>(children: &[Part<R>], places: &Places, depth: u8) -> Option<usize>
+    ensures inode { IsSome result → depth < deepest }
+    ensures child { IfSome result (λ i. i < length children.now) }
+    ensures place { IfSome result (λ i. i ≡ place_in places.now depth) }
+    ensures none { depth < deepest → length children.now ≡ 32 → IsSome result }
+{
+    if depth >= DEEPEST {
+        return None;
+    }
+    let index = places.at(depth) as usize;
+    if index >= children.len() {
+        return None;
+    }
+    Some(index)
+}
+
+// An inode whose child at an index was taken out: with the edited child and its new count, or where the edit gave the child back, as it was.
+fn put_back<R: Drop>(
+    known: Option<R>,
+    count: usize,
+    children: Vec<Part<R>>,
+    index: usize,
+    total: usize,
+    edited: Result<Part<R>, Part<R>>,
+) -> Result<Part<R>, Part<R>>
+    requires { index < length children.items }
+    ensures edited { IfOk edited (λ child. result ≡ Ok (view.Inode None total (with_item children index child))) }
+    ensures same { IfErr edited (λ child. result ≡ Err (view.Inode known count (with_item children index child))) }
+{
+    let mut all = children;
+    match edited {
+        Ok(child) => {
+            all[index] = child;
+            Ok(Part::Inode {
+                known: None,
+                count: total,
+                children: all,
+            })
+        }
+        Err(child) => {
+            all[index] = child;
+            Err(Part::Inode {
+                known,
+                count,
+                children: all,
+            })
+        }
+    }
+}
+
 // The part at a depth with a step more that it lacks, or the part itself, for want of memory or of what is not read.
 pub(crate) fn with_step<R: Drop>(
     alloc: Global,
@@ -250,41 +304,20 @@ pub(crate) fn with_step<R: Drop>(
             count,
             mut children,
         } => {
-            if depth >= DEEPEST {
+            // Neither fails in a directory: an inode has each child, and no memory holds more steps than a count can tell.
+            let (Some(index), Some(total)) = (
+                child_on_way(&children, places, depth),
+                count.checked_add(1),
+            ) else {
                 return Err(Part::Inode {
                     known,
                     count,
                     children,
                 });
-            }
-            let index = places.at(depth) as usize;
-            // Neither is so in a directory: an inode has 32 children, and no memory holds more steps than a count can tell.
-            if index >= children.len() || count == usize::MAX {
-                return Err(Part::Inode {
-                    known,
-                    count,
-                    children,
-                });
-            }
+            };
             let below = mem::replace(&mut children[index], no_part(alloc));
-            match with_step(alloc, below, places, depth + 1, step) {
-                Ok(more) => {
-                    children[index] = more;
-                    Ok(Part::Inode {
-                        known: None,
-                        count: count + 1,
-                        children,
-                    })
-                }
-                Err(same) => {
-                    children[index] = same;
-                    Err(Part::Inode {
-                        known,
-                        count,
-                        children,
-                    })
-                }
-            }
+            let edited = with_step(alloc, below, places, depth + 1, step);
+            put_back(known, count, children, index, total, edited)
         }
         Part::Unread { record, count } => Err(Part::Unread { record, count }),
     }
@@ -390,13 +423,17 @@ pub(crate) fn without_step<R: Drop>(
             count,
             mut children,
         } => {
-            if depth >= DEEPEST || count == 0 {
+            // Neither fails in a directory: an inode has each child, and more steps than a leaf.
+            let (Some(index), Some(fewer)) = (
+                child_on_way(&children, places, depth),
+                count.checked_sub(1),
+            ) else {
                 return Err(Part::Inode {
                     known,
                     count,
                     children,
                 });
-            }
+            };
             // A part that falls to the limit becomes a leaf before anything below it is touched.
             if count == LEAF_LIMIT + 1 {
                 let whole = Part::Inode {
@@ -406,33 +443,9 @@ pub(crate) fn without_step<R: Drop>(
                 };
                 return join(alloc, whole, depth, step);
             }
-            let index = places.at(depth) as usize;
-            if index >= children.len() {
-                return Err(Part::Inode {
-                    known,
-                    count,
-                    children,
-                });
-            }
             let below = mem::replace(&mut children[index], no_part(alloc));
-            match without_step(alloc, below, places, depth + 1, step) {
-                Ok(less) => {
-                    children[index] = less;
-                    Ok(Part::Inode {
-                        known: None,
-                        count: count - 1,
-                        children,
-                    })
-                }
-                Err(whole) => {
-                    children[index] = whole;
-                    Err(Part::Inode {
-                        known,
-                        count,
-                        children,
-                    })
-                }
-            }
+            let edited = without_step(alloc, below, places, depth + 1, step);
+            put_back(known, count, children, index, fewer, edited)
         }
         Part::Unread { record, count } => Err(Part::Unread { record, count }),
     }
@@ -457,21 +470,13 @@ pub(crate) fn forgotten<R: Drop>(
             count,
             mut children,
         } => {
-            if depth >= DEEPEST {
+            let Some(index) = child_on_way(&children, places, depth) else {
                 return Part::Inode {
                     known,
                     count,
                     children,
                 };
-            }
-            let index = places.at(depth) as usize;
-            if index >= children.len() {
-                return Part::Inode {
-                    known,
-                    count,
-                    children,
-                };
-            }
+            };
             let below = mem::replace(&mut children[index], no_part(alloc));
             children[index] = forgotten(alloc, below, places, depth + 1, step);
             Part::Inode {

@@ -10,6 +10,7 @@ use crate::reading::{
 };
 use ip_base::{Blob, Memory, Step};
 use std::alloc::Global;
+use std::collections::BTreeMap;
 
 // The numbers of entries that a directory goes through, up and down.
 const SIZES: [u16; 11] = [300, 33, 32, 100, 34, 32, 66, 0, 33, 31, 1];
@@ -22,15 +23,20 @@ fn step(alloc: Global, seed: u16, n: u16) -> Result<Step, Memory> {
     Ok(Step::of(Blob::copy_of(alloc, &[a, b, c, d])?))
 }
 
+// The next state of the generator that all seeds go through.
+fn after(state: u64) -> u64 {
+    state
+        .wrapping_mul(6364136223846793005)
+        .wrapping_add(1442695040888963407)
+}
+
 // The numbers below an end, in an order that a seed determines.
 fn shuffled(alloc: Global, end: u16, seed: u64) -> Result<Vec<u16>, Memory> {
     let mut order = Vec::new(alloc);
     let mut state = seed;
     for n in 0..end {
         order.push(n)?;
-        state = state
-            .wrapping_mul(6364136223846793005)
-            .wrapping_add(1442695040888963407);
+        state = after(state);
         let other = (state >> 33) as usize % order.len();
         let last = order.len() - 1;
         order.swap(other, last);
@@ -244,58 +250,99 @@ fn record_at(indexes: &[u8]) -> u64 {
     record
 }
 
-fn part_at<'a>(part: &'a Part<u64>, indexes: &[u8], at: usize) -> Option<&'a Part<u64>> {
-    if at >= indexes.len() {
-        return Some(part);
-    }
-    match part {
-        Part::Inode { children, .. } => {
-            let index = indexes[at] as usize;
-            if index >= children.len() {
-                return None;
-            }
-            part_at(&children[index], indexes, at + 1)
-        }
-        _ => None,
-    }
+// What the record of a part spells.
+#[derive(Drop)]
+enum Spelled {
+    Leaf(Entries<u16>),
+    Inode(Vec<Child<u64>>),
 }
 
-// Enters the part at these indexes of a directory that is whole into one that is not.
-fn enter_from(
+// The records of a directory's parts. One that is read is taken out, so that none is read twice.
+type Records = BTreeMap<u64, Spelled>;
+
+fn entries_at(alloc: Global, dir: &Dir<u16, u64>, steps: &[Step]) -> Result<Entries<u16>, Memory> {
+    let mut entries = Vec::new(alloc);
+    for step in steps {
+        if let Some(child) = find(dir, step) {
+            entries.push((step.copy(alloc)?, *child))?;
+        }
+    }
+    Ok(entries)
+}
+
+fn children_below(
     alloc: Global,
-    dir: &mut Dir<u16, u64>,
-    whole: &Dir<u16, u64>,
-    indexes: &[u8],
-) -> Result<bool, Memory> {
-    match part_at(whole.root(), indexes, 0) {
-        Some(Part::Leaf { steps, .. }) => {
-            let mut entries = Vec::new(alloc);
-            for step in steps {
-                if let Some(child) = find(whole, step) {
-                    entries.push((step.copy(alloc)?, *child))?;
+    parts: &[Part<u64>],
+    record: u64,
+) -> Result<Vec<Child<u64>>, Memory> {
+    let mut children = Vec::new(alloc);
+    for index in 0..32u8 {
+        let at = index as usize;
+        if at < parts.len() && parts[at].count() > 0 {
+            children.push(Child {
+                index,
+                record: record_below(record, index),
+                count: parts[at].count(),
+            })?;
+        }
+    }
+    Ok(children)
+}
+
+// Writes the records of a part and of the parts below it.
+fn write_part(
+    alloc: Global,
+    records: &mut Records,
+    dir: &Dir<u16, u64>,
+    part: &Part<u64>,
+    record: u64,
+    levels: u8,
+) -> Result<(), Memory> {
+    match part {
+        Part::Unread { .. } => {}
+        Part::Leaf { steps, .. } => {
+            records.insert(record, Spelled::Leaf(entries_at(alloc, dir, steps)?))?;
+        }
+        Part::Inode { children, .. } => {
+            records.insert(
+                record,
+                Spelled::Inode(children_below(alloc, children, record)?),
+            )?;
+            for index in 0..32u8 {
+                let at = index as usize;
+                if levels > 0 && at < children.len() && children[at].count() > 0 {
+                    let below = record_below(record, index);
+                    write_part(alloc, records, dir, &children[at], below, levels - 1)?;
                 }
             }
+        }
+    }
+    Ok(())
+}
+
+fn records_of(alloc: Global, dir: &Dir<u16, u64>) -> Result<Records, Memory> {
+    let mut records = BTreeMap::new(alloc);
+    write_part(alloc, &mut records, dir, dir.root(), 0, 51)?;
+    Ok(records)
+}
+
+// Enters what a record spells at these indexes, and tells whether there is such a record.
+fn enter(
+    alloc: Global,
+    dir: &mut Dir<u16, u64>,
+    indexes: &[u8],
+    spelled: Option<Spelled>,
+) -> Result<bool, Memory> {
+    match spelled {
+        None => Ok(false),
+        Some(Spelled::Leaf(entries)) => {
             read_leaf(alloc, dir, indexes, entries)?;
             Ok(true)
         }
-        Some(Part::Inode { children, .. }) => {
-            let mut given = Vec::new(alloc);
-            for index in 0..32u8 {
-                let at = index as usize;
-                if at < children.len() && children[at].count() > 0 {
-                    let record = record_below(record_at(indexes), index);
-                    let count = children[at].count();
-                    given.push(Child {
-                        index,
-                        record,
-                        count,
-                    })?;
-                }
-            }
-            read_inode(alloc, dir, indexes, given)?;
+        Some(Spelled::Inode(children)) => {
+            read_inode(alloc, dir, indexes, children)?;
             Ok(true)
         }
-        _ => Ok(false),
     }
 }
 
@@ -303,7 +350,7 @@ fn enter_from(
 fn read_to(
     alloc: Global,
     dir: &mut Dir<u16, u64>,
-    whole: &Dir<u16, u64>,
+    records: &mut Records,
     step: &Step,
     removal: bool,
 ) -> Result<Option<u16>, Memory> {
@@ -316,7 +363,9 @@ fn read_to(
         match found {
             None => return Ok(Some(parts)),
             Some(UnreadPart { indexes, record }) => {
-                if record != record_at(&indexes) || !enter_from(alloc, dir, whole, &indexes)? {
+                if record != record_at(&indexes)
+                    || !enter(alloc, dir, &indexes, records.remove(&record))?
+                {
                     return Ok(None);
                 }
             }
@@ -365,10 +414,11 @@ fn knows(part: &Part<u64>, record: u64, levels: u8, depth: u8, step: &Step, on_w
 fn edited_lazily(alloc: Global, seed: u16, size: u16, n: u16, most: u16) -> Result<bool, Memory> {
     let order = shuffled(alloc, size, seed as u64)?;
     let mut whole: Dir<u16, u64> = build(alloc, entries(alloc, seed, &order)?)?;
+    let mut records = records_of(alloc, &whole)?;
     let mut dir: Dir<u16, u64> = unread(alloc, 0, size as usize);
     let step = step(alloc, seed, n)?;
     let removal = n < size;
-    match read_to(alloc, &mut dir, &whole, &step, removal)? {
+    match read_to(alloc, &mut dir, &mut records, &step, removal)? {
         None => return Ok(false),
         Some(parts) => if parts > most {
             return Ok(false);
@@ -418,10 +468,11 @@ fn edits_read_their_way(rt: HostRuntime) {
 // A child that is exchanged leaves what is known, until that is forgotten.
 fn exchanged(alloc: Global) -> Result<[bool; 5], Memory> {
     let whole: Dir<u16, u64> = build(alloc, entries(alloc, 3, &shuffled(alloc, 100, 3)?)?)?;
+    let mut records = records_of(alloc, &whole)?;
     let mut dir: Dir<u16, u64> = unread(alloc, 0, 100);
     let one = step(alloc, 3, 1)?;
     let none = exchange(&mut dir, &one, 5) == None;
-    let read = read_to(alloc, &mut dir, &whole, &one, false)? == Some(2);
+    let read = read_to(alloc, &mut dir, &mut records, &one, false)? == Some(2);
     let old = exchange(&mut dir, &one, 5) == Some(1) && find(&dir, &one) == Some(&5);
     let known = knows(dir.root(), 0, 51, 0, &one, false)
         && !knows(dir.root(), 0, 51, 0, &one, true);
@@ -433,4 +484,130 @@ fn exchanged(alloc: Global) -> Result<[bool; 5], Memory> {
 #[test]
 fn a_child_is_exchanged(rt: HostRuntime) {
     assert_eq!(rt; exchanged(rt.alloc()), Ok([true, true, true, true, true]));
+}
+
+// A directory that is read part by part, and the child that it should have at the step of each number.
+#[derive(Drop)]
+struct Lazy {
+    seed: u16,
+    dir: Dir<u16, u64>,
+    records: Records,
+    children: Vec<Option<u16>>,
+}
+
+// The numbers below a size, of which nothing was read, and as many behind them that have no child.
+fn nothing_read(alloc: Global, seed: u16, size: u16) -> Result<Lazy, Memory> {
+    let order = shuffled(alloc, size, seed as u64)?;
+    let whole: Dir<u16, u64> = build(alloc, entries(alloc, seed, &order)?)?;
+    let mut children = Vec::new(alloc);
+    for n in 0..size {
+        children.push(Some(n))?;
+    }
+    for _ in 0..size {
+        children.push(None)?;
+    }
+    Ok(Lazy {
+        seed,
+        dir: unread(alloc, 0, size as usize),
+        records: records_of(alloc, &whole)?,
+        children,
+    })
+}
+
+// Puts a child at a number's step, or takes the one there out, behind a read of what that needs, and tells whether it gave what stood there.
+fn edit(alloc: Global, lazy: &mut Lazy, n: u16, child: Option<u16>) -> Result<bool, Memory> {
+    let step = step(alloc, lazy.seed, n)?;
+    let at = n as usize;
+    if read_to(
+        alloc,
+        &mut lazy.dir,
+        &mut lazy.records,
+        &step,
+        child == None,
+    )? == None
+        || at >= lazy.children.len()
+    {
+        return Ok(false);
+    }
+    let old = lazy.children[at];
+    lazy.children[at] = child;
+    let given = match child {
+        Some(child) => insert(alloc, &mut lazy.dir, &step, child)?,
+        None => remove(alloc, &mut lazy.dir, &step)?,
+    };
+    Ok(given == old)
+}
+
+// Edits one after the other, at numbers and with children that the seed determines.
+fn edit_in_turn(alloc: Global, lazy: &mut Lazy, numbers: u16, edits: u16) -> Result<bool, Memory> {
+    let mut state = lazy.seed as u64;
+    for number in 0..edits {
+        state = after(state);
+        let n = ((state >> 33) % numbers.max(1) as u64) as u16;
+        let child = if state >> 63 == 0 { Some(number) } else { None };
+        if !edit(alloc, lazy, n, child)? {
+            return Ok(false);
+        }
+    }
+    Ok(true)
+}
+
+// Reads what is left, and tells whether each number has its child and the shape is that of a directory that is built of these.
+fn is_rebuilt(alloc: Global, lazy: &mut Lazy, numbers: u16) -> Result<bool, Memory> {
+    let mut entries = Vec::new(alloc);
+    for n in 0..numbers {
+        let at = n as usize;
+        let step = step(alloc, lazy.seed, n)?;
+        if read_to(alloc, &mut lazy.dir, &mut lazy.records, &step, false)? == None
+            || at >= lazy.children.len()
+            || find(&lazy.dir, &step) != lazy.children[at].as_ref()
+        {
+            return Ok(false);
+        }
+        if let Some(child) = lazy.children[at] {
+            entries.push((step, child))?;
+        }
+    }
+    let count = entries.len();
+    let fresh: Dir<u16, u64> = build(alloc, entries)?;
+    Ok(
+        alike(lazy.dir.root(), fresh.root(), 51)
+            && total(lazy.dir.root(), 0) == Some(count)
+            && lazy.records.is_empty(),
+    )
+}
+
+// How many parts a series of edits reads, and how many there are, where it leaves the shape of the resulting set.
+fn edited_in_turn(
+    alloc: Global,
+    seed: u16,
+    size: u16,
+    edits: u16,
+) -> Result<Option<(usize, usize)>, Memory> {
+    let mut lazy = nothing_read(alloc, seed, size)?;
+    let parts = lazy.records.len();
+    let numbers = size.saturating_mul(2);
+    let answers = edit_in_turn(alloc, &mut lazy, numbers, edits)?;
+    let left = lazy.records.len();
+    Ok(if answers && left <= parts && is_rebuilt(alloc, &mut lazy, numbers)? {
+        Some((parts - left, parts))
+    } else {
+        None
+    })
+}
+
+// How many entries a directory has, and how many edits it goes through.
+const SERIES: [(u16, u16); 2] = [(200, 24), (1000, 200)];
+
+#[test]
+fn edits_in_turn_read_their_way(rt: HostRuntime) {
+    for seed in 0..4u16 {
+        for (size, edits) in SERIES {
+            let counts = edited_in_turn(rt.alloc(), seed, size, edits);
+            assert!(rt;
+                matches!(counts, Ok(Some((read, parts))) if read < parts),
+                "seed {seed}, size {size}, parts read and parts: {counts:?}"
+            );
+        }
+    }
 }

@@ -1,15 +1,14 @@
-use Rattle.std.proofs.Common.{◌≡◌, ap, ◌∙◌, sym, subst, arith, ◌-◌, ◌+◌, ◌<◌, length, Bool, true, false, refl}
-use Rattle.std.specs.Prelude.{◌==◌, ◌&&◌, IfErr, Some, None}
+use Rattle.std.proofs.Common.{◌≡◌, List, ap, ◌∙◌, subst, sym, ◌-◌, ◌+◌, ◌<◌, length, Bool, true, false, refl}
+use Rattle.std.specs.Prelude.{◌==◌, ◌&&◌, IfOk, IfErr, None}
 use Rattle.std.specs.Vec.{with_item}
-use Rattle.std.proofs.lemmas.Option.{slice_get-get_or}
 use Rattle.ip_spec.specs.Shape.{deepest, place}
-use Rattle.ip_shape.specs.Shape.{IsPart, steps_at}
+use Rattle.ip_shape.specs.Shape.{IsPart, add, steps_at}
 use Rattle.ip_shape.specs.Loaded.{IsEdited, IsUnchanged}
 use Rattle.ip_shape.specs.declared.part.Part.{Part}
 use Rattle.ip_shape.specs.declared.part.Part.TheViews as view
 use Rattle.ip_shape.proofs.Steps.{AreSteps-filter}
 use Rattle.ip_shape.proofs.Members.{has-filter}
-use Rattle.ip_shape.proofs.Edits.{child_at, inode_with, inode_same}
+use Rattle.ip_shape.proofs.Edits.{child_read, children_of, inode_with, inode_same, put_edited, put_same}
 use Rattle.ip_shape.proofs.Ways.{leaf_result, inode_edited, inode_unchanged}
 use Rattle.ip_shape.proofs.Digests.{in_digest}
 use Rattle.ip_shape.proofs.part.+with_step.Goals as goal
@@ -18,51 +17,78 @@ and_false : (b : Bool) → (b && false) ≡ false
 and_false true = refl
 and_false false = refl
 
-pub returns-in-Ok-clause-added : goal.returns-in-Ok-clause-added
-returns-in-Ok-clause-added g n c steps ascend absent is =
-    let stands = subst (λ (p : Part g.row.R.Denot). IsPart (deepest - c.args.depth) c.args.depth steps p) c.in-Inode.is is in
-    let lt : c.args.depth < 51 = c.if-depth-ge-DEEPEST.false in
-    let within : c.at-index.result < length c.in-Inode.children.items = omega (arith, c.if-index-len.false, c.len.ensures, c.in-Inode.children.ok.0) in
-    let at : c.at-index.result ≡ place c.args.step.now c.args.depth = in_digest c.at-index.result c.args.places.now c.args.step.now c.args.depth c.at-index.ensures c.requires in
-    let below = child_at c.args.depth steps c.in-Inode.known c.in-Inode.count c.in-Inode.children lt stands c.at-index.result c.index_mut.result.now within c.index_mut.ensures.value in
-    let taken = subst (λ (p : Part g.row.R.Denot). IsPart (deepest - (c.args.depth + 1)) (c.args.depth + 1) (steps_at c.args.depth c.at-index.result steps) p) (sym c.replace-below.ensures.value) below in
-    inode_with c.args.depth steps c.in-Inode.known c.in-Inode.count c.in-Inode.children lt stands c.args.step.now c.at-index.result c.replace-below.new.dest c.in-Ok.more ascend absent at
-    (c.in-Ok.ensures.added (steps_at c.args.depth c.at-index.result steps) (AreSteps-filter (λ t. place t c.args.depth == c.at-index.result) steps ascend)
-    (has-filter (λ t. place t c.args.depth == c.at-index.result) c.args.step.now steps ∙ ap (λ b. (place c.args.step.now c.args.depth == c.at-index.result) && b) absent ∙ and_false (place c.args.step.now c.args.depth == c.at-index.result)) taken)
-
-pub returns-in-Err-clause-refused : goal.returns-in-Err-clause-refused
-returns-in-Err-clause-refused g n c steps is =
-    let stands = subst (λ (p : Part g.row.R.Denot). IsPart (deepest - c.args.depth) c.args.depth steps p) c.in-Inode.is is in
-    let lt : c.args.depth < 51 = c.if-depth-ge-DEEPEST.false in
-    let within : c.at-index.result < length c.in-Inode.children.items = omega (arith, c.if-index-len.false, c.len.ensures, c.in-Inode.children.ok.0) in
-    let below = child_at c.args.depth steps c.in-Inode.known c.in-Inode.count c.in-Inode.children lt stands c.at-index.result c.index_mut.result.now within c.index_mut.ensures.value in
-    let taken = subst (λ (p : Part g.row.R.Denot). IsPart (deepest - (c.args.depth + 1)) (c.args.depth + 1) (steps_at c.args.depth c.at-index.result steps) p) (sym c.replace-below.ensures.value) below in
-    inode_same c.args.depth steps c.in-Inode.known c.in-Inode.count c.in-Inode.children lt stands c.in-Inode.known c.at-index.result c.replace-below.new.dest c.in-Err.same
-    (c.in-Err.ensures.refused (steps_at c.args.depth c.at-index.result steps) taken)
-
 pub returns-in-Leaf-clause-edited : goal.returns-in-Leaf-clause-edited
 returns-in-Leaf-clause-edited g n c = leaf_result c.args.depth c.args.step.now c.in-Leaf.known c.in-Leaf.steps c.args.part c.leaf_with.result c.in-Leaf.is c.leaf_with.ensures.fresh
 
 pub returns-in-Leaf-clause-left : goal.returns-in-Leaf-clause-left
 returns-in-Leaf-clause-left g n c = subst (λ (p : Part g.row.R.Denot). IfErr c.leaf_with.result (IsUnchanged p)) (sym c.in-Leaf.is) c.leaf_with.ensures.left
 
-pub returns-in-Ok-clause-edited : goal.returns-in-Ok-clause-edited
-returns-in-Ok-clause-edited g n c =
-    let within : c.at-index.result < length c.in-Inode.children.items = omega (arith, c.if-index-len.false, c.len.ensures, c.in-Inode.children.ok.0) in
-    let at : c.at-index.result ≡ place c.args.step.now c.args.depth = in_digest c.at-index.result c.args.places.now c.args.step.now c.args.depth c.at-index.ensures c.requires in
-    let below = c.index_mut.result.now in
-    let new = c.in-Ok.more in
-    subst (λ (p : Part g.row.R.Denot). IsEdited c.args.depth c.args.step.now p (view.Inode None (c.in-Inode.count + 1) (with_item (with_item c.in-Inode.children c.at-index.result c.replace-below.new.dest) c.at-index.result new))) (sym c.in-Inode.is)
-    (inode_edited c.in-Inode.known None c.in-Inode.count (c.in-Inode.count + 1) c.in-Inode.children c.at-index.result c.replace-below.new.dest c.replace-below.result new within
-    (slice_get-get_or c.in-Inode.children.items c.at-index.result below within ∙ ap Some (sym c.index_mut.ensures.value) ∙ ap Some (sym c.replace-below.ensures.value))
-    c.args.depth c.args.step.now at refl c.in-Ok.ensures.edited)
+pub returns-in-Some-Some-clause-added : goal.returns-in-Some-Some-clause-added
+returns-in-Some-Some-clause-added g n c steps ascend absent is =
+    let depth = c.args.depth in
+    let step = c.args.step.now in
+    let i = c.in-Some-Some.index in
+    let known = c.in-Inode.known in
+    let count = c.in-Inode.count in
+    let children = c.in-Inode.children in
+    let lt : depth < 51 = c.in-Some-Some.ensures.inode refl in
+    let stands = subst (λ (p : Part g.row.R.Denot). IsPart (deepest - depth) depth steps p) c.in-Inode.is is in
+    let within = subst (λ (parts : List (Part g.row.R.Denot)). i < length parts) c.deref.ensures.value c.in-Some-Some.ensures.child in
+    let at : i ≡ place step depth = in_digest i c.args.places.now step depth c.in-Some-Some.ensures.place c.requires in
+    let read = child_read children.items i c.index_mut.result.now c.replace-below.result within c.index_mut.ensures.value c.replace-below.ensures.value in
+    let absent_below = has-filter (λ t. place t depth == i) step steps ∙ ap (λ b. (place step depth == i) && b) absent ∙ and_false (place step depth == i) in
+    put_edited c.with_step-edited.result c.put_back.result (λ child. view.Inode None c.in-Some-Some.total (with_item (with_item children i c.replace-below.new.dest) i child))
+    (λ child. view.Inode known count (with_item (with_item children i c.replace-below.new.dest) i child))
+    (IsPart (deepest - (depth + 1)) (depth + 1) (add step (steps_at depth i steps))) (IsPart (deepest - depth) depth (add step steps)) c.put_back.ensures.edited c.put_back.ensures.same
+    (λ child below. inode_with depth steps known count children lt stands step c.in-Some-Some.total i c.replace-below.new.dest child c.in-Some-Some.ensures'.1 ascend absent at below)
+    (c.with_step-edited.ensures.added (steps_at depth i steps) (AreSteps-filter (λ t. place t depth == i) steps ascend) absent_below (children_of depth steps known count children lt stands i c.replace-below.result read))
 
-pub returns-in-Err-clause-left : goal.returns-in-Err-clause-left
-returns-in-Err-clause-left g n c =
-    let within : c.at-index.result < length c.in-Inode.children.items = omega (arith, c.if-index-len.false, c.len.ensures, c.in-Inode.children.ok.0) in
-    let below = c.index_mut.result.now in
-    let new = c.in-Err.same in
-    subst (λ (p : Part g.row.R.Denot). IsUnchanged p (view.Inode c.in-Inode.known c.in-Inode.count (with_item (with_item c.in-Inode.children c.at-index.result c.replace-below.new.dest) c.at-index.result new))) (sym c.in-Inode.is)
-    (inode_unchanged c.in-Inode.known c.in-Inode.known c.in-Inode.count c.in-Inode.count c.in-Inode.children c.at-index.result c.replace-below.new.dest c.replace-below.result new within
-    (slice_get-get_or c.in-Inode.children.items c.at-index.result below within ∙ ap Some (sym c.index_mut.ensures.value) ∙ ap Some (sym c.replace-below.ensures.value))
-    refl c.in-Err.ensures.left)
+pub returns-in-Some-Some-clause-refused : goal.returns-in-Some-Some-clause-refused
+returns-in-Some-Some-clause-refused g n c steps is =
+    let depth = c.args.depth in
+    let i = c.in-Some-Some.index in
+    let known = c.in-Inode.known in
+    let count = c.in-Inode.count in
+    let children = c.in-Inode.children in
+    let lt : depth < 51 = c.in-Some-Some.ensures.inode refl in
+    let stands = subst (λ (p : Part g.row.R.Denot). IsPart (deepest - depth) depth steps p) c.in-Inode.is is in
+    let within = subst (λ (parts : List (Part g.row.R.Denot)). i < length parts) c.deref.ensures.value c.in-Some-Some.ensures.child in
+    let read = child_read children.items i c.index_mut.result.now c.replace-below.result within c.index_mut.ensures.value c.replace-below.ensures.value in
+    put_same c.with_step-edited.result c.put_back.result (λ child. view.Inode None c.in-Some-Some.total (with_item (with_item children i c.replace-below.new.dest) i child))
+    (λ child. view.Inode known count (with_item (with_item children i c.replace-below.new.dest) i child))
+    (IsPart (deepest - (depth + 1)) (depth + 1) (steps_at depth i steps)) (IsPart (deepest - depth) depth steps) c.put_back.ensures.edited c.put_back.ensures.same
+    (λ child below. inode_same depth steps known count children lt stands known i c.replace-below.new.dest child below)
+    (c.with_step-edited.ensures.refused (steps_at depth i steps) (children_of depth steps known count children lt stands i c.replace-below.result read))
+
+pub returns-in-Some-Some-clause-edited : goal.returns-in-Some-Some-clause-edited
+returns-in-Some-Some-clause-edited g n c =
+    let depth = c.args.depth in
+    let step = c.args.step.now in
+    let i = c.in-Some-Some.index in
+    let known = c.in-Inode.known in
+    let count = c.in-Inode.count in
+    let children = c.in-Inode.children in
+    let within = subst (λ (parts : List (Part g.row.R.Denot)). i < length parts) c.deref.ensures.value c.in-Some-Some.ensures.child in
+    let at : i ≡ place step depth = in_digest i c.args.places.now step depth c.in-Some-Some.ensures.place c.requires in
+    let read = child_read children.items i c.index_mut.result.now c.replace-below.result within c.index_mut.ensures.value c.replace-below.ensures.value in
+    subst (λ (p : Part g.row.R.Denot). IfOk c.put_back.result (IsEdited depth step p)) (sym c.in-Inode.is)
+    (put_edited c.with_step-edited.result c.put_back.result (λ child. view.Inode None c.in-Some-Some.total (with_item (with_item children i c.replace-below.new.dest) i child))
+    (λ child. view.Inode known count (with_item (with_item children i c.replace-below.new.dest) i child))
+    (IsEdited (depth + 1) step c.replace-below.result) (IsEdited depth step (view.Inode known count children)) c.put_back.ensures.edited c.put_back.ensures.same
+    (λ child below. inode_edited known None count c.in-Some-Some.total children i c.replace-below.new.dest c.replace-below.result child within read depth step at refl below)
+    c.with_step-edited.ensures.edited)
+
+pub returns-in-Some-Some-clause-left : goal.returns-in-Some-Some-clause-left
+returns-in-Some-Some-clause-left g n c =
+    let i = c.in-Some-Some.index in
+    let known = c.in-Inode.known in
+    let count = c.in-Inode.count in
+    let children = c.in-Inode.children in
+    let within = subst (λ (parts : List (Part g.row.R.Denot)). i < length parts) c.deref.ensures.value c.in-Some-Some.ensures.child in
+    let read = child_read children.items i c.index_mut.result.now c.replace-below.result within c.index_mut.ensures.value c.replace-below.ensures.value in
+    subst (λ (p : Part g.row.R.Denot). IfErr c.put_back.result (IsUnchanged p)) (sym c.in-Inode.is)
+    (put_same c.with_step-edited.result c.put_back.result (λ child. view.Inode None c.in-Some-Some.total (with_item (with_item children i c.replace-below.new.dest) i child))
+    (λ child. view.Inode known count (with_item (with_item children i c.replace-below.new.dest) i child))
+    (IsUnchanged c.replace-below.result) (IsUnchanged (view.Inode known count children)) c.put_back.ensures.edited c.put_back.ensures.same
+    (λ child below. inode_unchanged known known count count children i c.replace-below.new.dest c.replace-below.result child within read refl below)
+    c.with_step-edited.ensures.left)
