@@ -24,15 +24,15 @@ use Rattle.ip_image.proofs.FreshLaws.{fresh_stands, is_live}
 use Rattle.ip_image.proofs.AppendingLaws.{stands_next}
 use Rattle.ip_image.proofs.StoreExample.{control, chunk0, image, info, tree, records, live, is_info, is_main, is_step, are_bytes, good}
 
-fresh_image : Image
+pub fresh_image : Image
 fresh_image Control = Some (fresh_control 4096)
 fresh_image file = None
 
-starts : StandsFor fresh_image no_repository
+pub starts : StandsFor fresh_image no_repository
 unfolding fresh_image image_runs
 starts = fresh_stands fresh_image (fresh_control 4096) 4096 (12, lit≤ tt, lit≤ tt, refl) refl refl
 
-main : Bytes
+pub main : Bytes
 main = codes "main"
 
 path : Path
@@ -42,7 +42,7 @@ is_path : IsPath path
 unfolding path
 is_path = record { some = lit< tt; short = lit≤ tt; each = All-from_recursion IsStep (codes "a" ∷ []) (is_step, tt) }
 
-no_lawful : IsTree Tree.no_tree
+pub no_lawful : IsTree Tree.no_tree
 no_lawful = record {
   prefix_free = λ p q a b prefix. absurd (false≢true (ap is_some (sym (get-no_tree p)) ∙ a));
   paths = λ p a. absurd (false≢true (ap is_some (sym (get-no_tree p)) ∙ a));
@@ -65,7 +65,7 @@ flat = record {
   contents = All-from_recursion (λ e. (length e.1 ≤ contents_limit 1) × AreBytes e.1) tree.entries ((lit≤ tt, are_bytes (1 ∷ []) tt), tt);
 }
 
-none_below : (k : ℕ) → k < 0 → ⊥
+pub none_below : (k : ℕ) → k < 0 → ⊥
 none_below k l = omega (arith, l)
 
 may_commit : MayCommit no_repository tree [] info (codes "main")
@@ -102,7 +102,7 @@ within = All-from_recursion (λ (x : ℕ × Record). Fits 1 x.1 × IsServedKind 
 begins : BeginsWith chunk0 (Some chunk0)
 begins = record { long = lit≤ tt; same = λ place l. refl }
 
-fresh_live : HasLive (fresh 4096) fresh_image
+pub fresh_live : HasLive (fresh 4096) fresh_image
 unfolding fresh_image image_runs
 fresh_live = record { control = fresh_control 4096; index = 0; held = refl; live = is_live (fresh_control 4096) 4096 (12, lit≤ tt, lit≤ tt, refl) refl }
 

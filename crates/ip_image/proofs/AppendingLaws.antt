@@ -1,8 +1,9 @@
 -- How what an image stands for goes on.
 --     stands_still      with the same records it stands for the same repository
---     stands_next      with the records of a commit behind them, for the repository after the commit
+--     stands_grown, stands_next      with the records of a commit behind them, for the repository after the commit
 --     some_repository      an image that holds all that it must stands for some repository
 --     begun_byte, spelled_lies      where bytes begin a file, their records lie there
+--     lies_behind      so do the records of a file and others behind them
 --     good_append, good_next_slot      records that are good behind others, and under the slot that follows
 use Rattle.std.proofs.Common.{◌≡◌, ℕ, zero, suc, ◌+◌, ◌<◌, ◌≤◌, List, [], ◌∷◌, ◌++◌, refl, sym, ap, subst, ◌∙◌, Option, Some, None, Bool, true, false, cond, length, take, arith, append_assoc, append-nil, length-take-le, length-append}
 use Rattle.std.proofs.lemmas.Bool.{false≢true}
@@ -10,7 +11,7 @@ use Rattle.std.proofs.lemmas.List.Elements.{recursion_from_All, filter_map-appen
 use Rattle.std.proofs.lemmas.List.Sums.{fold-append}
 use Rattle.std.proofs.lemmas.Option.{slice_get-get_or, slice_get_within, get_or_from_slice_get}
 use Rattle.std.specs.Prelude.{is_some, slice_get, get_or, IfSome, fold}
-use Rattle.std.specs.List.{AllByRecursion, AllZip}
+use Rattle.std.specs.List.{AllByRecursion, AllZip, cons_option}
 use Rattle.std.specs.Cmp.Lexicographic.{nat_list_cmp_total}
 use Rattle.std.specs.Ordering.{eq_by_cmp}
 use Rattle.ip_base.specs.declared.info.Info.{Info}
@@ -19,23 +20,25 @@ use Rattle.ip_ground.specs.Contents.{Content, bytes_of}
 use Rattle.ip_spec.specs.declared.record.Record.{Record}
 use Rattle.ip_spec.specs.declared.record.CommitRecord.{CommitRecord}
 use Rattle.ip_spec.specs.Map.{Map, empty, get, insert, len, get-insert}
-use Rattle.ip_spec.specs.Path.{Bytes, Path, bytes_cmp}
+use Rattle.ip_spec.specs.Path.{Bytes, bytes_cmp}
 use Rattle.ip_spec.specs.Record.{Names, Fits, spelling, spelling_of}
-use Rattle.ip_spec.specs.Tree.{Tree, entries_of}
 use Rattle.ip_spec.specs.TreeAt.{Records, present, TreeAt}
-use Rattle.ip_spec.specs.Batch.{AreEndToEnd, sources}
-use Rattle.ip_spec.specs.Repository.{Repository, next}
+use Rattle.ip_spec.specs.View.{View}
+use Rattle.ip_spec.specs.Batch.{CommitFields, Sources, AreEndToEnd, KnownStand, SourcesStand, sources, batch, batch_end}
+use Rattle.ip_spec.specs.Repository.{Repository, Commit, next}
 use Rattle.ip_spec.specs.Step.{new_commit, with_commit}
 use Rattle.ip_spec.proofs.TreeAtLaws.{more_part}
-use Rattle.ip_spec.proofs.BatchLaws.{batch_lies}
+use Rattle.ip_spec.proofs.BatchLaws.{batch_lies, sources_stand}
 use Rattle.ip_image.specs.Slot.{Slot, IsSlot}
 use Rattle.ip_image.specs.Virtual.{byte_of}
-use Rattle.ip_image.specs.Standing.{EndToEnd, IsSomePart, RecordFits, IsServedKind, IsGood, AreGood, commit_of, commits_in, names_after, named, AreRetained, WholeFits, Spells, terms_of}
-use Rattle.ip_image.specs.Appending.{BeginsWith, front_of, unread, next_slot, MayCommit, fields_of, batch_of, batch_end_of, bytes_of_records, AreWithin, StandsStill, StandsNext}
-use Rattle.ip_image.proofs.InChunk.{InChunk, in_chunk, stands_by, ends_over, ends_append, present_below, byte_is, all_inside}
-use Rattle.ip_image.proofs.FlatBatch.{contents_records, commit_record, FlatBatch, flat_batch, few_at_root}
+use Rattle.ip_image.specs.Standing.{EndToEnd, RecordFits, IsServedKind, IsGood, AreGood, commit_of, commits_in, names_after, named, AreRetained, WholeFits, Spells, terms_of}
+use Rattle.ip_image.specs.Appending.{BeginsWith, front_of, unread, next_slot, MayGrow, fields_of, grown_batch, grown_end, bytes_of_records, AreWithin, StandsStill, StandsNext, StandsGrown}
+use Rattle.ip_image.proofs.InChunk.{InChunk, in_chunk, same_in_chunk, stands_by, same_standing, chunk_lies, ends_over, ends_append, present_below, byte_is, all_inside}
+use Rattle.ip_image.proofs.TreeParts.{all_left, all_right, IsTreePart, AreTreeParts}
+use Rattle.ip_image.proofs.TreeBatch.{ends_apart, commit_record, TreeBatch, tree_behind}
+use Rattle.ip_image.proofs.FlatTrees.{may_grow, nothing_known}
 use Rattle.ip_image.proofs.NextCommit.{next_number, commit_fits, spells_next}
-use Rattle.ip_image.proofs.SpelledCommits.{present_front, each_spelled, zip_append}
+use Rattle.ip_image.proofs.SpelledCommits.{FitCommits, present_front, each_spelled, zip_append}
 pub use Rattle.ip_image.proofs.SpelledCommits.{some_repository}
 
 -- ---- bytes
@@ -110,14 +113,6 @@ good_next_slot s end pre (x ∷ xs) good = (
   good_next_slot s end (pre ++ x ∷ []) xs good.1,
 )
 
-all_left : {X : Type 0} (P : X → Type 0) (xs ys : List X) → AllByRecursion P (xs ++ ys) → AllByRecursion P xs
-all_left P [] ys all = tt
-all_left P (x ∷ xs) ys all = (all.0, all_left P xs ys all.1)
-
-all_right : {X : Type 0} (P : X → Type 0) (xs ys : List X) → AllByRecursion P (xs ++ ys) → AllByRecursion P ys
-all_right P [] ys all = all
-all_right P (x ∷ xs) ys all = all_right P xs ys all.1
-
 abbrev IsWithin : ℕ → ℕ × Record → Type 0
 IsWithin version x = Fits version x.1 × IsServedKind x.1
 
@@ -132,26 +127,35 @@ module _ (s : Slot) (fields : IsSlot s) where
     fits = fits;
   }
 
-  good_contents : (tree : Tree) (before : Records) (xs : List (Path × ℕ)) → AllByRecursion (IsWithin s.version) (contents_records tree xs) → AreGood s before (contents_records tree xs)
-  good_contents tree before [] within = tt
-  good_contents tree before (x ∷ xs) within = (good_one before _ within.0 tt, good_contents tree (before ++ _ ∷ []) xs within.1)
+  good_fits : (before xs : Records) → AllByRecursion (IsWithin s.version) xs → FitCommits (terms_of s) before xs → AreGood s before xs
+  good_fits before [] within fit = tt
+  good_fits before (x ∷ xs) within fit = (good_one before x within.0 fit.0, good_fits (before ++ x ∷ []) xs within.1 fit.1)
 
--- ---- what contents leave as it was
-
-commits_behind : (tree : Tree) (xs : List (Path × ℕ)) (later : Records) → commits_in (contents_records tree xs ++ later) ≡ commits_in later
-commits_behind tree [] later = refl
-commits_behind tree (x ∷ xs) later = commits_behind tree xs later
-
-no_name : (names : Names) (m : Map bytes_cmp ℕ) (bytes : Bytes) → names_after names m (Record.Contents bytes) ≡ m
-no_name Names.branches m bytes = refl
-no_name Names.tags m bytes = refl
+-- ---- what the parts of a tree leave as it was
 
 abbrev names_from : Names → Map bytes_cmp ℕ → Records → Map bytes_cmp ℕ
 names_from names m records = fold (λ m (x : ℕ × Record). names_after names m x.1) m records
 
-names_behind : (names : Names) (m : Map bytes_cmp ℕ) (tree : Tree) (xs : List (Path × ℕ)) (later : Records) → names_from names m (contents_records tree xs ++ later) ≡ names_from names m later
-names_behind names m tree [] later = refl
-names_behind names m tree (x ∷ xs) later = ap (λ n. names_from names n (contents_records tree xs ++ later)) (no_name names m _) ∙ names_behind names m tree xs later
+module _ (J : ℕ → Option Record) where
+  no_commits : (xs : Records) → AreTreeParts J xs → commits_in xs ≡ []
+  no_commits [] are = refl
+  no_commits (x ∷ xs) are = by x.0 x.1 are.0 ∙ no_commits xs are.1
+    where
+      by : (at : ℕ) (r : Record) → IsTreePart J at r → cons_option (commit_of (at, r)) (commits_in xs) ≡ commits_in xs
+      by at (Record.Contents bytes) part = refl
+      by at (Record.Leaf fields) part = refl
+      by at _ part = absurd part
+
+  no_name : (names : Names) (m : Map bytes_cmp ℕ) (at : ℕ) (r : Record) → IsTreePart J at r → names_after names m r ≡ m
+  no_name Names.branches m at (Record.Contents bytes) part = refl
+  no_name Names.branches m at (Record.Leaf fields) part = refl
+  no_name Names.tags m at (Record.Contents bytes) part = refl
+  no_name Names.tags m at (Record.Leaf fields) part = refl
+  no_name names m at _ part = absurd part
+
+  names_pass : (names : Names) (m : Map bytes_cmp ℕ) (xs later : Records) → AreTreeParts J xs → names_from names m (xs ++ later) ≡ names_from names m later
+  names_pass names m [] later are = refl
+  names_pass names m (x ∷ xs) later are = ap (λ n. names_from names n (xs ++ later)) (no_name names m x.0 x.1 are.0) ∙ names_pass names m xs later are.1
 
 -- ---- names
 
@@ -172,105 +176,113 @@ next_retained s end m branch floor is few = record {
     by true o is = (floor, omega arith)
     by false o is = is
 
+-- ---- records behind others
+
+pub lies_behind : (content after : Content) (end : ℕ) (old new : Records) (to : ℕ) → EndToEnd (byte_of content) 0 old end → AreEndToEnd end new to
+    → BeginsWith (take end (bytes_of content) ++ bytes_of_records new) after → EndToEnd (byte_of after) 0 (old ++ new) to
+lies_behind content after end old new to lies ends begins =
+    ends_append (byte_of after) 0 old new end to
+    (ends_over (byte_of content) (byte_of after) 0 old end (λ k b l is.
+    begun_byte (take end (bytes_of content) ++ bytes_of_records new) after begins k b
+    (get_front (take end (bytes_of content)) (bytes_of_records new) k b (get_take end (bytes_of content) k b l (sym (byte_is content k) ∙ is)))) lies)
+    (spelled_lies (byte_of after) end new to ends (λ k b is.
+    begun_byte (take end (bytes_of content) ++ bytes_of_records new) after begins (end + k) b
+    (ap (slice_get (take end (bytes_of content) ++ bytes_of_records new)) (ap (λ n. n + k) (sym whole_front)) ∙ get_behind (take end (bytes_of content)) (bytes_of_records new) k ∙ is)))
+  where
+    whole_front : length (take end (bytes_of content)) ≡ end
+    whole_front = length-take-le end (bytes_of content) (all_inside content 0 old end (omega arith) lies)
+
 -- ---- a commit's records behind those of its repository
 
-module _ (s : Slot) (fields : IsSlot s) (content : Content) (r : Repository) (chunk : InChunk s content r) (tree : Tree) (parents : List ℕ) (info : Info) (branch : Bytes) (may : MayCommit r tree parents info branch)
-    (within : AreWithin s.version (batch_of tree (fields_of r parents info branch) s.end)) where
+module _ (s : Slot) (fields : IsSlot s) (content : Content) (r : Repository) (chunk : InChunk s content r) (v : View) (from : Sources) (parents : List ℕ) (info : Info) (branch : Bytes)
+    (may : MayGrow r v.map parents info branch) (known : KnownStand (present chunk.records) v s.end) (stand : SourcesStand (present chunk.records) v from)
+    (within : AreWithin s.version (batch v from (fields_of r parents info branch) s.end)) where
   abbrev old : Records
   old = chunk.records
 
-  abbrev batch : Records
-  batch = batch_of tree (fields_of r parents info branch) s.end
+  abbrev f : CommitFields
+  f = fields_of r parents info branch
+
+  abbrev new : Records
+  new = batch v from f s.end
 
   abbrev end : ℕ
-  end = batch_end_of tree (fields_of r parents info branch) s.end
+  end = batch_end v from f s.end
 
-  flat : FlatBatch tree (fields_of r parents info branch) s.end old
-  flat = flat_batch tree may.flat (fields_of r parents info branch) s.end old (λ at r is. present_below (byte_of content) 0 old s.end at r chunk.lies is)
+  abbrev after : Commit
+  after = new_commit r v.map parents info
 
-  abbrev contents : Records
-  contents = contents_records tree flat.contents
+  all_within : AllByRecursion (IsWithin s.version) new
+  all_within = recursion_from_All (IsWithin s.version) new within
 
-  abbrev leaf : ℕ × Record
-  leaf = (flat.root, Record.Leaf flat.fields)
+  tree : TreeBatch (terms_of s) v from f s.end old
+  tree = tree_behind (terms_of s) v from f s.end old (ends_apart (byte_of content) 0 old s.end chunk.lies) known stand may.is_tree (served new all_within)
+    where
+      served : (xs : Records) → AllByRecursion (IsWithin s.version) xs → AllByRecursion (λ (x : ℕ × Record). IsServedKind x.1) xs
+      served [] all = tt
+      served (x ∷ xs) all = (all.0.1, served xs all.1)
+
+  abbrev parts : Records
+  parts = tree.parts
 
   abbrev c : CommitRecord
-  c = commit_record tree (fields_of r parents info branch) flat.root
+  c = commit_record v.map f tree.root
 
   abbrev commit : ℕ × Record
-  commit = (flat.commit_at, Record.Commit c)
+  commit = (tree.commit_at, Record.Commit c)
 
   abbrev set : ℕ × Record
-  set = (flat.branch_at, Record.BranchSet (next r) branch)
+  set = (tree.branch_at, Record.BranchSet (next r) branch)
 
   -- what the commit record stands behind
   abbrev before : Records
-  before = (old ++ contents) ++ leaf ∷ []
+  before = old ++ parts
 
-  root_there : TreeAt (present before) flat.root tree
-  root_there = subst (λ (rs : Records). TreeAt (present rs) flat.root tree) (sym (append_assoc old contents (leaf ∷ []))) flat.spelled
+  all_there : before ++ commit ∷ set ∷ [] ≡ old ++ new
+  all_there = append_assoc old parts (commit ∷ set ∷ []) ∙ ap (λ rs. old ++ rs) (sym tree.is)
 
-  all_there : before ++ commit ∷ set ∷ [] ≡ old ++ batch
-  all_there = append_assoc (old ++ contents) (leaf ∷ []) (commit ∷ set ∷ []) ∙ append_assoc old contents (leaf ∷ commit ∷ set ∷ []) ∙ ap (λ rs. old ++ rs) (sym flat.is)
-
-  root_stays : TreeAt (present (old ++ batch)) flat.root tree
-  root_stays = subst (λ (rs : Records). TreeAt (present rs) flat.root tree) all_there
-      (root_there.0, more_part (present before) (present (before ++ commit ∷ set ∷ [])) (present_front before (commit ∷ set ∷ [])) root_there.1)
+  root_stays : TreeAt (present (old ++ new)) tree.root v.map
+  root_stays = subst (λ (rs : Records). TreeAt (present rs) tree.root v.map) all_there
+      (tree.spelled.0, more_part (present before) (present (before ++ commit ∷ set ∷ [])) (present_front before (commit ∷ set ∷ [])) tree.spelled.1)
 
   same_commits : commits_in before ≡ commits_in old
-  same_commits =
-      ap commits_in (append_assoc old contents (leaf ∷ []))
-      ∙ filter_map-append commit_of old (contents ++ leaf ∷ [])
-      ∙ ap (λ cs. commits_in old ++ cs) (commits_behind tree flat.contents (leaf ∷ []))
-      ∙ append-nil (commits_in old)
+  same_commits = filter_map-append commit_of old parts ∙ ap (λ cs. commits_in old ++ cs) (no_commits (present before) parts tree.are_parts) ∙ append-nil (commits_in old)
 
-  all_commits : commits_in (old ++ batch) ≡ commits_in old ++ c ∷ []
-  all_commits =
-      filter_map-append commit_of old batch
-      ∙ ap (λ rs. commits_in old ++ commits_in rs) flat.is
-      ∙ ap (λ cs. commits_in old ++ cs) (commits_behind tree flat.contents (leaf ∷ commit ∷ set ∷ []))
+  all_commits : commits_in (old ++ new) ≡ commits_in old ++ c ∷ []
+  all_commits = ap commits_in (sym all_there) ∙ filter_map-append commit_of before (commit ∷ set ∷ []) ∙ ap (λ cs. cs ++ c ∷ []) same_commits
 
-  all_names : (names : Names) → named names (old ++ batch) ≡ names_from names (named names old) (leaf ∷ commit ∷ set ∷ [])
+  all_names : (names : Names) → named names (old ++ new) ≡ names_from names (named names old) (commit ∷ set ∷ [])
   all_names names =
-      fold-append (λ m (x : ℕ × Record). names_after names m x.1) empty old batch
-      ∙ ap (names_from names (named names old)) flat.is
-      ∙ names_behind names (named names old) tree flat.contents (leaf ∷ commit ∷ set ∷ [])
+      fold-append (λ m (x : ℕ × Record). names_after names m x.1) empty old new
+      ∙ ap (names_from names (named names old)) tree.is
+      ∙ names_pass (present before) names (named names old) parts (commit ∷ set ∷ []) tree.are_parts
 
-  branches_after : insert r.branches branch (next r) ≡ named Names.branches (old ++ batch)
+  branches_after : insert r.branches branch (next r) ≡ named Names.branches (old ++ new)
   branches_after = ap (λ (m : Map bytes_cmp ℕ). insert m branch (next r)) chunk.branches ∙ sym (all_names Names.branches)
 
-  tags_after : r.tags ≡ named Names.tags (old ++ batch)
+  tags_after : r.tags ≡ named Names.tags (old ++ new)
   tags_after = chunk.tags ∙ sym (all_names Names.tags)
 
   -- ---- what the records are tested for
 
-  all_within : AllByRecursion (IsWithin s.version) (contents ++ leaf ∷ commit ∷ set ∷ [])
-  all_within = subst (AllByRecursion (IsWithin s.version)) flat.is (recursion_from_All (IsWithin s.version) batch within)
+  pieces_within : AllByRecursion (IsWithin s.version) (parts ++ commit ∷ set ∷ [])
+  pieces_within = subst (AllByRecursion (IsWithin s.version)) tree.is all_within
 
-  last_within : AllByRecursion (IsWithin s.version) (leaf ∷ commit ∷ set ∷ [])
-  last_within = all_right (IsWithin s.version) contents (leaf ∷ commit ∷ set ∷ []) all_within
-
-  some_part : IsSomePart (present before) flat.root
-  some_part = (0, entries_of tree, root_there.1, (λ d l. absurd (omega (arith, l))), (let few = few_at_root tree may.flat (fields_of r parents info branch) s.end in omega (arith, few)))
-
-  good_leaf : IsGood s (old ++ contents) leaf
-  good_leaf = good_one s fields (old ++ contents) leaf last_within.0 some_part
+  last_within : AllByRecursion (IsWithin s.version) (commit ∷ set ∷ [])
+  last_within = all_right (IsWithin s.version) parts (commit ∷ set ∷ []) pieces_within
 
   good_commit : IsGood s before commit
-  good_commit = good_one s fields before commit last_within.1.0 (commit_fits s content r fields chunk tree parents info branch may flat.root before flat.commit_at same_commits root_there flat.root_below)
+  good_commit = good_one s fields before commit last_within.0 (commit_fits s content r fields chunk v.map parents info branch may tree.root before tree.commit_at same_commits tree.spelled tree.root_below)
 
-  good_set : IsGood s (before ++ commit ∷ []) set
-  good_set = good_one s fields (before ++ commit ∷ []) set last_within.1.1.0 tt
-
-  good_batch : AreGood s old batch
-  good_batch = subst (AreGood s old) (sym flat.is)
-      (good_append s old contents (leaf ∷ commit ∷ set ∷ []) (good_contents s fields tree old flat.contents (all_left (IsWithin s.version) contents (leaf ∷ commit ∷ set ∷ []) all_within))
-      (good_leaf, (good_commit, (good_set, tt))))
+  good_batch : AreGood s old new
+  good_batch = subst (AreGood s old) (sym tree.is)
+      (good_append s old parts (commit ∷ set ∷ []) (good_fits s fields old parts (all_left (IsWithin s.version) parts (commit ∷ set ∷ []) pieces_within) tree.fit)
+      (good_commit, (good_one s fields (before ++ commit ∷ []) set last_within.1.0 tt, tt)))
 
   number_is : next r ≡ s.next
   number_is = next_number s content r fields chunk
 
-  fits_after : WholeFits (next_slot s end) (old ++ batch)
+  fits_after : WholeFits (next_slot s end) (old ++ new)
   fits_after =
       let is = chunk.fits.next in
       let more = ap length all_commits ∙ length-append (commits_in old) (c ∷ []) in
@@ -282,40 +294,50 @@ module _ (s : Slot) (fields : IsSlot s) (content : Content) (r : Repository) (ch
         tags = subst (AreRetained (next_slot s end)) (sym (all_names Names.tags)) (still_retained s end (named Names.tags old) chunk.fits.tags);
       }
 
-  commits_after : AllZip (Spells (old ++ batch)) (commits_in (old ++ batch)) (r.commits ++ new_commit r tree parents info ∷ [])
-  commits_after = subst (λ (cs : List CommitRecord). AllZip (Spells (old ++ batch)) cs (r.commits ++ new_commit r tree parents info ∷ [])) (sym all_commits)
-      (zip_append (Spells (old ++ batch)) (commits_in old) (c ∷ []) r.commits (new_commit r tree parents info ∷ [])
-      (each_spelled old (old ++ batch) (present_front old batch) (commits_in old) r.commits chunk.commits)
-      (spells_next s content r fields chunk tree parents info branch may flat.root (old ++ batch) root_stays, tt))
+  commits_after : AllZip (Spells (old ++ new)) (commits_in (old ++ new)) (r.commits ++ after ∷ [])
+  commits_after = subst (λ (cs : List CommitRecord). AllZip (Spells (old ++ new)) cs (r.commits ++ after ∷ [])) (sym all_commits)
+      (zip_append (Spells (old ++ new)) (commits_in old) (c ∷ []) r.commits (after ∷ [])
+      (each_spelled old (old ++ new) (present_front old new) (commits_in old) r.commits chunk.commits)
+      (spells_next s content r fields chunk v.map parents info branch may tree.root (old ++ new) root_stays, tt))
 
   -- ---- the repository after the commit
 
-  lies_after : (after : Content) → BeginsWith (take s.end (bytes_of content) ++ bytes_of_records batch) after → EndToEnd (byte_of after) 0 (old ++ batch) end
-  lies_after after begins =
-      ends_append (byte_of after) 0 old batch s.end end
-      (ends_over (byte_of content) (byte_of after) 0 old s.end (λ k b l is.
-      begun_byte (take s.end (bytes_of content) ++ bytes_of_records batch) after begins k b
-      (get_front (take s.end (bytes_of content)) (bytes_of_records batch) k b (get_take s.end (bytes_of content) k b l (sym (byte_is content k) ∙ is)))) chunk.lies)
-      (spelled_lies (byte_of after) s.end batch end (batch_lies (unread tree) (sources (unread tree)) (fields_of r parents info branch) s.end) (λ k b is.
-      begun_byte (take s.end (bytes_of content) ++ bytes_of_records batch) after begins (s.end + k) b
-      (ap (slice_get (take s.end (bytes_of content) ++ bytes_of_records batch)) (ap (λ n. n + k) (sym whole_front)) ∙ get_behind (take s.end (bytes_of content)) (bytes_of_records batch) k ∙ is)))
-    where
-      whole_front : length (take s.end (bytes_of content)) ≡ s.end
-      whole_front = length-take-le s.end (bytes_of content) (all_inside content 0 old s.end (omega arith) chunk.lies)
+  module _ (grown : Content) (begins : BeginsWith (take s.end (bytes_of content) ++ bytes_of_records new) grown) where
+    pub chunk_after : InChunk (next_slot s end) grown (with_commit r after branch)
+    chunk_after = record {
+      records = old ++ new;
+      lies = lies_behind content grown s.end old new end chunk.lies (batch_lies v from f s.end) begins;
+      good = good_append (next_slot s end) [] old new (good_next_slot s end [] old chunk.good) (good_next_slot s end old new good_batch);
+      fits = fits_after;
+      floor = chunk.floor;
+      commits = commits_after;
+      branches = branches_after;
+      tags = tags_after;
+    }
 
-  pub chunk_after : (after : Content) → BeginsWith (take s.end (bytes_of content) ++ bytes_of_records batch) after → InChunk (next_slot s end) after (with_commit r (new_commit r tree parents info) branch)
-  chunk_after after begins = record {
-    records = old ++ batch;
-    lies = lies_after after begins;
-    good = good_append (next_slot s end) [] old batch (good_next_slot s end [] old chunk.good) (good_next_slot s end old batch good_batch);
-    fits = fits_after;
-    floor = chunk.floor;
-    commits = commits_after;
-    branches = branches_after;
-    tags = tags_after;
-  }
+    pub records_after : chunk_after.records ≡ old ++ new
+    unfolding chunk_after
+    records_after = refl
 
+pub stands_grown : StandsGrown
+stands_grown image other r s v parents info branch stands live may known within live' begins =
+    let f = fields_of r parents info branch in
+    let t = next_slot s (grown_end v f s.end) in
+    let q = with_commit r (new_commit r v.map parents info) branch in
+    let chunk = in_chunk image s live r stands in
+    let same : chunk.records ≡ stands.standing.records = same_in_chunk image s live r stands in
+    let known : KnownStand (present chunk.records) v s.end = subst (λ (rs : Records). KnownStand (present rs) v s.end) (sym same) known in
+    let stand = sources_stand (present chunk.records) v s.end known in
+    let next_chunk = chunk_after s live.live.fields (image (Chunk 0)) r chunk v (sources v) parents info branch may known stand within (other (Chunk 0)) begins in (
+      stands_by other t live' q next_chunk,
+      same_standing other t live' q next_chunk
+          ∙ records_after s live.live.fields (image (Chunk 0)) r chunk v (sources v) parents info branch may known stand within (other (Chunk 0)) begins
+          ∙ ap (λ (rs : Records). rs ++ grown_batch v f s.end) same,
+    )
+
+-- no part is known
 pub stands_next : StandsNext
 stands_next image other r s tree parents info branch stands live may within live' begins =
-    stands_by other (next_slot s (batch_end_of tree (fields_of r parents info branch) s.end)) live' (with_commit r (new_commit r tree parents info) branch)
-    (chunk_after s live.live.fields (image (Chunk 0)) r (in_chunk image s live r stands) tree parents info branch may within (other (Chunk 0)) begins)
+    let records = stands.standing.records in
+    let known = nothing_known (present records) tree s.end (λ at x is. present_below (byte_of (image (Chunk 0))) 0 records s.end at x (chunk_lies image s live stands.standing) is) in
+    (stands_grown image other r s (unread tree) parents info branch stands live (may_grow r tree parents info branch may) known within live' begins).0

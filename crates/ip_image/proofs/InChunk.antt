@@ -1,6 +1,8 @@
 -- While no generation is live, an image stands for what its live slot and chunk 0 hold.
 --     InChunk s content r      the chunk's records, and the repository that they and the slot stand for
 --     in_chunk, stands_by      what stands for a repository has it there; and what has it there stands for it
+--     same_in_chunk, same_standing      by the same records
+--     chunk_lies, chunk_good      the records of an image that stands, there
 --     ends_over, ends_append      records that lie end to end lie so in other bytes, and behind others
 --     present_below, all_inside      they are present below their end, and the bytes go so far
 use Rattle.std.proofs.Common.{◌≡◌, ℕ, ◌+◌, ◌-◌, ◌<◌, ◌≤◌, List, [], ◌∷◌, ◌++◌, refl, sym, ap, subst, ◌∙◌, Option, Some, None, Bool, true, false, cond, length, arith, append-nil, map}
@@ -106,28 +108,43 @@ module _ (image : Image) (s : Slot) (live : HasLive s image) where
   no_horizon : s.horizon ≡ 0
   no_horizon = live.live.fields.none_live.0 live.live.fields.served
 
+  module _ (A : Standing image) where
+    is_slot : A.slot ≡ s
+    is_slot = slot_is image A live.control live.index live.held s live.live
+
+    -- its records lie in chunk 0
+    pub chunk_lies : EndToEnd (byte_of (image (Chunk 0))) 0 A.records s.end
+    chunk_lies =
+        let rows : A.rows ≡ [] = A.generation.none A.live.fields.served in
+        let whole : RunByRun (virtual_byte image (layout_of s) []) (stretches (layout_of s) []) A.records =
+        subst (λ (rs : List Row). RunByRun (virtual_byte image (layout_of s) (map run_of rs)) (stretches (layout_of s) rs) A.records) rows
+        (subst (λ (t : Slot). RunByRun (virtual_byte image (layout_of t) (map run_of A.rows)) (stretches (layout_of t) A.rows) A.records) is_slot A.whole) in
+        let records : whole.0 ≡ A.records = sym (append-nil whole.0) ∙ ap (λ later. whole.0 ++ later) (sym whole.4) ∙ sym whole.2 in
+        let from_zero : EndToEnd (virtual_byte image (layout_of s) []) 0 whole.0 s.end =
+        subst (λ (n : ℕ). EndToEnd (virtual_byte image (layout_of s) []) n whole.0 s.end) no_horizon
+        (subst (λ (n : ℕ). EndToEnd (virtual_byte image (layout_of s) []) s.horizon whole.0 n) (let low = live.live.fields.horizon in omega (arith, low)) whole.3) in
+        subst (λ (rs : Records). EndToEnd (byte_of (image (Chunk 0))) 0 rs s.end) records (subst (λ (f : ℕ → Option ℕ). EndToEnd f 0 whole.0 s.end) (chunk_bytes image s no_horizon) from_zero)
+
+    pub chunk_good : AreGood s [] A.records
+    chunk_good = subst (λ (t : Slot). AreGood t [] A.records) is_slot A.good
+
   pub in_chunk : (r : Repository) → StandsFor image r → InChunk s (image (Chunk 0)) r
   in_chunk r stands =
       let A = stands.standing in
-      let is : A.slot ≡ s = slot_is image A live.control live.index live.held s live.live in
-      let rows : A.rows ≡ [] = A.generation.none A.live.fields.served in
-      let whole : RunByRun (virtual_byte image (layout_of s) []) (stretches (layout_of s) []) A.records =
-      subst (λ (rs : List Row). RunByRun (virtual_byte image (layout_of s) (map run_of rs)) (stretches (layout_of s) rs) A.records) rows
-      (subst (λ (t : Slot). RunByRun (virtual_byte image (layout_of t) (map run_of A.rows)) (stretches (layout_of t) A.rows) A.records) is A.whole) in
-      let records : whole.0 ≡ A.records = sym (append-nil whole.0) ∙ ap (λ later. whole.0 ++ later) (sym whole.4) ∙ sym whole.2 in
-      let from_zero : EndToEnd (virtual_byte image (layout_of s) []) 0 whole.0 s.end =
-      subst (λ (n : ℕ). EndToEnd (virtual_byte image (layout_of s) []) n whole.0 s.end) no_horizon
-      (subst (λ (n : ℕ). EndToEnd (virtual_byte image (layout_of s) []) s.horizon whole.0 n) (let low = live.live.fields.horizon in omega (arith, low)) whole.3) in
       record {
         records = A.records;
-        lies = subst (λ (rs : Records). EndToEnd (byte_of (image (Chunk 0))) 0 rs s.end) records (subst (λ (f : ℕ → Option ℕ). EndToEnd f 0 whole.0 s.end) (chunk_bytes image s no_horizon) from_zero);
-        good = subst (λ (t : Slot). AreGood t [] A.records) is A.good;
-        fits = subst (λ (t : Slot). WholeFits t A.records) is A.fits;
-        floor = stands.floor ∙ ap (λ (t : Slot). t.floor) is;
+        lies = chunk_lies A;
+        good = chunk_good A;
+        fits = subst (λ (t : Slot). WholeFits t A.records) (is_slot A) A.fits;
+        floor = stands.floor ∙ ap (λ (t : Slot). t.floor) (is_slot A);
         commits = stands.commits;
         branches = stands.branches;
         tags = stands.tags;
       }
+
+  pub same_in_chunk : (r : Repository) (stands : StandsFor image r) → (in_chunk r stands).records ≡ stands.standing.records
+  unfolding in_chunk
+  same_in_chunk r stands = refl
 
   module _ (r : Repository) (chunk : InChunk s (image (Chunk 0)) r) where
     no_generation : Generation image (layout_of s) []
@@ -168,3 +185,7 @@ module _ (image : Image) (s : Slot) (live : HasLive s image) where
     pub stands_by : StandsFor image r
     unfolding standing_by
     stands_by = record { standing = standing_by; floor = chunk.floor; commits = chunk.commits; branches = chunk.branches; tags = chunk.tags }
+
+    pub same_standing : stands_by.standing.records ≡ chunk.records
+    unfolding standing_by stands_by
+    same_standing = refl

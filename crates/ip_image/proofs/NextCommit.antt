@@ -29,9 +29,9 @@ use Rattle.ip_spec.specs.Step.{new_commit, as_parent}
 use Rattle.ip_spec.proofs.Subtrees.{step_itself}
 use Rattle.ip_image.specs.Slot.{Slot, IsSlot}
 use Rattle.ip_image.specs.Standing.{terms_of, CommitFits, IsEarlier, commits_in, outside, parent_of, Spells}
-use Rattle.ip_image.specs.Appending.{MayCommit, fields_of}
+use Rattle.ip_image.specs.Appending.{MayGrow, fields_of}
 use Rattle.ip_image.proofs.InChunk.{InChunk}
-use Rattle.ip_image.proofs.FlatBatch.{commit_record}
+use Rattle.ip_image.proofs.TreeBatch.{commit_record}
 
 -- ---- tests
 
@@ -141,7 +141,7 @@ module _ (s : Slot) (content : Content) (r : Repository) (fields : IsSlot s) (ch
   retained_above : (n : ℕ) → IsTrue (is_retained r n) → s.floor ≤ n
   retained_above n is = let low = at_most r.floor n (both_first (nat_le r.floor n) _ is) in let floor = chunk.floor in omega (arith, low, floor)
 
-  module _ (tree : Tree) (parents : List ℕ) (info : Info) (branch : Bytes) (may : MayCommit r tree parents info branch) (root : ℕ) where
+  module _ (tree : Tree) (parents : List ℕ) (info : Info) (branch : Bytes) (may : MayGrow r tree parents info branch) (root : ℕ) where
     abbrev c : CommitRecord
     c = commit_record tree (fields_of r parents info branch) root
 

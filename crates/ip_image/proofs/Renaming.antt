@@ -1,32 +1,31 @@
 -- How what an image stands for goes on with a record of a branch.
 --     stands_renamed      with a record that sets a branch or takes one away behind its records
 --     few_without, get_without      a map of branches without one of them
-use Rattle.std.proofs.Common.{◌≡◌, ℕ, ◌+◌, ◌<◌, ◌≤◌, List, [], ◌∷◌, ◌++◌, refl, sym, ap, subst, ◌∙◌, Option, Some, None, Bool, true, false, cond, length, take, arith, append-nil, length-take-le, length-append}
-use Rattle.std.proofs.lemmas.Bool.{false≢true}
+use Rattle.std.proofs.Common.{◌≡◌, ℕ, ◌+◌, ◌<◌, ◌≤◌, List, [], ◌∷◌, ◌++◌, refl, sym, ap, subst, ◌∙◌, Option, Some, None, Bool, true, false, cond, length, take, arith, append-nil}
 use Rattle.std.proofs.lemmas.Bool.Decides.{nat_tests}
 use Rattle.std.proofs.lemmas.List.Elements.{filter_map-append}
 use Rattle.std.proofs.lemmas.List.Sums.{fold-append}
-use Rattle.std.specs.Prelude.{slice_get, IfSome, IsTrue, is_some, not, nat_le, nat_lt, ◌&&◌}
+use Rattle.std.specs.Prelude.{IfSome, not, nat_le, nat_lt, ◌&&◌}
 use Rattle.std.specs.List.{AllZip}
 use Rattle.std.specs.Cmp.Lexicographic.{nat_list_cmp_total}
-use Rattle.std.specs.FinMap.Entries.{find, where_key, length_without}
+use Rattle.std.specs.FinMap.Entries.{length_without}
 use Rattle.std.specs.Ordering.{eq_by_cmp}
 use Rattle.ip_ground.specs.declared.names.FileName.TheVariants.{Chunk}
-use Rattle.ip_ground.specs.Contents.{Content, Image, bytes_of}
+use Rattle.ip_ground.specs.Contents.{Content, bytes_of}
 use Rattle.ip_spec.specs.declared.record.Record.{Record}
 use Rattle.ip_spec.specs.declared.record.CommitRecord.{CommitRecord}
 use Rattle.ip_spec.specs.Map.{Map, empty, get, insert, remove, retain_keys, len, get-insert, get-retain_keys}
 use Rattle.ip_spec.specs.Path.{Bytes, bytes_cmp}
 use Rattle.ip_spec.specs.Record.{Names, Fits, spelling, spelling_of}
-use Rattle.ip_spec.specs.TreeAt.{Records, present}
-use Rattle.ip_spec.specs.Repository.{Repository, next, is_retained}
+use Rattle.ip_spec.specs.TreeAt.{Records}
+use Rattle.ip_spec.specs.Repository.{Repository, next}
 use Rattle.ip_spec.proofs.Subtrees.{step_antisymmetric}
 use Rattle.ip_image.specs.Slot.{Slot, IsSlot}
 use Rattle.ip_image.specs.Virtual.{byte_of}
 use Rattle.ip_image.specs.Standing.{EndToEnd, RecordFits, IsServedKind, AreGood, commit_of, commits_in, names_after, named, AreRetained, WholeFits, Spells, terms_of}
-use Rattle.ip_image.specs.Appending.{BeginsWith, front_of, later_slot, MayName, renamed, bytes_of_records, StandsRenamed}
-use Rattle.ip_image.proofs.InChunk.{InChunk, in_chunk, stands_by, ends_over, ends_append, byte_is, all_inside}
-use Rattle.ip_image.proofs.AppendingLaws.{get_take, get_front, get_behind, begun_byte, spelled_lies, good_append, good_one}
+use Rattle.ip_image.specs.Appending.{BeginsWith, later_slot, MayName, renamed, bytes_of_records, StandsRenamed}
+use Rattle.ip_image.proofs.InChunk.{InChunk, in_chunk, stands_by}
+use Rattle.ip_image.proofs.AppendingLaws.{lies_behind, good_append, good_one}
 use Rattle.ip_image.proofs.NextCommit.{next_number}
 use Rattle.ip_image.proofs.SpelledCommits.{present_front, each_spelled}
 
@@ -151,17 +150,7 @@ module _ (s : Slot) (fields : IsSlot s) (content : Content) (r : Repository) (ch
   spelled_is = sym (append-nil (spelling x))
 
   lies_after : (after : Content) → BeginsWith (take s.end (bytes_of content) ++ bytes_of_records (new ∷ [])) after → EndToEnd (byte_of after) 0 (old ++ new ∷ []) end
-  lies_after after begins =
-      ends_append (byte_of after) 0 old (new ∷ []) s.end end
-      (ends_over (byte_of content) (byte_of after) 0 old s.end (λ k b l is.
-      begun_byte (take s.end (bytes_of content) ++ bytes_of_records (new ∷ [])) after begins k b
-      (get_front (take s.end (bytes_of content)) (bytes_of_records (new ∷ [])) k b (get_take s.end (bytes_of content) k b l (sym (byte_is content k) ∙ is)))) chunk.lies)
-      (spelled_lies (byte_of after) s.end (new ∷ []) end (refl, refl) (λ k b is.
-      begun_byte (take s.end (bytes_of content) ++ bytes_of_records (new ∷ [])) after begins (s.end + k) b
-      (ap (slice_get (take s.end (bytes_of content) ++ bytes_of_records (new ∷ []))) (ap (λ n. n + k) (sym whole_front)) ∙ get_behind (take s.end (bytes_of content)) (bytes_of_records (new ∷ [])) k ∙ is)))
-    where
-      whole_front : length (take s.end (bytes_of content)) ≡ s.end
-      whole_front = length-take-le s.end (bytes_of content) (all_inside content 0 old s.end (omega arith) chunk.lies)
+  lies_after after begins = lies_behind content after s.end old (new ∷ []) end chunk.lies (refl, refl) begins
 
   renamed_chunk : (after : Content) → BeginsWith (take s.end (bytes_of content) ++ spelling x) after → InChunk (later_slot s end) after (renamed r x)
   renamed_chunk after begins = record {
