@@ -1,0 +1,172 @@
+-- What placing a tree in another does to what stands at paths, and to the entries of a directory.
+use Rattle.std.proofs.Common.{◌≡◌, List, [], ◌∷◌, ◌++◌, refl, sym, ap, subst, ◌∙◌, Option, Some, None, Bool, true, false, cond}
+use Rattle.std.proofs.lemmas.Bool.{false≢true}
+use Rattle.std.specs.Prelude.{not, ◌||◌, ◌&&◌, is_some, IsFalse, IsSome}
+use Rattle.std.specs.Ordering.{is_eq}
+use Rattle.std.specs.Cmp.Lexicographic.{nat_list_cmp_total}
+use Rattle.std.specs.FinMap.Entries as E
+use Rattle.std.specs.FinMap.Entries.{find}
+use Rattle.ip_spec.specs.Map.{Map, get, insert, get-insert, entries-insert, same_map}
+use Rattle.ip_spec.specs.Path.{Bytes, Step, Path, bytes_cmp, path_cmp, same_bytes, same_path, is_prefix, is_related, after_prefix}
+use Rattle.ip_spec.specs.Tree.{Tree, no_tree, contents, subtree, place, put, entries_of, is_contents, is_empty}
+use Rattle.ip_tree.specs.Placing.{behind_or}
+use Rattle.ip_spec.proofs.GraftLaws.{get-place, get-beside}
+use Rattle.ip_spec.proofs.Subtrees.{step_itself, path_itself, same_step, step_antisymmetric, same_bytes_turned, get-subtree, get-entries_of, get-contents, get-no_tree, same_tree, some_not_empty, subtree_cons, empty_is, entry_found, entry_lost}
+
+-- ---- paths
+
+-- a path is another and what is left behind it, or does not begin with it
+abbrev pub IsSplit : Path → Path → Option Path → Type 0
+IsSplit p q None = is_prefix p q ≡ false
+IsSplit p q (Some rest) = q ≡ p ++ rest
+
+pub split : (p q : Path) → IsSplit p q (after_prefix p q)
+split [] q = refl
+split (s ∷ p) [] = refl
+split (s ∷ p) (r ∷ q) =
+    elim (same_bytes s r) as (λ b. same_bytes s r ≡ b → IsSplit (s ∷ p) (r ∷ q) (cond b (after_prefix p q) None)) [
+      | true ↦ λ e. deeper (after_prefix p q) e (split p q)
+      | false ↦ λ e. ap (λ b. b && is_prefix p q) e
+    ] refl
+  where
+    deeper : (o : Option Path) → same_bytes s r ≡ true → IsSplit p q o → IsSplit (s ∷ p) (r ∷ q) o
+    deeper (Some rest) e h = ap (λ (x : Step). x ∷ q) (sym (same_step s r e)) ∙ ap (λ (x : Path). s ∷ x) h
+    deeper None e h = ap (λ b. b && is_prefix p q) e ∙ h
+
+pub itself : (s : Step) → same_bytes s s ≡ true
+itself s = ap is_eq (step_itself s)
+
+pub after_cons : (s : Step) (p q : Path) → after_prefix (s ∷ p) (s ∷ q) ≡ after_prefix p q
+after_cons s p q = ap (λ b. cond b (after_prefix p q) None) (itself s)
+
+pub related_cons : (s : Step) (p q : Path) → is_related (s ∷ p) (s ∷ q) ≡ is_related p q
+related_cons s p q = ap (λ b. b && is_prefix p q || b && is_prefix q p) (itself s)
+
+pub unrelated : (s r : Step) (p q : Path) → same_bytes r s ≡ false → is_related (s ∷ p) (r ∷ q) ≡ false
+unrelated s r p q e = ap (λ b. b && is_prefix p q || same_bytes r s && is_prefix q p) (same_bytes_turned s r ∙ e) ∙ ap (λ b. b && is_prefix q p) e
+
+pub after_apart : (s r : Step) (p q : Path) → same_bytes r s ≡ false → after_prefix (s ∷ p) (r ∷ q) ≡ None
+after_apart s r p q e = ap (λ b. cond b (after_prefix p q) None) (same_bytes_turned s r ∙ e)
+
+-- ---- what stands where
+
+pub get-placed : (t : Tree) (path : Path) (sub : Tree) (q : Path) → get (place t path sub) q ≡ behind_or (get sub) (is_related path q) (get t q) (after_prefix path q)
+get-placed t path sub q = by (after_prefix path q) (split path q)
+  where
+    turned : (b : Bool) (o : Option Bytes) → cond (not b) o None ≡ cond b None o
+    turned true o = refl
+    turned false o = refl
+
+    by : (o : Option Path) → IsSplit path q o → get (place t path sub) q ≡ behind_or (get sub) (is_related path q) (get t q) o
+    by (Some rest) is = ap (get (place t path sub)) is ∙ get-place t path sub rest
+    by None apart = get-beside t path sub q apart ∙ turned (is_related path q) (get t q)
+
+pub place_root : (t sub : Tree) → place t [] sub ≡ sub
+place_root t sub = same_tree _ _ (λ q. get-place t [] sub q)
+
+pub put-place : (t : Tree) (p : Path) (b : Bytes) → put t p b ≡ place t p (contents b)
+unfolding put
+put-place t p b = refl
+
+-- at the step of the path
+pub subtree_place : (t : Tree) (s : Step) (p : Path) (sub : Tree) → subtree (place t (s ∷ p) sub) (s ∷ []) ≡ place (subtree t (s ∷ [])) p sub
+subtree_place t s p sub = same_tree _ _ (λ q.
+    get-subtree (place t (s ∷ p) sub) (s ∷ []) q ∙ get-placed t (s ∷ p) sub (s ∷ q)
+    ∙ ap (behind_or (get sub) (is_related (s ∷ p) (s ∷ q)) (get t (s ∷ q))) (after_cons s p q)
+    ∙ ap (λ b. behind_or (get sub) b (get t (s ∷ q)) (after_prefix p q)) (related_cons s p q)
+    ∙ ap (λ o. behind_or (get sub) (is_related p q) o (after_prefix p q)) (sym (get-subtree t (s ∷ []) q))
+    ∙ sym (get-placed (subtree t (s ∷ [])) p sub q))
+
+-- at another step
+subtree_apart : (t : Tree) (s r : Step) (p : Path) (sub : Tree) → same_bytes r s ≡ false → subtree (place t (s ∷ p) sub) (r ∷ []) ≡ subtree t (r ∷ [])
+subtree_apart t s r p sub e = same_tree _ _ (λ q.
+    get-subtree (place t (s ∷ p) sub) (r ∷ []) q ∙ get-placed t (s ∷ p) sub (r ∷ q)
+    ∙ ap (behind_or (get sub) (is_related (s ∷ p) (r ∷ q)) (get t (r ∷ q))) (after_apart s r p q e)
+    ∙ ap (λ b. cond b None (get t (r ∷ q))) (unrelated s r p q e)
+    ∙ sym (get-subtree t (r ∷ []) q))
+
+-- ---- something stands there
+
+pub record Something (t : Tree) : Type 0 where
+  pub path : Path
+  pub bytes : Bytes
+  pub here : get t path ≡ Some bytes
+
+pub something : (t : Tree) → is_empty t ≡ false → Something t
+something t some = by t.entries refl some
+  where
+    by : (es : List (Path × Bytes)) → t.entries ≡ es → (elim es [ [] ↦ true | _ ∷ _ ↦ false ]) ≡ false → Something t
+    by [] is h = absurd (false≢true (sym h))
+    by (e ∷ es) is h = record { path = e.0; bytes = e.1; here = ap (find path_cmp e.0) is ∙ ap (λ r. cond (is_eq r) (Some e.1) (find path_cmp e.0 es)) (path_itself e.0) }
+
+pub place_not_empty : (t : Tree) (p : Path) (sub : Tree) → is_empty sub ≡ false → IsFalse (is_empty (place t p sub))
+place_not_empty t p sub some = let s = something sub some in some_not_empty (place t p sub) (p ++ s.path) s.bytes (get-place t p sub s.path ∙ s.here)
+
+always : (s : Step) (p : Path) → is_related (s ∷ p) [] ≡ true
+always s p = refl
+
+pub place_directory : (t : Tree) (s : Step) (p : Path) (sub : Tree) → IsFalse (is_contents (place t (s ∷ p) sub))
+place_directory t s p sub = ap is_some (get-placed t (s ∷ p) sub [])
+
+-- nothing of contents stays under a path
+pub place_over_contents : (c : Bytes) (s : Step) (p : Path) (sub : Tree) → place (contents c) (s ∷ p) sub ≡ place no_tree (s ∷ p) sub
+place_over_contents c s p sub = same_tree _ _ (λ q. get-placed (contents c) (s ∷ p) sub q ∙ same q ∙ sym (get-placed no_tree (s ∷ p) sub q))
+  where
+    same : (q : Path) → behind_or (get sub) (is_related (s ∷ p) q) (get (contents c) q) (after_prefix (s ∷ p) q) ≡ behind_or (get sub) (is_related (s ∷ p) q) (get no_tree q) (after_prefix (s ∷ p) q)
+    same [] = refl
+    same (r ∷ q) = ap (λ o. behind_or (get sub) (is_related (s ∷ p) (r ∷ q)) o (after_prefix (s ∷ p) (r ∷ q))) (get-contents c (r ∷ q) ∙ sym (get-no_tree (r ∷ q)))
+
+-- ---- the entries
+
+pub entries_of-place : (t : Tree) (s : Step) (p : Path) (sub : Tree) → is_empty sub ≡ false
+    → (entries_of (place t (s ∷ p) sub)).entries ≡ E.put bytes_cmp s (place (subtree t (s ∷ [])) p sub) (entries_of t).entries
+entries_of-place t s p sub some =
+    ap (λ (m : Map bytes_cmp Tree). m.entries) (same_map nat_list_cmp_total step_antisymmetric (entries_of (place t (s ∷ p) sub)) (insert (entries_of t) s (place (subtree t (s ∷ [])) p sub)) alike)
+    ∙ entries-insert nat_list_cmp_total (entries_of t) s (place (subtree t (s ∷ [])) p sub)
+  where
+    at : (r : Step) (x : Bool) → same_bytes r s ≡ x → cond (is_empty (subtree (place t (s ∷ p) sub) (r ∷ []))) None (Some (subtree (place t (s ∷ p) sub) (r ∷ []))) ≡ cond x (Some (place (subtree t (s ∷ [])) p sub)) (get (entries_of t) r)
+    at r true e =
+        ap (λ (k : Step). cond (is_empty (subtree (place t (s ∷ p) sub) (k ∷ []))) None (Some (subtree (place t (s ∷ p) sub) (k ∷ [])))) (same_step r s e)
+        ∙ ap (λ (x : Tree). cond (is_empty x) None (Some x)) (subtree_place t s p sub)
+        ∙ ap (λ y. cond y None (Some (place (subtree t (s ∷ [])) p sub))) (place_not_empty (subtree t (s ∷ [])) p sub some)
+    at r false e = ap (λ (x : Tree). cond (is_empty x) None (Some x)) (subtree_apart t s r p sub e) ∙ sym (get-entries_of t r)
+
+    alike : (r : Step) → get (entries_of (place t (s ∷ p) sub)) r ≡ get (insert (entries_of t) s (place (subtree t (s ∷ [])) p sub)) r
+    alike r = get-entries_of (place t (s ∷ p) sub) r ∙ at r (same_bytes r s) refl ∙ sym (get-insert nat_list_cmp_total (entries_of t) s (place (subtree t (s ∷ [])) p sub) r)
+
+-- ---- at all paths
+
+pub subtree_place_same : (t : Tree) (s : Step) (p q : Path) (sub : Tree) → subtree (place t (s ∷ p) sub) (s ∷ q) ≡ subtree (place (subtree t (s ∷ [])) p sub) q
+subtree_place_same t s p q sub = subtree_cons (place t (s ∷ p) sub) s q ∙ ap (λ (x : Tree). subtree x q) (subtree_place t s p sub)
+
+pub subtree_place_apart : (t : Tree) (s r : Step) (p q : Path) (sub : Tree) → same_bytes r s ≡ false → subtree (place t (s ∷ p) sub) (r ∷ q) ≡ subtree t (r ∷ q)
+subtree_place_apart t s r p q sub e = subtree_cons (place t (s ∷ p) sub) r q ∙ ap (λ (x : Tree). subtree x q) (subtree_apart t s r p sub e) ∙ sym (subtree_cons t r q)
+
+-- what is placed, from any of its paths on
+pub subtree_placed : (t : Tree) (path rest : Path) (sub : Tree) → subtree (place t path sub) (path ++ rest) ≡ subtree sub rest
+subtree_placed t [] rest sub = ap (λ (x : Tree). subtree x rest) (place_root t sub)
+subtree_placed t (s ∷ path) rest sub = subtree_place_same t s path (path ++ rest) sub ∙ subtree_placed (subtree t (s ∷ [])) path rest sub
+
+-- what the path does not touch stays
+pub subtree_unplaced : (t : Tree) (p q : Path) (sub : Tree) → is_related p q ≡ false → subtree (place t p sub) q ≡ subtree t q
+subtree_unplaced t [] q sub e = absurd (false≢true (sym e))
+subtree_unplaced t (s ∷ p) [] sub e = absurd (false≢true (sym e))
+subtree_unplaced t (s ∷ p) (r ∷ q) sub e =
+    elim (same_bytes r s) as (λ x. same_bytes r s ≡ x → subtree (place t (s ∷ p) sub) (r ∷ q) ≡ subtree t (r ∷ q)) [
+      | true ↦ λ x.
+          let same : r ≡ s = same_step r s x in
+          let inner : is_related p q ≡ false = sym (related_cons s p q) ∙ ap (λ (k : Step). is_related (s ∷ p) (k ∷ q)) (sym same) ∙ e in
+          ap (λ (k : Step). subtree (place t (s ∷ p) sub) (k ∷ q)) same ∙ subtree_place_same t s p q sub ∙ subtree_unplaced (subtree t (s ∷ [])) p q sub inner
+          ∙ sym (subtree_cons t s q) ∙ ap (λ (k : Step). subtree t (k ∷ q)) (sym same)
+      | false ↦ λ x. subtree_place_apart t s r p q sub x
+    ] refl
+
+-- ---- by what stands at the first step
+
+pub place_some : (t : Tree) (s : Step) (p : Path) (sub inner : Tree) → is_empty sub ≡ false → find bytes_cmp s (entries_of t).entries ≡ Some inner
+    → (entries_of (place t (s ∷ p) sub)).entries ≡ E.put bytes_cmp s (place inner p sub) (entries_of t).entries
+place_some t s p sub inner some found = entries_of-place t s p sub some ∙ ap (λ (x : Tree). E.put bytes_cmp s (place x p sub) (entries_of t).entries) (sym (entry_found t s inner found).is)
+
+pub place_none : (t : Tree) (s : Step) (p : Path) (sub : Tree) → is_empty sub ≡ false → find bytes_cmp s (entries_of t).entries ≡ None
+    → (entries_of (place t (s ∷ p) sub)).entries ≡ E.put bytes_cmp s (place no_tree p sub) (entries_of t).entries
+place_none t s p sub some lost = entries_of-place t s p sub some ∙ ap (λ (x : Tree). E.put bytes_cmp s (place x p sub) (entries_of t).entries) (empty_is (subtree t (s ∷ [])) (entry_lost t s lost))

@@ -1,0 +1,5 @@
+use Rattle.std.proofs.Common.{length}
+use Rattle.ip_tree.proofs.place.+chain.Given as goal
+
+abbrev pub decreases-chain : goal.decreases-chain
+decreases-chain l = length l.steps.now

@@ -1,0 +1,15 @@
+pub mod Node
+pub mod Meaning
+pub mod Known
+pub mod Shown
+pub mod Place
+pub mod Leaves
+pub mod Heights
+pub mod Reads
+pub mod Narrow
+pub mod Edits
+pub mod Placing
+pub mod Finding
+pub mod TreeView
+pub mod Removal
+pub mod Listing

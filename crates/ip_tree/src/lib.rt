@@ -1,0 +1,42 @@
+//! Trees that are read lazily: an edit loads the directories on its path and no others, and a read loads none. Above this crate nobody
+//! speaks of a record of a tree, but of its view: the map, the least number, and the parts that records are known to spell.
+#![tactic(auto)]
+
+ghost use Rattle.std.specs.Prelude.{◌≡◌, ◌<◌, ℕ, Option, Some};
+ghost use Rattle.ip_spec.specs.Batch.{KnownStand};
+ghost use Rattle.ip_spec.specs.View.{View};
+ghost use Rattle.ip_spec.specs.declared.record.Record.{Record};
+ghost use Rattle.ip_tree.specs.TreeView.{IsView};
+ghost use Rattle.ip_tree.specs.declared.tree.Tree.{Tree};
+
+mod copy;
+mod entries;
+mod fetch;
+mod graft;
+#[cfg(test)]
+mod graft_tests;
+mod height;
+mod list;
+mod load;
+mod look;
+mod node;
+mod part;
+mod place;
+mod read;
+mod remove;
+#[cfg(test)]
+mod remove_tests;
+mod set;
+#[cfg(test)]
+mod tests;
+mod tree;
+
+pub use node::{Directory, Entry, Node, Stored};
+pub use tree::{Root, Tree, TreeFault};
+
+/// What a tree knows of records is so: where all of them lie below an end, the parts that its view knows are records that spell them. So a
+/// batch of the parts that it doesn't know, written from the end on, spells the tree.
+pub fn known_parts()
+    ensures { (records : ℕ → Option Record) (tree : Tree) (v : View) (end : ℕ) → IsView records tree v → ((at : ℕ) (r : Record) → records at ≡ Some r → at < end)
+        → KnownStand records v end }
+{}
