@@ -1,0 +1,13 @@
+mod Bounds
+mod Rising
+mod Rests
+mod Laying
+mod Rows
+mod Split
+mod News
+mod Tall
+mod Agreeing
+mod Placed
+mod Viewed
+mod Limits
+mod Saved

@@ -1,0 +1,144 @@
+-- The bytes of a batch are those of the records that the definition has.
+use Rattle.std.proofs.Common.{◌≡◌, ℕ, ◌+◌, ◌≤◌, [], ◌∷◌, ◌++◌, refl, sym, ap, subst, ◌∙◌, Option, Some, map, length, arith, append_assoc}
+use Rattle.std.specs.Prelude.{Result, Ok, Err, MatchResult}
+use Rattle.std.specs.Result.{IsErrAnd}
+use Rattle.std.specs.List.{AllByRecursion}
+use Rattle.std.proofs.lemmas.List.{append-nil, length-append}
+use Rattle.std.proofs.lemmas.List.Elements.{All-from_recursion}
+use Rattle.sha2.specs.Sha256.{sha256}
+use Rattle.ip_spec.specs.Path.{Bytes, Path}
+use Rattle.ip_spec.specs.declared.record.Record.{Record}
+use Rattle.ip_spec.specs.declared.record.Ref.{Ref}
+use Rattle.ip_spec.specs.Record.{Hash, Fits, name_of, spelling, spelling_of, hashed_commit}
+use Rattle.ip_spec.specs.Shape.{root_name}
+use Rattle.ip_spec.specs.TreeAt.{Records}
+use Rattle.ip_spec.specs.View.{View}
+use Rattle.ip_spec.specs.Batch as Batches
+use Rattle.ip_spec.specs.Batch.{Spelled, sources, placed, new_contents, contents_record, root_spelled, tree_batch, batch, batch_root, batch_end, batch_name, commit_of, branch_of}
+use Rattle.ip_tree.specs.Node.{Root, directory, unread, loaded}
+use Rattle.ip_tree.specs.TreeView.{IsView, shown_root}
+use Rattle.ip_tree.specs.declared.tree.Tree as code
+use Rattle.ip_save.specs.declared.batch.Batch.{Batch}
+use Rattle.ip_save.specs.Batches.{IsBatch, commit_record, greatest_end}
+use Rattle.ip_save.specs.Laid.{size_of, fresh_root, contents_bytes, lay_root, Laid, bytes_of, AllFit, IsShort, IsLaidRoot}
+use Rattle.ip_save.proofs.Laying.{bytes_append, bytes_none, fit_append, lay_next}
+use Rattle.ip_save.proofs.News.{news_root, fresh_values_root}
+use Rattle.ip_save.proofs.Placed.{contents_records, records_are, records_spell, records_fit, bytes_length}
+use Rattle.ip_save.proofs.Viewed.{each_new, placed_ones, root_is, root_named}
+
+root_next : (root : Root) (from at : ℕ) → (lay_root root from at).next ≡ at + length (bytes_of (lay_root root from at).records)
+root_next (unread r) from at = let e = ap length bytes_none in omega (arith, e)
+root_next (loaded k ns) from at = lay_next (directory k ns) from at
+
+same_some : (x y : Hash) → Some x ≡ Some y → x ≡ y
+same_some x y e = cc
+
+two_spelled : (a b : ℕ) (r s : Record) → bytes_of ((a, r) ∷ (b, s) ∷ []) ≡ spelling r ++ spelling s
+unfolding spelling_of
+two_spelled a b r s = ap (λ (x : Bytes). spelling r ++ x) (append-nil (spelling s))
+
+module _ (records : ℕ → Option Record) (tree : code.Tree) (v : View) (is : IsView records tree v) (f : Batches.CommitFields) (end : ℕ)
+    (empty contents directories commits all : Bytes) (r : Ref) (name : Hash)
+    (none : empty ≡ []) (put_contents : contents ≡ empty ++ contents_bytes (fresh_root (shown_root tree.root))) (short : AllByRecursion IsShort (fresh_root (shown_root tree.root)))
+    (laid : IsLaidRoot end (shown_root tree.root) contents directories r)
+    (put_commit : commits ≡ directories ++ spelling (commit_record f r)) (commit_name : name_of (commit_record f r) ≡ Some name) (commit_fits : Fits 1 (commit_record f r))
+    (put_branch : all ≡ commits ++ spelling (Record.BranchSet f.number f.branch)) (branch_fits : Fits 1 (Record.BranchSet f.number f.branch)) where
+  abbrev root : Root
+  root = shown_root tree.root
+
+  abbrev laid_root : Laid
+  laid_root = lay_root root end (end + size_of (fresh_root root))
+
+  contents_are : contents ≡ contents_bytes (fresh_root root)
+  contents_are = put_contents ∙ ap (λ (b : Bytes). b ++ contents_bytes (fresh_root root)) none
+
+  contents_long : length contents ≡ size_of (fresh_root root)
+  contents_long = ap length contents_are ∙ bytes_length (fresh_root root)
+
+  laid_is : lay_root root end (end + length contents) ≡ laid_root
+  laid_is = ap (λ n. lay_root root end (end + n)) contents_long
+
+  directories_are : directories ≡ contents_bytes (fresh_root root) ++ bytes_of laid_root.records
+  directories_are = laid.bytes ∙ ap (λ (b : Bytes). b ++ bytes_of (lay_root root end (end + length contents)).records) contents_are ∙ ap (λ (x : Laid). contents_bytes (fresh_root root) ++ bytes_of x.records) laid_is
+
+  next_is : (root_spelled v (sources v) end).next ≡ end + length directories
+  next_is =
+      let s = ap (λ (x : Spelled). x.next) (root_is records tree v is end) in
+      let n = root_next root end (end + size_of (fresh_root root)) in
+      let d = ap length directories_are in
+      let j = length-append (contents_bytes (fresh_root root)) (bytes_of laid_root.records) in
+      let c = bytes_length (fresh_root root) in
+      omega (arith, s, n, d, j, c)
+
+  root_ref : r ≡ batch_root v (sources v) end
+  root_ref =
+      laid.stands ∙ ap (λ (x : Laid). x.stands.reference) laid_is ∙ root_named records tree v is end
+      ∙ ap (λ (s : Spelled). record { at = s.root; name = root_name v.map; kind = 2 }) (sym (root_is records tree v is end))
+
+  commit_is : commit_of v (sources v) f end ≡ commit_record f r
+  commit_is = ap (commit_record f) (sym root_ref)
+
+  abbrev ones : Records
+  ones = contents_records end (news_root root)
+
+  tree_is : tree_batch v (sources v) end ≡ ones ++ laid_root.records
+  unfolding tree_batch
+  tree_is =
+      ap (λ l. map (λ (x : Path × ℕ). (x.1, contents_record v x.0)) l ++ (root_spelled v (sources v) end).records) (placed_ones records tree v is end)
+      ∙ ap (λ (l : Records). l ++ (root_spelled v (sources v) end).records) (records_are v (news_root root) end (each_new records tree v is))
+      ∙ ap (λ (s : Spelled). ones ++ s.records) (root_is records tree v is end)
+
+  tree_bytes : bytes_of (tree_batch v (sources v) end) ≡ directories
+  tree_bytes =
+      ap bytes_of tree_is ∙ bytes_append ones laid_root.records
+      ∙ ap (λ (b : Bytes). b ++ bytes_of laid_root.records) (records_spell (news_root root) end ∙ ap contents_bytes (fresh_values_root root))
+      ∙ sym directories_are
+
+  abbrev last : Records
+  last = ((root_spelled v (sources v) end).next, commit_of v (sources v) f end) ∷ ((root_spelled v (sources v) end).next + length (spelling (commit_of v (sources v) f end)), branch_of f) ∷ []
+
+  batch_is : batch v (sources v) f end ≡ tree_batch v (sources v) end ++ last
+  unfolding batch
+  batch_is = refl
+
+  batch_bytes : bytes_of (batch v (sources v) f end) ≡ all
+  batch_bytes =
+      ap bytes_of batch_is ∙ bytes_append (tree_batch v (sources v) end) last
+      ∙ ap (λ (b : Bytes). b ++ bytes_of last) tree_bytes
+      ∙ ap (λ (b : Bytes). directories ++ b) (two_spelled (root_spelled v (sources v) end).next ((root_spelled v (sources v) end).next + length (spelling (commit_of v (sources v) f end))) (commit_of v (sources v) f end) (branch_of f))
+      ∙ ap (λ (c : Record). directories ++ (spelling c ++ spelling (branch_of f))) commit_is
+      ∙ sym (append_assoc directories (spelling (commit_record f r)) (spelling (branch_of f)))
+      ∙ ap (λ (b : Bytes). b ++ spelling (branch_of f)) (sym put_commit) ∙ sym put_branch
+
+  pub end_is : batch_end v (sources v) f end ≡ end + length all
+  unfolding batch_end
+  end_is =
+      let c = ap (λ (x : Record). length (spelling x)) commit_is in
+      let p = ap length put_commit in
+      let q = ap length put_branch in
+      omega (arith, next_is, c, p, q, length-append directories (spelling (commit_record f r)), length-append commits (spelling (Record.BranchSet f.number f.branch)))
+
+  batch_fit : AllFit (batch v (sources v) f end)
+  batch_fit =
+      subst AllFit (sym batch_is)
+      (fit_append (tree_batch v (sources v) end) last
+      (subst AllFit (sym tree_is)
+      (fit_append ones laid_root.records (records_fit (news_root root) end (subst (AllByRecursion IsShort) (sym (fresh_values_root root)) short)) (subst (λ (x : Laid). AllFit x.records) laid_is laid.fits)))
+      (subst (Fits 1) (sym commit_is) commit_fits, (branch_fits, tt)))
+
+  pub saved : (b : Batch) → b.bytes.items ≡ all → b.root ≡ r → b.name ≡ name → b.commit_at ≡ end + length directories → b.end ≡ end + length all → b.end ≤ greatest_end → IsBatch v f end b
+  saved b bytes root_at named commit_at ends room = record {
+    bytes = bytes ∙ sym batch_bytes;
+    root = root_at ∙ root_ref;
+    name = named ∙ same_some _ _ (sym commit_name) ∙ ap (λ (x : Ref). sha256 (hashed_commit x.name (map (λ p. p.name) f.parents) f.info)) root_ref;
+    commit_at = commit_at ∙ sym next_is;
+    ends = ends ∙ sym end_is;
+    room = room;
+    long = ends ∙ ap (λ (x : Bytes). end + length x) (sym bytes);
+    fits = All-from_recursion (λ x. Fits 1 x.1) (batch v (sources v) f end) batch_fit;
+  }
+
+-- a fault that is passed on
+pub passed_on : {A E : Type 0} (r : Result A E) (f : E) (Q : A → Type 0) (P : E → Type 0) → IsErrAnd r (λ e. e ≡ f) → P f → MatchResult r Q P
+passed_on (Ok x) f Q P is p = absurd is
+passed_on (Err e) f Q P is p = subst P (sym is) p

@@ -1,0 +1,137 @@
+// What a commit appends.
+ghost use Rattle.std.specs.Prelude.{◌≡◌, ◌≤◌, ◌^◌, ℕ, Option, MatchResult};
+ghost use Rattle.ip_save.specs.Batches.{AreFields, HasShortContents, IsBatch, IsSaveFault, fields_told};
+ghost use Rattle.ip_spec.specs.declared.record.Record.{Record};
+ghost use Rattle.ip_spec.specs.View.{View};
+ghost use Rattle.ip_tree.specs.TreeView.{IsView};
+
+use crate::fresh::put_all_fresh;
+use crate::lay::put_root;
+use crate::measure::room_for;
+use crate::records::{put_branch, put_commit};
+use ip_base::{Blob, Hash, Info, Limit, Memory, Number};
+use ip_spec::record::{Parents, Ref};
+use ip_tree::Tree;
+use std::alloc::{AllocError, Global};
+
+// Where records may end at most, in bytes.
+const GREATEST_END: u64 = 1 << 62;
+
+/// What a commit record and its branch record are made of, besides the tree.
+#[derive(Drop)]
+pub struct CommitFields {
+    pub number: Number,
+    pub parents: Parents,
+    pub info: Info,
+    pub branch: Blob,
+}
+
+/// Why there is no batch.
+#[derive(Clone, Copy, Debug, PartialEq, Eq)]
+pub enum SaveFault {
+    /// The records would pass the greatest end: space. Of a tree that breaks a limit of its own: contents, depth or entries.
+    Limit(Limit),
+    /// Want of memory. The call may be made again.
+    Memory,
+}
+
+impl From<Memory> for SaveFault {
+    ghost use Rattle.std.specs.Prelude.{◌≡◌};
+    ghost use Rattle.ip_save.specs.declared.batch.SaveFault.TheVariants as SaveFault;
+
+    ghost from_gives = { λ _ e. e ≡ SaveFault.Memory };
+
+    fn from(_: Memory) -> Self {
+        SaveFault::Memory
+    }
+}
+
+impl From<AllocError> for SaveFault {
+    ghost use Rattle.std.specs.Prelude.{◌≡◌};
+    ghost use Rattle.ip_save.specs.declared.batch.SaveFault.TheVariants as SaveFault;
+
+    ghost from_gives = { λ _ e. e ≡ SaveFault.Memory };
+
+    fn from(_: AllocError) -> Self {
+        SaveFault::Memory
+    }
+}
+
+/// The records that a commit appends, as bytes.
+#[derive(Drop)]
+pub struct Batch {
+    bytes: Vec<u8>,
+    root: Ref,
+    name: Hash,
+    commit_at: u64,
+    end: u64,
+}
+
+impl Batch {
+    /// The records that a commit of this tree appends at the offset `end`: those of the parts that no record is known to spell, new contents
+    /// first, then the commit and its branch. It reads nothing, and a record that the tree refers to is not looked at.
+    pub fn of(
+        alloc: Global,
+        tree: &Tree,
+        fields: &CommitFields,
+        end: u64,
+    ) -> Result<Batch, SaveFault>
+        requires fields { AreFields (fields_told fields.now) }
+        requires end { end ≤ 2 ^ 62 }
+        ensures made { (records : ℕ → Option Record) (v : View) → IsView records tree.now v → HasShortContents v.map
+            → MatchResult result (IsBatch v (fields_told fields.now) end) (IsSaveFault v (fields_told fields.now) end) }
+    {
+        let mut bytes = Vec::with_capacity(alloc, room_for(&tree.root, fields))?;
+        put_all_fresh(&tree.root, &mut bytes)?;
+        let root = put_root(alloc, &tree.root, end, &mut bytes)?;
+        let commit_at = end + bytes.len() as u64;
+        let name = put_commit(alloc, fields, &root, &mut bytes)?;
+        put_branch(alloc, fields, &mut bytes)?;
+        let last = end + bytes.len() as u64;
+        if last > GREATEST_END {
+            return Err(SaveFault::Limit(Limit::Space));
+        }
+        Ok(Batch {
+            bytes,
+            root,
+            name,
+            commit_at,
+            end: last,
+        })
+    }
+
+    /// The bytes of the records, one behind the other.
+    pub fn bytes(&self) -> &[u8]
+        ensures { result.now ≡ self.now.bytes.items }
+    {
+        &self.bytes
+    }
+
+    /// The root of the tree: a record of the batch, or one that was there already.
+    pub fn root(&self) -> Ref
+        ensures { result ≡ self.now.root }
+    {
+        self.root
+    }
+
+    /// The commit's name.
+    pub fn name(&self) -> Hash
+        ensures { result ≡ self.now.name }
+    {
+        self.name
+    }
+
+    /// The offset of the commit's record.
+    pub fn commit_at(&self) -> u64
+        ensures { result ≡ self.now.commit_at }
+    {
+        self.commit_at
+    }
+
+    /// The offset behind the last record.
+    pub fn end(&self) -> u64
+        ensures { result ≡ self.now.end }
+    {
+        self.end
+    }
+}

@@ -1,0 +1,68 @@
+// The records of contents that no record of the store holds.
+ghost use Rattle.std.specs.Prelude.{◌≡◌, ◌++◌, ◌≤◌, length, IfErr, OnOk};
+ghost use Rattle.std.specs.List.{AllByRecursion};
+ghost use Rattle.ip_save.specs.Laid.{fresh, fresh_root, contents_bytes, IsShort, IsLongFault, longest, longest_root};
+ghost use Rattle.ip_spec.specs.Record.{Fits, spelling};
+ghost use Rattle.ip_spec.specs.declared.record.Record.TheVariants as Record;
+ghost use Rattle.ip_tree.specs.Shown.{shown, shown_directory};
+ghost use Rattle.ip_tree.specs.TreeView.{shown_root};
+
+use crate::SaveFault;
+use ip_base::Limit;
+use ip_object::put_contents;
+use ip_tree::{Directory, Node, Root};
+
+/// The most bytes that contents may have.
+const CONTENTS_LIMIT: usize = 1048576;
+
+/// Puts the records of the new contents of a tree behind what is there, ascending by path.
+pub fn put_all_fresh(root: &Root, out: &mut Vec<u8>) -> Result<(), SaveFault>
+    ensures bytes { OnOk result (out.new.items ≡ out.old.items ++ contents_bytes (fresh_root (shown_root root.now))) }
+    ensures short { OnOk result (AllByRecursion IsShort (fresh_root (shown_root root.now))) }
+    ensures cause { IfErr result (IsLongFault (longest_root (shown_root root.now))) }
+{
+    match root {
+        Root::Stored(_) => Ok(()),
+        Root::Loaded(directory) => put_fresh_in(directory, out),
+    }
+}
+
+// Puts the records of the new contents below a directory, those of known directories included.
+#[cycle(fresh)]
+fn put_fresh_in(directory: &Directory, out: &mut Vec<u8>) -> Result<(), SaveFault>
+    ensures bytes { OnOk result (out.new.items ≡ out.old.items ++ contents_bytes (fresh (shown_directory directory.now))) }
+    ensures short { OnOk result (AllByRecursion IsShort (fresh (shown_directory directory.now))) }
+    ensures cause { IfErr result (IsLongFault (longest (shown_directory directory.now))) }
+{
+    for entry in &directory.entries {
+        put_fresh(&entry.node, out)?;
+    }
+    Ok(())
+}
+
+// Puts the records of the new contents at a node.
+#[cycle(fresh)]
+fn put_fresh(node: &Node, out: &mut Vec<u8>) -> Result<(), SaveFault>
+    ensures bytes { OnOk result (out.new.items ≡ out.old.items ++ contents_bytes (fresh (shown node.now))) }
+    ensures short { OnOk result (AllByRecursion IsShort (fresh (shown node.now))) }
+    ensures cause { IfErr result (IsLongFault (longest (shown node.now))) }
+{
+    match node {
+        Node::Stored(_) => Ok(()),
+        Node::Contents(bytes) => put_one(bytes.as_slice(), out),
+        Node::Directory(directory) => put_fresh_in(directory, out),
+    }
+}
+
+// Puts the record of contents.
+fn put_one(bytes: &[u8], out: &mut Vec<u8>) -> Result<(), SaveFault>
+    ensures bytes { OnOk result (out.new.items ≡ out.old.items ++ spelling (Record.Contents bytes.now)) }
+    ensures short { OnOk result (IsShort bytes.now) }
+    ensures cause { IfErr result (IsLongFault (length bytes.now)) }
+{
+    if bytes.len() > CONTENTS_LIMIT {
+        return Err(SaveFault::Limit(Limit::Contents));
+    }
+    put_contents(bytes, out)?;
+    Ok(())
+}

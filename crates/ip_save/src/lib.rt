@@ -1,0 +1,35 @@
+//! What a commit appends: the records of the parts of a tree that no record of the store spells yet, then the commit and its branch.
+#![tactic(auto)]
+
+ghost use Rattle.std.specs.Prelude.{◌≡◌, ◌<◌, ℕ, Option, Some};
+ghost use Rattle.ip_spec.specs.Batch.{CommitFields as Fields, sources, batch, batch_root, with_batch};
+ghost use Rattle.ip_spec.specs.TreeAt.{TreeAt};
+ghost use Rattle.ip_spec.specs.View.{View};
+ghost use Rattle.ip_spec.specs.declared.record.Record.{Record};
+ghost use Rattle.ip_tree.specs.TreeView.{IsView};
+ghost use Rattle.ip_tree.specs.declared.tree.Tree.{Tree};
+
+mod batch;
+mod fresh;
+mod lay;
+mod leaf;
+mod measure;
+mod records;
+
+pub use batch::{Batch, CommitFields, SaveFault};
+
+#[cfg(test)]
+mod tests;
+
+use ip_spec::batch_stands;
+use ip_tree::known_parts;
+
+/// A law, which does nothing when it is called: the records of a batch, together with those that were there and lie below it, spell the tree
+/// at the batch's root.
+pub fn saved_trees()
+    ensures { (records : ℕ → Option Record) (tree : Tree) (v : View) (f : Fields) (end : ℕ) → ((at : ℕ) (r : Record) → records at ≡ Some r → at < end) → IsView records tree v
+        → TreeAt (with_batch records (batch v (sources v) f end)) (batch_root v (sources v) end).at v.map }
+{
+    batch_stands();
+    known_parts();
+}
