@@ -2,7 +2,7 @@
 --     same_tables      a store with the same tables.      after_tables, after_lawful      the tables and the work after the commit
 --     can_step      what the durable step asks.      stands_old, stands_new      the images that it leaves
 --     made, cut, refused      the relation of a commit that was made, that a fault cut short, and that was refused
-use Rattle.std.proofs.Common.{◌≡◌, ◌≢◌, ℕ, ◌+◌, ◌-◌, ◌<◌, ◌≤◌, Bool, true, false, List, [], ◌∷◌, ◌++◌, length, Option, Some, None, sym, ◌∙◌, ap, subst, arith, length-append}
+use Rattle.std.proofs.Common.{◌≡◌, ◌≢◌, ℕ, ◌+◌, ◌-◌, ◌^◌, ◌<◌, ◌≤◌, Bool, true, false, List, [], ◌∷◌, ◌++◌, length, Option, Some, None, sym, ◌∙◌, ap, subst, arith, length-append}
 use Rattle.std.specs.Prelude.{Result, Ok, Err, All, AllPairs, IsTrue, IfSome, nat_le, nat_lt, ◌&&◌, cond}
 use Rattle.std.specs.List.{AllByRecursion}
 use Rattle.std.proofs.lemmas.List.{map-append}
@@ -26,12 +26,14 @@ use Rattle.ip_spec.specs.Record.{Hash, IsHash, spelling, spelling_of}
 use Rattle.ip_spec.specs.Repository.{Repository, Commit, next, is_retained}
 use Rattle.ip_spec.specs.TreeAt.{Records}
 use Rattle.ip_spec.specs.View.{View}
-use Rattle.ip_spec.specs.Batch.{Sources, CommitFields, tree_batch, batch}
+use Rattle.ip_spec.specs.Batch.{Sources, CommitFields, AreEndToEnd, sources, tree_batch, batch}
+use Rattle.ip_spec.proofs.BatchLaws.{batch_lies}
 use Rattle.ip_spec.specs.Step.{new_commit, with_commit, turned, Turned, IsMet}
 use Rattle.ip_image.specs.declared.slot.Slot.{Slot}
+use Rattle.ip_image.specs.declared.layout.Layout.{Layout}
 use Rattle.ip_image.specs.Slot.{IsSlot, slot_bytes}
 use Rattle.ip_image.specs.Standing.{StandsFor, AreRetained}
-use Rattle.ip_image.specs.Appending.{BeginsWith, front_of, HasLive, next_slot, bytes_of_records}
+use Rattle.ip_image.specs.Appending.{BeginsWith, front_of, HasLive, unread, fields_of, next_slot, bytes_of_records}
 use Rattle.ip_image.proofs.AppendingLaws.{stands_next}
 use Rattle.ip_control.specs.Live.{live_slot}
 use Rattle.ip_history.specs.History.{History, HasParentsFirst}
@@ -41,11 +43,14 @@ use Rattle.ip_store.specs.declared.committing.Plan.{Plan}
 use Rattle.ip_store.specs.declared.committing.StoreFault.{StoreFault}
 use Rattle.ip_store.specs.declared.store.Store.{Store}
 use Rattle.ip_store.specs.declared.work.Work.{Work}
-use Rattle.ip_store.specs.Commits.{IsPlan, IsRefusal, Commits, Answers, repository_after, fault_reply, met_of, conditions_of, met_nothing, end_of}
+use Rattle.ip_store.specs.Commits.{IsPlan, IsRefusal, Commits, Answers, repository_after, fault_reply, met_of, conditions_of, met_nothing, records_of, end_of}
+use Rattle.ip_space.specs.SpaceView.{grown}
+use Rattle.ip_store.specs.Placed.{IsSpaceOf}
 use Rattle.ip_store.specs.Publishing.{StandsAs, CanStep, MakesStep}
-use Rattle.ip_store.specs.Store.{IsOf, Holds, IsLawful, session}
+use Rattle.ip_store.specs.Store.{IsOf, Holds, SameTables, IsLawful, session}
 use Rattle.ip_store.proofs.Secured.{in_image, held_has}
-use Rattle.ip_store.proofs.Stepping.{same_tables, may_step, changed, cut_short}
+use Rattle.ip_store.proofs.Listed.{within_fits}
+use Rattle.ip_store.proofs.Stepping.{same_tables, space_same, space_next, may_step, changed, cut_short}
 use Rattle.ip_store.proofs.Hashes.{sha_is_hash}
 use Rattle.ip_store.proofs.Histories.{history_committed}
 use Rattle.ip_store.proofs.Machine.{met_done}
@@ -121,8 +126,9 @@ module _ (r : Repository) (work : Work) (branch : Bytes) (info : Info) (store : 
       each name = subst (λ o. IfSome o (λ n. (store.slot.floor ≤ n) × (n < store.slot.next + 1))) (sym (get-insert nat_list_cmp_total r.branches branch (next r) name)) (by_test (eq_by_cmp bytes_cmp name branch) (get r.branches name) (of.retained.each name))
 
   pub after_tables : (store' : Store) → store'.slot ≡ plan.slot → store'.index ≡ 1 - store.index → store'.names ≡ store.names ++ plan.batch.name ∷ [] → store'.branches ≡ insert store.branches plan.branch plan.number
-      → MayEnter store.history work.parents → store'.history ≡ with_parents store.history work.parents → IsOf store' after
-  after_tables store' slot index names branches enters history = record {
+      → MayEnter store.history work.parents → store'.history ≡ with_parents store.history work.parents
+      → store'.places.items ≡ store.places.items ++ plan.batch.commit_at ∷ [] → store'.space ≡ grown store.space plan.slot.end → IsOf store' after
+  after_tables store' slot index names branches enters history places space = record {
     slot = subst IsSlot (sym slot) slot_after;
     index = subst (λ (i : ℕ). i < 2) (sym index) (omega arith);
     floor = of.floor ∙ ap (λ (s : Slot). s.floor) (sym is.slot) ∙ ap (λ (s : Slot). s.floor) (sym slot);
@@ -133,6 +139,9 @@ module _ (r : Repository) (work : Work) (branch : Bytes) (info : Info) (store : 
     retained = subst (λ (s : Slot). AreRetained s after.branches) (sym slot) retained_after;
     history = history_committed r work.tree work.parents info branch ∙ ap (λ (h : History). with_parents h work.parents) of.history ∙ sym history;
     parents_first = subst HasParentsFirst (sym history) (first_push store.history of.parents_first work.parents enters.1);
+    space = space_same plan.slot store'.slot (grown store.space plan.slot.end) store'.space slot space
+        (subst (λ (s : Slot). IsSpaceOf s (grown store.space s.end)) (sym is.slot) (space_next store.slot end store.space of.space));
+    placed = ap length places ∙ (let was = of.placed in let e : length (store.places.items ++ plan.batch.commit_at ∷ []) ≡ length (r.commits ++ commit ∷ []) = omega (arith, was, length-append store.places.items (plan.batch.commit_at ∷ []), length-append r.commits (commit ∷ [])) in e);
   }
 
   next_retained : IsTrue (is_retained after (next r))
@@ -147,6 +156,17 @@ module _ (r : Repository) (work : Work) (branch : Bytes) (info : Info) (store : 
     distinct = subst (AllPairs (λ m n. m ≢ n)) (sym parents) (λ i j d low high. absurd (omega (arith, low, high)));
     few = subst (λ (ns : List ℕ). length ns ≤ 16) (sym parents) (omega arith);
   }
+
+  -- the space goes on as far
+  pub further : store.space.layout.end ≤ plan.slot.end
+  further =
+      let was = ap (λ (l : Layout). l.end) of.space.layout in
+      let now = ap (λ (s : Slot). s.end) is.slot in
+      let more = grows in
+      omega (arith, was, now, more)
+
+  pub inside : plan.slot.end ≤ 2 ^ 62
+  inside = subst (λ (s : Slot). s.end ≤ 2 ^ 62) (sym is.slot) is.ends
 
   -- ---- files
 
@@ -169,9 +189,14 @@ module _ (r : Repository) (work : Work) (branch : Bytes) (info : Info) (store : 
         (subst (λ (s : Slot). HasLive s image) is.slot (in_image (1 - store.index) plan.slot image slot_after live))
         (subst (λ bytes. BeginsWith (front_of store.slot.end a.held ++ bytes) (image (Chunk 0))) is.bytes begins))
 
-    pub made : (b : Told) (store' : Store) → store'.slot ≡ plan.slot → store'.index ≡ 1 - store.index → IsOf store' after → (name : Hash) → MakesStep store.slot.end plan.batch.bytes.items (1 - store.index) plan.slot (Ok tt) a b
+    pub made : (b : Told) (store' : Store) → store'.slot ≡ plan.slot → store'.index ≡ 1 - store.index → IsOf store' after
+        → store'.places.items ≡ store.places.items ++ plan.batch.commit_at ∷ [] → (name : Hash) → MakesStep store.slot.end plan.batch.bytes.items (1 - store.index) plan.slot (Ok tt) a b
         → Commits r work branch info (Ok name) store' a b
-    made b store' slot index tables name step = changed r (repository_after r work branch info) store plan.slot plan.batch.bytes.items of slot_after newer ends a held stands_new name b store' slot index (subst (IsOf store') (sym after_is) tables) step
+    made b store' slot index tables places name step =
+        changed r (repository_after r work branch info) store plan.slot plan.batch.bytes.items of slot_after newer ends a held stands_new name b store' slot index (subst (IsOf store') (sym after_is) tables)
+        (records_of r work branch info store) (within_fits store.slot of.slot (records_of r work branch info store) is.within)
+        (subst (λ (n : ℕ). AreEndToEnd store.slot.end (records_of r work branch info store) n) (ap (λ (s : Slot). s.end) (sym is.slot)) (batch_lies (unread work.tree) (sources (unread work.tree)) (fields_of r work.parents info branch) store.slot.end))
+        is.bytes (places ∙ ap (λ (ps : List ℕ). store.places.items ++ ps) (sym is.place)) step
 
     -- a fault of the ground cut it short
     pub cut : (b : Told) (store' : Store) (res : Result (Unit {0}) GroundFault) → MakesStep store.slot.end plan.batch.bytes.items (1 - store.index) plan.slot res a b → Commits r work branch info (Err StoreFault.Ground) store' a b
@@ -207,7 +232,7 @@ answers_made r work work' branch info store store' plan name none is named work_
 
 -- ---- the same store, with what was met
 
-pub same_answers : (store store' : Store) → store'.slot ≡ store.slot → store'.index ≡ store.index → store'.names ≡ store.names → store'.branches ≡ store.branches → store'.history ≡ store.history
+pub same_answers : (store store' : Store) → SameTables store store'
     → (s : State) (command : Command) (met : Met) (work : Work) (o : Option Reply) → IfSome o (λ reply. Answers s command met reply store work) → IfSome o (λ reply. Answers s command met reply store' work)
-same_answers store store' slot index names branches history s command met work None p = tt
-same_answers store store' slot index names branches history s command met work (Some reply) p = record { after = p.after; is_met = p.is_met; turn = p.turn; tables = same_tables store store' p.after slot index names branches history p.tables; lawful = p.lawful }
+same_answers store store' same s command met work None p = tt
+same_answers store store' same s command met work (Some reply) p = record { after = p.after; is_met = p.is_met; turn = p.turn; tables = same_tables store store' same p.after p.tables; lawful = p.lawful }

@@ -24,7 +24,7 @@ use Rattle.ip_store.specs.declared.store.Store.{Store}
 use Rattle.ip_store.specs.declared.work.Work.{Work}
 use Rattle.ip_store.specs.Commits.{Answers, conditions_of, met_nothing, met_of, met_by, short_of, fault_reply, refusal}
 use Rattle.ip_store.specs.Naming.{branch_reply, AnswersSet, AnswersRemove, Renames, without_branch}
-use Rattle.ip_store.specs.Store.{IsOf, IsLawful, session}
+use Rattle.ip_store.specs.Store.{IsOf, IsLawful, session, SameTables}
 use Rattle.ip_store.proofs.Keyed.{absent_stays}
 use Rattle.ip_store.proofs.Planning.{room_after}
 use Rattle.ip_store.proofs.Stepping.{same_tables}
@@ -100,6 +100,7 @@ module _ (r : Repository) (work : Work) (command : Command) (may : MayRefuse com
     answers_fault (StoreFault.Limit limit) is of lawful = record { after = r; is_met = short limit (short_so limit); turn = turn_is (met_of (StoreFault.Limit limit)) (Err (Reply.Limit limit)) refl is; tables = of; lawful = lawful }
     answers_fault StoreFault.Memory is of lawful = answers_memory of lawful
     answers_fault StoreFault.Ground is of lawful = tt
+    answers_fault (StoreFault.Damaged at names) is of lawful = tt
 
     pub answers_done : (reply : Reply) (after : Repository) → outcome s command (conditions_of met_nothing) ≡ Ok (reply, session after work) → IsOf store after → IsLawful after work → Answers s command met_nothing reply store work
     answers_done reply after is of lawful = record { after = after; is_met = plain reply; turn = turn_is met_nothing (Ok (reply, session after work)) refl is; tables = of; lawful = lawful }
@@ -147,6 +148,7 @@ module _ (r : Repository) (name : Bytes) (number : ℕ) where
   set_answers store (Err (StoreFault.Limit _)) room of = absurd of
   set_answers store (Err (StoreFault.HeadMoved h)) room of = absurd of
   set_answers store (Err (StoreFault.Existing h)) room of = absurd of
+  set_answers store (Err (StoreFault.Damaged at names)) room of = absurd of
 
   -- ---- its record
 
@@ -211,6 +213,7 @@ module _ (r : Repository) (name : Bytes) where
       answers_fault r work (Command.BranchRm name) tt store (StoreFault.Limit Limit.Sequence) (remove_outcome work (met_of (StoreFault.Limit Limit.Sequence)) ∙ ap (λ o. present o (Reply.NoBranch name) >> gone work (met_of (StoreFault.Limit Limit.Sequence))) is) of lawful
   remove_cut store n StoreFault.Memory is of = remove_memory store of
   remove_cut store n StoreFault.Ground is of = tt
+  remove_cut store n (StoreFault.Damaged at names) is of = absurd of
   remove_cut store n (StoreFault.Limit _) is of = absurd of
   remove_cut store n (StoreFault.HeadMoved h) is of = absurd of
   remove_cut store n (StoreFault.Existing h) is of = absurd of
@@ -226,9 +229,9 @@ module _ (r : Repository) (name : Bytes) where
 
 -- ---- the same store, with what was met
 
-module _ (store store' : Store) (slot : store'.slot ≡ store.slot) (index : store'.index ≡ store.index) (names : store'.names ≡ store.names) (branches : store'.branches ≡ store.branches) (history : store'.history ≡ store.history) (r : Repository) (name : Bytes) where
+module _ (store store' : Store) (same : SameTables store store') (r : Repository) (name : Bytes) where
   same_answer : (s : State) (command : Command) (met : Met) (reply : Reply) (work : Work) → Answers s command met reply store work → Answers s command met reply store' work
-  same_answer s command met reply work p = record { after = p.after; is_met = p.is_met; turn = p.turn; tables = same_tables store store' p.after slot index names branches history p.tables; lawful = p.lawful }
+  same_answer s command met reply work p = record { after = p.after; is_met = p.is_met; turn = p.turn; tables = same_tables store store' same p.after p.tables; lawful = p.lawful }
 
   pub same_set : (number : ℕ) (met : Met) (o : Option Reply) → IfSome o (AnswersSet r name number met store) → IfSome o (AnswersSet r name number met store')
   same_set number met None all = tt

@@ -92,12 +92,8 @@ module _ (ys : List (Bytes × Bytes)) (sorted : T (is_sorted bytes_cmp ys)) (few
         fields = record { count = omega (arith, count, few); each = All-from_recursion IsLeafEntry (entries_at end ys) each_leaf; rising = rising_steps ys end ∙ true_of _ sorted };
       }
 
-  kinds : (zs : List (Bytes × Bytes)) (at : ℕ) → AllByRecursion (λ (e : LeafEntry). e.kind ≡ 1) (entries_at at zs)
-  kinds [] at = tt
-  kinds (z ∷ zs) at = (refl, kinds zs (at + length (spelling (Record.Contents z.1))))
-
   pub leaf_served : IsServedKind (Record.Leaf (entries_at end ys))
-  leaf_served = (omega (arith, length_entries ys end, few), All-from_recursion (λ (e : LeafEntry). e.kind ≡ 1) (entries_at end ys) (kinds ys end))
+  leaf_served = omega (arith, length_entries ys end, few)
 
   pub place_low : (n : ℕ) → n ≡ end + length (contents_bytes ys) → n < 2 ^ 64
   place_low n is = omega (arith, is, contents_room ys each, few, low)

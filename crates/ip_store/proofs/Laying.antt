@@ -1,5 +1,6 @@
 -- The batch of a flat tree, written out by its list of steps and contents.
---     batch_is, end_is      its records and where they end.      bytes_are      the bytes of its records
+--     batch_is, end_is      its records and where they end.      places_are      the place of its commit's record
+--          bytes_are      the bytes of its records
 --     root_name_is      the name of its root is that of its leaf
 use Rattle.std.proofs.Common.{◌≡◌, ℕ, suc, ◌+◌, ◌≤◌, Bool, true, false, cond, T, List, [], ◌∷◌, ◌++◌, map, length, flat_map, Option, Some, refl, sym, ◌∙◌, ap, subst, arith, append_assoc}
 use Rattle.std.specs.Prelude.{◌&&◌, ◌||◌, if◌then◌else◌, filter, is_some, unwrap_or, nat_le}
@@ -11,6 +12,7 @@ use Rattle.std.specs.declared.cmp.Ordering.{Ordering}
 use Rattle.std.specs.declared.cmp.Ordering.TheVariants.{Less, Equal, Greater}
 use Rattle.std.proofs.lemmas.Bool.Decides.{nat_tests}
 use Rattle.std.proofs.lemmas.List.{append-nil, length-append}
+use Rattle.std.proofs.lemmas.List.Elements.{filter_map-append}
 use Rattle.sha2.specs.Sha256.{sha256}
 use Rattle.ip_spec.specs.Map.{get}
 use Rattle.ip_spec.specs.Path.{Bytes, Step, Path, bytes_cmp, same_bytes, same_path}
@@ -26,6 +28,7 @@ use Rattle.ip_spec.proofs.Subtrees.{same_itself, same_apart, get-contents}
 use Rattle.ip_spec.proofs.Naming.{Member, here, there, member_found, root_name-entries}
 use Rattle.ip_image.specs.Appending.{unread, batch_of, batch_end_of, bytes_of_records}
 use Rattle.ip_store.specs.Laid.{contents_bytes, entry_at, entries_at, commit_record}
+use Rattle.ip_store.specs.Placed.{place_of, places_in}
 use Rattle.ip_store.proofs.Flat.{Entries, flat, flat_entries, get-flat, with_sub, sub_entries}
 
 abbrev size : Bytes → ℕ
@@ -260,6 +263,10 @@ stop_is : (at : ℕ) (ys : Entries) → contents_stop at ys ≡ at + length (con
 stop_is at [] = omega arith
 stop_is at (y ∷ ys) = let rest = stop_is (at + size y.1) ys in omega (arith, rest, length-append (spelling (Record.Contents y.1)) (contents_bytes ys))
 
+no_places : (at : ℕ) (ys : Entries) → places_in (contents_records at ys) ≡ []
+no_places at [] = refl
+no_places at (y ∷ ys) = no_places (at + size y.1) ys
+
 -- ---- the name of the root
 
 leaf_name : (es : List (Step × Child)) → nat_le (length es) 32 ≡ true → part_name 51 es ≡ sha256 (hashed_leaf es)
@@ -295,6 +302,14 @@ module _ (ys : Entries) (sorted : T (is_sorted bytes_cmp ys)) (few : length ys �
         let b = spelling (branch ys sorted few end f) in
         ap bytes_of_records (batch_is ys sorted few end f) ∙ spelled_behind (contents_records end ys) (base ys sorted few end, leaf ys sorted few end) _ ∙ ap (λ (bytes : Bytes). bytes ++ (l ++ (c ++ (b ++ [])))) (contents_spelled end ys)
         ∙ ap (λ (bytes : Bytes). contents_bytes ys ++ (l ++ (c ++ bytes))) (append-nil b) ∙ sym (append_assoc (contents_bytes ys) l (c ++ b)) ∙ sym (append_assoc (contents_bytes ys ++ l) c b)
+
+    pub places_are : places_in (batch_of (flat ys) f end) ≡ commit_at ys sorted few end f ∷ []
+    places_are =
+        let rest = (commit_at ys sorted few end f, commit ys sorted few end f) ∷ (commit_at ys sorted few end f + length (spelling (commit ys sorted few end f)), branch ys sorted few end f) ∷ [] in
+        ap places_in (batch_is ys sorted few end f)
+        ∙ filter_map-append place_of (contents_records end ys ++ (base ys sorted few end, leaf ys sorted few end) ∷ []) rest
+        ∙ ap (λ (ps : List ℕ). ps ++ commit_at ys sorted few end f ∷ [])
+        (filter_map-append place_of (contents_records end ys) ((base ys sorted few end, leaf ys sorted few end) ∷ []) ∙ ap (λ (ps : List ℕ). ps ++ []) (no_places end ys))
 
     pub base_is : base ys sorted few end ≡ end + length (contents_bytes ys)
     base_is = stop_is end ys

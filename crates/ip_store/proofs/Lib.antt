@@ -25,9 +25,12 @@ mod ReadAhead
 mod Walking
 mod RecordSteps
 mod OpenedImages
+pub mod Listed
+mod Showing
 mod OpenedStores
 mod Lawful
 mod Fitting
 mod Placing
+mod Listing
 mod Laying
 mod Whole

@@ -64,7 +64,7 @@ commit_size c is =
 body_size : (r : Record) → Fits 1 r → IsServedKind r → length (body r) ≤ 1048576
 unfolding body
 body_size (Record.Contents bytes) fits served = fits.fields.0
-body_size (Record.Leaf entries) fits served = leaf_size entries fits.fields.each served.0
+body_size (Record.Leaf entries) fits served = leaf_size entries fits.fields.each served
 body_size (Record.Inode depth children) fits served = absurd served
 body_size (Record.Commit c) fits served = commit_size c fits.fields
 body_size (Record.BranchSet number name) fits served =

@@ -120,6 +120,7 @@ module _ (r : Repository) (work : Work) (branch : Bytes) (info : Info) (none_bel
   by_fault (StoreFault.Limit limit) is = (met_short limit (short_so limit), turn_refused (met_of (StoreFault.Limit limit)) (Reply.Limit limit) refl (is (met_of (StoreFault.Limit limit))))
   by_fault StoreFault.Memory is = (met_memory, turn_memory)
   by_fault StoreFault.Ground is = tt
+  by_fault (StoreFault.Damaged at names) is = tt
 
   pub refused_memory : IsRefusal r work branch info StoreFault.Memory
   refused_memory = (met_memory, turn_memory)
@@ -157,6 +158,7 @@ module _ (r : Repository) (work : Work) (branch : Bytes) (info : Info) (none_bel
         refused_short slot length (StoreFault.Existing name) is = absurd is
         refused_short slot length StoreFault.Memory is = absurd is
         refused_short slot length StoreFault.Ground is = absurd is
+        refused_short slot length (StoreFault.Damaged at names) is = absurd is
 
         pub turn_is_done : turned s (Command.Commit branch info) (conditions_of met_nothing) ≡ done
         turn_is_done = turn_done (behind_name met_nothing)

@@ -1,6 +1,6 @@
 -- The branches that a store keeps, as a map from names to numbers.
 use Rattle.std.proofs.Common.{◌≡◌, ℕ, ◌<◌, ◌≤◌, Bool, true, false, cond, [], ◌∷◌, length, Option, Some, Vec, refl, sym, ◌∙◌, ap, subst, arith}
-use Rattle.std.specs.Prelude.{◌&&◌, not, ◌↔◌, nat_le, nat_lt, IfSome, IsTrue}
+use Rattle.std.specs.Prelude.{◌&&◌, not, ◌↔◌, nat_le, nat_lt, All, IfSome, IsTrue}
 use Rattle.std.specs.Ordering.{is_eq, eq_by_cmp}
 use Rattle.std.specs.Cmp.{IsTotalOrder}
 use Rattle.std.specs.Cmp.Lexicographic.{nat_list_cmp_total}
@@ -11,7 +11,7 @@ use Rattle.std.specs.declared.alloc.Global.{Global}
 use Rattle.std.specs.FinMap.Entries as E
 use Rattle.std.specs.FinMap.Entries.{find, where_key}
 use Rattle.std.proofs.lemmas.Bool.Decides.{nat_tests}
-use Rattle.std.proofs.lemmas.List.Elements.{recursion_from_All}
+use Rattle.std.proofs.lemmas.List.Elements.{recursion_from_All, All-from_recursion}
 use Rattle.std.proofs.lemmas.Map.Views.{All-found}
 use Rattle.ip_spec.specs.Map.{Map, empty, get, insert, remove, retain_keys, len, from_entries, entries-insert, same_entries_map}
 use Rattle.ip_spec.specs.Path.{Bytes, bytes_cmp}
@@ -88,8 +88,18 @@ module _ (m : Kept) (ordered : IsOrdered step_cmp m) (b : Map bytes_cmp ℕ) (vi
   pub len_is : length m.entries ≡ len b
   len_is = sym (length_told m.entries) ∙ sym (ap length entries_are)
 
+  pub listed_is : told m.entries ≡ b.entries
+  listed_is = sym entries_are
+
   pub get_is : (name : Bytes) → lookup (λ k. is_eq (bytes_cmp name k.items)) m.entries ≡ get b name
   get_is name = find_in name m.entries ∙ ap (find bytes_cmp name) (sym entries_are)
+
+  all_found : (es : Pairs ℕ) → AllByRecursion (λ e. lookup (λ k. is_eq (bytes_cmp e.0.items k.items)) m.entries ≡ Some e.1) es → AllByRecursion (λ e. get b e.0.items ≡ Some e.1) es
+  all_found [] found = tt
+  all_found (e ∷ es) (f, fs) = (sym (get_is e.0.items) ∙ f, all_found es fs)
+
+  pub found_is : All (λ e. get b e.0.items ≡ Some e.1) m.entries
+  found_is = All-from_recursion (λ e. get b e.0.items ≡ Some e.1) m.entries (all_found m.entries (recursion_from_All _ m.entries (All-found steps_total m ordered)))
 
   pub set_is : (n : Kept) → IsOrdered step_cmp n → (k : Vec ℕ Global) (v : ℕ) → n.entries ≡ insert_entry step_cmp m.entries k v → branches_of n ≡ insert b k.items v
   set_is n sorted k v inserted =

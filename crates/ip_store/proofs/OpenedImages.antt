@@ -67,7 +67,7 @@ above_zero : (n at : ℕ) → n ≡ 0 → nat_le n at ≡ true
 above_zero n at none = grind (arith, nat_tests)
 
 module _ (image : Image) (s : Slot) (none : s.horizon ≡ 0) where
-  chunk_bytes : virtual_byte image (layout_of s) [] ≡ byte_of (image (Chunk 0))
+  pub chunk_bytes : virtual_byte image (layout_of s) [] ≡ byte_of (image (Chunk 0))
   unfolding virtual_byte
   chunk_bytes = λ i at. is at i
     where

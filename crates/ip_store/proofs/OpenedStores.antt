@@ -34,6 +34,7 @@ use Rattle.ip_store.specs.declared.opening.OpenFault.{OpenFault}
 use Rattle.ip_store.specs.declared.store.Store.{Store}
 use Rattle.ip_store.specs.declared.walk.Found.{Found}
 use Rattle.ip_store.specs.Control.{control_in}
+use Rattle.ip_store.specs.Placed.{places_in}
 use Rattle.ip_store.specs.Window.{chunk}
 use Rattle.ip_store.specs.Walk.{Tells, Covers, BadRecord}
 use Rattle.ip_store.specs.Found.{IsReached, FoundIn, FindsSlot, Finished, Finishes}
@@ -41,8 +42,10 @@ use Rattle.ip_store.specs.Store.{IsOf, Holds}
 use Rattle.ip_store.specs.Opening.{SecuresOpening, Opens}
 use Rattle.ip_store.proofs.Secured.{secures_from}
 use Rattle.ip_store.proofs.Hashes.{sha_is_hash}
+use Rattle.ip_store.proofs.Listed.{one_list, readable_of, good_newest, places_size}
+use Rattle.ip_store.proofs.Stepping.{space_same}
 use Rattle.ip_store.proofs.Reading.{own, control_passes}
-use Rattle.ip_store.proofs.OpenedImages.{form_damaged, bad_damaged, misfit_damaged, whole_from, repository_of, repository_names, repository_history, repository_floor, repository_branches, repository_size, stands_for}
+use Rattle.ip_store.proofs.OpenedImages.{has_live, form_damaged, bad_damaged, misfit_damaged, whole_from, repository_of, repository_names, repository_history, repository_floor, repository_branches, repository_size, stands_for}
 
 abbrev Branching : Type 0
 Branching = Map bytes_cmp ℕ
@@ -87,6 +90,8 @@ module _ (index : ℕ) (s : Slot) (is : IsSlot s) (below : index < 2) (found : F
         branches = branches ∙ finished.branches records tells;
         history = repository_history s records tells.good ∙ finished.history records tells;
         parents_first = finished.parents_first records tells;
+        space = space_same s store.slot store.space store.space finished.slot refl finished.space;
+        placed = ap length (sym (finished.places records tells)) ∙ places_size records ∙ sym size;
         retained = subst (λ (t : Slot). AreRetained t (repository_of s records tells.good).branches) (sym finished.slot) (subst (λ (m : Branching). AreRetained s m) (sym branches) fits.branches);
       }
 
@@ -94,9 +99,14 @@ module _ (index : ℕ) (s : Slot) (is : IsSlot s) (below : index < 2) (found : F
   holds_of told live kept lies = record {
     tables = tables_of;
     stands = stands_for s records tells.good told.held index live lies fits;
+    readable = readable_of store (repository_of s records tells.good) told tables_of;
+    places = sym (finished.places records tells) ∙ ap places_in (sym list);
     live = subst (λ (n : ℕ). IsLive (control_in told.held) n store.slot) (sym finished.index) (subst (IsLive (control_in told.held) index) (sym finished.slot) live);
     kept = kept;
   }
+    where
+      list : (stands_for s records tells.good told.held index live lies fits).standing.records ≡ records
+      list = one_list told.held s (has_live told.held index s live) (stands_for s records tells.good told.held index live lies fits).standing records (good_newest s is records tells.good) lies
 
 -- ---- finding the slot
 

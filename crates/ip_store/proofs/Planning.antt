@@ -24,6 +24,7 @@ use Rattle.ip_store.specs.declared.store.Store.{Store}
 use Rattle.ip_store.specs.declared.work.Work.{Work}
 use Rattle.ip_store.specs.Batches.{fields_told, IsBatch}
 use Rattle.ip_store.specs.Commits.{parent_named, SlotBehind, IsPlan}
+use Rattle.ip_store.specs.Placed.{places_in}
 use Rattle.ip_store.specs.Store.{IsOf, IsLawful}
 use Rattle.ip_store.proofs.Machine.{Head, turn_is_done}
 use Rattle.ip_store.proofs.Tables.{none_below}
@@ -81,6 +82,7 @@ module _ (r : Repository) (work : Work) (branch : Bytes) (info : Info) (store : 
       record {
         number = ap (λ (f : Batches.CommitFields). f.number) told;
         name = name;
+        place = ap (λ f. places_in (batch_of work.tree f store.slot.end)) (sym told) ∙ is_batch.place;
         bytes = is_batch.bytes ∙ ap (λ f. bytes_of_records (batch_of work.tree f store.slot.end)) told;
         same_branch = ap (λ (f : Batches.CommitFields). f.branch) told;
         parents = only ∙ ap (λ (n : ℕ). n ∷ []) (ap (λ (f : Batches.CommitFields). f.number) told);

@@ -1,7 +1,7 @@
 -- What the tables and the files hold after a record of a branch.
 --     renamed_tables      the tables after it.      can_rename      what the durable step asks
 --     was_renamed, rename_cut      the relation of a call that was made, and of one that a fault cut short
-use Rattle.std.proofs.Common.{◌≡◌, ℕ, ◌+◌, ◌-◌, ◌^◌, ◌<◌, ◌≤◌, Bool, true, false, ◌++◌, length, Option, Some, None, sym, ◌∙◌, ap, subst, arith}
+use Rattle.std.proofs.Common.{◌≡◌, ℕ, ◌+◌, ◌-◌, ◌^◌, ◌<◌, ◌≤◌, Bool, true, false, List, [], ◌∷◌, ◌++◌, length, Option, Some, None, refl, sym, ◌∙◌, ap, subst, arith, append-nil}
 use Rattle.std.specs.Prelude.{Result, Ok, Err, All, IfSome, not, nat_le, nat_lt, ◌&&◌, cond}
 use Rattle.std.proofs.lemmas.Bool.Decides.{nat_tests}
 use Rattle.std.specs.Cmp.Lexicographic.{nat_list_cmp_total}
@@ -12,23 +12,26 @@ use Rattle.ip_ground.specs.Told.{Told}
 use Rattle.ip_spec.specs.declared.record.Record.{Record}
 use Rattle.ip_spec.specs.Map.{get, insert, remove, len, get-insert}
 use Rattle.ip_spec.specs.Path.{Bytes, bytes_cmp}
-use Rattle.ip_spec.specs.Record.{Names, Fits, IsHash, spelling}
+use Rattle.ip_spec.specs.Record.{Names, Fits, IsHash, spelling, spelling_of}
 use Rattle.ip_spec.specs.Repository.{Repository, next}
 use Rattle.ip_image.specs.declared.slot.Slot.{Slot}
+use Rattle.ip_image.specs.declared.layout.Layout.{Layout}
 use Rattle.ip_image.specs.Slot.{IsSlot, slot_bytes}
 use Rattle.ip_image.specs.Standing.{StandsFor, AreRetained, names_after}
-use Rattle.ip_image.specs.Appending.{front_of, HasLive, later_slot, MayName, renamed}
+use Rattle.ip_image.specs.Appending.{front_of, HasLive, later_slot, MayName, renamed, bytes_of_records}
 use Rattle.ip_image.proofs.Renaming.{get_without, few_without, stands_renamed}
 use Rattle.ip_history.specs.History.{HasParentsFirst}
 use Rattle.ip_control.specs.Live.{live_slot}
 use Rattle.ip_store.specs.declared.committing.StoreFault.{StoreFault}
 use Rattle.ip_store.specs.declared.store.Store.{Store}
+use Rattle.ip_space.specs.SpaceView.{grown}
 use Rattle.ip_store.specs.Changes.{Changes}
 use Rattle.ip_store.specs.Naming.{SlotLater}
+use Rattle.ip_store.specs.Placed.{places_in, IsSpaceOf}
 use Rattle.ip_store.specs.Publishing.{StandsAs, CanStep, MakesStep}
 use Rattle.ip_store.specs.Store.{IsOf, Holds}
 use Rattle.ip_store.proofs.Secured.{in_image, held_has}
-use Rattle.ip_store.proofs.Stepping.{may_step, changed, cut_short}
+use Rattle.ip_store.proofs.Stepping.{may_step, changed, cut_short, space_same, space_later}
 
 abbrev IsAmong : Slot → ℕ → Type 0
 IsAmong s n = (s.floor ≤ n) × (n < s.next)
@@ -55,6 +58,15 @@ may_same store q r (Record.BranchSet number name) a b may = (
 )
 may_same store q r (Record.BranchRemove name) a b may = tt
 may_same store q r _ a b may = absurd may
+
+no_place : (r : Repository) (at : ℕ) (x : Record) → MayName r x → places_in ((at, x) ∷ []) ≡ []
+no_place r at (Record.BranchSet number name) may = refl
+no_place r at (Record.BranchRemove name) may = refl
+no_place r at _ may = absurd may
+
+spelled_is : (at : ℕ) (x : Record) → spelling x ≡ bytes_of_records ((at, x) ∷ [])
+unfolding spelling_of
+spelled_is at x = sym (append-nil (spelling x))
 
 module _ (r : Repository) (store : Store) (of : IsOf store r) where
   retained_set : (name : Bytes) (number : ℕ) → IsAmong store.slot number → (q : Bytes) → IfSome (get (insert r.branches name number) q) (IsAmong store.slot)
@@ -122,8 +134,9 @@ module _ (r : Repository) (store : Store) (of : IsOf store r) where
     ends : store.slot.end + length (spelling x) ≡ slot.end
     ends = ap (λ (s : Slot). s.end) (sym slot_is)
 
-    pub renamed_tables : (store' : Store) → store'.slot ≡ slot → store'.index ≡ 1 - store.index → store'.names ≡ store.names → store'.branches ≡ names_after Names.branches store.branches x → store'.history ≡ store.history → IsOf store' after
-    renamed_tables store' slot' index names branches history = record {
+    pub renamed_tables : (store' : Store) → store'.slot ≡ slot → store'.index ≡ 1 - store.index → store'.names ≡ store.names → store'.branches ≡ names_after Names.branches store.branches x → store'.history ≡ store.history
+        → store'.places.items ≡ store.places.items → store'.space ≡ grown store.space slot.end → IsOf store' after
+    renamed_tables store' slot' index names branches history places space = record {
       slot = subst IsSlot (sym slot') slot_after;
       index = subst (λ (i : ℕ). i < 2) (sym index) (omega arith);
       floor = of.floor ∙ ap (λ (s : Slot). s.floor) (sym slot_is) ∙ ap (λ (s : Slot). s.floor) (sym slot');
@@ -133,8 +146,21 @@ module _ (r : Repository) (store : Store) (of : IsOf store r) where
       branches = ap (λ m. names_after Names.branches m x) of.branches ∙ sym branches;
       history = of.history ∙ sym history;
       parents_first = subst HasParentsFirst (sym history) of.parents_first;
+      space = space_same slot store'.slot (grown store.space slot.end) store'.space slot' space
+          (subst (λ (s : Slot). IsSpaceOf s (grown store.space s.end)) (sym slot_is) (space_later store.slot (store.slot.end + length (spelling x)) store.space of.space));
+      placed = ap length places ∙ of.placed;
       retained = (let is = retained_after x may in subst (λ (s : Slot). AreRetained s after.branches) (sym slot_is ∙ sym slot') (record { each = is.each; few = is.few }));
     }
+
+    -- the space goes on as far
+    pub further : store.space.layout.end ≤ slot.end
+    further =
+        let was = ap (λ (l : Layout). l.end) of.space.layout in
+        let now = ap (λ (s : Slot). s.end) slot_is in
+        omega (arith, was, now)
+
+    pub inside : slot.end ≤ 2 ^ 62
+    inside = subst (λ (s : Slot). s.end ≤ 2 ^ 62) (sym slot_is) small
 
     module _ (a : Told) (held : Holds store a r) where
       pub can_rename : CanStep store.slot.end (1 - store.index) slot a
@@ -146,8 +172,10 @@ module _ (r : Repository) (store : Store) (of : IsOf store r) where
           (subst (λ (s : Slot). HasLive s image) slot_is (in_image (1 - store.index) slot image slot_after live)) begins
 
       pub was_renamed : (b : Told) (store' : Store) → store'.slot ≡ slot → store'.index ≡ 1 - store.index → store'.names ≡ store.names → store'.branches ≡ names_after Names.branches store.branches x → store'.history ≡ store.history
-          → MakesStep store.slot.end (spelling x) (1 - store.index) slot (Ok tt) a b → Changes {A = Unit {0}} r after (Ok tt) store' a b
-      was_renamed b store' slot' index names branches history step = changed r after store slot (spelling x) of slot_after newer ends a held stands_new tt b store' slot' index (renamed_tables store' slot' index names branches history) step
+          → store'.places.items ≡ store.places.items → store'.space ≡ grown store.space slot.end → MakesStep store.slot.end (spelling x) (1 - store.index) slot (Ok tt) a b → Changes {A = Unit {0}} r after (Ok tt) store' a b
+      was_renamed b store' slot' index names branches history places space step =
+          changed r after store slot (spelling x) of slot_after newer ends a held stands_new tt b store' slot' index (renamed_tables store' slot' index names branches history places space)
+          ((store.slot.end, x) ∷ []) (fits, tt) (refl, ends) (spelled_is store.slot.end x) (places ∙ sym (append-nil store.places.items) ∙ ap (λ (ps : List ℕ). store.places.items ++ ps) (sym (no_place r store.slot.end x may))) step
 
       pub rename_cut : (b : Told) (store' : Store) (res : Result (Unit {0}) GroundFault) → MakesStep store.slot.end (spelling x) (1 - store.index) slot res a b → Changes {A = Unit {0}} r after (Err StoreFault.Ground) store' a b
       rename_cut b store' res step = cut_short r after store slot (spelling x) of slot_after newer ends a held stands_new b store' res step

@@ -5,18 +5,24 @@
 use Rattle.std.proofs.Common.{◌≡◌, ◌≢◌, ◌⊎◌, inl, inr, ℕ, ◌+◌, ◌-◌, ◌<◌, List, ◌++◌, length, take, refl, sym, ◌∙◌, ap, subst, arith, length-append}
 use Rattle.std.specs.Prelude.{Result, Ok, Err, All}
 use Rattle.std.proofs.lemmas.List.{length-take-le}
+use Rattle.std.proofs.lemmas.List.Elements.{filter_map-append}
 use Rattle.std.proofs.lemmas.Result.{on_ok_weaker}
 use Rattle.ip_ground.specs.declared.names.FileName.TheVariants.{Control, Chunk}
 use Rattle.ip_ground.specs.declared.names.GroundFault.{GroundFault}
 use Rattle.ip_ground.specs.Contents.{Image, Possible, bytes_of}
-use Rattle.ip_ground.specs.Told.{Told, NoFile}
+use Rattle.ip_ground.specs.Told.{Told, NoFile, ChangesOnly}
+use Rattle.ip_ground.proofs.Durable.{kept_passes}
 use Rattle.ip_ground.proofs.Spans.{only_nowhere}
+use Rattle.ip_spec.specs.declared.met.Met.{Met}
 use Rattle.ip_spec.specs.Record.{IsHash}
+use Rattle.ip_spec.specs.TreeAt.{Records}
+use Rattle.ip_spec.specs.Batch.{AreEndToEnd}
 use Rattle.ip_spec.specs.Repository.{Repository}
 use Rattle.ip_image.specs.declared.slot.Slot.{Slot}
+use Rattle.ip_image.specs.declared.layout.Layout.{Layout}
 use Rattle.ip_image.specs.Slot.{IsSlot, IsLive, slot_bytes}
 use Rattle.ip_image.specs.Standing.{StandsFor, AreRetained}
-use Rattle.ip_image.specs.Appending.{front_of, HasLive}
+use Rattle.ip_image.specs.Appending.{BeginsWith, front_of, HasLive, next_slot, later_slot, bytes_of_records}
 use Rattle.ip_image.specs.Headline.{IsInOrder, Keeps, Secures}
 use Rattle.ip_image.proofs.HeadlineLaws.{begins_take}
 use Rattle.ip_image.proofs.InChunk.{in_chunk, all_inside}
@@ -29,33 +35,61 @@ use Rattle.ip_store.specs.declared.committing.StoreFault.{StoreFault}
 use Rattle.ip_store.specs.declared.store.Store.{Store}
 use Rattle.ip_store.specs.Changes.{HasAnswer, Changes}
 use Rattle.ip_store.specs.Publishing.{StandsAs, LeavesFront, CanStep, MakesStep, TheTwo}
-use Rattle.ip_store.specs.Store.{IsOf, Holds}
+use Rattle.ip_space.specs.SpaceView.{SpaceView, IsReadable, grown}
+use Rattle.ip_store.specs.Placed.{place_of, places_in, IsSpaceOf}
+use Rattle.ip_store.specs.Store.{IsOf, Holds, SameTables}
+use Rattle.ip_store.proofs.Listed.{AreNewest, readable_of, behind_list, holds_on}
+use Rattle.ip_store.proofs.Reading.{own}
 use Rattle.ip_store.proofs.Secured.{in_image, front_left, order_of, secures_now, orderly_step}
 
 -- ---- tables
 
-pub same_tables : (store store' : Store) (r : Repository) → store'.slot ≡ store.slot → store'.index ≡ store.index → store'.names ≡ store.names → store'.branches ≡ store.branches → store'.history ≡ store.history → IsOf store r → IsOf store' r
-same_tables store store' r slot index names branches history of = record {
-  slot = subst IsSlot (sym slot) of.slot;
-  index = subst (λ (i : ℕ). i < 2) (sym index) of.index;
-  floor = of.floor ∙ ap (λ (s : Slot). s.floor) (sym slot);
-  next = of.next ∙ ap (λ (s : Slot). s.next) (sym slot);
-  names = of.names ∙ sym names;
-  hashes = subst (All IsHash) (sym names) of.hashes;
-  branches = of.branches ∙ sym branches;
-  retained = subst (λ (s : Slot). AreRetained s r.branches) (sym slot) of.retained;
-  history = of.history ∙ sym history;
-  parents_first = subst HasParentsFirst (sym history) of.parents_first;
-}
+pub itself : (store : Store) → SameTables store store
+itself store = record { index = refl; slot = refl; names = refl; places = refl; branches = refl; history = refl; space = refl }
 
-module _ (store store' : Store) (slot : store'.slot ≡ store.slot) (index : store'.index ≡ store.index) (names : store'.names ≡ store.names) (branches : store'.branches ≡ store.branches) (history : store'.history ≡ store.history) where
+pub in_itself : (store : Store) (met : Met) → SameTables store (record store { met = met })
+in_itself store met = record { index = refl; slot = refl; names = refl; places = refl; branches = refl; history = refl; space = refl }
+
+-- the space of a slot that follows
+pub space_next : (s : Slot) (end : ℕ) (space : SpaceView) → IsSpaceOf s space → IsSpaceOf (next_slot s end) (grown space end)
+space_next s end space is = record { layout = ap (λ (l : Layout). record l { end = end }) is.layout; runs = is.runs }
+
+pub space_later : (s : Slot) (end : ℕ) (space : SpaceView) → IsSpaceOf s space → IsSpaceOf (later_slot s end) (grown space end)
+space_later s end space is = record { layout = ap (λ (l : Layout). record l { end = end }) is.layout; runs = is.runs }
+
+pub space_same : (s t : Slot) (one other : SpaceView) → t ≡ s → other ≡ one → IsSpaceOf s one → IsSpaceOf t other
+space_same s t one other slot space is = subst (λ (u : Slot). IsSpaceOf u other) (sym slot) (subst (IsSpaceOf s) (sym space) is)
+
+module _ (store store' : Store) (same : SameTables store store') where
+  pub same_tables : (r : Repository) → IsOf store r → IsOf store' r
+  same_tables r of = record {
+    slot = subst IsSlot (sym same.slot) of.slot;
+    index = subst (λ (i : ℕ). i < 2) (sym same.index) of.index;
+    floor = of.floor ∙ ap (λ (s : Slot). s.floor) (sym same.slot);
+    next = of.next ∙ ap (λ (s : Slot). s.next) (sym same.slot);
+    names = of.names ∙ sym same.names;
+    hashes = subst (All IsHash) (sym same.names) of.hashes;
+    branches = of.branches ∙ sym same.branches;
+    retained = subst (λ (s : Slot). AreRetained s r.branches) (sym same.slot) of.retained;
+    history = of.history ∙ sym same.history;
+    parents_first = subst HasParentsFirst (sym same.history) of.parents_first;
+    space = space_same store.slot store'.slot store.space store'.space same.slot same.space of.space;
+    placed = ap length same.places ∙ of.placed;
+  }
+
   pub same_holds : (r : Repository) (a : Told) → Holds store a r → Holds store' a r
   same_holds r a held = record {
-    tables = same_tables store store' r slot index names branches history held.tables;
+    tables = same_tables r held.tables;
     stands = held.stands;
-    live = subst (λ (i : ℕ). IsLive (bytes_of (a.held Control)) i store'.slot) (sym index) (subst (λ (s : Slot). IsLive (bytes_of (a.held Control)) store.index s) (sym slot) held.live);
+    live = subst (λ (i : ℕ). IsLive (bytes_of (a.held Control)) i store'.slot) (sym same.index) (subst (λ (s : Slot). IsLive (bytes_of (a.held Control)) store.index s) (sym same.slot) held.live);
     kept = held.kept;
+    readable = subst (IsReadable a) (sym same.space) held.readable;
+    places = same.places ∙ held.places;
   }
+
+  -- and where no file was changed
+  pub still_holds : (r : Repository) (a b : Told) → ChangesOnly NoFile a b → Holds store a r → Holds store' b r
+  still_holds r a b only held = same_holds r b (holds_on store a r held b ((only.others Control (λ none. none)).held (λ x. x)) ((only.others (Chunk 0) (λ none. none)).held (λ x. x)) (kept_passes Control own a b only held.kept))
 
   pub same_changes : {A : Type 0} (r after : Repository) (res : Result A StoreFault) (a b : Told) → Changes r after res store a b → Changes r after res store' a b
   same_changes r after res a b is = record {
@@ -127,10 +161,11 @@ module _ (r after : Repository) (store : Store) (next : Slot) (bytes : List ℕ)
           | inr new ↦ inr new
         ]
 
-    -- it was made
+    -- it was made, of these records
     pub changed : {A : Type 0} (x : A) (b : Told) (store' : Store) → store'.slot ≡ next → store'.index ≡ 1 - store.index → IsOf store' after
+        → (more : Records) → AreNewest more → AreEndToEnd store.slot.end more next.end → bytes ≡ bytes_of_records more → store'.places.items ≡ store.places.items ++ places_in more
         → MakesStep store.slot.end bytes (1 - store.index) next (Ok tt) a b → Changes r after (Ok x) store' a b
-    changed x b store' slot index tables step = record {
+    changed x b store' slot index tables more fit lie spelled places step = record {
       only = step.only;
       refused = λ r. absurd (cc (r.0));
       ok = holds;
@@ -144,8 +179,19 @@ module _ (r after : Repository) (store : Store) (next : Slot) (bytes : List ℕ)
         live_now = subst (λ (i : ℕ). IsLive (bytes_of (b.held Control)) i store'.slot) (sym index)
             (subst (λ (s : Slot). IsLive (bytes_of (b.held Control)) (1 - store.index) s) (sym slot) (is_live (b.held Control) (1 - store.index) next step.held.0 next_is))
 
+        list : (stands_new b.held step.held).standing.records ≡ held.stands.standing.records ++ more
+        list = behind_list a.held b.held store.slot next old_has (in_image (1 - store.index) next b.held next_is step.held.0) held.stands.standing (stands_new b.held step.held).standing more fit lie
+            (subst (λ (bs : List ℕ). BeginsWith (front_of store.slot.end a.held ++ bs) (b.held (Chunk 0))) spelled step.held.1)
+
         holds : Holds store' b after
-        holds = record { tables = tables; stands = stands_new b.held step.held; live = live_now; kept = step.kept }
+        holds = record {
+          tables = tables;
+          stands = stands_new b.held step.held;
+          live = live_now;
+          kept = step.kept;
+          readable = readable_of store' after b tables;
+          places = places ∙ ap (λ (ps : List ℕ). ps ++ places_in more) held.places ∙ sym (filter_map-append place_of held.stands.standing.records more) ∙ ap places_in (sym list);
+        }
 
         end_is : store'.slot.end ≡ length whole
         end_is = ap (λ (s : Slot). s.end) slot ∙ sym whole_end
@@ -170,10 +216,10 @@ module _ (r after : Repository) (store : Store) (next : Slot) (bytes : List ℕ)
 
 -- it was refused, of a store with the same tables
 pub changes_none : {A : Type 0} (r after : Repository) (fault : StoreFault) (store store' : Store) (a : Told)
-    → store'.slot ≡ store.slot → store'.index ≡ store.index → store'.names ≡ store.names → store'.branches ≡ store.branches → store'.history ≡ store.history → Holds store a r → Changes {A = A} r after (Err fault) store' a a
-changes_none r after fault store store' a slot index names branches history held = record {
+    → SameTables store store' → Holds store a r → Changes {A = A} r after (Err fault) store' a a
+changes_none r after fault store store' a same held = record {
   only = only_nowhere a TheTwo;
-  refused = λ _. (only_nowhere a NoFile, same_holds store store' slot index names branches history r a held);
+  refused = λ _. (only_nowhere a NoFile, same_holds store store' same r a held);
   ok = tt;
   keeps = λ order t late le. absurd (omega (arith, late, le));
   secures = λ order. tt;
@@ -213,6 +259,7 @@ with_answer A B (StoreFault.Existing name) has = tt
 with_answer A B (StoreFault.Limit limit) has = tt
 with_answer A B StoreFault.Memory has = tt
 with_answer A B StoreFault.Ground has = has
+with_answer A B (StoreFault.Damaged at names) has = has
 
 pub with_fault : {A B : Type 0} (fault : StoreFault) (r after : Repository) (store : Store) (a b : Told) → Changes {A = A} r after (Err fault) store a b → Changes {A = B} r after (Err fault) store a b
 with_fault {A = A} {B = B} fault r after store a b is = record {

@@ -2,8 +2,9 @@
 --     good_push, named_push      one good record behind those before it
 --     takes_good      a record that the audit took.      some_bytes, beyond_push      offsets ascend
 --     stands_front, stands_behind, front_of      bytes that stand, in two parts, and a front of bytes by its members
-use Rattle.std.proofs.Common.{◌≡◌, ℕ, zero, suc, ◌+◌, ◌<◌, ◌≤◌, [], ◌∷◌, ◌++◌, length, drop, refl, sym, ◌∙◌, ap, subst, arith, append_assoc, append-nil, length-append}
+use Rattle.std.proofs.Common.{◌≡◌, ℕ, zero, suc, ◌+◌, ◌<◌, ◌≤◌, List, [], ◌∷◌, ◌++◌, length, drop, refl, sym, ◌∙◌, ap, subst, arith, append_assoc, append-nil, length-append}
 use Rattle.std.specs.Prelude.{slice_get, Option, Some}
+use Rattle.std.proofs.lemmas.List.Elements.{filter_map-append}
 use Rattle.std.proofs.lemmas.List.Sums.{fold-append}
 use Rattle.ip_spec.specs.declared.record.Record.{Record}
 use Rattle.ip_spec.specs.Record.{Names, Fits, spelling}
@@ -18,6 +19,7 @@ use Rattle.ip_audit.specs.Audits.{Audited, IsBeyond}
 use Rattle.ip_store.specs.declared.walk.Found.{Found}
 use Rattle.ip_history.specs.History.{History, HasParentsFirst}
 use Rattle.ip_store.specs.Histories.{history_after, RecordEnters}
+use Rattle.ip_store.specs.Placed.{place_of, places_in}
 use Rattle.ip_store.specs.Walk.{Tells}
 use Rattle.ip_store.proofs.Histories.{after_record, first_after}
 
@@ -49,14 +51,15 @@ is_good s before at r is fits served good = record {
 
 module _ (s : Slot) (before : Records) (at : ℕ) (r : Record) (old new : Found) (is : IsSlot s) (fits : Fits s.version r) (served : IsServedKind r) (tells : Tells s old before) where
   pub takes_good : RecordFits old.audit.terms before at r → Audited new.audit (before ++ (at, r) ∷ []) → new.audit.terms ≡ old.audit.terms
-      → new.branches ≡ names_after Names.branches old.branches r → RecordEnters old.history r → new.history ≡ history_after old.history r → IsGood s before (at, r) × Tells s new (before ++ (at, r) ∷ [])
-  takes_good good audited terms branches enters history =
+      → new.places.items ≡ old.places.items ++ places_in ((at, r) ∷ []) → new.branches ≡ names_after Names.branches old.branches r → RecordEnters old.history r → new.history ≡ history_after old.history r → IsGood s before (at, r) × Tells s new (before ++ (at, r) ∷ [])
+  takes_good good audited terms places branches enters history =
       let one : IsGood s before (at, r) = is_good s before at r is fits served (subst (λ (t : Terms). RecordFits t before at r) tells.terms good) in (
         one,
         record {
           good = good_push s [] before (at, r) tells.good one;
           audited = audited;
           terms = terms ∙ tells.terms;
+          places = places ∙ ap (λ (ps : List ℕ). ps ++ places_in ((at, r) ∷ [])) tells.places ∙ sym (filter_map-append place_of before ((at, r) ∷ []));
           branches = branches ∙ ap (λ m. names_after Names.branches m r) tells.branches ∙ sym (named_push Names.branches before (at, r));
           history = history ∙ ap (λ (h : History). history_after h r) tells.history ∙ after_record s.floor before at r;
           parents_first = subst HasParentsFirst (sym history) (first_after old.history r tells.parents_first enters);

@@ -1,5 +1,5 @@
 -- What putting the records of a commit one behind the other comes to.
-use Rattle.std.proofs.Common.{◌≡◌, ℕ, ◌+◌, ◌≤◌, ◌^◌, T, List, [], ◌∷◌, ◌++◌, length, map, Some, Vec, sym, ◌∙◌, ap, subst, arith}
+use Rattle.std.proofs.Common.{◌≡◌, ℕ, ◌+◌, ◌≤◌, ◌^◌, T, List, [], ◌∷◌, ◌++◌, length, map, Some, Vec, sym, ◌∙◌, ap, subst, arith, length-append}
 use Rattle.std.specs.List.{AllByRecursion}
 use Rattle.std.specs.BTreeMap.{BTreeMap}
 use Rattle.std.specs.FinMap.Entries.{is_sorted}
@@ -24,7 +24,7 @@ use Rattle.ip_store.proofs.Keyed.{sorted_in, length_told}
 use Rattle.ip_store.proofs.Kept.{tree_is}
 use Rattle.ip_store.proofs.Flat.{Entries, flat}
 use Rattle.ip_store.proofs.Hashes.{sha_is_hash}
-use Rattle.ip_store.proofs.Laying.{contents_records, contents_stop, laid, batch_is, bytes_are, base_is, end_behind, root_name_is}
+use Rattle.ip_store.proofs.Laying.{contents_records, contents_stop, laid, batch_is, bytes_are, base_is, end_behind, root_name_is, places_are}
 use Rattle.ip_store.proofs.Fitting.{leaf_fits, leaf_served, place_low, contents_fit, commit_fits, branch_fits}
 
 contents_good : (ys : Entries) (at : ℕ) → AllByRecursion IsEntry ys → AllByRecursion (λ (x : ℕ × Record). Fits 1 x.1 × IsServedKind x.1) (contents_records at ys)
@@ -82,16 +82,23 @@ module _ (m : BTreeMap (Vec ℕ Global) Bytes) (kept : AreKept m) (end : ℕ) (l
 
       pub whole : (es : List LeafEntry) (root : Hash) (at : ℕ) (a b c d : Bytes) (name : Hash) → es ≡ entries_at end ys → name_of (Record.Leaf es) ≡ Some root → a ≡ contents_bytes ys → at ≡ end + length a
           → b ≡ a ++ spelling (Record.Leaf es) → c ≡ b ++ spelling (commit_record f root at) → name_of (commit_record f root at) ≡ Some name → d ≡ c ++ spelling (Record.BranchSet f.number f.branch)
-          → (v : Batch) → v.bytes.items ≡ d → v.name ≡ name → IsBatch t f end v
-      whole es root at a b c d name leaf_is root_named a_is at_is b_is c_is named d_is v v_is v_named =
+          → (v : Batch) → v.bytes.items ≡ d → v.name ≡ name → v.commit_at ≡ end + length b → IsBatch t f end v
+      whole es root at a b c d name leaf_is root_named a_is at_is b_is c_is named d_is v v_is v_named v_at =
           subst (λ (u : Tree). IsBatch u f end v) tree_flat (record {
             bytes = spelled ∙ sym (bytes_are ys sorted few end f);
+            place = places_are ys sorted few end f ∙ ap (λ (n : ℕ). n ∷ []) (sym commit_place);
             name = v_named ∙ sym (some_same _ _ named) ∙ ap (λ (h : Hash). sha256 (hashed_commit h (map (λ p. p.name) f.parents) f.info)) (root_is es root leaf_is root_named);
             ends = end_behind ys sorted few end f ∙ ap (λ (l : Bytes). end + length l) (sym spelled);
           })
         where
           place : at ≡ contents_stop end ys
           place = at_is ∙ ap (λ (l : Bytes). end + length l) a_is ∙ sym (base_is ys sorted few end f)
+
+          commit_place : v.commit_at ≡ contents_stop end ys + length (spelling (Record.Leaf (entries_at end ys)))
+          commit_place =
+              v_at ∙ ap (λ (l : Bytes). end + length l) (b_is ∙ (λ j. a_is j ++ spelling (Record.Leaf (leaf_is j))))
+              ∙ (let base = base_is ys sorted few end f in let both = length-append (contents_bytes ys) (spelling (Record.Leaf (entries_at end ys))) in
+              let e : end + length (contents_bytes ys ++ spelling (Record.Leaf (entries_at end ys))) ≡ contents_stop end ys + length (spelling (Record.Leaf (entries_at end ys))) = omega (arith, base, both) in e)
 
           spelled : v.bytes.items ≡ contents_bytes ys ++ spelling (Record.Leaf (entries_at end ys)) ++ spelling (commit_record f (root_name (flat ys)) (contents_stop end ys)) ++ spelling (Record.BranchSet f.number f.branch)
           spelled =

@@ -1,5 +1,6 @@
 -- What a call does that changes the repository durably.
---     HasAnswer result      it is no fault of the ground.      IsRefused result      another answer than Ok and that fault
+--     HasAnswer result      it is no fault of the ground or of its files.      IsRefused result      another answer than Ok and those faults
+--     IsUndamaged result      it is no fault of the files
 --     Changes r after result store old new      what it does to what a ground tells, and what the store holds then
 --     LimitsSpace end result store      which limit is met
 use Rattle.std.specs.Prelude.{◌≡◌, ℕ, ◌^◌, ◌<◌, ◌≤◌, IsErr, IsErrOf, Result, Err, OnOk}
@@ -14,7 +15,13 @@ use Rattle.ip_store.specs.Store.{Holds}
 
 abbrev pub HasAnswer : {A : Type 0} → Result A StoreFault → Type 0
 HasAnswer (Err StoreFault.Ground) = ⊥
+HasAnswer (Err (StoreFault.Damaged at names)) = ⊥
 HasAnswer result = Unit {0}
+
+-- no call but those that fetch records looks at what others may have changed
+abbrev pub IsUndamaged : {A : Type 0} → Result A StoreFault → Type 0
+IsUndamaged (Err (StoreFault.Damaged at names)) = ⊥
+IsUndamaged result = Unit {0}
 
 abbrev pub IsRefused : {A : Type 0} → Result A StoreFault → Type 0
 IsRefused result = IsErr result × HasAnswer result

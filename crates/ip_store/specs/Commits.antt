@@ -1,5 +1,5 @@
 -- What a commit does.
---     reply_to result      the reply; a fault of the ground has none
+--     reply_to result      the reply; a fault of the ground has none, nor has one of its files
 --     Answers s command met reply store work      the reply and the next state are the machine's, for what was met
 --     Commits r work branch info result store' old new      what it does to what a ground tells
 use Rattle.std.specs.Prelude.{◌≡◌, ℕ, ◌+◌, ◌^◌, ◌<◌, ◌≤◌, [], ◌∷◌, length, true, false, Option, Some, None, IfSome, Result, Ok, Err}
@@ -24,6 +24,7 @@ use Rattle.ip_store.specs.declared.work.Work.{Work}
 use Rattle.ip_store.specs.declared.committing.Plan.{Plan}
 use Rattle.ip_store.specs.declared.committing.StoreFault.{StoreFault}
 use Rattle.ip_store.specs.Changes.{Changes}
+use Rattle.ip_store.specs.Placed.{places_in}
 use Rattle.ip_store.specs.Store.{IsOf, session, IsLawful}
 
 -- nothing met but a limit, or want of memory
@@ -55,6 +56,7 @@ fault_reply (StoreFault.Existing name) = Some (Reply.Existing name)
 fault_reply (StoreFault.Limit limit) = Some (Reply.Limit limit)
 fault_reply StoreFault.Memory = Some Reply.Memory
 fault_reply StoreFault.Ground = None
+fault_reply (StoreFault.Damaged at names) = None
 
 abbrev pub reply_to : Result Hash StoreFault → Option Reply
 reply_to (Ok name) = Some (Reply.Committed name)
@@ -67,6 +69,7 @@ refusal (StoreFault.Existing name) = Reply.Existing name
 refusal (StoreFault.Limit limit) = Reply.Limit limit
 refusal StoreFault.Memory = Reply.Memory
 refusal StoreFault.Ground = Reply.Memory
+refusal (StoreFault.Damaged at names) = Reply.Memory
 
 abbrev pub refused_by : Result (Unit {0}) StoreFault → Refused (Unit {0})
 refused_by (Ok u) = Ok tt
@@ -106,6 +109,7 @@ pub record IsPlan (r : Repository) (work : Work) (branch : Bytes) (info : Info) 
   pub number : plan.number ≡ next r
   pub name : plan.batch.name ≡ (new_commit r work.tree work.parents info).name
   pub bytes : plan.batch.bytes.items ≡ bytes_of_records (records_of r work branch info store)
+  pub place : places_in (records_of r work branch info store) ≡ plan.batch.commit_at ∷ []
   pub same_branch : plan.branch ≡ branch
   pub parents : plan.parents ≡ next r ∷ []
   pub slot : plan.slot ≡ next_slot store.slot (end_of r work branch info store)

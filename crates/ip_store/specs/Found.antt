@@ -16,6 +16,7 @@ use Rattle.ip_store.specs.declared.store.Store.{Store}
 use Rattle.ip_store.specs.declared.walk.Found.{Found}
 use Rattle.ip_store.specs.Control.{control_in}
 use Rattle.ip_store.specs.Histories.{history_in}
+use Rattle.ip_store.specs.Placed.{places_in, IsSpaceOf}
 use Rattle.ip_store.specs.Walk.{Tells}
 
 -- a fault of the ground apart, the slot that is live, or why there is none
@@ -47,6 +48,8 @@ pub record Finished (number : ℕ) (s : Slot) (found : Found) (store : Store) : 
   pub slot : store.slot ≡ s
   pub fits : (records : Records) → Tells s found records → WholeFits s records
   pub names : (records : Records) → Tells s found records → map commit_name (commits_in records) ≡ store.names
+  pub places : (records : Records) → Tells s found records → places_in records ≡ store.places.items
+  pub space : IsSpaceOf s store.space
   pub branches : (records : Records) → Tells s found records → named Names.branches records ≡ store.branches
   pub history : (records : Records) → Tells s found records → history_in s.floor records ≡ store.history
   pub parents_first : (records : Records) → Tells s found records → HasParentsFirst store.history

@@ -7,6 +7,8 @@ pub mod Found
 pub mod Histories
 pub mod Naming
 pub mod Laid
+pub mod Placed
+pub mod Showing
 pub mod Entries
 pub mod Publishing
 pub mod Store

@@ -1,5 +1,5 @@
 -- What calls on branches answer, and do.
---     branch_reply, removed_reply      the reply; a fault of the ground has none
+--     branch_reply, removed_reply      the reply; a fault of the ground has none, nor has one of its files
 --     SlotLater s length result      the slot behind the live one, where so many bytes of records follow that are no commit
 --     Names r x result store old new      the tables after a record of a branch, or without it
 use Rattle.std.specs.Prelude.{◌≡◌, ℕ, ◌+◌, ◌^◌, ◌<◌, ◌≤◌, true, false, Bool, Option, Some, Result, Ok, Err}

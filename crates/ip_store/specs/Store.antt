@@ -1,8 +1,9 @@
 -- What an open store holds.
 --     IsOf store r      its tables are the repository's, and in its history parents come first
---     Holds store told r      and so is what the ground reads as
+--     Holds store told r      and so is what the ground reads as; its places are those of the commits' records
+--     SameTables store other      they differ in what was met alone.      place_of_commit store number      where the record of a commit lies
 --     session r work      the machine's state.      IsLawful r work      the work goes on from commits of the repository
-use Rattle.std.specs.Prelude.{◌≡◌, ◌≢◌, ◌<◌, ◌≤◌, length, map, All, AllPairs, IsTrue}
+use Rattle.std.specs.Prelude.{◌≡◌, ◌≢◌, ℕ, ◌-◌, ◌<◌, ◌≤◌, length, map, All, AllPairs, IsTrue, Option, slice_get}
 use Rattle.ip_ground.specs.declared.names.FileName.TheVariants.{Control}
 use Rattle.ip_ground.specs.Told.{Told, IsKept}
 use Rattle.ip_spec.specs.Record.{IsHash}
@@ -11,7 +12,9 @@ use Rattle.ip_spec.specs.Machine.{State, Phase}
 use Rattle.ip_image.specs.Slot.{IsSlot, IsLive}
 use Rattle.ip_image.specs.Standing.{StandsFor, AreRetained}
 use Rattle.ip_history.specs.History.{HasParentsFirst, history_of}
+use Rattle.ip_space.specs.SpaceView.{IsReadable}
 use Rattle.ip_store.specs.Control.{control_in}
+use Rattle.ip_store.specs.Placed.{places_in, IsSpaceOf}
 use Rattle.ip_store.specs.Work.{work_of}
 use Rattle.ip_store.specs.declared.store.Store.{Store}
 use Rattle.ip_store.specs.declared.work.Work.{Work}
@@ -27,12 +30,29 @@ pub record IsOf (store : Store) (r : Repository) : Type 0 where
   pub retained : AreRetained store.slot r.branches
   pub history : history_of r ≡ store.history
   pub parents_first : HasParentsFirst store.history
+  pub space : IsSpaceOf store.slot store.space
+  pub placed : length store.places.items ≡ length r.commits
 
 pub record Holds (store : Store) (told : Told) (r : Repository) : Type 0 where
   pub tables : IsOf store r
   pub stands : StandsFor told.held r
   pub live : IsLive (control_in told.held) store.index store.slot
   pub kept : IsKept told Control
+  pub readable : IsReadable told store.space
+  -- the records of the image are those of the space, so that there each commit's record stands at its place, and its tree where that says
+  pub places : store.places.items ≡ places_in stands.standing.records
+
+pub record SameTables (store other : Store) : Type 0 where
+  pub index : other.index ≡ store.index
+  pub slot : other.slot ≡ store.slot
+  pub names : other.names ≡ store.names
+  pub places : other.places.items ≡ store.places.items
+  pub branches : other.branches ≡ store.branches
+  pub history : other.history ≡ store.history
+  pub space : other.space ≡ store.space
+
+abbrev pub place_of_commit : Store → ℕ → Option ℕ
+place_of_commit store number = slice_get store.places.items (number - store.slot.floor)
 
 -- it holds some repository
 abbrev pub IsSound : Store → Told → Type 0

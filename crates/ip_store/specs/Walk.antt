@@ -22,6 +22,7 @@ use Rattle.ip_audit.specs.Audits.{Audited, IsBeyond}
 use Rattle.ip_audit.specs.declared.audit.AuditFault.{AuditFault}
 use Rattle.ip_history.specs.History.{HasParentsFirst}
 use Rattle.ip_store.specs.Histories.{history_in}
+use Rattle.ip_store.specs.Placed.{places_in}
 use Rattle.ip_store.specs.declared.opening.OpenFault.{OpenFault}
 use Rattle.ip_store.specs.declared.window.Window.{Window}
 use Rattle.ip_store.specs.declared.walk.Found.{Found}
@@ -47,6 +48,7 @@ pub record Tells (s : Slot) (found : Found) (before : Records) : Type 0 where
   pub good : AreGood s [] before
   pub audited : Audited found.audit before
   pub terms : found.audit.terms ≡ terms_of s
+  pub places : found.places.items ≡ places_in before
   pub branches : found.branches ≡ named Names.branches before
   pub history : found.history ≡ history_in s.floor before
   pub parents_first : HasParentsFirst found.history

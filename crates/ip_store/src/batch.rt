@@ -28,6 +28,7 @@ pub struct CommitFields {
 pub struct Batch {
     bytes: Vec<u8>,
     name: Hash,
+    commit_at: u64,
 }
 
 impl Batch {
@@ -44,9 +45,14 @@ impl Batch {
         let leaf = put_all_contents(alloc, entries, end, &mut bytes)?;
         let at = end + bytes.len() as u64;
         let root = put_leaf(leaf, &mut bytes)?;
+        let commit_at = end + bytes.len() as u64;
         let name = put_commit(alloc, fields, root, at, &mut bytes)?;
         put_branch(alloc, fields, &mut bytes)?;
-        Ok(Batch { bytes, name })
+        Ok(Batch {
+            bytes,
+            name,
+            commit_at,
+        })
     }
 
     /// The bytes of the records.
@@ -61,6 +67,13 @@ impl Batch {
         ensures { result ≡ self.now.name }
     {
         self.name
+    }
+
+    /// The offset of the commit's record.
+    pub fn commit_at(&self) -> u64
+        ensures { result ≡ self.now.commit_at }
+    {
+        self.commit_at
     }
 }
 

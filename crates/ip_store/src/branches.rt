@@ -1,5 +1,5 @@
 // The branches of a store.
-ghost use Rattle.std.specs.Prelude.{◌≡◌, ◌↔◌, ◌≤◌, ◌<◌, ◌&&◌, nat_le, nat_lt, IsTrue, IfSome, OnOk, OnErr, MatchOption, slice_get, None, Some};
+ghost use Rattle.std.specs.Prelude.{◌≡◌, ◌↔◌, ◌≤◌, ◌<◌, ◌&&◌, nat_le, nat_lt, map, All, IsTrue, IfSome, OnOk, OnErr, MatchOption, slice_get, None, Some};
 ghost use Rattle.std.specs.List.{list_all};
 ghost use Rattle.std.specs.BTreeMap.{values};
 ghost use Rattle.ip_spec.specs.Path.{Bytes};
@@ -8,6 +8,7 @@ ghost use Rattle.ip_spec.specs.Map.{empty, get, insert, remove, len};
 use ip_base::{Memory, Number};
 use std::alloc::Global;
 use std::collections::BTreeMap;
+use std::collections::btree_map::Iter;
 use std::marker::Model;
 
 /// Branches of one store.
@@ -88,6 +89,14 @@ impl Branches {
             left -= 1;
         }
         None
+    }
+
+    /// The branches and the numbers of their commits, in the order of the names.
+    pub fn iter(&self) -> Iter<'_, Vec<u8>, Number>
+        ensures entries { map (λ e. (e.0.items, e.1)) result ≡ (self.now).entries }
+        ensures found { All (λ e. get self.now e.0.items ≡ Some e.1) result }
+    {
+        self.entries.iter()
     }
 
     /// Whether each is at a commit with a number from `low` on and below `high`.

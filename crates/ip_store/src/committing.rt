@@ -1,5 +1,6 @@
 // Committing a work: its refusals, its records, and the durable step.
-ghost use Rattle.std.specs.Prelude.{◌≡◌, ◌++◌, [], ◌∷◌, ◌==◌, ◌≤◌, ◌<◌, ◌^◌, None, map, position, All, length, IsTrue, IfSome, IfOk, IfErr, OnOk, OnErr, IsErrOf};
+ghost use Rattle.std.specs.Prelude.{◌≡◌, ◌++◌, [], ◌∷◌, ◌==◌, ◌≤◌, ◌<◌, ◌^◌, None, map, position, All, length, vec_len, IsTrue, IfSome, IfOk, IfErr, OnOk, OnErr, IsErrOf};
+ghost use Rattle.std.specs.Vec.{vec_capacity};
 ghost use Rattle.std.specs.List.{list_any};
 ghost use Rattle.ip_ground.specs.Counts.{NoneFalls, Rose};
 ghost use Rattle.ip_spec.specs.declared.command.Command.TheVariants as Command;
@@ -15,9 +16,9 @@ ghost use Rattle.ip_image.specs.Appending.{fields_of};
 ghost use Rattle.ip_store.specs.Batches.{fields_told, AreFields};
 ghost use Rattle.ip_store.specs.declared.committing.StoreFault.TheVariants as StoreFault;
 ghost use Rattle.ip_store.specs.Commits.{parent_named, reply_to, refused_by, met_by, SlotBehind, IsRefusal, IsPlan, end_of, Answers, Commits};
-ghost use Rattle.ip_store.specs.Changes.{LimitsSpace};
+ghost use Rattle.ip_store.specs.Changes.{IsUndamaged, LimitsSpace};
 ghost use Rattle.ip_store.specs.Histories.{with_parents, MayEnter};
-ghost use Rattle.ip_store.specs.Store.{IsOf, Holds, IsSound, session, IsLawful};
+ghost use Rattle.ip_store.specs.Store.{IsOf, Holds, SameTables, IsSound, session, IsLawful};
 
 use crate::branches::MOST_BRANCHES;
 use crate::opening::nothing_met;
@@ -27,6 +28,7 @@ use ip_base::{Blob, Hash, Info, Limit, Memory, Number, Numbers};
 use ip_control::Slot;
 use ip_ground::{Ground, GroundFault};
 use ip_history::Table;
+use ip_space::FetchFault;
 use ip_spec::met::Met;
 use ip_spec::record::{Parent, Parents};
 use std::alloc::Global;
@@ -45,6 +47,12 @@ pub enum StoreFault {
     Limit(Limit),
     /// A call on the ground failed: what the files hold is known again once the store is opened anew.
     Ground,
+    /// The files were changed by others: at this offset stands no record of the kind that stood there, or, where `names` has the wanted name
+    /// and the one that was found, one of another name. The store may not be used any more. Only calls that fetch records answer it.
+    Damaged {
+        at: u64,
+        names: Option<(Hash, Hash)>,
+    },
     Memory,
 }
 
@@ -131,6 +139,35 @@ impl From<Memory> for StoreFault {
     }
 }
 
+impl From<FetchFault> for StoreFault {
+    ghost use Rattle.ip_store.specs.Showing.{fault_from};
+
+    ghost from_gives = { λ fetched e. e ≡ fault_from fetched };
+
+    fn from(fault: FetchFault) -> Self {
+        match fault {
+            FetchFault::Ground => StoreFault::Ground,
+            FetchFault::Form { at, .. } => StoreFault::Damaged { at, names: None },
+            FetchFault::Name { at, want, got } => StoreFault::Damaged {
+                at,
+                names: Some((want, got)),
+            },
+            FetchFault::Memory => StoreFault::Memory,
+        }
+    }
+}
+
+// Puts a place behind the others. Room for it was taken before.
+fn put_place(places: &mut Vec<u64>, place: u64)
+    requires { vec_len places.old < vec_capacity places.old }
+    ensures { places.new.items ≡ places.old.items ++ place ∷ [] }
+{
+    match places.push(place) {
+        Ok(()) => {}
+        Err(_) => unreachable!(),
+    }
+}
+
 impl Store {
     // The name of a retained commit.
     pub(crate) fn retained_name(&self, number: Number) -> Hash
@@ -156,7 +193,8 @@ impl Store {
     // Refused where the branch is at a commit that is none of these.
     fn head_among(&self, parents: &[Number], branch: &[u8]) -> Result<(), StoreFault>
         requires tables { (r : Repository) × IsOf self.now r }
-        ensures { (r : Repository) → IsOf self.now r → unless_some (moved_head (head r branch.now) parents.now) (λ n. Reply.HeadMoved (name_at r n)) ≡ refused_by result }
+        ensures refused { (r : Repository) → IsOf self.now r → unless_some (moved_head (head r branch.now) parents.now) (λ n. Reply.HeadMoved (name_at r n)) ≡ refused_by result }
+        ensures undamaged { IsUndamaged result }
     {
         match self.branches.get(branch) {
             Some(head) if !parents.contains(&head) => Err(StoreFault::HeadMoved(self.retained_name(
@@ -168,7 +206,8 @@ impl Store {
 
     // Refused where the branch would be one too many.
     pub(crate) fn room_for(&self, branch: &[u8]) -> Result<(), StoreFault>
-        ensures { (r : Repository) → IsOf self.now r → room_for_branch r branch.now ≡ refused_by result }
+        ensures refused { (r : Repository) → IsOf self.now r → room_for_branch r branch.now ≡ refused_by result }
+        ensures undamaged { IsUndamaged result }
     {
         if self.branches.get(branch).is_none() && self.branches.len() >= MOST_BRANCHES {
             return Err(StoreFault::Limit(Limit::Branches));
@@ -178,7 +217,8 @@ impl Store {
 
     // Refused where a commit has the name.
     fn is_new(&self, name: Hash) -> Result<(), StoreFault>
-        ensures { (r : Repository) → IsOf self.now r → not_existing r name ≡ refused_by result }
+        ensures refused { (r : Repository) → IsOf self.now r → not_existing r name ≡ refused_by result }
+        ensures undamaged { IsUndamaged result }
     {
         if self.names.place_of(&name).is_some() {
             return Err(StoreFault::Existing(name));
@@ -218,7 +258,7 @@ impl Store {
         })
     }
 
-    // Enters a commit's name, its parents and its branch. Where memory is refused nothing is entered.
+    // Enters a commit's name, its parents and its branch, and takes room for its place. Where memory is refused nothing is entered.
     fn enter(
         &mut self,
         name: Hash,
@@ -232,9 +272,12 @@ impl Store {
         requires parents { MayEnter self.old.history parents.now }
         ensures ok { OnOk result ((self.new.names ≡ self.old.names ++ name ∷ []) × (self.new.branches ≡ insert self.old.branches branch.now number)) }
         ensures history { OnOk result (self.new.history ≡ with_parents self.old.history parents.now) }
-        ensures err { OnErr result ((self.new.names ≡ self.old.names) × (self.new.branches ≡ self.old.branches) × (self.new.history ≡ self.old.history)) }
-        ensures rest { (self.new.index ≡ self.old.index) × (self.new.slot ≡ self.old.slot) }
+        ensures room { OnOk result (vec_len self.new.places < vec_capacity self.new.places) }
+        ensures err { OnErr result (SameTables self.old self.new) }
+        ensures rest { (self.new.index ≡ self.old.index) × (self.new.slot ≡ self.old.slot) × (self.new.space ≡ self.old.space) }
+        ensures places { self.new.places.items ≡ self.old.places.items }
     {
+        self.places.reserve(1)?;
         self.names.push(name)?;
         let entered = enter_head(
             &mut self.branches,
@@ -274,6 +317,7 @@ impl Store {
             Commits r work.old branch.now info result self.new (G.told outside.old) (G.told outside.new) }
         ensures counts { NoneFalls (G.counts_of outside.old) (G.counts_of outside.new) }
         ensures cause { IsErrOf result StoreFault.Ground → Rose (G.counts_of outside.old).file_faults (G.counts_of outside.new).file_faults }
+        ensures undamaged { IsUndamaged result }
     {
         let answer = self.commit_work(alloc, outside, work, branch, info);
         self.met = met_by(&answer);
@@ -297,6 +341,7 @@ impl Store {
         ensures sequence { (r : Repository) → IsOf self.now r → IsLawful r work.now → IsErrOf result (StoreFault.Limit Limit.Sequence) →
             (end_of r work.now branch.now info self.now ≤ 2 ^ 62) × (self.now.slot.sequence ≡ 2 ^ 62) }
         ensures no_fault { IsErrOf result StoreFault.Ground → ⊥ }
+        ensures undamaged { IsUndamaged result }
     {
         self.head_among(work.parents.as_slice(), branch)?;
         self.room_for(branch)?;
@@ -357,6 +402,7 @@ impl Store {
             Commits r work.old branch.now info result self.new (G.told outside.old) (G.told outside.new) }
         ensures counts { NoneFalls (G.counts_of outside.old) (G.counts_of outside.new) }
         ensures cause { IsErrOf result StoreFault.Ground → Rose (G.counts_of outside.old).file_faults (G.counts_of outside.new).file_faults }
+        ensures undamaged { IsUndamaged result }
     {
         let plan = self.plan(alloc, work, branch, info)?;
         let name = plan.batch.name();
@@ -375,7 +421,9 @@ impl Store {
             &plan.slot,
         )?;
         self.index = 1 - self.index;
+        self.space.grow(plan.slot.end);
         self.slot = plan.slot;
+        put_place(&mut self.places, plan.batch.commit_at());
         work.parents = plan.parents;
         work.least = Some(plan.number);
         Ok(name)

@@ -8,6 +8,7 @@ mod history;
 mod naming;
 mod opening;
 mod publish;
+mod show;
 mod store;
 #[cfg(test)]
 mod tests;
@@ -20,6 +21,7 @@ pub use batch::{Batch, CommitFields};
 pub use branches::Branches;
 pub use committing::StoreFault;
 pub use opening::OpenFault;
+pub use show::Shown;
 pub use store::{DEFAULT_CHUNK, InitFault, Store, chunk_allowed};
 pub use tree::{Tree, TreeFault};
 pub use work::Work;

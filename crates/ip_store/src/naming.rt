@@ -1,13 +1,13 @@
 // Setting branches and taking them away: one record behind all others, and the slot that ends there.
-ghost use Rattle.std.specs.Prelude.{◌≡◌, ◌+◌, length, true, IsTrue, IfSome, IfOk, OnOk, OnErr, IsErrOf, IsSome};
+ghost use Rattle.std.specs.Prelude.{◌≡◌, ◌+◌, length, true, false, Ok, IsTrue, IfSome, IfOk, OnOk, OnErr, IsErrOf, IsSome};
 ghost use Rattle.ip_ground.specs.Counts.{NoneFalls, Rose};
 ghost use Rattle.ip_spec.specs.Record.{Fits, IsBranchName, spelling};
 ghost use Rattle.ip_spec.specs.Repository.{Repository, head, is_retained};
-ghost use Rattle.ip_spec.specs.Step.{with_branch};
+ghost use Rattle.ip_spec.specs.Step.{with_branch, room_for_branch};
 ghost use Rattle.ip_spec.specs.declared.record.Record.TheVariants as Record;
 ghost use Rattle.ip_image.specs.Slot.{IsSlot};
 ghost use Rattle.ip_image.specs.Appending.{MayName, renamed};
-ghost use Rattle.ip_store.specs.Changes.{Changes, LimitsSpace};
+ghost use Rattle.ip_store.specs.Changes.{Changes, IsUndamaged, LimitsSpace};
 ghost use Rattle.ip_store.specs.Commits.{met_by};
 ghost use Rattle.ip_store.specs.Naming.{branch_reply, removed_reply, AnswersSet, AnswersRemove, without_branch, SlotLater, Renames};
 ghost use Rattle.ip_store.specs.Store.{IsOf, Holds, IsSound};
@@ -88,6 +88,7 @@ impl Store {
             Changes r (renamed r rec) result self.new (G.told outside.old) (G.told outside.new) }
         ensures counts { NoneFalls (G.counts_of outside.old) (G.counts_of outside.new) }
         ensures cause { IsErrOf result StoreFault.Ground → Rose (G.counts_of outside.old).file_faults (G.counts_of outside.new).file_faults }
+        ensures undamaged { IsUndamaged result }
     {
         let spelled = spelled(alloc, &rec)?;
         let bytes = spelled.as_slice();
@@ -95,6 +96,7 @@ impl Store {
         name_branch(&mut self.branches, rec)?;
         durable_step(outside, self.slot.end, bytes, 1 - self.index, &slot)?;
         self.index = 1 - self.index;
+        self.space.grow(slot.end);
         self.slot = slot;
         Ok(())
     }
@@ -114,11 +116,14 @@ impl Store {
         requires held { IsTrue G.tells → IsSound self.old (G.told outside.old) }
         ensures answers { (r : Repository) → IsOf self.old r → IsTrue (is_retained r number) →
             IfSome (branch_reply result) (AnswersSet r name.now number self.new.met self.new) }
+        // Files are only touched where there is room for it.
+        ensures begun { (r : Repository) → IsOf self.old r → IsErrOf result StoreFault.Ground → room_for_branch r name.now ≡ Ok tt }
         ensures limits { LimitsSpace (self.old.slot.end + length (spelling (Record.BranchSet number name.now))) result self.old }
         ensures does { IsTrue G.tells → (r : Repository) → Holds self.old (G.told outside.old) r → IsTrue (is_retained r number) →
             Changes r (with_branch r name.now number) result self.new (G.told outside.old) (G.told outside.new) }
         ensures counts { NoneFalls (G.counts_of outside.old) (G.counts_of outside.new) }
         ensures cause { IsErrOf result StoreFault.Ground → Rose (G.counts_of outside.old).file_faults (G.counts_of outside.new).file_faults }
+        ensures undamaged { IsUndamaged result }
     {
         let answer = self.put_branch(alloc, outside, name, number);
         self.met = met_by(&answer);
@@ -137,11 +142,14 @@ impl Store {
         requires held { IsTrue G.tells → IsSound self.old (G.told outside.old) }
         ensures answers { (r : Repository) → IsOf self.old r → IsTrue (is_retained r number) →
             IfSome (branch_reply result) (AnswersSet r name.now number (met_by result) self.new) }
+        // Files are only touched where there is room for it.
+        ensures begun { (r : Repository) → IsOf self.old r → IsErrOf result StoreFault.Ground → room_for_branch r name.now ≡ Ok tt }
         ensures limits { LimitsSpace (self.old.slot.end + length (spelling (Record.BranchSet number name.now))) result self.old }
         ensures does { IsTrue G.tells → (r : Repository) → Holds self.old (G.told outside.old) r → IsTrue (is_retained r number) →
             Changes r (with_branch r name.now number) result self.new (G.told outside.old) (G.told outside.new) }
         ensures counts { NoneFalls (G.counts_of outside.old) (G.counts_of outside.new) }
         ensures cause { IsErrOf result StoreFault.Ground → Rose (G.counts_of outside.old).file_faults (G.counts_of outside.new).file_faults }
+        ensures undamaged { IsUndamaged result }
     {
         self.room_for(name)?;
         let rec = set_record(alloc, name, number)?;
@@ -160,11 +168,15 @@ impl Store {
         requires tables { (r : Repository) × IsOf self.old r }
         requires held { IsTrue G.tells → IsSound self.old (G.told outside.old) }
         ensures answers { (r : Repository) → IsOf self.old r → IfSome (removed_reply name.now result) (AnswersRemove r name.now self.new.met self.new) }
+        ensures absent { result ≡ Ok false → outside.new ≡ outside.old }
+        // Files are only touched where there is such a branch.
+        ensures begun { (r : Repository) → IsOf self.old r → IsErrOf result StoreFault.Ground → IsSome (head r name.now) }
         ensures limits { (r : Repository) → IsOf self.old r → IsSome (head r name.now) → LimitsSpace (self.old.slot.end + length (spelling (Record.BranchRemove name.now))) result self.old }
         ensures does { IsTrue G.tells → (r : Repository) → Holds self.old (G.told outside.old) r →
             Changes r (without_branch r name.now) result self.new (G.told outside.old) (G.told outside.new) }
         ensures counts { NoneFalls (G.counts_of outside.old) (G.counts_of outside.new) }
         ensures cause { IsErrOf result StoreFault.Ground → Rose (G.counts_of outside.old).file_faults (G.counts_of outside.new).file_faults }
+        ensures undamaged { IsUndamaged result }
     {
         let answer = self.take_branch(alloc, outside, name);
         self.met = met_by(&answer);
@@ -181,11 +193,15 @@ impl Store {
         requires tables { (r : Repository) × IsOf self.old r }
         requires held { IsTrue G.tells → IsSound self.old (G.told outside.old) }
         ensures answers { (r : Repository) → IsOf self.old r → IfSome (removed_reply name.now result) (AnswersRemove r name.now (met_by result) self.new) }
+        ensures absent { result ≡ Ok false → outside.new ≡ outside.old }
+        // Files are only touched where there is such a branch.
+        ensures begun { (r : Repository) → IsOf self.old r → IsErrOf result StoreFault.Ground → IsSome (head r name.now) }
         ensures limits { (r : Repository) → IsOf self.old r → IsSome (head r name.now) → LimitsSpace (self.old.slot.end + length (spelling (Record.BranchRemove name.now))) result self.old }
         ensures does { IsTrue G.tells → (r : Repository) → Holds self.old (G.told outside.old) r →
             Changes r (without_branch r name.now) result self.new (G.told outside.old) (G.told outside.new) }
         ensures counts { NoneFalls (G.counts_of outside.old) (G.counts_of outside.new) }
         ensures cause { IsErrOf result StoreFault.Ground → Rose (G.counts_of outside.old).file_faults (G.counts_of outside.new).file_faults }
+        ensures undamaged { IsUndamaged result }
     {
         if self.head(name).is_none() {
             return Ok(false);

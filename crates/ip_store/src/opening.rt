@@ -2,11 +2,12 @@
 ghost use Rattle.std.specs.Prelude.{◌≡◌, ◌↔◌, ◌+◌, ◌*◌, ◌<◌, length, IsTrue, IfOk, IsErrOf};
 ghost use Rattle.ip_ground.specs.Counts.{NoneFalls, Rose};
 ghost use Rattle.ip_spec.specs.Repository.{Repository};
-ghost use Rattle.ip_image.specs.Slot.{IsSlot};
+ghost use Rattle.ip_image.specs.Slot.{IsSlot, layout_of};
 ghost use Rattle.ip_image.specs.Standing.{AreRetained};
 ghost use Rattle.ip_store.specs.Opening.{Opens};
 ghost use Rattle.ip_store.specs.Found.{FindsSlot, Finishes};
 ghost use Rattle.ip_store.specs.Commits.{met_nothing};
+ghost use Rattle.ip_store.specs.Placed.{IsSpaceOf};
 ghost use Rattle.ip_store.specs.Store.{IsOf, IsSound};
 ghost use Rattle.ip_ground.specs.declared.names.FileName.TheVariants.{Control};
 
@@ -17,6 +18,7 @@ use ip_audit::Names;
 use ip_base::Memory;
 use ip_control::{ControlFault, Slot, read_live};
 use ip_ground::{FileName, Ground, GroundFault};
+use ip_space::{Layout, Space};
 use ip_spec::met::{Child, Met};
 use std::alloc::Global;
 
@@ -54,8 +56,8 @@ impl From<Memory> for OpenFault {
 }
 
 impl Store {
-    /// Opens the store: it reads each byte of its records once, and keeps the names of the commits and the branches. Besides these it
-    /// takes memory for a buffer of two mebibytes at most and for one record. `NoStore` and `Damaged` are final; after the other two it
+    /// Opens the store: it reads each byte of its records once, and keeps the names of the commits, where their records lie, and the
+    /// branches. Besides these it takes memory for a buffer of two mebibytes at most and for one record. `NoStore` and `Damaged` are final; after the other two it
     /// may be tried again.
     pub fn open_at<G: Ground>(alloc: Global, outside: &mut G) -> Result<Store, OpenFault>
         ensures tables { IfOk result (λ store. (r : Repository) × IsOf store r) }
@@ -66,7 +68,8 @@ impl Store {
     {
         let (index, slot) = find_slot(outside)?;
         let found = read_records(alloc, outside, &slot)?;
-        finish(index, slot, found)
+        let space = space_of(alloc, outside, &slot);
+        finish(index, slot, found, space)
     }
 }
 
@@ -99,14 +102,42 @@ fn slot_damaged(index: u8) -> OpenFault
     }
 }
 
-// The store of a slot and its records, where the two go together.
-fn finish(index: u8, slot: Slot, found: Found) -> Result<Store, OpenFault>
-    requires { IsSlot slot }
+// Where the records of a slot lie.
+fn layout_of(slot: &Slot) -> Layout
+    ensures { result ≡ layout_of slot.now }
+{
+    Layout {
+        chunk: slot.chunk,
+        horizon: slot.horizon,
+        end: slot.end,
+        live: slot.live,
+        prefix_len: slot.prefix_len,
+        rows: slot.rows,
+    }
+}
+
+// The space of a slot's records. While no generation of a collection is live nothing is read for it.
+fn space_of<G: Ground>(alloc: Global, outside: &mut G, slot: &Slot) -> Space
+    requires { IsSlot slot.now }
+    ensures view { IsSpaceOf slot.now result }
+    ensures unread { outside.new ≡ outside.old }
+{
+    match Space::of(alloc, outside, layout_of(slot)) {
+        Ok(space) => space,
+        Err(_) => unreachable!(),
+    }
+}
+
+// The store of a slot, its space and its records, where slot and records go together.
+fn finish(index: u8, slot: Slot, found: Found, space: Space) -> Result<Store, OpenFault>
+    requires slot { IsSlot slot }
+    requires space { IsSpaceOf slot space }
     ensures finishes { Finishes index slot found result }
     ensures met { IfOk result (λ store. store.met ≡ met_nothing) }
 {
     let Found {
         audit,
+        places,
         branches,
         history,
     } = found;
@@ -118,8 +149,10 @@ fn finish(index: u8, slot: Slot, found: Found) -> Result<Store, OpenFault>
         index,
         slot,
         names,
+        places,
         branches,
         history,
+        space,
         met: nothing_met(),
     })
 }
@@ -153,7 +186,7 @@ pub(crate) fn nothing_met() -> Met
 mod tests {
     use super::*;
     use crate::StoreFault;
-    use ip_base::Number;
+    use ip_base::{Hash, Number};
     use ip_ground::Bench;
     use ip_object::hash_contents;
     use std::test::Fail;
@@ -182,14 +215,47 @@ mod tests {
         out
     }
 
+    // The first commit, of a root, by `a` with the message `m`.
+    fn put_commit(out: &mut Vec<u8>, root: Hash, at: u8) -> Result<(), Memory> {
+        out.extend_from_slice(&[4, 62, 0, 0, 0, 0, 0, 0, 0, 0, 0, 0, 0])?;
+        out.extend_from_slice(root.as_slice())?;
+        out.extend_from_slice(&[at, 0, 0, 0, 0, 0, 0, 0])?;
+        out.extend_from_slice(&[0, 7, 0, 0, 0, 0, 0, 0, 0, 1, b'a', 1, 0, b'm'])?;
+        Ok(())
+    }
+
+    // A directory of one entry, and its name. The entry is a step of one byte, a kind and a height.
+    fn put_directory(
+        alloc: Global,
+        out: &mut Vec<u8>,
+        entry: &[u8; 3],
+        name: Hash,
+        at: u8,
+    ) -> Result<Hash, Memory> {
+        out.extend_from_slice(&[2, 48, 0, 0, 0, 1, 0, 0, 0, 1])?;
+        out.extend_from_slice(entry)?;
+        out.extend_from_slice(name.as_slice())?;
+        out.extend_from_slice(&[at, 0, 0, 0, 0, 0, 0, 0])?;
+        let mut hashed = Vec::from_slice(alloc, &[2, 1, 0, 0, 0, 1])?;
+        hashed.extend_from_slice(&entry[..2])?;
+        hashed.extend_from_slice(name.as_slice())?;
+        Ok(hash_contents(&hashed))
+    }
+
+    // Contents, a directory of them at 6, one of that directory at 59, and a commit of this at 112. They end at 179. The entry
+    // of the directory says that it lies at a place.
+    fn nested(alloc: Global, at: u8) -> Result<Vec<u8>, Memory> {
+        let mut out = Vec::from_slice(alloc, &[1, 1, 0, 0, 0, 2])?;
+        let below = put_directory(alloc, &mut out, &[b'b', 1, 0], hash_contents(&[2]), 0)?;
+        let root = put_directory(alloc, &mut out, &[b'a', 2, 1], below, at)?;
+        put_commit(&mut out, root, 59)?;
+        Ok(out)
+    }
+
     // An empty directory, a commit of it by `a` with the message `m`, and the branch `main` at a commit. They end at 9, 76 and 94.
     fn records(alloc: Global, branch: u8) -> Result<Vec<u8>, Memory> {
         let mut out = Vec::from_slice(alloc, &[2, 4, 0, 0, 0, 0, 0, 0, 0])?;
-        out.extend_from_slice(&[4, 62, 0, 0, 0, 0, 0, 0, 0, 0, 0, 0, 0])?;
-        out.extend_from_slice(hash_contents(&[2, 0, 0, 0, 0]).as_slice())?;
-        out.extend_from_slice(&[
-            0, 0, 0, 0, 0, 0, 0, 0, 0, 7, 0, 0, 0, 0, 0, 0, 0, 1, b'a', 1, 0, b'm',
-        ])?;
+        put_commit(&mut out, hash_contents(&[2, 0, 0, 0, 0]), 0)?;
         out.extend_from_slice(&[5, 13, 0, 0, 0, branch, 0, 0, 0, 0, 0, 0, 0, 4])?;
         out.extend_from_slice(b"main")?;
         Ok(out)
@@ -249,7 +315,9 @@ mod tests {
         let Some(number) = store.head(b"main") else {
             return Ok(false);
         };
-        store.set_branch(alloc, ground, b"dev", number)?;
+        let Ok(()) = store.set_branch(alloc, ground, b"dev", number) else {
+            return Ok(false);
+        };
         store.remove_branch(alloc, ground, b"main")
     }
 
@@ -308,15 +376,19 @@ mod tests {
     }
 
     #[test]
-    fn other_records_are_none_yet(rt: HostRuntime) -> Result<(), Fail> {
-        // An inode, and behind an empty directory one whose entry is a directory.
-        let mut inode = Vec::from_slice(rt.alloc(), &[3, 50, 0, 0, 0, 0, 1, 0, 0, 0, 40, 0, 0, 0])?;
+    fn directories_may_be_nested_and_inodes_are_none_yet(rt: HostRuntime) -> Result<(), Fail> {
+        let alloc = rt.alloc();
+        let good = nested(alloc, 6)?;
+        assert_eq!(&rt; opened(&rt, &control(179, 1, 0), &good), Ok((1, 0, None)));
+        // The entry leads to contents.
+        let other = nested(alloc, 0)?;
+        assert_eq!(&rt;
+            opened(&rt, &control(179, 1, 0), &other),
+            damaged(CHUNK, 59)
+        );
+        let mut inode = Vec::from_slice(alloc, &[3, 50, 0, 0, 0, 0, 1, 0, 0, 0, 40, 0, 0, 0])?;
         inode.extend_from_slice(&[0; 50])?;
-        let mut nested = Vec::from_slice(rt.alloc(), &[2, 4, 0, 0, 0, 0, 0, 0, 0])?;
-        nested.extend_from_slice(&[2, 48, 0, 0, 0, 1, 0, 0, 0, 1, b'd', 2, 1])?;
-        nested.extend_from_slice(&[0; 50])?;
         assert_eq!(&rt; opened(&rt, &control(55, 0, 0), &inode), damaged(CHUNK, 0));
-        assert_eq!(&rt; opened(&rt, &control(62, 0, 0), &nested), damaged(CHUNK, 9));
         Ok(())
     }
 

@@ -1,22 +1,26 @@
 // The control file of a store without commits.
-ghost use Rattle.std.specs.Prelude.{◌≡◌, ◌↔◌, IsTrue, OnErr, IfOk, IsErrOf, is_some, take, length, ◌+◌, ◌≤◌, nat_le, ◌&&◌, ◌==◌, slice_index, slice_get, option_map, MatchOption, None, Some};
+ghost use Rattle.std.specs.Prelude.{◌≡◌, ◌↔◌, IsTrue, OnErr, IfOk, IsErrOf, is_some, take, length, ◌+◌, ◌≤◌, nat_le, ◌&&◌, ◌==◌, slice_index, slice_get, map, option_map, MatchOption, None, Some};
 ghost use Rattle.ip_ground.specs.Counts.{NoneFalls, Rose};
 ghost use Rattle.ip_ground.specs.Told.{NoFile, ChangesOnly};
 ghost use Rattle.ip_image.specs.Slot.{IsChunkSize, live_index, fresh_control};
 ghost use Rattle.ip_store.specs.Control.{control_in};
 ghost use Rattle.ip_spec.specs.Map.{len};
 ghost use Rattle.ip_spec.specs.Repository.{Repository, next, head, number_named, commit_at};
+ghost use Rattle.ip_spec.specs.Step.{head_of};
 ghost use Rattle.ip_spec.specs.declared.met.Phase.TheVariants as Phase;
 ghost use Rattle.ip_store.specs.Opening.{Makes};
 ghost use Rattle.ip_store.specs.Store.{IsOf};
 
 use crate::Branches;
 use ip_audit::Names;
-use ip_base::{Hash, Number};
+use ip_base::{Blob, Hash, Items, Memory, Number};
 use ip_control::{GATE_OPEN, Slot};
 use ip_ground::{FileName, Ground, GroundFault};
 use ip_history::Table;
+use ip_space::Space;
 use ip_spec::met::{Met, Phase};
+use ip_spec::reply::{Head, Heads};
+use std::alloc::Global;
 
 /// The bytes of a chunk where nothing else was asked for.
 pub const DEFAULT_CHUNK: u64 = 1048576;
@@ -47,14 +51,18 @@ impl From<GroundFault> for InitFault {
     }
 }
 
-/// An open store: its live slot, and what its records say of commits, branches and parents.
+/// An open store: its live slot, the space of its records, and what they say of commits, branches and parents.
 #[derive(Drop)]
 pub struct Store {
     pub(crate) index: u8,
     pub(crate) slot: Slot,
     pub(crate) names: Names,
+    // Where the records of the commits lie, in the order of their numbers.
+    pub(crate) places: Vec<u64>,
     pub(crate) branches: Branches,
     pub(crate) history: Table,
+    // Up to the end that the live slot names.
+    pub(crate) space: Space,
     pub(crate) met: Met,
 }
 
@@ -123,6 +131,21 @@ impl Store {
             MatchOption result (slice_get r.branches.entries place ≡ None) (λ e. slice_get r.branches.entries place ≡ Some (e.0.now, e.1)) }
     {
         self.branches.at(place as usize)
+    }
+
+    /// The branches and the names of their commits, in the order of the branches' names.
+    pub fn branches(&self, alloc: Global) -> Result<Heads, Memory>
+        requires { (r : Repository) × IsOf self.now r }
+        ensures { (r : Repository) → IsOf self.now r → IfOk result (λ heads. heads ≡ map (head_of r) r.branches.entries) }
+    {
+        let mut heads = Vec::with_capacity(alloc, self.branches.len())?;
+        for (branch, number) in self.branches.iter() {
+            heads.push(Head {
+                branch: Blob::copy_of(alloc, branch)?,
+                name: self.retained_name(*number),
+            })?;
+        }
+        Ok(Items::of(heads))
     }
 
     /// The number of the retained commit of a name.

@@ -1,10 +1,11 @@
 // The walk over a store's records: each is read once, in the order of the offsets, and tested behind those before it.
-ghost use Rattle.std.specs.Prelude.{◌≡◌, ◌↔◌, ℕ, [], ◌<◌, map, IsTrue, IfOk, OnOk, OnErr, IsErrOf};
+ghost use Rattle.std.specs.Prelude.{◌≡◌, ◌↔◌, ℕ, [], ◌∷◌, ◌++◌, ◌<◌, map, IsTrue, IfOk, OnOk, OnErr, IsErrOf};
 ghost use Rattle.ip_ground.specs.Counts.{NoneFalls, Rose};
 ghost use Rattle.ip_ground.specs.Told.{NoFile, ChangesOnly};
 ghost use Rattle.ip_spec.specs.Record.{Names, Fits};
 ghost use Rattle.ip_image.specs.Slot.{IsSlot};
 ghost use Rattle.ip_image.specs.Standing.{IsServedKind, names_after};
+ghost use Rattle.ip_store.specs.Placed.{places_in};
 ghost use Rattle.ip_store.specs.Window.{chunk, IsWindow};
 ghost use Rattle.ip_store.specs.Histories.{RecordEnters, history_after};
 ghost use Rattle.ip_spec.specs.declared.record.Parent.{Parent};
@@ -30,6 +31,8 @@ use std::alloc::Global;
 #[derive(Drop)]
 pub struct Found {
     pub audit: Audit,
+    /// Where the records of the commits lie, in their order.
+    pub places: Vec<u64>,
     pub branches: Branches,
     pub history: Table,
 }
@@ -45,6 +48,7 @@ impl Found {
         };
         Found {
             audit: Audit::new(alloc, terms),
+            places: Vec::new(alloc),
             branches: Branches::new(alloc),
             history: Table::new(alloc, Number(slot.floor)),
         }
@@ -58,10 +62,23 @@ impl Found {
         ensures { TakesOne at rec self.old self.new result }
     {
         self.audit.take(at, &rec)?;
+        if let Err(Memory) = enter_place(&mut self.places, at, &rec) {
+            return Err(AuditFault::Memory);
+        }
         match enter(alloc, &mut self.history, &mut self.branches, rec) {
             Ok(()) => Ok(()),
             Err(_) => Err(AuditFault::Memory),
         }
+    }
+}
+
+// Puts the place of a commit behind those before it.
+fn enter_place(places: &mut Vec<u64>, at: u64, rec: &Record) -> Result<(), Memory>
+    ensures { OnOk result (places.new.items ≡ places.old.items ++ places_in ((at, rec.now) ∷ [])) }
+{
+    match rec {
+        Record::Commit(_) => Ok(places.push(at)?),
+        _ => Ok(()),
     }
 }
 
@@ -122,7 +139,7 @@ pub fn name_branch(branches: &mut Branches, rec: Record) -> Result<(), Memory>
     }
 }
 
-/// Whether records of the kind are served, and for a leaf, whether it is a whole directory of contents.
+/// Whether records of the kind are served, and for a leaf, whether it is a whole directory.
 fn is_served(rec: &Record) -> bool
     ensures { IsTrue result ↔ IsServedKind rec.now }
 {
@@ -131,10 +148,7 @@ fn is_served(rec: &Record) -> bool
         | Record::Commit(_)
         | Record::BranchSet { .. }
         | Record::BranchRemove { .. } => true,
-        Record::Leaf(entries) => {
-            let entries = entries.as_slice();
-            entries.len() <= MOST_ENTRIES && entries.iter().all(|entry| entry.kind == 1)
-        }
+        Record::Leaf(entries) => entries.as_slice().len() <= MOST_ENTRIES,
         _ => false,
     }
 }

@@ -1,3 +1,5 @@
+use Rattle.std.proofs.Common.{sym, subst}
+use Rattle.ip_store.specs.Opening.{Opens}
 use Rattle.ip_store.proofs.OpenedStores.{opens_none, tables_at_end, opens_bad_as, opens_by}
 use Rattle.ip_store.proofs.store.Store.open_at.Goals as goal
 
@@ -17,4 +19,5 @@ pub returns-clause-does : goal.returns-clause-does
 returns-clause-does g c told =
     let order = c.in_ok-index.ensures.order in
     let read = c.in_ok-found.ensures in
-    opens_by c.in_ok-index.index c.in_ok-index.slot order.0 order.1 _ _ _ (c.in_ok-index.ensures.does told) (read.only told) c.in_ok-found.found c.finish.result _ told read.covers c.finish.ensures.finishes
+    subst (λ o. Opens c.finish.result (g.G.Ground.told c.args.outside.now) (g.G.Ground.told o)) (sym c.space_of-space.ensures.unread)
+    (opens_by c.in_ok-index.index c.in_ok-index.slot order.0 order.1 _ _ _ (c.in_ok-index.ensures.does told) (read.only told) c.in_ok-found.found c.finish.result _ told read.covers c.finish.ensures.finishes)

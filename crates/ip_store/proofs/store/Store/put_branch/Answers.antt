@@ -1,4 +1,4 @@
-use Rattle.std.proofs.Common.{◌≡◌, rules, refl, sym, subst}
+use Rattle.std.proofs.Common.{◌≡◌, rules, sym, subst}
 use Rattle.std.specs.Prelude.{Ok, Err, IfSome}
 use Rattle.ip_spec.specs.Record.{Fits}
 use Rattle.ip_spec.specs.Step.{room_for_branch, with_branch}
@@ -7,7 +7,7 @@ use Rattle.ip_store.specs.declared.committing.StoreFault.TheVariants as StoreFau
 use Rattle.ip_store.specs.Changes.{Changes}
 use Rattle.ip_store.specs.Commits.{met_by, refusal}
 use Rattle.ip_store.specs.Naming.{branch_reply, AnswersSet, Renames}
-use Rattle.ip_store.proofs.Stepping.{changes_none}
+use Rattle.ip_store.proofs.Stepping.{itself, changes_none}
 use Rattle.ip_store.proofs.BranchTurns.{set_refused, set_memory, set_answers, set_may, set_fits}
 use Rattle.ip_store.proofs.store.Store.put_branch.Goals as goal
 
@@ -23,7 +23,7 @@ returns-in_err-room_for-clause-does g c told r held retained =
     let fault = c.in_err-room_for.field-0.0 in
     let is : c.from_residual.result ≡ Err fault = search rules in
     subst (λ res. Changes {A = Unit {0}} r (with_branch r c.args.name.now c.args.number) res c.args.self.now (g.G.Ground.told c.args.outside.now) (g.G.Ground.told c.args.outside.now)) (sym is)
-    (changes_none r (with_branch r c.args.name.now c.args.number) fault c.args.self.now c.args.self.now (g.G.Ground.told c.args.outside.now) refl refl refl refl refl held)
+    (changes_none r (with_branch r c.args.name.now c.args.number) fault c.args.self.now c.args.self.now (g.G.Ground.told c.args.outside.now) (itself c.args.self.now) held)
 
 pub returns-in_err-rec-clause-answers : goal.returns-in_err-rec-clause-answers
 returns-in_err-rec-clause-answers g c r of retained =
@@ -34,7 +34,7 @@ pub returns-in_err-rec-clause-does : goal.returns-in_err-rec-clause-does
 returns-in_err-rec-clause-does g c told r held retained =
     let is : c.from_residual-in_err-rec.result ≡ Err StoreFault.Memory = search rules in
     subst (λ res. Changes {A = Unit {0}} r (with_branch r c.args.name.now c.args.number) res c.args.self.now (g.G.Ground.told c.args.outside.now) (g.G.Ground.told c.args.outside.now)) (sym is)
-    (changes_none r (with_branch r c.args.name.now c.args.number) StoreFault.Memory c.args.self.now c.args.self.now (g.G.Ground.told c.args.outside.now) refl refl refl refl refl held)
+    (changes_none r (with_branch r c.args.name.now c.args.number) StoreFault.Memory c.args.self.now c.args.self.now (g.G.Ground.told c.args.outside.now) (itself c.args.self.now) held)
 
 pub rename-requires-clause-tables : goal.rename-requires-clause-tables
 rename-requires-clause-tables g c =

@@ -1,16 +1,16 @@
-use Rattle.std.proofs.Common.{refl, sym, subst}
+use Rattle.std.proofs.Common.{sym, subst}
 use Rattle.std.specs.Prelude.{IfSome}
 use Rattle.ip_store.specs.declared.store.Store.{Store}
 use Rattle.ip_store.specs.Naming.{removed_reply, AnswersRemove}
-use Rattle.ip_store.proofs.Stepping.{same_changes}
+use Rattle.ip_store.proofs.Stepping.{in_itself, same_changes}
 use Rattle.ip_store.proofs.BranchTurns.{same_removed}
 use Rattle.ip_store.proofs.store.Store.remove_branch.Goals as goal
 
 pub returns-clause-answers : goal.returns-clause-answers
 returns-clause-answers g c r of =
-    let store : Store = record { index = c.take_branch-answer.new.self.index; slot = c.take_branch-answer.new.self.slot; names = c.take_branch-answer.new.self.names; branches = c.take_branch-answer.new.self.branches; history = c.take_branch-answer.new.self.history; met = c.met_by-self.result } in
+    let store : Store = record { index = c.take_branch-answer.new.self.index; slot = c.take_branch-answer.new.self.slot; names = c.take_branch-answer.new.self.names; branches = c.take_branch-answer.new.self.branches; history = c.take_branch-answer.new.self.history; places = c.take_branch-answer.new.self.places; space = c.take_branch-answer.new.self.space; met = c.met_by-self.result } in
     subst (λ met. IfSome (removed_reply c.args.name.now c.take_branch-answer.result) (AnswersRemove r c.args.name.now met store)) (sym c.met_by-self.ensures)
-    (same_removed c.take_branch-answer.new.self store refl refl refl refl refl r c.args.name.now _ _ (c.take_branch-answer.ensures.answers r of))
+    (same_removed c.take_branch-answer.new.self store (in_itself c.take_branch-answer.new.self c.met_by-self.result) r c.args.name.now _ _ (c.take_branch-answer.ensures.answers r of))
 
 pub returns-clause-does : goal.returns-clause-does
-returns-clause-does g c told r held = same_changes c.take_branch-answer.new.self _ refl refl refl refl refl r _ _ _ _ (c.take_branch-answer.ensures.does told r held)
+returns-clause-does g c told r held = same_changes c.take_branch-answer.new.self _ (in_itself c.take_branch-answer.new.self c.met_by-self.result) r _ _ _ _ (c.take_branch-answer.ensures.does told r held)

@@ -5,29 +5,29 @@ use Rattle.ip_image.specs.Appending.{renamed}
 use Rattle.ip_store.specs.declared.committing.StoreFault.TheVariants as StoreFault
 use Rattle.ip_store.specs.declared.store.Store.{Store}
 use Rattle.ip_store.specs.Changes.{Changes}
-use Rattle.ip_store.proofs.Stepping.{changes_none, same_step}
-use Rattle.ip_store.proofs.Renamed.{renamed_tables, can_rename, was_renamed, rename_cut, slot_from, may_same}
+use Rattle.ip_store.proofs.Stepping.{itself, changes_none, same_step}
+use Rattle.ip_store.proofs.Renamed.{renamed_tables, further, inside, can_rename, was_renamed, rename_cut, slot_from, may_same}
 use Rattle.ip_store.proofs.store.Store.rename.Goals as goal
 
 pub returns-in_err-spelled-clause-does : goal.returns-in_err-spelled-clause-does
 returns-in_err-spelled-clause-does g c told r held may =
     let is : c.from_residual.result ≡ Err StoreFault.Memory = search rules in
     subst (λ res. Changes {A = Unit {0}} r (renamed r c.args.rec) res c.args.self.now (g.G.Ground.told c.args.outside.now) (g.G.Ground.told c.args.outside.now)) (sym is)
-    (changes_none r (renamed r c.args.rec) StoreFault.Memory c.args.self.now c.args.self.now (g.G.Ground.told c.args.outside.now) refl refl refl refl refl held)
+    (changes_none r (renamed r c.args.rec) StoreFault.Memory c.args.self.now c.args.self.now (g.G.Ground.told c.args.outside.now) (itself c.args.self.now) held)
 
 pub returns-in_err-slot-clause-does : goal.returns-in_err-slot-clause-does
 returns-in_err-slot-clause-does g c told r held may =
     let fault = c.in_err-slot.field-0.0 in
     let is : c.from_residual-in_err-slot.result ≡ Err fault = search rules in
     subst (λ res. Changes {A = Unit {0}} r (renamed r c.args.rec) res c.args.self.now (g.G.Ground.told c.args.outside.now) (g.G.Ground.told c.args.outside.now)) (sym is)
-    (changes_none r (renamed r c.args.rec) fault c.args.self.now c.args.self.now (g.G.Ground.told c.args.outside.now) refl refl refl refl refl held)
+    (changes_none r (renamed r c.args.rec) fault c.args.self.now c.args.self.now (g.G.Ground.told c.args.outside.now) (itself c.args.self.now) held)
 
 pub returns-in_err-name_branch-clause-does : goal.returns-in_err-name_branch-clause-does
 returns-in_err-name_branch-clause-does g c told r held may =
     let is : c.from_residual-in_err-name_branch.result ≡ Err StoreFault.Memory = search rules in
-    let store : Store = record { index = c.args.self.now.index; slot = c.args.self.now.slot; names = c.args.self.now.names; branches = c.name_branch.new.branches; history = c.args.self.now.history; met = c.args.self.now.met } in
+    let store : Store = record { index = c.args.self.now.index; slot = c.args.self.now.slot; names = c.args.self.now.names; branches = c.name_branch.new.branches; history = c.args.self.now.history; places = c.args.self.now.places; space = c.args.self.now.space; met = c.args.self.now.met } in
     subst (λ res. Changes {A = Unit {0}} r (renamed r c.args.rec) res store (g.G.Ground.told c.args.outside.now) (g.G.Ground.told c.args.outside.now)) (sym is)
-    (changes_none r (renamed r c.args.rec) StoreFault.Memory c.args.self.now store (g.G.Ground.told c.args.outside.now) refl refl refl c.in_err-name_branch.ensures.err refl held)
+    (changes_none r (renamed r c.args.rec) StoreFault.Memory c.args.self.now store (g.G.Ground.told c.args.outside.now) (record { index = refl; slot = refl; names = refl; places = refl; branches = c.in_err-name_branch.ensures.err; history = refl; space = refl }) held)
 
 pub durable_step-requires-clause-sound : goal.durable_step-requires-clause-sound
 durable_step-requires-clause-sound g c told =
@@ -37,11 +37,21 @@ durable_step-requires-clause-sound g c told =
     can_rename r c.args.self.now held.tables c.args.rec (may_same c.args.self.now c.requires.tables.0 r c.args.rec c.requires.tables.1 held.tables c.requires.tables.2) c.requires.fits c.in_ok-slot.slot slot.0 slot.1 slot.2
     (g.G.Ground.told c.args.outside.now) held
 
+pub grow-requires-clause-further : goal.grow-requires-clause-further
+grow-requires-clause-further g c =
+    let slot = slot_from c.args.self.now.slot c.args.rec _ c.in_ok-slot.slot (ap length (c.as_slice-bytes.ensures.value ∙ c.in_ok-spelled.ensures)) c.in_ok-slot.ensures in
+    further c.requires.tables.0 c.args.self.now c.requires.tables.1 c.args.rec c.requires.tables.2 c.requires.fits c.in_ok-slot.slot slot.0 slot.1 slot.2
+
+pub grow-requires-clause-ends : goal.grow-requires-clause-ends
+grow-requires-clause-ends g c =
+    let slot = slot_from c.args.self.now.slot c.args.rec _ c.in_ok-slot.slot (ap length (c.as_slice-bytes.ensures.value ∙ c.in_ok-spelled.ensures)) c.in_ok-slot.ensures in
+    inside c.requires.tables.0 c.args.self.now c.requires.tables.1 c.args.rec c.requires.tables.2 c.requires.fits c.in_ok-slot.slot slot.0 slot.1 slot.2
+
 pub returns-in_err-durable_step-clause-does : goal.returns-in_err-durable_step-clause-does
 returns-in_err-durable_step-clause-does g c told r held may =
     let is : c.from_residual-in_err-durable_step.result ≡ Err StoreFault.Ground = search rules in
     let slot = slot_from c.args.self.now.slot c.args.rec _ c.in_ok-slot.slot (ap length (c.as_slice-bytes.ensures.value ∙ c.in_ok-spelled.ensures)) c.in_ok-slot.ensures in
-    let store : Store = record { index = c.args.self.now.index; slot = c.args.self.now.slot; names = c.args.self.now.names; branches = c.name_branch.new.branches; history = c.args.self.now.history; met = c.args.self.now.met } in
+    let store : Store = record { index = c.args.self.now.index; slot = c.args.self.now.slot; names = c.args.self.now.names; branches = c.name_branch.new.branches; history = c.args.self.now.history; places = c.args.self.now.places; space = c.args.self.now.space; met = c.args.self.now.met } in
     subst (λ res. Changes {A = Unit {0}} r (renamed r c.args.rec) res store (g.G.Ground.told c.args.outside.now) (g.G.Ground.told c.durable_step.new.outside)) (sym is)
     (rename_cut r c.args.self.now held.tables c.args.rec may c.requires.fits c.in_ok-slot.slot slot.0 slot.1 slot.2 (g.G.Ground.told c.args.outside.now) held (g.G.Ground.told c.durable_step.new.outside) store _
     (same_step c.args.self.now.slot.end c.args.self.now.slot.end c.args.self.now.index c.args.self.now.index _ (spelling c.args.rec) c.in_ok-slot.slot _ (g.G.Ground.told c.args.outside.now) (g.G.Ground.told c.durable_step.new.outside)
@@ -50,11 +60,11 @@ returns-in_err-durable_step-clause-does g c told r held may =
 pub returns-clause-tables : goal.returns-clause-tables
 returns-clause-tables g c r of may =
     let slot = slot_from c.args.self.now.slot c.args.rec _ c.in_ok-slot.slot (ap length (c.as_slice-bytes.ensures.value ∙ c.in_ok-spelled.ensures)) c.in_ok-slot.ensures in
-    renamed_tables r c.args.self.now of c.args.rec may c.requires.fits c.in_ok-slot.slot slot.0 slot.1 slot.2 _ refl refl refl c.in_ok-name_branch.ensures.ok refl
+    renamed_tables r c.args.self.now of c.args.rec may c.requires.fits c.in_ok-slot.slot slot.0 slot.1 slot.2 _ refl refl refl c.in_ok-name_branch.ensures.ok refl refl c.grow.ensures
 
 pub returns-clause-does : goal.returns-clause-does
 returns-clause-does g c told r held may =
     let slot = slot_from c.args.self.now.slot c.args.rec _ c.in_ok-slot.slot (ap length (c.as_slice-bytes.ensures.value ∙ c.in_ok-spelled.ensures)) c.in_ok-slot.ensures in
-    was_renamed r c.args.self.now held.tables c.args.rec may c.requires.fits c.in_ok-slot.slot slot.0 slot.1 slot.2 (g.G.Ground.told c.args.outside.now) held (g.G.Ground.told c.durable_step.new.outside) _ refl refl refl c.in_ok-name_branch.ensures.ok refl
+    was_renamed r c.args.self.now held.tables c.args.rec may c.requires.fits c.in_ok-slot.slot slot.0 slot.1 slot.2 (g.G.Ground.told c.args.outside.now) held (g.G.Ground.told c.durable_step.new.outside) _ refl refl refl c.in_ok-name_branch.ensures.ok refl refl c.grow.ensures
     (same_step c.args.self.now.slot.end c.args.self.now.slot.end c.args.self.now.index c.args.self.now.index _ (spelling c.args.rec) c.in_ok-slot.slot _ (g.G.Ground.told c.args.outside.now) (g.G.Ground.told c.durable_step.new.outside)
     refl refl (c.as_slice-bytes.ensures.value ∙ c.in_ok-spelled.ensures) (c.in_ok-durable_step.ensures.does told))

@@ -1,16 +1,16 @@
-use Rattle.std.proofs.Common.{refl, sym, subst}
+use Rattle.std.proofs.Common.{sym, subst}
 use Rattle.std.specs.Prelude.{IfSome}
 use Rattle.ip_store.specs.declared.store.Store.{Store}
 use Rattle.ip_store.specs.Naming.{branch_reply, AnswersSet}
-use Rattle.ip_store.proofs.Stepping.{same_changes}
+use Rattle.ip_store.proofs.Stepping.{in_itself, same_changes}
 use Rattle.ip_store.proofs.BranchTurns.{same_set}
 use Rattle.ip_store.proofs.store.Store.set_branch.Goals as goal
 
 pub returns-clause-answers : goal.returns-clause-answers
 returns-clause-answers g c r of retained =
-    let store : Store = record { index = c.put_branch-answer.new.self.index; slot = c.put_branch-answer.new.self.slot; names = c.put_branch-answer.new.self.names; branches = c.put_branch-answer.new.self.branches; history = c.put_branch-answer.new.self.history; met = c.met_by-self.result } in
+    let store : Store = record { index = c.put_branch-answer.new.self.index; slot = c.put_branch-answer.new.self.slot; names = c.put_branch-answer.new.self.names; branches = c.put_branch-answer.new.self.branches; history = c.put_branch-answer.new.self.history; places = c.put_branch-answer.new.self.places; space = c.put_branch-answer.new.self.space; met = c.met_by-self.result } in
     subst (λ met. IfSome (branch_reply c.put_branch-answer.result) (AnswersSet r c.args.name.now c.args.number met store)) (sym c.met_by-self.ensures)
-    (same_set c.put_branch-answer.new.self store refl refl refl refl refl r c.args.name.now c.args.number _ _ (c.put_branch-answer.ensures.answers r of retained))
+    (same_set c.put_branch-answer.new.self store (in_itself c.put_branch-answer.new.self c.met_by-self.result) r c.args.name.now c.args.number _ _ (c.put_branch-answer.ensures.answers r of retained))
 
 pub returns-clause-does : goal.returns-clause-does
-returns-clause-does g c told r held retained = same_changes c.put_branch-answer.new.self _ refl refl refl refl refl r _ _ _ _ (c.put_branch-answer.ensures.does told r held retained)
+returns-clause-does g c told r held retained = same_changes c.put_branch-answer.new.self _ (in_itself c.put_branch-answer.new.self c.met_by-self.result) r _ _ _ _ (c.put_branch-answer.ensures.does told r held retained)

@@ -1,4 +1,4 @@
-use Rattle.std.proofs.Common.{◌≡◌, rules, true, false, Bool, None, refl, sym, subst, ◌∙◌}
+use Rattle.std.proofs.Common.{◌≡◌, rules, true, false, Bool, None, sym, subst, ◌∙◌}
 use Rattle.std.specs.Prelude.{Ok, Err, IfSome}
 use Rattle.ip_spec.specs.Repository.{head}
 use Rattle.ip_spec.specs.Record.{Fits}
@@ -7,7 +7,7 @@ use Rattle.ip_store.specs.declared.committing.StoreFault.TheVariants as StoreFau
 use Rattle.ip_store.specs.Changes.{Changes}
 use Rattle.ip_store.specs.Commits.{met_by}
 use Rattle.ip_store.specs.Naming.{removed_reply, AnswersRemove, Renames, without_branch}
-use Rattle.ip_store.proofs.Stepping.{changes_none, changes_still, with_value, with_fault}
+use Rattle.ip_store.proofs.Stepping.{itself, changes_none, changes_still, with_value, with_fault}
 use Rattle.ip_store.proofs.BranchTurns.{none_in, some_in, remove_none, remove_memory, remove_done, remove_cut, remove_fits, absent_same}
 use Rattle.ip_store.proofs.store.Store.take_branch.Goals as goal
 
@@ -31,7 +31,7 @@ pub returns-in_err-rec-clause-does : goal.returns-in_err-rec-clause-does
 returns-in_err-rec-clause-does g c told r held =
     let is : c.from_residual.result ≡ Err StoreFault.Memory = search rules in
     subst (λ res. Changes {A = Bool} r (without_branch r c.args.name.now) res c.args.self.now (g.G.Ground.told c.args.outside.now) (g.G.Ground.told c.args.outside.now)) (sym is)
-    (changes_none r (without_branch r c.args.name.now) StoreFault.Memory c.args.self.now c.args.self.now (g.G.Ground.told c.args.outside.now) refl refl refl refl refl held)
+    (changes_none r (without_branch r c.args.name.now) StoreFault.Memory c.args.self.now c.args.self.now (g.G.Ground.told c.args.outside.now) (itself c.args.self.now) held)
 
 pub rename-requires-clause-tables : goal.rename-requires-clause-tables
 rename-requires-clause-tables g c = (c.requires.tables.0, c.requires.tables.1, subst (MayName c.requires.tables.0) (sym c.in_ok-rec.ensures) tt)

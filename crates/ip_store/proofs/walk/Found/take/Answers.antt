@@ -1,6 +1,7 @@
-use Rattle.std.proofs.Common.{subst}
+use Rattle.std.proofs.Common.{◌≡◌, [], ◌∷◌, ◌++◌, subst, rules}
 use Rattle.ip_image.specs.declared.terms.Terms.{Terms}
 use Rattle.ip_image.specs.Standing.{RecordFits}
+use Rattle.ip_store.specs.Placed.{places_in}
 use Rattle.ip_store.proofs.Histories.{record_enters}
 use Rattle.ip_store.proofs.Walking.{takes_good}
 use Rattle.ip_store.proofs.walk.Found.take.Goals as goal
@@ -15,5 +16,6 @@ pub returns-in-Ok : goal.returns-in-Ok
 returns-in-Ok c s before is fits tells beyond =
     let took = c.in_ok-take.ensures in
     let good = took.fits before tells.audited beyond in
-    takes_good s before c.args.at c.args.rec _ _ is fits c.requires.served tells good (took.goes_on before tells.audited beyond) took.terms c.in-Ok.ensures.branches
+    let placed : c.enter_place.new.places.items ≡ c.args.self.now.places.items ++ places_in ((c.args.at, c.args.rec) ∷ []) = search rules in
+    takes_good s before c.args.at c.args.rec _ _ is fits c.requires.served tells good (took.goes_on before tells.audited beyond) took.terms placed c.in-Ok.ensures.branches
     (record_enters s before c.args.at s.version c.args.rec c.args.self.now.history tells.history fits (subst (λ (t : Terms). RecordFits t before c.args.at c.args.rec) tells.terms good)) c.in-Ok.ensures.history

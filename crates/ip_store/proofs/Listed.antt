@@ -1,0 +1,270 @@
+-- The records of an image, while no generation is live: those that lie end to end in its chunk.
+--     good_newest, within_fits, places_size      good records are within the bounds of the newest version; and have as many places as commits
+--     list_lies, one_list      they lie so, and no others do.      behind_list      after more were put behind them
+--     readable_of      a store's space is readable.      holds_on      a store holds on what it held, where both files read as before
+--     commits_placed      at the store's places stand the records of its commits
+use Rattle.std.proofs.Common.{◌≡◌, ℕ, zero, suc, ◌+◌, ◌≤◌, List, [], ◌∷◌, ◌++◌, map, length, take, refl, sym, ◌∙◌, ap, subst, arith, append_assoc, append-nil, length-append}
+use Rattle.std.specs.Prelude.{Option, Some, slice_get}
+use Rattle.std.specs.List.{AllByRecursion, AllZip}
+use Rattle.std.proofs.lemmas.List.{length-take-le, length-take, get_or-take}
+use Rattle.std.proofs.lemmas.List.Elements.{filter_map-append, recursion_from_All}
+use Rattle.ip_ground.specs.declared.names.FileName.TheVariants.{Control, Chunk}
+use Rattle.ip_ground.specs.Contents.{Content, Image, bytes_of}
+use Rattle.ip_ground.specs.Told.{Told, IsKept}
+use Rattle.ip_spec.specs.declared.record.Record.{Record}
+use Rattle.ip_spec.specs.declared.record.CommitRecord.{CommitRecord}
+use Rattle.ip_spec.specs.Record.{Fits, spelling}
+use Rattle.ip_spec.specs.Shape.{root_name}
+use Rattle.ip_spec.specs.TreeAt.{Records, present}
+use Rattle.ip_spec.specs.Batch.{AreEndToEnd}
+use Rattle.ip_spec.specs.Repository.{Repository, Commit}
+use Rattle.ip_spec.proofs.TreeAtLaws.{more_part}
+use Rattle.ip_spec.proofs.Unique.{one_tree}
+use Rattle.ip_image.specs.declared.slot.Slot.{Slot}
+use Rattle.ip_image.specs.declared.layout.Layout.{Layout}
+use Rattle.ip_image.specs.declared.run.Run.{Run}
+use Rattle.ip_image.specs.Slot.{IsSlot, IsLive, layout_of, newest_version}
+use Rattle.ip_image.specs.declared.run.Row.{Row}
+use Rattle.ip_image.specs.Virtual.{run_of, byte_of, virtual_byte, Stands}
+use Rattle.ip_image.specs.Standing.{EndToEnd, RunByRun, IsServedKind, IsGood, AreGood, commit_of, commits_in, stretches, Spells, Standing, StandsFor}
+use Rattle.ip_image.specs.Stored.{record_at, stored}
+use Rattle.ip_image.specs.Appending.{BeginsWith, front_of, HasLive, AreWithin, bytes_of_records}
+use Rattle.ip_image.proofs.OneRepository.{goes_on, same_stretch, good_fit}
+use Rattle.ip_image.proofs.DamageLaws.{slot_is}
+use Rattle.ip_image.proofs.InChunk.{ends_over, ends_append, byte_is, all_inside}
+use Rattle.ip_image.proofs.AppendingLaws.{get_take, get_front, get_behind, begun_byte, spelled_lies, stands_still}
+use Rattle.ip_image.proofs.SpelledCommits.{present_front}
+use Rattle.ip_image.proofs.StoredLaws.{record_here, standing_stored}
+use Rattle.ip_space.specs.SpaceView.{IsReadable, records_of}
+use Rattle.ip_store.specs.declared.store.Store.{Store}
+use Rattle.ip_store.specs.Placed.{places_in, IsCommitAt, AreCommitsAt}
+use Rattle.ip_store.specs.Store.{IsOf, Holds}
+use Rattle.ip_store.proofs.OpenedImages.{chunk_bytes}
+
+pub newest : (s : Slot) → IsSlot s → s.version ≡ newest_version
+newest s is = let low = is.version_low in let high = is.version_high in omega (arith, low, high)
+
+-- within the bounds of the newest version
+abbrev pub AreNewest : Records → Type 0
+AreNewest records = AllByRecursion (λ (x : ℕ × Record). Fits newest_version x.1) records
+
+pub both_fit : (xs ys : Records) → AreNewest xs → AreNewest ys → AreNewest (xs ++ ys)
+both_fit [] ys one other = other
+both_fit (x ∷ xs) ys one other = (one.0, both_fit xs ys one.1 other)
+
+pub good_newest : (s : Slot) → IsSlot s → (records : Records) → AreGood s [] records → AreNewest records
+good_newest s is records good = subst (λ (v : ℕ). AllByRecursion (λ (x : ℕ × Record). Fits v x.1) records) (newest s is) (good_fit s [] records good)
+
+pub within_fits : (s : Slot) → IsSlot s → (records : Records) → AreWithin s.version records → AreNewest records
+within_fits s is records within = by records (subst (λ (v : ℕ). AllByRecursion (λ (x : ℕ × Record). Fits v x.1 × IsServedKind x.1) records) (newest s is) (recursion_from_All (λ (x : ℕ × Record). Fits s.version x.1 × IsServedKind x.1) records within))
+  where
+    by : (records : Records) → AllByRecursion (λ (x : ℕ × Record). Fits newest_version x.1 × IsServedKind x.1) records → AreNewest records
+    by [] all = tt
+    by (x ∷ records) all = (all.0.0, by records all.1)
+
+-- as many places as commits
+pub places_size : (records : Records) → length (places_in records) ≡ length (commits_in records)
+places_size [] = refl
+places_size ((at, Record.Commit c) ∷ records) = ap suc (places_size records)
+places_size ((at, Record.Contents bytes) ∷ records) = places_size records
+places_size ((at, Record.Leaf es) ∷ records) = places_size records
+places_size ((at, Record.Inode depth cs) ∷ records) = places_size records
+places_size ((at, Record.BranchSet n name) ∷ records) = places_size records
+places_size ((at, Record.BranchRemove name) ∷ records) = places_size records
+places_size ((at, Record.BranchTable rows) ∷ records) = places_size records
+places_size ((at, Record.TagSet n name) ∷ records) = places_size records
+places_size ((at, Record.TagRemove name) ∷ records) = places_size records
+places_size ((at, Record.TagTable rows) ∷ records) = places_size records
+
+begins_itself : (n : ℕ) (content : Content) → BeginsWith (take n (bytes_of content)) content
+begins_itself n content = record {
+  long = (let l = length-take n (bytes_of content) in omega (arith, l));
+  same = λ place below. sym (get_or-take n (bytes_of content) place 0 (let l = length-take n (bytes_of content) in omega (arith, l, below)));
+}
+
+module _ (image : Image) (s : Slot) (has : HasLive s image) (A : Standing image) where
+  pub same_slot : A.slot ≡ s
+  same_slot = slot_is image A has.control has.index has.held s has.live
+
+  no_horizon : s.horizon ≡ 0
+  no_horizon = has.live.fields.none_live.0 has.live.fields.served
+
+  no_rows : A.rows ≡ []
+  no_rows = A.generation.none A.live.fields.served
+
+  pub list_fits : AreNewest A.records
+  list_fits = good_newest A.slot A.live.fields A.records A.good
+
+  whole : RunByRun (virtual_byte image (layout_of s) []) (stretches (layout_of s) []) A.records
+  whole = subst (λ (rs : List Row). RunByRun (virtual_byte image (layout_of s) (map run_of rs)) (stretches (layout_of s) rs) A.records) no_rows
+      (subst (λ (t : Slot). RunByRun (virtual_byte image (layout_of t) (map run_of A.rows)) (stretches (layout_of t) A.rows) A.records) same_slot A.whole)
+
+  all_here : whole.0 ≡ A.records
+  all_here = sym (append-nil whole.0) ∙ ap (λ later. whole.0 ++ later) (sym whole.4) ∙ sym whole.2
+
+  pub list_fills : EndToEnd (virtual_byte image (layout_of s) []) 0 A.records s.end
+  list_fills =
+      subst (λ (rs : Records). EndToEnd (virtual_byte image (layout_of s) []) 0 rs s.end) all_here
+      (subst (λ (n : ℕ). EndToEnd (virtual_byte image (layout_of s) []) n whole.0 s.end) no_horizon
+      (subst (λ (n : ℕ). EndToEnd (virtual_byte image (layout_of s) []) s.horizon whole.0 n) (let low = has.live.fields.horizon in omega (arith, low)) whole.3))
+
+  pub list_lies : EndToEnd (byte_of (image (Chunk 0))) 0 A.records s.end
+  list_lies = subst (λ (f : ℕ → Option ℕ). EndToEnd f 0 A.records s.end) (chunk_bytes image s no_horizon) list_fills
+
+  pub one_list : (records : Records) → AreNewest records → EndToEnd (byte_of (image (Chunk 0))) 0 records s.end → A.records ≡ records
+  one_list records fit lies = same_stretch newest_version (byte_of (image (Chunk 0))) 0 s.end A.records records list_fits fit list_lies lies
+
+-- the records of an image with more behind those of another
+module _ (old new : Image) (s t : Slot) (has : HasLive s old) (has' : HasLive t new) (A : Standing old) (B : Standing new) (more : Records) where
+  pub behind_list : AreNewest more → AreEndToEnd s.end more t.end → BeginsWith (front_of s.end old ++ bytes_of_records more) (new (Chunk 0)) → B.records ≡ A.records ++ more
+  behind_list fit lie begins =
+      one_list new t has' B (A.records ++ more) (both_fit A.records more (list_fits old s has A) fit)
+      (ends_append (byte_of (new (Chunk 0))) 0 A.records more s.end t.end
+      (ends_over (byte_of (old (Chunk 0))) (byte_of (new (Chunk 0))) 0 A.records s.end (λ k b l is.
+      begun_byte (front_of s.end old ++ bytes_of_records more) (new (Chunk 0)) begins k b
+      (get_front (front_of s.end old) (bytes_of_records more) k b (get_take s.end (bytes_of (old (Chunk 0))) k b l (sym (byte_is (old (Chunk 0)) k) ∙ is)))) lies)
+      (spelled_lies (byte_of (new (Chunk 0))) s.end more t.end lie (λ k b is.
+      begun_byte (front_of s.end old ++ bytes_of_records more) (new (Chunk 0)) begins (s.end + k) b
+      (ap (slice_get (front_of s.end old ++ bytes_of_records more)) (ap (λ n. n + k) (sym front_size)) ∙ get_behind (front_of s.end old) (bytes_of_records more) k ∙ is))))
+    where
+      lies : EndToEnd (byte_of (old (Chunk 0))) 0 A.records s.end
+      lies = list_lies old s has A
+
+      front_size : length (front_of s.end old) ≡ s.end
+      front_size = length-take-le s.end (bytes_of (old (Chunk 0))) (all_inside (old (Chunk 0)) 0 A.records s.end (omega arith) lies)
+
+-- ---- where the commits stand
+
+module _ (f : ℕ → Option ℕ) (s : Slot) (end : ℕ) (all : Records) (deeper : (at : ℕ) (r : Record) → present all at ≡ Some r → record_at f end at ≡ Some r) (version : s.version ≡ newest_version) where
+  front_there : (pre rest : Records) → pre ++ rest ≡ all → (at : ℕ) (r : Record) → present pre at ≡ Some r → present all at ≡ Some r
+  front_there pre rest is at r there = subst (λ (rs : Records). present rs at ≡ Some r) is (present_front pre rest at r there)
+
+  one_commit : (pre rest : Records) (at : ℕ) (c : CommitRecord) (m : Commit) → pre ++ rest ≡ all → IsGood s pre (at, Record.Commit c) → Spells all c m → Stands f at (spelling (Record.Commit c)) → at + length (spelling (Record.Commit c)) ≤ end
+      → IsCommitAt (record_at f end) (s.floor + length (commits_in pre)) at m
+  one_commit pre rest at c m is good spells stands le =
+      let tree = good.fits.root.0 in
+      let there = good.fits.root.1 in
+      let same : tree ≡ m.tree = one_tree (present all) c.root_at tree m.tree (there.0, more_part (present pre) (present all) (front_there pre rest is) there.1) spells.tree in
+      record {
+        spelled = c;
+        here = record_here f at end (Record.Commit c) (subst (λ (v : ℕ). Fits v (Record.Commit c)) version good.bounds) stands le;
+        spells = record {
+          number = good.fits.number;
+          name = spells.name;
+          parents = spells.parents;
+          info = spells.info;
+          root = good.fits.root.2 ∙ ap root_name same;
+          tree = (spells.tree.0, more_part (present all) (record_at f end) deeper spells.tree.1);
+        };
+      }
+
+  abbrev CommitsFrom : ℕ → Records → List Commit → Type 0
+  CommitsFrom number xs ms = AreCommitsAt (record_at f end) number (places_in xs) ms
+
+  no_more : (pre xs : Records) (x : ℕ × Record) (ms : List Commit) → commits_in (x ∷ []) ≡ [] → CommitsFrom (s.floor + length (commits_in (pre ++ x ∷ []))) xs ms → CommitsFrom (s.floor + length (commits_in pre)) xs ms
+  no_more pre xs x ms none are =
+      subst (λ (cs : List CommitRecord). CommitsFrom (s.floor + length cs) xs ms) (filter_map-append commit_of pre (x ∷ []) ∙ ap (λ cs. commits_in pre ++ cs) none ∙ append-nil (commits_in pre)) are
+
+  one_more : (pre xs : Records) (at : ℕ) (c : CommitRecord) (ms : List Commit) → CommitsFrom (s.floor + length (commits_in (pre ++ (at, Record.Commit c) ∷ []))) xs ms → CommitsFrom (suc (s.floor + length (commits_in pre))) xs ms
+  one_more pre xs at c ms are =
+      let cs = ap length (filter_map-append commit_of pre ((at, Record.Commit c) ∷ [])) ∙ length-append (commits_in pre) (c ∷ []) in
+      subst (λ (n : ℕ). CommitsFrom n xs ms) (let e : s.floor + length (commits_in (pre ++ (at, Record.Commit c) ∷ [])) ≡ suc (s.floor + length (commits_in pre)) = omega (arith, cs) in e) are
+
+  pub commits_from : (pre xs : Records) (from : ℕ) (ms : List Commit) → pre ++ xs ≡ all → AreGood s pre xs → EndToEnd f from xs end → AllZip (Spells all) (commits_in xs) ms → CommitsFrom (s.floor + length (commits_in pre)) xs ms
+  commits_from pre [] from [] is good lies zip = tt
+  commits_from pre [] from (m ∷ ms) is good lies zip = absurd zip
+  commits_from pre ((at, Record.Commit c) ∷ xs) from [] is good lies zip = absurd zip
+  commits_from pre ((at, Record.Commit c) ∷ xs) from (m ∷ ms) is good lies zip = (
+    one_commit pre ((at, Record.Commit c) ∷ xs) at c m is good.0 zip.0 (subst (λ (n : ℕ). Stands f n (spelling (Record.Commit c))) (sym lies.0) lies.1)
+        (let far = goes_on newest_version f (from + length (spelling (Record.Commit c))) end xs lies.2 in let here = lies.0 in omega (arith, far, here)),
+    one_more pre xs at c ms (commits_from (pre ++ (at, Record.Commit c) ∷ []) xs (from + length (spelling (Record.Commit c))) ms (append_assoc pre ((at, Record.Commit c) ∷ []) xs ∙ is) good.1 lies.2 zip.1),
+  )
+  commits_from pre ((at, Record.Contents bytes) ∷ xs) from ms is good lies zip =
+      no_more pre xs (at, Record.Contents bytes) ms refl (commits_from (pre ++ (at, Record.Contents bytes) ∷ []) xs (from + length (spelling (Record.Contents bytes))) ms (append_assoc pre ((at, Record.Contents bytes) ∷ []) xs ∙ is) good.1 lies.2 zip)
+  commits_from pre ((at, Record.Leaf es) ∷ xs) from ms is good lies zip =
+      no_more pre xs (at, Record.Leaf es) ms refl (commits_from (pre ++ (at, Record.Leaf es) ∷ []) xs (from + length (spelling (Record.Leaf es))) ms (append_assoc pre ((at, Record.Leaf es) ∷ []) xs ∙ is) good.1 lies.2 zip)
+  commits_from pre ((at, Record.BranchSet n name) ∷ xs) from ms is good lies zip =
+      no_more pre xs (at, Record.BranchSet n name) ms refl (commits_from (pre ++ (at, Record.BranchSet n name) ∷ []) xs (from + length (spelling (Record.BranchSet n name))) ms (append_assoc pre ((at, Record.BranchSet n name) ∷ []) xs ∙ is) good.1 lies.2 zip)
+  commits_from pre ((at, Record.BranchRemove name) ∷ xs) from ms is good lies zip =
+      no_more pre xs (at, Record.BranchRemove name) ms refl (commits_from (pre ++ (at, Record.BranchRemove name) ∷ []) xs (from + length (spelling (Record.BranchRemove name))) ms (append_assoc pre ((at, Record.BranchRemove name) ∷ []) xs ∙ is) good.1 lies.2 zip)
+  commits_from pre ((at, Record.Inode depth cs) ∷ xs) from ms is good lies zip = absurd good.0.served
+  commits_from pre ((at, Record.BranchTable rows) ∷ xs) from ms is good lies zip = absurd good.0.served
+  commits_from pre ((at, Record.TagSet n name) ∷ xs) from ms is good lies zip = absurd good.0.served
+  commits_from pre ((at, Record.TagRemove name) ∷ xs) from ms is good lies zip = absurd good.0.served
+  commits_from pre ((at, Record.TagTable rows) ∷ xs) from ms is good lies zip = absurd good.0.served
+
+pub nth_commit : (records : ℕ → Option Record) (number : ℕ) (places : List ℕ) (ms : List Commit) → AreCommitsAt records number places ms → (k place : ℕ) (m : Commit) → slice_get places k ≡ Some place → slice_get ms k ≡ Some m → IsCommitAt records (number + k) place m
+nth_commit records number [] [] are k place m p q = absurd (cc (p))
+nth_commit records number [] (x ∷ ms) are k place m p q = absurd are
+nth_commit records number (at ∷ places) [] are k place m p q = absurd are
+nth_commit records number (at ∷ places) (x ∷ ms) are zero place m p q =
+    let there : at ≡ place = cc (p) in
+    let same : x ≡ m = cc (q) in
+    let none : number + 0 ≡ number = omega arith in
+    subst (λ (n : ℕ). IsCommitAt records n place m) (sym none) (subst (λ (n : ℕ). IsCommitAt records number n m) there (subst (λ (c : Commit). IsCommitAt records number at c) same are.0))
+nth_commit records number (at ∷ places) (x ∷ ms) are (suc k) place m p q =
+    let next : suc number + k ≡ number + suc k = omega arith in
+    subst (λ (n : ℕ). IsCommitAt records n place m) next (nth_commit records (suc number) places ms are.1 k place m p q)
+
+-- ---- what a store holds
+
+pub readable_of : (store : Store) (r : Repository) (told : Told) → IsOf store r → IsReadable told store.space
+readable_of store r told of = record {
+  own = λ live. absurd (live (ap (λ (l : Layout). l.live) of.space.layout ∙ of.slot.served));
+  none = λ _. of.space.runs of.slot.served;
+}
+
+module _ (store : Store) (told : Told) (r : Repository) (holds : Holds store told r) where
+  abbrev A : Standing told.held
+  A = holds.stands.standing
+
+  has : HasLive store.slot told.held
+  has = record {
+    control = A.control;
+    index = store.index;
+    held = A.held;
+    live = subst (λ (content : Content). IsLive (bytes_of content) store.index store.slot) A.held holds.live;
+  }
+
+  slot_here : A.slot ≡ store.slot
+  slot_here = same_slot told.held store.slot has A
+
+  stored_here : (at : ℕ) (x : Record) → present A.records at ≡ Some x → stored told.held (layout_of store.slot) [] at ≡ Some x
+  stored_here at x is =
+      subst (λ (rs : List Run). stored told.held (layout_of store.slot) rs at ≡ Some x) (ap (map run_of) (A.generation.none A.live.fields.served))
+      (subst (λ (t : Slot). stored told.held (layout_of t) (map run_of A.rows) at ≡ Some x) slot_here (standing_stored told.held A at x is))
+
+  pub commits_placed : AreCommitsAt (records_of told store.space) r.floor store.places.items r.commits
+  unfolding stored
+  commits_placed =
+      let of = holds.tables in
+      subst (λ (l : Layout). AreCommitsAt (stored told.held l store.space.runs) r.floor store.places.items r.commits) (sym of.space.layout)
+      (subst (λ (rs : List Run). AreCommitsAt (stored told.held (layout_of store.slot) rs) r.floor store.places.items r.commits) (sym (of.space.runs of.slot.served))
+      (subst (λ (ps : List ℕ). AreCommitsAt (stored told.held (layout_of store.slot) []) r.floor ps r.commits) (sym holds.places)
+      (subst (λ (n : ℕ). AreCommitsAt (stored told.held (layout_of store.slot) []) n (places_in A.records) r.commits) (let f = of.floor in omega (arith, f))
+      (commits_from (virtual_byte told.held (layout_of store.slot) []) store.slot store.slot.end A.records stored_here (newest store.slot of.slot) [] A.records 0 r.commits refl
+      (subst (λ (t : Slot). AreGood t [] A.records) slot_here A.good) (list_fills told.held store.slot has A) holds.stands.commits))))
+
+  -- while both files read as before
+  pub holds_on : (new : Told) → new.held Control ≡ told.held Control → new.held (Chunk 0) ≡ told.held (Chunk 0) → IsKept new Control → Holds store new r
+  holds_on new control chunk kept = record {
+    tables = holds.tables;
+    stands = stands;
+    live = subst (λ (content : Content). IsLive (bytes_of content) store.index store.slot) (sym control) holds.live;
+    kept = kept;
+    readable = readable_of store r new holds.tables;
+    places = holds.places ∙ ap places_in (sym list);
+  }
+    where
+      has_new : HasLive store.slot new.held
+      has_new = record { control = has.control; index = has.index; held = control ∙ has.held; live = has.live }
+
+      begins : BeginsWith (front_of store.slot.end told.held) (new.held (Chunk 0))
+      begins = subst (λ (content : Content). BeginsWith (front_of store.slot.end told.held) content) (sym chunk) (begins_itself store.slot.end (told.held (Chunk 0)))
+
+      stands : StandsFor new.held r
+      stands = stands_still told.held new.held r store.slot holds.stands has has_new begins
+
+      list : stands.standing.records ≡ A.records
+      list = one_list new.held store.slot has_new stands.standing A.records (list_fits told.held store.slot has A)
+          (subst (λ (content : Content). EndToEnd (byte_of content) 0 A.records store.slot.end) (sym chunk) (list_lies told.held store.slot has A))

@@ -1,0 +1,177 @@
+-- What fetching the record of a commit comes to.
+--     commit_here      a retained commit's record stands at its place.      meets_commit      its reference is met
+--     fetched_commit, blames_commit, damages_commit, only_commits      what comes of what a fetch answers
+--     shown_reply, root_found      what is made of the record
+use Rattle.std.proofs.Common.{◌≡◌, ◌≢◌, ℕ, zero, suc, ◌+◌, ◌-◌, ◌<◌, ◌≤◌, true, List, [], ◌∷◌, map, length, refl, sym, ◌∙◌, ap, subst, arith}
+use Rattle.std.specs.Prelude.{Option, Some, None, Result, Ok, Err, IfOk, IsTrue, IsErrOf, ◌&&◌, nat_le, nat_lt, if◌then◌else◌, slice_get, option_map, unwrap_or}
+use Rattle.std.proofs.lemmas.Bool.Decides.{nat_tests}
+use Rattle.ip_ground.specs.Told.{Told}
+use Rattle.ip_spec.specs.declared.record.Record.{Record}
+use Rattle.ip_spec.specs.declared.record.CommitRecord.{CommitRecord}
+use Rattle.ip_spec.specs.declared.record.Parent.{Parent}
+use Rattle.ip_spec.specs.declared.record.Ref.{Ref}
+use Rattle.ip_spec.specs.declared.reply.Reply.{Reply}
+use Rattle.ip_spec.specs.Record.{Hash, name_of, reference_kind}
+use Rattle.ip_spec.specs.Shape.{root_name}
+use Rattle.ip_spec.specs.Tree.{Tree, no_tree}
+use Rattle.ip_spec.specs.TreeAt.{TreeAt}
+use Rattle.ip_spec.specs.Repository.{Repository, Commit, CommitParent, next, is_retained, commit_at, name_at, tree_at}
+use Rattle.ip_spec.specs.Step.{commit_reply}
+use Rattle.ip_image.specs.Standing.{parent_of}
+use Rattle.ip_space.specs.SpaceView.{records_of}
+use Rattle.ip_space.specs.Fetching.{Fetches, IsFetched, Blames, Meets}
+use Rattle.ip_space.specs.declared.fault.FetchFault.{FetchFault}
+use Rattle.ip_space.specs.declared.fault.FetchFault.TheVariants.{Ground, Form, Name, Memory}
+use Rattle.ip_store.specs.declared.committing.StoreFault.{StoreFault}
+use Rattle.ip_store.specs.declared.store.Store.{Store}
+use Rattle.ip_store.specs.Placed.{IsCommitAt}
+use Rattle.ip_store.specs.Showing.{IsFetchedOr, IsRecordOf, IsCommitFrom, BlamesCommit, Damages, IsRootOf}
+use Rattle.ip_store.specs.Store.{IsOf, Holds, place_of_commit}
+use Rattle.ip_store.proofs.Listed.{nth_commit, commits_placed}
+
+inside : (low n high : ℕ) → (nat_le low n && nat_lt n high) ≡ true → (low ≤ n) × (n < high)
+inside low n high e = (first low n high e, second low n high e)
+  where
+    first : (low n high : ℕ) → (nat_le low n && nat_lt n high) ≡ true → low ≤ n
+    first low n high e = grind (arith, nat_tests)
+
+    second : (low n high : ℕ) → (nat_le low n && nat_lt n high) ≡ true → n < high
+    second low n high e = grind (arith, nat_tests)
+
+-- ---- the commit and where it stands
+
+some_there : {A : Type 0} (xs : List A) (k : ℕ) → k < length xs → (x : A) × (slice_get xs k ≡ Some x)
+some_there [] k below = absurd (omega (arith, below))
+some_there (x ∷ xs) zero below = (x, refl)
+some_there (x ∷ xs) (suc k) below = some_there xs k (omega (arith, below))
+
+above : (low n : ℕ) → low ≤ n → nat_le low n ≡ true
+above low n l = grind (arith, nat_tests)
+
+module _ (r : Repository) (number : ℕ) (retained : IsTrue (is_retained r number)) where
+  within : (r.floor ≤ number) × (number < next r)
+  within = inside r.floor number (next r) retained
+
+  pub there_is : (m : Commit) × (slice_get r.commits (number - r.floor) ≡ Some m)
+  there_is = some_there r.commits (number - r.floor) (let (low, high) = within in omega (arith, low, high))
+
+  pub commit_is : commit_at r number ≡ Some there_is.0
+  commit_is = ap (λ b. if b then slice_get r.commits (number - r.floor) else None) (above r.floor number within.0) ∙ there_is.1
+
+  pub name_is : name_at r number ≡ there_is.0.name
+  name_is = ap (λ (o : Option Commit). unwrap_or (option_map (λ (c : Commit). c.name) o) []) commit_is
+
+  -- a place for each
+  pub place_there : (store : Store) → IsOf store r → number - store.slot.floor < length store.places.items
+  place_there store of = let (low, high) = within in let f = of.floor in let p = of.placed in omega (arith, low, high, f, p)
+
+  module _ (store : Store) (told : Told) (holds : Holds store told r) where
+    pub commit_here : (place : ℕ) → place_of_commit store number ≡ Some place → IsCommitAt (records_of told store.space) number place there_is.0
+    commit_here place is =
+        let low = within.0 in
+        let back : r.floor + (number - r.floor) ≡ number = omega (arith, low) in
+        subst (λ (n : ℕ). IsCommitAt (records_of told store.space) n place there_is.0) back
+        (nth_commit (records_of told store.space) r.floor store.places.items r.commits (commits_placed store told r holds) (number - r.floor) place there_is.0
+        (ap (λ (f : ℕ). slice_get store.places.items (number - f)) holds.tables.floor ∙ is) there_is.1)
+
+-- ---- what comes of a fetch
+
+same_commit : (c d : CommitRecord) → Record.Commit c ≡ Record.Commit d → c ≡ d
+same_commit c d e = cc
+
+pub meets_commit : (records : ℕ → Option Record) (n place : ℕ) (m : Commit) (at : IsCommitAt records n place m) (ref : Ref) → ref.name ≡ m.name → ref.kind ≡ 4 → Meets ref (Record.Commit at.spelled)
+meets_commit records n place m at ref named kind = record { kind = sym kind; name = at.spells.name ∙ ap Some (sym named) }
+
+pub fetched_commit : (records : ℕ → Option Record) (r : Repository) (number : ℕ) (c : CommitRecord) → IsRecordOf records r number c
+    → (fetched : Result Record FetchFault) → IsFetched (Record.Commit c) fetched → (out : Result CommitRecord StoreFault) → IsCommitFrom fetched out → IsFetchedOr (IsRecordOf records r number) out
+fetched_commit records r number c of (Ok (Record.Commit d)) is out from =
+    subst (λ (o : Result CommitRecord StoreFault). IsFetchedOr (IsRecordOf records r number) o) (sym from) (subst (λ (x : CommitRecord). IsRecordOf records r number x) (sym (same_commit d c is)) of)
+fetched_commit records r number c of (Ok _) is out from = absurd from
+fetched_commit records r number c of (Err Ground) is out from = subst (λ (o : Result CommitRecord StoreFault). IsFetchedOr (IsRecordOf records r number) o) (sym from) tt
+fetched_commit records r number c of (Err (Form at fault)) is out from = absurd is
+fetched_commit records r number c of (Err (Name at want got)) is out from = absurd is
+fetched_commit records r number c of (Err Memory) is out from = subst (λ (o : Result CommitRecord StoreFault). IsFetchedOr (IsRecordOf records r number) o) (sym from) tt
+
+pub blames_commit : (place : Option ℕ) (name : Hash) (ref : Ref) → place ≡ Some ref.at → ref.name ≡ name
+    → (fetched : Result Record FetchFault) → Blames ref fetched → (out : Result CommitRecord StoreFault) → IsCommitFrom fetched out → BlamesCommit place name out
+blames_commit place name ref there named (Ok (Record.Commit d)) is out from = subst (λ (o : Result CommitRecord StoreFault). BlamesCommit place name o) (sym from) tt
+blames_commit place name ref there named (Ok _) is out from = absurd from
+blames_commit place name ref there named (Err Ground) is out from = subst (λ (o : Result CommitRecord StoreFault). BlamesCommit place name o) (sym from) tt
+blames_commit place name ref there named (Err (Form at fault)) is out from = subst (λ (o : Result CommitRecord StoreFault). BlamesCommit place name o) (sym from) (there ∙ ap Some (sym is.0))
+blames_commit place name ref there named (Err (Name at want got)) is out from =
+    subst (λ (o : Result CommitRecord StoreFault). BlamesCommit place name o) (sym from) (there ∙ ap Some (sym is.0), is.1 ∙ named, λ e. is.2 (e ∙ sym named))
+blames_commit place name ref there named (Err Memory) is out from = subst (λ (o : Result CommitRecord StoreFault). BlamesCommit place name o) (sym from) tt
+
+-- a record of this kind is a commit's
+the_commit : (rec : Record) → reference_kind rec ≡ 4 → (c : CommitRecord) × (rec ≡ Record.Commit c)
+the_commit (Record.Commit c) kind = (c, refl)
+the_commit (Record.Contents bytes) kind = absurd (omega (arith, kind))
+the_commit (Record.Leaf es) kind = absurd (omega (arith, kind))
+the_commit (Record.Inode depth cs) kind = absurd (omega (arith, kind))
+the_commit (Record.BranchSet n name) kind = absurd (omega (arith, kind))
+the_commit (Record.BranchRemove name) kind = absurd (omega (arith, kind))
+the_commit (Record.BranchTable rows) kind = absurd (omega (arith, kind))
+the_commit (Record.TagSet n name) kind = absurd (omega (arith, kind))
+the_commit (Record.TagRemove name) kind = absurd (omega (arith, kind))
+the_commit (Record.TagTable rows) kind = absurd (omega (arith, kind))
+
+named_commit : (c : CommitRecord) → name_of (Record.Commit c) ≢ None
+named_commit c e = absurd (cc (e))
+
+pub damages_commit : (records : ℕ → Option Record) (ref : Ref) → ref.kind ≡ 4
+    → (fetched : Result Record FetchFault) → Fetches records ref fetched → (out : Result CommitRecord StoreFault) → IsCommitFrom fetched out → Damages records out
+damages_commit records ref kind (Ok (Record.Commit d)) is out from = subst (λ (o : Result CommitRecord StoreFault). Damages records o) (sym from) tt
+damages_commit records ref kind (Ok _) is out from = absurd from
+damages_commit records ref kind (Err Ground) is out from = subst (λ (o : Result CommitRecord StoreFault). Damages records o) (sym from) tt
+damages_commit records ref kind (Err (Form at fault)) is out from =
+    subst (λ (o : Result CommitRecord StoreFault). Damages records o) (sym from) (λ c there. named_commit c (is.none (Record.Commit c) (ap records (sym is.place) ∙ there) (sym kind)))
+damages_commit records ref kind (Err (Name at want got)) is out from =
+    let c = the_commit is.found (is.kind ∙ kind) in
+    subst (λ (o : Result CommitRecord StoreFault). Damages records o) (sym from)
+    (c.0, ap records is.place ∙ is.here ∙ ap Some c.1, ap name_of (sym c.1) ∙ is.name)
+damages_commit records ref kind (Err Memory) is out from = subst (λ (o : Result CommitRecord StoreFault). Damages records o) (sym from) tt
+
+pub only_commits : (ref : Ref) → ref.kind ≡ 4 → (fetched : Result Record FetchFault) → IfOk fetched (λ found. Meets ref found) → IfOk fetched (λ found. reference_kind found ≡ 4)
+only_commits ref kind (Ok found) meets = meets.kind ∙ kind
+only_commits ref kind (Err fault) meets = tt
+
+pub ground_fault : (fetched : Result Record FetchFault) (out : Result CommitRecord StoreFault) → IsCommitFrom fetched out → IsErrOf out StoreFault.Ground → IsErrOf fetched Ground
+ground_fault (Ok (Record.Commit d)) out from is = absurd (cc (from, is))
+ground_fault (Ok _) out from is = absurd from
+ground_fault (Err Ground) out from is = refl
+ground_fault (Err (Form at fault)) out from is = absurd (cc (from, is))
+ground_fault (Err (Name at want got)) out from is = absurd (cc (from, is))
+ground_fault (Err Memory) out from is = absurd (cc (from, is))
+
+-- ---- what is made of the record
+
+parent_names : (ps : List Parent) → map (λ (p : CommitParent). p.name) (map parent_of ps) ≡ map (λ (p : Parent). p.name) ps
+parent_names [] = refl
+parent_names (p ∷ ps) = ap (λ ns. p.name ∷ ns) (parent_names ps)
+
+abbrev reply_by : ℕ → Option Commit → Reply
+reply_by number o = elim o [
+  | None ↦ Reply.Accepted
+  | Some c ↦ Reply.Commit c.name number (root_name c.tree) (map (λ p. p.name) c.parents) c.info
+]
+
+pub shown_reply : (records : ℕ → Option Record) (r : Repository) (number : ℕ) (c : CommitRecord) → IsRecordOf records r number c → (name : Hash) → name ≡ name_at r number
+    → commit_reply r number ≡ Reply.Commit name number c.root_name (map (λ (p : Parent). p.name) c.parents) c.info
+shown_reply records r number c (m, is, spells) name named =
+    reply_of (commit_at r number) is
+    ∙ (λ i. Reply.Commit (sym name_here i) number (sym spells.root i) ((ap (map (λ (p : CommitParent). p.name)) spells.parents ∙ parent_names c.parents) i) (spells.info i))
+  where
+    reply_of : (o : Option Commit) → o ≡ Some m → reply_by number o ≡ reply_by number (Some m)
+    reply_of o e = ap (reply_by number) e
+
+    name_here : name ≡ m.name
+    name_here = named ∙ ap (λ (o : Option Commit). unwrap_or (option_map (λ (c : Commit). c.name) o) []) is
+
+pub root_found : (records : ℕ → Option Record) (r : Repository) (number : ℕ) (c : CommitRecord) → IsRecordOf records r number c → (root : Ref) → root.at ≡ c.root_at → root.name ≡ c.root_name → root.kind ≡ 2 → IsRootOf records r number root
+root_found records r number c (m, is, spells) root at name kind =
+    let tree : tree_at r number ≡ m.tree = ap (λ (o : Option Commit). unwrap_or (option_map (λ (c : Commit). c.tree) o) no_tree) is in
+    record {
+      kind = kind;
+      name = name ∙ spells.root ∙ ap root_name (sym tree);
+      tree = subst (λ (t : Tree). TreeAt records root.at t) (sym tree) (subst (λ (n : ℕ). TreeAt records n m.tree) (sym at) spells.tree);
+    }

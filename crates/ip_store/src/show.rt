@@ -1,0 +1,168 @@
+// What the store tells of one commit: its record is fetched from where it lies.
+ghost use Rattle.std.specs.Prelude.{◌≡◌, map, IsTrue, IfOk, IsErrOf};
+ghost use Rattle.ip_ground.specs.Counts.{NoneFalls, Rose};
+ghost use Rattle.ip_spec.specs.declared.record.Parent.{Parent};
+ghost use Rattle.ip_spec.specs.Record.{reference_kind};
+ghost use Rattle.ip_spec.specs.Repository.{Repository, is_retained, name_at};
+ghost use Rattle.ip_space.specs.SpaceView.{OnlyReads, records_of};
+ghost use Rattle.ip_store.specs.declared.committing.StoreFault.TheVariants as StoreFault;
+ghost use Rattle.ip_store.specs.Showing.{IsFetchedOr, IsShown, IsRootOf, IsReference, IsRecordOf, IsCommitFrom, BlamesCommit, Damages};
+ghost use Rattle.ip_store.specs.Store.{IsOf, Holds, SameTables, place_of_commit};
+
+use crate::{Store, StoreFault};
+use ip_base::{Hash, Hashes, Info, Items, Memory, Number};
+use ip_ground::Ground;
+use ip_space::FetchFault;
+use ip_spec::record::{CommitRecord, Parent, Record, Ref};
+use std::alloc::Global;
+
+/// What is shown of a commit: its name and number, the names of its root and of its parents, and its info.
+#[derive(Drop)]
+pub struct Shown {
+    pub name: Hash,
+    pub number: Number,
+    pub root: Hash,
+    pub parents: Hashes,
+    pub info: Info,
+}
+
+impl Shown {
+    // Of the commit of a name and a number, by its record.
+    fn of(alloc: Global, name: Hash, number: Number, commit: CommitRecord) -> Result<Shown, Memory>
+        ensures { IfOk result (λ shown. shown ≡ record { name = name; number = number; root = commit.root_name; parents = map (λ (p : Parent). p.name) commit.parents; info = commit.info }) }
+    {
+        let parents = names_of(alloc, commit.parents.as_slice())?;
+        Ok(Shown {
+            name,
+            number,
+            root: commit.root_name,
+            parents,
+            info: commit.info,
+        })
+    }
+}
+
+// The kinds of references to a commit and to a directory.
+const COMMIT: u8 = 4;
+
+const DIRECTORY: u8 = 2;
+
+impl Store {
+    /// A retained commit as its record tells it, which takes two reads at most. `Damaged` comes only where others changed the files; after it
+    /// and after `Ground` the store may not be used any more.
+    pub fn show<G: Ground>(
+        &mut self,
+        alloc: Global,
+        outside: &mut G,
+        number: Number,
+    ) -> Result<Shown, StoreFault>
+        requires tables { (r : Repository) × IsOf self.old r × IsTrue (is_retained r number) }
+        ensures shows { IsTrue G.tells → (r : Repository) → Holds self.old (G.told outside.old) r → IsTrue (is_retained r number) → IsShown r number result }
+        ensures blames { (r : Repository) → IsOf self.old r → IsTrue (is_retained r number) → BlamesCommit (place_of_commit self.old number) (name_at r number) result }
+        ensures damages { IsTrue G.tells → Damages (records_of (G.told outside.old) self.old.space) result }
+        ensures same { SameTables self.old self.new }
+        ensures met { self.new.met ≡ self.old.met }
+        ensures reads { IsTrue G.tells → OnlyReads (G.told outside.old) (G.told outside.new) self.old.space self.new.space }
+        ensures holds { IsTrue G.tells → (r : Repository) → Holds self.old (G.told outside.old) r → Holds self.new (G.told outside.new) r }
+        ensures counts { NoneFalls (G.counts_of outside.old) (G.counts_of outside.new) }
+        ensures cause { IsErrOf result StoreFault.Ground → Rose (G.counts_of outside.old).file_faults (G.counts_of outside.new).file_faults }
+    {
+        let name = self.retained_name(number);
+        let commit = match self.commit_record(outside, number) {
+            Ok(commit) => commit,
+            Err(fault) => return Err(fault),
+        };
+        Ok(Shown::of(alloc, name, number, commit)?)
+    }
+
+    /// Where the root of a retained commit's tree lies, by one fetch of the commit's record. Faults are as those of `show`.
+    pub(crate) fn root_of<G: Ground>(
+        &mut self,
+        outside: &mut G,
+        number: Number,
+    ) -> Result<Ref, StoreFault>
+        requires tables { (r : Repository) × IsOf self.old r × IsTrue (is_retained r number) }
+        ensures root { IsTrue G.tells → (r : Repository) → Holds self.old (G.told outside.old) r → IsTrue (is_retained r number) →
+            IsFetchedOr (IsRootOf (records_of (G.told outside.old) self.old.space) r number) result }
+        ensures blames { (r : Repository) → IsOf self.old r → IsTrue (is_retained r number) → BlamesCommit (place_of_commit self.old number) (name_at r number) result }
+        ensures damages { IsTrue G.tells → Damages (records_of (G.told outside.old) self.old.space) result }
+        ensures same { SameTables self.old self.new }
+        ensures met { self.new.met ≡ self.old.met }
+        ensures reads { IsTrue G.tells → OnlyReads (G.told outside.old) (G.told outside.new) self.old.space self.new.space }
+        ensures holds { IsTrue G.tells → (r : Repository) → Holds self.old (G.told outside.old) r → Holds self.new (G.told outside.new) r }
+        ensures counts { NoneFalls (G.counts_of outside.old) (G.counts_of outside.new) }
+        ensures cause { IsErrOf result StoreFault.Ground → Rose (G.counts_of outside.old).file_faults (G.counts_of outside.new).file_faults }
+    {
+        match self.commit_record(outside, number) {
+            Ok(commit) => Ok(Ref {
+                at: commit.root_at,
+                name: commit.root_name,
+                kind: DIRECTORY,
+            }),
+            Err(fault) => Err(fault),
+        }
+    }
+
+    // The record of a retained commit.
+    fn commit_record<G: Ground>(
+        &mut self,
+        outside: &mut G,
+        number: Number,
+    ) -> Result<CommitRecord, StoreFault>
+        requires tables { (r : Repository) × IsOf self.old r × IsTrue (is_retained r number) }
+        ensures fetched { IsTrue G.tells → (r : Repository) → Holds self.old (G.told outside.old) r → IsTrue (is_retained r number) →
+            IsFetchedOr (IsRecordOf (records_of (G.told outside.old) self.old.space) r number) result }
+        ensures blames { (r : Repository) → IsOf self.old r → IsTrue (is_retained r number) → BlamesCommit (place_of_commit self.old number) (name_at r number) result }
+        ensures damages { IsTrue G.tells → Damages (records_of (G.told outside.old) self.old.space) result }
+        ensures same { SameTables self.old self.new }
+        ensures met { self.new.met ≡ self.old.met }
+        ensures reads { IsTrue G.tells → OnlyReads (G.told outside.old) (G.told outside.new) self.old.space self.new.space }
+        ensures holds { IsTrue G.tells → (r : Repository) → Holds self.old (G.told outside.old) r → Holds self.new (G.told outside.new) r }
+        ensures counts { NoneFalls (G.counts_of outside.old) (G.counts_of outside.new) }
+        ensures cause { IsErrOf result StoreFault.Ground → Rose (G.counts_of outside.old).file_faults (G.counts_of outside.new).file_faults }
+    {
+        ip_space::present_records();
+        let reference = self.reference_to(number);
+        commit_in(self.space.fetch(outside, reference))
+    }
+
+    // The reference to the record of a retained commit.
+    fn reference_to(&self, number: Number) -> Ref
+        requires tables { (r : Repository) × IsOf self.now r × IsTrue (is_retained r number) }
+        ensures { (r : Repository) → IsOf self.now r → IsTrue (is_retained r number) → IsReference self.now (name_at r number) number result }
+    {
+        let name = self.retained_name(number);
+        let place = (number.get() - self.slot.floor) as usize;
+        match self.places.as_slice().get(place) {
+            Some(at) => Ref {
+                at: *at,
+                name,
+                kind: COMMIT,
+            },
+            None => unreachable!(),
+        }
+    }
+}
+
+// What comes of a record that was fetched by the reference to a commit.
+fn commit_in(fetched: Result<Record, FetchFault>) -> Result<CommitRecord, StoreFault>
+    requires { IfOk fetched (λ rec. reference_kind rec ≡ 4) }
+    ensures { IsCommitFrom fetched result }
+{
+    match fetched {
+        Ok(Record::Commit(commit)) => Ok(commit),
+        Ok(_) => unreachable!(),
+        Err(fault) => Err(StoreFault::from(fault)),
+    }
+}
+
+// The names of these parents.
+fn names_of(alloc: Global, parents: &[Parent]) -> Result<Hashes, Memory>
+    ensures { IfOk result (λ names. names ≡ map (λ (p : Parent). p.name) parents.now) }
+{
+    let mut names = Items::of(Vec::with_capacity(alloc, parents.len())?);
+    for parent in parents {
+        names.push(parent.name)?;
+    }
+    Ok(names)
+}
