@@ -39,7 +39,7 @@ whole (b ∷ text) w =
           hex_of _ (inr (record { some = omega (arith, long, positive n parts.0); even = even; each = all_in_prefix is_hex_digit (b ∷ text) n (omega (arith, hex_step b text false h)) }))
     ]
 
-stops : (rest : Bytes) → EndsWord rest → Stops is_hex_digit rest
+pub stops : (rest : Bytes) → EndsWord rest → Stops is_hex_digit rest
 stops [] h = tt
 stops (x ∷ rest) h = ap is_hex_digit h
 

@@ -109,7 +109,7 @@ hex_of text (inr p) = let d = decode_of-digits text p.even (AllPass-from_list_al
 
 -- ---- what is spelled
 
-pairs_of : (bytes text : Bytes) → IsHexPairs bytes text → (length text % 2 ≡ 0) × IsTrue (list_all is_hex_digit text)
+pub pairs_of : (bytes text : Bytes) → IsHexPairs bytes text → (length text % 2 ≡ 0) × IsTrue (list_all is_hex_digit text)
 pairs_of [] [] p = (refl, refl)
 pairs_of [] (c ∷ text) p = absurd p
 pairs_of (b ∷ bytes) [] p = absurd p

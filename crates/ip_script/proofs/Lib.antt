@@ -4,6 +4,7 @@ mod FieldLaw
 mod RunLaw
 mod HexLaw
 mod HexField
+mod ReferenceLaw
 mod DateLaw
 mod FormLaw
 mod LineLaw

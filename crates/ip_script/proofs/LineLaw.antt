@@ -133,8 +133,14 @@ ordered _ = tt
 served_with : (form : Form) (values : Values (fields_of form)) (rest line : Bytes) → AreValues (fields_of form) values rest → line ≡ word_of form ++ rest → IsServedLine (command_with form values) line
 served_with Form.Empty values rest line s e = (tt, joined (command_with Form.Empty values) line rest s e)
 served_with Form.Set values rest line s e = (refl, joined (command_with Form.Set values) line rest s e)
+served_with Form.Parent values rest line s e = (tt, joined (command_with Form.Parent values) line rest s e)
 served_with Form.Get values rest line s e = (refl, joined (command_with Form.Get values) line rest s e)
 served_with Form.Commit values rest line (name, more, is, s, f) e = (tt, joined (command_with Form.Commit values) line rest (name, more, is, info_joined values.1 more s, f) e)
+served_with Form.Branch values rest line s e = (tt, joined (command_with Form.Branch values) line rest s e)
+served_with Form.BranchRm values rest line s e = (tt, joined (command_with Form.BranchRm values) line rest s e)
+served_with Form.Branches values rest line s e = (tt, joined (command_with Form.Branches values) line rest s e)
+served_with Form.Log values rest line s e = (tt, joined (command_with Form.Log values) line rest s e)
+served_with Form.Lcas values rest line s e = (tt, joined (command_with Form.Lcas values) line rest s e)
 served_with Form.Hash values rest line s e = (tt, joined (command_with Form.Hash values) line rest s e)
 served_with Form.Stat values rest line s e = (tt, joined (command_with Form.Stat values) line rest s e)
 
@@ -159,11 +165,17 @@ record Formed (c : Command) (line : Bytes) : Type 0 where
 formed : (c : Command) (line : Bytes) → IsServedLine c line → Formed c line
 formed Command.Empty line (u, l) = let p = parts Command.Empty line l in record { form = Form.Empty; values = tt; rest = p.0; words = p.1; line_is = p.2; command = refl }
 formed (Command.Set (s ∷ []) bytes) line (u, l) = let p = parts (Command.Set (s ∷ []) bytes) line l in record { form = Form.Set; values = (s, (bytes, tt)); rest = p.0; words = p.1; line_is = p.2; command = refl }
+formed (Command.Parent target) line (u, l) = let p = parts (Command.Parent target) line l in record { form = Form.Parent; values = (target, tt); rest = p.0; words = p.1; line_is = p.2; command = refl }
 formed (Command.Get (s ∷ [])) line (u, l) = let p = parts (Command.Get (s ∷ [])) line l in record { form = Form.Get; values = (s, tt); rest = p.0; words = p.1; line_is = p.2; command = refl }
 formed (Command.Commit branch info) line (u, l) =
     let p = parts (Command.Commit branch info) line l in
     let s = p.1 in
     record { form = Form.Commit; values = (branch, (info.date, (info.author, (info.message, tt)))); rest = p.0; words = (s.0, s.1, s.2, info_split info s.1 s.3, s.4); line_is = p.2; command = refl }
+formed (Command.Branch name target) line (u, l) = let p = parts (Command.Branch name target) line l in record { form = Form.Branch; values = (name, (target, tt)); rest = p.0; words = p.1; line_is = p.2; command = refl }
+formed (Command.BranchRm name) line (u, l) = let p = parts (Command.BranchRm name) line l in record { form = Form.BranchRm; values = (name, tt); rest = p.0; words = p.1; line_is = p.2; command = refl }
+formed Command.Branches line (u, l) = let p = parts Command.Branches line l in record { form = Form.Branches; values = tt; rest = p.0; words = p.1; line_is = p.2; command = refl }
+formed (Command.Log target) line (u, l) = let p = parts (Command.Log target) line l in record { form = Form.Log; values = (target, tt); rest = p.0; words = p.1; line_is = p.2; command = refl }
+formed (Command.Lcas one other) line (u, l) = let p = parts (Command.Lcas one other) line l in record { form = Form.Lcas; values = (one, (other, tt)); rest = p.0; words = p.1; line_is = p.2; command = refl }
 formed (Command.Hash bytes) line (u, l) = let p = parts (Command.Hash bytes) line l in record { form = Form.Hash; values = (bytes, tt); rest = p.0; words = p.1; line_is = p.2; command = refl }
 formed Command.Stat line (u, l) = let p = parts Command.Stat line l in record { form = Form.Stat; values = tt; rest = p.0; words = p.1; line_is = p.2; command = refl }
 formed (Command.Set [] bytes) line (u, l) = absurd (omega (arith, u))

@@ -149,7 +149,7 @@ message_law = record {
 
 -- ---- names
 
-name_length : (b : ℕ) (text : Bytes) (d : Bool) → (b == 64) ≡ d → field_length Name (b ∷ text) ≡ cond d 0 (min 255 (prefix_len is_word_byte (b ∷ text)))
+pub name_length : (b : ℕ) (text : Bytes) (d : Bool) → (b == 64) ≡ d → field_length Name (b ∷ text) ≡ cond d 0 (min 255 (prefix_len is_word_byte (b ∷ text)))
 name_length b text d h = ap (λ e. cond e 0 (min 255 (prefix_len is_word_byte (b ∷ text)))) h
 
 differs : (b : ℕ) → (b == 64) ≡ false → b ≡ 64 → ⊥

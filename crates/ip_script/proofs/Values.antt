@@ -8,17 +8,19 @@ use Rattle.std.specs.Prelude.{All}
 use Rattle.std.specs.Fmt.{decimal}
 use Rattle.ip_base.specs.PathText.{IsWordByte}
 use Rattle.ip_spec.specs.Path.{Bytes}
-use Rattle.ip_spec.specs.Line.{IsHexText, IsPathText, IsNameText}
+use Rattle.ip_spec.specs.Line.{IsHexText, IsPathText, IsNameText, IsTargetText}
 use Rattle.ip_spec.specs.declared.command.Command.{Command}
+use Rattle.ip_spec.specs.declared.command.Target.{Target}
 use Rattle.ip_script.specs.declared.field.Field.{Field}
-use Rattle.ip_script.specs.declared.field.Field.TheVariants.{Step, Hex, Name, Date, Author, Message}
+use Rattle.ip_script.specs.declared.field.Field.TheVariants.{Step, Hex, Name, Reference, Date, Author, Message}
 use Rattle.ip_script.specs.declared.line.Form.{Form}
 use Rattle.ip_script.specs.Dates.{date_value}
 use Rattle.ip_script.specs.Forms.{word_of, fields_of}
-use Rattle.ip_script.specs.Words.{word_at, left_at, contents_of}
+use Rattle.ip_script.specs.Words.{word_at, left_at, contents_of, target_of}
 
 abbrev pub Of : Field → Type 0
 Of Date = ℕ
+Of Reference = Target
 Of _ = Bytes
 
 -- one or more such bytes
@@ -31,6 +33,7 @@ abbrev pub IsValue : (field : Field) → Of field → Bytes → Type 0
 IsValue Step step text = IsPathText (step ∷ []) text
 IsValue Hex bytes text = IsHexText bytes text
 IsValue Name name text = IsNameText name text
+IsValue Reference target text = IsTargetText target text
 IsValue Date date text = (date < 2 ^ 64) × (text ≡ decimal date)
 IsValue Author author text = IsText IsWordByte 255 author × (text ≡ author)
 IsValue Message message text = IsText (λ b. (b < 256) × (b ≢ 10) × (b ≢ 0)) 4096 message × (text ≡ message)
@@ -55,6 +58,7 @@ AreFields (field ∷ fields) text = (word : Bytes) × (rest : Bytes) × IsField 
 abbrev pub value_at : (field : Field) → Bytes → Of field
 value_at Hex text = contents_of text
 value_at Date text = date_value text
+value_at Reference text = target_of text
 value_at _ text = text
 
 abbrev pub values_at : (fields : List Field) → Bytes → Values fields
@@ -72,7 +76,13 @@ IsOf form line = IsForm (word_of form) (fields_of form) line
 abbrev pub command_with : (form : Form) → Values (fields_of form) → Command
 command_with Form.Empty values = Command.Empty
 command_with Form.Set (step, (bytes, none)) = Command.Set (step ∷ []) bytes
+command_with Form.Parent (target, none) = Command.Parent target
 command_with Form.Get (step, none) = Command.Get (step ∷ [])
 command_with Form.Commit (branch, (date, (author, (message, none)))) = Command.Commit branch (record { date = date; author = author; message = message })
+command_with Form.Branch (name, (target, none)) = Command.Branch name target
+command_with Form.BranchRm (name, none) = Command.BranchRm name
+command_with Form.Branches values = Command.Branches
+command_with Form.Log (target, none) = Command.Log target
+command_with Form.Lcas (one, (other, none)) = Command.Lcas one other
 command_with Form.Hash (bytes, none) = Command.Hash bytes
 command_with Form.Stat values = Command.Stat

@@ -6,7 +6,7 @@ use Rattle.std.specs.List.{prefix_len}
 use Rattle.hex.specs.Hex.{is_hex_digit}
 use Rattle.ip_spec.specs.Path.{Bytes}
 use Rattle.ip_script.specs.declared.field.Field.{Field}
-use Rattle.ip_script.specs.declared.field.Field.TheVariants.{Step, Hex, Name, Date, Author, Message}
+use Rattle.ip_script.specs.declared.field.Field.TheVariants.{Step, Hex, Name, Reference, Date, Author, Message}
 use Rattle.ip_script.specs.declared.line.Fit.{Fit}
 use Rattle.ip_script.specs.Dates.{date_length}
 
@@ -26,6 +26,8 @@ field_length Hex [] = 0
 field_length Hex (b ∷ text) = if b == 45 then 1 else prefix_len is_hex_digit (b ∷ text)
 field_length Name [] = 0
 field_length Name (b ∷ text) = if b == 64 then 0 else min 255 (prefix_len is_word_byte (b ∷ text))
+field_length Reference [] = 0
+field_length Reference (b ∷ text) = if b == 64 then 1 + min 64 (prefix_len is_hex_digit text) else min 255 (prefix_len is_word_byte (b ∷ text))
 field_length Date text = date_length text
 field_length Author text = min 255 (prefix_len is_word_byte text)
 field_length Message text = min 4096 (prefix_len is_message_byte text)
@@ -33,6 +35,7 @@ field_length Message text = min 4096 (prefix_len is_message_byte text)
 abbrev pub is_whole_field : Field → Bytes → ℕ → Bool
 is_whole_field Hex [] n = false
 is_whole_field Hex (b ∷ text) n = (b == 45) || (nat_lt 0 n && n % 2 == 0)
+is_whole_field Reference (b ∷ text) n = if b == 64 then n == 65 else nat_lt 0 n
 is_whole_field _ text n = nat_lt 0 n
 
 -- fields, each behind one space, from a place on

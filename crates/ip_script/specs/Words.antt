@@ -1,11 +1,13 @@
 -- What the words of a line say, one behind the other.
 --     left_of words      what is still to be read
 --     word_at field text, left_at field text      the word behind the byte at the front of a text, and what is left behind it
---     contents_of word      what digits say.      info_at text      the info of a commit, which takes three words
-use Rattle.std.specs.Prelude.{[], take, drop}
+--     contents_of word      what digits say.      target_of word      what a reference names.      info_at text      the info of a commit, which takes three words
+use Rattle.std.specs.Prelude.{◌==◌, if◌then◌else◌, [], ◌∷◌, take, drop, replicate}
 use Rattle.std.specs.Result.{result_unwrap_or}
-use Rattle.hex.specs.Hex.{decode_of}
+use Rattle.hex.specs.Hex.{decode_of, decode_sized}
+use Rattle.ip_base.specs.declared.hash.Hash.{Hash}
 use Rattle.ip_base.specs.declared.info.Info.{Info}
+use Rattle.ip_spec.specs.declared.command.Target.{Target}
 use Rattle.ip_spec.specs.Path.{Bytes}
 use Rattle.ip_script.specs.declared.field.Field.{Field}
 use Rattle.ip_script.specs.declared.field.Field.TheVariants.{Date, Author, Message}
@@ -25,6 +27,15 @@ left_at field text = drop (field_length field (drop 1 text)) (drop 1 text)
 -- a `-` has no pair of digits, and says no bytes
 abbrev pub contents_of : Bytes → Bytes
 contents_of word = result_unwrap_or (decode_of word) []
+
+-- Of a commit's name there are 64 digits. No line has other ones there, and they say zeros.
+abbrev pub hash_of : Bytes → Hash
+hash_of digits = result_unwrap_or (decode_sized digits 32) (replicate 32 0)
+
+-- a commit's name stands behind `@`; any other word is a branch
+abbrev pub target_of : Bytes → Target
+target_of [] = Target.Branch []
+target_of (b ∷ text) = if b == 64 then Target.Commit (hash_of text) else Target.Branch (b ∷ text)
 
 abbrev pub info_at : Bytes → Info
 info_at text = record {

@@ -6,12 +6,14 @@ ghost use Rattle.ip_script.specs.Fields.{is_message_byte, is_word_byte, is_step_
 
 use crate::date::date_at;
 
-/// What a word may say. The bytes of a message are the rest of its line, so nothing stands behind it.
+/// What a word may say. A reference is a name, or `@` and the 64 digits of a commit's name. The bytes of a message are the rest of
+/// its line, so nothing stands behind it.
 #[derive(Clone, Copy, Debug, PartialEq, Eq)]
 pub enum Field {
     Step,
     Hex,
     Name,
+    Reference,
     Date,
     Author,
     Message,
@@ -87,6 +89,10 @@ pub fn field_length(field: Field, text: &[u8]) -> usize
             [] | [b'@', ..] => 0,
             _ => word_length(text).min(255),
         },
+        Field::Reference => match text {
+            [b'@', digits @ ..] => 1 + digits_length(digits).min(64),
+            _ => word_length(text).min(255),
+        },
         Field::Date => date_at(text).length,
         Field::Author => word_length(text).min(255),
         Field::Message => message_length(text).min(4096),
@@ -101,6 +107,7 @@ pub fn is_whole(field: Field, text: &[u8], length: usize) -> bool
         (Field::Hex, []) => false,
         (Field::Hex, [b'-', ..]) => true,
         (Field::Hex, _) => length > 0 && length % 2 == 0,
+        (Field::Reference, [b'@', ..]) => length == 65,
         _ => length > 0,
     }
 }

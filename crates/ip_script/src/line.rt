@@ -20,17 +20,29 @@ use std::alloc::Global;
 enum Form {
     Empty,
     Set,
+    Parent,
     Get,
     Commit,
+    Branch,
+    BranchRm,
+    Branches,
+    Log,
+    Lcas,
     Hash,
     Stat,
 }
 
-const FORMS: [Form; 6] = [
+const FORMS: [Form; 12] = [
     Form::Empty,
     Form::Set,
+    Form::Parent,
     Form::Get,
     Form::Commit,
+    Form::Branch,
+    Form::BranchRm,
+    Form::Branches,
+    Form::Log,
+    Form::Lcas,
     Form::Hash,
     Form::Stat,
 ];
@@ -42,8 +54,14 @@ impl Form {
         match self {
             Form::Empty => b"empty",
             Form::Set => b"set",
+            Form::Parent => b"parent",
             Form::Get => b"get",
             Form::Commit => b"commit",
+            Form::Branch => b"branch",
+            Form::BranchRm => b"branch-rm",
+            Form::Branches => b"branches",
+            Form::Log => b"log",
+            Form::Lcas => b"lcas",
             Form::Hash => b"hash",
             Form::Stat => b"stat",
         }
@@ -55,8 +73,14 @@ impl Form {
         match self {
             Form::Empty => &[],
             Form::Set => &[Field::Step, Field::Hex],
+            Form::Parent => &[Field::Reference],
             Form::Get => &[Field::Step],
             Form::Commit => &[Field::Name, Field::Date, Field::Author, Field::Message],
+            Form::Branch => &[Field::Name, Field::Reference],
+            Form::BranchRm => &[Field::Name],
+            Form::Branches => &[],
+            Form::Log => &[Field::Reference],
+            Form::Lcas => &[Field::Reference, Field::Reference],
             Form::Hash => &[Field::Hex],
             Form::Stat => &[],
         }
@@ -110,10 +134,22 @@ fn command_of(alloc: Global, form: Form, text: &[u8]) -> Result<Command, Memory>
             path: words.path(alloc)?,
             contents: words.contents(alloc)?,
         }),
+        Form::Parent => Ok(Command::Parent(words.target(alloc)?)),
         Form::Get => Ok(Command::Get(words.path(alloc)?)),
         Form::Commit => Ok(Command::Commit {
             branch: words.text(alloc, Field::Name)?,
             info: words.info(alloc)?,
+        }),
+        Form::Branch => Ok(Command::Branch {
+            name: words.text(alloc, Field::Name)?,
+            target: words.target(alloc)?,
+        }),
+        Form::BranchRm => Ok(Command::BranchRm(words.text(alloc, Field::Name)?)),
+        Form::Branches => Ok(Command::Branches),
+        Form::Log => Ok(Command::Log(words.target(alloc)?)),
+        Form::Lcas => Ok(Command::Lcas {
+            one: words.target(alloc)?,
+            other: words.target(alloc)?,
         }),
         Form::Hash => Ok(Command::Hash(words.contents(alloc)?)),
         Form::Stat => Ok(Command::Stat),

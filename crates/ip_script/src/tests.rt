@@ -1,4 +1,4 @@
-use crate::{Bytes, Command, LineFault, Reply, Source, SourceFault, read_line, reply_text};
+use crate::{Bytes, Command, LineFault, Reply, Source, SourceFault, Target, read_line, reply_text};
 use ip_base::{Blob, Hash, Hashes, Info, Items, Limit, Memory, Number, Path, Step};
 use ip_ground::Exit;
 use ip_spec::reply::{Difference, Head, Produced, Seen};
@@ -47,6 +47,38 @@ fn lines_go_wrong_where_the_grammar_says(rt: HostRuntime) {
         (b"commit main 0 a", Some(15)),
         (b"commit main 0 a ", Some(16)),
         (b"commit main 0 a \0", Some(16)),
+        (b"parent", Some(6)),
+        (b"parent ", Some(7)),
+        (b"parent main", None),
+        (b"parent main ", Some(11)),
+        (b"parent a@", None),
+        (b"parent @", Some(8)),
+        (b"parent @main", Some(8)),
+        (b"parents", Some(6)),
+        (b"branch", Some(6)),
+        (b"branch ", Some(7)),
+        (b"branch dev", Some(10)),
+        (b"branch dev main", None),
+        (b"branch dev main x", Some(15)),
+        (b"branch @x main", Some(7)),
+        (b"branch dev @0", Some(13)),
+        (b"branch-", Some(7)),
+        (b"branch-rm", Some(9)),
+        (b"branch-rm old", None),
+        (b"branch-rm old x", Some(13)),
+        (b"branch-rm @x", Some(10)),
+        (b"branch-rm\0", Some(9)),
+        (b"branches", None),
+        (b"branches ", Some(8)),
+        (b"branches-rm x", Some(8)),
+        (b"log", Some(3)),
+        (b"log main", None),
+        (b"log  main", Some(4)),
+        (b"look", Some(2)),
+        (b"lcas main", Some(9)),
+        (b"lcas main ", Some(10)),
+        (b"lcas main dev", None),
+        (b"lcas main dev x", Some(13)),
     ];
     for (line, want) in lines {
         assert_eq!(rt; bad_at(rt.alloc(), line), want, "{line:?}");
@@ -65,12 +97,110 @@ fn a_word_has_so_many_bytes_at_most(rt: HostRuntime) -> Result<(), Fail> {
         (b"commit b 0 ", 256, b" m", Some(266)),
         (b"commit b 0 a ", 4096, b"", None),
         (b"commit b 0 a ", 4097, b"", Some(4109)),
+        (b"branch ", 255, b" main", None),
+        (b"branch ", 256, b" main", Some(262)),
+        (b"branch-rm ", 256, b"", Some(265)),
+        (b"log ", 255, b"", None),
+        (b"log ", 256, b"", Some(259)),
     ];
     for (front, size, back, want) in rows {
         let mut line = Vec::from_slice(alloc, front)?;
         line.resize(line.len() + size, b's')?;
         line.extend_from_slice(back)?;
         assert_eq!(rt; bad_at(alloc, &line), want, "{front:?}");
+    }
+    Ok(())
+}
+
+// Each `H` stands for so many pairs of digits.
+fn with_digits(alloc: Global, text: &[u8], pair: &[u8; 2], pairs: u8) -> Result<Vec<u8>, Memory> {
+    let mut out = Vec::new(alloc);
+    for byte in text {
+        if *byte == b'H' {
+            for _ in 0..pairs {
+                out.extend_from_slice(pair)?;
+            }
+        } else {
+            out.push(*byte)?;
+        }
+    }
+    Ok(out)
+}
+
+#[test]
+fn a_commit_has_64_digits(rt: HostRuntime) -> Result<(), Fail> {
+    let alloc = rt.alloc();
+    let rows = [
+        (b"log @H00".as_slice(), None),
+        (b"log @H0", Some(68)),
+        (b"log @H000", Some(69)),
+        (b"log @H0g", Some(68)),
+        (b"log @gH0", Some(5)),
+        (b"log @H00 ", Some(69)),
+        (b"log H00", None),
+        (b"parent @H00", None),
+        (b"branch dev @H00", None),
+        (b"branch @H00 main", Some(7)),
+        (b"branch-rm @H00", Some(10)),
+        (b"lcas @H00 @H01", None),
+        (b"lcas @H0 @H01", Some(69)),
+        (b"lcas @H00 @H0", Some(135)),
+        (b"lcas main @H00", None),
+    ];
+    for (text, want) in rows {
+        let line = with_digits(alloc, text, b"aF", 31)?;
+        assert_eq!(rt; bad_at(alloc, &line), want, "{text:?}");
+    }
+    Ok(())
+}
+
+// The last reference of a line.
+fn last_reference(command: Command) -> Option<Target> {
+    match command {
+        Command::Parent(target) => Some(target),
+        Command::Branch { name: _, target } => Some(target),
+        Command::Log(target) => Some(target),
+        Command::Lcas { one: _, other } => Some(other),
+        _ => None,
+    }
+}
+
+// The bytes of a branch, or those of a commit's name behind `@`.
+fn is_target(target: &Target, want: &[u8]) -> bool {
+    match target {
+        Target::Branch(name) => name.as_slice() == want,
+        Target::Commit(name) => want.first() == Some(&b'@') && name.as_slice() == &want[1..],
+    }
+}
+
+fn refers_to(alloc: Global, line: &[u8], want: &[u8]) -> bool {
+    match read_line(alloc, line) {
+        Ok(command) => match last_reference(command) {
+            Some(target) => is_target(&target, want),
+            None => false,
+        },
+        Err(_) => false,
+    }
+}
+
+#[test]
+fn references_are_read(rt: HostRuntime) -> Result<(), Fail> {
+    let alloc = rt.alloc();
+    let mut name = [0xaf; 33];
+    name[0] = b'@';
+    name[1] = 0x0b;
+    let rows = [
+        (b"log @0BH".as_slice(), name.as_slice()),
+        (b"parent @0bH", name.as_slice()),
+        (b"lcas main @0BH", name.as_slice()),
+        (b"branch @x @0BH", b""),
+        (b"branch dev main", b"main"),
+        (b"log a@", b"a@"),
+        (b"lcas @0BH dev", b"dev"),
+    ];
+    for (text, want) in rows {
+        let line = with_digits(alloc, text, b"aF", 31)?;
+        assert_eq!(rt; refers_to(alloc, &line, want), want.len() > 0, "{text:?}");
     }
     Ok(())
 }
@@ -200,16 +330,7 @@ fn is_said(alloc: Global, reply: Result<Reply, Memory>, want: &[u8]) -> bool {
 
 // H stands for the digits of the hash.
 fn is_said_with(alloc: Global, reply: Result<Reply, Memory>, want: &[u8]) -> Result<bool, Memory> {
-    let mut text = Vec::new(alloc);
-    for byte in want {
-        if *byte == b'H' {
-            for _ in 0..32 {
-                text.extend_from_slice(b"ab")?;
-            }
-        } else {
-            text.push(*byte)?;
-        }
-    }
+    let text = with_digits(alloc, want, b"ab", 32)?;
     Ok(is_said(alloc, reply, &text))
 }
 

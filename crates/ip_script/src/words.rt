@@ -1,13 +1,25 @@
 // What the words of a line say, one behind the other.
 ghost use Rattle.std.specs.Prelude.{◌≡◌, [], ◌∷◌, IfOk};
 ghost use Rattle.ip_script.specs.Dates.{date_value};
-ghost use Rattle.ip_script.specs.Words.{left_of, word_at, left_at, contents_of, info_at};
+ghost use Rattle.ip_script.specs.Words.{left_of, word_at, left_at, contents_of, hash_of, target_of, info_at};
 ghost use Rattle.ip_script.specs.declared.field.Field.TheVariants as Field;
 
 use crate::date::date_at;
 use crate::field::{Field, field_length};
-use ip_base::{Blob, Info, Items, Memory, Path, Step};
+use ip_base::{Blob, Hash, Info, Items, Memory, Path, Step};
+use ip_spec::command::Target;
 use std::alloc::Global;
+
+// The name that digits spell. The word was found to have 64 of them.
+fn hash_of(digits: &[u8]) -> Hash
+    ensures { result ≡ hash_of digits.now }
+{
+    let mut bytes = [0; 32];
+    match hex::decode_to_slice(digits, &mut bytes) {
+        Ok(()) => Hash(bytes),
+        Err(_) => Hash([0; 32]),
+    }
+}
 
 /// The words of a line that are still to be read, each behind a space. Each call reads the next one, of a line that was found
 /// to have such a word there.
@@ -60,6 +72,18 @@ impl<'a> Words<'a> {
         match hex::decode(alloc, word) {
             Ok(bytes) => Ok(Blob::of(bytes)),
             Err(_) => Err(Memory),
+        }
+    }
+
+    /// A branch, or a commit by its name.
+    pub fn target(&mut self, alloc: Global) -> Result<Target, Memory>
+        ensures value { IfOk result (λ target. target ≡ target_of (word_at Field.Reference (left_of self.old))) }
+        ensures left { left_of self.new ≡ left_at Field.Reference (left_of self.old) }
+    {
+        let word = self.next(Field::Reference);
+        match word {
+            [b'@', digits @ ..] => Ok(Target::Commit(hash_of(digits))),
+            _ => Ok(Target::Branch(Blob::copy_of(alloc, word)?)),
         }
     }
 
