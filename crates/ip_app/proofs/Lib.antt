@@ -5,5 +5,8 @@ pub mod RunLemmas
 pub mod TurnLemmas
 pub mod EndingLaw
 pub mod SessionLemmas
+pub mod Referring
 pub mod SessionGoes
+pub mod Durable
 pub mod Committing
+pub mod BranchGoes

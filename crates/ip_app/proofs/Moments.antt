@@ -2,7 +2,7 @@
 --     cut_again      one that was cut short.      keeps_still      one that changes no file.      turned_moments      one whose reply is said, or not whole
 --     order_says      the ground stays in order.      opening_after      opening behind a call that changes no file.      opening_none      and where it came to nothing
 --     headline_none      no command was begun.      headline_turn      one command more
-use Rattle.std.proofs.Common.{◌≡◌, inl, inr, ℕ, suc, ◌+◌, ◌<◌, ◌≤◌, List, [], ◌∷◌, ◌++◌, length, map, refl, sym, ap, ◌∙◌, subst, arith, take, Result, Ok, Err}
+use Rattle.std.proofs.Common.{◌≡◌, inl, inr, ℕ, ◌+◌, ◌≤◌, List, [], ◌∷◌, ◌++◌, length, map, refl, sym, ap, ◌∙◌, subst, arith, take, Result}
 use Rattle.std.proofs.lemmas.Bool.{cases_lt}
 use Rattle.std.proofs.lemmas.List.{map-append}
 use Rattle.ip_ground.specs.declared.names.FileName.{FileName}
@@ -11,11 +11,10 @@ use Rattle.ip_ground.specs.declared.names.GroundFault.{GroundFault}
 use Rattle.ip_ground.specs.Contents.{Content}
 use Rattle.ip_ground.specs.Told.{Told, said, NoFile, KeepsPast, IsPossibleNow, ChangesOnly}
 use Rattle.ip_ground.specs.Calls.{Says}
-use Rattle.ip_ground.proofs.Spans.{said_now, only_on}
+use Rattle.ip_ground.proofs.Spans.{said_now}
 use Rattle.ip_image.specs.Standing.{StandsFor}
 use Rattle.ip_image.specs.Headline.{IsInOrder, MayServe, SecuresEither, Keeps, Turning, Headline}
 use Rattle.ip_image.proofs.HeadlineLaws.{order_passes, in_order, turns_quietly, turns_saying, turning_on, headline_begins, headline_more}
-use Rattle.ip_spec.specs.declared.reply.Reply.{Reply}
 use Rattle.ip_spec.specs.Path.{Bytes}
 use Rattle.ip_spec.specs.Repository.{Repository}
 use Rattle.ip_spec.specs.Machine.{State, opened}
@@ -26,7 +25,6 @@ use Rattle.ip_store.specs.Opening.{SecuresOpening}
 use Rattle.ip_store.specs.Store.{Holds}
 use Rattle.ip_store.proofs.Secured.{secures_now, secures_since}
 use Rattle.ip_app.specs.Exchanges.{Exchange, answer_of, texts_in, after_all}
-use Rattle.ip_app.specs.Session.{ChangedBy}
 use Rattle.ip_app.proofs.SameFiles.{stands_after}
 
 pub keeps_still : (store : Store) (r after : Repository) (a b : Told) → Holds store a r → IsInOrder a → ChangesOnly NoFile a b → Keeps a b r after
@@ -45,9 +43,9 @@ module _ (mid new : Told) (text : Bytes) (result : Result (Unit {0}) GroundFault
       (λ t late le. subst (λ (bytes : Bytes). (n : ℕ) × (n ≤ length bytes) × (new.said_at t ≡ said mid ++ take n bytes)) e (says.front t late le))
       (secures_since store after mid holds order new (says.files Control) (says.files (Chunk 0)))
 
-  pub turned_moments : (old : Told) (given : Reply) → ChangesOnly (ChangedBy given) old mid → (reply : Bytes) → text ≡ reply → (before after : Repository) → Keeps old mid before after
+  pub turned_moments : (old : Told) (these : FileName → Type 0) → ChangesOnly these old mid → (reply : Bytes) → text ≡ reply → (before after : Repository) → Keeps old mid before after
       → (store : Store) → Holds store mid after → IsInOrder mid → Turning old new reply before after
-  turned_moments old given only reply e before after keeps store holds order =
+  turned_moments old these only reply e before after keeps store holds order =
       turning_on old mid new reply before after says.goes (said_now old mid only.goes only.said)
       (turns_quietly old mid reply before after only.said keeps)
       (saying reply e store before after holds order)

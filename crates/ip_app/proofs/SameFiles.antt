@@ -5,7 +5,7 @@ use Rattle.std.proofs.Common.{◌≡◌, ℕ, ◌+◌, ◌≤◌, length, List, 
 use Rattle.std.specs.Prelude.{map, nat_le, if◌then◌else◌, IfSome}
 use Rattle.ip_ground.specs.declared.names.FileName.{FileName}
 use Rattle.ip_ground.specs.declared.names.FileName.TheVariants.{Control, Chunk}
-use Rattle.ip_ground.specs.Contents.{Image, Content, bytes_of}
+use Rattle.ip_ground.specs.Contents.{Image, Content}
 use Rattle.ip_ground.specs.Told.{Told, KeepsPast, KeepsFile, NoFile, ChangesOnly, EachNow}
 use Rattle.ip_ground.proofs.Spans.{each_stays, left_now}
 use Rattle.ip_spec.specs.Path.{Bytes}
@@ -16,11 +16,12 @@ use Rattle.ip_image.specs.declared.slot.Slot.{Slot}
 use Rattle.ip_image.specs.declared.layout.Layout.{Layout}
 use Rattle.ip_image.specs.declared.run.Run.{Run}
 use Rattle.ip_image.specs.declared.run.Row.{Row}
-use Rattle.ip_image.specs.Slot.{IsLive, layout_of, live_index}
+use Rattle.ip_image.specs.Slot.{layout_of, live_index}
 use Rattle.ip_image.specs.Virtual.{run_of, byte_of, virtual_byte, locate, Stands}
 use Rattle.ip_image.specs.Standing.{RunByRun, FillTo, IsGood, Generation, stretches, Standing, StandsFor, NoStore, DamagedAt, no_form, no_mapping, no_row, no_sum, no_prefix, no_record, no_whole}
 use Rattle.ip_store.specs.declared.store.Store.{Store}
 use Rattle.ip_store.specs.Store.{Holds}
+use Rattle.ip_store.proofs.Listed.{holds_on}
 
 module _ (image other : Image) (control_same : other Control ≡ image Control) (chunk_same : other (Chunk 0) ≡ image (Chunk 0)) where
   -- with no generation of a collection there is nothing below the horizon
@@ -89,12 +90,7 @@ holds_along a b store r goes files h =
     let control : b.held Control ≡ a.held Control = (files Control).held (λ foreign. foreign) in
     let chunk : b.held (Chunk 0) ≡ a.held (Chunk 0) = (files (Chunk 0)).held (λ foreign. foreign) in
     let still : EachNow b Control (λ content. content ≡ a.held Control) = left_now a b Control (λ content. content ≡ a.held Control) goes h.kept (each_stays a b Control (λ content. content ≡ a.held Control) (λ loose. loose) (files Control) h.kept) in
-    record {
-      tables = h.tables;
-      stands = stands_along a.held b.held control chunk r h.stands;
-      live = subst (λ (content : Content). IsLive (bytes_of content) store.index store.slot) (sym control) h.live;
-      kept = λ content left. still content left ∙ sym control;
-    }
+    holds_on store a r h b control chunk (λ content left. still content left ∙ sym control)
 
 -- what the files read as at the end of calls that change none
 module _ (a b : Told) (only : ChangesOnly NoFile a b) where

@@ -12,6 +12,7 @@ use Rattle.sha2.specs.Sha256.{sha256}
 use Rattle.ip_base.specs.declared.info.Info.{Info}
 use Rattle.ip_base.specs.declared.limit.Limit.{Limit}
 use Rattle.ip_spec.specs.declared.command.Command.{Command}
+use Rattle.ip_spec.specs.declared.command.Target.{Target}
 use Rattle.ip_spec.specs.declared.command.LineFault.{LineFault}
 use Rattle.ip_spec.specs.declared.reply.Reply.{Reply}
 use Rattle.ip_spec.specs.Map.{len}
@@ -51,7 +52,7 @@ none_given_up : (least : Option ℕ) → unless_some (below 0 least) Reply.Given
 none_given_up None = refl
 none_given_up (Some n) = ap (λ (b : Bool). unless_some (if b then Some n else None) Reply.GivenUp) (no_less n)
 
-still_there : (r : Repository) (w : Work) → r.floor ≡ 0 → not_given_up (at r w) ≡ Ok tt
+pub still_there : (r : Repository) (w : Work) → r.floor ≡ 0 → not_given_up (at r w) ≡ Ok tt
 still_there r w e = ap (λ (floor : ℕ). unless_some (below floor w.least) Reply.GivenUp) e ∙ none_given_up w.least
 
 -- no commit was given up so far
@@ -121,7 +122,7 @@ stat_done r w = (plainly r w Command.Stat false (stat_of r) (λ h. absurd (cc h)
 
 -- ---- want of memory
 
-abbrev Refusable : Command → Type 0
+abbrev pub Refusable : Command → Type 0
 Refusable command = (r : Repository) (w : Work) → Step no_rules (at r w) command (conditions_of (met_only true)) Reply.Memory (at r w)
 
 pub set_refused : (path : Path) (bytes : Bytes) → Refusable (Command.Set path bytes)
@@ -132,6 +133,24 @@ get_refused path r w = (plainly r w (Command.Get path) true Reply.Memory (λ h. 
 
 pub hash_refused : (bytes : Bytes) → Refusable (Command.Hash bytes)
 hash_refused bytes r w = (plainly r w (Command.Hash bytes) true Reply.Memory (λ h. tt), (refl, refl))
+
+pub parent_refused : (target : Target) → Refusable (Command.Parent target)
+parent_refused target r w = (plainly r w (Command.Parent target) true Reply.Memory (λ h. tt), (refl, refl))
+
+pub branch_refused : (name : Bytes) (target : Target) → Refusable (Command.Branch name target)
+branch_refused name target r w = (plainly r w (Command.Branch name target) true Reply.Memory (λ h. tt), (refl, refl))
+
+pub branch_rm_refused : (name : Bytes) → Refusable (Command.BranchRm name)
+branch_rm_refused name r w = (plainly r w (Command.BranchRm name) true Reply.Memory (λ h. tt), (refl, refl))
+
+pub branches_refused : Refusable Command.Branches
+branches_refused r w = (plainly r w Command.Branches true Reply.Memory (λ h. tt), (refl, refl))
+
+pub log_refused : (target : Target) → Refusable (Command.Log target)
+log_refused target r w = (plainly r w (Command.Log target) true Reply.Memory (λ h. tt), (refl, refl))
+
+pub lcas_refused : (one other : Target) → Refusable (Command.Lcas one other)
+lcas_refused one other r w = (plainly r w (Command.Lcas one other) true Reply.Memory (λ h. tt), (refl, refl))
 
 pub commit_refused : (branch : Bytes) (info : Info) → Refusable (Command.Commit branch info)
 commit_refused branch info r w = (plainly r w (Command.Commit branch info) true Reply.Memory (λ h. tt), (refl, refl))
@@ -185,6 +204,12 @@ line_refused r w line (inl (Command.Stat, is)) words = let one : has_space line 
 line_refused r w line (inl (Command.Set path bytes, is)) words = inl (Command.Set path bytes, is, set_refused path bytes r w)
 line_refused r w line (inl (Command.Get path, is)) words = inl (Command.Get path, is, get_refused path r w)
 line_refused r w line (inl (Command.Commit branch info, is)) words = inl (Command.Commit branch info, is, commit_refused branch info r w)
+line_refused r w line (inl (Command.Parent target, is)) words = inl (Command.Parent target, is, parent_refused target r w)
+line_refused r w line (inl (Command.Branch name target, is)) words = inl (Command.Branch name target, is, branch_refused name target r w)
+line_refused r w line (inl (Command.BranchRm name, is)) words = inl (Command.BranchRm name, is, branch_rm_refused name r w)
+line_refused r w line (inl (Command.Branches, is)) words = inl (Command.Branches, is, branches_refused r w)
+line_refused r w line (inl (Command.Log target, is)) words = inl (Command.Log target, is, log_refused target r w)
+line_refused r w line (inl (Command.Lcas one other, is)) words = inl (Command.Lcas one other, is, lcas_refused one other r w)
 line_refused r w line (inl (Command.Hash bytes, is)) words = inl (Command.Hash bytes, is, hash_refused bytes r w)
 line_refused r w line (inl (_, is)) words = absurd is.0
 
@@ -200,4 +225,6 @@ has_words line fault is one = by_test (has_space line) one
 pub words_of_line : (command : Command) (line : Bytes) → IsServedLine command line → HasWords command
 words_of_line (Command.Set path bytes) line is = (is.0, is.1.1.0)
 words_of_line (Command.Commit branch info) line is = (is.1.1.0, is.1.2.1.0)
+words_of_line (Command.Branch name target) line is = is.1.1.0
+words_of_line (Command.BranchRm name) line is = is.1.1.0
 words_of_line _ line is = is.0

@@ -3,7 +3,6 @@
 --     files_of, said_of, part_of      the files and what was said, once the reply was said, or not
 --     stops_reading      why a source is read no further
 use Rattle.std.proofs.Common.{◌≡◌, ◌+◌, ◌++◌, [], ◌∷◌, length, refl, sym, ◌∙◌, subst, arith, None, OnOk, Result, IsTrue}
-use Rattle.ip_ground.specs.declared.names.FileName.{FileName}
 use Rattle.ip_ground.specs.declared.names.GroundCounts.{GroundCounts}
 use Rattle.ip_ground.specs.declared.names.GroundFault.{GroundFault}
 use Rattle.ip_ground.specs.Counts.{NoneFalls}
@@ -13,7 +12,6 @@ use Rattle.ip_ground.proofs.Spans.{only_more, said_now}
 use Rattle.ip_image.specs.declared.counts.TurnCounts.{TurnCounts}
 use Rattle.ip_spec.specs.declared.met.Met.{Met}
 use Rattle.ip_spec.specs.declared.reply.Reply.{Reply}
-use Rattle.ip_spec.specs.declared.reply.Reply.TheVariants as reply
 use Rattle.ip_spec.specs.Path.{Bytes}
 use Rattle.ip_spec.specs.Machine.{State}
 use Rattle.ip_spec.specs.Script.{LineStep}
@@ -25,7 +23,7 @@ use Rattle.ip_app.specs.Pending.{pending}
 use Rattle.ip_app.specs.Reading.{GetsLine}
 use Rattle.ip_app.specs.Exchanges.{Exchange, no_rules}
 use Rattle.ip_app.specs.Outside.{Outside, GoesOn, KeepsFiles}
-use Rattle.ip_app.specs.Session.{conditions_of, ChangedBy}
+use Rattle.ip_app.specs.Session.{conditions_of, ChangedIn}
 use Rattle.ip_app.specs.Serving.{SaysPart, Turned, Stopped, Stops}
 use Rattle.ip_app.specs.Turns.{turn_counts, IsLater}
 use Rattle.ip_app.proofs.RunLemmas.{append_nil, keeps_on, keeps_two, keeps_said, says_part}
@@ -61,20 +59,16 @@ turned_of old new lines lines' counts counts' state after line read met told_met
   until = subst (λ (t : TurnCounts). IsLater t (turn_counts new.counts)) (sym counted) (later_on (turn_counts mid) mid new.counts (itself mid) still);
 }
 
--- whatever the reply, a command changes no files but two
-changed_is_two : (given : Reply) (file : FileName) → ChangedBy given file → TheTwo file
-changed_is_two (reply.Committed name) file h = h
-changed_is_two _ file h = absurd h
+-- whatever the line and the reply, no files are changed but two
+pub two_of : (line : Bytes) (given : Reply) (a b : Told) → ChangesOnly (ChangedIn line given) a b → ChangesOnly TheTwo a b
+two_of line given a b only = only_more a b (ChangedIn line given) TheTwo (λ file changed. changed.2.1) only
 
-pub two_of : (given : Reply) (a b : Told) → ChangesOnly (ChangedBy given) a b → ChangesOnly TheTwo a b
-two_of given a b only = only_more a b (ChangedBy given) TheTwo (changed_is_two given) only
-
-module _ (old mid new : Told) (given : Reply) (only : ChangesOnly (ChangedBy given) old mid) (text : Bytes) (r : Result (Unit {0}) GroundFault) (says : Says text r mid new) where
+module _ (old mid new : Told) (line : Bytes) (given : Reply) (only : ChangesOnly (ChangedIn line given) old mid) (text : Bytes) (r : Result (Unit {0}) GroundFault) (says : Says text r mid new) where
   quiet : said mid ≡ said old
   quiet = said_now old mid only.goes only.said
 
   pub files_of : KeepsFiles old new
-  files_of = keeps_on old mid new (keeps_two old mid (two_of given old mid only)) (keeps_said text r mid new says)
+  files_of = keeps_on old mid new (keeps_two old mid (two_of line given old mid only)) (keeps_said text r mid new says)
 
   pub said_of : (reply : Bytes) → text ≡ reply → OnOk r (said new ≡ said old ++ reply)
   said_of reply e = subst (λ (t : Bytes). OnOk r (said new ≡ said old ++ t)) e (subst (λ (s : Bytes). OnOk r (said new ≡ s ++ text)) quiet says.ok)

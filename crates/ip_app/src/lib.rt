@@ -13,4 +13,6 @@ pub use statuses::{Bound, Status};
 pub use turn_log::{Kept, Log, Silent, Turn};
 
 #[cfg(test)]
+mod branch_tests;
+#[cfg(test)]
 mod tests;

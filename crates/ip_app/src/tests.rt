@@ -21,7 +21,7 @@ fn bench(alloc: Global, fails: &[u64]) -> Result<Bench, AllocError> {
     Ok(Bench::new(alloc, fails, None, Vec::new(alloc)))
 }
 
-fn source(alloc: Global, script: &[u8], fails: &[u64]) -> Result<Bytes, AllocError> {
+pub(crate) fn source(alloc: Global, script: &[u8], fails: &[u64]) -> Result<Bytes, AllocError> {
     let script = Blob::of(Vec::from_slice(alloc, script)?);
     Ok(Bytes::new(script, Vec::from_slice(alloc, fails)?))
 }
@@ -32,7 +32,7 @@ fn init(alloc: Global, bench: &mut Bench) -> Result<Status, AllocError> {
     Ok(run(alloc, &words, &mut none, bench, &mut Silent))
 }
 
-fn serve<S: Source, L: Log>(
+pub(crate) fn serve<S: Source, L: Log>(
     alloc: Global,
     source: &mut S,
     bench: &mut Bench,
@@ -43,7 +43,7 @@ fn serve<S: Source, L: Log>(
 }
 
 // What a script is answered over a store that was just made.
-fn answers(
+pub(crate) fn answers(
     alloc: Global,
     script: &[u8],
     read_fails: &[u64],
@@ -159,7 +159,7 @@ fn each_call_of_the_ground_fails_once(rt: HostRuntime) -> Result<(), Fail> {
 
 // Slot 1 with an open gate, version 1, sequence 2, the chunk size 1048576, the records' end at 94, 1 as the number of the next commit, and
 // next and first attempt 1; all else is zero.
-fn slot_after_one_commit() -> [u8; 128] {
+pub(crate) fn slot_after_one_commit() -> [u8; 128] {
     let mut slot = [0; 128];
     slot[0] = 0xa5;
     slot[8] = 1;
@@ -306,7 +306,7 @@ fn pieces_change_nothing(rt: HostRuntime) -> Result<(), Fail> {
 
 // The control file of a store that was just made: slot 0 with an open gate, version 1, sequence 1, the chunk size 1048576
 // and next and first attempt 1; all else is zero.
-fn fresh_control() -> [u8; 256] {
+pub(crate) fn fresh_control() -> [u8; 256] {
     let mut control = [0; 256];
     control[0] = 0xa5;
     control[8] = 1;
@@ -439,7 +439,7 @@ fn stands_after(alloc: Global, bench: Bench, keep: bool) -> Result<Vec<u8>, Allo
     bench.said(alloc)
 }
 
-fn count_lines(bytes: &[u8]) -> usize {
+pub(crate) fn count_lines(bytes: &[u8]) -> usize {
     bytes.iter().filter(|byte| **byte == b'\n').count()
 }
 

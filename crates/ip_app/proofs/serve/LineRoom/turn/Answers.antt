@@ -1,6 +1,6 @@
 use Rattle.std.proofs.Common.{refl, ap, ◌∙◌}
 use Rattle.ip_ground.proofs.Rising.{none_falls_on, falls_itself, rose_after}
-use Rattle.ip_app.specs.Session.{state_in}
+use Rattle.ip_app.specs.Session.{state_in, ChangedIn}
 use Rattle.ip_app.specs.Turns.{turn_counts}
 use Rattle.ip_app.proofs.RunLemmas.{keeps_itself, keeps_two}
 use Rattle.ip_image.proofs.HeadlineLaws.{turns_quietly}
@@ -38,13 +38,13 @@ returns-in-Ok-say-clause-turned g c r is holds =
       after = goes.after;
       turned = turned_of _ _ _ _ _ _ _ _ _ _ _ _ answered.0 (g.G.Ground.counts_of c.answer-answered.new.ground)
           (record { source_tells = refl; ground_tells = refl; log_tells = c.note.ensures.told; read_faults = c.next_line.ensures.faults; counts = none_falls_on _ _ _ c.answer-answered.ensures.counts c.say.ensures.counts })
-          (λ told. files_of _ _ _ answered.0 (goes.only told (holds told)) _ _ (c.say.ensures.does told))
+          (λ told. files_of _ _ _ c.deref.result.now answered.0 (goes.only told (holds told)) _ _ (c.say.ensures.does told))
           c.in_default.ensures.ok c.in_default.ensures.count goes.gives c.deref.ensures.value c.met.ensures c.note.ensures.noted (c.turn_counts.ensures ∙ ap turn_counts c.counts.ensures) c.requires.counted c.answer-answered.ensures.counts c.say.ensures.counts;
       now_at = refl;
       is_in = goes.is_in;
       holds = λ told. holds_along _ _ _ goes.after (c.say.ensures.does told).goes (c.say.ensures.does told).files (goes.holds told (holds told));
-      said = λ told. said_of _ _ _ answered.0 (goes.only told (holds told)) _ _ (c.in-Ok-say.ensures.does told) _ text;
-      turning = λ told order. turned_moments _ _ _ _ (c.say.ensures.does told) _ answered.0 (goes.only told (holds told)) _ text r goes.after (goes.keeps told (holds told) order) _ (goes.holds told (holds told)) (goes.order told (holds told) order);
+      said = λ told. said_of _ _ _ c.deref.result.now answered.0 (goes.only told (holds told)) _ _ (c.in-Ok-say.ensures.does told) _ text;
+      turning = λ told order. turned_moments _ _ _ _ (c.say.ensures.does told) _ (ChangedIn c.deref.result.now answered.0) (goes.only told (holds told)) _ text r goes.after (goes.keeps told (holds told) order) _ (goes.holds told (holds told)) (goes.order told (holds told) order);
       order = λ told order. order_says _ _ _ _ (c.say.ensures.does told) (goes.order told (holds told) order);
     }
 
@@ -57,11 +57,11 @@ returns-in-Err-say-clause-stops g c r is holds =
         exchange = exchange_of c.next_line.new.line.items c.met.result c.args.counts.now c.turn_counts.result answered.0 (state_in c.answer-answered.new.self goes.after);
         turned = turned_of _ _ _ _ _ _ _ _ _ _ _ _ answered.0 (g.G.Ground.counts_of c.answer-answered.new.ground)
             (record { source_tells = refl; ground_tells = refl; log_tells = c.note.ensures.told; read_faults = c.next_line.ensures.faults; counts = none_falls_on _ _ _ c.answer-answered.ensures.counts c.say.ensures.counts })
-            (λ told. files_of _ _ _ answered.0 (goes.only told (holds told)) _ _ (c.say.ensures.does told))
+            (λ told. files_of _ _ _ c.deref.result.now answered.0 (goes.only told (holds told)) _ _ (c.say.ensures.does told))
             c.in_default.ensures.ok c.in_default.ensures.count goes.gives c.deref.ensures.value c.met.ensures c.note.ensures.noted (c.turn_counts.ensures ∙ ap turn_counts c.counts.ensures) c.requires.counted c.answer-answered.ensures.counts c.say.ensures.counts;
-        part = λ told. part_of _ _ _ answered.0 (goes.only told (holds told)) _ _ (c.say.ensures.does told) _ text;
+        part = λ told. part_of _ _ _ c.deref.result.now answered.0 (goes.only told (holds told)) _ _ (c.say.ensures.does told) _ text;
         silent = λ told cut_short. absurd (cc cut_short);
-        turning = λ told order. turned_moments _ _ _ _ (c.say.ensures.does told) _ answered.0 (goes.only told (holds told)) _ text r goes.after (goes.keeps told (holds told) order) _ (goes.holds told (holds told)) (goes.order told (holds told) order);
+        turning = λ told order. turned_moments _ _ _ _ (c.say.ensures.does told) _ (ChangedIn c.deref.result.now answered.0) (goes.only told (holds told)) _ text r goes.after (goes.keeps told (holds told) order) _ (goes.holds told (holds told)) (goes.order told (holds told) order);
         again = λ told order. record {
           repository = goes.after;
           stands = (holds_along _ _ _ goes.after (c.say.ensures.does told).goes (c.say.ensures.does told).files (goes.holds told (holds told))).stands;

@@ -1,0 +1,317 @@
+//! Scripts that name branches and commits, by tables of what goes in and what comes out.
+use crate::tests::{answers, count_lines, fresh_control, serve, slot_after_one_commit, source};
+use crate::{Silent, Status};
+use ip_base::{put_u8, put_u32, put_u64};
+use ip_ground::{Bench, FileName, Ground};
+use std::alloc::{AllocError, Global};
+use std::test::Fail;
+
+// Commits of the empty tree by `a`, with the message `m`. A has no parents and the date 0; B and C have the parent A, D has C and B, E has B and
+// C, and their dates are 1 to 4. F has the date 99 and 16 parents, which have none and the dates 0 to 15; G has no parents and the date 1. Each
+// name is the SHA-256 of 04, the root's name, how many parents, their names, the date, 01 61 and 0100 6d.
+const NAMES: [&[u8]; 7] = [
+    b"363243354106fe784e750f162f5147ec8fd3d66a3f3b58508b264639b524e93c",
+    b"1366c1c03c34a972b7854fdefc37f0b5f58ccaa59aed457f2a1142af22b8b1d3",
+    b"57fc0f76b63811f161cb6af0226934757190fee9aa296e1f0d492b2a8a30030b",
+    b"ed84de8377a813c8fe11d6d53a81fd3a69413e9a75726f4f9a980733d339bb16",
+    b"91dd77e7a60aefa9e45a12f0e5a7570fe390adf054b0658b84da997729c332cd",
+    b"4fbe2bbad30fa17f17e9eaa3a851cef740fb96c77128f4f2ef8ae61471d5298a",
+    b"aaf4693d1fd27f222dca0de7a762546962e555cdde761f44d66811de9582f29a",
+];
+
+// Each of the letters A to G stands for a commit's name.
+fn with_names(alloc: Global, text: &[u8]) -> Result<Vec<u8>, AllocError> {
+    let mut out = Vec::new(alloc);
+    for byte in text {
+        if *byte >= b'A' && *byte <= b'G' {
+            out.extend_from_slice(NAMES[(*byte - b'A') as usize])?;
+        } else {
+            out.push(*byte)?;
+        }
+    }
+    Ok(out)
+}
+
+const CRISS_CROSS: &[u8] = b"empty\ncommit main 0 a m\nbranch dev main\n\
+    empty\nparent main\ncommit main 1 a m\nempty\nparent dev\ncommit dev 2 a m\nparent @B\ncommit dev 3 a m\n\
+    empty\nparent @B\nparent @C\ncommit main 4 a m\n";
+
+const CRISS_CROSS_REPLIES: &[u8] = b"ok\ncommitted A\nok\n\
+    ok\nok\ncommitted B\nok\nok\ncommitted C\nok\ncommitted D\n\
+    ok\nok\nok\ncommitted E\n";
+
+const HISTORY: &[u8] =
+    b"branches\nlog main\nlog dev\nlog @A\nlcas main dev\nlcas @D @E\nlcas @A dev\nlcas @C @C\n";
+
+const HISTORY_REPLIES: &[u8] =
+    b"branches 2 dev D main E\nlog 4 E C B A\nlog 4 D C B A\nlog 1 A\nlcas 2 B C\nlcas 2 B C\nlcas 1 A\nlcas 1 C\n";
+
+#[test]
+fn branches_and_history_are_answered(rt: HostRuntime) -> Result<(), Fail> {
+    let alloc = rt.alloc();
+    let rows: [(&[u8], &[u8]); 8] = [
+        (b"branches\n", b"branches 0\n"),
+        (
+            b"parent x\nparent @A\nbranch x y\nbranch-rm x\nlog @A\nlcas x y\n",
+            b"no-branch x\nno-commit A\nno-branch y\nno-branch x\nno-commit A\nno-branch x\n",
+        ),
+        (
+            b"empty\ncommit main 0 a m\nbranches\nbranch old @A\nbranches\nbranch-rm old\nbranch-rm old\nbranches\n",
+            b"ok\ncommitted A\nbranches 1 main A\nok\nbranches 2 main A old A\nok\nno-branch old\nbranches 1 main A\n",
+        ),
+        (
+            b"empty\ncommit main 0 a m\nlcas main x\nlcas @A @B\nlcas @B main\nbranch dev @B\nbranch-rm dev\n",
+            b"ok\ncommitted A\nno-branch x\nno-commit B\nno-commit B\nno-commit B\nno-branch dev\n",
+        ),
+        (CRISS_CROSS, CRISS_CROSS_REPLIES),
+        // A parent is added once, and `empty` takes the parents away.
+        (
+            b"empty\ncommit main 0 a m\nempty\nparent main\nparent @A\ncommit main 1 a m\nlog main\nempty\ncommit dev 1 a m\nlog dev\n",
+            b"ok\ncommitted A\nok\nok\nok\ncommitted B\nlog 2 B A\nok\ncommitted G\nlog 1 G\n",
+        ),
+        // A branch that is set elsewhere is no head of the work's parents.
+        (
+            b"empty\ncommit main 0 a m\nempty\nparent main\ncommit dev 1 a m\nbranch main dev\nlog main\nempty\nparent @A\ncommit main 2 a m\n",
+            b"ok\ncommitted A\nok\nok\ncommitted B\nok\nlog 2 B A\nok\nok\nhead-moved B\n",
+        ),
+        (
+            b"branch dev\nbranch-rm @x\nlog\n",
+            b"bad 10\nbad 10\nbad 3\n",
+        ),
+    ];
+    for (script, said) in rows {
+        let (ended, replies) = answers(alloc, &with_names(alloc, script)?, &[], &[])?;
+        assert_eq!(rt; ended, Status::Done);
+        assert_eq!(rt; replies, with_names(alloc, said)?);
+    }
+    Ok(())
+}
+
+#[test]
+fn branches_and_history_stand_when_the_store_is_opened_again(rt: HostRuntime) -> Result<(), Fail> {
+    let alloc = rt.alloc();
+    let script = with_names(alloc, CRISS_CROSS)?;
+    let query = with_names(alloc, HISTORY)?;
+    for keep in [false, true] {
+        let (_, replies, bench) = cut_off(alloc, &script, &[], None)?;
+        assert_eq!(rt; replies, with_names(alloc, CRISS_CROSS_REPLIES)?);
+        let told = told_after(alloc, bench, keep, &query)?;
+        assert_eq!(rt; told, with_names(alloc, HISTORY_REPLIES)?);
+    }
+    Ok(())
+}
+
+// A number, between two texts.
+fn push_numbered(
+    out: &mut Vec<u8>,
+    front: &[u8],
+    number: u32,
+    back: &[u8],
+) -> Result<(), AllocError> {
+    let mut buffer = itoa::Buffer::new();
+    out.extend_from_slice(front)?;
+    out.extend_from_slice(buffer.format(number).as_bytes())?;
+    out.extend_from_slice(back)
+}
+
+// Each of 17 commits without parents is on a branch of its own; all but the last become parents of one work.
+#[test]
+fn a_work_has_16_parents(rt: HostRuntime) -> Result<(), Fail> {
+    let alloc = rt.alloc();
+    let mut script = Vec::new(alloc);
+    for date in 0..17 {
+        push_numbered(&mut script, b"empty\ncommit b", date, b" ")?;
+        push_numbered(&mut script, b"", date, b" a m\n")?;
+    }
+    script.extend_from_slice(b"empty\n")?;
+    for date in 0..17 {
+        push_numbered(&mut script, b"parent b", date, b"\n")?;
+    }
+    script.extend_from_slice(b"parent b0\ncommit all 99 a m\nlcas all b0\nlcas all b16\n")?;
+    let (status, said) = answers(alloc, &script, &[], &[])?;
+    assert_eq!(rt; status, Status::Done);
+    assert_eq!(rt; count_lines(&said), 34 + 18 + 4);
+    let last = with_names(
+        alloc,
+        b"ok\nlimit parents\nok\ncommitted F\nlcas 1 A\nlcas 0\n",
+    )?;
+    assert!(rt; said.ends_with(&last));
+    Ok(())
+}
+
+// The record that puts a branch at commit 0: 05, how many bytes follow, the number, and the name behind its length.
+fn push_branch(out: &mut Vec<u8>, name: &[u8]) -> Result<(), Fail> {
+    let length = name.len().min(255) as u8;
+    put_u8(out, 5)?;
+    put_u32(out, 9 + length as u32)?;
+    put_u64(out, 0)?;
+    put_u8(out, length)?;
+    Ok(out.extend_from_slice(name)?)
+}
+
+// The slot after one commit, save where the records end.
+fn slot_with_end(end: u64) -> [u8; 128] {
+    let mut slot = slot_after_one_commit();
+    slot[40..48].copy_from_slice(&end.to_le_bytes());
+    slot
+}
+
+// The control file after one commit, save where the records end.
+fn control_with_end(end: u64) -> [u8; 256] {
+    let mut control = fresh_control();
+    control[128..256].copy_from_slice(&slot_with_end(end));
+    control
+}
+
+// A ground whose files stand for one commit and 4096 branches at it.
+fn full_of_branches(alloc: Global) -> Result<Bench, Fail> {
+    let (_, _, mut made) = cut_off(alloc, b"empty\ncommit main 0 a m\n", &[], None)?;
+    let mut records = [0; 94];
+    assert_read(made.read(FileName::Chunk(0), 0, &mut records).ok(), 94)?;
+    let mut chunk = Vec::from_slice(alloc, &records)?;
+    for branch in 1..4096 {
+        let mut name = Vec::new(alloc);
+        push_numbered(&mut name, b"b", branch, b"")?;
+        push_branch(&mut chunk, &name)?;
+    }
+    let control = control_with_end(chunk.len() as u64);
+    let mut full = Bench::new(alloc, Vec::new(alloc), None, Vec::new(alloc));
+    let _ = full.write(FileName::Control, 0, &control);
+    let _ = full.write(FileName::Chunk(0), 0, &chunk);
+    Ok(full)
+}
+
+fn assert_read(read: Option<usize>, wanted: usize) -> Result<(), Fail> {
+    if read == Some(wanted) {
+        Ok(())
+    } else {
+        Err("not read")?
+    }
+}
+
+// Lines that make as many branches would take too long: the ground in memory keeps what a crash may leave.
+#[test]
+fn a_store_has_4096_branches(rt: HostRuntime) -> Result<(), Fail> {
+    let alloc = rt.alloc();
+    let mut full = full_of_branches(alloc)?;
+    let script =
+        b"stat\nbranch x main\nbranch b7 main\nbranch-rm b7\nbranch x main\nbranch b7 main\nstat\n";
+    let mut script = source(alloc, script, &[])?;
+    assert_eq!(rt;
+        serve(alloc, &mut script, &mut full, &mut Silent)?,
+        Status::Done
+    );
+    let replies =
+        b"stat 0 1 4096 idle\nlimit branches\nok\nok\nok\nlimit branches\nstat 0 1 4096 idle\n";
+    assert_eq!(rt; full.said(alloc)?.as_slice(), replies.as_slice());
+    Ok(())
+}
+
+// How serving a script ends over a store that was just made, what was said, and the ground then. The calls of these numbers fail, and the ground
+// may stop at one. The control file takes calls 0 and 1.
+fn cut_off(
+    alloc: Global,
+    script: &[u8],
+    fails: &[u64],
+    stop: Option<u64>,
+) -> Result<(Status, Vec<u8>, Bench), AllocError> {
+    let fails = Vec::from_slice(alloc, fails)?;
+    let mut bench = Bench::new(alloc, fails, stop, Vec::new(alloc));
+    let _ = bench.write(FileName::Control, 0, &fresh_control());
+    let _ = bench.sync(FileName::Control);
+    let mut script = source(alloc, script, &[])?;
+    let status = serve(alloc, &mut script, &mut bench, &mut Silent)?;
+    let said = bench.said(alloc)?;
+    Ok((status, said, bench))
+}
+
+// What is told over a ground that was stopped: with the files as they were, or as they were synced last.
+fn told_after(
+    alloc: Global,
+    bench: Bench,
+    keep: bool,
+    query: &[u8],
+) -> Result<Vec<u8>, AllocError> {
+    let mut bench = bench.after_stop(keep)?;
+    let mut query = source(alloc, query, &[])?;
+    let _ = serve(alloc, &mut query, &mut bench, &mut Silent)?;
+    bench.said(alloc)
+}
+
+const LINES: [&[u8]; 10] = [
+    b"empty\n",
+    b"commit main 0 a m\n",
+    b"branch old main\n",
+    b"branch dev @A\n",
+    b"set a 01\n",
+    b"commit main 1 a m\n",
+    b"branch old main\n",
+    b"branch-rm dev\n",
+    b"branch-rm dev\n",
+    b"branch-rm old\n",
+];
+
+// The first lines.
+fn first_lines(alloc: Global, count: usize) -> Result<Vec<u8>, AllocError> {
+    let mut script = Vec::new(alloc);
+    for line in LINES.iter().take(count) {
+        script.extend_from_slice(line)?;
+    }
+    with_names(alloc, &script)
+}
+
+// The branches after each number of lines, none of which was cut off.
+fn all_branches(alloc: Global) -> Result<Vec<Vec<u8>>, AllocError> {
+    let mut all = Vec::new(alloc);
+    for count in 0..=LINES.len() {
+        let script = first_lines(alloc, count)?;
+        let (_, _, bench) = cut_off(alloc, &script, &[], None)?;
+        all.push(told_after(alloc, bench, true, b"branches\n")?)?;
+    }
+    Ok(all)
+}
+
+// Of the lines of a script that was cut off all are kept that were answered, and of one that was not, all or nothing.
+fn is_kept(all: &[Vec<u8>], said: &[u8], told: &Vec<u8>) -> bool {
+    let answered = count_lines(said);
+    all.get(answered) == Some(told) || all.get(answered.saturating_add(1)) == Some(told)
+}
+
+#[test]
+fn branches_are_stopped_at_each_call(rt: HostRuntime) -> Result<(), Fail> {
+    let alloc = rt.alloc();
+    let script = first_lines(alloc, LINES.len())?;
+    let all = all_branches(alloc)?;
+    let mut last = 0;
+    for stop in 2..80 {
+        for keep in [false, true] {
+            let (status, said, bench) = cut_off(alloc, &script, &[], Some(stop))?;
+            if status != Status::Done {
+                last = stop;
+                let told = told_after(alloc, bench, keep, b"branches\n")?;
+                assert!(rt; is_kept(&all, &said, &told), "{stop}");
+            }
+        }
+    }
+    // Opening makes calls 2 to 5; three lines make one call for their replies, the first commit seven more, and the six other commands nine more.
+    assert_eq!(rt; last, 5 + 3 + 8 + 6 * 10);
+    Ok(())
+}
+
+// The calls of `branch old main` are those from 15 to 23, and call 24 says its reply.
+#[test]
+fn each_call_of_a_branch_fails_once(rt: HostRuntime) -> Result<(), Fail> {
+    let alloc = rt.alloc();
+    let script = first_lines(alloc, LINES.len())?;
+    let all = all_branches(alloc)?;
+    for fault in 15..24 {
+        for keep in [false, true] {
+            let (status, said, bench) = cut_off(alloc, &script, &[fault], None)?;
+            assert_eq!(rt; count_lines(&said), 2, "{fault}");
+            assert_eq!(rt; status, Status::GroundFault, "{fault}");
+            let told = told_after(alloc, bench, keep, b"branches\n")?;
+            assert!(rt; is_kept(&all, &said, &told), "{fault}");
+        }
+    }
+    Ok(())
+}
