@@ -1,26 +1,25 @@
 -- What stands at a path of a lazy tree, step by step.
-use Rattle.std.proofs.Common.{◌≡◌, ◌≢◌, ℕ, ◌-◌, ◌≤◌, take, drop, get_or, List, [], ◌∷◌, ◌++◌, length, refl, sym, ap, subst, ◌∙◌, arith, Option, Some, None, Bool, true, false, cond}
+use Rattle.std.proofs.Common.{◌≡◌, ◌≢◌, ℕ, ◌-◌, ◌≤◌, take, drop, get_or, List, [], ◌∷◌, ◌++◌, length, refl, sym, ap, subst, ◌∙◌, arith, Option, Some, None, Bool, true, false}
 use Rattle.std.proofs.lemmas.Bool.{false≢true}
 use Rattle.std.specs.Prelude.{Result, Ok, Err, MatchResult, IsTrue, IsFalse, option_map, option_and_then, is_some}
 use Rattle.std.specs.FinMap.Entries.{find}
 use Rattle.ip_spec.specs.Map.{get}
-use Rattle.ip_spec.specs.Path.{Bytes, Step, Path, bytes_cmp, same_path}
+use Rattle.ip_spec.specs.Path.{Bytes, Step, Path, bytes_cmp}
 use Rattle.ip_spec.specs.Record.{Child}
-use Rattle.ip_spec.specs.Shape.{child_of, root_name}
+use Rattle.ip_spec.specs.Shape.{child_of}
 use Rattle.ip_spec.specs.Tree as Tree
-use Rattle.ip_spec.specs.Tree.{Tree, IsTree, no_tree, subtree, height, is_empty, is_contents, tree_runs}
+use Rattle.ip_spec.specs.Tree.{Tree, no_tree, subtree, height, is_empty, is_contents, tree_runs}
 use Rattle.ip_spec.specs.View.{View}
 use Rattle.ip_spec.specs.declared.record.LeafEntry.{LeafEntry}
 use Rattle.ip_spec.specs.declared.record.Record.{Record}
-use Rattle.ip_spec.specs.declared.record.Record.TheVariants as Record
 use Rattle.ip_spec.specs.declared.record.Ref.{Ref}
 use Rattle.ip_spec.proofs.Subtrees.{get-subtree, get-contents, get-no_tree, same_tree, subtree_root, subtree_cons, entry_found, entry_lost, empty_is}
 use Rattle.ip_tree.specs.Edits.{knows, IsDirectory}
 use Rattle.ip_tree.specs.Finding.{as_node, IsPartAt, Finds, IsPartOf, FindsIn}
 use Rattle.ip_tree.specs.Known as parts
-use Rattle.ip_tree.specs.Known.{entry_named, entry_at, stored_at, stored_by, part_at, stored_part}
+use Rattle.ip_tree.specs.Known.{entry_named, stored_at, stored_by, part_at, stored_part}
 use Rattle.ip_tree.specs.Leaves.{HasLeavesOnly, stored_of_entry}
-use Rattle.ip_tree.specs.Meaning.{NodeIs, RootIs, DirectoryIs, StoredIs, Spells, directory_in}
+use Rattle.ip_tree.specs.Meaning.{NodeIs, RootIs, directory_in}
 use Rattle.ip_tree.specs.Node as view
 use Rattle.ip_tree.specs.Node.{nodes_of}
 use Rattle.ip_tree.specs.Place.{place_of}
@@ -36,15 +35,14 @@ use Rattle.ip_tree.specs.declared.tree.Root.{Root}
 use Rattle.ip_tree.specs.declared.tree.Root.TheVariants as roots
 use Rattle.ip_tree.specs.declared.tree.Tree as code
 use Rattle.ip_tree.specs.declared.tree.TreeFault.{TreeFault}
-use Rattle.ip_tree.proofs.Answered.{lost_entry, below, a_directory}
+use Rattle.ip_tree.proofs.Answered.{lost_entry, below}
 use Rattle.ip_tree.proofs.Heights.{path_height}
 use Rattle.ip_tree.proofs.KnownParts.{leaf_at_step}
-use Rattle.ip_tree.proofs.Looking.{inner_is, bytes_of, lost_here}
+use Rattle.ip_tree.proofs.Looking.{bytes_of, lost_here}
 use Rattle.ip_tree.proofs.NodeLists.{known_found}
-use Rattle.ip_tree.proofs.PlacedShown.{found}
 use Rattle.ip_tree.proofs.PlacedTrees.{something}
 use Rattle.ip_tree.proofs.Places.{directory_shown, stored_shown, inner_shown}
-use Rattle.ip_tree.proofs.PutShown.{at, child}
+use Rattle.ip_tree.proofs.PutShown.{child, found}
 use Rattle.ip_tree.proofs.Reached.{child_of_directory}
 use Rattle.ip_tree.proofs.Steps.{by_rest}
 use Rattle.ip_tree.proofs.Trees.{nothing_under}

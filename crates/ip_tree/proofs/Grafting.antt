@@ -1,22 +1,21 @@
 -- A graft by the views of both trees.
-use Rattle.std.proofs.Common.{◌≡◌, ℕ, ◌+◌, ◌<◌, ◌≤◌, List, [], ◌∷◌, ◌++◌, length, refl, sym, ap, subst, ◌∙◌, append_assoc, arith, Option, Some, None, Bool, true, false, cond}
+use Rattle.std.proofs.Common.{◌≡◌, ℕ, ◌+◌, ◌<◌, ◌≤◌, List, [], ◌∷◌, ◌++◌, length, refl, sym, ap, subst, ◌∙◌, append_assoc, arith, Option, Some, None, Bool, true, false}
 use Rattle.std.proofs.lemmas.Bool.{false≢true}
 use Rattle.std.proofs.lemmas.List.{length-append}
-use Rattle.std.specs.Prelude.{Result, Ok, Err, IsTrue, IsFalse, not, ◌&&◌, ◌||◌, is_some, if◌then◌else◌}
+use Rattle.std.specs.Prelude.{IsTrue, not, if◌then◌else◌}
 use Rattle.ip_base.specs.declared.limit.Limit.TheVariants as limits
 use Rattle.ip_space.specs.declared.fault.FetchFault.TheVariants as fetch
 use Rattle.ip_spec.specs.Map.{get, len}
-use Rattle.ip_spec.specs.Path.{Bytes, Step, Path, IsPath, same_bytes, is_prefix, is_related, after_prefix}
+use Rattle.ip_spec.specs.Path.{Path, IsPath, is_related, after_prefix}
 use Rattle.ip_spec.specs.Step.{entries_limit, steps_limit}
-use Rattle.ip_spec.specs.Tree.{Tree, IsTree, subtree, entries_of, height, widest, place, graft, is_empty, is_contents}
-use Rattle.ip_spec.specs.View.{View, Part, is_part, is_nil, touches, holds_behind, least, graft_view, grafted_known}
+use Rattle.ip_spec.specs.Tree.{Tree, subtree, entries_of, height, widest, place, graft, is_empty}
+use Rattle.ip_spec.specs.View.{View, Part, is_part, touches, least, graft_view, grafted_known}
 use Rattle.ip_spec.specs.declared.record.Record.{Record}
-use Rattle.ip_spec.proofs.Subtrees.{get-subtree, same_tree, same_bytes_turned}
-use Rattle.ip_tree.specs.Edits.{knows, is_full, PutFaultBy}
+use Rattle.ip_spec.proofs.Subtrees.{get-subtree, same_tree}
+use Rattle.ip_tree.specs.Edits.{knows, is_full, PlaceFaultBy}
 use Rattle.ip_tree.specs.Finding.{IsPartOf}
 use Rattle.ip_tree.specs.Heights.{node_height}
 use Rattle.ip_tree.specs.Known as parts
-use Rattle.ip_tree.specs.Meaning.{NodeIs, RootIs}
 use Rattle.ip_tree.specs.Narrow.{IsNarrow}
 use Rattle.ip_tree.specs.Node as view
 use Rattle.ip_tree.specs.Placing.{behind_or, IsPlacedIn, IsNotPlacedIn}
@@ -25,7 +24,7 @@ use Rattle.ip_tree.specs.declared.tree.Tree as code
 use Rattle.ip_tree.specs.declared.tree.TreeFault.{TreeFault}
 use Rattle.ip_tree.specs.declared.tree.TreeFault.TheVariants.{Limit, Fetch, Memory}
 use Rattle.ip_tree.proofs.Heights.{height_most, lawful_height, path_height, node_steps}
-use Rattle.ip_tree.proofs.KnownParts.{whole, no_indexes, root_stands}
+use Rattle.ip_tree.proofs.KnownParts.{whole, no_indexes, root_stands, part_stands, known_beside}
 use Rattle.ip_tree.proofs.PlacedLaws.{lawful_graft}
 use Rattle.ip_tree.proofs.PlacedNodes.{not_empty}
 use Rattle.ip_tree.proofs.PlacedTrees.{IsSplit, split, subtree_placed, subtree_unplaced}
@@ -48,35 +47,11 @@ narrow_under t p narrow q = subst (λ (x : Tree). len (entries_of x) ≤ entries
 
 -- ---- known parts
 
-touches_whole : (p path : Path) → touches (whole p) path ≡ is_related path p
-touches_whole [] [] = refl
-touches_whole [] (s ∷ path) = refl
-touches_whole (r ∷ p) [] = refl
-touches_whole (r ∷ p) (s ∷ path) =
-    ap (λ b. b && is_prefix path p || holds_behind [] (cond (same_bytes r s) (after_prefix p path) None)) (same_bytes_turned s r)
-    ∙ elim (same_bytes r s) as (λ b. (b && is_prefix path p || holds_behind [] (cond b (after_prefix p path) None)) ≡ (b && is_prefix path p || b && is_prefix p path)) [
-      | true ↦ touches_whole p path
-      | false ↦ refl
-    ]
-    ∙ sym (ap (λ b. b && is_prefix path p || same_bytes r s && is_prefix p path) (same_bytes_turned s r))
-
-part_stands : (p : Path) (t : Tree) → is_empty (subtree t p) ≡ false → is_part t (whole p) ≡ true
-part_stands p t some = by (is_contents (subtree t p)) (is_empty (subtree t p)) some
-  where
-    by : (c e : Bool) → e ≡ false → (if c then true else if e then is_nil p && true else true) ≡ true
-    by true e h = refl
-    by false true h = absurd (false≢true (sym h))
-    by false false h = refl
-
 -- what is known is a part
 only_known : (is : Bool) (k : Option ℕ) → ((o : ℕ) → k ≡ Some o → is ≡ true) → (if is then k else None) ≡ k
 only_known true k h = refl
 only_known false None h = refl
 only_known false (Some o) h = absurd (false≢true (h o refl))
-
-if_cond : (b : Bool) (k : Option ℕ) → (if b then None else k) ≡ cond b None k
-if_cond true k = refl
-if_cond false k = refl
 
 either_none : (b : Bool) (k : Option ℕ) → k ≡ None → (if b then k else None) ≡ None
 either_none true k e = e
@@ -103,16 +78,9 @@ module _ (records : ℕ → Option Record) (tree source : code.Tree) (v w : View
           ap (λ (p : Path). is_empty (subtree w.map p)) is
           ∙ root_stands records w_is.leaves (shown_root source.root) w.map s q o w_is.root (sym (w_is.known (whole (s ∷ q))) ∙ ap (λ (p : Path). w.known (whole p)) (sym is) ∙ known)
 
-  beside_stands : (p : Path) (o : ℕ) → is_related to p ≡ false → v.known (whole p) ≡ Some o → is_empty (subtree (graft v.map w.map from to) p) ≡ false
+  beside_stays : (q : Path) → is_related to q ≡ false → subtree (graft v.map w.map from to) q ≡ subtree v.map q
   unfolding graft
-  beside_stands [] o apart known = absurd (false≢true (sym apart ∙ root_related to))
-    where
-      root_related : (path : Path) → is_related path [] ≡ true
-      root_related [] = refl
-      root_related (s ∷ path) = refl
-  beside_stands (s ∷ q) o apart known =
-      ap is_empty (subtree_unplaced v.map to (s ∷ q) (subtree w.map from) apart)
-      ∙ root_stands records v_is.leaves (shown_root tree.root) v.map s q o v_is.root (sym (v_is.known (whole (s ∷ q))) ∙ known)
+  beside_stays q apart = subtree_unplaced v.map to q (subtree w.map from) apart
 
   -- the known parts after a graft
   known_grafted : (new : view.Root)
@@ -128,14 +96,7 @@ module _ (records : ℕ → Option Record) (tree source : code.Tree) (v w : View
           → (if is_part map (whole p) then grafted_known w w from [] o (if touches (whole p) to then None else v.known (whole p)) else None) ≡ behind_or (λ rest. w.known (whole (from ++ rest))) (is_related to p) (v.known (whole p)) o
       at_once p (Some rest) is =
           only_known (is_part map (whole p)) (w.known (whole (from ++ rest))) (λ o known. part_stands p map (ap (λ (q : Path). is_empty (subtree map q)) is ∙ grafted_stands rest o known))
-      at_once p None apart =
-          ap (λ b. if is_part map (whole p) then (if b then None else v.known (whole p)) else None) (touches_whole p to)
-          ∙ ap (λ k. if is_part map (whole p) then k else None) (if_cond (is_related to p) (v.known (whole p)))
-          ∙ only_known (is_part map (whole p)) (cond (is_related to p) None (v.known (whole p))) (λ o known. beside (is_related to p) refl o known)
-        where
-          beside : (b : Bool) → is_related to p ≡ b → (o : ℕ) → cond b None (v.known (whole p)) ≡ Some o → is_part map (whole p) ≡ true
-          beside true e o known = absurd (false≢true (ap is_some known))
-          beside false e o known = part_stands p map (beside_stands p o e known)
+      at_once p None apart = known_beside records tree v v_is to map beside_stays p
 
       no_index : (p : Path) (i : ℕ) (is : List ℕ) (o : Option Path) → grafted_known w w from (i ∷ is) o (if touches (record { path = p; indexes = i ∷ is }) to then None else v.known (record { path = p; indexes = i ∷ is })) ≡ None
       no_index p i is (Some rest) = w_is.known (record { path = from ++ rest; indexes = i ∷ is }) ∙ no_indexes records w_is.leaves (shown_root source.root) (from ++ rest) i is
@@ -171,7 +132,7 @@ module _ (records : ℕ → Option Record) (source : code.Tree) (w : View) (w_is
     pub not_grafted : (new : code.Tree) (fault : TreeFault) → IsNotPlacedIn records to new v fault → IsNotGrafted records from to new v w fault
     not_grafted new fault not = record { view = not.view; cause = cause fault not.cause }
       where
-        cause : (fault : TreeFault) → PutFaultBy (is_full to v.map) fault → IsGraftFault v.map w.map from to fault
+        cause : (fault : TreeFault) → PlaceFaultBy (is_full to v.map) fault → IsGraftFault v.map w.map from to fault
         cause (Limit limits.Contents) c = absurd c
         cause (Limit limits.Depth) c = absurd c
         cause (Limit limits.Entries) c = (some, fits, too_wide c)

@@ -1,4 +1,4 @@
--- Known parts are parts of the tree, and putting keeps those that the path does not touch.
+-- Known parts are parts of the tree, and an edit keeps those that its path does not touch.
 use Rattle.std.proofs.Common.{◌≡◌, ℕ, List, [], ◌∷◌, refl, sym, ap, ◌∙◌, Option, Some, None, Bool, true, false, cond}
 use Rattle.std.proofs.lemmas.Bool.{false≢true}
 use Rattle.std.specs.Prelude.{not, ◌&&◌, ◌||◌, is_some, option_and_then, if◌then◌else◌}
@@ -7,16 +7,18 @@ use Rattle.ip_spec.specs.Path.{Bytes, Step, Path, bytes_cmp, same_bytes, is_pref
 use Rattle.ip_spec.specs.declared.record.Record.{Record}
 use Rattle.ip_spec.specs.declared.record.Ref.{Ref}
 use Rattle.ip_spec.specs.declared.record.LeafEntry.{LeafEntry}
-use Rattle.ip_spec.specs.Tree.{Tree, subtree, entries_of, is_empty, is_contents, put}
+use Rattle.ip_spec.specs.Tree.{Tree, subtree, entries_of, is_empty, is_contents}
 use Rattle.ip_spec.specs.Shape.{Entries}
 use Rattle.ip_spec.specs.TreeAt.{PartAt, leaf_at, inode_at}
 use Rattle.ip_spec.specs.View.{View, Part, is_part, is_nil, touches, holds_behind, edit_view}
-use Rattle.ip_spec.proofs.Subtrees.{entry_found, subtree_cons, subtree_unrelated, same_bytes_turned}
+use Rattle.ip_spec.proofs.Subtrees.{entry_found, subtree_cons, same_bytes_turned}
 use Rattle.ip_tree.specs.Node.{Node, Nodes, Root, stored, contents, directory, none, first, unread, loaded}
 use Rattle.ip_tree.specs.Meaning.{NodeIs, NodesAre, RootIs}
 use Rattle.ip_tree.specs.Known.{known_in, known_among, known_of, known_by, stored_at, stored_by, part_at, part_by, entry_at, entry_named}
 use Rattle.ip_tree.specs.Leaves.{ref_of_entry, HasLeavesOnly}
 use Rattle.ip_tree.specs.Reads.{Reaches, contents_at, directory_at}
+use Rattle.ip_tree.specs.TreeView.{IsView, shown_root}
+use Rattle.ip_tree.specs.declared.tree.Tree as code
 use Rattle.ip_tree.proofs.Reached.{named_entry, reaches}
 use Rattle.ip_tree.proofs.Answered.{opened}
 
@@ -148,44 +150,52 @@ module _ (records : ℕ → Option Record) (leaves : HasLeavesOnly records) wher
   root_stands (unread r) t s q o is known = stored_stands (s ∷ q) r t o (directory_at t is.1 is.0) (taken _ o known)
   root_stands (loaded k ns) t s q o is known = let c = among_stands ns (entries_of t).entries s q o is.nodes known in stands_below t s q c.0 c.1 c.2
 
-  -- ---- the known parts after putting
+pub part_stands : (p : Path) (t : Tree) → is_empty (subtree t p) ≡ false → is_part t (whole p) ≡ true
+part_stands p t some = by (is_contents (subtree t p)) (is_empty (subtree t p)) some
+  where
+    by : (c e : Bool) → e ≡ false → (if c then true else if e then is_nil p && true else true) ≡ true
+    by true e h = refl
+    by false true h = absurd (false≢true (sym h))
+    by false false h = refl
 
-  pub known_after : (b : Bool) (is : Bool) (k : Option ℕ) → (b ≡ false → (o : ℕ) → k ≡ Some o → is ≡ true) → (if is && not b then k else None) ≡ cond b None k
-  known_after true true k h = refl
-  known_after true false k h = refl
-  known_after false true k h = refl
-  known_after false false None h = refl
-  known_after false false (Some o) h = absurd (false≢true (h refl o refl))
+-- ---- the known parts after an edit at a path, of any map in which all that the path does not touch stays
 
-  pub nothing_either : (b : Bool) (k : Option ℕ) → k ≡ None → (if b then k else None) ≡ None
-  nothing_either true k e = e
-  nothing_either false k e = refl
+pub related_root : (path : Path) → is_related path [] ≡ true
+related_root [] = refl
+related_root (s ∷ path) = refl
 
-  pub part_stands : (p : Path) (t : Tree) → is_empty (subtree t p) ≡ false → is_part t (whole p) ≡ true
-  part_stands p t some = by (is_contents (subtree t p)) (is_empty (subtree t p)) some
+module _ (records : ℕ → Option Record) (tree : code.Tree) (v : View) (is : IsView records tree v) (path : Path) (map : Tree) (stays : (q : Path) → is_related path q ≡ false → subtree map q ≡ subtree v.map q) where
+  still_stands : (p : Path) (o : ℕ) → is_related path p ≡ false → v.known (whole p) ≡ Some o → is_part map (whole p) ≡ true
+  still_stands [] o apart known = absurd (false≢true (sym apart ∙ related_root path))
+  still_stands (s ∷ q) o apart known =
+      part_stands (s ∷ q) map (ap is_empty (stays (s ∷ q) apart) ∙ root_stands records is.leaves (shown_root tree.root) v.map s q o is.root (sym (is.known (whole (s ∷ q))) ∙ known))
+
+  pub known_beside : (p : Path) → (if is_part map (whole p) then (if touches (whole p) path then None else v.known (whole p)) else None) ≡ cond (is_related path p) None (v.known (whole p))
+  known_beside p =
+      ap (λ b. if is_part map (whole p) then (if b then None else v.known (whole p)) else None) (touches_whole p path)
+      ∙ by (is_part map (whole p)) (is_related path p) (v.known (whole p)) (λ apart o known. still_stands p o apart known)
     where
-      by : (c e : Bool) → e ≡ false → (if c then true else if e then is_nil p && true else true) ≡ true
-      by true e h = refl
-      by false true h = absurd (false≢true (sym h))
-      by false false h = refl
+      by : (there b : Bool) (k : Option ℕ) → (b ≡ false → (o : ℕ) → k ≡ Some o → there ≡ true) → (if there then (if b then None else k) else None) ≡ cond b None k
+      by true true k h = refl
+      by true false k h = refl
+      by false true k h = refl
+      by false false None h = refl
+      by false false (Some o) h = absurd (false≢true (h refl o refl))
 
-  pub known_put_view : (v : View) (root new : Root) (path : Path) (bytes : Bytes) → RootIs records root v.map → ((part : Part) → v.known part ≡ known_of records root part)
-      → ((p : Path) → known_of records new (whole p) ≡ cond (is_related path p) None (known_of records root (whole p)))
-      → (part : Part) → (edit_view v path (put v.map path bytes)).known part ≡ known_of records new part
-  known_put_view v root new path bytes is known changed part = by part.path part.indexes
+  pub known_edited : (new : Root) → ((p : Path) → known_of records new (whole p) ≡ cond (is_related path p) None (v.known (whole p))) → (part : Part) → (edit_view v path map).known part ≡ known_of records new part
+  known_edited new changed part = by part.path part.indexes
     where
-      stays : (p : Path) (o : ℕ) → is_related path p ≡ false → v.known (whole p) ≡ Some o → is_part (put v.map path bytes) (whole p) ≡ true
-      stays [] o apart k = absurd (false≢true (sym apart ∙ root_related path))
-        where
-          root_related : (path : Path) → is_related path [] ≡ true
-          root_related [] = refl
-          root_related (s ∷ path) = refl
-      stays (s ∷ q) o apart k =
-          part_stands (s ∷ q) (put v.map path bytes) (ap is_empty (subtree_unrelated v.map path (s ∷ q) bytes apart) ∙ root_stands root v.map s q o is (sym (known (whole (s ∷ q))) ∙ k))
+      nested : (a b : Bool) (k : Option ℕ) → (if a && not b then k else None) ≡ (if a then (if b then None else k) else None)
+      nested true true k = refl
+      nested true false k = refl
+      nested false b k = refl
 
-      by : (p : Path) (indexes : List ℕ) → (edit_view v path (put v.map path bytes)).known (record { path = p; indexes = indexes }) ≡ known_of records new (record { path = p; indexes = indexes })
-      by p (i ∷ is') = nothing_either _ (v.known (record { path = p; indexes = i ∷ is' })) (known (record { path = p; indexes = i ∷ is' }) ∙ no_indexes root p i is') ∙ sym (no_indexes new p i is')
-      by p [] =
-          ap (λ b. if is_part (put v.map path bytes) (whole p) && not b then v.known (whole p) else None) (touches_whole p path)
-          ∙ known_after (is_related path p) (is_part (put v.map path bytes) (whole p)) (v.known (whole p)) (λ apart o k. stays p o apart k)
-          ∙ ap (cond (is_related path p) None) (known (whole p)) ∙ sym (changed p)
+      nothing_either : (b : Bool) (k : Option ℕ) → k ≡ None → (if b then k else None) ≡ None
+      nothing_either true k e = e
+      nothing_either false k e = refl
+
+      by : (p : Path) (indexes : List ℕ) → (edit_view v path map).known (record { path = p; indexes = indexes }) ≡ known_of records new (record { path = p; indexes = indexes })
+      by p (i ∷ indexes) =
+          nothing_either _ (v.known (record { path = p; indexes = i ∷ indexes })) (is.known (record { path = p; indexes = i ∷ indexes }) ∙ no_indexes records is.leaves (shown_root tree.root) p i indexes)
+          ∙ sym (no_indexes records is.leaves new p i indexes)
+      by p [] = nested (is_part map (whole p)) (touches (whole p) path) (v.known (whole p)) ∙ known_beside p ∙ sym (changed p)

@@ -35,3 +35,4 @@ pub mod PlacedShown
 pub mod FoundParts
 pub mod Grafting
 pub mod PlacedRoots
+pub mod MoreRecords

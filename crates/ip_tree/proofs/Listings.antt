@@ -7,7 +7,7 @@ use Rattle.ip_spec.specs.declared.record.Record as words
 use Rattle.ip_spec.specs.declared.record.Ref.{Ref}
 use Rattle.ip_spec.specs.declared.tree.Item.{Item}
 use Rattle.ip_spec.specs.Tree as Tree
-use Rattle.ip_spec.specs.Tree.{Tree, entries_of, is_contents}
+use Rattle.ip_spec.specs.Tree.{Tree, is_contents}
 use Rattle.ip_spec.specs.Shape.{Entries, child_by}
 use Rattle.ip_spec.proofs.Subtrees.{get-contents}
 use Rattle.ip_tree.specs.Node.{Node, Entry, nodes_of, stored, contents, directory}

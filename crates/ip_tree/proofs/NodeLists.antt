@@ -4,7 +4,7 @@ use Rattle.std.specs.Prelude.{Result, Ok, Err, option_and_then}
 use Rattle.std.specs.Cmp.Lexicographic.{nat_list_cmp_total}
 use Rattle.std.specs.Ordering.{is_eq}
 use Rattle.std.specs.FinMap.Entries as E
-use Rattle.std.specs.FinMap.Entries.{by_order, find, is_sorted, below_all}
+use Rattle.std.specs.FinMap.Entries.{by_order, find}
 use Rattle.std.specs.declared.cmp.Ordering.TheVariants.{Less, Equal, Greater}
 use Rattle.ip_spec.specs.Path.{Step, Path, bytes_cmp, same_bytes}
 use Rattle.ip_spec.specs.declared.record.Record.{Record}
@@ -77,10 +77,10 @@ module _ (records : ℕ → Option Record) where
 
   -- ---- known parts
 
-  abbrev below : Path → Option Node → Option ℕ
+  abbrev pub below : Path → Option Node → Option ℕ
   below p o = option_and_then (λ n. known_in records n p []) o
 
-  known_by_find : (es : List Entry) (q : Step) (p : Path) → known_among records (nodes_of es) q p [] ≡ below p (find bytes_cmp q es)
+  pub known_by_find : (es : List Entry) (q : Step) (p : Path) → known_among records (nodes_of es) q p [] ≡ below p (find bytes_cmp q es)
   known_by_find [] q p = refl
   known_by_find (e ∷ es) q p =
       elim (same_bytes q e.0) as (λ b. cond b (known_in records e.1 p []) (known_among records (nodes_of es) q p []) ≡ below p (cond b (Some e.1) (find bytes_cmp q es))) [

@@ -1,19 +1,14 @@
 -- A lawful tree in which another was placed is lawful.
-use Rattle.std.proofs.Common.{◌≡◌, ℕ, ◌+◌, ◌<◌, ◌≤◌, List, [], ◌∷◌, ◌++◌, refl, sym, ap, subst, ◌∙◌, Option, Some, None, Bool, true, false, cond, length, arith}
-use Rattle.std.proofs.lemmas.Bool.{false≢true, leb-true, leb-false}
+use Rattle.std.proofs.Common.{◌≡◌, ◌+◌, ◌≤◌, [], ◌∷◌, ◌++◌, refl, sym, ap, subst, ◌∙◌, Option, Some, None, Bool, true, false, cond, length, arith}
+use Rattle.std.proofs.lemmas.Bool.{false≢true}
 use Rattle.std.proofs.lemmas.List.{length-append}
 use Rattle.std.proofs.lemmas.List.Elements.{All-append, All-tail}
-use Rattle.std.specs.Prelude.{not, ◌||◌, ◌&&◌, is_some, IsSome, IsTrue, IsFalse, All}
-use Rattle.std.specs.Cmp.Lexicographic.{nat_list_cmp_total}
-use Rattle.std.specs.FinMap.Entries as E
-use Rattle.std.specs.FinMap.Entries.{find}
+use Rattle.std.specs.Prelude.{◌||◌, ◌&&◌, is_some, IsSome, IsTrue, All}
 use Rattle.ip_base.specs.PathText.{IsStep}
-use Rattle.ip_spec.specs.Map.{get, len}
-use Rattle.ip_spec.specs.Path.{Bytes, Step, Path, bytes_cmp, same_bytes, is_prefix, is_related, after_prefix, IsPath}
-use Rattle.ip_spec.specs.Step.{entries_limit}
-use Rattle.ip_spec.specs.Tree.{Tree, IsTree, IsPrefixFree, no_tree, contents, subtree, entries_of, place, graft, height, is_empty, is_contents}
-use Rattle.ip_spec.proofs.GraftLaws.{get-place}
-use Rattle.ip_spec.proofs.Subtrees.{get-subtree, subtree_root, subtree_cons, same_step, entry_found, entry_lost, empty_is}
+use Rattle.ip_spec.specs.Map.{get}
+use Rattle.ip_spec.specs.Path.{Bytes, Step, Path, same_bytes, is_prefix, is_related, after_prefix, IsPath}
+use Rattle.ip_spec.specs.Tree.{Tree, IsTree, IsPrefixFree, subtree, place, graft, height}
+use Rattle.ip_spec.proofs.Subtrees.{get-subtree, same_step}
 use Rattle.ip_tree.specs.Placing.{behind_or}
 use Rattle.ip_tree.proofs.Heights.{path_height}
 use Rattle.ip_tree.proofs.PlacedTrees.{IsSplit, split, itself, related_cons, get-placed}

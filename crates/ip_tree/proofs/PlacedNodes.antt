@@ -3,8 +3,7 @@ use Rattle.std.proofs.Common.{◌≡◌, ℕ, List, [], ◌∷◌, refl, sym, ap
 use Rattle.std.specs.Prelude.{Result, Ok, Err, IsFalse, nat_le}
 use Rattle.std.specs.FinMap.Entries as E
 use Rattle.std.specs.FinMap.Entries.{find}
-use Rattle.ip_spec.specs.Map.{get}
-use Rattle.ip_spec.specs.Path.{Bytes, Step, Path, bytes_cmp, same_bytes, is_related, after_prefix}
+use Rattle.ip_spec.specs.Path.{Step, Path, bytes_cmp, same_bytes, is_related, after_prefix}
 use Rattle.ip_spec.specs.Step.{entries_limit}
 use Rattle.ip_spec.specs.Tree as Tree
 use Rattle.ip_spec.specs.Tree.{Tree, entries_of, is_empty, no_tree, place}
@@ -13,12 +12,12 @@ use Rattle.ip_spec.specs.declared.record.Ref.{Ref}
 use Rattle.ip_spec.proofs.Subtrees.{same_step, some_not_empty}
 use Rattle.ip_tree.specs.Node.{Node, Nodes, Entry, nodes_of, stored, contents, directory, none, first}
 use Rattle.ip_tree.specs.Meaning.{NodeIs, NodesAre, DirectoryIs, StoredIs, contents_in, directory_in}
-use Rattle.ip_tree.specs.Known.{known_in, known_among}
+use Rattle.ip_tree.specs.Known.{known_among}
 use Rattle.ip_tree.specs.Place.{place_of}
 use Rattle.ip_tree.specs.Edits.{knows, IsDirectory, is_full, full_by, IsOpened}
 use Rattle.ip_tree.specs.Placing.{chain_to, behind_or, Placed, Places}
 use Rattle.ip_tree.specs.declared.tree.TreeFault.{TreeFault}
-use Rattle.ip_tree.proofs.Edited.{not_directory, are_bytes, AreBytes}
+use Rattle.ip_tree.proofs.Edited.{not_directory, node_of, are_bytes, AreBytes}
 use Rattle.ip_tree.proofs.Putting.{keys, none_here, sorted_by}
 use Rattle.ip_tree.proofs.NodeLists.{nodes_put, keys_same, same_count, Child, known_put, known_found, known_missing}
 use Rattle.ip_tree.proofs.Trees.{contents_get, entries_of_contents, entries_of_nothing}
@@ -130,22 +129,17 @@ module _ (records : ℕ → Option Record) where
 
     -- ---- at a node that was opened
 
-    node_of : (x : Node) (t : Tree) → IsDirectory records x t → IsFalse (is_empty t) → NodeIs records x t
-    node_of (stored r h) t is some = absurd is
-    node_of (contents b) t is some = absurd is
-    node_of (directory k ns) t is some = (record { directory = is.directory; some = some }, is.spelled, is.nodes)
-
     pub placed_opened : (old new : Node) (k : Option Ref) (ns : Nodes) (p : Path) (t : Tree) (result : Result (Unit {0}) TreeFault) → IsOpened records old (directory k ns) t
         → Places (IsDirectory records) records p n sub (directory k ns) new t result → Places (NodeIs records) records p n sub old new t result
     placed_opened old new k ns p t (Ok done) opened put = record {
       placed = record {
-        means = node_of new (place t p sub) put.placed.means (place_not_empty t p sub some);
+        means = node_of records new (place t p sub) put.placed.means (place_not_empty t p sub some);
         known = λ q. put.placed.known q ∙ ap (λ (o : Option ℕ). behind_or (knows records n) (is_related p q) o (after_prefix p q)) (opened.known q);
       };
       room = put.room;
     }
     placed_opened old new k ns p t (Err fault) opened put = record {
-      same = record { means = node_of new t put.same.means opened.means.0.some; known = λ q. put.same.known q ∙ opened.known q };
+      same = record { means = node_of records new t put.same.means opened.means.0.some; known = λ q. put.same.known q ∙ opened.known q };
       cause = put.cause;
     }
 

@@ -1,23 +1,20 @@
 -- Directories of the code in which a node was placed, as contracts see them.
-use Rattle.std.proofs.Common.{◌≡◌, ℕ, zero, suc, ◌-◌, ◌<◌, List, [], ◌∷◌, refl, sym, ap, subst, ◌∙◌, drop, take, get_or, length, arith, Option, Some, None, map, false}
-use Rattle.std.proofs.Math.ListN.{set}
-use Rattle.std.proofs.lemmas.List.{map-set, length-map}
+use Rattle.std.proofs.Common.{◌≡◌, ℕ, ◌-◌, [], ◌∷◌, sym, ap, subst, ◌∙◌, drop, take, get_or, length, Option, None, map, false}
+use Rattle.std.proofs.lemmas.List.{length-map}
 use Rattle.std.specs.Prelude.{Result, Ok, Err, Vec, insert, nat_le}
 use Rattle.std.specs.Global.{Global}
 use Rattle.std.specs.Vec.{with_item}
 use Rattle.std.specs.FinMap.Entries as E
-use Rattle.std.specs.FinMap.Entries.{find}
 use Rattle.ip_spec.specs.Path.{Step, Path, bytes_cmp}
 use Rattle.ip_spec.specs.Step.{entries_limit}
-use Rattle.ip_spec.specs.Tree as Tree
 use Rattle.ip_spec.specs.Tree.{Tree}
 use Rattle.ip_spec.specs.declared.record.Record.{Record}
 use Rattle.ip_spec.specs.declared.record.Ref.{Ref}
 use Rattle.ip_tree.specs.Node as view
-use Rattle.ip_tree.specs.Node.{nodes_of, list_of}
+use Rattle.ip_tree.specs.Node.{nodes_of}
 use Rattle.ip_tree.specs.Shown.{shown, shown_directory, shown_entry, known_of, entries_of, keys_of}
 use Rattle.ip_tree.specs.Place.{place_of}
-use Rattle.ip_tree.specs.Meaning.{NodeIs, DirectoryIs}
+use Rattle.ip_tree.specs.Meaning.{NodeIs}
 use Rattle.ip_tree.specs.Edits.{IsDirectory, IsOpened}
 use Rattle.ip_tree.specs.Placing.{chain_to, Placed, Places}
 use Rattle.ip_tree.specs.declared.tree.TreeFault.{TreeFault}
@@ -26,52 +23,10 @@ use Rattle.ip_tree.specs.declared.node.Entry.{Entry}
 use Rattle.ip_tree.specs.declared.node.Directory.{Directory, out-Directory}
 use Rattle.ip_tree.specs.declared.node.Node.TheViews.{roll-Directory, roll-Entry}
 use Rattle.ip_tree.specs.declared.node.Node.TheVariants as variants
-use Rattle.ip_tree.proofs.Places.{entry_shown, directory_shown, made_shown, entry_made, inner_shown, stored_shown, contents_shown}
-use Rattle.ip_tree.proofs.Putting.{place_lt, set_here, insert_here, find_here}
-use Rattle.ip_tree.proofs.NodeLists.{find_node}
-use Rattle.ip_tree.proofs.PutShown.{at, child}
-use Rattle.ip_tree.proofs.Edited.{not_directory}
+use Rattle.ip_tree.proofs.Places.{directory_shown, made_shown, inner_shown}
+use Rattle.ip_tree.proofs.Putting.{insert_here}
+use Rattle.ip_tree.proofs.PutShown.{at, child, found, written, rolled, no_directory}
 use Rattle.ip_tree.proofs.PlacedNodes.{placed_here, placed_below, placed_new, placed_opened, placed_over}
-
-list_nodes : (l : List view.Entry) → list_of (nodes_of l) ≡ l
-list_nodes [] = refl
-list_nodes (e ∷ l) = ap (λ x. e ∷ x) (list_nodes l)
-
-rolled : (known : Option Ref) (entries : Vec Entry Global) → entries_of (roll-Directory record { known = known; entries = entries }) ≡ map shown_entry entries.items
-rolled known entries = same_entries _ _ _ _ (sym (directory_shown (roll-Directory record { known = known; entries = entries })) ∙ made_shown known entries)
-  where
-    same_nodes : (k1 k2 : Option Ref) (m n : view.Nodes) → view.directory k1 m ≡ view.directory k2 n → m ≡ n
-    same_nodes k1 k2 m n e = cc
-
-    same_entries : (k1 k2 : Option Ref) (l1 l2 : List view.Entry) → view.directory k1 (nodes_of l1) ≡ view.directory k2 (nodes_of l2) → l1 ≡ l2
-    same_entries k1 k2 l1 l2 e = sym (list_nodes l1) ∙ ap list_of (same_nodes k1 k2 _ _ e) ∙ list_nodes l2
-
-get_shown : (es : List Entry) (i : ℕ) (e : Entry) → i < length es → e ≡ get_or es i e → shown_entry e ≡ get_or (map shown_entry es) i (shown_entry e)
-get_shown [] i e lt is = absurd (omega arith)
-get_shown (f ∷ es) zero e lt is = ap shown_entry is
-get_shown (f ∷ es) (suc i) e lt is = get_shown es i e (omega arith) is
-
-module _ (d : Directory) (s : Step) (i : ℕ) (e : Entry) (place : place_of s (keys_of (out-Directory d).entries.items) ≡ Ok i) (here : e ≡ get_or (out-Directory d).entries.items i e) where
-  abbrev items : List Entry
-  items = (out-Directory d).entries.items
-
-  within : i < length items
-  within = let h = place_lt s (entries_of d) i place in let l = length-map {A = Entry} {B = view.Entry} in omega (arith, l items shown_entry)
-
-  -- the entries with another node at the place
-  written : (n : Node) → map shown_entry (set items i (roll-Entry record { step = e.step; node = n })) ≡ E.put bytes_cmp s (shown n) (entries_of d)
-  written n =
-      map-set shown_entry items i (roll-Entry record { step = e.step; node = n })
-      ∙ ap (λ (x : view.Entry). set (map shown_entry items) i x) (entry_made e.step n ∙ ap (λ (x : Step). (x, shown n)) (ap (λ (x : view.Entry). x.0) (sym (entry_shown e))))
-      ∙ set_here s (entries_of d) i (shown_entry e) (shown n) place (get_shown items i e within here)
-
-  pub found : find bytes_cmp s (entries_of d) ≡ Some (shown e.node)
-  found = find_here s (entries_of d) i (shown_entry e) place (get_shown items i e within here) ∙ ap (λ (x : view.Entry). Some x.1) (entry_shown e)
-
-no_directory : (node : Node) → ((d : Directory) → node ≡ variants.Directory d → ⊥) → not_directory (shown node)
-no_directory (variants.Stored x) not = subst not_directory (sym (stored_shown x)) tt
-no_directory (variants.Contents b) not = subst not_directory (sym (contents_shown b)) tt
-no_directory (variants.Directory d) not = absurd (not d refl)
 
 module _ (records : ℕ → Option Record) (part : view.Node) (sub : Tree) (is_part : NodeIs records part sub) where
   -- a fact on directories as contracts see them is one on those of the code
@@ -92,7 +47,7 @@ module _ (records : ℕ → Option Record) (part : view.Node) (sub : Tree) (is_p
     placed_at i e place here q split n done =
         let changed : Vec Entry Global = with_item (out-Directory d).entries i (roll-Entry record { step = e.step; node = n }) in
         shown_placed d _ (nodes_of (E.put bytes_cmp s (shown n) (entries_of d))) t q _ s split
-        (made_shown None (out-Directory (roll-Directory record { known = (out-Directory d).known; entries = changed })).entries ∙ ap (λ l. view.directory None (nodes_of l)) (rolled (out-Directory d).known changed ∙ written d s i e place here n))
+        (made_shown None (out-Directory (roll-Directory record { known = (out-Directory d).known; entries = changed })).entries ∙ ap (λ l. view.directory None (nodes_of l)) (rolled (out-Directory d).known changed ∙ written d s i e n place here))
         (placed_below records part sub is_part (entries_of d) (known_of d) t (at records d t is s) s (shown e.node) (shown n) _ (found d s i e place here) (child records d t is s i e place here) done)
 
     -- a new entry

@@ -1,14 +1,14 @@
 -- What placing a tree in another does to what stands at paths, and to the entries of a directory.
-use Rattle.std.proofs.Common.{◌≡◌, List, [], ◌∷◌, ◌++◌, refl, sym, ap, subst, ◌∙◌, Option, Some, None, Bool, true, false, cond}
+use Rattle.std.proofs.Common.{◌≡◌, List, [], ◌∷◌, ◌++◌, refl, sym, ap, ◌∙◌, Option, Some, None, Bool, true, false, cond}
 use Rattle.std.proofs.lemmas.Bool.{false≢true}
-use Rattle.std.specs.Prelude.{not, ◌||◌, ◌&&◌, is_some, IsFalse, IsSome}
+use Rattle.std.specs.Prelude.{not, ◌||◌, ◌&&◌, is_some, IsFalse}
 use Rattle.std.specs.Ordering.{is_eq}
 use Rattle.std.specs.Cmp.Lexicographic.{nat_list_cmp_total}
 use Rattle.std.specs.FinMap.Entries as E
 use Rattle.std.specs.FinMap.Entries.{find}
 use Rattle.ip_spec.specs.Map.{Map, get, insert, get-insert, entries-insert, same_map}
-use Rattle.ip_spec.specs.Path.{Bytes, Step, Path, bytes_cmp, path_cmp, same_bytes, same_path, is_prefix, is_related, after_prefix}
-use Rattle.ip_spec.specs.Tree.{Tree, no_tree, contents, subtree, place, put, entries_of, is_contents, is_empty}
+use Rattle.ip_spec.specs.Path.{Bytes, Step, Path, bytes_cmp, path_cmp, same_bytes, is_prefix, is_related, after_prefix}
+use Rattle.ip_spec.specs.Tree.{Tree, no_tree, contents, subtree, place, entries_of, is_contents, is_empty}
 use Rattle.ip_tree.specs.Placing.{behind_or}
 use Rattle.ip_spec.proofs.GraftLaws.{get-place, get-beside}
 use Rattle.ip_spec.proofs.Subtrees.{step_itself, path_itself, same_step, step_antisymmetric, same_bytes_turned, get-subtree, get-entries_of, get-contents, get-no_tree, same_tree, some_not_empty, subtree_cons, empty_is, entry_found, entry_lost}
@@ -63,10 +63,6 @@ get-placed t path sub q = by (after_prefix path q) (split path q)
 
 pub place_root : (t sub : Tree) → place t [] sub ≡ sub
 place_root t sub = same_tree _ _ (λ q. get-place t [] sub q)
-
-pub put-place : (t : Tree) (p : Path) (b : Bytes) → put t p b ≡ place t p (contents b)
-unfolding put
-put-place t p b = refl
 
 -- at the step of the path
 pub subtree_place : (t : Tree) (s : Step) (p : Path) (sub : Tree) → subtree (place t (s ∷ p) sub) (s ∷ []) ≡ place (subtree t (s ∷ [])) p sub

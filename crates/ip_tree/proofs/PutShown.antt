@@ -1,14 +1,14 @@
 -- Directories of the code after an entry was written, as contracts see them.
-use Rattle.std.proofs.Common.{◌≡◌, ℕ, zero, suc, ◌-◌, ◌<◌, ◌≤◌, List, [], ◌∷◌, refl, sym, ap, subst, ◌∙◌, drop, take, get_or, length, arith, Option, Some, None, map, true, false}
+use Rattle.std.proofs.Common.{◌≡◌, ℕ, zero, suc, ◌-◌, ◌<◌, ◌≤◌, List, [], ◌∷◌, refl, sym, ap, subst, ◌∙◌, drop, take, get_or, length, arith, Option, Some, map, true, false}
 use Rattle.std.proofs.Math.ListN.{set}
 use Rattle.std.proofs.lemmas.List.{map-set, length-map}
-use Rattle.std.specs.Prelude.{Result, Ok, Err, Vec, insert, nat_le}
+use Rattle.std.specs.Prelude.{Ok, Err, Vec, insert, nat_le}
 use Rattle.std.proofs.lemmas.Bool.{le-leb, lt-leb}
 use Rattle.std.specs.Global.{Global}
 use Rattle.std.specs.Vec.{with_item}
 use Rattle.std.specs.FinMap.Entries as E
 use Rattle.std.specs.FinMap.Entries.{find}
-use Rattle.ip_spec.specs.Path.{Bytes, Step, Path, bytes_cmp}
+use Rattle.ip_spec.specs.Path.{Step, Path, bytes_cmp}
 use Rattle.ip_spec.specs.declared.record.Record.{Record}
 use Rattle.ip_spec.specs.Tree.{Tree}
 use Rattle.ip_spec.specs.Tree as Tree
@@ -18,7 +18,7 @@ use Rattle.ip_tree.specs.Node.{nodes_of, list_of}
 use Rattle.ip_tree.specs.Shown.{shown, shown_directory, shown_entry, known_of, entries_of, keys_of}
 use Rattle.ip_tree.specs.Place.{place_of}
 use Rattle.ip_tree.specs.Meaning.{NodeIs, DirectoryIs}
-use Rattle.ip_tree.specs.Edits.{IsDirectory, IsSame, Put, NotPut, Puts, IsPutFault, PutFaultBy, is_full, chain_of, IsOpened, full_by}
+use Rattle.ip_tree.specs.Edits.{IsDirectory, IsSame, NotPlaced, IsPlaceFault, PlaceFaultBy, is_full, IsOpened, full_by}
 use Rattle.ip_spec.specs.Step.{entries_limit}
 use Rattle.ip_tree.specs.declared.tree.TreeFault.{TreeFault}
 use Rattle.ip_tree.specs.declared.node.Node.{Node}
@@ -27,10 +27,9 @@ use Rattle.ip_tree.specs.declared.node.Directory.{Directory, out-Directory}
 use Rattle.ip_tree.specs.declared.node.Node.TheViews.{roll-Directory, roll-Entry}
 use Rattle.ip_tree.specs.declared.node.Node.TheVariants as variants
 use Rattle.ip_tree.proofs.Places.{entry_made, entry_shown, directory_shown, made_shown, inner_shown, stored_shown, contents_shown}
-use Rattle.ip_spec.specs.Path.{Bytes}
-use Rattle.ip_tree.proofs.Putting.{place_lt, place_le, set_here, insert_here, find_here}
+use Rattle.ip_tree.proofs.Putting.{place_lt, place_le, set_here, find_here}
 use Rattle.ip_tree.proofs.NodeLists.{Child, find_node}
-use Rattle.ip_tree.proofs.Edited.{put_here, put_over, not_directory, put_below, put_new, full_here, same_below, put_opened, opened_directory}
+use Rattle.ip_tree.proofs.Edited.{not_directory, full_here, same_below, opened_directory}
 
 list_nodes : (l : List view.Entry) → list_of (nodes_of l) ≡ l
 list_nodes [] = refl
@@ -80,65 +79,32 @@ module _ (records : ℕ → Option Record) (d : Directory) (t : Tree) (is : IsDi
     pub changed_entries : (n : Node) → entries_of (changed n) ≡ E.put bytes_cmp s (shown n) (entries_of d)
     changed_entries n = rolled _ (with_item (out-Directory d).entries i (roll-Entry record { step = e.step; node = n })) ∙ written d s i e n place here
 
-    pub put_ok : (n : Node) (p : Path) (bytes : Bytes) → Put (NodeIs records) records p bytes (shown e.node) (shown n) child.sub
-        → Put (IsDirectory records) records (s ∷ p) bytes (shown_directory d) (shown_directory (roll-Directory record { known = None; entries = (out-Directory (changed n)).entries })) t
-    put_ok n p bytes put =
-        let new : shown_directory (roll-Directory record { known = None; entries = (out-Directory (changed n)).entries }) ≡ view.directory None (nodes_of (E.put bytes_cmp s (shown n) (entries_of d))) =
-        made_shown None (out-Directory (changed n)).entries ∙ ap (λ l. view.directory None (nodes_of l)) (changed_entries n) in
-        subst (λ (x : view.Node). Put (IsDirectory records) records (s ∷ p) bytes x (shown_directory (roll-Directory record { known = None; entries = (out-Directory (changed n)).entries })) t) (sym (directory_shown d))
-        (subst (λ (x : view.Node). Put (IsDirectory records) records (s ∷ p) bytes (view.directory (known_of d) (nodes_of (entries_of d))) x t) (sym new)
-        (put_below records (entries_of d) (known_of d) t at s (shown e.node) (shown n) p bytes (found d s i e place here) child put))
-
-    pub put_err : (n : Node) (p : Path) (fault : TreeFault) → NotPut (NodeIs records) records p fault (shown e.node) (shown n) child.sub
-        → NotPut (IsDirectory records) records (s ∷ p) fault (shown_directory d) (shown_directory (changed n)) t
-    put_err n p fault not =
+    pub not_placed_below : (n : Node) (p : Path) (fault : TreeFault) → NotPlaced (NodeIs records) records p fault (shown e.node) (shown n) child.sub
+        → NotPlaced (IsDirectory records) records (s ∷ p) fault (shown_directory d) (shown_directory (changed n)) t
+    not_placed_below n p fault not =
         let new : shown_directory (changed n) ≡ view.directory (known_of d) (nodes_of (E.put bytes_cmp s (shown n) (entries_of d))) =
         made_shown (out-Directory d).known (with_item (out-Directory d).entries i (roll-Entry record { step = e.step; node = n })) ∙ ap (λ l. view.directory (known_of d) (nodes_of l)) (written d s i e n place here) in
         record {
           same = subst (λ (x : view.Node). IsSame (IsDirectory records) records x (shown_directory (changed n)) t) (sym (directory_shown d))
               (subst (λ (x : view.Node). IsSame (IsDirectory records) records (view.directory (known_of d) (nodes_of (entries_of d))) x t) (sym new)
               (same_below records (entries_of d) (known_of d) t at s i (shown e.node) (shown n) place (found d s i e place here) child not.same));
-          cause = subst (λ b. PutFaultBy b fault) (sym (ap (full_by (is_full p) (Tree.entries_of t).entries) child.here)) not.cause;
+          cause = subst (λ b. PlaceFaultBy b fault) (sym (ap (full_by (is_full p) (Tree.entries_of t).entries) child.here)) not.cause;
         }
 
-    pub put_ok_at : (q : Path) → q ≡ s ∷ take (length q - 1) (drop 1 q) → (n : Node) (bytes : Bytes) → Put (NodeIs records) records (take (length q - 1) (drop 1 q)) bytes (shown e.node) (shown n) child.sub
-        → Put (IsDirectory records) records q bytes (shown_directory d) (shown_directory (roll-Directory record { known = None; entries = (out-Directory (changed n)).entries })) t
-    put_ok_at q split n bytes put =
-        subst (λ (x : Path). Put (IsDirectory records) records x bytes (shown_directory d) (shown_directory (roll-Directory record { known = None; entries = (out-Directory (changed n)).entries })) t) (sym split) (put_ok n _ bytes put)
+    pub not_placed_at : (q : Path) → q ≡ s ∷ take (length q - 1) (drop 1 q) → (n : Node) (fault : TreeFault) → NotPlaced (NodeIs records) records (take (length q - 1) (drop 1 q)) fault (shown e.node) (shown n) child.sub
+        → NotPlaced (IsDirectory records) records q fault (shown_directory d) (shown_directory (changed n)) t
+    not_placed_at q split n fault not =
+        subst (λ (x : Path). NotPlaced (IsDirectory records) records x fault (shown_directory d) (shown_directory (changed n)) t) (sym split) (not_placed_below n _ fault not)
 
-    pub put_err_at : (q : Path) → q ≡ s ∷ take (length q - 1) (drop 1 q) → (n : Node) (fault : TreeFault) → NotPut (NodeIs records) records (take (length q - 1) (drop 1 q)) fault (shown e.node) (shown n) child.sub
-        → NotPut (IsDirectory records) records q fault (shown_directory d) (shown_directory (changed n)) t
-    put_err_at q split n fault not =
-        subst (λ (x : Path). NotPut (IsDirectory records) records x fault (shown_directory d) (shown_directory (changed n)) t) (sym split) (put_err n _ fault not)
-
-  -- ---- a new entry
-  pub new_ok : (i : ℕ) (n : Node) (entries : Vec Entry Global) (known : Option Ref) (p : Path) (bytes : Bytes) → place_of s (keys_of (out-Directory d).entries.items) ≡ Err i → nat_le entries_limit (length (out-Directory d).entries.items) ≡ false
-      → shown n ≡ chain_of p bytes → map shown_entry entries.items ≡ insert (entries_of d) i (s, shown n)
-      → Put (IsDirectory records) records (s ∷ p) bytes (shown_directory d) (shown_directory (roll-Directory record { known = None; entries = (out-Directory (roll-Directory record { known = known; entries = entries })).entries })) t
-  new_ok i n entries known p bytes place room made is =
-      let es : List view.Entry = entries_of d in
-      let put : map shown_entry entries.items ≡ E.put bytes_cmp s (chain_of p bytes) es =
-      is ∙ ap (λ (x : view.Entry). insert es i x) (ap (λ (x : view.Node). (s, x)) made) ∙ insert_here s es i (chain_of p bytes) place in
-      let new : shown_directory (roll-Directory record { known = None; entries = (out-Directory (roll-Directory record { known = known; entries = entries })).entries }) ≡ view.directory None (nodes_of (E.put bytes_cmp s (chain_of p bytes) es)) =
-      made_shown None (out-Directory (roll-Directory record { known = known; entries = entries })).entries ∙ ap (λ l. view.directory None (nodes_of l)) (rolled known entries ∙ put) in
-      subst (λ (x : view.Node). Put (IsDirectory records) records (s ∷ p) bytes x (shown_directory (roll-Directory record { known = None; entries = (out-Directory (roll-Directory record { known = known; entries = entries })).entries })) t) (sym (directory_shown d))
-      (subst (λ (x : view.Node). Put (IsDirectory records) records (s ∷ p) bytes (view.directory (known_of d) (nodes_of es)) x t) (sym new)
-      (put_new records es (known_of d) t at s i p bytes place (ap (nat_le entries_limit) (length-map {A = Entry} {B = view.Entry} (out-Directory d).entries.items shown_entry) ∙ room)))
-
+  -- ---- no place for a new entry
   pub is_full_here : (i : ℕ) (p : Path) → place_of s (keys_of (out-Directory d).entries.items) ≡ Err i → nat_le entries_limit (length (out-Directory d).entries.items) ≡ true → is_full (s ∷ p) t ≡ true
   is_full_here i p place full = full_here records (entries_of d) (known_of d) t at s i p place (ap (nat_le entries_limit) (length-map {A = Entry} {B = view.Entry} (out-Directory d).entries.items shown_entry) ∙ full)
-
-  pub new_ok_at : (i : ℕ) (n : Node) (entries : Vec Entry Global) (known : Option Ref) (q : Path) → q ≡ s ∷ take (length q - 1) (drop 1 q) → (bytes : Bytes) → place_of s (keys_of (out-Directory d).entries.items) ≡ Err i → nat_le entries_limit (length (out-Directory d).entries.items) ≡ false
-      → shown n ≡ chain_of (take (length q - 1) (drop 1 q)) bytes → map shown_entry entries.items ≡ insert (entries_of d) i (s, shown n)
-      → Put (IsDirectory records) records q bytes (shown_directory d) (shown_directory (roll-Directory record { known = None; entries = (out-Directory (roll-Directory record { known = known; entries = entries })).entries })) t
-  new_ok_at i n entries known q split bytes place room made is =
-      subst (λ (x : Path). Put (IsDirectory records) records x bytes (shown_directory d) (shown_directory (roll-Directory record { known = None; entries = (out-Directory (roll-Directory record { known = known; entries = entries })).entries })) t) (sym split) (new_ok i n entries known _ bytes place room made is)
 
   pub is_full_at : (i : ℕ) (q : Path) → q ≡ s ∷ take (length q - 1) (drop 1 q) → place_of s (keys_of (out-Directory d).entries.items) ≡ Err i → nat_le entries_limit (length (out-Directory d).entries.items) ≡ true → is_full q t ≡ true
   is_full_at i q split place full = ap (λ (x : Path). is_full x t) split ∙ is_full_here i _ place full
 
-pub not_put : (records : ℕ → Option Record) (n : view.Node) (t : Tree) (p : Path) (fault : TreeFault) → IsDirectory records n t → IsPutFault p t fault → NotPut (IsDirectory records) records p fault n n t
-not_put records n t p fault is cause = record { same = record { means = is; known = λ q. refl }; cause = cause }
+pub not_placed : (records : ℕ → Option Record) (n : view.Node) (t : Tree) (p : Path) (fault : TreeFault) → IsDirectory records n t → IsPlaceFault p t fault → NotPlaced (IsDirectory records) records p fault n n t
+not_placed records n t p fault is cause = record { same = record { means = is; known = λ q. refl }; cause = cause }
 
 pub insert_fits : (s : Step) (v : Vec Entry Global) (i : ℕ) → place_of s (keys_of v.items) ≡ Err i → i ≤ length v.items
 insert_fits s v i place = let h = place_le s (map shown_entry v.items) i place in let l : length (map shown_entry v.items) ≡ length v.items = length-map {A = Entry} {B = view.Entry} v.items shown_entry in let k = v.ok.0 in omega arith
@@ -152,16 +118,7 @@ whole_test v h = let k = v.ok.0 in le-leb _ _ (omega arith)
 pub room_test : (v : Vec Entry Global) → v.len < entries_limit → nat_le entries_limit (length v.items) ≡ false
 room_test v h = let k = v.ok.0 in lt-leb _ _ (omega arith)
 
--- a fact at a path that is put together
-pub at_path : (P : Path → Type 0) (q : Path) (s : Step) (p : Path) → q ≡ s ∷ p → P (s ∷ p) → P q
-at_path P q s p split h = subst P (sym split) h
-
 -- ---- at a node
-
-pub put_whole : (records : ℕ → Option Record) (n : view.Node) (b : Bytes) (t : Tree) (p : Path) → p ≡ [] → Put (NodeIs records) records p b n (shown (variants.Contents b)) t
-put_whole records n b t p nil =
-    subst (λ (q : Path). Put (NodeIs records) records q b n (shown (variants.Contents b)) t) (sym nil)
-    (subst (λ (x : view.Node). Put (NodeIs records) records [] b n x t) (sym (contents_shown b)) (put_here records n t b))
 
 -- a node that was opened is this directory
 pub at_node : (records : ℕ → Option Record) (old : view.Node) (node : Node) (inner : Directory) (t : Tree) → node ≡ variants.Directory inner → IsOpened records old (shown node) t → IsOpened records old (view.directory (known_of inner) (nodes_of (entries_of inner))) t
@@ -169,13 +126,6 @@ at_node records old node inner t same opened = subst (λ (x : view.Node). IsOpen
 
 pub inner_directory : (records : ℕ → Option Record) (old : view.Node) (inner : Directory) (t : Tree) → IsOpened records old (view.directory (known_of inner) (nodes_of (entries_of inner))) t → IsDirectory records (shown_directory inner) t
 inner_directory records old inner t opened = subst (λ (x : view.Node). IsDirectory records x t) (sym (directory_shown inner)) (opened_directory records old _ _ t opened)
-
-pub put_through : (records : ℕ → Option Record) (old : view.Node) (inner new : Directory) (p : Path) (bytes : Bytes) (t : Tree) (result : Result (Unit {0}) TreeFault)
-    → IsOpened records old (view.directory (known_of inner) (nodes_of (entries_of inner))) t → Puts (IsDirectory records) records p bytes (shown_directory inner) (shown_directory new) t result
-    → Puts (NodeIs records) records p bytes old (shown (variants.Directory new)) t result
-put_through records old inner new p bytes t result opened put =
-    subst (λ (x : view.Node). Puts (NodeIs records) records p bytes old x t result) (sym (inner_shown new))
-    (put_opened records old (shown_directory new) _ _ p bytes t result opened (subst (λ (x : view.Node). Puts (IsDirectory records) records p bytes x (shown_directory new) t result) (directory_shown inner) put))
 
 pub map_insert : (xs : List Entry) (i : ℕ) (s : Step) (n : Node) → map shown_entry (insert xs i (roll-Entry record { step = s; node = n })) ≡ insert (map shown_entry xs) i (s, shown n)
 map_insert xs zero s n = ap (λ x. x ∷ map shown_entry xs) (entry_made s n)
@@ -186,9 +136,3 @@ pub no_directory : (node : Node) → ((d : Directory) → node ≡ variants.Dire
 no_directory (variants.Stored x) not = subst not_directory (sym (stored_shown x)) tt
 no_directory (variants.Contents b) not = subst not_directory (sym (contents_shown b)) tt
 no_directory (variants.Directory d) not = absurd (not d refl)
-
-pub put_chain : (records : ℕ → Option Record) (old : view.Node) (node made : Node) (p : Path) (bytes : Bytes) (t : Tree) → p ≡ get_or p 0 [] ∷ drop 1 p → ((d : Directory) → node ≡ variants.Directory d → ⊥)
-    → shown made ≡ chain_of p bytes → IsOpened records old (shown node) t → Put (NodeIs records) records p bytes old (shown made) t
-put_chain records old node made p bytes t split not is opened =
-    subst (λ (x : view.Node). Put (NodeIs records) records p bytes old x t) (sym is)
-    (subst (λ (q : Path). Put (NodeIs records) records q bytes old (chain_of q bytes) t) (sym split) (put_over records old (shown node) (get_or p 0 []) (drop 1 p) bytes t opened (no_directory node not)))

@@ -11,12 +11,12 @@ use Rattle.std.specs.Cmp.Lexicographic.{nat_list_cmp_total}
 use Rattle.ip_spec.specs.Path.{Step, bytes_cmp}
 use Rattle.ip_tree.specs.Place.{place_of, later}
 
-record Later (r : Result ℕ ℕ) (i : ℕ) : Type 0 where
-  j : ℕ
-  is : i ≡ suc j
-  inner : r ≡ Ok j
+pub record Later (r : Result ℕ ℕ) (i : ℕ) : Type 0 where
+  pub j : ℕ
+  pub is : i ≡ suc j
+  pub inner : r ≡ Ok j
 
-later_ok : (r : Result ℕ ℕ) (i : ℕ) → later r ≡ Ok i → Later r i
+pub later_ok : (r : Result ℕ ℕ) (i : ℕ) → later r ≡ Ok i → Later r i
 later_ok (Ok j) i e = record { j = j; is = cc; inner = refl }
 later_ok (Err j) i e = absurd cc
 
@@ -29,21 +29,21 @@ later_err : (r : Result ℕ ℕ) (i : ℕ) → later r ≡ Err i → LaterErr r 
 later_err (Ok j) i e = absurd cc
 later_err (Err j) i e = record { j = j; is = cc; inner = refl }
 
-zero_ok : (i : ℕ) → ◌≡◌ {A = Result ℕ ℕ} (Ok 0) (Ok i) → i ≡ 0
+pub zero_ok : (i : ℕ) → ◌≡◌ {A = Result ℕ ℕ} (Ok 0) (Ok i) → i ≡ 0
 zero_ok i e = cc
 
 zero_err : (i : ℕ) → ◌≡◌ {A = Result ℕ ℕ} (Err 0) (Err i) → i ≡ 0
 zero_err i e = cc
 
-both_first : (a b : Bool) → T (a && b) → T a
+pub both_first : (a b : Bool) → T (a && b) → T a
 both_first true b p = tt
 both_first false b p = p
 
-both_second : (a b : Bool) → T (a && b) → T b
+pub both_second : (a b : Bool) → T (a && b) → T b
 both_second true b p = p
 both_second false b p = absurd p
 
-less_of : (o : Ordering) → T (is_lt o) → o ≡ Less
+pub less_of : (o : Ordering) → T (is_lt o) → o ≡ Less
 less_of Less p = refl
 less_of Equal p = absurd p
 less_of Greater p = absurd p

@@ -1,5 +1,5 @@
 -- What a removal below a node does to its meaning and to what it knows.
-use Rattle.std.proofs.Common.{◌≡◌, ℕ, List, [], ◌∷◌, ◌++◌, refl, sym, ap, subst, ◌∙◌, Option, Some, None, Bool, true, false, cond}
+use Rattle.std.proofs.Common.{◌≡◌, ℕ, List, [], ◌∷◌, refl, sym, ap, subst, ◌∙◌, Option, Some, None, Bool, true, false, cond}
 use Rattle.std.proofs.lemmas.Bool.{false≢true}
 use Rattle.std.specs.Prelude.{Ok, Err, is_some, IsFalse}
 use Rattle.std.specs.Ordering.{is_eq}
@@ -11,17 +11,20 @@ use Rattle.ip_spec.specs.declared.record.Ref.{Ref}
 use Rattle.ip_spec.specs.Map.{get}
 use Rattle.ip_spec.specs.Tree.{Tree, contents, entries_of, is_contents, is_empty, no_tree, remove, subtree}
 use Rattle.ip_spec.specs.Shape.{Entries}
-use Rattle.ip_spec.proofs.Subtrees.{EntryIs, entry_found, entry_lost, empty_gets, empty_is, get-contents, get-no_tree, get-subtree, same_step, same_tree, step_itself, subtree_cons}
+use Rattle.ip_spec.proofs.Subtrees.{EntryIs, entry_found, entry_lost, empty_gets, empty_is, get-no_tree, get-subtree, same_step, same_tree, step_itself, subtree_cons}
 use Rattle.ip_tree.specs.Node.{Node, Entry, nodes_of, directory}
 use Rattle.ip_tree.specs.Meaning.{NodeIs, NodesAre, DirectoryIs}
 use Rattle.ip_tree.specs.Known.{known_among}
 use Rattle.ip_tree.specs.Place.{place_of}
 use Rattle.ip_tree.specs.Edits.{IsDirectory, knows}
 use Rattle.ip_tree.specs.Removal.{IsTaken, IsUntouched, IsEmptied}
+use Rattle.ip_tree.proofs.KnownParts.{related_root}
+use Rattle.ip_tree.proofs.Trees.{nothing_under}
+use Rattle.ip_tree.proofs.Widths.{below_bytes}
 use Rattle.ip_tree.proofs.Edited.{known_path, related_steps, same_below}
 use Rattle.ip_tree.proofs.Putting.{keys, none_here}
 use Rattle.ip_tree.proofs.NodeLists.{Child, keys_same, known_found, nodes_put}
-use Rattle.ip_tree.proofs.Removing.{entries_of-remove_none, entries_of-remove_some, no_tree_empty, remove_directory, remove_unrelated, subtree_nothing, without}
+use Rattle.ip_tree.proofs.Removing.{entries_of-remove_none, entries_of-remove_some, no_tree_empty, remove_directory, remove_unrelated, without}
 use Rattle.ip_tree.proofs.RemovedNodes.{nodes_without, known_without}
 
 -- ---- trees with and without entries
@@ -31,10 +34,10 @@ below_entry t s p sub found = ap is_empty (subtree_cons t s p ∙ ap (λ (x : Tr
 
 below_nothing : (t : Tree) (s : Step) (p : Path) → find bytes_cmp s (entries_of t).entries ≡ None → is_empty (subtree t (s ∷ p)) ≡ true
 below_nothing t s p lost =
-    ap is_empty (subtree_cons t s p) ∙ ap (λ (x : Tree). is_empty (subtree x p)) (empty_is (subtree t (s ∷ [])) (entry_lost t s lost)) ∙ ap is_empty (subtree_nothing p) ∙ no_tree_empty
+    ap is_empty (subtree_cons t s p) ∙ ap (λ (x : Tree). is_empty (subtree x p)) (empty_is (subtree t (s ∷ [])) (entry_lost t s lost)) ∙ ap is_empty (nothing_under p) ∙ no_tree_empty
 
 pub below_contents : (b : Bytes) (s : Step) (p : Path) → is_empty (subtree (contents b) (s ∷ p)) ≡ true
-below_contents b s p = ap is_empty (same_tree (subtree (contents b) (s ∷ p)) no_tree (λ q. get-subtree (contents b) (s ∷ p) q ∙ get-contents b ((s ∷ p) ++ q) ∙ sym (get-no_tree q))) ∙ no_tree_empty
+below_contents b s p = ap is_empty (below_bytes b s p) ∙ no_tree_empty
 
 -- a directory is empty exactly where it has no entries
 pub no_entries_empty : (t : Tree) → IsFalse (is_contents t) → (entries_of t).entries ≡ [] → is_empty t ≡ true
@@ -52,15 +55,11 @@ some_entry : (t : Tree) (s : Step) (sub : Tree) → find bytes_cmp s (entries_of
 some_entry t s sub found = by (is_empty t) refl
   where
     by : (b : Bool) → is_empty t ≡ b → is_empty t ≡ false
-    by true e = absurd (false≢true (sym (entry_found t s sub found).some ∙ ap (λ (x : Tree). is_empty (subtree x (s ∷ []))) (empty_is t e) ∙ ap is_empty (subtree_nothing (s ∷ [])) ∙ no_tree_empty))
+    by true e = absurd (false≢true (sym (entry_found t s sub found).some ∙ ap (λ (x : Tree). is_empty (subtree x (s ∷ []))) (empty_is t e) ∙ ap is_empty (nothing_under (s ∷ [])) ∙ no_tree_empty))
     by false e = e
 
 pub some_entries : (t : Tree) (e : Step × Tree) (es : Entries) → (entries_of t).entries ≡ e ∷ es → is_empty t ≡ false
 some_entries t e es is = some_entry t e.0 e.1 (ap (find bytes_cmp e.0) is ∙ ap (λ o. cond (is_eq o) (Some e.1) (find bytes_cmp e.0 es)) (step_itself e.0))
-
-pub related_root : (p : Path) → is_related p [] ≡ true
-related_root [] = refl
-related_root (s ∷ p) = refl
 
 -- ---- below an entry
 
@@ -75,7 +74,7 @@ module _ (records : ℕ → Option Record) where
   nothing_known n t p (r ∷ q) stand gone apart = by (knows records n (r ∷ q)) refl
     where
       empty : is_empty (subtree t (r ∷ q)) ≡ true
-      empty = ap is_empty (sym (remove_unrelated t p (r ∷ q) apart) ∙ ap (λ (x : Tree). subtree x (r ∷ q)) (empty_is (remove t p) gone) ∙ subtree_nothing (r ∷ q)) ∙ no_tree_empty
+      empty = ap is_empty (sym (remove_unrelated t p (r ∷ q) apart) ∙ ap (λ (x : Tree). subtree x (r ∷ q)) (empty_is (remove t p) gone) ∙ nothing_under (r ∷ q)) ∙ no_tree_empty
 
       by : (o : Option ℕ) → knows records n (r ∷ q) ≡ o → knows records n (r ∷ q) ≡ None
       by None e = e

@@ -1,6 +1,6 @@
 -- Nodes of a directory after an entry was taken out: what they mean and know.
-use Rattle.std.proofs.Common.{◌≡◌, ℕ, List, [], ◌∷◌, refl, sym, ap, subst, ◌∙◌, Option, Some, None, Bool, true, false, cond}
-use Rattle.std.specs.Prelude.{not, option_and_then}
+use Rattle.std.proofs.Common.{◌≡◌, ℕ, List, [], ◌∷◌, refl, sym, ap, subst, ◌∙◌, Option, None, Bool, true, false, cond}
+use Rattle.std.specs.Prelude.{not}
 use Rattle.std.specs.FinMap.Entries.{find}
 use Rattle.ip_spec.specs.Path.{Step, Path, bytes_cmp, same_bytes}
 use Rattle.ip_spec.specs.declared.record.Record as words
@@ -8,7 +8,8 @@ use Rattle.ip_spec.specs.Shape.{Entries}
 use Rattle.ip_spec.proofs.Subtrees.{same_bytes_turned}
 use Rattle.ip_tree.specs.Node.{Node, Entry, nodes_of}
 use Rattle.ip_tree.specs.Meaning.{NodesAre}
-use Rattle.ip_tree.specs.Known.{known_in, known_among}
+use Rattle.ip_tree.specs.Known.{known_among}
+use Rattle.ip_tree.proofs.NodeLists.{below, known_by_find}
 use Rattle.ip_tree.proofs.Removing.{without}
 use Rattle.ip_tree.proofs.RemovedPlaces.{find-without}
 
@@ -23,22 +24,11 @@ module _ (records : ℕ → Option words.Record) where
         | false ↦ (are.0, are.1, nodes_without es xs s are.2)
       ])
 
-  abbrev below : Path → Option Node → Option ℕ
-  below p o = option_and_then (λ n. known_in records n p []) o
-
-  known_by_find : (es : List Entry) (q : Step) (p : Path) → known_among records (nodes_of es) q p [] ≡ below p (find bytes_cmp q es)
-  known_by_find [] q p = refl
-  known_by_find (e ∷ es) q p =
-      elim (same_bytes q e.0) as (λ b. cond b (known_in records e.1 p []) (known_among records (nodes_of es) q p []) ≡ below p (cond b (Some e.1) (find bytes_cmp q es))) [
-        | true ↦ refl
-        | false ↦ known_by_find es q p
-      ]
-
-  below_kept : (b : Bool) (p : Path) (o : Option Node) → below p (cond (not b) o None) ≡ cond b None (below p o)
+  below_kept : (b : Bool) (p : Path) (o : Option Node) → below records p (cond (not b) o None) ≡ cond b None (below records p o)
   below_kept true p o = refl
   below_kept false p o = refl
 
   pub known_without : (es : List Entry) (s q : Step) (p : Path) → known_among records (nodes_of (without s es)) q p [] ≡ cond (same_bytes q s) None (known_among records (nodes_of es) q p [])
   known_without es s q p =
-      known_by_find (without s es) q p ∙ ap (below p) (find-without s q es) ∙ below_kept (same_bytes s q) p (find bytes_cmp q es)
-      ∙ ap (cond (same_bytes s q) None) (sym (known_by_find es q p)) ∙ ap (λ b. cond b None (known_among records (nodes_of es) q p [])) (same_bytes_turned s q)
+      known_by_find records (without s es) q p ∙ ap (below records p) (find-without s q es) ∙ below_kept (same_bytes s q) p (find bytes_cmp q es)
+      ∙ ap (cond (same_bytes s q) None) (sym (known_by_find records es q p)) ∙ ap (λ b. cond b None (known_among records (nodes_of es) q p [])) (same_bytes_turned s q)

@@ -1,42 +1,16 @@
 -- Taking entries out, at their place in a list and by their step.
-use Rattle.std.proofs.Common.{◌≡◌, ℕ, zero, suc, List, [], ◌∷◌, refl, sym, ap, subst, ◌∙◌, None, Bool, true, false, cond, T, map}
+use Rattle.std.proofs.Common.{◌≡◌, ℕ, zero, suc, List, [], ◌∷◌, refl, sym, ap, subst, ◌∙◌, None, cond, T, map}
 use Rattle.std.proofs.Math.ListN.{set}
-use Rattle.std.specs.Prelude.{Result, Ok, Err, ◌&&◌, not}
+use Rattle.std.specs.Prelude.{Ok, Err, not}
 use Rattle.std.specs.List.{remove}
-use Rattle.std.specs.Ordering.{is_eq, is_lt}
-use Rattle.std.specs.declared.cmp.Ordering.{Ordering}
+use Rattle.std.specs.Ordering.{is_eq}
 use Rattle.std.specs.declared.cmp.Ordering.TheVariants.{Less, Equal, Greater}
 use Rattle.std.specs.FinMap.Entries.{by_order, find, is_sorted, below_all, find-where_key}
 use Rattle.ip_spec.specs.Path.{Step, bytes_cmp, same_bytes}
 use Rattle.ip_spec.proofs.Subtrees.{step_antisymmetric}
 use Rattle.ip_tree.specs.Place.{place_of, later}
-use Rattle.ip_tree.proofs.Putting.{keys}
+use Rattle.ip_tree.proofs.Putting.{keys, later_ok, zero_ok, both_first, both_second, less_of}
 use Rattle.ip_tree.proofs.Removing.{without}
-
-record Later (r : Result ℕ ℕ) (i : ℕ) : Type 0 where
-  j : ℕ
-  is : i ≡ suc j
-  inner : r ≡ Ok j
-
-later_ok : (r : Result ℕ ℕ) (i : ℕ) → later r ≡ Ok i → Later r i
-later_ok (Ok j) i e = record { j = j; is = cc; inner = refl }
-later_ok (Err j) i e = absurd cc
-
-zero_ok : (i : ℕ) → ◌≡◌ {A = Result ℕ ℕ} (Ok 0) (Ok i) → i ≡ 0
-zero_ok i e = cc
-
-both_first : (a b : Bool) → T (a && b) → T a
-both_first true b p = tt
-both_first false b p = p
-
-both_second : (a b : Bool) → T (a && b) → T b
-both_second true b p = p
-both_second false b p = absurd p
-
-less_of : (o : Ordering) → T (is_lt o) → o ≡ Less
-less_of Less p = refl
-less_of Equal p = absurd p
-less_of Greater p = absurd p
 
 -- ---- at a place
 

@@ -14,13 +14,13 @@ use Rattle.ip_spec.specs.declared.record.Record.{Record}
 use Rattle.ip_spec.specs.declared.record.Ref.{Ref}
 use Rattle.ip_spec.specs.Tree as Tree
 use Rattle.ip_spec.specs.Tree.{Tree, contents, is_empty, subtree}
-use Rattle.ip_spec.proofs.Subtrees.{get-contents, some_not_empty, subtree_root}
+use Rattle.ip_spec.proofs.Subtrees.{subtree_root}
 use Rattle.ip_tree.specs.Node as view
 use Rattle.ip_tree.specs.Node.{nodes_of}
 use Rattle.ip_tree.specs.Shown.{shown, shown_directory, shown_entry, known_of, entries_of, keys_of}
 use Rattle.ip_tree.specs.Leaves.{HasLeavesOnly}
 use Rattle.ip_tree.specs.Place.{place_of}
-use Rattle.ip_tree.specs.Meaning.{DirectoryIs, NodeIs, NodesAre, StoredIs, contents_in, directory_in}
+use Rattle.ip_tree.specs.Meaning.{DirectoryIs, NodeIs, NodesAre}
 use Rattle.ip_tree.specs.Edits.{IsDirectory, IsOpened, IsSame, knows}
 use Rattle.ip_tree.specs.Removal.{IsTaken, IsUntouched, IsEmptied, IsKept, RemovesAt}
 use Rattle.ip_tree.specs.declared.remove.Left.{Left}
@@ -35,7 +35,8 @@ use Rattle.ip_tree.proofs.Places.{directory_shown, made_shown, inner_shown}
 use Rattle.ip_tree.proofs.Putting.{place_lt, sorted_by}
 use Rattle.ip_tree.proofs.NodeLists.{Child, keys_same}
 use Rattle.ip_tree.proofs.KnownParts.{known_stands}
-use Rattle.ip_tree.proofs.Edited.{are_bytes, node_of, not_empty, same_below}
+use Rattle.ip_tree.proofs.Edited.{are_bytes, node_of, same_below}
+use Rattle.ip_tree.proofs.PlacedNodes.{not_empty}
 use Rattle.ip_tree.proofs.PutShown.{at, child, changed_entries, found, no_directory, rolled, written}
 use Rattle.ip_tree.proofs.Removing.{remove_root, no_tree_empty, without}
 use Rattle.ip_tree.proofs.RemovedPlaces.{map-remove, remove-set, remove_here}
@@ -76,20 +77,10 @@ module _ (d : Directory) (s : Step) (i : ℕ) (place : place_of s (keys_of (out-
   written_without sorted = ap (λ l. remove l i) written_entries ∙ remove-set (entries_of d) i (shown_entry e) ∙ remove_here s (entries_of d) i sorted place
 
 module _ (records : ℕ → Option Record) where
-  -- a node is never empty
-  stored_some : (r : Ref) (h : ℕ) (t : Tree) → StoredIs records r h t → is_empty t ≡ false
-  stored_some r h x (contents_in bytes is height c) = some_not_empty (contents bytes) [] bytes (get-contents bytes [])
-  stored_some r h x (directory_in sub part some height c) = some.some
-
-  pub node_some : (n : view.Node) (t : Tree) → NodeIs records n t → is_empty t ≡ false
-  node_some (view.stored r h) t is = stored_some r h t is
-  node_some (view.contents b) t is = ap is_empty is ∙ some_not_empty (contents b) [] b (get-contents b [])
-  node_some (view.directory k ns) t is = is.0.some
-
   -- at the node itself
   pub emptied_here : (n : view.Node) (t : Tree) (q : Path) → q ≡ [] → NodeIs records n t → IsEmptied q t
   emptied_here n t q nil is = subst (λ (p : Path). IsEmptied p t) (sym nil) record {
-    stood = ap is_empty (subtree_root t) ∙ node_some n t is;
+    stood = ap is_empty (subtree_root t) ∙ not_empty records n t is;
     gone = ap is_empty (remove_root t) ∙ no_tree_empty;
   }
 
@@ -142,7 +133,7 @@ module _ (records : ℕ → Option Record) where
       taken_at taken =
           turned (λ p x y. IsTaken (IsDirectory records) records p x y t) _ _
           (made_shown None (out-Directory changed).entries ∙ ap (λ l. view.directory None (nodes_of l)) (changed_entries records d t is s i e place here n))
-          (taken_below records (entries_of d) (known_of d) t (at records d t is s) s (rest q) (shown e.node) (found d s i e place here) below (shown n) (node_some (shown n) _ taken.means) taken)
+          (taken_below records (entries_of d) (known_of d) t (at records d t is s) s (rest q) (shown e.node) (found d s i e place here) below (shown n) (not_empty records (shown n) _ taken.means) taken)
 
       -- the entry is taken out
       pub emptied_at : HasLeavesOnly records → IsEmptied (rest q) below.sub → (left : view.Node) → left ≡ view.directory None (nodes_of (remove (entries_of changed) i))
@@ -181,7 +172,7 @@ module _ (records : ℕ → Option Record) where
 
     node_same : IsSame (IsDirectory records) records (shown_directory inner) (shown_directory new) t → IsSame (NodeIs records) records old made t
     node_same same = record {
-      means = subst (λ (n : view.Node). NodeIs records n t) (sym (inner_shown new)) (node_of records (shown_directory new) t same.means (not_empty records _ _ t opened.means));
+      means = subst (λ (n : view.Node). NodeIs records n t) (sym (inner_shown new)) (node_of records (shown_directory new) t same.means opened.means.0.some);
       known = λ p. ap (λ (n : view.Node). knows records n p) (inner_shown new) ∙ same.known p ∙ known_before p;
     }
 
@@ -205,9 +196,9 @@ module _ (records : ℕ → Option Record) where
         }
 
   -- contents have nothing under them
-  pub untouched_contents : (old : view.Node) (node : Node) (t : Tree) (q : Path) → q ≡ get_or q 0 [] ∷ drop 1 q → ((d : Directory) → node ≡ variants.Directory d → ⊥)
-      → IsOpened records old (shown node) t → IsUntouched (NodeIs records) records q old (shown node) t
-  untouched_contents old node t q split not opened =
+  pub untouched_contents : (was : view.Node) (node : Node) (t : Tree) (q : Path) → q ≡ get_or q 0 [] ∷ drop 1 q → ((d : Directory) → node ≡ variants.Directory d → ⊥)
+      → IsOpened records was (shown node) t → IsUntouched (NodeIs records) records q was (shown node) t
+  untouched_contents was node t q split not opened =
       let b = are_bytes records (shown node) t (no_directory node not) opened.read opened.means in
       record {
         nothing = ap (λ (p : Path). is_empty (subtree t p)) split ∙ ap (λ (x : Tree). is_empty (subtree x (get_or q 0 [] ∷ drop 1 q))) b.is ∙ below_contents b.bytes (get_or q 0 []) (drop 1 q);

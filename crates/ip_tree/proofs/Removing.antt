@@ -1,17 +1,19 @@
 -- What stands where after a removal, path by path, and the entries that a directory has left.
 use Rattle.std.proofs.Common.{◌≡◌, ℕ, ◌≤◌, ◌+◌, List, [], ◌∷◌, ◌++◌, refl, sym, ap, subst, ◌∙◌, length, arith, Option, Some, None, Bool, true, false, cond}
 use Rattle.std.proofs.lemmas.Bool.{false≢true}
-use Rattle.std.specs.Prelude.{not, ◌&&◌, ◌||◌, is_some, IsFalse, IsSome, filter}
+use Rattle.std.specs.Prelude.{not, ◌&&◌, is_some, IsSome, filter}
 use Rattle.std.specs.Ordering.{is_eq}
 use Rattle.std.specs.Cmp.Lexicographic.{nat_list_cmp_total}
 use Rattle.std.specs.FinMap.Entries as E
-use Rattle.std.specs.FinMap.Entries.{find, where_key, length-put, length_without}
+use Rattle.std.specs.FinMap.Entries.{length-put, length_without}
 use Rattle.ip_spec.specs.Map.{Map, len, get, insert, entries-insert, get-insert, get-retain_keys, retain_keys, same_map}
 use Rattle.ip_spec.specs.Map as Map
 use Rattle.ip_spec.specs.Path.{Step, Path, bytes_cmp, same_bytes, is_prefix, is_related}
 use Rattle.ip_spec.specs.Tree.{Tree, IsTree, no_tree, subtree, is_empty, is_contents, entries_of, remove, tree_runs}
 use Rattle.ip_spec.proofs.TreeLaws.{get-remove}
 use Rattle.ip_spec.proofs.Subtrees.{empty_gets, empty_is, get-entries_of, get-no_tree, get-subtree, narrow_under, same_bytes_turned, same_step, same_tree, step_antisymmetric, step_itself, subtree_cons, subtree_root}
+use Rattle.ip_tree.proofs.PlacedTrees.{related_cons}
+use Rattle.ip_tree.proofs.Trees.{entries_of_nothing, nothing_under}
 
 -- ---- prefixes
 
@@ -20,9 +22,6 @@ prefix_cons s p q = ap (λ b. b && is_prefix p q) (ap is_eq (step_itself s))
 
 pub prefix_apart : (s r : Step) (p q : Path) → same_bytes r s ≡ false → is_prefix (s ∷ p) (r ∷ q) ≡ false
 prefix_apart s r p q apart = ap (λ b. b && is_prefix p q) (same_bytes_turned s r ∙ apart)
-
-related_cons : (s : Step) (p q : Path) → is_related (s ∷ p) (s ∷ q) ≡ is_related p q
-related_cons s p q = ap (λ b. b && is_prefix p q || b && is_prefix q p) (ap is_eq (step_itself s))
 
 -- a path under p is p and what is left behind it
 pub rest_of : (p q : Path) → is_prefix p q ≡ true → (rest : Path) × (q ≡ p ++ rest)
@@ -47,15 +46,9 @@ remove_nothing t p none = same_tree _ _ (λ q. get-remove t p q ∙ by q (is_pre
 pub remove_root : (t : Tree) → remove t [] ≡ no_tree
 remove_root t = same_tree _ _ (λ q. get-remove t [] q ∙ sym (get-no_tree q))
 
-pub subtree_nothing : (q : Path) → subtree no_tree q ≡ no_tree
-subtree_nothing q = same_tree _ _ (λ r. get-subtree no_tree q r ∙ get-no_tree (q ++ r) ∙ sym (get-no_tree r))
-
 pub no_tree_empty : is_empty no_tree ≡ true
 unfolding tree_runs
 no_tree_empty = refl
-
-pub no_tree_directory : IsFalse (is_contents no_tree)
-no_tree_directory = ap is_some (get-no_tree [])
 
 pub remove_directory : (t : Tree) (s : Step) (p : Path) → is_contents (remove t (s ∷ p)) ≡ is_contents t
 remove_directory t s p = ap is_some (get-remove t (s ∷ p) [])
@@ -63,7 +56,7 @@ remove_directory t s p = ap is_some (get-remove t (s ∷ p) [])
 -- of nothing, nothing is left
 pub remove_empty : (t : Tree) (p : Path) → is_empty t ≡ true → is_empty (remove t p) ≡ true
 remove_empty t p none =
-    ap is_empty (remove_nothing t p (ap (λ (x : Tree). is_empty (subtree x p)) (empty_is t none) ∙ ap is_empty (subtree_nothing p) ∙ no_tree_empty)) ∙ none
+    ap is_empty (remove_nothing t p (ap (λ (x : Tree). is_empty (subtree x p)) (empty_is t none) ∙ ap is_empty (nothing_under p) ∙ no_tree_empty)) ∙ none
 
 pub some_left : (t : Tree) (p : Path) → is_empty (remove t p) ≡ false → is_empty t ≡ false
 some_left t p some = by (is_empty t) refl
@@ -196,13 +189,9 @@ fewer_here t s p = by (is_empty (remove (subtree t (s ∷ [])) p)) refl
         length-put bytes_cmp nat_list_cmp_total s (remove (subtree t (s ∷ [])) p) (entries_of t).entries (entries_of t).sorted ∙ ap (λ (o : Option Tree). cond (is_some o) (len (entries_of t)) (len (entries_of t) + 1)) here in
         subst (λ (es : List (Step × Tree)). length es ≤ len (entries_of t)) (sym (entries_of-remove_some t s p e)) (subst (λ (n : ℕ). n ≤ len (entries_of t)) (sym count) (omega arith))
 
-entries_of_nothing : len (entries_of no_tree) ≡ 0
-unfolding tree_runs
-entries_of_nothing = refl
-
 pub fewer : (t : Tree) (p q : Path) → len (entries_of (subtree (remove t p) q)) ≤ len (entries_of (subtree t q))
 fewer t [] q =
-    subst (λ (n : ℕ). n ≤ len (entries_of (subtree t q))) (sym (ap (λ (x : Tree). len (entries_of (subtree x q))) (remove_root t) ∙ ap (λ (x : Tree). len (entries_of x)) (subtree_nothing q) ∙ entries_of_nothing)) (omega arith)
+    subst (λ (n : ℕ). n ≤ len (entries_of (subtree t q))) (sym (ap (λ (x : Tree). len (entries_of (subtree x q))) (remove_root t) ∙ ap (λ (x : Tree). len (entries_of x)) (nothing_under q) ∙ ap length entries_of_nothing)) (omega arith)
 fewer t (s ∷ p) [] =
     subst (λ (n : ℕ). n ≤ len (entries_of (subtree t []))) (sym (ap (λ (x : Tree). len (entries_of x)) (subtree_root (remove t (s ∷ p)))))
     (subst (λ (x : Tree). len (entries_of (remove t (s ∷ p))) ≤ len (entries_of x)) (sym (subtree_root t)) (fewer_here t s p))

@@ -2,14 +2,13 @@
 use Rattle.std.proofs.Common.{◌≡◌, [], ◌∷◌, ◌++◌, refl, sym, ap, ◌∙◌, Some, None}
 use Rattle.std.specs.Prelude.{IsFalse}
 use Rattle.std.specs.FinMap.Entries.{find}
-use Rattle.std.specs.FinMap.Entries as E
 use Rattle.ip_spec.specs.Map.{get, insert, empty, checked}
 use Rattle.ip_spec.specs.Path.{Bytes, Step, Path, bytes_cmp}
 use Rattle.ip_spec.specs.declared.tree.Got.TheVariants as Got
 use Rattle.ip_spec.specs.declared.tree.Listed.TheVariants as Listed
-use Rattle.ip_spec.specs.Tree.{Tree, no_tree, contents, subtree, entries_of, got_at, listed_at, is_contents, put, tree_runs}
-pub use Rattle.ip_spec.proofs.Subtrees.{put_root, put_directory, put_not_empty, put_over_contents, got_contents, got_below_contents, got_directory, listed_contents, listed_below_contents, listed_directory}
-use Rattle.ip_spec.proofs.Subtrees.{entry_found, entry_lost, empty_is, entries_of-put, got_below, got_nothing, listed_below, listed_nothing, same_tree, get-subtree, get-no_tree}
+use Rattle.ip_spec.specs.Tree.{Tree, no_tree, contents, subtree, entries_of, got_at, listed_at, is_contents, tree_runs}
+pub use Rattle.ip_spec.proofs.Subtrees.{got_contents, got_below_contents, got_directory, listed_contents, listed_below_contents, listed_directory}
+use Rattle.ip_spec.proofs.Subtrees.{entry_found, entry_lost, got_below, got_nothing, listed_below, listed_nothing, same_tree, get-subtree, get-no_tree}
 
 pub contents_get : (bytes : Bytes) → get (contents bytes) [] ≡ Some bytes
 unfolding contents insert empty checked
@@ -28,16 +27,6 @@ listed_some t s p sub found = let e = entry_found t s sub found in listed_below 
 
 pub listed_none : (t : Tree) (s : Step) (p : Path) → find bytes_cmp s (entries_of t).entries ≡ None → listed_at t (s ∷ p) ≡ Listed.Absent
 listed_none t s p lost = listed_nothing t s p (entry_lost t s lost)
-
--- ---- what putting does to the entries
-
-pub put_some : (t : Tree) (s : Step) (p : Path) (bytes : Bytes) (sub : Tree) → find bytes_cmp s (entries_of t).entries ≡ Some sub
-    → (entries_of (put t (s ∷ p) bytes)).entries ≡ E.put bytes_cmp s (put sub p bytes) (entries_of t).entries
-put_some t s p bytes sub found = entries_of-put t s p bytes ∙ ap (λ (x : Tree). E.put bytes_cmp s (put x p bytes) (entries_of t).entries) (sym (entry_found t s sub found).is)
-
-pub put_none : (t : Tree) (s : Step) (p : Path) (bytes : Bytes) → find bytes_cmp s (entries_of t).entries ≡ None
-    → (entries_of (put t (s ∷ p) bytes)).entries ≡ E.put bytes_cmp s (put no_tree p bytes) (entries_of t).entries
-put_none t s p bytes lost = entries_of-put t s p bytes ∙ ap (λ (x : Tree). E.put bytes_cmp s (put x p bytes) (entries_of t).entries) (empty_is (subtree t (s ∷ [])) (entry_lost t s lost))
 
 -- ---- the tree with nothing in it, and contents
 

@@ -13,7 +13,7 @@ use Rattle.ip_spec.specs.View.{View}
 use Rattle.ip_tree.specs.Node.{Node, directory, none, first}
 use Rattle.ip_tree.specs.Known as parts
 use Rattle.ip_tree.specs.Meaning.{NodeIs, RootIs}
-use Rattle.ip_tree.specs.Edits.{knows, is_full, IsDirectory, NotPut, IsPutFault}
+use Rattle.ip_tree.specs.Edits.{knows, is_full, IsDirectory, NotPlaced, IsPlaceFault}
 use Rattle.ip_tree.specs.TreeView.{IsView, shown_root}
 use Rattle.ip_tree.specs.declared.tree.Tree as code
 use Rattle.ip_tree.specs.declared.tree.TreeFault.{TreeFault}
@@ -36,7 +36,7 @@ pub record Placed (Means : Node → Tree → Type 0) (records : ℕ → Option R
 
 abbrev pub Places : (Node → Tree → Type 0) → (ℕ → Option Record) → Path → Node → Tree → Node → Node → Tree → Result (Unit {0}) TreeFault → Type 0
 Places Means records path n sub old new t (Ok done) = Placed Means records path n sub old new t
-Places Means records path n sub old new t (Err fault) = NotPut Means records path fault old new t
+Places Means records path n sub old new t (Err fault) = NotPlaced Means records path fault old new t
 
 abbrev pub PlacesIn : (ℕ → Option Record) → Path → Node → Tree → Node → Node → Tree → Result (Unit {0}) TreeFault → Type 0
 PlacesIn records = Places (IsDirectory records) records
@@ -54,7 +54,7 @@ pub record IsPlacedIn (records : ℕ → Option Record) (path : Path) (n : Node)
 
 pub record IsNotPlacedIn (records : ℕ → Option Record) (path : Path) (new : code.Tree) (v : View) (fault : TreeFault) : Type 0 where
   pub view : IsView records new v
-  pub cause : IsPutFault path v.map fault
+  pub cause : IsPlaceFault path v.map fault
 
 abbrev pub PlacesTree : (ℕ → Option Record) → Path → Node → Tree → code.Tree → View → Result (Unit {0}) TreeFault → Type 0
 PlacesTree records path n sub new v (Ok done) = IsPlacedIn records path n sub new v

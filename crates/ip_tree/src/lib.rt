@@ -6,6 +6,7 @@ ghost use Rattle.std.specs.Prelude.{◌≡◌, ◌<◌, ℕ, Option, Some};
 ghost use Rattle.ip_spec.specs.Batch.{KnownStand};
 ghost use Rattle.ip_spec.specs.View.{View};
 ghost use Rattle.ip_spec.specs.declared.record.Record.{Record};
+ghost use Rattle.ip_tree.specs.Leaves.{HasLeavesOnly};
 ghost use Rattle.ip_tree.specs.TreeView.{IsView};
 ghost use Rattle.ip_tree.specs.declared.tree.Tree.{Tree};
 
@@ -39,4 +40,11 @@ pub use tree::{Root, Tree, TreeFault};
 pub fn known_parts()
     ensures { (records : ℕ → Option Record) (tree : Tree) (v : View) (end : ℕ) → IsView records tree v → ((at : ℕ) (r : Record) → records at ≡ Some r → at < end)
         → KnownStand records v end }
+{}
+
+/// A tree that is lawful over some records is so over more of them, with the same view: its known parts lie where they did. So whoever only
+/// adds records keeps what it knows of its trees.
+pub fn views_stay()
+    ensures { (records more : ℕ → Option Record) (tree : Tree) (v : View) → IsView records tree v → ((at : ℕ) (r : Record) → records at ≡ Some r → more at ≡ Some r)
+        → HasLeavesOnly more → IsView more tree v }
 {}

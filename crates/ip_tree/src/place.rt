@@ -1,5 +1,5 @@
 // Putting a node at a path.
-ghost use Rattle.std.specs.Prelude.{◌≡◌, ◌<◌, ℕ, Option, length, IsTrue, IfOk, IfErr, IsErrOf};
+ghost use Rattle.std.specs.Prelude.{◌≡◌, ◌<◌, ◌≤◌, ℕ, Option, map, length, insert, IsTrue, IfOk, IfErr, IsErrOf};
 ghost use Rattle.ip_ground.specs.Counts.{NoneFalls, Rose};
 ghost use Rattle.ip_space.specs.SpaceView.{OnlyReads};
 ghost use Rattle.ip_space.specs.declared.fault.FetchFault.TheVariants as FetchFault;
@@ -11,19 +11,21 @@ ghost use Rattle.ip_tree.specs.Leaves.{HasLeavesOnly};
 ghost use Rattle.ip_tree.specs.Meaning.{NodeIs};
 ghost use Rattle.ip_tree.specs.Placing.{chain_to, PlacesIn, PlacesAt, PlacesTree};
 ghost use Rattle.ip_tree.specs.Reads.{IsOver};
-ghost use Rattle.ip_tree.specs.Shown.{shown, shown_directory};
+ghost use Rattle.ip_tree.specs.Shown.{shown, shown_directory, shown_entry};
 ghost use Rattle.ip_tree.specs.TreeView.{IsView};
 ghost use Rattle.ip_tree.specs.declared.tree.TreeFault.TheVariants as TreeFault;
 
 use crate::entries::find;
 use crate::load::open;
 use crate::node::{Directory, Entry, Node};
-use crate::set::{ENTRIES, add};
 use crate::tree::{Root, Tree, TreeFault};
 use ip_base::{Limit, Step};
 use ip_ground::Ground;
 use ip_space::Space;
 use std::alloc::Global;
+
+/// The most entries of a directory.
+const ENTRIES: usize = 32;
 
 impl Tree {
     /// Puts a node at a path, in place of what stands there, under it, or at a step before its last. Where it fails the tree is what it
@@ -74,6 +76,18 @@ fn chain(alloc: Global, steps: &[Step], part: Node) -> Result<Node, TreeFault>
         known: None,
         entries,
     }))
+}
+
+/// Adds an entry at a place.
+fn add(entries: &mut Vec<Entry>, i: usize, step: Step, node: Node) -> Result<(), TreeFault>
+    requires { i ≤ length entries.old.items }
+    ensures added { IfOk result (λ _. map shown_entry entries.new.items ≡ insert (map shown_entry entries.old.items) i (step, shown node)) }
+    ensures refused { IfErr result (λ fault. (fault ≡ TreeFault.Memory) × (entries.new.items ≡ entries.old.items)) }
+{
+    match entries.insert(i, Entry { step, node }) {
+        Ok(()) => Ok(()),
+        Err(_) => Err(TreeFault::Memory),
+    }
 }
 
 /// Puts a node at a path below a directory, in place of what stands there, under it, or at a step before its last. Where it fails the

@@ -1,24 +1,17 @@
 // Putting contents.
-ghost use Rattle.std.specs.Prelude.{◌≡◌, ◌<◌, ◌≤◌, ℕ, [], Option, map, length, insert, IsTrue, IfOk, IfErr, IsErrOf};
+ghost use Rattle.std.specs.Prelude.{◌≡◌, ℕ, Option, IsTrue, IsErrOf};
 ghost use Rattle.ip_ground.specs.Counts.{NoneFalls, Rose};
 ghost use Rattle.ip_space.specs.SpaceView.{OnlyReads};
 ghost use Rattle.ip_space.specs.declared.fault.FetchFault.TheVariants as FetchFault;
 ghost use Rattle.ip_spec.specs.declared.record.Record.{Record};
 ghost use Rattle.ip_spec.specs.Path.{IsPath};
-ghost use Rattle.ip_spec.specs.Tree.{Tree as Map};
 ghost use Rattle.ip_spec.specs.View.{View};
-ghost use Rattle.ip_tree.specs.Edits.{chain_of, IsDirectory, PutsIn, PutsAt};
-ghost use Rattle.ip_tree.specs.Leaves.{HasLeavesOnly};
-ghost use Rattle.ip_tree.specs.Meaning.{NodeIs};
 ghost use Rattle.ip_tree.specs.Reads.{IsOver};
-ghost use Rattle.ip_tree.specs.Shown.{shown, shown_directory, shown_entry};
 ghost use Rattle.ip_tree.specs.TreeView.{IsView, Sets};
 ghost use Rattle.ip_tree.specs.declared.tree.TreeFault.TheVariants as TreeFault;
 
-use crate::entries::find;
-use crate::load::open;
-use crate::node::{Directory, Entry, Node};
-use crate::tree::{Root, Tree, TreeFault};
+use crate::node::Node;
+use crate::tree::{Tree, TreeFault};
 use ip_base::{Blob, Limit, Step};
 use ip_ground::Ground;
 use ip_space::Space;
@@ -26,9 +19,6 @@ use std::alloc::Global;
 
 /// The most bytes of contents.
 const CONTENTS: usize = 1048576;
-
-/// The most entries of a directory.
-pub const ENTRIES: usize = 32;
 
 impl Tree {
     /// Puts contents at a path, in place of what stands there, under it, or at a step before its last. Where it fails the tree is what it
@@ -57,140 +47,6 @@ impl Tree {
             Ok(contents) => contents,
             Err(_) => return Err(TreeFault::Memory),
         };
-        match self.open_root(alloc, outside, space) {
-            Ok(()) => {}
-            Err(fault) => return Err(fault),
-        }
-        match &mut self.root {
-            Root::Loaded(directory) => put_in(alloc, outside, space, directory, path, contents),
-            Root::Stored(_) => Err(TreeFault::Memory),
-        }
-    }
-}
-
-/// Directories one in another down to new contents.
-fn chain(alloc: Global, steps: &[Step], contents: Blob) -> Result<Node, TreeFault>
-    ensures made { IfOk result (λ node. shown node ≡ chain_of steps.now contents) }
-    ensures memory { IfErr result (λ fault. fault ≡ TreeFault.Memory) }
-{
-    if steps.is_empty() {
-        return Ok(Node::Contents(contents));
-    }
-    let inner = chain(alloc, &steps[1..], contents)?;
-    let step = steps[0].copy(alloc).map_err(|_| TreeFault::Memory)?;
-    let mut entries = Vec::new(alloc);
-    entries
-        .push(Entry { step, node: inner })
-        .map_err(|_| TreeFault::Memory)?;
-    Ok(Node::Directory(Directory {
-        known: None,
-        entries,
-    }))
-}
-
-/// Adds an entry at a place.
-pub fn add(entries: &mut Vec<Entry>, i: usize, step: Step, node: Node) -> Result<(), TreeFault>
-    requires { i ≤ length entries.old.items }
-    ensures added { IfOk result (λ _. map shown_entry entries.new.items ≡ insert (map shown_entry entries.old.items) i (step, shown node)) }
-    ensures refused { IfErr result (λ fault. (fault ≡ TreeFault.Memory) × (entries.new.items ≡ entries.old.items)) }
-{
-    match entries.insert(i, Entry { step, node }) {
-        Ok(()) => Ok(()),
-        Err(_) => Err(TreeFault::Memory),
-    }
-}
-
-/// Puts contents at a path below a directory.
-#[cycle(put)]
-fn put_in<G: Ground>(
-    alloc: Global,
-    outside: &mut G,
-    space: &mut Space,
-    directory: &mut Directory,
-    steps: &[Step],
-    contents: Blob,
-) -> Result<(), TreeFault>
-    requires { 0 < length steps.now }
-    ensures reads { IsTrue G.tells → OnlyReads (G.told outside.old) (G.told outside.new) space.old space.new }
-    ensures put { IsTrue G.tells → (records : ℕ → Option Record) (t : Map) → IsOver (G.told outside.old) space.old records → HasLeavesOnly records → IsDirectory records (shown_directory directory.old) t
-        → PutsIn records steps.now contents (shown_directory directory.old) (shown_directory directory.new) t result }
-    ensures layout { space.new.layout ≡ space.old.layout }
-    ensures runs { space.new.runs ≡ space.old.runs }
-    ensures counts { NoneFalls (G.counts_of outside.old) (G.counts_of outside.new) }
-    ensures cause { IsErrOf result (TreeFault.Fetch FetchFault.Ground) → Rose (G.counts_of outside.old).file_faults (G.counts_of outside.new).file_faults }
-{
-    match find(directory.entries.as_slice(), &steps[0]) {
-        Err(i) => {
-            if directory.entries.len() >= ENTRIES {
-                return Err(TreeFault::Limit(Limit::Entries));
-            }
-            let node = match chain(alloc, &steps[1..], contents) {
-                Ok(node) => node,
-                Err(fault) => return Err(fault),
-            };
-            let step = match steps[0].copy(alloc) {
-                Ok(step) => step,
-                Err(_) => return Err(TreeFault::Memory),
-            };
-            match add(&mut directory.entries, i, step, node) {
-                Ok(()) => {
-                    directory.known = None;
-                    Ok(())
-                }
-                Err(fault) => Err(fault),
-            }
-        }
-        Ok(i) => match put_at(
-            alloc,
-            outside,
-            space,
-            &mut directory.entries[i].node,
-            &steps[1..],
-            contents,
-        ) {
-            Ok(()) => {
-                directory.known = None;
-                Ok(())
-            }
-            Err(fault) => Err(fault),
-        },
-    }
-}
-
-/// Puts contents at a path below a node, or in its place.
-#[cycle(put)]
-fn put_at<G: Ground>(
-    alloc: Global,
-    outside: &mut G,
-    space: &mut Space,
-    node: &mut Node,
-    steps: &[Step],
-    contents: Blob,
-) -> Result<(), TreeFault>
-    ensures reads { IsTrue G.tells → OnlyReads (G.told outside.old) (G.told outside.new) space.old space.new }
-    ensures put { IsTrue G.tells → (records : ℕ → Option Record) (t : Map) → IsOver (G.told outside.old) space.old records → HasLeavesOnly records → NodeIs records (shown node.old) t
-        → PutsAt records steps.now contents (shown node.old) (shown node.new) t result }
-    ensures layout { space.new.layout ≡ space.old.layout }
-    ensures runs { space.new.runs ≡ space.old.runs }
-    ensures counts { NoneFalls (G.counts_of outside.old) (G.counts_of outside.new) }
-    ensures cause { IsErrOf result (TreeFault.Fetch FetchFault.Ground) → Rose (G.counts_of outside.old).file_faults (G.counts_of outside.new).file_faults }
-{
-    if steps.is_empty() {
-        *node = Node::Contents(contents);
-        return Ok(());
-    }
-    match open(alloc, outside, space, node) {
-        Ok(()) => {}
-        Err(fault) => return Err(fault),
-    }
-    match node {
-        Node::Directory(inner) => put_in(alloc, outside, space, inner, steps, contents),
-        _ => match chain(alloc, steps, contents) {
-            Ok(made) => {
-                *node = made;
-                Ok(())
-            }
-            Err(fault) => Err(fault),
-        },
+        self.place(alloc, outside, space, path, Node::Contents(contents))
     }
 }

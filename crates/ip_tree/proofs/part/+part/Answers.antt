@@ -1,8 +1,7 @@
 use Rattle.std.proofs.Common.{[], get_or, sym}
-use Rattle.ip_tree.specs.Shown.{shown}
 use Rattle.ip_tree.specs.declared.node.Directory.{out-Directory}
-use Rattle.ip_tree.proofs.FoundParts.{copied, at_stored, at_contents, at_directory, entry_in, no_entry_in}
-use Rattle.ip_tree.proofs.Looking.{stored_reaches, inner_is}
+use Rattle.ip_tree.proofs.FoundParts.{copied, at_stored, at_contents, entry_in, no_entry_in}
+use Rattle.ip_tree.proofs.Looking.{stored_reaches}
 use Rattle.ip_tree.proofs.PutShown.{child, index_fits}
 use Rattle.ip_tree.proofs.Steps.{by_first_lt, by_head, nil_of}
 use Rattle.ip_tree.proofs.part.+part.Goals as goal

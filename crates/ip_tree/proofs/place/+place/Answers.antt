@@ -5,7 +5,7 @@ use Rattle.ip_tree.specs.Shown.{shown, shown_directory, entries_of}
 use Rattle.ip_tree.specs.declared.node.Directory.{out-Directory}
 use Rattle.ip_tree.proofs.Steps.{by_first_lt, by_rest, by_head, nil_of, same_first}
 use Rattle.ip_tree.proofs.Walk.{still_over}
-use Rattle.ip_tree.proofs.PutShown.{insert_fits, index_fits, child, put_err_at, is_full_at, not_put, whole_test, room_test, at_node, inner_directory}
+use Rattle.ip_tree.proofs.PutShown.{insert_fits, index_fits, child, not_placed_at, is_full_at, not_placed, whole_test, room_test, at_node, inner_directory}
 use Rattle.ip_tree.proofs.PlacedShown.{placed_at, new_at, placed_whole, placed_through, placed_chain}
 use Rattle.ip_tree.proofs.place.+place.Goals as goal
 
@@ -37,7 +37,7 @@ place_in-returns-in-Err-place_at-clause-place g t c tells records tree sub over 
     let place = rw c.as_slice.ensures.value at (sym c.in-Ok.ensures) in
     let below = child records d tree is s c.in-Ok.i c.index_mut.result.now place c.index_mut.ensures.value in
     let not = c.in-Err-place_at.ensures.place tells records below.sub sub over leaves below.means is_part in
-    put_err_at records d tree is s c.in-Ok.i c.index_mut.result.now place c.index_mut.ensures.value p (by_rest p s (by_first_lt p s c.requires c.index-steps-0.is)) c.place_at.new.node c.in-Err-place_at.fault not
+    not_placed_at records d tree is s c.in-Ok.i c.index_mut.result.now place c.index_mut.ensures.value p (by_rest p s (by_first_lt p s c.requires c.index-steps-0.is)) c.place_at.new.node c.in-Err-place_at.fault not
 
 pub place_in-returns-then-len-ge-ENTRIES-clause-place : goal.place_in-returns-then-len-ge-ENTRIES-clause-place
 place_in-returns-then-len-ge-ENTRIES-clause-place g t c tells records tree sub over leaves is is_part =
@@ -45,7 +45,7 @@ place_in-returns-then-len-ge-ENTRIES-clause-place g t c tells records tree sub o
     let p = c.args.steps.now in
     let s = c.index-steps-0.result in
     let place = rw c.as_slice.ensures.value at (sym c.in-Err.ensures) in
-    not_put records (shown_directory d) tree p _ is (is_full_at records d tree is s c.in-Err.i p (by_rest p s (by_first_lt p s c.requires c.index-steps-0.is)) place (whole_test (out-Directory d).entries (rw c.len.ensures at c.if-len-ge-ENTRIES.true)))
+    not_placed records (shown_directory d) tree p _ is (is_full_at records d tree is s c.in-Err.i p (by_rest p s (by_first_lt p s c.requires c.index-steps-0.is)) place (whole_test (out-Directory d).entries (rw c.len.ensures at c.if-len-ge-ENTRIES.true)))
 
 pub place_in-returns-in-Ok-add-clause-place : goal.place_in-returns-in-Ok-add-clause-place
 place_in-returns-in-Ok-add-clause-place g t c tells records tree sub over leaves is is_part =

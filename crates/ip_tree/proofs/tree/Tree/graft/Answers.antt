@@ -1,7 +1,7 @@
-use Rattle.std.proofs.Common.{◌<◌, ◌≤◌, ◌+◌, length, Some, arith}
+use Rattle.std.proofs.Common.{◌<◌, ◌≤◌, ◌+◌, length, arith}
 use Rattle.ip_space.proofs.Passing.{reads_on}
 use Rattle.ip_spec.specs.Step.{steps_limit}
-use Rattle.ip_tree.specs.Finding.{IsPartOf, FindsIn}
+use Rattle.ip_tree.specs.Finding.{IsPartOf}
 use Rattle.ip_tree.specs.Heights.{node_height}
 use Rattle.ip_tree.specs.Shown.{shown}
 use Rattle.ip_tree.proofs.Grafting.{too_deep, not_grafted, grafted}

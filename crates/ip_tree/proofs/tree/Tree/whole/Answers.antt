@@ -1,4 +1,3 @@
-use Rattle.std.proofs.Common.{sym, ◌∙◌}
 use Rattle.ip_tree.proofs.FoundParts.{nothing_at_all, whole_stored, whole_loaded}
 use Rattle.ip_tree.proofs.tree.Tree.whole.Goals as goal
 

@@ -1,8 +1,8 @@
 use Rattle.std.proofs.Common.{refl, ap, ◌∙◌, map}
 use Rattle.ip_tree.specs.Shown.{shown_entry}
 use Rattle.ip_tree.proofs.PutShown.{map_insert}
-use Rattle.ip_tree.proofs.set.add.Goals.{in-Ok, in-Err}
-use Rattle.ip_tree.proofs.set.add.Goals as goal
+use Rattle.ip_tree.proofs.place.add.Goals.{in-Ok, in-Err}
+use Rattle.ip_tree.proofs.place.add.Goals as goal
 
 pub returns-clause-added : goal.returns-clause-added
 returns-clause-added c = elim c.match-insert.branch [
