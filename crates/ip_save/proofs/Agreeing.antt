@@ -23,11 +23,12 @@ use Rattle.ip_tree.specs.Narrow.{IsNarrow}
 use Rattle.ip_tree.specs.declared.node.Stored.{Stored}
 use Rattle.ip_tree.proofs.Reached.{child_of_contents, child_of_directory}
 use Rattle.ip_tree.proofs.Widths.{here_narrow, child_narrow}
+use Rattle.ip_tree.proofs.Heights.{contents_height}
 use Rattle.ip_save.specs.Laid.{size, size_of, lay, lay_among, lay_root, Laid, LaidRow, field_for, leaf_name}
 use Rattle.ip_save.proofs.Split.{under}
 use Rattle.ip_save.proofs.News.{Finds, finds_all, among, news, news_among, news_root, value_of, values_under, fresh_values}
 use Rattle.ip_save.proofs.Laying.{lay_contents, row_height}
-use Rattle.ip_save.proofs.Tall.{contents_height, high_among, height_is_highest}
+use Rattle.ip_save.proofs.Tall.{high_among, height_is_highest}
 
 -- ---- names
 

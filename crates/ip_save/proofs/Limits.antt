@@ -18,13 +18,14 @@ use Rattle.ip_tree.specs.TreeView.{IsView, shown_root}
 use Rattle.ip_tree.specs.declared.tree.Tree as code
 use Rattle.ip_tree.proofs.Widest.{narrow_of}
 use Rattle.ip_tree.proofs.Widths.{child_narrow, here_narrow}
+use Rattle.ip_tree.proofs.Heights.{lawful_height}
 use Rattle.ip_save.specs.declared.batch.SaveFault.{SaveFault}
 use Rattle.ip_save.specs.declared.batch.SaveFault.TheVariants.{Limit, Memory}
 use Rattle.ip_save.specs.Batches.{HasShortContents, IsSaveFault}
 use Rattle.ip_save.specs.Laid.{fresh, fresh_among, fresh_root, longest, longest_among, longest_root, breadth, breadth_among, breadth_root, height_root, count, IsCause, IsLongFault, IsRootFault}
 use Rattle.ip_save.proofs.News.{news_root, value_of, fresh_values_root}
 use Rattle.ip_save.proofs.Placed.{IsNew}
-use Rattle.ip_save.proofs.Tall.{high_among, height_is_highest, lawful_height}
+use Rattle.ip_save.proofs.Tall.{high_among, height_is_highest}
 use Rattle.ip_save.proofs.Viewed.{each_new}
 
 -- ---- contents

@@ -1,5 +1,5 @@
 -- The bytes of a batch are those of the records that the definition has.
-use Rattle.std.proofs.Common.{◌≡◌, ℕ, ◌+◌, ◌≤◌, [], ◌∷◌, ◌++◌, refl, sym, ap, subst, ◌∙◌, Option, Some, map, length, arith, append_assoc}
+use Rattle.std.proofs.Common.{◌≡◌, ℕ, ◌+◌, ◌<◌, ◌≤◌, [], ◌∷◌, ◌++◌, refl, sym, ap, subst, ◌∙◌, Option, Some, map, length, arith, append_assoc}
 use Rattle.std.specs.Prelude.{Result, Ok, Err, MatchResult}
 use Rattle.std.specs.Result.{IsErrAnd}
 use Rattle.std.specs.List.{AllByRecursion}
@@ -12,6 +12,7 @@ use Rattle.ip_spec.specs.declared.record.Ref.{Ref}
 use Rattle.ip_spec.specs.Record.{Hash, Fits, name_of, spelling, spelling_of, hashed_commit}
 use Rattle.ip_spec.specs.Shape.{root_name}
 use Rattle.ip_spec.specs.TreeAt.{Records}
+use Rattle.ip_spec.proofs.Spelling.{some_bytes}
 use Rattle.ip_spec.specs.View.{View}
 use Rattle.ip_spec.specs.Batch as Batches
 use Rattle.ip_spec.specs.Batch.{Spelled, sources, placed, new_contents, contents_record, root_spelled, tree_batch, batch, batch_root, batch_end, batch_name, commit_of, branch_of}
@@ -142,3 +143,7 @@ module _ (records : ℕ → Option Record) (tree : code.Tree) (v : View) (is : I
 pub passed_on : {A E : Type 0} (r : Result A E) (f : E) (Q : A → Type 0) (P : E → Type 0) → IsErrAnd r (λ e. e ≡ f) → P f → MatchResult r Q P
 passed_on (Ok x) f Q P is p = absurd is
 passed_on (Err e) f Q P is p = subst P (sym is) p
+
+-- bytes with a record behind them
+pub some_behind : (old new : Bytes) (r : Record) → new ≡ old ++ spelling r → 0 < length new
+some_behind old new r is = let long = ap length is ∙ length-append old (spelling r) in let some = some_bytes r in omega arith

@@ -22,10 +22,10 @@ use Rattle.ip_tree.specs.Reads.{directory_at}
 use Rattle.ip_tree.specs.TreeView.{IsView, shown_root}
 use Rattle.ip_tree.specs.declared.tree.Tree as code
 use Rattle.ip_tree.proofs.Widest.{narrow_of}
+use Rattle.ip_tree.proofs.Heights.{lawful_height}
 use Rattle.ip_save.specs.Laid.{size, size_of, fresh_root, lay_root}
 use Rattle.ip_save.proofs.Split.{split}
 use Rattle.ip_save.proofs.News.{news_root, kept, nothing_new, only_below, news_of_among, fresh_values_root}
-use Rattle.ip_save.proofs.Tall.{lawful_height}
 use Rattle.ip_save.proofs.Placed.{key_of, places, IsNew, GoesOn, placed_are, end_is, places_found}
 use Rattle.ip_save.proofs.Agreeing.{OffsetsAt, RootAgrees, root_agrees, spelled_by}
 
