@@ -5,18 +5,21 @@ use Rattle.std.proofs.lemmas.List.{drop_at, take-append-drop}
 use Rattle.std.proofs.lemmas.Bool.Decides.{nat_tests}
 use Rattle.ip_script.specs.declared.line.Fit.{Fit}
 use Rattle.ip_script.specs.declared.field.Field.{Field}
-use Rattle.ip_script.specs.declared.field.Field.TheVariants.{Step, Hex, Name, Reference, Date, Author, Message}
+use Rattle.ip_script.specs.declared.field.Field.TheVariants.{Path, Place, Hex, Name, Reference, Date, Author, Message}
 use Rattle.ip_script.specs.Fields.{field_length, is_whole_field, reach_fields, reach_from}
 use Rattle.ip_script.proofs.Prefix.{pick_true, pick_false, either, equal_by, length_taken}
 use Rattle.ip_script.proofs.Values.{AreFields, IsForm}
 use Rattle.ip_script.proofs.FieldLaw.{FieldLaw, Ends, EndsWord}
-use Rattle.ip_script.proofs.RunLaw.{step_law, name_law, author_law, message_law}
+use Rattle.ip_script.proofs.RunLaw.{name_law, author_law, message_law}
+use Rattle.ip_script.proofs.PathLaw.{path_law}
+use Rattle.ip_script.proofs.PlaceLaw.{place_law}
 use Rattle.ip_script.proofs.HexField.{hex_law}
 use Rattle.ip_script.proofs.ReferenceLaw.{reference_law}
 use Rattle.ip_script.proofs.DateLaw.{date_law}
 
 pub law : (f : Field) → FieldLaw f
-law Step = step_law
+law Path = path_law
+law Place = place_law
 law Hex = hex_law
 law Name = name_law
 law Reference = reference_law

@@ -2,6 +2,9 @@ mod Prefix
 mod Values
 mod FieldLaw
 mod RunLaw
+mod PathWords
+mod PathLaw
+mod PlaceLaw
 mod HexLaw
 mod HexField
 mod ReferenceLaw

@@ -5,7 +5,8 @@ use Rattle.std.proofs.lemmas.List.{take_at, drop_at}
 use Rattle.ip_spec.specs.Path.{Bytes, same_bytes}
 use Rattle.ip_spec.specs.Record.{Info}
 use Rattle.ip_spec.specs.declared.command.Command.{Command}
-use Rattle.ip_spec.specs.Line.{LineOf, first_word, forms_of, IsLineOf, IsInfoText, IsServedLine, IsBadAt}
+use Rattle.ip_spec.specs.Line.{LineOf, first_word, forms_of, IsLineOf, IsInfoText, IsBadAt}
+use Rattle.ip_script.specs.Served.{IsServedLine}
 use Rattle.ip_script.specs.declared.field.Field.{Field}
 use Rattle.ip_script.specs.declared.field.Field.TheVariants.{Date, Author, Message}
 use Rattle.ip_script.specs.declared.line.Form.{Form}
@@ -132,13 +133,19 @@ ordered _ = tt
 
 served_with : (form : Form) (values : Values (fields_of form)) (rest line : Bytes) → AreValues (fields_of form) values rest → line ≡ word_of form ++ rest → IsServedLine (command_with form values) line
 served_with Form.Empty values rest line s e = (tt, joined (command_with Form.Empty values) line rest s e)
-served_with Form.Set values rest line s e = (refl, joined (command_with Form.Set values) line rest s e)
+served_with Form.Checkout values rest line s e = (tt, joined (command_with Form.Checkout values) line rest s e)
+served_with Form.Set values rest line s e = (tt, joined (command_with Form.Set values) line rest s e)
+served_with Form.Rm values rest line s e = (tt, joined (command_with Form.Rm values) line rest s e)
+served_with Form.Graft values rest line s e = (tt, joined (command_with Form.Graft values) line rest s e)
 served_with Form.Parent values rest line s e = (tt, joined (command_with Form.Parent values) line rest s e)
-served_with Form.Get values rest line s e = (refl, joined (command_with Form.Get values) line rest s e)
+served_with Form.Get values rest line s e = (tt, joined (command_with Form.Get values) line rest s e)
+served_with Form.List values rest line s e = (tt, joined (command_with Form.List values) line rest s e)
+served_with Form.Cat values rest line s e = (tt, joined (command_with Form.Cat values) line rest s e)
 served_with Form.Commit values rest line (name, more, is, s, f) e = (tt, joined (command_with Form.Commit values) line rest (name, more, is, info_joined values.1 more s, f) e)
 served_with Form.Branch values rest line s e = (tt, joined (command_with Form.Branch values) line rest s e)
 served_with Form.BranchRm values rest line s e = (tt, joined (command_with Form.BranchRm values) line rest s e)
 served_with Form.Branches values rest line s e = (tt, joined (command_with Form.Branches values) line rest s e)
+served_with Form.Show values rest line s e = (tt, joined (command_with Form.Show values) line rest s e)
 served_with Form.Log values rest line s e = (tt, joined (command_with Form.Log values) line rest s e)
 served_with Form.Lcas values rest line s e = (tt, joined (command_with Form.Lcas values) line rest s e)
 served_with Form.Hash values rest line s e = (tt, joined (command_with Form.Hash values) line rest s e)
@@ -164,9 +171,14 @@ record Formed (c : Command) (line : Bytes) : Type 0 where
 
 formed : (c : Command) (line : Bytes) → IsServedLine c line → Formed c line
 formed Command.Empty line (u, l) = let p = parts Command.Empty line l in record { form = Form.Empty; values = tt; rest = p.0; words = p.1; line_is = p.2; command = refl }
-formed (Command.Set (s ∷ []) bytes) line (u, l) = let p = parts (Command.Set (s ∷ []) bytes) line l in record { form = Form.Set; values = (s, (bytes, tt)); rest = p.0; words = p.1; line_is = p.2; command = refl }
+formed (Command.Checkout target) line (u, l) = let p = parts (Command.Checkout target) line l in record { form = Form.Checkout; values = (target, tt); rest = p.0; words = p.1; line_is = p.2; command = refl }
+formed (Command.Set path bytes) line (u, l) = let p = parts (Command.Set path bytes) line l in record { form = Form.Set; values = (path, (bytes, tt)); rest = p.0; words = p.1; line_is = p.2; command = refl }
+formed (Command.Rm path) line (u, l) = let p = parts (Command.Rm path) line l in record { form = Form.Rm; values = (path, tt); rest = p.0; words = p.1; line_is = p.2; command = refl }
+formed (Command.Graft target from to) line (u, l) = let p = parts (Command.Graft target from to) line l in record { form = Form.Graft; values = (target, (from, (to, tt))); rest = p.0; words = p.1; line_is = p.2; command = refl }
 formed (Command.Parent target) line (u, l) = let p = parts (Command.Parent target) line l in record { form = Form.Parent; values = (target, tt); rest = p.0; words = p.1; line_is = p.2; command = refl }
-formed (Command.Get (s ∷ [])) line (u, l) = let p = parts (Command.Get (s ∷ [])) line l in record { form = Form.Get; values = (s, tt); rest = p.0; words = p.1; line_is = p.2; command = refl }
+formed (Command.Get path) line (u, l) = let p = parts (Command.Get path) line l in record { form = Form.Get; values = (path, tt); rest = p.0; words = p.1; line_is = p.2; command = refl }
+formed (Command.List path) line (u, l) = let p = parts (Command.List path) line l in record { form = Form.List; values = (path, tt); rest = p.0; words = p.1; line_is = p.2; command = refl }
+formed (Command.Cat target path) line (u, l) = let p = parts (Command.Cat target path) line l in record { form = Form.Cat; values = (target, (path, tt)); rest = p.0; words = p.1; line_is = p.2; command = refl }
 formed (Command.Commit branch info) line (u, l) =
     let p = parts (Command.Commit branch info) line l in
     let s = p.1 in
@@ -174,14 +186,11 @@ formed (Command.Commit branch info) line (u, l) =
 formed (Command.Branch name target) line (u, l) = let p = parts (Command.Branch name target) line l in record { form = Form.Branch; values = (name, (target, tt)); rest = p.0; words = p.1; line_is = p.2; command = refl }
 formed (Command.BranchRm name) line (u, l) = let p = parts (Command.BranchRm name) line l in record { form = Form.BranchRm; values = (name, tt); rest = p.0; words = p.1; line_is = p.2; command = refl }
 formed Command.Branches line (u, l) = let p = parts Command.Branches line l in record { form = Form.Branches; values = tt; rest = p.0; words = p.1; line_is = p.2; command = refl }
+formed (Command.Show target) line (u, l) = let p = parts (Command.Show target) line l in record { form = Form.Show; values = (target, tt); rest = p.0; words = p.1; line_is = p.2; command = refl }
 formed (Command.Log target) line (u, l) = let p = parts (Command.Log target) line l in record { form = Form.Log; values = (target, tt); rest = p.0; words = p.1; line_is = p.2; command = refl }
 formed (Command.Lcas one other) line (u, l) = let p = parts (Command.Lcas one other) line l in record { form = Form.Lcas; values = (one, (other, tt)); rest = p.0; words = p.1; line_is = p.2; command = refl }
 formed (Command.Hash bytes) line (u, l) = let p = parts (Command.Hash bytes) line l in record { form = Form.Hash; values = (bytes, tt); rest = p.0; words = p.1; line_is = p.2; command = refl }
 formed Command.Stat line (u, l) = let p = parts Command.Stat line l in record { form = Form.Stat; values = tt; rest = p.0; words = p.1; line_is = p.2; command = refl }
-formed (Command.Set [] bytes) line (u, l) = absurd (omega (arith, u))
-formed (Command.Set (s ∷ r ∷ path) bytes) line (u, l) = absurd (omega (arith, u))
-formed (Command.Get []) line (u, l) = absurd (omega (arith, u))
-formed (Command.Get (s ∷ r ∷ path)) line (u, l) = absurd (omega (arith, u))
 formed _ line h = absurd h.0
 
 -- a command's line is of a form, whose reading gives the command

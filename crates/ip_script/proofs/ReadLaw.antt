@@ -6,7 +6,8 @@ use Rattle.std.proofs.lemmas.Bool.Decides.{nat_tests}
 use Rattle.std.proofs.lemmas.List.Folds.{list_any-append}
 use Rattle.ip_spec.specs.Path.{Bytes, same_bytes}
 use Rattle.ip_spec.specs.declared.command.Command.{Command}
-use Rattle.ip_spec.specs.Line.{IsServedLine, Begins, IsBadAt}
+use Rattle.ip_spec.specs.Line.{Begins, IsBadAt}
+use Rattle.ip_script.specs.Served.{IsServedLine}
 use Rattle.ip_script.specs.declared.field.Field.{Field}
 use Rattle.ip_script.specs.declared.line.Form.{Form}
 use Rattle.ip_script.specs.declared.line.Fit.{Fit}

@@ -3,14 +3,13 @@ use Rattle.std.proofs.Common.{◌≡◌, ◌≢◌, inl, inr, ℕ, suc, zero, �
 use Rattle.std.specs.Prelude.{All, slice_get}
 use Rattle.std.specs.List.{list_all, prefix_len}
 use Rattle.std.proofs.lemmas.Bool.Decides.{nat_tests}
-use Rattle.std.proofs.lemmas.List.Elements.{All-cons, All-nil}
 use Rattle.std.proofs.lemmas.List.Sums.{AllPass-from_list_all, list_all-from_AllPass}
-use Rattle.ip_base.specs.PathText.{IsStep, IsWordByte, slash}
+use Rattle.ip_base.specs.PathText.{IsWordByte}
 use Rattle.ip_spec.specs.Path.{Bytes}
 use Rattle.ip_spec.specs.Record.{IsBranchName}
 use Rattle.ip_script.specs.declared.field.Field.{Field}
-use Rattle.ip_script.specs.declared.field.Field.TheVariants.{Step, Name, Author, Message}
-use Rattle.ip_script.specs.Fields.{is_message_byte, is_word_byte, is_step_byte, field_length}
+use Rattle.ip_script.specs.declared.field.Field.TheVariants.{Name, Author, Message}
+use Rattle.ip_script.specs.Fields.{is_message_byte, is_word_byte, field_length}
 use Rattle.ip_script.proofs.Values.{IsField}
 use Rattle.ip_script.proofs.Prefix.{either, prefix_within, prefix_stops, prefix_decided, all_in_prefix, Stops, positive, positive_test, equal_by, length_taken, no_more, none_or_some}
 use Rattle.ip_script.proofs.FieldLaw.{FieldLaw, EndsWord}
@@ -49,39 +48,6 @@ whole_begins f sample is whole text =
 word_stops : (p : ℕ → Bool) → p 32 ≡ false → (rest : Bytes) → EndsWord rest → Stops p rest
 word_stops p no_space [] e = tt
 word_stops p no_space (b ∷ rest) e = ap p e ∙ no_space
-
--- ---- steps
-
-byte_passes : (b : ℕ) → IsWordByte b × (b ≢ slash) → is_step_byte b ≡ true
-byte_passes b h = grind (arith, nat_tests, h)
-
-byte_passed : (b : ℕ) → is_step_byte b ≡ true → IsWordByte b × (b ≢ slash)
-byte_passed b h = ((grind (arith, nat_tests), grind (arith, nat_tests), grind (arith, nat_tests), grind (arith, nat_tests)), grind (arith, nat_tests))
-
-step_run : (text : Bytes) → IsStep text → IsRun is_step_byte 255 text
-step_run text s = record { some = s.some; short = s.short; each = list_all-from_AllPass is_step_byte text (λ i d l. byte_passes _ (s.each i d l)) }
-
-run_step : (text : Bytes) → IsRun is_step_byte 255 text → IsStep text
-run_step text r = let all = AllPass-from_list_all is_step_byte text r.each in record { some = r.some; short = r.short; each = λ i d l. byte_passed _ (all i d l) }
-
-step_field : (text : Bytes) → IsRun is_step_byte 255 text → IsField Step text
-step_field text r = (text, (record { some = omega arith; short = omega arith; each = All-cons IsStep text [] (run_step text r) (All-nil IsStep) }, refl))
-
-field_step : (text : Bytes) → IsField Step text → IsRun is_step_byte 255 text
-field_step text (step, (path, e)) = step_run text (subst IsStep (sym e) (path.each 0 [] (omega arith)))
-
-pub step_law : FieldLaw Step
-step_law = record {
-  one = λ value text is. sym is.1;
-  within = run_within is_step_byte 255;
-  whole = whole;
-  taken = λ word rest is ends. run_taken is_step_byte 255 word rest (field_step word is) (word_stops is_step_byte refl rest ends);
-  decided = λ text m more h l. (prefix_decided is_step_byte text 255 m more h l, refl);
-  begins = whole_begins Step (97 ∷ []) (step_field (97 ∷ []) (record { some = omega arith; short = omega arith; each = refl })) whole;
-}
-  where
-    whole : (text : Bytes) → nat_lt 0 (field_length Step text) ≡ true → IsField Step (take (field_length Step text) text)
-    whole text w = step_field _ (run_whole is_step_byte 255 text w)
 
 -- ---- authors
 

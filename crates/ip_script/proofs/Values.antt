@@ -8,17 +8,19 @@ use Rattle.std.specs.Prelude.{All}
 use Rattle.std.specs.Fmt.{decimal}
 use Rattle.ip_base.specs.PathText.{IsWordByte}
 use Rattle.ip_spec.specs.Path.{Bytes}
-use Rattle.ip_spec.specs.Line.{IsHexText, IsPathText, IsNameText, IsTargetText}
+use Rattle.ip_spec.specs.Line.{IsHexText, IsPathText, IsPlaceText, IsNameText, IsTargetText}
 use Rattle.ip_spec.specs.declared.command.Command.{Command}
 use Rattle.ip_spec.specs.declared.command.Target.{Target}
 use Rattle.ip_script.specs.declared.field.Field.{Field}
-use Rattle.ip_script.specs.declared.field.Field.TheVariants.{Step, Hex, Name, Reference, Date, Author, Message}
+use Rattle.ip_script.specs.declared.field.Field.TheVariants.{Path, Place, Hex, Name, Reference, Date, Author, Message}
 use Rattle.ip_script.specs.declared.line.Form.{Form}
 use Rattle.ip_script.specs.Dates.{date_value}
 use Rattle.ip_script.specs.Forms.{word_of, fields_of}
-use Rattle.ip_script.specs.Words.{word_at, left_at, contents_of, target_of}
+use Rattle.ip_script.specs.Words.{word_at, left_at, path_at, place_at, contents_of, target_of}
 
 abbrev pub Of : Field → Type 0
+Of Path = List Bytes
+Of Place = List Bytes
 Of Date = ℕ
 Of Reference = Target
 Of _ = Bytes
@@ -30,7 +32,8 @@ pub record IsText (Is : ℕ → Type 0) (most : ℕ) (text : Bytes) : Type 0 whe
   pub each : All Is text
 
 abbrev pub IsValue : (field : Field) → Of field → Bytes → Type 0
-IsValue Step step text = IsPathText (step ∷ []) text
+IsValue Path path text = IsPathText path text
+IsValue Place path text = IsPlaceText path text
 IsValue Hex bytes text = IsHexText bytes text
 IsValue Name name text = IsNameText name text
 IsValue Reference target text = IsTargetText target text
@@ -56,6 +59,8 @@ AreFields (field ∷ fields) text = (word : Bytes) × (rest : Bytes) × IsField 
 -- ---- what a text says
 
 abbrev pub value_at : (field : Field) → Bytes → Of field
+value_at Path text = path_at text
+value_at Place text = place_at text
 value_at Hex text = contents_of text
 value_at Date text = date_value text
 value_at Reference text = target_of text
@@ -75,13 +80,19 @@ IsOf form line = IsForm (word_of form) (fields_of form) line
 
 abbrev pub command_with : (form : Form) → Values (fields_of form) → Command
 command_with Form.Empty values = Command.Empty
-command_with Form.Set (step, (bytes, none)) = Command.Set (step ∷ []) bytes
+command_with Form.Checkout (target, none) = Command.Checkout target
+command_with Form.Set (path, (bytes, none)) = Command.Set path bytes
+command_with Form.Rm (path, none) = Command.Rm path
+command_with Form.Graft (target, (from, (to, none))) = Command.Graft target from to
 command_with Form.Parent (target, none) = Command.Parent target
-command_with Form.Get (step, none) = Command.Get (step ∷ [])
+command_with Form.Get (path, none) = Command.Get path
+command_with Form.List (path, none) = Command.List path
+command_with Form.Cat (target, (path, none)) = Command.Cat target path
 command_with Form.Commit (branch, (date, (author, (message, none)))) = Command.Commit branch (record { date = date; author = author; message = message })
 command_with Form.Branch (name, (target, none)) = Command.Branch name target
 command_with Form.BranchRm (name, none) = Command.BranchRm name
 command_with Form.Branches values = Command.Branches
+command_with Form.Show (target, none) = Command.Show target
 command_with Form.Log (target, none) = Command.Log target
 command_with Form.Lcas (one, (other, none)) = Command.Lcas one other
 command_with Form.Hash (bytes, none) = Command.Hash bytes

@@ -1,12 +1,14 @@
 -- How far a text goes along with the fields of a line. The rule of the lines is the grammar; these say what the functions on the way to it find.
+--     with_byte path b      where a path stands by one more byte.      path_length text      how many bytes from the front may be part of a path
 --     field_length field text      how many bytes from the front may be part of the field.      is_whole_field field text n      whether so many are a whole one
 --     reach word fields line      how far a line goes along with a word and fields, and whether it is of them
-use Rattle.std.specs.Prelude.{ℕ, ◌+◌, ◌%◌, ◌==◌, Bool, true, false, ◌&&◌, ◌||◌, not, nat_lt, if◌then◌else◌, List, [], ◌∷◌, drop, min}
+use Rattle.std.specs.Prelude.{ℕ, ◌+◌, ◌-◌, ◌%◌, ◌==◌, Bool, true, false, ◌&&◌, ◌||◌, not, nat_lt, nat_le, if◌then◌else◌, List, [], ◌∷◌, length, drop, get_or, min, Option, Some, None}
 use Rattle.std.specs.List.{prefix_len}
 use Rattle.hex.specs.Hex.{is_hex_digit}
 use Rattle.ip_spec.specs.Path.{Bytes}
 use Rattle.ip_script.specs.declared.field.Field.{Field}
-use Rattle.ip_script.specs.declared.field.Field.TheVariants.{Step, Hex, Name, Reference, Date, Author, Message}
+use Rattle.ip_script.specs.declared.field.Field.TheVariants.{Path, Place, Hex, Name, Reference, Date, Author, Message}
+use Rattle.ip_script.specs.declared.field.Open.{Open}
 use Rattle.ip_script.specs.declared.line.Fit.{Fit}
 use Rattle.ip_script.specs.Dates.{date_length}
 
@@ -20,8 +22,31 @@ is_word_byte b = is_message_byte b && not (b == 32)
 abbrev pub is_step_byte : ℕ → Bool
 is_step_byte b = is_word_byte b && not (b == 47)
 
+-- A slash ends a step that has a byte and is not the 64th; another byte goes on with a step of fewer than 255.
+abbrev pub with_byte : Open → ℕ → Option Open
+with_byte path b =
+    if b == 47 && (nat_lt 0 path.size && nat_lt path.steps 63)
+    then Some (record { steps = path.steps + 1; size = 0 })
+    else (if is_step_byte b && nat_lt path.size 255
+    then Some (record { steps = path.steps; size = path.size + 1 })
+    else None)
+
+-- how many bytes a path goes on with
+abbrev pub path_on : Open → Bytes → ℕ
+path_on path [] = 0
+path_on path (b ∷ text) = elim (with_byte path b) [ None ↦ 0 | Some next ↦ 1 + path_on next text ]
+
+abbrev pub path_length : Bytes → ℕ
+path_length text = path_on (record { steps = 0; size = 0 }) text
+
+-- there are so many bytes, and the last of them is no slash
+abbrev pub ends_in_step : Bytes → ℕ → Bool
+ends_in_step text n = nat_lt 0 n && (nat_le n (length text) && not (get_or text (n - 1) 0 == 47))
+
 abbrev pub field_length : Field → Bytes → ℕ
-field_length Step text = min 255 (prefix_len is_step_byte text)
+field_length Path text = path_length text
+field_length Place [] = 0
+field_length Place (b ∷ text) = if b == 47 then 1 else path_length (b ∷ text)
 field_length Hex [] = 0
 field_length Hex (b ∷ text) = if b == 45 then 1 else prefix_len is_hex_digit (b ∷ text)
 field_length Name [] = 0
@@ -33,6 +58,9 @@ field_length Author text = min 255 (prefix_len is_word_byte text)
 field_length Message text = min 4096 (prefix_len is_message_byte text)
 
 abbrev pub is_whole_field : Field → Bytes → ℕ → Bool
+is_whole_field Path text n = ends_in_step text n
+is_whole_field Place [] n = ends_in_step [] n
+is_whole_field Place (b ∷ text) n = (b == 47) || ends_in_step (b ∷ text) n
 is_whole_field Hex [] n = false
 is_whole_field Hex (b ∷ text) n = (b == 45) || (nat_lt 0 n && n % 2 == 0)
 is_whole_field Reference (b ∷ text) n = if b == 64 then n == 65 else nat_lt 0 n

@@ -2,15 +2,16 @@
 ghost use Rattle.std.specs.Prelude.{◌≡◌, ◌≤◌, length};
 ghost use Rattle.std.specs.List.{prefix_len};
 ghost use Rattle.hex.specs.Hex.{is_hex_digit};
-ghost use Rattle.ip_script.specs.Fields.{is_message_byte, is_word_byte, is_step_byte, field_length, is_whole_field};
+ghost use Rattle.ip_script.specs.Fields.{is_message_byte, is_word_byte, is_step_byte, with_byte, path_length, ends_in_step, field_length, is_whole_field};
 
 use crate::date::date_at;
 
-/// What a word may say. A reference is a name, or `@` and the 64 digits of a commit's name. The bytes of a message are the rest of
-/// its line, so nothing stands behind it.
+/// What a word may say. A path has 1 to 64 steps, and a place is a path or `/`, the root. A reference is a name, or `@` and the 64 digits
+/// of a commit's name. The bytes of a message are the rest of its line, so nothing stands behind it.
 #[derive(Clone, Copy, Debug, PartialEq, Eq)]
 pub enum Field {
-    Step,
+    Path,
+    Place,
     Hex,
     Name,
     Reference,
@@ -59,11 +60,51 @@ fn word_length(text: &[u8]) -> usize
     text.iter().take_while(|byte| is_word_byte(**byte)).count()
 }
 
-fn step_length(text: &[u8]) -> usize
-    ensures value { result ≡ prefix_len is_step_byte text.now }
+// Where a path stands open: how many of its steps are whole, and how many bytes the one behind them has.
+#[derive(Clone, Copy, Debug, PartialEq, Eq)]
+struct Open {
+    steps: usize,
+    size: usize,
+}
+
+// The path by one more byte, where it goes on with it.
+fn with_byte(path: Open, byte: u8) -> Option<Open>
+    ensures { result ≡ with_byte path byte }
+{
+    if byte == b'/' && path.size > 0 && path.steps < 63 {
+        return Some(Open {
+            steps: path.steps + 1,
+            size: 0,
+        });
+    }
+    if is_step_byte(byte) && path.size < 255 {
+        return Some(Open {
+            steps: path.steps,
+            size: path.size + 1,
+        });
+    }
+    None
+}
+
+fn path_length(text: &[u8]) -> usize
+    ensures value { result ≡ path_length text.now }
     ensures bound { result ≤ length text.now }
 {
-    text.iter().take_while(|byte| is_step_byte(**byte)).count()
+    let mut path = Open { steps: 0, size: 0 };
+    for (at, byte) in text.iter().enumerate() {
+        match with_byte(path, *byte) {
+            Some(next) => path = next,
+            None => return at,
+        }
+    }
+    text.len()
+}
+
+// Whether there are so many bytes and the last of them is one of a step.
+fn ends_in_step(text: &[u8], length: usize) -> bool
+    ensures { result ≡ ends_in_step text.now length }
+{
+    length > 0 && length <= text.len() && text[length - 1] != b'/'
 }
 
 fn digits_length(text: &[u8]) -> usize
@@ -79,7 +120,12 @@ pub fn field_length(field: Field, text: &[u8]) -> usize
     ensures bound { result ≤ length text.now }
 {
     match field {
-        Field::Step => step_length(text).min(255),
+        Field::Path => path_length(text),
+        Field::Place => match text {
+            [] => 0,
+            [b'/', ..] => 1,
+            _ => path_length(text),
+        },
         Field::Hex => match text {
             [] => 0,
             [b'-', ..] => 1,
@@ -104,6 +150,9 @@ pub fn is_whole(field: Field, text: &[u8], length: usize) -> bool
     ensures { result ≡ is_whole_field field text.now length }
 {
     match (field, text) {
+        (Field::Path, _) => ends_in_step(text, length),
+        (Field::Place, [b'/', ..]) => true,
+        (Field::Place, _) => ends_in_step(text, length),
         (Field::Hex, []) => false,
         (Field::Hex, [b'-', ..]) => true,
         (Field::Hex, _) => length > 0 && length % 2 == 0,

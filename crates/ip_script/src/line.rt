@@ -5,9 +5,12 @@ ghost use Rattle.ip_base.specs.PathText.{space};
 ghost use Rattle.ip_spec.specs.Path.{Bytes};
 ghost use Rattle.ip_spec.specs.declared.command.Command.{Command};
 ghost use Rattle.ip_spec.specs.declared.command.LineFault.TheVariants as LineFault;
-ghost use Rattle.ip_spec.specs.Line.{Reads, IsServedLine, IsBadAt};
+ghost use Rattle.ip_spec.specs.Line.{Reads, IsBadAt};
+ghost use Rattle.ip_script.specs.Served.{IsServedLine};
 ghost use Rattle.ip_script.specs.Fields.{reach};
 ghost use Rattle.ip_script.specs.Forms.{word_of, fields_of, command_at};
+ghost use Rattle.ip_script.specs.Words.{left_of};
+ghost use Rattle.ip_script.specs.declared.line.Form.TheVariants as Form;
 
 use crate::field::{Field, field_length, is_whole};
 use crate::words::Words;
@@ -19,28 +22,40 @@ use std::alloc::Global;
 #[derive(Clone, Copy, Debug, PartialEq, Eq)]
 enum Form {
     Empty,
+    Checkout,
     Set,
+    Rm,
+    Graft,
     Parent,
     Get,
+    List,
+    Cat,
     Commit,
     Branch,
     BranchRm,
     Branches,
+    Show,
     Log,
     Lcas,
     Hash,
     Stat,
 }
 
-const FORMS: [Form; 12] = [
+const FORMS: [Form; 18] = [
     Form::Empty,
+    Form::Checkout,
     Form::Set,
+    Form::Rm,
+    Form::Graft,
     Form::Parent,
     Form::Get,
+    Form::List,
+    Form::Cat,
     Form::Commit,
     Form::Branch,
     Form::BranchRm,
     Form::Branches,
+    Form::Show,
     Form::Log,
     Form::Lcas,
     Form::Hash,
@@ -53,13 +68,19 @@ impl Form {
     {
         match self {
             Form::Empty => b"empty",
+            Form::Checkout => b"checkout",
             Form::Set => b"set",
+            Form::Rm => b"rm",
+            Form::Graft => b"graft",
             Form::Parent => b"parent",
             Form::Get => b"get",
+            Form::List => b"list",
+            Form::Cat => b"cat",
             Form::Commit => b"commit",
             Form::Branch => b"branch",
             Form::BranchRm => b"branch-rm",
             Form::Branches => b"branches",
+            Form::Show => b"show",
             Form::Log => b"log",
             Form::Lcas => b"lcas",
             Form::Hash => b"hash",
@@ -72,13 +93,19 @@ impl Form {
     {
         match self {
             Form::Empty => &[],
-            Form::Set => &[Field::Step, Field::Hex],
+            Form::Checkout => &[Field::Reference],
+            Form::Set => &[Field::Path, Field::Hex],
+            Form::Rm => &[Field::Path],
+            Form::Graft => &[Field::Reference, Field::Place, Field::Path],
             Form::Parent => &[Field::Reference],
-            Form::Get => &[Field::Step],
+            Form::Get => &[Field::Path],
+            Form::List => &[Field::Place],
+            Form::Cat => &[Field::Reference, Field::Path],
             Form::Commit => &[Field::Name, Field::Date, Field::Author, Field::Message],
             Form::Branch => &[Field::Name, Field::Reference],
             Form::BranchRm => &[Field::Name],
             Form::Branches => &[],
+            Form::Show => &[Field::Reference],
             Form::Log => &[Field::Reference],
             Form::Lcas => &[Field::Reference, Field::Reference],
             Form::Hash => &[Field::Hex],
@@ -130,12 +157,17 @@ fn command_of(alloc: Global, form: Form, text: &[u8]) -> Result<Command, Memory>
     let mut words = Words::new(text);
     match form {
         Form::Empty => Ok(Command::Empty),
+        Form::Checkout => Ok(Command::Checkout(words.target(alloc)?)),
         Form::Set => Ok(Command::Set {
             path: words.path(alloc)?,
             contents: words.contents(alloc)?,
         }),
+        Form::Rm => Ok(Command::Rm(words.path(alloc)?)),
+        Form::Graft => graft_of(alloc, words),
         Form::Parent => Ok(Command::Parent(words.target(alloc)?)),
         Form::Get => Ok(Command::Get(words.path(alloc)?)),
+        Form::List => Ok(Command::List(words.place(alloc)?)),
+        Form::Cat => cat_of(alloc, words),
         Form::Commit => Ok(Command::Commit {
             branch: words.text(alloc, Field::Name)?,
             info: words.info(alloc)?,
@@ -146,14 +178,40 @@ fn command_of(alloc: Global, form: Form, text: &[u8]) -> Result<Command, Memory>
         }),
         Form::BranchRm => Ok(Command::BranchRm(words.text(alloc, Field::Name)?)),
         Form::Branches => Ok(Command::Branches),
+        Form::Show => Ok(Command::Show(words.target(alloc)?)),
         Form::Log => Ok(Command::Log(words.target(alloc)?)),
-        Form::Lcas => Ok(Command::Lcas {
-            one: words.target(alloc)?,
-            other: words.target(alloc)?,
-        }),
+        Form::Lcas => lcas_of(alloc, words),
         Form::Hash => Ok(Command::Hash(words.contents(alloc)?)),
         Form::Stat => Ok(Command::Stat),
     }
+}
+
+fn graft_of(alloc: Global, mut words: Words<'_>) -> Result<Command, Memory>
+    ensures { IfOk result (λ command. command ≡ command_at Form.Graft (left_of words.entry)) }
+{
+    Ok(Command::Graft {
+        target: words.target(alloc)?,
+        from: words.place(alloc)?,
+        to: words.path(alloc)?,
+    })
+}
+
+fn cat_of(alloc: Global, mut words: Words<'_>) -> Result<Command, Memory>
+    ensures { IfOk result (λ command. command ≡ command_at Form.Cat (left_of words.entry)) }
+{
+    Ok(Command::Cat {
+        target: words.target(alloc)?,
+        path: words.path(alloc)?,
+    })
+}
+
+fn lcas_of(alloc: Global, mut words: Words<'_>) -> Result<Command, Memory>
+    ensures { IfOk result (λ command. command ≡ command_at Form.Lcas (left_of words.entry)) }
+{
+    Ok(Command::Lcas {
+        one: words.target(alloc)?,
+        other: words.target(alloc)?,
+    })
 }
 
 /// The command that a line spells, or how many of its bytes begin one. A line of one word takes no memory.

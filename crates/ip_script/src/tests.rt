@@ -20,22 +20,147 @@ fn lines_go_wrong_where_the_grammar_says(rt: HostRuntime) {
     let lines = [
         (b"".as_slice(), Some(0)),
         (b"comit", Some(3)),
+        (b"c", Some(1)),
         (b"em", Some(2)),
         (b"empty", None),
         (b"empty ", Some(5)),
-        (b"set  a 00", Some(4)),
+        (b"check", Some(5)),
+        (b"hash -0", Some(6)),
+        (b"hash 0g", Some(6)),
+        (b"stat", None),
+        (b"stat x", Some(4)),
+        (b"parents", Some(6)),
+        (b"branch-", Some(7)),
+        (b"branches", None),
+        (b"branches ", Some(8)),
+        (b"branches-rm x", Some(8)),
+        (b"show", Some(4)),
+        (b"show main", None),
+        (b"show main x", Some(9)),
+        (b"log", Some(3)),
+        (b"log main", None),
+        (b"log  main", Some(4)),
+        (b"look", Some(2)),
+        (b"merge dev main 0 a m", Some(0)),
+        (b"collect main", Some(2)),
+        (b"finish", Some(0)),
+        (b"cancel", Some(2)),
+    ];
+    for (line, want) in lines {
+        assert_eq!(rt; bad_at(rt.alloc(), line), want, "{line:?}");
+    }
+}
+
+#[test]
+fn paths_go_wrong_at_a_byte(rt: HostRuntime) {
+    let lines = [
+        (b"set  a 00".as_slice(), Some(4)),
         (b"set a", Some(5)),
         (b"set a -", None),
         (b"set a 0", Some(7)),
         (b"set a 0A", None),
         (b"set a 0A ", Some(8)),
+        (b"set a/b", Some(7)),
+        (b"set a/b 00", None),
+        (b"set a/ 00", Some(6)),
+        (b"set /a 00", Some(4)),
+        (b"set a//b 00", Some(6)),
+        (b"set a/b/ -", Some(8)),
+        (b"rm", Some(2)),
+        (b"rm ", Some(3)),
+        (b"rm a", None),
+        (b"rm a/b", None),
+        (b"rm a/", Some(5)),
+        (b"rm a b", Some(4)),
+        (b"rm /", Some(3)),
         (b"get a", None),
-        (b"get a//b", Some(5)),
-        (b"hash -0", Some(6)),
-        (b"hash 0g", Some(6)),
-        (b"stat", None),
-        (b"stat x", Some(4)),
-        (b"commit main 0 a m", None),
+        (b"get a/b/c", None),
+        (b"get /", Some(4)),
+        (b"get //", Some(4)),
+        (b"get a/", Some(6)),
+        (b"get a//b", Some(6)),
+        (b"get a/\0", Some(6)),
+    ];
+    for (line, want) in lines {
+        assert_eq!(rt; bad_at(rt.alloc(), line), want, "{line:?}");
+    }
+}
+
+#[test]
+fn places_are_paths_or_the_root(rt: HostRuntime) {
+    let lines = [
+        (b"graft".as_slice(), Some(5)),
+        (b"graft main", Some(10)),
+        (b"graft main ", Some(11)),
+        (b"graft main /", Some(12)),
+        (b"graft main / x", None),
+        (b"graft main a/b c/d", None),
+        (b"graft main / /", Some(13)),
+        (b"graft main / x y", Some(14)),
+        (b"graft main /a x", Some(12)),
+        (b"graft main a//b x", Some(13)),
+        (b"graft @x / y", Some(7)),
+        (b"list", Some(4)),
+        (b"list ", Some(5)),
+        (b"list /", None),
+        (b"list / ", Some(6)),
+        (b"list /a", Some(6)),
+        (b"list //", Some(6)),
+        (b"list a", None),
+        (b"list a/b", None),
+        (b"list a/", Some(7)),
+        (b"cat main", Some(8)),
+        (b"cat main a/b", None),
+        (b"cat main /", Some(9)),
+        (b"cat main a//b", Some(11)),
+        (b"cat @x a", Some(5)),
+    ];
+    for (line, want) in lines {
+        assert_eq!(rt; bad_at(rt.alloc(), line), want, "{line:?}");
+    }
+}
+
+#[test]
+fn names_and_references_go_wrong_at_a_byte(rt: HostRuntime) {
+    let lines = [
+        (b"checkout".as_slice(), Some(8)),
+        (b"checkout ", Some(9)),
+        (b"checkout main", None),
+        (b"checkout main x", Some(13)),
+        (b"checkout @x", Some(10)),
+        (b"parent", Some(6)),
+        (b"parent ", Some(7)),
+        (b"parent main", None),
+        (b"parent main ", Some(11)),
+        (b"parent a@", None),
+        (b"parent @", Some(8)),
+        (b"parent @main", Some(8)),
+        (b"branch", Some(6)),
+        (b"branch ", Some(7)),
+        (b"branch dev", Some(10)),
+        (b"branch dev main", None),
+        (b"branch dev main x", Some(15)),
+        (b"branch @x main", Some(7)),
+        (b"branch dev @0", Some(13)),
+        (b"branch-rm", Some(9)),
+        (b"branch-rm old", None),
+        (b"branch-rm old x", Some(13)),
+        (b"branch-rm @x", Some(10)),
+        (b"branch-rm\0", Some(9)),
+        (b"lcas main", Some(9)),
+        (b"lcas main ", Some(10)),
+        (b"lcas main dev", None),
+        (b"lcas main dev x", Some(13)),
+    ];
+    for (line, want) in lines {
+        assert_eq!(rt; bad_at(rt.alloc(), line), want, "{line:?}");
+    }
+}
+
+#[test]
+fn the_words_of_a_commit_go_wrong_at_a_byte(rt: HostRuntime) {
+    let lines = [
+        (b"commit main 0 a m".as_slice(), None),
         (b"commit main 0 a  m ", None),
         (b"commit @x 0 a m", Some(7)),
         (b"commit a@ 0 a m", None),
@@ -47,38 +172,6 @@ fn lines_go_wrong_where_the_grammar_says(rt: HostRuntime) {
         (b"commit main 0 a", Some(15)),
         (b"commit main 0 a ", Some(16)),
         (b"commit main 0 a \0", Some(16)),
-        (b"parent", Some(6)),
-        (b"parent ", Some(7)),
-        (b"parent main", None),
-        (b"parent main ", Some(11)),
-        (b"parent a@", None),
-        (b"parent @", Some(8)),
-        (b"parent @main", Some(8)),
-        (b"parents", Some(6)),
-        (b"branch", Some(6)),
-        (b"branch ", Some(7)),
-        (b"branch dev", Some(10)),
-        (b"branch dev main", None),
-        (b"branch dev main x", Some(15)),
-        (b"branch @x main", Some(7)),
-        (b"branch dev @0", Some(13)),
-        (b"branch-", Some(7)),
-        (b"branch-rm", Some(9)),
-        (b"branch-rm old", None),
-        (b"branch-rm old x", Some(13)),
-        (b"branch-rm @x", Some(10)),
-        (b"branch-rm\0", Some(9)),
-        (b"branches", None),
-        (b"branches ", Some(8)),
-        (b"branches-rm x", Some(8)),
-        (b"log", Some(3)),
-        (b"log main", None),
-        (b"log  main", Some(4)),
-        (b"look", Some(2)),
-        (b"lcas main", Some(9)),
-        (b"lcas main ", Some(10)),
-        (b"lcas main dev", None),
-        (b"lcas main dev x", Some(13)),
     ];
     for (line, want) in lines {
         assert_eq!(rt; bad_at(rt.alloc(), line), want, "{line:?}");
@@ -91,6 +184,11 @@ fn a_word_has_so_many_bytes_at_most(rt: HostRuntime) -> Result<(), Fail> {
     let rows = [
         (b"get ".as_slice(), 255, b"".as_slice(), None),
         (b"get ", 256, b"", Some(259)),
+        (b"get a/", 255, b"/b", None),
+        (b"get a/", 256, b"/b", Some(261)),
+        (b"set ", 255, b" 01", None),
+        (b"set ", 256, b" 01", Some(259)),
+        (b"list ", 256, b"", Some(260)),
         (b"commit ", 255, b" 0 a m", None),
         (b"commit ", 256, b" 0 a m", Some(262)),
         (b"commit b 0 ", 255, b" m", None),
@@ -110,6 +208,104 @@ fn a_word_has_so_many_bytes_at_most(rt: HostRuntime) -> Result<(), Fail> {
         assert_eq!(rt; bad_at(alloc, &line), want, "{front:?}");
     }
     Ok(())
+}
+
+#[test]
+fn a_path_has_64_steps(rt: HostRuntime) -> Result<(), Fail> {
+    let alloc = rt.alloc();
+    let rows = [
+        (b"set ".as_slice(), 64, b" 01".as_slice(), None),
+        (b"set ", 65, b" 01", Some(131)),
+        (b"set ", 64, b"/ 01", Some(131)),
+        (b"get ", 64, b"", None),
+        (b"get ", 65, b"", Some(131)),
+        (b"rm ", 64, b"", None),
+        (b"rm ", 65, b"", Some(130)),
+        (b"list ", 64, b"", None),
+        (b"list ", 65, b"", Some(132)),
+        (b"graft main ", 64, b" x", None),
+        (b"graft main ", 65, b" x", Some(138)),
+        (b"graft main / ", 64, b"", None),
+        (b"graft main / ", 65, b"", Some(140)),
+        (b"cat main ", 64, b"", None),
+        (b"cat main ", 65, b"", Some(136)),
+    ];
+    for (front, steps, back, want) in rows {
+        let mut line = Vec::from_slice(alloc, front)?;
+        for _ in 1..steps {
+            line.extend_from_slice(b"s/")?;
+        }
+        line.push(b's')?;
+        line.extend_from_slice(back)?;
+        assert_eq!(rt; bad_at(alloc, &line), want, "{front:?}");
+    }
+    Ok(())
+}
+
+// The last path of a line.
+fn last_path(command: Command) -> Option<Path> {
+    match command {
+        Command::Set { path, contents: _ } => Some(path),
+        Command::Rm(path) => Some(path),
+        Command::Graft {
+            target: _,
+            from: _,
+            to,
+        } => Some(to),
+        Command::Get(path) => Some(path),
+        Command::List(path) => Some(path),
+        Command::Cat { target: _, path } => Some(path),
+        _ => None,
+    }
+}
+
+fn has_steps(path: &Path, want: &[&[u8]]) -> bool {
+    let steps = path.steps();
+    if steps.len() != want.len() {
+        return false;
+    }
+    for at in 0..want.len() {
+        if steps[at].bytes() != want[at] {
+            return false;
+        }
+    }
+    true
+}
+
+fn reads_path(alloc: Global, line: &[u8], want: &[&[u8]]) -> bool {
+    match read_line(alloc, line) {
+        Ok(command) => match last_path(command) {
+            Some(path) => has_steps(&path, want),
+            None => false,
+        },
+        Err(_) => false,
+    }
+}
+
+#[test]
+fn paths_are_read(rt: HostRuntime) {
+    let alloc = rt.alloc();
+    assert!(rt; reads_path(alloc, b"get a", &[b"a"]));
+    assert!(rt; reads_path(alloc, b"set a/bc/@ 01", &[b"a", b"bc", b"@"]));
+    assert!(rt; reads_path(alloc, b"rm -/a", &[b"-", b"a"]));
+    assert!(rt; reads_path(alloc, b"graft main / x/y", &[b"x", b"y"]));
+    assert!(rt; reads_path(alloc, b"list /", &[]));
+    assert!(rt; reads_path(alloc, b"list ab/c", &[b"ab", b"c"]));
+    assert!(rt; reads_path(alloc, b"cat main a/b", &[b"a", b"b"]));
+    assert!(rt; !reads_path(alloc, b"get a/b", &[b"a"]));
+}
+
+#[test]
+fn a_graft_has_two_places(rt: HostRuntime) -> Result<(), Fail> {
+    match read_line(rt.alloc(), b"graft main a/b c") {
+        Ok(Command::Graft { target, from, to }) => {
+            assert!(rt; is_target(&target, b"main"));
+            assert!(rt; has_steps(&from, &[b"a", b"b"]));
+            assert!(rt; has_steps(&to, &[b"c"]));
+            Ok(())
+        }
+        _ => Err("no command")?,
+    }
 }
 
 // Each `H` stands for so many pairs of digits.
@@ -157,8 +353,16 @@ fn a_commit_has_64_digits(rt: HostRuntime) -> Result<(), Fail> {
 // The last reference of a line.
 fn last_reference(command: Command) -> Option<Target> {
     match command {
+        Command::Checkout(target) => Some(target),
+        Command::Graft {
+            target,
+            from: _,
+            to: _,
+        } => Some(target),
         Command::Parent(target) => Some(target),
+        Command::Cat { target, path: _ } => Some(target),
         Command::Branch { name: _, target } => Some(target),
+        Command::Show(target) => Some(target),
         Command::Log(target) => Some(target),
         Command::Lcas { one: _, other } => Some(other),
         _ => None,
@@ -197,6 +401,10 @@ fn references_are_read(rt: HostRuntime) -> Result<(), Fail> {
         (b"branch dev main", b"main"),
         (b"log a@", b"a@"),
         (b"lcas @0BH dev", b"dev"),
+        (b"checkout @0BH", name.as_slice()),
+        (b"graft main / x", b"main"),
+        (b"cat @0BH a/b", name.as_slice()),
+        (b"show main", b"main"),
     ];
     for (text, want) in rows {
         let line = with_digits(alloc, text, b"aF", 31)?;

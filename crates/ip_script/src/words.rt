@@ -1,14 +1,24 @@
 // What the words of a line say, one behind the other.
-ghost use Rattle.std.specs.Prelude.{◌≡◌, [], ◌∷◌, IfOk};
+ghost use Rattle.std.specs.Prelude.{◌≡◌, IfOk};
 ghost use Rattle.ip_script.specs.Dates.{date_value};
-ghost use Rattle.ip_script.specs.Words.{left_of, word_at, left_at, contents_of, hash_of, target_of, info_at};
+ghost use Rattle.ip_script.specs.Words.{left_of, word_at, left_at, path_at, place_at, contents_of, hash_of, target_of, info_at};
 ghost use Rattle.ip_script.specs.declared.field.Field.TheVariants as Field;
 
 use crate::date::date_at;
 use crate::field::{Field, field_length};
-use ip_base::{Blob, Hash, Info, Items, Memory, Path, Step};
+use ip_base::{Blob, Hash, Info, Items, Memory, Path};
 use ip_spec::command::Target;
 use std::alloc::Global;
+
+// The path that a word spells. The word was found to be one, so it is refused for want of memory alone.
+fn path_of(alloc: Global, word: &[u8]) -> Result<Path, Memory>
+    ensures { IfOk result (λ path. path ≡ path_at word.now) }
+{
+    match Path::read(alloc, word) {
+        Ok(path) => Ok(path),
+        Err(_) => Err(Memory),
+    }
+}
 
 // The name that digits spell. The word was found to have 64 of them.
 fn hash_of(digits: &[u8]) -> Hash
@@ -49,15 +59,24 @@ impl<'a> Words<'a> {
         word
     }
 
-    /// A path of one step.
+    /// A path of one step or more.
     pub fn path(&mut self, alloc: Global) -> Result<Path, Memory>
-        ensures value { IfOk result (λ path. path ≡ word_at Field.Step (left_of self.old) ∷ []) }
-        ensures left { left_of self.new ≡ left_at Field.Step (left_of self.old) }
+        ensures value { IfOk result (λ path. path ≡ path_at (word_at Field.Path (left_of self.old))) }
+        ensures left { left_of self.new ≡ left_at Field.Path (left_of self.old) }
     {
-        let step = self.text(alloc, Field::Step)?;
-        let mut steps = Items::empty(alloc);
-        steps.push(Step::of(step))?;
-        Ok(Path::of(steps))
+        path_of(alloc, self.next(Field::Path))
+    }
+
+    /// A path, or the root.
+    pub fn place(&mut self, alloc: Global) -> Result<Path, Memory>
+        ensures value { IfOk result (λ path. path ≡ place_at (word_at Field.Place (left_of self.old))) }
+        ensures left { left_of self.new ≡ left_at Field.Place (left_of self.old) }
+    {
+        let word = self.next(Field::Place);
+        match word {
+            [b'/', ..] => Ok(Path::of(Items::empty(alloc))),
+            _ => path_of(alloc, word),
+        }
     }
 
     /// Bytes by their digits. The word was found to be digits, so it is refused for want of memory alone.

@@ -7,7 +7,7 @@ use Rattle.std.specs.Fmt.{digits}
 use Rattle.std.proofs.lemmas.List.Elements.{All-from_recursion}
 use Rattle.ip_spec.specs.Record.{IsInfo, IsBranchName}
 use Rattle.ip_spec.specs.Machine.{Command, Target}
-use Rattle.ip_spec.specs.Line.{LineOf, first_word, forms_of, IsLineOf, IsServed, IsServedLine, Begins, IsBadAt}
+use Rattle.ip_spec.specs.Line.{LineOf, first_word, forms_of, IsLineOf, Begins, IsBadAt}
 
 abbrev StartsWith : Bytes → Bytes → Type 0
 StartsWith line head = (rest : Bytes) × (line ≡ head ++ rest)
@@ -136,46 +136,3 @@ digits_may_be_of_either_case = (codes "aB", (inr (lit≤ tt, lit< tt, inl refl),
 
 no_bytes_are_a_minus : IsLineOf (Command.Hash []) (codes "hash -")
 no_bytes_are_a_minus = (codes "-", refl, refl)
-
--- ---- lines that are not served yet
-
-none_served : (text : Bytes) → ((c : Command) → IsServed c → agree text (first_word c) ≡ false) → ¬ (Begins IsServedLine text)
-none_served text apart (c, rest, (served, is)) =
-    let s = starts c (text ++ rest) is in
-    no_true (apart c served) (agrees text (first_word c) rest s.0 s.1)
-  where
-    no_true : {b : Bool} → b ≡ false → b ≡ true → ⊥
-    no_true f t = cc
-
-loo_apart : (tail : Bytes) (c : Command) → IsServed c → agree (108 ∷ 111 ∷ 111 ∷ tail) (first_word c) ≡ false
-unfolding agree
-loo_apart tail Command.Empty served = refl
-loo_apart tail (Command.Set path bytes) served = refl
-loo_apart tail (Command.Parent target) served = refl
-loo_apart tail (Command.Get path) served = refl
-loo_apart tail (Command.Commit branch info) served = refl
-loo_apart tail (Command.Branch name target) served = refl
-loo_apart tail (Command.BranchRm name) served = refl
-loo_apart tail Command.Branches served = refl
-loo_apart tail (Command.Log target) served = refl
-loo_apart tail (Command.Lcas one other) served = refl
-loo_apart tail (Command.Hash bytes) served = refl
-loo_apart tail Command.Stat served = refl
-loo_apart tail _ served = absurd served
-
-log_line : IsServedLine (Command.Log (Target.Branch (codes "m"))) (codes "log m")
-log_line = (tt, (codes "m", (short_name, refl), refl))
-
-look_longest : (n : ℕ) → 2 < n → n ≤ 4 → ¬ (Begins IsServedLine (take n (codes "look")))
-look_longest zero l h = absurd (omega (arith, l))
-look_longest (suc zero) l h = absurd (omega (arith, l))
-look_longest (suc (suc zero)) l h = absurd (omega (arith, l))
-look_longest (suc (suc (suc n))) l h = none_served (108 ∷ 111 ∷ 111 ∷ take n (codes "k")) (loo_apart (take n (codes "k")))
-
-a_line_not_served_goes_wrong_where_the_served_ones_end : IsBadAt IsServedLine (codes "look") 2
-a_line_not_served_goes_wrong_where_the_served_ones_end = record {
-  no_command = λ c is. none_served (codes "look") (loo_apart (codes "k")) (c, [], is);
-  in_line = lit≤ tt;
-  begins = (Command.Log (Target.Branch (codes "m")), codes "g m", log_line);
-  longest = look_longest;
-}

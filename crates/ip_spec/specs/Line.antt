@@ -1,7 +1,6 @@
 -- The lines of a script: which bytes are which command, and where a line that is none goes wrong.
 --     IsPathText, IsHexText ..      of each word its texts.      LineOf head words line      a first word, and words of these forms behind a space each
 --     first_word, forms_of, IsLineOf command line      the lines of a command
---     IsServedLine command line      the lines of the commands that are served so far
 --     Begins IsLine text      some line of the grammar begins with the text.      IsBadAt IsLine line at      the line is of no command, and at is the length of its longest prefix that some line begins with
 --     Reads IsLine line result      what reading a line may answer
 use Rattle.std.specs.Prelude.{◌≡◌, ◌⊎◌, ℕ, ◌+◌, ◌/◌, ◌%◌, ◌<◌, ◌≤◌, List, [], ◌∷◌, ◌++◌, length, take, codes, Result, Ok, Err}
@@ -108,28 +107,9 @@ forms_of Command.Stat = []
 abbrev pub IsLineOf : Command → Bytes → Type 0
 IsLineOf command line = LineOf (first_word command) (forms_of command) line
 
--- The commands that are served so far, and of their paths those of one step. The others come with what they stand on.
-abbrev pub IsServed : Command → Type 0
-IsServed Command.Empty = Unit {0}
-IsServed (Command.Set path bytes) = length path ≡ 1
-IsServed (Command.Parent target) = Unit {0}
-IsServed (Command.Get path) = length path ≡ 1
-IsServed (Command.Commit branch info) = Unit {0}
-IsServed (Command.Branch name target) = Unit {0}
-IsServed (Command.BranchRm name) = Unit {0}
-IsServed Command.Branches = Unit {0}
-IsServed (Command.Log target) = Unit {0}
-IsServed (Command.Lcas one other) = Unit {0}
-IsServed (Command.Hash bytes) = Unit {0}
-IsServed Command.Stat = Unit {0}
-IsServed command = ⊥
-
 -- which lines each command has
 abbrev pub Grammar : Type 1
 Grammar = Command → Bytes → Type 0
-
-abbrev pub IsServedLine : Grammar
-IsServedLine command line = IsServed command × IsLineOf command line
 
 -- some line begins with the text
 abbrev pub Begins : Grammar → Bytes → Type 0

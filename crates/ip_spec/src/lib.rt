@@ -18,7 +18,7 @@ ghost use Rattle.ip_spec.specs.Merge.{Merges, Outcome, means};
 ghost use Rattle.ip_spec.specs.MergeModel.{Merger, merge_of, machine};
 ghost use Rattle.ip_spec.specs.Machine.{State, Command, Conditions};
 ghost use Rattle.ip_spec.specs.Step.{MayAnswer};
-ghost use Rattle.ip_spec.specs.Line.{IsLineOf, IsServedLine, IsBadAt};
+ghost use Rattle.ip_spec.specs.Line.{IsLineOf, IsBadAt};
 
 pub mod command;
 pub mod event;
@@ -64,10 +64,9 @@ pub fn turns()
         MayAnswer (λ p. means (f p)) s command met (machine f s command met) }
 {}
 
-/// A line that is no command goes wrong at one place at most, also while some commands are not served yet.
+/// A line that is no command goes wrong at one place at most.
 pub fn bad_lines()
-    ensures place { (line : Bytes) (a b : ℕ) → IsBadAt IsLineOf line a → IsBadAt IsLineOf line b → a ≡ b }
-    ensures served { (line : Bytes) (a b : ℕ) → IsBadAt IsServedLine line a → IsBadAt IsServedLine line b → a ≡ b }
+    ensures { (line : Bytes) (a b : ℕ) → IsBadAt IsLineOf line a → IsBadAt IsLineOf line b → a ≡ b }
 {}
 
 /// At one offset of some records stands one tree at most.

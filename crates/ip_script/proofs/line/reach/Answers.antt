@@ -1,5 +1,5 @@
 use Rattle.std.proofs.Common.{sym, ◌∙◌}
-use Rattle.ip_script.specs.declared.field.Field.TheVariants.{Step}
+use Rattle.ip_script.specs.declared.field.Field.TheVariants.{Hex}
 use Rattle.ip_script.proofs.ReachLemmas.{word_ends, word_differs, field_missing, no_space, fields_done}
 use Rattle.ip_script.proofs.line.reach.Goals as goal
 use Rattle.ip_script.proofs.line.reach.Goals.{then-at-line-via-then-at-line, then-at-line-via-else-at-line+then-line-at, then-at-line-2-via-then-at-line-2, then-at-line-2-via-else-at-line-2+then-line-at-ne32}
@@ -14,8 +14,8 @@ returns-then-at-line c =
 pub returns-then-at-line-2 : goal.returns-then-at-line-2
 returns-then-at-line-2 c =
     elim c.then-at-line-2.branch [
-      | then-at-line-2-via-then-at-line-2 w ↦ sym (c.loop-field.invariant.goes_on ∙ field_missing c.loop-field.at c.loop-field.field-index c.args.fields.now c.args.line.now Step c.loop-field-test.true w.if-at-line-2.true)
-      | then-at-line-2-via-else-at-line-2+then-line-at-ne32 w ↦ sym (c.loop-field.invariant.goes_on ∙ no_space c.loop-field.at c.loop-field.field-index c.args.fields.now c.args.line.now Step c.loop-field-test.true w.if-at-line-2.false w.if-line-at-ne32.true)
+      | then-at-line-2-via-then-at-line-2 w ↦ sym (c.loop-field.invariant.goes_on ∙ field_missing c.loop-field.at c.loop-field.field-index c.args.fields.now c.args.line.now Hex c.loop-field-test.true w.if-at-line-2.true)
+      | then-at-line-2-via-else-at-line-2+then-line-at-ne32 w ↦ sym (c.loop-field.invariant.goes_on ∙ no_space c.loop-field.at c.loop-field.field-index c.args.fields.now c.args.line.now Hex c.loop-field-test.true w.if-at-line-2.false w.if-line-at-ne32.true)
     ]
 
 pub returns : goal.returns
