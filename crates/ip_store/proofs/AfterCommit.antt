@@ -1,9 +1,11 @@
--- What the tables and the files hold after a commit.
---     same_tables      a store with the same tables.      after_tables, after_lawful      the tables and the work after the commit
---     can_step      what the durable step asks.      stands_old, stands_new      the images that it leaves
---     made, cut, refused      the relation of a commit that was made, that a fault cut short, and that was refused
-use Rattle.std.proofs.Common.{◌≡◌, ◌≢◌, ℕ, ◌+◌, ◌-◌, ◌^◌, ◌<◌, ◌≤◌, Bool, true, false, List, [], ◌∷◌, ◌++◌, length, Option, Some, None, sym, ◌∙◌, ap, subst, arith, length-append}
-use Rattle.std.specs.Prelude.{Result, Ok, Err, All, AllPairs, IsTrue, IfSome, nat_le, nat_lt, ◌&&◌, cond}
+-- What the tables, the work and the files hold after a commit.
+--     after_tables, after_parents      the tables and the parents after it, whatever is told
+--     can_step      what the durable step asks.      stands_new      the images that it leaves
+--     made, cut      the relation of a commit that was made, and of one that a fault cut short
+--     saved_tree      the tree at the batch's root, over the records of the image after it
+--     answers_refused, answers_made, goes_on_still      what is answered, and how the work goes on
+use Rattle.std.proofs.Common.{◌≡◌, ◌≢◌, ℕ, ◌+◌, ◌-◌, ◌^◌, ◌<◌, ◌≤◌, Bool, true, false, List, [], ◌∷◌, ◌++◌, length, map, Option, Some, None, refl, sym, ◌∙◌, ap, subst, arith, length-append}
+use Rattle.std.specs.Prelude.{Result, Ok, Err, All, AllPairs, IsTrue, IsFalse, IfSome, min, nat_le, nat_lt, ◌&&◌, cond}
 use Rattle.std.specs.List.{AllByRecursion}
 use Rattle.std.proofs.lemmas.List.{map-append}
 use Rattle.std.proofs.lemmas.List.Elements.{All-from_recursion, recursion_from_All}
@@ -19,72 +21,71 @@ use Rattle.ip_spec.specs.declared.command.Command.{Command}
 use Rattle.ip_spec.specs.declared.met.Met.{Met}
 use Rattle.ip_spec.specs.Machine.{State}
 use Rattle.ip_spec.specs.declared.record.Record.{Record}
+use Rattle.ip_spec.specs.declared.record.Ref.{Ref}
 use Rattle.ip_spec.specs.declared.reply.Reply.{Reply}
 use Rattle.ip_spec.specs.Map.{get, insert, get-insert}
 use Rattle.ip_spec.specs.Path.{Bytes, bytes_cmp}
-use Rattle.ip_spec.specs.Record.{Hash, IsHash, spelling, spelling_of}
+use Rattle.ip_spec.specs.Record.{Hash, IsHash}
 use Rattle.ip_spec.specs.Repository.{Repository, Commit, next, is_retained}
-use Rattle.ip_spec.specs.TreeAt.{Records}
+use Rattle.ip_spec.specs.Tree.{Tree, IsTree, is_contents, no_tree, widest}
+use Rattle.ip_spec.specs.TreeAt.{Records, TreeAt, present}
 use Rattle.ip_spec.specs.View.{View}
-use Rattle.ip_spec.specs.Batch.{Sources, CommitFields, AreEndToEnd, sources, tree_batch, batch}
-use Rattle.ip_spec.proofs.BatchLaws.{batch_lies}
-use Rattle.ip_spec.specs.Step.{new_commit, with_commit, turned, Turned, IsMet}
+use Rattle.ip_spec.specs.Batch.{AreEndToEnd, KnownStand, sources, with_batch}
+use Rattle.ip_spec.proofs.BatchLaws.{batch_lies, batch_stands, sources_stand}
+use Rattle.ip_spec.proofs.TreeAtLaws.{more_part}
+use Rattle.ip_spec.specs.Step.{as_parent, new_commit, with_commit, entries_limit, Turned, IsMet}
 use Rattle.ip_image.specs.declared.slot.Slot.{Slot}
 use Rattle.ip_image.specs.declared.layout.Layout.{Layout}
 use Rattle.ip_image.specs.Slot.{IsSlot, slot_bytes}
 use Rattle.ip_image.specs.Standing.{StandsFor, AreRetained}
-use Rattle.ip_image.specs.Appending.{BeginsWith, front_of, HasLive, unread, fields_of, next_slot, bytes_of_records}
-use Rattle.ip_image.proofs.AppendingLaws.{stands_next}
+use Rattle.ip_image.specs.Appending.{BeginsWith, front_of, HasLive, fields_of, next_slot}
+use Rattle.ip_image.proofs.AppendingLaws.{stands_grown}
+use Rattle.ip_image.proofs.TreeBatch.{found_together}
 use Rattle.ip_control.specs.Live.{live_slot}
 use Rattle.ip_history.specs.History.{History, HasParentsFirst}
 use Rattle.ip_history.proofs.Parents.{first_push}
+use Rattle.ip_tree.specs.declared.tree.Tree as lazy
+use Rattle.ip_tree.specs.Leaves.{HasLeavesOnly}
+use Rattle.ip_tree.specs.Meaning.{Spells}
+use Rattle.ip_tree.specs.TreeView.{IsView, stored_view}
+use Rattle.ip_tree.proofs.Stands.{known_stand}
 use Rattle.ip_store.specs.Histories.{with_parents, MayEnter}
 use Rattle.ip_store.specs.declared.committing.Plan.{Plan}
 use Rattle.ip_store.specs.declared.committing.StoreFault.{StoreFault}
 use Rattle.ip_store.specs.declared.store.Store.{Store}
 use Rattle.ip_store.specs.declared.work.Work.{Work}
-use Rattle.ip_store.specs.Commits.{IsPlan, IsRefusal, Commits, Answers, repository_after, fault_reply, met_of, conditions_of, met_nothing, records_of, end_of}
+use Rattle.ip_store.specs.Commits.{IsNext, IsPlan, IsRefusal, GoesOn, Commits, Answers, Turns, repository_after, fault_reply, met_of, conditions_of, met_nothing, records_of, end_of}
 use Rattle.ip_space.specs.SpaceView.{grown}
 use Rattle.ip_store.specs.Placed.{IsSpaceOf}
 use Rattle.ip_store.specs.Publishing.{StandsAs, CanStep, MakesStep}
-use Rattle.ip_store.specs.Store.{IsOf, Holds, SameTables, IsLawful, session}
+use Rattle.ip_store.specs.Store.{IsOf, Holds, SameTables, image_records}
+use Rattle.ip_store.specs.Work.{AreParents, IsLawful, IsAt, least_of, session}
 use Rattle.ip_store.proofs.Secured.{in_image, held_has}
-use Rattle.ip_store.proofs.Listed.{within_fits}
-use Rattle.ip_store.proofs.Stepping.{same_tables, space_same, space_next, may_step, changed, cut_short}
-use Rattle.ip_store.proofs.Hashes.{sha_is_hash}
+use Rattle.ip_store.proofs.Listed.{within_fits, same_records, leaves_only, records_below}
+use Rattle.ip_store.proofs.Stepping.{same_tables, same_holds, space_same, space_next, may_step, changed, stays_on, cut_short}
 use Rattle.ip_store.proofs.Histories.{history_committed}
 use Rattle.ip_store.proofs.Machine.{met_done}
 
--- ---- tables
+-- ---- tables, whatever is told
 
 all_append : {X : Type 0} (P : X → Type 0) (xs : List X) (x : X) → AllByRecursion P xs → P x → AllByRecursion P (xs ++ x ∷ [])
 all_append P [] x ps p = (p, tt)
 all_append P (y ∷ xs) x (q, ps) p = (q, all_append P xs x ps p)
 
-some_bytes : (xs : Records) (a b : ℕ × Record) → 0 < length (bytes_of_records (xs ++ a ∷ b ∷ []))
-unfolding spelling_of spelling
-some_bytes [] a b = omega (arith, length-append (spelling a.1) (spelling b.1 ++ []))
-some_bytes (x ∷ xs) a b = omega (arith, some_bytes xs a b, length-append (spelling x.1) (bytes_of_records (xs ++ a ∷ b ∷ [])))
-
-batch_has_bytes : (v : View) (from : Sources) (f : CommitFields) (end : ℕ) → 0 < length (bytes_of_records (batch v from f end))
-unfolding batch
-batch_has_bytes v from f end = some_bytes (tree_batch v from end) _ _
-
-module _ (r : Repository) (work : Work) (branch : Bytes) (info : Info) (store : Store) (plan : Plan) (of : IsOf store r) (is : IsPlan r work branch info store plan) where
-  abbrev commit : Commit
-  commit = new_commit r work.tree work.parents info
-
+-- a commit of the name that the plan has, and of these parents
+module _ (r : Repository) (parents : List ℕ) (branch : Bytes) (store : Store) (plan : Plan) (of : IsOf store r) (is : IsNext r branch store plan)
+    (commit : Commit) (named : commit.name ≡ plan.batch.name) (onto : commit.parents ≡ map (as_parent r) parents) where
   abbrev after : Repository
   after = with_commit r commit branch
 
   abbrev end : ℕ
-  end = end_of r work branch info store
+  end = store.slot.end + length plan.batch.bytes.items
 
   -- there is a record at least
   grows : store.slot.end < end
-  grows = let behind = is.behind in let some = subst (λ bytes. 0 < length bytes) (sym is.bytes) (batch_has_bytes _ _ _ _) in omega arith
+  grows = let some = is.some in omega (arith, some)
 
-  slot_after : IsSlot plan.slot
+  pub slot_after : IsSlot plan.slot
   slot_after = subst IsSlot (sym is.slot) next_is
     where
       next_is : IsSlot (next_slot store.slot end)
@@ -115,7 +116,7 @@ module _ (r : Repository) (work : Work) (branch : Bytes) (info : Info) (store : 
   next_after = omega (arith, length-append r.commits (commit ∷ []))
 
   retained_after : AreRetained plan.slot after.branches
-  retained_after = subst (λ (s : Slot). AreRetained s (insert r.branches branch (next r))) (sym is.slot) (record { each = each; few = is.may.room })
+  retained_after = subst (λ (s : Slot). AreRetained s (insert r.branches branch (next r))) (sym is.slot) (record { each = each; few = is.room })
     where
       by_test : (b : Bool) (o : Option ℕ) → IfSome o (λ n. (store.slot.floor ≤ n) × (n < store.slot.next)) → IfSome (cond b (Some (next r)) o) (λ n. (store.slot.floor ≤ n) × (n < store.slot.next + 1))
       by_test true o p = let low = of.slot.floor in let same = of.next in (omega arith, omega arith)
@@ -126,19 +127,19 @@ module _ (r : Repository) (work : Work) (branch : Bytes) (info : Info) (store : 
       each name = subst (λ o. IfSome o (λ n. (store.slot.floor ≤ n) × (n < store.slot.next + 1))) (sym (get-insert nat_list_cmp_total r.branches branch (next r) name)) (by_test (eq_by_cmp bytes_cmp name branch) (get r.branches name) (of.retained.each name))
 
   pub after_tables : (store' : Store) → store'.slot ≡ plan.slot → store'.index ≡ 1 - store.index → store'.names ≡ store.names ++ plan.batch.name ∷ [] → store'.branches ≡ insert store.branches plan.branch plan.number
-      → MayEnter store.history work.parents → store'.history ≡ with_parents store.history work.parents
+      → MayEnter store.history parents → store'.history ≡ with_parents store.history parents
       → store'.places.items ≡ store.places.items ++ plan.batch.commit_at ∷ [] → store'.space ≡ grown store.space plan.slot.end → IsOf store' after
   after_tables store' slot index names branches enters history places space = record {
     slot = subst IsSlot (sym slot) slot_after;
     index = subst (λ (i : ℕ). i < 2) (sym index) (omega arith);
     floor = of.floor ∙ ap (λ (s : Slot). s.floor) (sym is.slot) ∙ ap (λ (s : Slot). s.floor) (sym slot);
     next = next_after ∙ ap (λ (n : ℕ). n + 1) of.next ∙ ap (λ (s : Slot). s.next) (sym is.slot) ∙ ap (λ (s : Slot). s.next) (sym slot);
-    names = map-append (λ (c : Commit). c.name) r.commits (commit ∷ []) ∙ ap (λ ns. ns ++ commit.name ∷ []) of.names ∙ ap (λ n. store.names ++ n ∷ []) (sym is.name) ∙ sym names;
-    hashes = subst (All IsHash) (sym names) (All-from_recursion IsHash (store.names ++ plan.batch.name ∷ []) (all_append IsHash store.names plan.batch.name (recursion_from_All IsHash store.names of.hashes) (subst IsHash (sym is.name) (sha_is_hash _))));
+    names = map-append (λ (c : Commit). c.name) r.commits (commit ∷ []) ∙ ap (λ ns. ns ++ commit.name ∷ []) of.names ∙ ap (λ n. store.names ++ n ∷ []) named ∙ sym names;
+    hashes = subst (All IsHash) (sym names) (All-from_recursion IsHash (store.names ++ plan.batch.name ∷ []) (all_append IsHash store.names plan.batch.name (recursion_from_All IsHash store.names of.hashes) is.is_name));
     branches = ap (λ m. insert m branch (next r)) of.branches ∙ ap (λ b. insert store.branches b (next r)) (sym is.same_branch) ∙ ap (λ (n : ℕ). insert store.branches plan.branch n) (sym is.number) ∙ sym branches;
     retained = subst (λ (s : Slot). AreRetained s after.branches) (sym slot) retained_after;
-    history = history_committed r work.tree work.parents info branch ∙ ap (λ (h : History). with_parents h work.parents) of.history ∙ sym history;
-    parents_first = subst HasParentsFirst (sym history) (first_push store.history of.parents_first work.parents enters.1);
+    history = history_committed r commit parents branch onto ∙ ap (λ (h : History). with_parents h parents) of.history ∙ sym history;
+    parents_first = subst HasParentsFirst (sym history) (first_push store.history of.parents_first parents enters.1);
     space = space_same plan.slot store'.slot (grown store.space plan.slot.end) store'.space slot space
         (subst (λ (s : Slot). IsSpaceOf s (grown store.space s.end)) (sym is.slot) (space_next store.slot end store.space of.space));
     placed = ap length places ∙ (let was = of.placed in let e : length (store.places.items ++ plan.batch.commit_at ∷ []) ≡ length (r.commits ++ commit ∷ []) = omega (arith, was, length-append store.places.items (plan.batch.commit_at ∷ []), length-append r.commits (commit ∷ [])) in e);
@@ -150,11 +151,11 @@ module _ (r : Repository) (work : Work) (branch : Bytes) (info : Info) (store : 
       within : (floor n m : ℕ) → m ≡ n + 1 → (nat_le floor (floor + n) && nat_lt (floor + n) (floor + m)) ≡ true
       within floor n m e = grind (arith, nat_tests)
 
-  pub after_lawful : (work' : Work) → work'.parents ≡ next r ∷ [] → IsLawful after work'
-  after_lawful work' parents = record {
-    retained = subst (All (λ n. IsTrue (is_retained after n))) (sym parents) (All-from_recursion (λ n. IsTrue (is_retained after n)) (next r ∷ []) (next_retained, tt));
-    distinct = subst (AllPairs (λ m n. m ≢ n)) (sym parents) (λ i j d low high. absurd (omega (arith, low, high)));
-    few = subst (λ (ns : List ℕ). length ns ≤ 16) (sym parents) (omega arith);
+  pub after_parents : (ns : List ℕ) → ns ≡ next r ∷ [] → AreParents after ns
+  after_parents ns only = record {
+    retained = subst (All (λ n. IsTrue (is_retained after n))) (sym only) (All-from_recursion (λ n. IsTrue (is_retained after n)) (next r ∷ []) (next_retained, tt));
+    distinct = subst (AllPairs (λ m n. m ≢ n)) (sym only) (λ i j d low high. absurd (omega (arith, low, high)));
+    few = subst (λ (ns : List ℕ). length ns ≤ 16) (sym only) (omega arith);
   }
 
   -- the space goes on as far
@@ -168,71 +169,167 @@ module _ (r : Repository) (work : Work) (branch : Bytes) (info : Info) (store : 
   pub inside : plan.slot.end ≤ 2 ^ 62
   inside = subst (λ (s : Slot). s.end ≤ 2 ^ 62) (sym is.slot) is.ends
 
-  -- ---- files
-
-  newer : store.slot.sequence < plan.slot.sequence
+  pub newer : store.slot.sequence < plan.slot.sequence
   newer = subst (λ (s : Slot). store.slot.sequence < s.sequence) (sym is.slot) (omega arith)
 
-  ends : store.slot.end + length plan.batch.bytes.items ≡ plan.slot.end
-  ends = sym is.behind ∙ ap (λ (s : Slot). s.end) (sym is.slot)
+  pub ends : store.slot.end + length plan.batch.bytes.items ≡ plan.slot.end
+  ends = ap (λ (s : Slot). s.end) (sym is.slot)
 
-  after_is : repository_after r work branch info ≡ after
+-- some commit of the plan's name, where nothing is told of the tree
+abbrev pub some_commit : Repository → List ℕ → Info → Plan → Commit
+some_commit r parents info plan = record { name = plan.batch.name; parents = map (as_parent r) parents; info = info; tree = no_tree }
+
+-- what the step asks needs no view
+pub can_step : (r : Repository) (parents : List ℕ) (branch : Bytes) (info : Info) (store : Store) (plan : Plan) (of : IsOf store r) → IsNext r branch store plan → (a : Told) → Holds store a r → CanStep store.slot.end (1 - store.index) plan.slot a
+can_step r parents branch info store plan of is a held =
+    let c = some_commit r parents info plan in
+    may_step r (with_commit r c branch) store plan.slot plan.batch.bytes.items of (slot_after r parents branch store plan of is c refl refl) (newer r parents branch store plan of is c refl refl) (ends r parents branch store plan of is c refl refl) a held
+
+-- ---- the files, where the tree has this view
+
+-- what `Tree::of` says of the tree that it gives
+abbrev pub IsRead : ℕ → Ref → lazy.Tree → Type 0
+IsRead number root tree = (records : ℕ → Option Record) (map : Tree) → IsFalse (is_contents map) → Spells records root map → IsTree map → widest map ≤ entries_limit → HasLeavesOnly records → IsView records tree (stored_view records number root.at map)
+
+pub read_root : (number : ℕ) (given root : Ref) (tree : lazy.Tree) → given ≡ root → IsRead number given tree → IsRead number root tree
+read_root number given root tree same read = subst (λ (at : Ref). IsRead number at tree) same read
+
+module _ (r : Repository) (work : Work) (v : View) (branch : Bytes) (info : Info) (store : Store) (plan : Plan) (coming : IsNext r branch store plan) (is : IsPlan r work v branch info store plan) (a : Told) (at : IsAt a store r work v) where
+  abbrev held : Holds store a r
+  held = at.holds
+
+  abbrev of : IsOf store r
+  of = held.tables
+
+  abbrev commit : Commit
+  commit = new_commit r v.map work.parents info
+
+  abbrev made_is : Repository
+  made_is = with_commit r commit branch
+
+  abbrev all : Records
+  all = records_of r work v branch info store
+
+  slot_there : IsSlot plan.slot
+  slot_there = slot_after r work.parents branch store plan of coming commit (sym is.name) refl
+
+  sequence_on : store.slot.sequence < plan.slot.sequence
+  sequence_on = newer r work.parents branch store plan of coming commit (sym is.name) refl
+
+  ends_there : store.slot.end + length plan.batch.bytes.items ≡ plan.slot.end
+  ends_there = ends r work.parents branch store plan of coming commit (sym is.name) refl
+
+  slot_is : plan.slot ≡ next_slot store.slot (end_of r work v branch info store)
+  slot_is = coming.slot ∙ ap (λ (n : ℕ). next_slot store.slot n) (sym is.behind)
+
+  pub after_is : repository_after r work v branch info ≡ made_is
   after_is = ap (λ (t : Turned). t.1.repository) is.turn
 
-  module _ (a : Told) (held : Holds store a r) where
-    pub can_step : CanStep store.slot.end (1 - store.index) plan.slot a
-    can_step = may_step r after store plan.slot plan.batch.bytes.items of slot_after newer ends a held
+  known : KnownStand (image_records held) v store.slot.end
+  known = known_stand (image_records held) work.tree v store.slot.end at.lawful.tree (records_below store a r held)
 
-    stands_new : (image : Image) → StandsAs (live_slot (1 - store.index) (slot_bytes plan.slot)) (front_of store.slot.end a.held ++ plan.batch.bytes.items) image → StandsFor image (repository_after r work branch info)
-    stands_new image (live, begins) = subst (StandsFor image) (sym after_is)
-        (stands_next a.held image r store.slot work.tree work.parents info branch held.stands (held_has store r a held) is.may is.within
-        (subst (λ (s : Slot). HasLive s image) is.slot (in_image (1 - store.index) plan.slot image slot_after live))
-        (subst (λ bytes. BeginsWith (front_of store.slot.end a.held ++ bytes) (image (Chunk 0))) is.bytes begins))
+  stands_new : (image : Image) → StandsAs (live_slot (1 - store.index) (slot_bytes plan.slot)) (front_of store.slot.end a.held ++ plan.batch.bytes.items) image → StandsFor image (repository_after r work v branch info)
+  stands_new image (live, begins) = subst (StandsFor image) (sym after_is)
+      (stands_grown a.held image r store.slot v work.parents info branch held.stands (held_has store r a held) is.may known is.within
+      (subst (λ (s : Slot). HasLive s image) slot_is (in_image (1 - store.index) plan.slot image slot_there live))
+      (subst (λ bytes. BeginsWith (front_of store.slot.end a.held ++ bytes) (image (Chunk 0))) is.bytes begins)).0
 
-    pub made : (b : Told) (store' : Store) → store'.slot ≡ plan.slot → store'.index ≡ 1 - store.index → IsOf store' after
-        → store'.places.items ≡ store.places.items ++ plan.batch.commit_at ∷ [] → (name : Hash) → MakesStep store.slot.end plan.batch.bytes.items (1 - store.index) plan.slot (Ok tt) a b
-        → Commits r work branch info (Ok name) store' a b
-    made b store' slot index tables places name step =
-        changed r (repository_after r work branch info) store plan.slot plan.batch.bytes.items of slot_after newer ends a held stands_new name b store' slot index (subst (IsOf store') (sym after_is) tables)
-        (records_of r work branch info store) (within_fits store.slot of.slot (records_of r work branch info store) is.within)
-        (subst (λ (n : ℕ). AreEndToEnd store.slot.end (records_of r work branch info store) n) (ap (λ (s : Slot). s.end) (sym is.slot)) (batch_lies (unread work.tree) (sources (unread work.tree)) (fields_of r work.parents info branch) store.slot.end))
-        is.bytes (places ∙ ap (λ (ps : List ℕ). store.places.items ++ ps) (sym is.place)) step
+  all_lie : AreEndToEnd store.slot.end all plan.slot.end
+  all_lie = subst (λ (n : ℕ). AreEndToEnd store.slot.end all n) (is.behind ∙ ends_there) (batch_lies v (sources v) (fields_of r work.parents info branch) store.slot.end)
 
-    -- a fault of the ground cut it short
-    pub cut : (b : Told) (store' : Store) (res : Result (Unit {0}) GroundFault) → MakesStep store.slot.end plan.batch.bytes.items (1 - store.index) plan.slot res a b → Commits r work branch info (Err StoreFault.Ground) store' a b
-    cut b store' res step = cut_short r (repository_after r work branch info) store plan.slot plan.batch.bytes.items of slot_after newer ends a held stands_new b store' res step
+  abbrev Step : Told → Result (Unit {0}) GroundFault → Type 0
+  Step b res = MakesStep store.slot.end plan.batch.bytes.items (1 - store.index) plan.slot res a b
+
+  pub made : (b : Told) (store' : Store) → store'.slot ≡ plan.slot → store'.index ≡ 1 - store.index → IsOf store' made_is
+      → store'.places.items ≡ store.places.items ++ plan.batch.commit_at ∷ [] → (name : Hash) → Step b (Ok tt) → Commits r work v branch info (Ok name) store' a b
+  made b store' slot index tables places name step =
+      changed r (repository_after r work v branch info) store plan.slot plan.batch.bytes.items of slot_there sequence_on ends_there a held stands_new name b store' slot index (subst (IsOf store') (sym after_is) tables)
+      all (within_fits store.slot of.slot all is.within) all_lie is.bytes (places ∙ ap (λ (ps : List ℕ). store.places.items ++ ps) (sym is.place)) step
+
+  pub held_after : (b : Told) (store' : Store) (name : Hash) → Commits r work v branch info (Ok name) store' a b → Holds store' b made_is
+  held_after b store' name is = subst (Holds store' b) after_is is.ok
+
+  -- a fault of the ground cut it short
+  pub cut : (b : Told) (store' : Store) (res : Result (Unit {0}) GroundFault) → Step b res → Commits r work v branch info (Err StoreFault.Ground) store' a b
+  cut b store' res step = cut_short r (repository_after r work v branch info) store plan.slot plan.batch.bytes.items of slot_there sequence_on ends_there a held stands_new b store' res step
+
+  -- ---- the records after it
+
+  module _ (b : Told) (store' : Store) (step : Step b (Ok tt)) (q : Repository) (now : Holds store' b q) where
+    pub list_on : now.stands.standing.records ≡ held.stands.standing.records ++ all
+    list_on = stays_on r made_is store plan.slot plan.batch.bytes.items of slot_there sequence_on ends_there a held
+        (λ image stands. subst (StandsFor image) after_is (stands_new image stands)) q b store' all (within_fits store.slot of.slot all is.within) all_lie is.bytes step now
+
+    spelled : TreeAt (with_batch (image_records held) all) plan.batch.root.at v.map
+    spelled = subst (λ (root : Ref). TreeAt (with_batch (image_records held) all) root.at v.map) (sym is.root)
+        (batch_stands (image_records held) v (sources v) store.slot.end known (sources_stand (image_records held) v store.slot.end known) at.lawful.tree.lawful (fields_of r work.parents info branch))
+
+    found : (place : ℕ) (x : Record) → with_batch (image_records held) all place ≡ Some x → image_records now place ≡ Some x
+    found place x there = subst (λ (rs : Records). present rs place ≡ Some x) (sym list_on)
+        (found_together held.stands.standing.records all store.slot.end plan.slot.end (records_below store a r held) all_lie place x there)
+
+    pub saved_tree : (tree : lazy.Tree) → IsRead plan.number plan.batch.root tree → IsView (image_records now) tree (stored_view (image_records now) (next r) plan.batch.root.at v.map)
+    saved_tree tree read = subst (λ (n : ℕ). IsView (image_records now) tree (stored_view (image_records now) n plan.batch.root.at v.map)) coming.number
+        (read (image_records now) v.map spelled.0
+        (record {
+          part = more_part (with_batch (image_records held) all) (image_records now) found spelled.1;
+          kind = ap (λ (root : Ref). root.kind) is.root;
+          name = ap (λ (root : Ref). root.name) is.root;
+        })
+        at.lawful.tree.lawful at.lawful.tree.narrow (leaves_only store' b q now))
+
+    pub work_after : (work' : Work) → IsRead plan.number plan.batch.root work'.tree → work'.parents ≡ plan.parents → work'.least ≡ Some plan.number → q ≡ made_is
+        → IsLawful (image_records now) q work' (stored_view (image_records now) (next r) plan.batch.root.at v.map)
+    work_after work' read parents least same = record {
+      tree = saved_tree work'.tree read;
+      short = at.lawful.short;
+      parents = subst (λ (p : Repository). AreParents p work'.parents) (sym same) (after_parents r work.parents branch store plan of coming commit (sym is.name) refl work'.parents (parents ∙ coming.parents));
+      least = least ∙ ap Some (coming.number ∙ twice (next r)) ∙ ap (λ (ns : List ℕ). least_of (stored_view (image_records now) (next r) plan.batch.root.at v.map) ns) (sym (parents ∙ coming.parents));
+    }
+      where
+        twice : (n : ℕ) → n ≡ min n n
+        twice n = omega arith
+
+-- ---- answers
 
 -- the answer of a refusal
-pub answers_refused : (r : Repository) (work : Work) (branch : Bytes) (info : Info) (fault : StoreFault) (store : Store) → IsOf store r → IsLawful r work → IsRefusal r work branch info fault
-    → IfSome (fault_reply fault) (λ reply. Answers (session r work) (Command.Commit branch info) (met_of fault) reply store work)
-answers_refused r work branch info fault store of lawful is = by_reply (fault_reply fault) is
+pub answers_refused : (r : Repository) (work : Work) (v : View) (branch : Bytes) (info : Info) (fault : StoreFault) (store : Store) (told : Told) → IsAt told store r work v → IsRefusal r work v branch info fault
+    → IfSome (fault_reply fault) (λ reply. Answers told (session r work v) (Command.Commit branch info) (met_of fault) reply store work)
+answers_refused r work v branch info fault store told at is = by_reply (fault_reply fault) is
   where
-    by_reply : (o : Option Reply) → IfSome o (λ reply. IsMet (session r work) (Command.Commit branch info) (conditions_of (met_of fault)) reply
-        × (turned (session r work) (Command.Commit branch info) (conditions_of (met_of fault)) ≡ (reply, session r work)))
-        → IfSome o (λ reply. Answers (session r work) (Command.Commit branch info) (met_of fault) reply store work)
+    by_reply : (o : Option Reply) → IfSome o (λ reply. Turns (session r work v) (Command.Commit branch info) (met_of fault) reply (session r work v))
+        → IfSome o (λ reply. Answers told (session r work v) (Command.Commit branch info) (met_of fault) reply store work)
     by_reply None is = tt
-    by_reply (Some reply) (met, turn) = record { after = r; is_met = met; turn = turn; tables = of; lawful = lawful }
+    by_reply (Some reply) turns = record { after = r; view = v; turns = turns; is_at = at }
 
 -- the answer of a commit that was made
-pub answers_made : (r : Repository) (work work' : Work) (branch : Bytes) (info : Info) (store store' : Store) (plan : Plan) (name : Hash) → r.floor ≡ 0 → IsPlan r work branch info store plan
-    → name ≡ plan.batch.name → work' ≡ record { tree = work.tree; parents = plan.parents; least = Some plan.number } → IsOf store' (with_commit r (new_commit r work.tree work.parents info) branch) → IsLawful (with_commit r (new_commit r work.tree work.parents info) branch) work'
-    → Answers (session r work) (Command.Commit branch info) met_nothing (Reply.Committed name) store' work'
-answers_made r work work' branch info store store' plan name none is named work_is of lawful =
-    let name_is : name ≡ (new_commit r work.tree work.parents info).name = named ∙ is.name in
-    let work_after : work' ≡ record { tree = work.tree; parents = next r ∷ []; least = Some (next r) } =
-    work_is ∙ ap (λ (ns : List ℕ). record { tree = work.tree; parents = ns; least = Some plan.number }) is.parents ∙ ap (λ (n : ℕ). record { tree = work.tree; parents = next r ∷ []; least = Some n }) is.number in
+pub answers_made : (r : Repository) (work work' : Work) (v v' : View) (branch : Bytes) (info : Info) (store store' : Store) (plan : Plan) (name : Hash) (told : Told) → r.floor ≡ 0 → IsNext r branch store plan → IsPlan r work v branch info store plan
+    → name ≡ plan.batch.name → v'.map ≡ v.map → work'.parents ≡ plan.parents → work'.least ≡ Some plan.number → IsAt told store' (with_commit r (new_commit r v.map work.parents info) branch) work' v'
+    → Answers told (session r work v) (Command.Commit branch info) met_nothing (Reply.Committed name) store' work'
+answers_made r work work' v v' branch info store store' plan name told none coming is named same parents least at =
+    let name_is : name ≡ (new_commit r v.map work.parents info).name = named ∙ is.name in
+    let after = with_commit r (new_commit r v.map work.parents info) branch in
     record {
-      after = with_commit r (new_commit r work.tree work.parents info) branch;
-      is_met = subst (λ h. IsMet (session r work) (Command.Commit branch info) (conditions_of met_nothing) (Reply.Committed h)) (sym name_is) (met_done r work branch info none);
-      turn = is.turn ∙ ap (λ h. (Reply.Committed h, session (with_commit r (new_commit r work.tree work.parents info) branch) (record { tree = work.tree; parents = next r ∷ []; least = Some (next r) }))) (sym name_is)
-          ∙ ap (λ w. (Reply.Committed name, session (with_commit r (new_commit r work.tree work.parents info) branch) w)) (sym work_after);
-      tables = of;
-      lawful = lawful;
+      after = after;
+      view = v';
+      turns = (
+        subst (λ h. IsMet (session r work v) (Command.Commit branch info) (conditions_of met_nothing) (Reply.Committed h)) (sym name_is) (met_done r work v branch info none),
+        is.turn ∙ (λ i. (Reply.Committed (sym name_is i), record { repository = after; phase = (session after work' v').phase; work = record { tree = sym same i; parents = sym (parents ∙ coming.parents) i; least = sym (least ∙ ap Some coming.number) i } })),
+      );
+      is_at = at;
     }
 
 -- ---- the same store, with what was met
 
+pub same_at : (store store' : Store) → SameTables store store' → (told : Told) (r : Repository) (work : Work) (v : View) → IsAt told store r work v → IsAt told store' r work v
+same_at store store' same told r work v at =
+    let holds = same_holds store store' same r told at.holds in
+    record { holds = holds; lawful = subst (λ (records : ℕ → Option Record). IsLawful records r work v) (same_records told store store' r r at.holds holds) at.lawful }
+
 pub same_answers : (store store' : Store) → SameTables store store'
-    → (s : State) (command : Command) (met : Met) (work : Work) (o : Option Reply) → IfSome o (λ reply. Answers s command met reply store work) → IfSome o (λ reply. Answers s command met reply store' work)
-same_answers store store' same s command met work None p = tt
-same_answers store store' same s command met work (Some reply) p = record { after = p.after; is_met = p.is_met; turn = p.turn; tables = same_tables store store' same p.after p.tables; lawful = p.lawful }
+    → (told : Told) (s : State) (command : Command) (met : Met) (work : Work) (o : Option Reply) → IfSome o (λ reply. Answers told s command met reply store work) → IfSome o (λ reply. Answers told s command met reply store' work)
+same_answers store store' same told s command met work None p = tt
+same_answers store store' same told s command met work (Some reply) p = record { after = p.after; view = p.view; turns = p.turns; is_at = same_at store store' same told p.after work p.view p.is_at }
+
+pub same_goes_on : (store store' : Store) → SameTables store store' → (work : Work) → GoesOn store work → GoesOn store' work
+same_goes_on store store' same work on = record { repository = on.repository; tables = same_tables store store' same on.repository on.tables; parents = on.parents }

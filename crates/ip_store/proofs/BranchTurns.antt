@@ -2,7 +2,7 @@
 --     answers_fault, answers_done      where a refusal stands against a command, and where none does
 --     set_refused, set_answers      setting a branch.      remove_none, remove_answers      taking one away
 --     set_may, set_fits, remove_fits      the records
-use Rattle.std.proofs.Common.{◌≡◌, ℕ, ◌<◌, true, false, Option, Some, None, refl, ◌∙◌, ap, arith, length-append}
+use Rattle.std.proofs.Common.{◌≡◌, ℕ, List, ◌<◌, true, false, Option, Some, None, refl, ◌∙◌, ap, arith, length-append}
 use Rattle.std.specs.Prelude.{Result, Ok, Err, if◌then◌else◌, is_none, IsTrue, IfSome, nat_le, nat_lt, ◌&&◌}
 use Rattle.std.proofs.lemmas.Bool.Decides.{nat_tests}
 use Rattle.ip_base.specs.declared.limit.Limit.{Limit}
@@ -16,22 +16,22 @@ use Rattle.ip_spec.specs.Map.{remove, retain_keys, same_entries_map}
 use Rattle.ip_spec.specs.Path.{Bytes}
 use Rattle.ip_spec.specs.Record.{Fits, IsBranchName, body, short_text, u64}
 use Rattle.ip_spec.specs.Repository.{Repository, next, head, is_retained}
-use Rattle.ip_spec.specs.Machine.{State}
+use Rattle.ip_spec.specs.Machine.{State, Work}
 use Rattle.ip_spec.specs.Step.{IsMet, MayRefuse, MayBeShort, Refused, Turned, outcome, turned, answer, or_refused, state_with_exit, resolve, present, not_leaving, room_for_branch, enough, with_branch, ◌>>◌, ◌>>=◌}
 use Rattle.ip_image.specs.Appending.{MayName}
 use Rattle.ip_store.specs.declared.committing.StoreFault.{StoreFault}
 use Rattle.ip_store.specs.declared.store.Store.{Store}
-use Rattle.ip_store.specs.declared.work.Work.{Work}
-use Rattle.ip_store.specs.Commits.{Answers, conditions_of, met_nothing, met_of, met_by, short_of, fault_reply, refusal}
-use Rattle.ip_store.specs.Naming.{branch_reply, AnswersSet, AnswersRemove, Renames, without_branch}
-use Rattle.ip_store.specs.Store.{IsOf, IsLawful, session, SameTables}
+use Rattle.ip_store.specs.Commits.{Turns, conditions_of, met_nothing, met_of, met_by, short_of, fault_reply, refusal}
+use Rattle.ip_store.specs.Naming.{branch_reply, AnswersBranch, AnswersSet, AnswersRemove, Renames, without_branch}
+use Rattle.ip_store.specs.Store.{IsOf, SameTables}
+use Rattle.ip_store.specs.Work.{AreParents, state_at}
 use Rattle.ip_store.proofs.Keyed.{absent_stays}
 use Rattle.ip_store.proofs.Planning.{room_after}
 use Rattle.ip_store.proofs.Stepping.{same_tables}
 
 module _ (r : Repository) (work : Work) (command : Command) (may : MayRefuse command Child.NotAsked) where
   abbrev s : State
-  s = session r work
+  s = state_at r work
 
   plain : (reply : Reply) → IsMet s command (conditions_of met_nothing) reply
   plain reply = record {
@@ -86,24 +86,38 @@ module _ (r : Repository) (work : Work) (command : Command) (may : MayRefuse com
   unfolding turned
   memory_turn = refl
 
-  module _ (store : Store) where
-    pub answers_reply : (reply : Reply) → outcome s command (conditions_of met_nothing) ≡ Err reply → IsOf store r → IsLawful r work → Answers s command met_nothing reply store work
-    answers_reply reply is of lawful = record { after = r; is_met = plain reply; turn = turn_is met_nothing (Err reply) refl is; tables = of; lawful = lawful }
+  refused_turn : (reply : Reply) → outcome s command (conditions_of met_nothing) ≡ Err reply → Turns s command met_nothing reply s
+  refused_turn reply is = (plain reply, turn_is met_nothing (Err reply) refl is)
 
-    pub answers_memory : IsOf store r → IsLawful r work → Answers s command (met_of StoreFault.Memory) Reply.Memory store work
-    answers_memory of lawful = record { after = r; is_met = wanting; turn = memory_turn; tables = of; lawful = lawful }
+  limit_turn : (limit : Limit) → outcome s command (conditions_of (met_of (StoreFault.Limit limit))) ≡ Err (Reply.Limit limit) → Turns s command (met_of (StoreFault.Limit limit)) (Reply.Limit limit) s
+  limit_turn limit is = (short limit (short_so limit), turn_is (met_of (StoreFault.Limit limit)) (Err (Reply.Limit limit)) refl is)
 
-    pub answers_fault : (fault : StoreFault) → outcome s command (conditions_of (met_of fault)) ≡ Err (refusal fault) → IsOf store r → IsLawful r work
-        → IfSome (fault_reply fault) (λ reply. Answers s command (met_of fault) reply store work)
-    answers_fault (StoreFault.HeadMoved name) is of lawful = answers_reply (Reply.HeadMoved name) is of lawful
-    answers_fault (StoreFault.Existing name) is of lawful = answers_reply (Reply.Existing name) is of lawful
-    answers_fault (StoreFault.Limit limit) is of lawful = record { after = r; is_met = short limit (short_so limit); turn = turn_is (met_of (StoreFault.Limit limit)) (Err (Reply.Limit limit)) refl is; tables = of; lawful = lawful }
-    answers_fault StoreFault.Memory is of lawful = answers_memory of lawful
-    answers_fault StoreFault.Ground is of lawful = tt
-    answers_fault (StoreFault.Damaged at names) is of lawful = tt
+  memory_turns : Turns s command (met_of StoreFault.Memory) Reply.Memory s
+  memory_turns = (wanting, memory_turn)
 
-    pub answers_done : (reply : Reply) (after : Repository) → outcome s command (conditions_of met_nothing) ≡ Ok (reply, session after work) → IsOf store after → IsLawful after work → Answers s command met_nothing reply store work
-    answers_done reply after is of lawful = record { after = after; is_met = plain reply; turn = turn_is met_nothing (Ok (reply, session after work)) refl is; tables = of; lawful = lawful }
+  done_turn : (reply : Reply) (after : Repository) → outcome s command (conditions_of met_nothing) ≡ Ok (reply, state_at after work) → Turns s command met_nothing reply (state_at after work)
+  done_turn reply after is = (plain reply, turn_is met_nothing (Ok (reply, state_at after work)) refl is)
+
+-- whatever the work is
+module _ (r : Repository) (command : Command) (may : MayRefuse command Child.NotAsked) (store : Store) where
+  answers_reply : (reply : Reply) → ((work : Work) → outcome (state_at r work) command (conditions_of met_nothing) ≡ Err reply) → IsOf store r → AnswersBranch r command met_nothing reply store
+  answers_reply reply is of = record { after = r; turns = λ work. refused_turn r work command may reply (is work); tables = of; parents = λ ns are. are }
+
+  answers_memory : IsOf store r → AnswersBranch r command (met_of StoreFault.Memory) Reply.Memory store
+  answers_memory of = record { after = r; turns = λ work. memory_turns r work command may; tables = of; parents = λ ns are. are }
+
+  answers_fault : (fault : StoreFault) → ((work : Work) → outcome (state_at r work) command (conditions_of (met_of fault)) ≡ Err (refusal fault)) → IsOf store r
+      → IfSome (fault_reply fault) (λ reply. AnswersBranch r command (met_of fault) reply store)
+  answers_fault (StoreFault.HeadMoved name) is of = answers_reply (Reply.HeadMoved name) is of
+  answers_fault (StoreFault.Existing name) is of = answers_reply (Reply.Existing name) is of
+  answers_fault (StoreFault.Limit limit) is of = record { after = r; turns = λ work. limit_turn r work command may limit (is work); tables = of; parents = λ ns are. are }
+  answers_fault StoreFault.Memory is of = answers_memory of
+  answers_fault StoreFault.Ground is of = tt
+  answers_fault (StoreFault.Damaged at names) is of = tt
+
+  answers_done : (reply : Reply) (after : Repository) → ((work : Work) → outcome (state_at r work) command (conditions_of met_nothing) ≡ Ok (reply, state_at after work)) → IsOf store after
+      → ((ns : List ℕ) → AreParents r ns → AreParents after ns) → AnswersBranch r command met_nothing reply store
+  answers_done reply after is of parents = record { after = after; turns = λ work. done_turn r work command may reply after (is work); tables = of; parents = parents }
 
 -- ---- setting a branch
 
@@ -112,37 +126,36 @@ module _ (r : Repository) (name : Bytes) (number : ℕ) where
   after = with_branch r name number
 
   behind : Work → Met → Refused Turned
-  behind work met = enough (conditions_of met) Limit.Space >> (enough (conditions_of met) Limit.Sequence >> Ok (Reply.Accepted, session after work))
+  behind work met = enough (conditions_of met) Limit.Space >> (enough (conditions_of met) Limit.Sequence >> Ok (Reply.Accepted, state_at after work))
 
-  set_outcome : (work : Work) (target : Target) (met : Met) → resolve r target ≡ Ok number → outcome (session r work) (Command.Branch name target) (conditions_of met) ≡ (room_for_branch r name >> behind work met)
+  set_outcome : (work : Work) (target : Target) (met : Met) → resolve r target ≡ Ok number → outcome (state_at r work) (Command.Branch name target) (conditions_of met) ≡ (room_for_branch r name >> behind work met)
   unfolding outcome behind
-  set_outcome work target met is = ap (λ (g : Refused ℕ). g >>= (λ n. not_leaving (session r work) (Some n) >> (room_for_branch r name >> (enough (conditions_of met) Limit.Space >> (enough (conditions_of met) Limit.Sequence >> Ok (Reply.Accepted, session (with_branch r name n) work)))))) is
+  set_outcome work target met is = ap (λ (g : Refused ℕ). g >>= (λ n. not_leaving (state_at r work) (Some n) >> (room_for_branch r name >> (enough (conditions_of met) Limit.Space >> (enough (conditions_of met) Limit.Sequence >> Ok (Reply.Accepted, state_at (with_branch r name n) work)))))) is
 
-  same_lawful : (work : Work) → IsLawful r work → IsLawful after work
-  same_lawful work l = record { retained = l.retained; distinct = l.distinct; few = l.few }
+  set_parents : (ns : List ℕ) → AreParents r ns → AreParents after ns
+  set_parents ns are = record { retained = are.retained; distinct = are.distinct; few = are.few }
 
   -- there is no room for one more
   pub set_refused : (store : Store) (fault : StoreFault) → room_for_branch r name ≡ Err (refusal fault) → IsOf store r → IfSome (branch_reply (Err fault)) (AnswersSet r name number (met_of fault) store)
-  set_refused store fault full of = by (fault_reply fault) (λ work target lawful is.
-      answers_fault r work (Command.Branch name target) tt store fault (set_outcome work target (met_of fault) is ∙ ap (λ g. g >> behind work (met_of fault)) full) of lawful)
+  set_refused store fault full of = by (fault_reply fault) (λ target is.
+      answers_fault r (Command.Branch name target) tt store fault (λ work. set_outcome work target (met_of fault) is ∙ ap (λ g. g >> behind work (met_of fault)) full) of)
     where
-      by : (o : Option Reply) → ((work : Work) (target : Target) → IsLawful r work → resolve r target ≡ Ok number → IfSome o (λ reply. Answers (session r work) (Command.Branch name target) (met_of fault) reply store work))
-          → IfSome o (AnswersSet r name number (met_of fault) store)
+      by : (o : Option Reply) → ((target : Target) → resolve r target ≡ Ok number → IfSome o (λ reply. AnswersBranch r (Command.Branch name target) (met_of fault) reply store)) → IfSome o (AnswersSet r name number (met_of fault) store)
       by None all = tt
       by (Some reply) all = all
 
   -- the record's bytes could not be taken
   pub set_memory : (store : Store) → IsOf store r → AnswersSet r name number (met_of StoreFault.Memory) store Reply.Memory
-  set_memory store of work target lawful is = answers_memory r work (Command.Branch name target) tt store of lawful
+  set_memory store of target is = answers_memory r (Command.Branch name target) tt store of
 
   pub set_answers : (store : Store) (result : Result (Unit {0}) StoreFault) → room_for_branch r name ≡ Ok tt → Renames r (Record.BranchSet number name) result store → IfSome (branch_reply result) (AnswersSet r name number (met_by result) store)
   unfolding behind
-  set_answers store (Ok u) room of = λ work target lawful is.
-      answers_done r work (Command.Branch name target) tt store Reply.Accepted after (set_outcome work target met_nothing is ∙ ap (λ g. g >> behind work met_nothing) room) of (same_lawful work lawful)
-  set_answers store (Err (StoreFault.Limit Limit.Space)) room of = λ work target lawful is.
-      answers_fault r work (Command.Branch name target) tt store (StoreFault.Limit Limit.Space) (set_outcome work target (met_of (StoreFault.Limit Limit.Space)) is ∙ ap (λ g. g >> behind work (met_of (StoreFault.Limit Limit.Space))) room) of lawful
-  set_answers store (Err (StoreFault.Limit Limit.Sequence)) room of = λ work target lawful is.
-      answers_fault r work (Command.Branch name target) tt store (StoreFault.Limit Limit.Sequence) (set_outcome work target (met_of (StoreFault.Limit Limit.Sequence)) is ∙ ap (λ g. g >> behind work (met_of (StoreFault.Limit Limit.Sequence))) room) of lawful
+  set_answers store (Ok u) room of = λ target is.
+      answers_done r (Command.Branch name target) tt store Reply.Accepted after (λ work. set_outcome work target met_nothing is ∙ ap (λ g. g >> behind work met_nothing) room) of set_parents
+  set_answers store (Err (StoreFault.Limit Limit.Space)) room of = λ target is.
+      answers_fault r (Command.Branch name target) tt store (StoreFault.Limit Limit.Space) (λ work. set_outcome work target (met_of (StoreFault.Limit Limit.Space)) is ∙ ap (λ g. g >> behind work (met_of (StoreFault.Limit Limit.Space))) room) of
+  set_answers store (Err (StoreFault.Limit Limit.Sequence)) room of = λ target is.
+      answers_fault r (Command.Branch name target) tt store (StoreFault.Limit Limit.Sequence) (λ work. set_outcome work target (met_of (StoreFault.Limit Limit.Sequence)) is ∙ ap (λ g. g >> behind work (met_of (StoreFault.Limit Limit.Sequence))) room) of
   set_answers store (Err StoreFault.Memory) room of = set_memory store of
   set_answers store (Err StoreFault.Ground) room of = tt
   set_answers store (Err (StoreFault.Limit _)) room of = absurd of
@@ -183,9 +196,9 @@ some_in (Some n) e = (n, refl)
 
 module _ (r : Repository) (name : Bytes) where
   gone : Work → Met → Refused Turned
-  gone work met = enough (conditions_of met) Limit.Space >> (enough (conditions_of met) Limit.Sequence >> Ok (Reply.Accepted, session (without_branch r name) work))
+  gone work met = enough (conditions_of met) Limit.Space >> (enough (conditions_of met) Limit.Sequence >> Ok (Reply.Accepted, state_at (without_branch r name) work))
 
-  remove_outcome : (work : Work) (met : Met) → outcome (session r work) (Command.BranchRm name) (conditions_of met) ≡ (present (head r name) (Reply.NoBranch name) >> gone work met)
+  remove_outcome : (work : Work) (met : Met) → outcome (state_at r work) (Command.BranchRm name) (conditions_of met) ≡ (present (head r name) (Reply.NoBranch name) >> gone work met)
   unfolding outcome gone
   remove_outcome work met = refl
 
@@ -193,24 +206,24 @@ module _ (r : Repository) (name : Bytes) where
   there o n is = ap (λ p. present p (Reply.NoBranch name)) is
 
   pub remove_none : (store : Store) → IsOf store r → head r name ≡ None → AnswersRemove r name met_nothing store (Reply.NoBranch name)
-  remove_none store of none work lawful =
-      answers_reply r work (Command.BranchRm name) tt store (Reply.NoBranch name) (remove_outcome work met_nothing ∙ ap (λ o. present o (Reply.NoBranch name) >> gone work met_nothing) none) of lawful
+  remove_none store of none =
+      answers_reply r (Command.BranchRm name) tt store (Reply.NoBranch name) (λ work. remove_outcome work met_nothing ∙ ap (λ o. present o (Reply.NoBranch name) >> gone work met_nothing) none) of
 
   pub remove_memory : (store : Store) → IsOf store r → AnswersRemove r name (met_of StoreFault.Memory) store Reply.Memory
-  remove_memory store of work lawful = answers_memory r work (Command.BranchRm name) tt store of lawful
+  remove_memory store of = answers_memory r (Command.BranchRm name) tt store of
 
   pub remove_done : (store : Store) (n : ℕ) → head r name ≡ Some n → IsOf store (without_branch r name) → AnswersRemove r name met_nothing store Reply.Accepted
   unfolding gone
-  remove_done store n is of work lawful =
-      answers_done r work (Command.BranchRm name) tt store Reply.Accepted (without_branch r name) (remove_outcome work met_nothing ∙ ap (λ o. present o (Reply.NoBranch name) >> gone work met_nothing) is) of
-      (record { retained = lawful.retained; distinct = lawful.distinct; few = lawful.few })
+  remove_done store n is of =
+      answers_done r (Command.BranchRm name) tt store Reply.Accepted (without_branch r name) (λ work. remove_outcome work met_nothing ∙ ap (λ o. present o (Reply.NoBranch name) >> gone work met_nothing) is) of
+      (λ ns are. record { retained = are.retained; distinct = are.distinct; few = are.few })
 
   pub remove_cut : (store : Store) (n : ℕ) (fault : StoreFault) → head r name ≡ Some n → Renames r (Record.BranchRemove name) (Err fault) store → IfSome (fault_reply fault) (AnswersRemove r name (met_of fault) store)
   unfolding gone
-  remove_cut store n (StoreFault.Limit Limit.Space) is of = λ work lawful.
-      answers_fault r work (Command.BranchRm name) tt store (StoreFault.Limit Limit.Space) (remove_outcome work (met_of (StoreFault.Limit Limit.Space)) ∙ ap (λ o. present o (Reply.NoBranch name) >> gone work (met_of (StoreFault.Limit Limit.Space))) is) of lawful
-  remove_cut store n (StoreFault.Limit Limit.Sequence) is of = λ work lawful.
-      answers_fault r work (Command.BranchRm name) tt store (StoreFault.Limit Limit.Sequence) (remove_outcome work (met_of (StoreFault.Limit Limit.Sequence)) ∙ ap (λ o. present o (Reply.NoBranch name) >> gone work (met_of (StoreFault.Limit Limit.Sequence))) is) of lawful
+  remove_cut store n (StoreFault.Limit Limit.Space) is of =
+      answers_fault r (Command.BranchRm name) tt store (StoreFault.Limit Limit.Space) (λ work. remove_outcome work (met_of (StoreFault.Limit Limit.Space)) ∙ ap (λ o. present o (Reply.NoBranch name) >> gone work (met_of (StoreFault.Limit Limit.Space))) is) of
+  remove_cut store n (StoreFault.Limit Limit.Sequence) is of =
+      answers_fault r (Command.BranchRm name) tt store (StoreFault.Limit Limit.Sequence) (λ work. remove_outcome work (met_of (StoreFault.Limit Limit.Sequence)) ∙ ap (λ o. present o (Reply.NoBranch name) >> gone work (met_of (StoreFault.Limit Limit.Sequence))) is) of
   remove_cut store n StoreFault.Memory is of = remove_memory store of
   remove_cut store n StoreFault.Ground is of = tt
   remove_cut store n (StoreFault.Damaged at names) is of = absurd of
@@ -230,13 +243,13 @@ module _ (r : Repository) (name : Bytes) where
 -- ---- the same store, with what was met
 
 module _ (store store' : Store) (same : SameTables store store') (r : Repository) (name : Bytes) where
-  same_answer : (s : State) (command : Command) (met : Met) (reply : Reply) (work : Work) → Answers s command met reply store work → Answers s command met reply store' work
-  same_answer s command met reply work p = record { after = p.after; is_met = p.is_met; turn = p.turn; tables = same_tables store store' same p.after p.tables; lawful = p.lawful }
+  same_answer : (command : Command) (met : Met) (reply : Reply) → AnswersBranch r command met reply store → AnswersBranch r command met reply store'
+  same_answer command met reply p = record { after = p.after; turns = p.turns; tables = same_tables store store' same p.after p.tables; parents = p.parents }
 
   pub same_set : (number : ℕ) (met : Met) (o : Option Reply) → IfSome o (AnswersSet r name number met store) → IfSome o (AnswersSet r name number met store')
   same_set number met None all = tt
-  same_set number met (Some reply) all = λ work target lawful is. same_answer (session r work) (Command.Branch name target) met reply work (all work target lawful is)
+  same_set number met (Some reply) all = λ target is. same_answer (Command.Branch name target) met reply (all target is)
 
   pub same_removed : (met : Met) (o : Option Reply) → IfSome o (AnswersRemove r name met store) → IfSome o (AnswersRemove r name met store')
   same_removed met None all = tt
-  same_removed met (Some reply) all = λ work lawful. same_answer (session r work) (Command.BranchRm name) met reply work (all work lawful)
+  same_removed met (Some reply) all = same_answer (Command.BranchRm name) met reply all

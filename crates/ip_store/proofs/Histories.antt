@@ -16,12 +16,10 @@ use Rattle.ip_spec.specs.declared.record.CommitRecord.{CommitRecord}
 use Rattle.ip_spec.specs.declared.record.Parent.{Parent}
 use Rattle.ip_spec.specs.Record.{Fits}
 use Rattle.ip_spec.specs.Path.{Bytes}
-use Rattle.ip_spec.specs.Tree.{Tree}
-use Rattle.ip_base.specs.declared.info.Info.{Info}
 use Rattle.ip_spec.specs.TreeAt.{Records}
 use Rattle.ip_spec.specs.Repository.{Repository, Commit, CommitParent, commit_at, is_retained, next}
 use Rattle.ip_spec.specs.History.{parents_at, retained, retained_number, ancestors, common}
-use Rattle.ip_spec.specs.Step.{as_parent, new_commit, with_commit}
+use Rattle.ip_spec.specs.Step.{as_parent, with_commit}
 use Rattle.ip_image.specs.Standing.{RecordFits, terms_of, outside, commit_of, commits_in, parent_of}
 use Rattle.ip_history.specs.History.{History, HasParentsFirst, Holds, Shows, listed, history_of}
 use Rattle.ip_history.proofs.Parents.{first_push}
@@ -127,10 +125,10 @@ known_parents : (r : Repository) (ns : List ℕ) → filter_map (λ (p : CommitP
 known_parents r [] = refl
 known_parents r (n ∷ ns) = ap (λ (ms : List ℕ). n ∷ ms) (known_parents r ns)
 
-pub history_committed : (r : Repository) (tree : Tree) (parents : List ℕ) (info : Info) (branch : Bytes) → history_of (with_commit r (new_commit r tree parents info) branch) ≡ with_parents (history_of r) parents
-history_committed r tree parents info branch =
-    ap (λ (ns : List (List ℕ)). record { floor = r.floor; parents = ns }) (map-append (λ (c : Commit). filter_map (λ (p : CommitParent). p.number) c.parents) r.commits (new_commit r tree parents info ∷ [])
-    ∙ ap (λ (ns : List ℕ). (history_of r).parents ++ ns ∷ []) (known_parents r parents))
+pub history_committed : (r : Repository) (c : Commit) (parents : List ℕ) (branch : Bytes) → c.parents ≡ map (as_parent r) parents → history_of (with_commit r c branch) ≡ with_parents (history_of r) parents
+history_committed r c parents branch from =
+    ap (λ (ns : List (List ℕ)). record { floor = r.floor; parents = ns }) (map-append (λ (c : Commit). filter_map (λ (p : CommitParent). p.number) c.parents) r.commits (c ∷ [])
+    ∙ ap (λ (ns : List ℕ). (history_of r).parents ++ ns ∷ []) (ap (filter_map (λ (p : CommitParent). p.number)) from ∙ known_parents r parents))
 
 module _ (store : Store) (r : Repository) (of : IsOf store r) where
   history_size : length store.history.parents ≡ length r.commits

@@ -3,16 +3,18 @@ mod Making
 mod Sizes
 mod Spelling
 mod Keyed
-mod Flat
-mod Kept
 mod Fronts
 mod Steps
 mod Tables
 mod Machine
+mod BatchKinds
+mod SpelledTrees
 mod Hashes
 mod Planning
 pub mod Secured
-mod Stepping
+pub mod Stepping
+pub mod Editing
+mod NestedTests
 mod Renamed
 mod BranchTurns
 mod AfterCommit
@@ -28,9 +30,4 @@ mod OpenedImages
 pub mod Listed
 mod Showing
 mod OpenedStores
-mod Lawful
-mod Fitting
-mod Placing
 mod Listing
-mod Laying
-mod Whole

@@ -11,12 +11,13 @@ use Rattle.ip_spec.specs.declared.reply.Reply.{Reply}
 use Rattle.ip_spec.specs.Path.{Bytes}
 use Rattle.ip_spec.specs.Repository.{Repository, Commit, head, name_at}
 use Rattle.ip_spec.specs.Machine.{State}
+use Rattle.ip_spec.specs.View.{View}
 use Rattle.ip_spec.specs.Step.{IsMet, Refused, Turned, outcome, turned, answer, or_refused, state_with_exit, MayBeShort, below, unless_some, not_given_up, head_among_parents, moved_head, room_for_branch, not_existing, enough, new_commit, ◌>>◌}
 use Rattle.ip_store.specs.declared.work.Work.{Work}
 use Rattle.ip_image.specs.declared.slot.Slot.{Slot}
 use Rattle.ip_store.specs.declared.committing.StoreFault.{StoreFault}
 use Rattle.ip_store.specs.Commits.{met_nothing, met_of, short_of, conditions_of, refusal, refused_by, SlotBehind, IsRefusal, committed}
-use Rattle.ip_store.specs.Store.{session}
+use Rattle.ip_store.specs.Work.{session}
 
 -- what an answer is refused by
 pub if_err_is : {T : Type 0} (result : Result T StoreFault) (fault : StoreFault) (P : StoreFault → Type 0) → result ≡ Err fault → P fault → IfErr result P
@@ -25,15 +26,15 @@ if_err_is result fault P is p = subst (λ x. IfErr x P) (sym is) p
 no_less : (n : ℕ) → nat_lt n 0 ≡ false
 no_less n = grind (arith, nat_tests)
 
-module _ (r : Repository) (work : Work) (branch : Bytes) (info : Info) (none_below : r.floor ≡ 0) where
+module _ (r : Repository) (work : Work) (v : View) (branch : Bytes) (info : Info) (none_below : r.floor ≡ 0) where
   abbrev s : State
-  s = session r work
+  s = session r work v
 
   abbrev commit : Commit
-  commit = new_commit r work.tree work.parents info
+  commit = new_commit r v.map work.parents info
 
   abbrev done : Turned
-  done = committed r work branch info
+  done = committed r work v branch info
 
   below_none : (least : Option ℕ) → below r.floor least ≡ None
   below_none None = refl
@@ -114,7 +115,7 @@ module _ (r : Repository) (work : Work) (branch : Bytes) (info : Info) (none_bel
   met_done = met_with met_nothing (Reply.Committed commit.name) refl
 
   -- a fault that one of the refusals gives
-  by_fault : (fault : StoreFault) → ((met : Met) → chain met ≡ Err (refusal fault)) → IsRefusal r work branch info fault
+  by_fault : (fault : StoreFault) → ((met : Met) → chain met ≡ Err (refusal fault)) → IsRefusal r work v branch info fault
   by_fault (StoreFault.HeadMoved name) is = (met_with met_nothing (Reply.HeadMoved name) refl, turn_refused met_nothing (Reply.HeadMoved name) refl (is met_nothing))
   by_fault (StoreFault.Existing name) is = (met_with met_nothing (Reply.Existing name) refl, turn_refused met_nothing (Reply.Existing name) refl (is met_nothing))
   by_fault (StoreFault.Limit limit) is = (met_short limit (short_so limit), turn_refused (met_of (StoreFault.Limit limit)) (Reply.Limit limit) refl (is (met_of (StoreFault.Limit limit))))
@@ -122,27 +123,27 @@ module _ (r : Repository) (work : Work) (branch : Bytes) (info : Info) (none_bel
   by_fault StoreFault.Ground is = tt
   by_fault (StoreFault.Damaged at names) is = tt
 
-  pub refused_memory : IsRefusal r work branch info StoreFault.Memory
+  pub refused_memory : IsRefusal r work v branch info StoreFault.Memory
   refused_memory = (met_memory, turn_memory)
 
   abbrev pub Head : Refused (Unit {0})
   Head = unless_some (moved_head (head r branch) work.parents) (λ n. Reply.HeadMoved (name_at r n))
 
-  pub refused_head : (fault : StoreFault) → Head ≡ refused_by (Err fault) → IsRefusal r work branch info fault
+  pub refused_head : (fault : StoreFault) → Head ≡ refused_by (Err fault) → IsRefusal r work v branch info fault
   refused_head fault is = by_fault fault (λ met. ap (λ g. g >> (room_for_branch r branch >> (not_existing r commit.name >> (enough (conditions_of met) Limit.Space >> (enough (conditions_of met) Limit.Sequence >> Ok done))))) is)
 
   module _ (head_is : Head ≡ Ok tt) where
     behind_head : (met : Met) → chain met ≡ (room_for_branch r branch >> (not_existing r commit.name >> (enough (conditions_of met) Limit.Space >> (enough (conditions_of met) Limit.Sequence >> Ok done))))
     behind_head met = ap (λ g. g >> (room_for_branch r branch >> (not_existing r commit.name >> (enough (conditions_of met) Limit.Space >> (enough (conditions_of met) Limit.Sequence >> Ok done))))) head_is
 
-    pub refused_room : (fault : StoreFault) → room_for_branch r branch ≡ refused_by (Err fault) → IsRefusal r work branch info fault
+    pub refused_room : (fault : StoreFault) → room_for_branch r branch ≡ refused_by (Err fault) → IsRefusal r work v branch info fault
     refused_room fault is = by_fault fault (λ met. behind_head met ∙ ap (λ g. g >> (not_existing r commit.name >> (enough (conditions_of met) Limit.Space >> (enough (conditions_of met) Limit.Sequence >> Ok done)))) is)
 
     module _ (room_is : room_for_branch r branch ≡ Ok tt) where
       behind_room : (met : Met) → chain met ≡ (not_existing r commit.name >> (enough (conditions_of met) Limit.Space >> (enough (conditions_of met) Limit.Sequence >> Ok done)))
       behind_room met = behind_head met ∙ ap (λ g. g >> (not_existing r commit.name >> (enough (conditions_of met) Limit.Space >> (enough (conditions_of met) Limit.Sequence >> Ok done)))) room_is
 
-      pub refused_name : (fault : StoreFault) → not_existing r commit.name ≡ refused_by (Err fault) → IsRefusal r work branch info fault
+      pub refused_name : (fault : StoreFault) → not_existing r commit.name ≡ refused_by (Err fault) → IsRefusal r work v branch info fault
       refused_name fault is = by_fault fault (λ met. behind_room met ∙ ap (λ g. g >> (enough (conditions_of met) Limit.Space >> (enough (conditions_of met) Limit.Sequence >> Ok done))) is)
 
       module _ (name_is : not_existing r commit.name ≡ Ok tt) where
@@ -150,7 +151,7 @@ module _ (r : Repository) (work : Work) (branch : Bytes) (info : Info) (none_bel
         behind_name met = behind_room met ∙ ap (λ g. g >> (enough (conditions_of met) Limit.Space >> (enough (conditions_of met) Limit.Sequence >> Ok done))) name_is
 
         -- space or sequence is short, and the met says so
-        pub refused_short : (slot : Slot) (length : ℕ) (fault : StoreFault) → SlotBehind slot length (Err fault) → IsRefusal r work branch info fault
+        pub refused_short : (slot : Slot) (length : ℕ) (fault : StoreFault) → SlotBehind slot length (Err fault) → IsRefusal r work v branch info fault
         refused_short slot length (StoreFault.Limit Limit.Space) is = (met_short Limit.Space (refl, tt), turn_refused (met_of (StoreFault.Limit Limit.Space)) (Reply.Limit Limit.Space) refl (behind_name (met_of (StoreFault.Limit Limit.Space))))
         refused_short slot length (StoreFault.Limit Limit.Sequence) is = (met_short Limit.Sequence (refl, tt), turn_refused (met_of (StoreFault.Limit Limit.Sequence)) (Reply.Limit Limit.Sequence) refl (behind_name (met_of (StoreFault.Limit Limit.Sequence))))
         refused_short slot length (StoreFault.Limit _) is = absurd is

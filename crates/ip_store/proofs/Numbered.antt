@@ -1,6 +1,6 @@
 -- The branches that a store keeps, as a map from names to numbers.
 use Rattle.std.proofs.Common.{◌≡◌, ℕ, ◌<◌, ◌≤◌, Bool, true, false, cond, [], ◌∷◌, length, Option, Some, Vec, refl, sym, ◌∙◌, ap, subst, arith}
-use Rattle.std.specs.Prelude.{◌&&◌, not, ◌↔◌, nat_le, nat_lt, All, IfSome, IsTrue}
+use Rattle.std.specs.Prelude.{◌&&◌, not, ◌↔◌, nat_le, nat_lt, All, IfSome, IsTrue, Result, Ok, Err, OnErr}
 use Rattle.std.specs.Ordering.{is_eq, eq_by_cmp}
 use Rattle.std.specs.Cmp.{IsTotalOrder}
 use Rattle.std.specs.Cmp.Lexicographic.{nat_list_cmp_total}
@@ -119,3 +119,7 @@ module _ (m : Kept) (ordered : IsOrdered step_cmp m) (b : Map bytes_cmp ℕ) (vi
     λ yes name. subst (λ (o : Option ℕ). IfSome o (IsWithin low high)) (ap (find bytes_cmp name) (sym entries_are)) (all_named low high m.entries (sym is ∙ yes) name),
     λ all. is ∙ all_valued low high m (λ name. subst (λ (o : Option ℕ). IfSome o (IsWithin low high)) (ap (find bytes_cmp name) entries_are) (all name)) m.entries (recursion_from_All _ m.entries (All-found steps_total m ordered)),
   )
+
+pub on_err : {A E : Type 0} (r : Result A E) (P : Type 0) → P → OnErr r P
+on_err (Ok x) P p = tt
+on_err (Err e) P p = p

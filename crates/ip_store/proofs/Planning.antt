@@ -1,53 +1,54 @@
 -- A plan is one of the machine's commit.
-use Rattle.std.proofs.Common.{◌≡◌, ℕ, ◌+◌, ◌≤◌, ◌^◌, Bool, true, false, List, [], ◌∷◌, map, length, Option, Some, None, refl, sym, ◌∙◌, ap, subst, arith}
-use Rattle.std.specs.Prelude.{Ok, is_some, All, IsTrue, not, ◌&&◌, nat_le, if◌then◌else◌}
+use Rattle.std.proofs.Common.{◌≡◌, ℕ, ◌+◌, ◌<◌, ◌≤◌, ◌^◌, Bool, true, false, List, [], ◌∷◌, map, length, Option, Some, None, refl, sym, ◌∙◌, ap, subst, arith}
+use Rattle.std.specs.Prelude.{Ok, Err, IsErrOf, is_some, All, IsTrue, not, ◌&&◌, nat_le, if◌then◌else◌}
 use Rattle.std.proofs.lemmas.Bool.Decides.{nat_tests}
 use Rattle.std.specs.Cmp.Lexicographic.{nat_list_cmp_total}
 use Rattle.std.specs.FinMap.Entries as E
 use Rattle.sha2.specs.Sha256.{sha256}
 use Rattle.ip_base.specs.declared.info.Info.{Info}
 use Rattle.ip_base.specs.declared.limit.Limit.TheVariants as Limit
-use Rattle.ip_spec.specs.declared.reply.Reply.TheVariants as Reply
+use Rattle.ip_spec.specs.declared.reply.Reply.{Reply}
 use Rattle.ip_image.specs.declared.slot.Slot.{Slot}
 use Rattle.ip_spec.specs.Map.{insert, len, entries-insert}
 use Rattle.ip_spec.specs.Path.{Bytes, bytes_cmp}
-use Rattle.ip_spec.specs.Record.{Hash, hashed_commit, IsInfo, IsBranchName}
+use Rattle.ip_spec.specs.declared.record.Record.{Record}
+use Rattle.ip_spec.specs.Record.{hashed_commit, Fits, IsHash, IsInfo, IsBranchName}
+use Rattle.ip_spec.specs.Batch.{sources, tree_batch, batch}
 use Rattle.ip_spec.specs.Shape.{root_name}
-use Rattle.ip_spec.specs.Tree.{Tree}
+use Rattle.ip_spec.specs.View.{View}
 use Rattle.ip_spec.specs.Batch as Batches
-use Rattle.ip_spec.specs.Repository.{Repository, next, head, number_named, is_retained}
+use Rattle.ip_spec.specs.Repository.{Repository, next, head, is_retained}
 use Rattle.ip_spec.specs.Step.{room_for_branch, not_existing, refuse_if, new_commit, as_parent}
-use Rattle.ip_image.specs.Appending.{unread, fields_of, batch_of, batch_end_of, bytes_of_records, next_slot, AreWithin, IsFlat}
-use Rattle.ip_store.specs.declared.batch.Batch.{Batch}
-use Rattle.ip_store.specs.declared.batch.CommitFields.{CommitFields}
+use Rattle.ip_image.specs.Appending.{fields_of, grown_batch, grown_end, bytes_of_records, AreWithin}
+use Rattle.ip_save.specs.declared.batch.Batch.{Batch}
+use Rattle.ip_save.specs.declared.batch.CommitFields.{CommitFields}
+use Rattle.ip_save.specs.Batches.{fields_told, IsBatch}
 use Rattle.ip_store.specs.declared.store.Store.{Store}
 use Rattle.ip_store.specs.declared.work.Work.{Work}
-use Rattle.ip_store.specs.Batches.{fields_told, IsBatch}
-use Rattle.ip_store.specs.Commits.{parent_named, SlotBehind, IsPlan}
-use Rattle.ip_store.specs.Placed.{places_in}
-use Rattle.ip_store.specs.Store.{IsOf, IsLawful}
-use Rattle.ip_store.proofs.Machine.{Head, turn_is_done}
-use Rattle.ip_store.proofs.Tables.{none_below}
+use Rattle.ip_store.specs.declared.committing.Plan.{Plan}
+use Rattle.ip_store.specs.declared.committing.StoreFault.{StoreFault}
+use Rattle.ip_store.specs.Changes.{LimitsSpace}
+use Rattle.ip_store.specs.Commits.{parent_named, SlotBehind, IsRefusal, IsNewBatch, IsPastTheEnd, IsNext, IsPlan, end_of}
+use Rattle.ip_store.specs.Store.{IsOf}
+use Rattle.ip_store.specs.Work.{IsLawful}
+use Rattle.ip_store.proofs.BatchKinds.{batch_served, batch_places}
+use Rattle.ip_store.proofs.Machine.{Head, refused_name, refused_short, refused_memory, turn_is_done}
+use Rattle.ip_store.proofs.Tables.{none_below, none_named}
 
 same_names : (r : Repository) (ns : List ℕ) → map (λ p. p.name) (map (parent_named r) ns) ≡ map (λ p. p.name) (map (as_parent r) ns)
 same_names r [] = refl
 same_names r (n ∷ ns) = ap (λ l. (parent_named r n).name ∷ l) (same_names r ns)
 
 -- the batch's name is the commit's
-pub batch_name_is : (r : Repository) (tree : Tree) (parents : List ℕ) (info : Info) (branch : Bytes) → Batches.batch_name (unread tree) (fields_of r parents info branch) ≡ (new_commit r tree parents info).name
-batch_name_is r tree parents info branch = ap (λ names. sha256 (hashed_commit (root_name tree) names info)) (same_names r parents)
+pub batch_name_is : (r : Repository) (v : View) (parents : List ℕ) (info : Info) (branch : Bytes) → Batches.batch_name v (fields_of r parents info branch) ≡ (new_commit r v.map parents info).name
+batch_name_is r v parents info branch = ap (λ names. sha256 (hashed_commit (root_name v.map) names info)) (same_names r parents)
 
 pub told_from : (r : Repository) (fields : CommitFields) (info : Info) (branch : Bytes) (slice ns : List ℕ) → slice ≡ ns → (All (λ n. IsTrue (is_retained r n)) slice → fields_told fields ≡ fields_of r slice info branch)
     → All (λ n. IsTrue (is_retained r n)) ns → fields_told fields ≡ fields_of r ns info branch
 told_from r fields info branch slice ns same = subst (λ l. (All (λ n. IsTrue (is_retained r n)) l → fields_told fields ≡ fields_of r l info branch) → All (λ n. IsTrue (is_retained r n)) ns → fields_told fields ≡ fields_of r ns info branch) (sym same) (λ so all. so all)
 
-pub name_from : (r : Repository) (work : Work) (info : Info) (branch : Bytes) (fields : CommitFields) (end : ℕ) (batch : Batch) → fields_told fields ≡ fields_of r work.parents info branch → IsBatch work.tree (fields_told fields) end batch
-    → batch.name ≡ (new_commit r work.tree work.parents info).name
-name_from r work info branch fields end batch told is_batch = is_batch.name ∙ ap (λ f. Batches.batch_name (unread work.tree) f) told ∙ batch_name_is r work.tree work.parents info branch
-
-none_of : {X : Type 0} (o : Option X) (name : Hash) → refuse_if (is_some o) (Reply.Existing name) ≡ Ok tt → o ≡ None
-none_of None name is = refl
-none_of (Some x) name is = absurd (cc (is))
+pub name_from : (r : Repository) (v : View) (parents : List ℕ) (info : Info) (branch : Bytes) (f : Batches.CommitFields) → f ≡ fields_of r parents info branch → Batches.batch_name v f ≡ (new_commit r v.map parents info).name
+name_from r v parents info branch f told = ap (Batches.batch_name v) told ∙ batch_name_is r v parents info branch
 
 module _ (r : Repository) (branch : Bytes) where
   roomy : (o : Option ℕ) (n : ℕ) → refuse_if (not (is_some o) && nat_le 4096 n) (Reply.Limit Limit.Branches) ≡ Ok tt → n ≤ 4096 → (if is_some o then n else n + 1) ≤ 4096
@@ -64,43 +65,119 @@ module _ (r : Repository) (branch : Bytes) where
   pub room_after : (number : ℕ) → room_for_branch r branch ≡ Ok tt → len r.branches ≤ 4096 → len (insert r.branches branch number) ≤ 4096
   room_after number is few = subst (λ (n : ℕ). n ≤ 4096) (sym (ap length (entries-insert nat_list_cmp_total r.branches branch number) ∙ E.length-put bytes_cmp nat_list_cmp_total branch number r.branches.entries r.branches.sorted)) (roomy (head r branch) (len r.branches) is few)
 
-module _ (r : Repository) (work : Work) (branch : Bytes) (info : Info) (store : Store) (of : IsOf store r) (lawful : IsLawful r work) (is_branch : IsBranchName branch) (is_info : IsInfo info) where
+-- ---- the batch, or why there is none
+
+module _ (r : Repository) (v : View) (f : Batches.CommitFields) (end : ℕ) where
+  -- its records would pass the greatest end
+  pub none_made : (fault : StoreFault) → 2 ^ 62 < grown_end v f end → IsPastTheEnd r v f fault → IsNewBatch r v f end (Err fault)
+  none_made (StoreFault.Existing name) over is = is
+  none_made (StoreFault.Limit Limit.Space) over is = (is, over)
+  none_made (StoreFault.Limit _) over is = absurd is
+  none_made StoreFault.Memory over is = tt
+  none_made (StoreFault.HeadMoved name) over is = absurd is
+  none_made StoreFault.Ground over is = absurd is
+  none_made (StoreFault.Damaged at names) over is = absurd is
+
+-- why there is none, as the machine has it
+module _ (r : Repository) (work : Work) (v : View) (branch : Bytes) (info : Info) (none : r.floor ≡ 0) (head_is : Head r work v branch info none ≡ Ok tt) (room_is : room_for_branch r branch ≡ Ok tt)
+    (f : Batches.CommitFields) (told : f ≡ fields_of r work.parents info branch) where
+  pub refused_batch : (slot : Slot) (end : ℕ) (fault : StoreFault) → IsNewBatch r v f end (Err fault) → IsRefusal r work v branch info fault
+  refused_batch slot end (StoreFault.Existing name) is = refused_name r work v branch info none head_is room_is (StoreFault.Existing name) (subst (λ h. not_existing r h ≡ Err (Reply.Existing name)) (name_from r v work.parents info branch f told) is)
+  refused_batch slot end (StoreFault.Limit Limit.Space) is = refused_short r work v branch info none head_is room_is (subst (λ h. not_existing r h ≡ Ok tt) (name_from r v work.parents info branch f told) is.0) slot (grown_end v f end)
+      (StoreFault.Limit Limit.Space) (let over = is.1 in omega (arith, over))
+  refused_batch slot end (StoreFault.Limit _) is = absurd is
+  refused_batch slot end StoreFault.Memory is = refused_memory r work v branch info none
+  refused_batch slot end (StoreFault.HeadMoved name) is = absurd is
+  refused_batch slot end StoreFault.Ground is = absurd is
+  refused_batch slot end (StoreFault.Damaged at names) is = absurd is
+
+  -- and which limit is met: by the batch, and by the slot behind it
+  pub batch_limits : (store : Store) (fault : StoreFault) → IsNewBatch r v f store.slot.end (Err fault) → LimitsSpace {A = Plan} (end_of r work v branch info store) (Err fault) store
+  batch_limits store fault is = record {
+    space = λ e. by fault is (cc (e));
+    sequence = λ e. by_sequence fault is (cc (e));
+    enough = tt;
+  }
+    where
+      by : (fault : StoreFault) → IsNewBatch r v f store.slot.end (Err fault) → fault ≡ StoreFault.Limit Limit.Space → 2 ^ 62 < end_of r work v branch info store
+      by (StoreFault.Limit Limit.Space) is e = subst (λ g. 2 ^ 62 < grown_end v g store.slot.end) told is.1
+      by fault is e = absurd (cc (e))
+
+      by_sequence : (fault : StoreFault) → IsNewBatch r v f store.slot.end (Err fault) → fault ≡ StoreFault.Limit Limit.Sequence → (end_of r work v branch info store ≤ 2 ^ 62) × (store.slot.sequence ≡ 2 ^ 62)
+      by_sequence (StoreFault.Limit Limit.Sequence) is e = absurd is
+      by_sequence fault is e = absurd (cc (e))
+
+  pub slot_limits : (store : Store) (of : IsOf store r) (batch : Batch) → IsBatch v f store.slot.end batch → (fault : StoreFault) → SlotBehind store.slot (length batch.bytes.items) (Err fault) → LimitsSpace {A = Plan} (end_of r work v branch info store) (Err fault) store
+  slot_limits store of batch is_batch fault is = record {
+    space = λ e. by fault is (cc (e));
+    sequence = λ e. by_sequence fault is (cc (e));
+    enough = tt;
+  }
+    where
+      ends : end_of r work v branch info store ≡ store.slot.end + length batch.bytes.items
+      ends = ap (λ g. grown_end v g store.slot.end) (sym told) ∙ sym is_batch.ends ∙ is_batch.long
+
+      by : (fault : StoreFault) → SlotBehind store.slot (length batch.bytes.items) (Err fault) → fault ≡ StoreFault.Limit Limit.Space → 2 ^ 62 < end_of r work v branch info store
+      by (StoreFault.Limit Limit.Space) is e = subst (λ (n : ℕ). 2 ^ 62 < n) (sym ends) is
+      by fault is e = absurd (cc (e))
+
+      by_sequence : (fault : StoreFault) → SlotBehind store.slot (length batch.bytes.items) (Err fault) → fault ≡ StoreFault.Limit Limit.Sequence → (end_of r work v branch info store ≤ 2 ^ 62) × (store.slot.sequence ≡ 2 ^ 62)
+      by_sequence (StoreFault.Limit Limit.Sequence) is e = (subst (λ (n : ℕ). n ≤ 2 ^ 62) (sym ends) is.0, (let low = is.1 in let high = of.slot.sequence_high in omega (arith, low, high)))
+      by_sequence fault is e = absurd (cc (e))
+
+-- the fault of a plan is that of the commit
+pub err_of : {A B : Type 0} (fault other : StoreFault) → IsErrOf {T = A} (Err fault) other → IsErrOf {T = B} (Err fault) other
+err_of fault other e = let same : fault ≡ other = cc (e) in ap Err same
+
+-- what comes of any tree
+pub coming : (r : Repository) (branch : Bytes) (store : Store) (of : IsOf store r) (number : ℕ) (name : Bytes) (batch : Batch) (slot : Slot) (parents : List ℕ) → number ≡ next r → name ≡ branch → IsHash batch.name → 0 < length batch.bytes.items
+    → room_for_branch r branch ≡ Ok tt → not_existing r batch.name ≡ Ok tt → SlotBehind store.slot (length batch.bytes.items) (Ok slot) → parents ≡ number ∷ []
+    → IsNext r branch store (record { number = number; branch = name; batch = batch; slot = slot; parents = parents })
+coming r branch store of number name batch slot parents is named is_name some room fresh behind only = record {
+  number = is;
+  is_name = is_name;
+  new_name = fresh;
+  same_branch = named;
+  room = room_after r branch (next r) room of.retained.few;
+  parents = only ∙ ap (λ (n : ℕ). n ∷ []) is;
+  some = some;
+  slot = behind.0;
+  ends = behind.1;
+  sequence = behind.2;
+}
+
+-- and of one with this view
+module _ (records : ℕ → Option Record) (r : Repository) (work : Work) (v : View) (branch : Bytes) (info : Info) (store : Store) (of : IsOf store r) (lawful : IsLawful records r work v) (is_branch : IsBranchName branch) (is_info : IsInfo info) where
   version_is : store.slot.version ≡ 1
   version_is = let low = of.slot.version_low in let high = of.slot.version_high in omega arith
 
-  pub planned : (fields : CommitFields) (batch : Batch) (slot : Slot) (parents : List ℕ)
+  pub planned : (number : ℕ) (named : Bytes) (fields : CommitFields) (batch : Batch) (slot : Slot) (parents : List ℕ)
       → fields_told fields ≡ fields_of r work.parents info branch
-      → IsBatch work.tree (fields_told fields) store.slot.end batch → IsFlat work.tree
-      → AreWithin 1 (batch_of work.tree (fields_told fields) store.slot.end)
-      → Head r work branch info (none_below store r of) ≡ Ok tt → room_for_branch r branch ≡ Ok tt → not_existing r batch.name ≡ Ok tt
-      → SlotBehind store.slot (length batch.bytes.items) (Ok slot) → parents ≡ fields.number ∷ []
-      → IsPlan r work branch info store (record { number = fields.number; branch = fields.branch; batch = batch; slot = slot; parents = parents })
-  planned fields batch slot parents told is_batch flat within head_is room_is name_is behind only =
-      let name : batch.name ≡ (new_commit r work.tree work.parents info).name = name_from r work info branch fields store.slot.end batch told is_batch in
-      let new_is : not_existing r (new_commit r work.tree work.parents info).name ≡ Ok tt = subst (λ h. not_existing r h ≡ Ok tt) name name_is in
-      let ends : batch_end_of work.tree (fields_of r work.parents info branch) store.slot.end ≡ store.slot.end + length batch.bytes.items = ap (λ f. batch_end_of work.tree f store.slot.end) (sym told) ∙ is_batch.ends in
+      → IsBatch v (fields_told fields) store.slot.end batch
+      → Head r work v branch info (none_below store r of) ≡ Ok tt → room_for_branch r branch ≡ Ok tt → not_existing r batch.name ≡ Ok tt
+      → IsPlan r work v branch info store (record { number = number; branch = named; batch = batch; slot = slot; parents = parents })
+  planned number named fields batch slot parents told is_batch head_is room_is fresh =
+      let name : batch.name ≡ (new_commit r v.map work.parents info).name = is_batch.name ∙ name_from r v work.parents info branch (fields_told fields) told in
+      let new_is : not_existing r (new_commit r v.map work.parents info).name ≡ Ok tt = subst (λ h. not_existing r h ≡ Ok tt) name fresh in
       record {
-        number = ap (λ (f : Batches.CommitFields). f.number) told;
         name = name;
-        place = ap (λ f. places_in (batch_of work.tree f store.slot.end)) (sym told) ∙ is_batch.place;
-        bytes = is_batch.bytes ∙ ap (λ f. bytes_of_records (batch_of work.tree f store.slot.end)) told;
-        same_branch = ap (λ (f : Batches.CommitFields). f.branch) told;
-        parents = only ∙ ap (λ (n : ℕ). n ∷ []) (ap (λ (f : Batches.CommitFields). f.number) told);
-        slot = behind.0 ∙ ap (λ (e : ℕ). next_slot store.slot e) (sym ends);
-        ends = subst (λ (e : ℕ). e ≤ 2 ^ 62) (sym ends) behind.1;
-        behind = ends;
-        sequence = behind.2;
+        bytes = is_batch.bytes ∙ ap (λ f. bytes_of_records (grown_batch v f store.slot.end)) told;
+        place = batch_places v lawful.tree.narrow (fields_of r work.parents info branch) store.slot.end ∙ ap (λ (n : ℕ). n ∷ []) (sym is_batch.commit_at);
+        root = is_batch.root;
+        behind = ap (λ f. grown_end v f store.slot.end) (sym told) ∙ sym is_batch.ends ∙ is_batch.long;
         may = record {
-          flat = flat;
-          retained = lawful.retained;
-          distinct = lawful.distinct;
-          few = lawful.few;
+          is_tree = lawful.tree.lawful;
+          narrow = lawful.tree.narrow;
+          retained = lawful.parents.retained;
+          distinct = lawful.parents.distinct;
+          few = lawful.parents.few;
           is_info = is_info;
           is_branch = is_branch;
-          new_name = none_of (number_named r (new_commit r work.tree work.parents info).name) (new_commit r work.tree work.parents info).name new_is;
+          new_name = none_named r (new_commit r v.map work.parents info).name new_is;
           room = room_after r branch (next r) room_is of.retained.few;
         };
-        within = subst (λ (v : ℕ). AreWithin v (batch_of work.tree (fields_of r work.parents info branch) store.slot.end)) (sym version_is)
-            (subst (λ f. AreWithin 1 (batch_of work.tree f store.slot.end)) told within);
-        turn = turn_is_done r work branch info (none_below store r of) head_is room_is new_is;
+        within = subst (λ (n : ℕ). AreWithin n (grown_batch v (fields_of r work.parents info branch) store.slot.end)) (sym version_is)
+            (batch_served v lawful.tree.narrow (fields_of r work.parents info branch) store.slot.end 1
+            (subst (λ f. All (λ (x : ℕ × Record). Fits 1 x.1) (grown_batch v f store.slot.end)) told is_batch.fits));
+        turn = turn_is_done r work v branch info (none_below store r of) head_is room_is new_is;
       }

@@ -29,9 +29,12 @@ use Rattle.ip_store.specs.Changes.{Changes}
 use Rattle.ip_store.specs.Naming.{SlotLater}
 use Rattle.ip_store.specs.Placed.{places_in, IsSpaceOf}
 use Rattle.ip_store.specs.Publishing.{StandsAs, CanStep, MakesStep}
-use Rattle.ip_store.specs.Store.{IsOf, Holds}
+use Rattle.ip_spec.specs.TreeAt.{Records, present}
+use Rattle.ip_image.proofs.SpelledCommits.{present_front}
+use Rattle.ip_store.specs.Store.{IsOf, Holds, image_records}
+use Rattle.ip_store.specs.Trees.{RecordsStay}
 use Rattle.ip_store.proofs.Secured.{in_image, held_has}
-use Rattle.ip_store.proofs.Stepping.{may_step, changed, cut_short, space_same, space_later}
+use Rattle.ip_store.proofs.Stepping.{may_step, changed, stays_on, cut_short, space_same, space_later}
 
 abbrev IsAmong : Slot → ℕ → Type 0
 IsAmong s n = (s.floor ≤ n) × (n < s.next)
@@ -176,6 +179,12 @@ module _ (r : Repository) (store : Store) (of : IsOf store r) where
       was_renamed b store' slot' index names branches history places space step =
           changed r after store slot (spelling x) of slot_after newer ends a held stands_new tt b store' slot' index (renamed_tables store' slot' index names branches history places space)
           ((store.slot.end, x) ∷ []) (fits, tt) (refl, ends) (spelled_is store.slot.end x) (places ∙ sym (append-nil store.places.items) ∙ ap (λ (ps : List ℕ). store.places.items ++ ps) (sym (no_place r store.slot.end x may))) step
+
+      -- each record stays
+      pub stays_renamed : (b : Told) (store' : Store) (q : Repository) → MakesStep store.slot.end (spelling x) (1 - store.index) slot (Ok tt) a b → (now : Holds store' b q) → RecordsStay (image_records held) (image_records now)
+      stays_renamed b store' q step now place y there =
+          let list = stays_on r after store slot (spelling x) of slot_after newer ends a held stands_new q b store' ((store.slot.end, x) ∷ []) (fits, tt) (refl, ends) (spelled_is store.slot.end x) step now in
+          subst (λ (rs : Records). present rs place ≡ Some y) (sym list) (present_front held.stands.standing.records ((store.slot.end, x) ∷ []) place y there)
 
       pub rename_cut : (b : Told) (store' : Store) (res : Result (Unit {0}) GroundFault) → MakesStep store.slot.end (spelling x) (1 - store.index) slot res a b → Changes {A = Unit {0}} r after (Err StoreFault.Ground) store' a b
       rename_cut b store' res step = cut_short r after store slot (spelling x) of slot_after newer ends a held stands_new b store' res step

@@ -18,7 +18,6 @@ use Rattle.ip_spec.specs.TreeAt.{TreeAt}
 use Rattle.ip_spec.specs.Repository.{Repository, Commit, CommitParent, next, is_retained, commit_at, name_at, tree_at}
 use Rattle.ip_spec.specs.Step.{commit_reply}
 use Rattle.ip_image.specs.Standing.{parent_of}
-use Rattle.ip_space.specs.SpaceView.{records_of}
 use Rattle.ip_space.specs.Fetching.{Fetches, IsFetched, Blames, Meets}
 use Rattle.ip_space.specs.declared.fault.FetchFault.{FetchFault}
 use Rattle.ip_space.specs.declared.fault.FetchFault.TheVariants.{Ground, Form, Name, Memory}
@@ -26,8 +25,8 @@ use Rattle.ip_store.specs.declared.committing.StoreFault.{StoreFault}
 use Rattle.ip_store.specs.declared.store.Store.{Store}
 use Rattle.ip_store.specs.Placed.{IsCommitAt}
 use Rattle.ip_store.specs.Showing.{IsFetchedOr, IsRecordOf, IsCommitFrom, BlamesCommit, Damages, IsRootOf}
-use Rattle.ip_store.specs.Store.{IsOf, Holds, place_of_commit}
-use Rattle.ip_store.proofs.Listed.{nth_commit, commits_placed}
+use Rattle.ip_store.specs.Store.{IsOf, Holds, image_records, place_of_commit}
+use Rattle.ip_store.proofs.Listed.{nth_commit, commits_there}
 
 inside : (low n high : ℕ) → (nat_le low n && nat_lt n high) ≡ true → (low ≤ n) × (n < high)
 inside low n high e = (first low n high e, second low n high e)
@@ -66,12 +65,12 @@ module _ (r : Repository) (number : ℕ) (retained : IsTrue (is_retained r numbe
   place_there store of = let (low, high) = within in let f = of.floor in let p = of.placed in omega (arith, low, high, f, p)
 
   module _ (store : Store) (told : Told) (holds : Holds store told r) where
-    pub commit_here : (place : ℕ) → place_of_commit store number ≡ Some place → IsCommitAt (records_of told store.space) number place there_is.0
+    pub commit_here : (place : ℕ) → place_of_commit store number ≡ Some place → IsCommitAt (image_records holds) number place there_is.0
     commit_here place is =
         let low = within.0 in
         let back : r.floor + (number - r.floor) ≡ number = omega (arith, low) in
-        subst (λ (n : ℕ). IsCommitAt (records_of told store.space) n place there_is.0) back
-        (nth_commit (records_of told store.space) r.floor store.places.items r.commits (commits_placed store told r holds) (number - r.floor) place there_is.0
+        subst (λ (n : ℕ). IsCommitAt (image_records holds) n place there_is.0) back
+        (nth_commit (image_records holds) r.floor store.places.items r.commits (commits_there store told r holds) (number - r.floor) place there_is.0
         (ap (λ (f : ℕ). slice_get store.places.items (number - f)) holds.tables.floor ∙ is) there_is.1)
 
 -- ---- what comes of a fetch

@@ -3,7 +3,7 @@
 --     same_tables, same_holds, same_changes      a store with the same tables.      changes_none      the relation of a call that was refused
 --     same_can_step, same_step      what a step asks and does, of a slot and bytes that are the same
 use Rattle.std.proofs.Common.{◌≡◌, ◌≢◌, ◌⊎◌, inl, inr, ℕ, ◌+◌, ◌-◌, ◌<◌, List, ◌++◌, length, take, refl, sym, ◌∙◌, ap, subst, arith, length-append}
-use Rattle.std.specs.Prelude.{Result, Ok, Err, All}
+use Rattle.std.specs.Prelude.{Option, Some, Result, Ok, Err, All}
 use Rattle.std.proofs.lemmas.List.{length-take-le}
 use Rattle.std.proofs.lemmas.List.Elements.{filter_map-append}
 use Rattle.std.proofs.lemmas.Result.{on_ok_weaker}
@@ -15,7 +15,8 @@ use Rattle.ip_ground.proofs.Durable.{kept_passes}
 use Rattle.ip_ground.proofs.Spans.{only_nowhere}
 use Rattle.ip_spec.specs.declared.met.Met.{Met}
 use Rattle.ip_spec.specs.Record.{IsHash}
-use Rattle.ip_spec.specs.TreeAt.{Records}
+use Rattle.ip_spec.specs.declared.record.Record.{Record}
+use Rattle.ip_spec.specs.TreeAt.{Records, present}
 use Rattle.ip_spec.specs.Batch.{AreEndToEnd}
 use Rattle.ip_spec.specs.Repository.{Repository}
 use Rattle.ip_image.specs.declared.slot.Slot.{Slot}
@@ -35,10 +36,11 @@ use Rattle.ip_store.specs.declared.committing.StoreFault.{StoreFault}
 use Rattle.ip_store.specs.declared.store.Store.{Store}
 use Rattle.ip_store.specs.Changes.{HasAnswer, Changes}
 use Rattle.ip_store.specs.Publishing.{StandsAs, LeavesFront, CanStep, MakesStep, TheTwo}
-use Rattle.ip_space.specs.SpaceView.{SpaceView, IsReadable, grown}
+use Rattle.ip_space.specs.SpaceView.{SpaceView, IsReadable, OnlyReads, grown}
 use Rattle.ip_store.specs.Placed.{place_of, places_in, IsSpaceOf}
-use Rattle.ip_store.specs.Store.{IsOf, Holds, SameTables}
-use Rattle.ip_store.proofs.Listed.{AreNewest, readable_of, behind_list, holds_on}
+use Rattle.ip_store.specs.Store.{IsOf, Holds, SameTables, image_records}
+use Rattle.ip_store.specs.Trees.{RecordsStay, OnlyLooks}
+use Rattle.ip_store.proofs.Listed.{AreNewest, readable_of, behind_list, same_list, same_records, holds_on}
 use Rattle.ip_store.proofs.Reading.{own}
 use Rattle.ip_store.proofs.Secured.{in_image, front_left, order_of, secures_now, orderly_step}
 
@@ -91,6 +93,22 @@ module _ (store store' : Store) (same : SameTables store store') where
   pub still_holds : (r : Repository) (a b : Told) → ChangesOnly NoFile a b → Holds store a r → Holds store' b r
   still_holds r a b only held = same_holds r b (holds_on store a r held b ((only.others Control (λ none. none)).held (λ x. x)) ((only.others (Chunk 0) (λ none. none)).held (λ x. x)) (kept_passes Control own a b only held.kept))
 
+  -- by the same records
+  pub still_records : (q r : Repository) (a b : Told) → ChangesOnly NoFile a b → (held : Holds store a q) (still : Holds store' b r) → image_records still ≡ image_records held
+  still_records q r a b only held still =
+      ap (λ (rs : Records). present rs) (same_list store a q held b ((only.others Control (λ none. none)).held (λ x. x)) ((only.others (Chunk 0) (λ none. none)).held (λ x. x)) still.stands.standing)
+
+  pub looks : (a b : Told) → OnlyReads a b store.space store'.space → OnlyLooks a b store store'
+  looks a b reads = record {
+    reads = reads;
+    holds = λ r held. still_holds r a b reads.only held;
+    records = λ r held still. still_records r r a b reads.only held still;
+  }
+
+  -- what was refused keeps each record
+  pub stays_still : (q r : Repository) (a : Told) (held : Holds store a q) (still : Holds store' a r) → RecordsStay (image_records held) (image_records still)
+  stays_still q r a held still at x is = subst (λ (f : ℕ → Option Record). f at ≡ Some x) (same_records a store store' q r held still) is
+
   pub same_changes : {A : Type 0} (r after : Repository) (res : Result A StoreFault) (a b : Told) → Changes r after res store a b → Changes r after res store' a b
   same_changes r after res a b is = record {
     only = is.only;
@@ -101,6 +119,13 @@ module _ (store store' : Store) (same : SameTables store store') where
     secures_refused = is.secures_refused;
     order = is.order;
   }
+
+pub out_of_itself : (store : Store) (met : Met) → SameTables (record store { met = met }) store
+out_of_itself store met = record { index = refl; slot = refl; names = refl; places = refl; branches = refl; history = refl; space = refl }
+
+-- what is so of the records however one of the two holds them is so of those that the other holds
+pub carried : (store store' : Store) → SameTables store' store → (told : Told) (r : Repository) (P : (ℕ → Option Record) → Type 0) → ((held : Holds store told r) → P (image_records held)) → (now : Holds store' told r) → P (image_records now)
+carried store store' back told r P so now = let held = same_holds store' store back r told now in subst P (same_records told store store' r r held now) (so held)
 
 -- ---- the files
 
@@ -202,6 +227,13 @@ module _ (r after : Repository) (store : Store) (next : Slot) (bytes : List ℕ)
         order_now : IsInOrder b
         order_now = order_of store' after b holds (subst (λ front. LeavesFront front b) (sym front_is) step.front)
 
+    -- each record of the image before is one of the image after, whichever proof says that it stands
+    pub stays_on : (q : Repository) (b : Told) (store' : Store) → (more : Records) → AreNewest more → AreEndToEnd store.slot.end more next.end → bytes ≡ bytes_of_records more
+        → MakesStep store.slot.end bytes (1 - store.index) next (Ok tt) a b → (now : Holds store' b q) → (now.stands.standing.records ≡ held.stands.standing.records ++ more)
+    stays_on q b store' more fit lie spelled step now =
+        behind_list a.held b.held store.slot next old_has (in_image (1 - store.index) next b.held next_is step.held.0) held.stands.standing now.stands.standing more fit lie
+        (subst (λ (bs : List ℕ). BeginsWith (front_of store.slot.end a.held ++ bs) (b.held (Chunk 0))) spelled step.held.1)
+
     -- a fault of the ground cut it short
     pub cut_short : {A : Type 0} (b : Told) (store' : Store) (res : Result (Unit {0}) GroundFault) → MakesStep store.slot.end bytes (1 - store.index) next res a b → Changes {A = A} r after (Err StoreFault.Ground) store' a b
     cut_short b store' res step = record {
@@ -253,7 +285,7 @@ with_value x y r after store a b is = record {
   order = λ order some. is.order order tt;
 }
 
-with_answer : (A B : Type 0) (fault : StoreFault) → HasAnswer {A = B} (Err fault) → HasAnswer {A = A} (Err fault)
+pub with_answer : (A B : Type 0) (fault : StoreFault) → HasAnswer {A = B} (Err fault) → HasAnswer {A = A} (Err fault)
 with_answer A B (StoreFault.HeadMoved name) has = tt
 with_answer A B (StoreFault.Existing name) has = tt
 with_answer A B (StoreFault.Limit limit) has = tt

@@ -14,8 +14,8 @@ use Rattle.ip_spec.specs.declared.reply.Reply.TheVariants as Reply
 use Rattle.ip_spec.specs.Repository.{Repository, Commit, number_named, is_retained, name_at, commit_at, next}
 use Rattle.ip_spec.specs.Step.{not_existing, refuse_if}
 use Rattle.ip_store.specs.declared.store.Store.{Store}
-use Rattle.ip_store.specs.declared.work.Work.{Work}
-use Rattle.ip_store.specs.Store.{IsOf, IsLawful}
+use Rattle.ip_store.specs.Store.{IsOf}
+use Rattle.ip_store.specs.Work.{AreParents}
 
 prefix_names : (p : Hash → Bool) (cs : List Commit) → prefix_len p (map (λ c. c.name) cs) ≡ prefix_len (λ c. p c.name) cs
 prefix_names p [] = refl
@@ -99,14 +99,22 @@ module _ (store : Store) (r : Repository) (of : IsOf store r) where
       unmapped None e = refl
       unmapped (Some k) e = absurd (cc (e))
 
--- a work that is lawful over one repository of the store is so over another
-pub same_lawful : (store : Store) (r q : Repository) (work : Work) → IsOf store r → IsOf store q → IsLawful r work → IsLawful q work
-same_lawful store r q work of other lawful =
+-- a name that the tables do not have, as the machine says it
+pub none_named : (r : Repository) (h : Hash) → not_existing r h ≡ Ok tt → number_named r h ≡ None
+none_named r h is = by (number_named r h) is
+  where
+    by : (o : Option ℕ) → refuse_if (is_some o) (Reply.Existing h) ≡ Ok tt → o ≡ None
+    by None is = refl
+    by (Some n) is = absurd (cc (is))
+
+-- parents that are so over one repository of the store are so over another
+pub same_parents : (store : Store) (r q : Repository) (parents : List ℕ) → IsOf store r → IsOf store q → AreParents r parents → AreParents q parents
+same_parents store r q parents of other are =
     let floors : r.floor ≡ q.floor = of.floor ∙ sym other.floor in
     let nexts : next r ≡ next q = of.next ∙ sym other.next in
     record {
-      retained = λ k d l. subst (λ (n : ℕ). IsTrue (nat_le q.floor (get_or work.parents k d) && nat_lt (get_or work.parents k d) n)) nexts
-          (subst (λ (f : ℕ). IsTrue (nat_le f (get_or work.parents k d) && nat_lt (get_or work.parents k d) (next r))) floors (lawful.retained k d l));
-      distinct = lawful.distinct;
-      few = lawful.few;
+      retained = λ k d l. subst (λ (n : ℕ). IsTrue (nat_le q.floor (get_or parents k d) && nat_lt (get_or parents k d) n)) nexts
+          (subst (λ (f : ℕ). IsTrue (nat_le f (get_or parents k d) && nat_lt (get_or parents k d) (next r))) floors (are.retained k d l));
+      distinct = are.distinct;
+      few = are.few;
     }

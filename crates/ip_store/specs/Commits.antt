@@ -1,31 +1,46 @@
 -- What a commit does.
 --     reply_to result      the reply; a fault of the ground has none, nor has one of its files
---     Answers s command met reply store work      the reply and the next state are the machine's, for what was met
---     Commits r work branch info result store' old new      what it does to what a ground tells
+--     Turns s command met reply s'      the reply and the next state are the machine's, for what was met
+--     Answers told s command met reply store work      they are so, where the store holds the next repository and the work is that of the next state
+--     IsNext r work branch store plan, IsPlan r work v branch info store plan      what a commit will do, whatever is told, and where the tree's records are
+--     Commits r work v branch info result store' old new      what it does to what a ground tells
+--     GoesOn store work      the store's tables are some repository's, and the work goes on from commits of it
+--     IsSaved records tree n map      a tree with this map, read from the records of commit n
 use Rattle.std.specs.Prelude.{◌≡◌, ℕ, ◌+◌, ◌^◌, ◌<◌, ◌≤◌, [], ◌∷◌, length, true, false, Option, Some, None, IfSome, Result, Ok, Err}
 use Rattle.ip_base.specs.declared.info.Info.{Info}
 use Rattle.ip_ground.specs.Told.{Told}
 use Rattle.ip_spec.specs.declared.met.Met.{Met}
 use Rattle.ip_spec.specs.declared.met.Child.TheVariants as Child
+use Rattle.ip_spec.specs.Batch.{batch_root, sources}
+use Rattle.ip_spec.specs.Batch as Batches
+use Rattle.ip_spec.specs.Map.{insert, len}
 use Rattle.ip_spec.specs.Path.{Bytes}
-use Rattle.ip_spec.specs.Record.{Hash}
+use Rattle.ip_spec.specs.Record.{Hash, IsHash}
 use Rattle.ip_spec.specs.declared.record.Parent.{Parent}
+use Rattle.ip_spec.specs.declared.record.Record.{Record}
 use Rattle.ip_spec.specs.Repository.{Repository, next, name_at}
 use Rattle.ip_base.specs.declared.limit.Limit.{Limit}
 use Rattle.ip_spec.specs.declared.command.Command.{Command}
 use Rattle.ip_spec.specs.declared.reply.Reply.{Reply}
 use Rattle.ip_spec.specs.Machine.{State, Phase, Conditions}
-use Rattle.ip_spec.specs.Step.{IsMet, turned, Refused, Turned, new_commit, with_commit}
+use Rattle.ip_spec.specs.Step.{IsMet, turned, Refused, Turned, new_commit, with_commit, not_existing}
+use Rattle.ip_spec.specs.Tree.{Tree}
 use Rattle.ip_spec.specs.TreeAt.{Records}
+use Rattle.ip_spec.specs.View.{View}
 use Rattle.ip_image.specs.declared.slot.Slot.{Slot}
-use Rattle.ip_image.specs.Appending.{next_slot, fields_of, batch_of, batch_end_of, bytes_of_records, AreWithin, MayCommit}
+use Rattle.ip_image.specs.Appending.{next_slot, fields_of, grown_batch, grown_end, bytes_of_records, AreWithin, MayGrow}
+use Rattle.ip_save.specs.Batches.{IsBatch}
+use Rattle.ip_save.specs.declared.batch.Batch.{Batch}
+use Rattle.ip_tree.specs.TreeView.{IsView, stored_view}
+use Rattle.ip_tree.specs.declared.tree.Tree as lazy
 use Rattle.ip_store.specs.declared.store.Store.{Store}
 use Rattle.ip_store.specs.declared.work.Work.{Work}
 use Rattle.ip_store.specs.declared.committing.Plan.{Plan}
 use Rattle.ip_store.specs.declared.committing.StoreFault.{StoreFault}
 use Rattle.ip_store.specs.Changes.{Changes}
 use Rattle.ip_store.specs.Placed.{places_in}
-use Rattle.ip_store.specs.Store.{IsOf, session, IsLawful}
+use Rattle.ip_store.specs.Store.{IsOf}
+use Rattle.ip_store.specs.Work.{AreParents, IsAt, session}
 
 -- nothing met but a limit, or want of memory
 abbrev pub met_nothing : Met
@@ -75,11 +90,12 @@ abbrev pub refused_by : Result (Unit {0}) StoreFault → Refused (Unit {0})
 refused_by (Ok u) = Ok tt
 refused_by (Err fault) = Err (refusal fault)
 
+abbrev pub Turns : State → Command → Met → Reply → State → Type 0
+Turns s command met reply s' = IsMet s command (conditions_of met) reply × (turned s command (conditions_of met) ≡ (reply, s'))
+
 -- the machine refuses the commit so, and stays as it is
-abbrev pub IsRefusal : Repository → Work → Bytes → Info → StoreFault → Type 0
-IsRefusal r work branch info fault = IfSome (fault_reply fault) (λ reply.
-    IsMet (session r work) (Command.Commit branch info) (conditions_of (met_of fault)) reply
-    × (turned (session r work) (Command.Commit branch info) (conditions_of (met_of fault)) ≡ (reply, session r work)))
+abbrev pub IsRefusal : Repository → Work → View → Bytes → Info → StoreFault → Type 0
+IsRefusal r work v branch info fault = IfSome (fault_reply fault) (λ reply. Turns (session r work v) (Command.Commit branch info) (met_of fault) reply (session r work v))
 
 -- a parent as a commit record has it
 abbrev pub parent_named : Repository → ℕ → Parent
@@ -92,44 +108,74 @@ SlotBehind s length (Err (StoreFault.Limit Limit.Space)) = 2 ^ 62 < s.end + leng
 SlotBehind s length (Err (StoreFault.Limit Limit.Sequence)) = (s.end + length ≤ 2 ^ 62) × (2 ^ 62 ≤ s.sequence)
 SlotBehind s length (Err fault) = ⊥
 
+-- why there is no batch, where its records would pass the greatest end
+abbrev pub IsPastTheEnd : Repository → View → Batches.CommitFields → StoreFault → Type 0
+IsPastTheEnd r v f (StoreFault.Existing name) = not_existing r (Batches.batch_name v f) ≡ Err (Reply.Existing name)
+IsPastTheEnd r v f (StoreFault.Limit Limit.Space) = not_existing r (Batches.batch_name v f) ≡ Ok tt
+IsPastTheEnd r v f StoreFault.Memory = Unit {0}
+IsPastTheEnd r v f fault = ⊥
+
+-- The batch of a commit that no other has the name of; else the name comes before the space that it would take.
+abbrev pub IsNewBatch : Repository → View → Batches.CommitFields → ℕ → Result Batch StoreFault → Type 0
+IsNewBatch r v f end (Ok b) = IsBatch v f end b
+IsNewBatch r v f end (Err (StoreFault.Existing name)) = not_existing r (Batches.batch_name v f) ≡ Err (Reply.Existing name)
+IsNewBatch r v f end (Err (StoreFault.Limit Limit.Space)) = (not_existing r (Batches.batch_name v f) ≡ Ok tt) × (2 ^ 62 < grown_end v f end)
+IsNewBatch r v f end (Err StoreFault.Memory) = Unit {0}
+IsNewBatch r v f end (Err fault) = ⊥
+
 -- the turn of a commit that nothing refuses
-abbrev pub committed : Repository → Work → Bytes → Info → Turned
-committed r work branch info =
-    let c = new_commit r work.tree work.parents info in
-    (Reply.Committed c.name, record { repository = with_commit r c branch; phase = Phase.Idle; work = record { tree = work.tree; parents = next r ∷ []; least = Some (next r) } })
+abbrev pub committed : Repository → Work → View → Bytes → Info → Turned
+committed r work v branch info =
+    let c = new_commit r v.map work.parents info in
+    (Reply.Committed c.name, record { repository = with_commit r c branch; phase = Phase.Idle; work = record { tree = v.map; parents = next r ∷ []; least = Some (next r) } })
 
-abbrev pub records_of : Repository → Work → Bytes → Info → Store → Records
-records_of r work branch info store = batch_of work.tree (fields_of r work.parents info branch) store.slot.end
+abbrev pub records_of : Repository → Work → View → Bytes → Info → Store → Records
+records_of r work v branch info store = grown_batch v (fields_of r work.parents info branch) store.slot.end
 
-abbrev pub end_of : Repository → Work → Bytes → Info → Store → ℕ
-end_of r work branch info store = batch_end_of work.tree (fields_of r work.parents info branch) store.slot.end
+abbrev pub end_of : Repository → Work → View → Bytes → Info → Store → ℕ
+end_of r work v branch info store = grown_end v (fields_of r work.parents info branch) store.slot.end
 
 -- what a commit will do, once none of its refusals came
-pub record IsPlan (r : Repository) (work : Work) (branch : Bytes) (info : Info) (store : Store) (plan : Plan) : Type 0 where
+pub record IsNext (r : Repository) (branch : Bytes) (store : Store) (plan : Plan) : Type 0 where
   pub number : plan.number ≡ next r
-  pub name : plan.batch.name ≡ (new_commit r work.tree work.parents info).name
-  pub bytes : plan.batch.bytes.items ≡ bytes_of_records (records_of r work branch info store)
-  pub place : places_in (records_of r work branch info store) ≡ plan.batch.commit_at ∷ []
+  pub is_name : IsHash plan.batch.name
+  pub new_name : not_existing r plan.batch.name ≡ Ok tt
   pub same_branch : plan.branch ≡ branch
+  pub room : len (insert r.branches branch (next r)) ≤ 4096
   pub parents : plan.parents ≡ next r ∷ []
-  pub slot : plan.slot ≡ next_slot store.slot (end_of r work branch info store)
-  pub ends : end_of r work branch info store ≤ 2 ^ 62
-  pub behind : end_of r work branch info store ≡ store.slot.end + length plan.batch.bytes.items
+  pub some : 0 < length plan.batch.bytes.items
+  pub slot : plan.slot ≡ next_slot store.slot (store.slot.end + length plan.batch.bytes.items)
+  pub ends : store.slot.end + length plan.batch.bytes.items ≤ 2 ^ 62
   pub sequence : store.slot.sequence < 2 ^ 62
-  pub may : MayCommit r work.tree work.parents info branch
-  pub within : AreWithin store.slot.version (records_of r work branch info store)
-  pub turn : turned (session r work) (Command.Commit branch info) (conditions_of met_nothing) ≡ committed r work branch info
 
-pub record Answers (s : State) (command : Command) (met : Met) (reply : Reply) (store : Store) (work : Work) : Type 0 where
+-- and where the tree has this view
+pub record IsPlan (r : Repository) (work : Work) (v : View) (branch : Bytes) (info : Info) (store : Store) (plan : Plan) : Type 0 where
+  pub name : plan.batch.name ≡ (new_commit r v.map work.parents info).name
+  pub bytes : plan.batch.bytes.items ≡ bytes_of_records (records_of r work v branch info store)
+  pub place : places_in (records_of r work v branch info store) ≡ plan.batch.commit_at ∷ []
+  pub root : plan.batch.root ≡ batch_root v (sources v) store.slot.end
+  pub behind : end_of r work v branch info store ≡ store.slot.end + length plan.batch.bytes.items
+  pub may : MayGrow r v.map work.parents info branch
+  pub within : AreWithin store.slot.version (records_of r work v branch info store)
+  pub turn : turned (session r work v) (Command.Commit branch info) (conditions_of met_nothing) ≡ committed r work v branch info
+
+pub record GoesOn (store : Store) (work : Work) : Type 0 where
+  pub repository : Repository
+  pub tables : IsOf store repository
+  pub parents : AreParents repository work.parents
+
+pub record Answers (told : Told) (s : State) (command : Command) (met : Met) (reply : Reply) (store : Store) (work : Work) : Type 0 where
   pub after : Repository
-  pub is_met : IsMet s command (conditions_of met) reply
-  pub turn : turned s command (conditions_of met) ≡ (reply, session after work)
-  pub tables : IsOf store after
-  pub lawful : IsLawful after work
+  pub view : View
+  pub turns : Turns s command met reply (session after work view)
+  pub is_at : IsAt told store after work view
+
+abbrev pub IsSaved : (ℕ → Option Record) → lazy.Tree → ℕ → Tree → Type 0
+IsSaved records tree n map = (at : ℕ) × IsView records tree (stored_view records n at map)
 
 -- the repository after the commit, where nothing is refused it and none of its writes fails
-abbrev pub repository_after : Repository → Work → Bytes → Info → Repository
-repository_after r work branch info = (turned (session r work) (Command.Commit branch info) (conditions_of met_nothing)).1.repository
+abbrev pub repository_after : Repository → Work → View → Bytes → Info → Repository
+repository_after r work v branch info = (turned (session r work v) (Command.Commit branch info) (conditions_of met_nothing)).1.repository
 
-abbrev pub Commits : Repository → Work → Bytes → Info → Result Hash StoreFault → Store → Told → Told → Type 0
-Commits r work branch info result store' old new = Changes r (repository_after r work branch info) result store' old new
+abbrev pub Commits : Repository → Work → View → Bytes → Info → Result Hash StoreFault → Store → Told → Told → Type 0
+Commits r work v branch info result store' old new = Changes r (repository_after r work v branch info) result store' old new

@@ -1,4 +1,3 @@
-pub mod Batches
 pub mod Changes
 pub mod Commits
 pub mod Control
@@ -6,7 +5,6 @@ pub mod Opening
 pub mod Found
 pub mod Histories
 pub mod Naming
-pub mod Laid
 pub mod Placed
 pub mod Showing
 pub mod Entries
@@ -15,3 +13,4 @@ pub mod Store
 pub mod Walk
 pub mod Window
 pub mod Work
+pub mod Trees

@@ -1,8 +1,9 @@
 -- What calls on branches answer, and do.
+--     AnswersBranch r command met reply store      the reply and the next state are the machine's, for what was met, and the store's tables are the next repository's
 --     branch_reply, removed_reply      the reply; a fault of the ground has none, nor has one of its files
 --     SlotLater s length result      the slot behind the live one, where so many bytes of records follow that are no commit
 --     Names r x result store old new      the tables after a record of a branch, or without it
-use Rattle.std.specs.Prelude.{◌≡◌, ℕ, ◌+◌, ◌^◌, ◌<◌, ◌≤◌, true, false, Bool, Option, Some, Result, Ok, Err}
+use Rattle.std.specs.Prelude.{◌≡◌, ℕ, List, ◌+◌, ◌^◌, ◌<◌, ◌≤◌, true, false, Bool, Option, Some, Result, Ok, Err}
 use Rattle.ip_base.specs.declared.limit.Limit.{Limit}
 use Rattle.ip_spec.specs.declared.met.Met.{Met}
 use Rattle.ip_spec.specs.declared.record.Record.{Record}
@@ -17,9 +18,10 @@ use Rattle.ip_image.specs.declared.slot.Slot.{Slot}
 use Rattle.ip_image.specs.Appending.{later_slot, renamed}
 use Rattle.ip_store.specs.declared.committing.StoreFault.{StoreFault}
 use Rattle.ip_store.specs.declared.store.Store.{Store}
-use Rattle.ip_store.specs.declared.work.Work.{Work}
-use Rattle.ip_store.specs.Commits.{fault_reply, Answers}
-use Rattle.ip_store.specs.Store.{IsOf, session, IsLawful}
+use Rattle.ip_spec.specs.Machine.{Work}
+use Rattle.ip_store.specs.Commits.{fault_reply, Turns}
+use Rattle.ip_store.specs.Store.{IsOf}
+use Rattle.ip_store.specs.Work.{AreParents, state_at}
 
 abbrev pub branch_reply : Result (Unit {0}) StoreFault → Option Reply
 branch_reply (Ok u) = Some Reply.Accepted
@@ -31,12 +33,20 @@ removed_reply name (Ok true) = Some Reply.Accepted
 removed_reply name (Ok false) = Some (Reply.NoBranch name)
 removed_reply name (Err fault) = fault_reply fault
 
--- for every work, and whatever names the commit
+-- whatever the work is
+pub record AnswersBranch (r : Repository) (command : Command) (met : Met) (reply : Reply) (store : Store) : Type 0 where
+  pub after : Repository
+  pub turns : (work : Work) → Turns (state_at r work) command met reply (state_at after work)
+  pub tables : IsOf store after
+  -- who goes on from commits of the repository goes on from them
+  pub parents : (parents : List ℕ) → AreParents r parents → AreParents after parents
+
+-- and whatever names the commit
 abbrev pub AnswersSet : Repository → Bytes → ℕ → Met → Store → Reply → Type 0
-AnswersSet r name number met store reply = (work : Work) (target : Target) → IsLawful r work → resolve r target ≡ Ok number → Answers (session r work) (Command.Branch name target) met reply store work
+AnswersSet r name number met store reply = (target : Target) → resolve r target ≡ Ok number → AnswersBranch r (Command.Branch name target) met reply store
 
 abbrev pub AnswersRemove : Repository → Bytes → Met → Store → Reply → Type 0
-AnswersRemove r name met store reply = (work : Work) → IsLawful r work → Answers (session r work) (Command.BranchRm name) met reply store work
+AnswersRemove r name met store reply = AnswersBranch r (Command.BranchRm name) met reply store
 
 abbrev pub without_branch : Repository → Bytes → Repository
 without_branch r name = record r { branches = remove r.branches name }

@@ -2,22 +2,21 @@
 --     IsOf store r      its tables are the repository's, and in its history parents come first
 --     Holds store told r      and so is what the ground reads as; its places are those of the commits' records
 --     SameTables store other      they differ in what was met alone.      place_of_commit store number      where the record of a commit lies
---     session r work      the machine's state.      IsLawful r work      the work goes on from commits of the repository
-use Rattle.std.specs.Prelude.{◌≡◌, ◌≢◌, ℕ, ◌-◌, ◌<◌, ◌≤◌, length, map, All, AllPairs, IsTrue, Option, slice_get}
+--     image_records holds      the records of the image that it holds, which are among those of its space
+use Rattle.std.specs.Prelude.{◌≡◌, ℕ, ◌-◌, ◌<◌, length, map, All, Option, slice_get}
 use Rattle.ip_ground.specs.declared.names.FileName.TheVariants.{Control}
 use Rattle.ip_ground.specs.Told.{Told, IsKept}
 use Rattle.ip_spec.specs.Record.{IsHash}
-use Rattle.ip_spec.specs.Repository.{Repository, next, is_retained}
-use Rattle.ip_spec.specs.Machine.{State, Phase}
+use Rattle.ip_spec.specs.declared.record.Record.{Record}
+use Rattle.ip_spec.specs.Repository.{Repository, next}
+use Rattle.ip_spec.specs.TreeAt.{present}
 use Rattle.ip_image.specs.Slot.{IsSlot, IsLive}
 use Rattle.ip_image.specs.Standing.{StandsFor, AreRetained}
 use Rattle.ip_history.specs.History.{HasParentsFirst, history_of}
 use Rattle.ip_space.specs.SpaceView.{IsReadable}
 use Rattle.ip_store.specs.Control.{control_in}
 use Rattle.ip_store.specs.Placed.{places_in, IsSpaceOf}
-use Rattle.ip_store.specs.Work.{work_of}
 use Rattle.ip_store.specs.declared.store.Store.{Store}
-use Rattle.ip_store.specs.declared.work.Work.{Work}
 
 pub record IsOf (store : Store) (r : Repository) : Type 0 where
   pub slot : IsSlot store.slot
@@ -42,6 +41,9 @@ pub record Holds (store : Store) (told : Told) (r : Repository) : Type 0 where
   -- the records of the image are those of the space, so that there each commit's record stands at its place, and its tree where that says
   pub places : store.places.items ≡ places_in stands.standing.records
 
+abbrev pub image_records : {store : Store} {told : Told} {r : Repository} → Holds store told r → ℕ → Option Record
+image_records holds = present holds.stands.standing.records
+
 pub record SameTables (store other : Store) : Type 0 where
   pub index : other.index ≡ store.index
   pub slot : other.slot ≡ store.slot
@@ -57,12 +59,3 @@ place_of_commit store number = slice_get store.places.items (number - store.slot
 -- it holds some repository
 abbrev pub IsSound : Store → Told → Type 0
 IsSound store told = (r : Repository) × Holds store told r
-
-abbrev pub session : Repository → Work → State
-session r work = record { repository = r; phase = Phase.Idle; work = work_of work }
-
--- the parents are distinct retained commits, 16 at most
-pub record IsLawful (r : Repository) (work : Work) : Type 0 where
-  pub retained : All (λ n. IsTrue (is_retained r n)) work.parents
-  pub distinct : AllPairs (λ m n. m ≢ n) work.parents
-  pub few : length work.parents ≤ 16

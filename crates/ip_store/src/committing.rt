@@ -1,36 +1,43 @@
 // Committing a work: its refusals, its records, and the durable step.
-ghost use Rattle.std.specs.Prelude.{◌≡◌, ◌++◌, [], ◌∷◌, ◌==◌, ◌≤◌, ◌<◌, ◌^◌, None, map, position, All, length, vec_len, IsTrue, IfSome, IfOk, IfErr, OnOk, OnErr, IsErrOf};
+ghost use Rattle.std.specs.Prelude.{◌≡◌, ◌≢◌, ◌++◌, [], ◌∷◌, ◌==◌, ◌≤◌, ◌<◌, ◌^◌, ℕ, Option, Ok, Err, None, map, position, All, length, vec_len, IsTrue, IfSome, IfOk, IfErr, OnOk, OnErr, IsErrOf};
 ghost use Rattle.std.specs.Vec.{vec_capacity};
 ghost use Rattle.std.specs.List.{list_any};
 ghost use Rattle.ip_ground.specs.Counts.{NoneFalls, Rose};
 ghost use Rattle.ip_spec.specs.declared.command.Command.TheVariants as Command;
 ghost use Rattle.ip_spec.specs.declared.reply.Reply.TheVariants as Reply;
 ghost use Rattle.ip_spec.specs.Map.{insert};
-ghost use Rattle.ip_spec.specs.Path.{same_bytes};
+ghost use Rattle.ip_spec.specs.Path.{same_bytes, AreBytes};
 ghost use Rattle.ip_base.specs.declared.limit.Limit.TheVariants as Limit;
 ghost use Rattle.ip_spec.specs.Record.{IsBranchName, IsInfo, IsHash, IsU64};
-ghost use Rattle.ip_spec.specs.Repository.{Repository, head, is_retained, name_at};
+ghost use Rattle.ip_spec.specs.Repository.{Repository, head, is_retained, name_at, next};
 ghost use Rattle.ip_spec.specs.Step.{unless_some, moved_head, room_for_branch, not_existing};
 ghost use Rattle.ip_image.specs.Slot.{IsSlot};
 ghost use Rattle.ip_image.specs.Appending.{fields_of};
-ghost use Rattle.ip_store.specs.Batches.{fields_told, AreFields};
+ghost use Rattle.ip_save.specs.Batches.{fields_told, AreFields, HasShortContents};
+ghost use Rattle.ip_spec.specs.View.{View};
+ghost use Rattle.ip_spec.specs.declared.record.Record.{Record};
+ghost use Rattle.ip_tree.specs.TreeView.{IsView};
 ghost use Rattle.ip_store.specs.declared.committing.StoreFault.TheVariants as StoreFault;
-ghost use Rattle.ip_store.specs.Commits.{parent_named, reply_to, refused_by, met_by, SlotBehind, IsRefusal, IsPlan, end_of, Answers, Commits};
-ghost use Rattle.ip_store.specs.Changes.{IsUndamaged, LimitsSpace};
+ghost use Rattle.ip_store.specs.Commits.{parent_named, reply_to, refused_by, met_by, SlotBehind, IsRefusal, IsNewBatch, IsNext, IsPlan, IsPastTheEnd, end_of, Answers, Commits, GoesOn, IsSaved};
+ghost use Rattle.ip_store.specs.Changes.{HasAnswer, IsUndamaged, LimitsSpace};
 ghost use Rattle.ip_store.specs.Histories.{with_parents, MayEnter};
-ghost use Rattle.ip_store.specs.Store.{IsOf, Holds, SameTables, IsSound, session, IsLawful};
+ghost use Rattle.ip_store.specs.Store.{IsOf, Holds, SameTables, image_records};
+ghost use Rattle.ip_store.specs.Trees.{RecordsStay};
+ghost use Rattle.ip_store.specs.Work.{AreParents, IsLawful, IsAt, session};
 
 use crate::branches::MOST_BRANCHES;
 use crate::opening::nothing_met;
 use crate::publish::durable_step;
-use crate::{Batch, Branches, CommitFields, Store, Work};
+use crate::{Branches, Store, Work};
 use ip_base::{Blob, Hash, Info, Limit, Memory, Number, Numbers};
 use ip_control::Slot;
 use ip_ground::{Ground, GroundFault};
 use ip_history::Table;
+use ip_save::{Batch, CommitFields, SaveFault};
 use ip_space::FetchFault;
 use ip_spec::met::Met;
 use ip_spec::record::{Parent, Parents};
+use ip_tree::Tree;
 use std::alloc::Global;
 
 /// Of offsets and sequences.
@@ -169,8 +176,8 @@ fn put_place(places: &mut Vec<u64>, place: u64)
 }
 
 impl Store {
-    // The name of a retained commit.
-    pub(crate) fn retained_name(&self, number: Number) -> Hash
+    /// The name of a retained commit.
+    pub fn retained_name(&self, number: Number) -> Hash
         requires tables { (r : Repository) × IsOf self.now r × IsTrue (is_retained r number) }
         ensures { (r : Repository) → IsOf self.now r → IsTrue (is_retained r number) → result ≡ name_at r number }
     {
@@ -218,6 +225,7 @@ impl Store {
     // Refused where a commit has the name.
     fn is_new(&self, name: Hash) -> Result<(), StoreFault>
         ensures refused { (r : Repository) → IsOf self.now r → not_existing r name ≡ refused_by result }
+        ensures cause { IfErr result (λ fault. fault ≡ StoreFault.Existing name) }
         ensures undamaged { IsUndamaged result }
     {
         if self.names.place_of(&name).is_some() {
@@ -295,9 +303,20 @@ impl Store {
     }
 }
 
+// A law, which does nothing when it is called: a name has 32 bytes.
+fn see_name(name: &Hash)
+    ensures { IsHash name.now }
+{
+    see_bytes(name.as_slice());
+}
+
+fn see_bytes(bytes: &[u8])
+    ensures { AreBytes bytes.now }
+{}
+
 impl Store {
-    /// Commits the work's tree to a branch, and answers the commit's name. Afterwards the work goes on from that commit. Once it is `Ok` the
-    /// commit is there for good. After `Ground` the store may not be used any more.
+    /// Commits the work's tree to a branch, and answers the commit's name. Afterwards the work goes on from that commit, and its tree is the
+    /// one that was stored. Once it is `Ok` the commit is there for good. After `Ground` the store may not be used any more. It reads nothing.
     pub fn commit<G: Ground>(
         &mut self,
         alloc: Global,
@@ -308,13 +327,19 @@ impl Store {
     ) -> Result<Hash, StoreFault>
         requires branch { IsBranchName branch.now }
         requires info { IsInfo info }
-        requires tables { (r : Repository) × IsOf self.old r × IsLawful r work.old }
-        requires held { IsTrue G.tells → IsSound self.old (G.told outside.old) }
-        ensures answers { (r : Repository) → IsOf self.old r → IsLawful r work.old →
-            IfSome (reply_to result) (λ reply. Answers (session r work.old) (Command.Commit branch.now info) self.new.met reply self.new work.new) }
-        ensures limits { (r : Repository) → IsOf self.old r → IsLawful r work.old → LimitsSpace (end_of r work.old branch.now info self.old) result self.old }
-        ensures does { IsTrue G.tells → (r : Repository) → Holds self.old (G.told outside.old) r → IsLawful r work.old →
-            Commits r work.old branch.now info result self.new (G.told outside.old) (G.told outside.new) }
+        requires tables { (r : Repository) × IsOf self.old r × AreParents r work.old.parents }
+        requires held { IsTrue G.tells → (r : Repository) × (v : View) × IsAt (G.told outside.old) self.old r work.old v }
+        ensures tables { (r : Repository) → IsOf self.old r → AreParents r work.old.parents → HasAnswer result → GoesOn self.new work.new }
+        ensures answers { IsTrue G.tells → (r : Repository) (v : View) → IsAt (G.told outside.old) self.old r work.old v →
+            IfSome (reply_to result) (λ reply. Answers (G.told outside.new) (session r work.old v) (Command.Commit branch.now info) self.new.met reply self.new work.new) }
+        ensures saved { IsTrue G.tells → (r q : Repository) (v : View) → IsAt (G.told outside.old) self.old r work.old v → (now : Holds self.new (G.told outside.new) q) →
+            OnOk result (IsSaved (image_records now) work.new.tree (next r) v.map) }
+        ensures limits { IsTrue G.tells → (r : Repository) (v : View) → IsAt (G.told outside.old) self.old r work.old v →
+            LimitsSpace (end_of r work.old v branch.now info self.old) result self.old }
+        ensures does { IsTrue G.tells → (r : Repository) (v : View) → IsAt (G.told outside.old) self.old r work.old v →
+            Commits r work.old v branch.now info result self.new (G.told outside.old) (G.told outside.new) }
+        ensures stay { IsTrue G.tells → HasAnswer result → (r q : Repository) (held : Holds self.old (G.told outside.old) r) (now : Holds self.new (G.told outside.new) q) →
+            RecordsStay (image_records held) (image_records now) }
         ensures counts { NoneFalls (G.counts_of outside.old) (G.counts_of outside.new) }
         ensures cause { IsErrOf result StoreFault.Ground → Rose (G.counts_of outside.old).file_faults (G.counts_of outside.new).file_faults }
         ensures undamaged { IsUndamaged result }
@@ -334,20 +359,20 @@ impl Store {
     ) -> Result<Plan, StoreFault>
         requires branch { IsBranchName branch.now }
         requires info { IsInfo info }
-        requires tables { (r : Repository) × IsOf self.now r × IsLawful r work.now }
-        ensures refused { (r : Repository) → IsOf self.now r → IsLawful r work.now → IfErr result (IsRefusal r work.now branch.now info) }
-        ensures planned { (r : Repository) → IsOf self.now r → IsLawful r work.now → IfOk result (IsPlan r work.now branch.now info self.now) }
-        ensures space { (r : Repository) → IsOf self.now r → IsLawful r work.now → IsErrOf result (StoreFault.Limit Limit.Space) → 2 ^ 62 < end_of r work.now branch.now info self.now }
-        ensures sequence { (r : Repository) → IsOf self.now r → IsLawful r work.now → IsErrOf result (StoreFault.Limit Limit.Sequence) →
-            (end_of r work.now branch.now info self.now ≤ 2 ^ 62) × (self.now.slot.sequence ≡ 2 ^ 62) }
+        requires tables { (r : Repository) × IsOf self.now r × AreParents r work.now.parents }
+        ensures coming { (r : Repository) → IsOf self.now r → IfOk result (IsNext r branch.now self.now) }
+        ensures refused { (records : ℕ → Option Record) (r : Repository) (v : View) → IsOf self.now r → IsLawful records r work.now v → IfErr result (IsRefusal r work.now v branch.now info) }
+        ensures planned { (records : ℕ → Option Record) (r : Repository) (v : View) → IsOf self.now r → IsLawful records r work.now v → IfOk result (IsPlan r work.now v branch.now info self.now) }
+        ensures space { (records : ℕ → Option Record) (r : Repository) (v : View) → IsOf self.now r → IsLawful records r work.now v → IsErrOf result (StoreFault.Limit Limit.Space) → 2 ^ 62 < end_of r work.now v branch.now info self.now }
+        ensures sequence { (records : ℕ → Option Record) (r : Repository) (v : View) → IsOf self.now r → IsLawful records r work.now v → IsErrOf result (StoreFault.Limit Limit.Sequence) →
+            (end_of r work.now v branch.now info self.now ≤ 2 ^ 62) × (self.now.slot.sequence ≡ 2 ^ 62) }
         ensures no_fault { IsErrOf result StoreFault.Ground → ⊥ }
         ensures undamaged { IsUndamaged result }
     {
         self.head_among(work.parents.as_slice(), branch)?;
         self.room_for(branch)?;
         let fields = self.fields(alloc, work.parents.as_slice(), branch, info)?;
-        let batch = Batch::of(alloc, &work.tree, &fields, self.slot.end)?;
-        self.is_new(batch.name())?;
+        let batch = self.new_batch(alloc, &work.tree, &fields)?;
         let slot = self.slot_behind(batch.bytes().len())?;
         let parents = only(alloc, fields.number)?;
         Ok(Plan {
@@ -374,6 +399,7 @@ impl Store {
         ensures fields { (r : Repository) → IsOf self.now r → All (λ n. IsTrue (is_retained r n)) parents.now →
             IfOk result (λ fields. fields_told fields ≡ fields_of r parents.now info branch.now) }
         ensures within { IfOk result (λ fields. AreFields (fields_told fields)) }
+        ensures number { (r : Repository) → IsOf self.now r → IfOk result (λ fields. (fields.number ≡ next r) × (fields.branch ≡ branch.now)) }
     {
         Ok(CommitFields {
             number: Number(self.slot.next),
@@ -381,6 +407,54 @@ impl Store {
             info,
             branch: Blob::copy_of(alloc, branch)?,
         })
+    }
+
+    // The commit's batch, where no other has its name.
+    fn new_batch(
+        &self,
+        alloc: Global,
+        tree: &Tree,
+        fields: &CommitFields,
+    ) -> Result<Batch, StoreFault>
+        requires slot { IsSlot self.now.slot }
+        requires fields { AreFields (fields_told fields.now) }
+        ensures made { (records : ℕ → Option Record) (r : Repository) (v : View) → IsOf self.now r → IsView records tree.now v → HasShortContents v.map
+            → IsNewBatch r v (fields_told fields.now) self.now.slot.end result }
+        ensures is_name { IfOk result (λ b. IsHash b.name) }
+        ensures some { IfOk result (λ b. 0 < length b.bytes.items) }
+        ensures fresh { (r : Repository) → IsOf self.now r → IfOk result (λ b. not_existing r b.name ≡ Ok tt) }
+        ensures no_fault { IsErrOf result StoreFault.Ground → ⊥ }
+        ensures undamaged { IsUndamaged result }
+    {
+        match Batch::of(alloc, tree, fields, self.slot.end) {
+            Ok(batch) => {
+                let name = batch.name();
+                see_name(&name);
+                self.is_new(name)?;
+                Ok(batch)
+            }
+            Err(SaveFault::Limit(Limit::Space)) => Err(self.past_the_end(alloc, tree, fields)),
+            Err(SaveFault::Limit(limit)) => Err(StoreFault::Limit(limit)),
+            Err(SaveFault::Memory) => Err(StoreFault::Memory),
+        }
+    }
+
+    // Why there is no batch where its records would pass the greatest end. That a commit has its name comes first, and it has the same name
+    // wherever it lies.
+    fn past_the_end(&self, alloc: Global, tree: &Tree, fields: &CommitFields) -> StoreFault
+        requires fields { AreFields (fields_told fields.now) }
+        ensures because { (records : ℕ → Option Record) (r : Repository) (v : View) → IsOf self.now r → IsView records tree.now v → HasShortContents v.map
+            → IsPastTheEnd r v (fields_told fields.now) result }
+        ensures no_fault { result ≢ StoreFault.Ground }
+        ensures undamaged { IsUndamaged {A = Batch} (Err result) }
+    {
+        match Batch::of(alloc, tree, fields, 0) {
+            Ok(batch) => match self.is_new(batch.name()) {
+                Ok(()) => StoreFault::Limit(Limit::Space),
+                Err(fault) => fault,
+            },
+            Err(_) => StoreFault::Memory,
+        }
     }
 
     fn commit_work<G: Ground>(
@@ -393,13 +467,19 @@ impl Store {
     ) -> Result<Hash, StoreFault>
         requires branch { IsBranchName branch.now }
         requires info { IsInfo info }
-        requires tables { (r : Repository) × IsOf self.old r × IsLawful r work.old }
-        requires held { IsTrue G.tells → IsSound self.old (G.told outside.old) }
-        ensures answers { (r : Repository) → IsOf self.old r → IsLawful r work.old →
-            IfSome (reply_to result) (λ reply. Answers (session r work.old) (Command.Commit branch.now info) (met_by result) reply self.new work.new) }
-        ensures limits { (r : Repository) → IsOf self.old r → IsLawful r work.old → LimitsSpace (end_of r work.old branch.now info self.old) result self.old }
-        ensures does { IsTrue G.tells → (r : Repository) → Holds self.old (G.told outside.old) r → IsLawful r work.old →
-            Commits r work.old branch.now info result self.new (G.told outside.old) (G.told outside.new) }
+        requires tables { (r : Repository) × IsOf self.old r × AreParents r work.old.parents }
+        requires held { IsTrue G.tells → (r : Repository) × (v : View) × IsAt (G.told outside.old) self.old r work.old v }
+        ensures tables { (r : Repository) → IsOf self.old r → AreParents r work.old.parents → HasAnswer result → GoesOn self.new work.new }
+        ensures answers { IsTrue G.tells → (r : Repository) (v : View) → IsAt (G.told outside.old) self.old r work.old v →
+            IfSome (reply_to result) (λ reply. Answers (G.told outside.new) (session r work.old v) (Command.Commit branch.now info) (met_by result) reply self.new work.new) }
+        ensures saved { IsTrue G.tells → (r q : Repository) (v : View) → IsAt (G.told outside.old) self.old r work.old v → (now : Holds self.new (G.told outside.new) q) →
+            OnOk result (IsSaved (image_records now) work.new.tree (next r) v.map) }
+        ensures limits { IsTrue G.tells → (r : Repository) (v : View) → IsAt (G.told outside.old) self.old r work.old v →
+            LimitsSpace (end_of r work.old v branch.now info self.old) result self.old }
+        ensures does { IsTrue G.tells → (r : Repository) (v : View) → IsAt (G.told outside.old) self.old r work.old v →
+            Commits r work.old v branch.now info result self.new (G.told outside.old) (G.told outside.new) }
+        ensures stay { IsTrue G.tells → HasAnswer result → (r q : Repository) (held : Holds self.old (G.told outside.old) r) (now : Holds self.new (G.told outside.new) q) →
+            RecordsStay (image_records held) (image_records now) }
         ensures counts { NoneFalls (G.counts_of outside.old) (G.counts_of outside.new) }
         ensures cause { IsErrOf result StoreFault.Ground → Rose (G.counts_of outside.old).file_faults (G.counts_of outside.new).file_faults }
         ensures undamaged { IsUndamaged result }
@@ -424,6 +504,7 @@ impl Store {
         self.space.grow(plan.slot.end);
         self.slot = plan.slot;
         put_place(&mut self.places, plan.batch.commit_at());
+        work.tree = Tree::of(plan.number, plan.batch.root());
         work.parents = plan.parents;
         work.least = Some(plan.number);
         Ok(name)

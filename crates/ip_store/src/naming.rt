@@ -7,10 +7,11 @@ ghost use Rattle.ip_spec.specs.Step.{with_branch, room_for_branch};
 ghost use Rattle.ip_spec.specs.declared.record.Record.TheVariants as Record;
 ghost use Rattle.ip_image.specs.Slot.{IsSlot};
 ghost use Rattle.ip_image.specs.Appending.{MayName, renamed};
-ghost use Rattle.ip_store.specs.Changes.{Changes, IsUndamaged, LimitsSpace};
+ghost use Rattle.ip_store.specs.Changes.{Changes, HasAnswer, IsUndamaged, LimitsSpace};
 ghost use Rattle.ip_store.specs.Commits.{met_by};
 ghost use Rattle.ip_store.specs.Naming.{branch_reply, removed_reply, AnswersSet, AnswersRemove, without_branch, SlotLater, Renames};
-ghost use Rattle.ip_store.specs.Store.{IsOf, Holds, IsSound};
+ghost use Rattle.ip_store.specs.Store.{IsOf, Holds, IsSound, image_records};
+ghost use Rattle.ip_store.specs.Trees.{RecordsStay};
 ghost use Rattle.ip_store.specs.declared.committing.StoreFault.TheVariants as StoreFault;
 
 use crate::committing::{GREATEST, met_by};
@@ -86,6 +87,8 @@ impl Store {
         ensures limits { LimitsSpace (self.old.slot.end + length (spelling rec)) result self.old }
         ensures does { IsTrue G.tells → (r : Repository) → Holds self.old (G.told outside.old) r → MayName r rec →
             Changes r (renamed r rec) result self.new (G.told outside.old) (G.told outside.new) }
+        ensures stay { IsTrue G.tells → HasAnswer result → (r q : Repository) (held : Holds self.old (G.told outside.old) r) (now : Holds self.new (G.told outside.new) q) →
+            RecordsStay (image_records held) (image_records now) }
         ensures counts { NoneFalls (G.counts_of outside.old) (G.counts_of outside.new) }
         ensures cause { IsErrOf result StoreFault.Ground → Rose (G.counts_of outside.old).file_faults (G.counts_of outside.new).file_faults }
         ensures undamaged { IsUndamaged result }
@@ -121,6 +124,8 @@ impl Store {
         ensures limits { LimitsSpace (self.old.slot.end + length (spelling (Record.BranchSet number name.now))) result self.old }
         ensures does { IsTrue G.tells → (r : Repository) → Holds self.old (G.told outside.old) r → IsTrue (is_retained r number) →
             Changes r (with_branch r name.now number) result self.new (G.told outside.old) (G.told outside.new) }
+        ensures stay { IsTrue G.tells → HasAnswer result → (r q : Repository) (held : Holds self.old (G.told outside.old) r) (now : Holds self.new (G.told outside.new) q) →
+            RecordsStay (image_records held) (image_records now) }
         ensures counts { NoneFalls (G.counts_of outside.old) (G.counts_of outside.new) }
         ensures cause { IsErrOf result StoreFault.Ground → Rose (G.counts_of outside.old).file_faults (G.counts_of outside.new).file_faults }
         ensures undamaged { IsUndamaged result }
@@ -147,6 +152,8 @@ impl Store {
         ensures limits { LimitsSpace (self.old.slot.end + length (spelling (Record.BranchSet number name.now))) result self.old }
         ensures does { IsTrue G.tells → (r : Repository) → Holds self.old (G.told outside.old) r → IsTrue (is_retained r number) →
             Changes r (with_branch r name.now number) result self.new (G.told outside.old) (G.told outside.new) }
+        ensures stay { IsTrue G.tells → HasAnswer result → (r q : Repository) (held : Holds self.old (G.told outside.old) r) (now : Holds self.new (G.told outside.new) q) →
+            RecordsStay (image_records held) (image_records now) }
         ensures counts { NoneFalls (G.counts_of outside.old) (G.counts_of outside.new) }
         ensures cause { IsErrOf result StoreFault.Ground → Rose (G.counts_of outside.old).file_faults (G.counts_of outside.new).file_faults }
         ensures undamaged { IsUndamaged result }
@@ -174,6 +181,8 @@ impl Store {
         ensures limits { (r : Repository) → IsOf self.old r → IsSome (head r name.now) → LimitsSpace (self.old.slot.end + length (spelling (Record.BranchRemove name.now))) result self.old }
         ensures does { IsTrue G.tells → (r : Repository) → Holds self.old (G.told outside.old) r →
             Changes r (without_branch r name.now) result self.new (G.told outside.old) (G.told outside.new) }
+        ensures stay { IsTrue G.tells → HasAnswer result → (r q : Repository) (held : Holds self.old (G.told outside.old) r) (now : Holds self.new (G.told outside.new) q) →
+            RecordsStay (image_records held) (image_records now) }
         ensures counts { NoneFalls (G.counts_of outside.old) (G.counts_of outside.new) }
         ensures cause { IsErrOf result StoreFault.Ground → Rose (G.counts_of outside.old).file_faults (G.counts_of outside.new).file_faults }
         ensures undamaged { IsUndamaged result }
@@ -199,6 +208,8 @@ impl Store {
         ensures limits { (r : Repository) → IsOf self.old r → IsSome (head r name.now) → LimitsSpace (self.old.slot.end + length (spelling (Record.BranchRemove name.now))) result self.old }
         ensures does { IsTrue G.tells → (r : Repository) → Holds self.old (G.told outside.old) r →
             Changes r (without_branch r name.now) result self.new (G.told outside.old) (G.told outside.new) }
+        ensures stay { IsTrue G.tells → HasAnswer result → (r q : Repository) (held : Holds self.old (G.told outside.old) r) (now : Holds self.new (G.told outside.new) q) →
+            RecordsStay (image_records held) (image_records now) }
         ensures counts { NoneFalls (G.counts_of outside.old) (G.counts_of outside.new) }
         ensures cause { IsErrOf result StoreFault.Ground → Rose (G.counts_of outside.old).file_faults (G.counts_of outside.new).file_faults }
         ensures undamaged { IsUndamaged result }

@@ -7,7 +7,8 @@ ghost use Rattle.ip_spec.specs.Repository.{Repository, is_retained, name_at};
 ghost use Rattle.ip_space.specs.SpaceView.{OnlyReads, records_of};
 ghost use Rattle.ip_store.specs.declared.committing.StoreFault.TheVariants as StoreFault;
 ghost use Rattle.ip_store.specs.Showing.{IsFetchedOr, IsShown, IsRootOf, IsReference, IsRecordOf, IsCommitFrom, BlamesCommit, Damages};
-ghost use Rattle.ip_store.specs.Store.{IsOf, Holds, SameTables, place_of_commit};
+ghost use Rattle.ip_store.specs.Trees.{OnlyLooks};
+ghost use Rattle.ip_store.specs.Store.{IsOf, Holds, SameTables, image_records, place_of_commit};
 
 use crate::{Store, StoreFault};
 use ip_base::{Hash, Hashes, Info, Items, Memory, Number};
@@ -62,8 +63,7 @@ impl Store {
         ensures damages { IsTrue G.tells → Damages (records_of (G.told outside.old) self.old.space) result }
         ensures same { SameTables self.old self.new }
         ensures met { self.new.met ≡ self.old.met }
-        ensures reads { IsTrue G.tells → OnlyReads (G.told outside.old) (G.told outside.new) self.old.space self.new.space }
-        ensures holds { IsTrue G.tells → (r : Repository) → Holds self.old (G.told outside.old) r → Holds self.new (G.told outside.new) r }
+        ensures looks { IsTrue G.tells → OnlyLooks (G.told outside.old) (G.told outside.new) self.old self.new }
         ensures counts { NoneFalls (G.counts_of outside.old) (G.counts_of outside.new) }
         ensures cause { IsErrOf result StoreFault.Ground → Rose (G.counts_of outside.old).file_faults (G.counts_of outside.new).file_faults }
     {
@@ -82,8 +82,8 @@ impl Store {
         number: Number,
     ) -> Result<Ref, StoreFault>
         requires tables { (r : Repository) × IsOf self.old r × IsTrue (is_retained r number) }
-        ensures root { IsTrue G.tells → (r : Repository) → Holds self.old (G.told outside.old) r → IsTrue (is_retained r number) →
-            IsFetchedOr (IsRootOf (records_of (G.told outside.old) self.old.space) r number) result }
+        ensures root { IsTrue G.tells → (r : Repository) (held : Holds self.old (G.told outside.old) r) → IsTrue (is_retained r number) →
+            IsFetchedOr (IsRootOf (image_records held) r number) result }
         ensures blames { (r : Repository) → IsOf self.old r → IsTrue (is_retained r number) → BlamesCommit (place_of_commit self.old number) (name_at r number) result }
         ensures damages { IsTrue G.tells → Damages (records_of (G.told outside.old) self.old.space) result }
         ensures same { SameTables self.old self.new }
@@ -110,8 +110,8 @@ impl Store {
         number: Number,
     ) -> Result<CommitRecord, StoreFault>
         requires tables { (r : Repository) × IsOf self.old r × IsTrue (is_retained r number) }
-        ensures fetched { IsTrue G.tells → (r : Repository) → Holds self.old (G.told outside.old) r → IsTrue (is_retained r number) →
-            IsFetchedOr (IsRecordOf (records_of (G.told outside.old) self.old.space) r number) result }
+        ensures fetched { IsTrue G.tells → (r : Repository) (held : Holds self.old (G.told outside.old) r) → IsTrue (is_retained r number) →
+            IsFetchedOr (IsRecordOf (image_records held) r number) result }
         ensures blames { (r : Repository) → IsOf self.old r → IsTrue (is_retained r number) → BlamesCommit (place_of_commit self.old number) (name_at r number) result }
         ensures damages { IsTrue G.tells → Damages (records_of (G.told outside.old) self.old.space) result }
         ensures same { SameTables self.old self.new }

@@ -1,5 +1,5 @@
 // What a store that is opened tells of history, and of each commit.
-ghost use Rattle.std.specs.Prelude.{◌≡◌, ◌<◌, IfOk, OnOk};
+ghost use Rattle.std.specs.Prelude.{◌≡◌, ◌<◌, IsTrue, IfOk, OnOk};
 ghost use Rattle.ip_spec.specs.Record.{IsInfo};
 ghost use Rattle.ip_spec.specs.Repository.{Repository};
 ghost use Rattle.ip_store.specs.Store.{IsOf, IsSound};
@@ -268,17 +268,18 @@ fn info(alloc: Global, message: u8) -> Result<Info, Memory>
 }
 
 // Two commits of the empty tree to `main`, one behind the other.
-fn two_commits(alloc: Global, ground: &mut Bench, store: &mut Store) -> Result<(), Fail>
-    requires { IsSound store.old (⟦<Bench as Ground>⟧.told ground.old) }
+fn two_commits<G: Ground>(alloc: Global, outside: &mut G, store: &mut Store) -> Result<(), Fail>
+    requires tables { (r : Repository) × IsOf store.old r }
+    requires held { IsTrue G.tells → IsSound store.old (G.told outside.old) }
     ensures { OnOk result ((r : Repository) × IsOf store.new r) }
 {
     let mut work = Work::empty(alloc);
     let first = info(alloc, b'b')?;
     let second = info(alloc, b'c')?;
-    let Ok(_) = store.commit(alloc, ground, &mut work, b"main", first) else {
+    let Ok(_) = store.commit(alloc, outside, &mut work, b"main", first) else {
         return Err("no first commit")?;
     };
-    let Ok(_) = store.commit(alloc, ground, &mut work, b"main", second) else {
+    let Ok(_) = store.commit(alloc, outside, &mut work, b"main", second) else {
         return Err("no second commit")?;
     };
     Ok(())

@@ -15,7 +15,6 @@ ghost use Rattle.ip_spec.specs.declared.record.RecordFault.TheVariants as Record
 ghost use Rattle.ip_ground.specs.declared.names.FileName.{FileName};
 ghost use Rattle.ip_ground.specs.declared.names.FileName.TheVariants.{Chunk};
 
-use crate::tree::MOST_ENTRIES;
 use crate::window::Window;
 use crate::{Branches, OpenFault};
 use ip_audit::{Audit, AuditFault, Terms};
@@ -26,6 +25,9 @@ use ip_history::Table;
 use ip_object::read_record;
 use ip_spec::record::{Parent, Record, RecordFault};
 use std::alloc::Global;
+
+/// Entries of one directory, which is one leaf.
+const MOST_ENTRIES: usize = 32;
 
 /// What the records so far come to.
 #[derive(Drop)]

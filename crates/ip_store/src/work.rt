@@ -1,10 +1,19 @@
 // The work of a session.
-ghost use Rattle.std.specs.Prelude.{◌≡◌};
+ghost use Rattle.std.specs.Prelude.{◌≡◌, ℕ, Option};
+ghost use Rattle.ip_ground.specs.Contents.{Image};
 ghost use Rattle.ip_spec.specs.Machine.{empty_work};
-ghost use Rattle.ip_store.specs.Work.{work_of};
+ghost use Rattle.ip_spec.specs.Repository.{Repository};
+ghost use Rattle.ip_spec.specs.TreeAt.{present};
+ghost use Rattle.ip_spec.specs.View.{View, no_view};
+ghost use Rattle.ip_spec.specs.declared.record.Record.{Record};
+ghost use Rattle.ip_image.specs.Standing.{Standing};
+ghost use Rattle.ip_tree.specs.Leaves.{HasLeavesOnly};
+ghost use Rattle.ip_store.specs.Trees.{RecordsStay};
+ghost use Rattle.ip_store.specs.Work.{work_at, AreParents, IsLawful};
+ghost use Rattle.ip_store.specs.declared.work.Work.{Work};
 
-use crate::Tree;
 use ip_base::{Number, Numbers};
+use ip_tree::Tree;
 use std::alloc::Global;
 
 /// A tree, the commits that it goes on from, and the least commit number that it took from.
@@ -16,9 +25,11 @@ pub struct Work {
 }
 
 impl Work {
-    /// As a session begins: an empty tree, no parents, no least number.
+    /// As a session begins: an empty tree, no parents, no least number. It takes no memory.
     pub fn empty(alloc: Global) -> Self
-        ensures { work_of result ≡ empty_work }
+        ensures lawful { (records : ℕ → Option Record) (r : Repository) → HasLeavesOnly records → IsLawful records r result no_view }
+        ensures begins { work_at result no_view ≡ empty_work }
+        ensures parents { (r : Repository) → AreParents r result.parents }
     {
         Work {
             tree: Tree::empty(alloc),
@@ -27,6 +38,18 @@ impl Work {
         }
     }
 }
+
+/// A law, which does nothing when it is called: a lawful work stays lawful under calls that it was not given to, as long as the records stay
+/// and its parents are retained.
+pub fn works_stay()
+    ensures { (records more : ℕ → Option Record) (r q : Repository) (work : Work) (v : View) → IsLawful records r work v → RecordsStay records more → HasLeavesOnly more
+        → AreParents q work.parents → IsLawful more q work v }
+{}
+
+/// A law, which does nothing when it is called: in an image that stands each directory is one leaf, so trees may be read over its records.
+pub fn leaves_only()
+    ensures { (image : Image) (standing : Standing image) → HasLeavesOnly (present standing.records) }
+{}
 
 #[cfg(test)]
 mod tests {
@@ -37,5 +60,6 @@ mod tests {
         let work = Work::empty(rt.alloc());
         assert_eq!(rt; work.parents.len(), 0);
         assert_eq!(rt; work.least, None);
+        assert_eq!(rt; work.tree.oldest(), None);
     }
 }

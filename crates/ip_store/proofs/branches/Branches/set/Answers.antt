@@ -1,6 +1,5 @@
 use Rattle.std.proofs.Common.{◌∙◌, sym}
-use Rattle.ip_store.proofs.Kept.{on_err}
-use Rattle.ip_store.proofs.Numbered.{get_is, same_branches, set_is}
+use Rattle.ip_store.proofs.Numbered.{get_is, on_err, same_branches, set_is}
 use Rattle.ip_store.proofs.branches.Branches.set.Goals as goal
 
 pub returns-in_err-insert-clause-err : goal.returns-in_err-insert-clause-err

@@ -1,18 +1,34 @@
 use Rattle.std.proofs.Common.{sym, subst}
-use Rattle.std.specs.Prelude.{IfSome}
+use Rattle.std.specs.Prelude.{IfSome, OnOk}
 use Rattle.ip_spec.specs.declared.command.Command.TheVariants as Command
-use Rattle.ip_store.specs.Commits.{Answers, reply_to}
+use Rattle.ip_spec.specs.Repository.{next}
+use Rattle.ip_store.specs.Commits.{Answers, IsSaved, reply_to}
 use Rattle.ip_store.specs.declared.store.Store.{Store}
-use Rattle.ip_store.specs.Store.{session}
-use Rattle.ip_store.proofs.AfterCommit.{same_answers}
-use Rattle.ip_store.proofs.Stepping.{in_itself, same_changes}
+use Rattle.ip_store.specs.Work.{session}
+use Rattle.ip_store.proofs.AfterCommit.{same_answers, same_goes_on}
+use Rattle.ip_store.specs.Store.{image_records}
+use Rattle.ip_store.specs.Trees.{RecordsStay}
+use Rattle.ip_store.proofs.Stepping.{in_itself, out_of_itself, same_changes, carried}
 use Rattle.ip_store.proofs.store.Store.commit.Goals as goal
 
+pub returns-clause-tables : goal.returns-clause-tables
+returns-clause-tables g c r of are has = same_goes_on c.commit_work-answer.new.self _ (in_itself c.commit_work-answer.new.self c.met_by-self.result) _ (c.commit_work-answer.ensures.tables r of are has)
+
 pub returns-clause-answers : goal.returns-clause-answers
-returns-clause-answers g c r of lawful =
+returns-clause-answers g c told r v at =
     let store : Store = record { index = c.commit_work-answer.new.self.index; slot = c.commit_work-answer.new.self.slot; names = c.commit_work-answer.new.self.names; branches = c.commit_work-answer.new.self.branches; history = c.commit_work-answer.new.self.history; places = c.commit_work-answer.new.self.places; space = c.commit_work-answer.new.self.space; met = c.met_by-self.result } in
-    subst (λ met. IfSome (reply_to c.commit_work-answer.result) (λ reply. Answers (session r c.args.work.now) (Command.Commit c.args.branch.now c.args.info) met reply store c.commit_work-answer.new.work)) (sym c.met_by-self.ensures)
-    (same_answers c.commit_work-answer.new.self store (in_itself c.commit_work-answer.new.self c.met_by-self.result) _ _ _ _ _ (c.commit_work-answer.ensures.answers r of lawful))
+    subst (λ met. IfSome (reply_to c.commit_work-answer.result) (λ reply. Answers (g.G.Ground.told c.commit_work-answer.new.outside) (session r c.args.work.now v) (Command.Commit c.args.branch.now c.args.info) met reply store c.commit_work-answer.new.work)) (sym c.met_by-self.ensures)
+    (same_answers c.commit_work-answer.new.self store (in_itself c.commit_work-answer.new.self c.met_by-self.result) _ _ _ _ _ _ (c.commit_work-answer.ensures.answers told r v at))
 
 pub returns-clause-does : goal.returns-clause-does
-returns-clause-does g c told r held lawful = same_changes c.commit_work-answer.new.self _ (in_itself c.commit_work-answer.new.self c.met_by-self.result) r _ _ _ _ (c.commit_work-answer.ensures.does told r held lawful)
+returns-clause-does g c told r v at = same_changes c.commit_work-answer.new.self _ (in_itself c.commit_work-answer.new.self c.met_by-self.result) r _ _ _ _ (c.commit_work-answer.ensures.does told r v at)
+
+pub returns-clause-saved : goal.returns-clause-saved
+returns-clause-saved g c told r q v at now =
+    carried c.commit_work-answer.new.self _ (out_of_itself c.commit_work-answer.new.self c.met_by-self.result) (g.G.Ground.told c.commit_work-answer.new.outside) q
+    (λ records. OnOk c.commit_work-answer.result (IsSaved records c.commit_work-answer.new.work.tree (next r) v.map)) (λ mid. c.commit_work-answer.ensures.saved told r q v at mid) now
+
+pub returns-clause-stay : goal.returns-clause-stay
+returns-clause-stay g c told has r q held now =
+    carried c.commit_work-answer.new.self _ (out_of_itself c.commit_work-answer.new.self c.met_by-self.result) (g.G.Ground.told c.commit_work-answer.new.outside) q
+    (λ records. RecordsStay (image_records held) records) (λ mid. c.commit_work-answer.ensures.stay told has r q held mid) now

@@ -1,107 +1,202 @@
-use Rattle.std.proofs.Common.{◌≡◌, ◌-◌, ◌≤◌, ◌++◌, [], ◌∷◌, ℕ, None, rules, refl, sym, ◌∙◌, ap, subst}
-use Rattle.std.specs.Prelude.{Err, IfSome, position}
+use Rattle.std.proofs.Common.{◌≡◌, ◌-◌, ◌^◌, ◌≤◌, ◌++◌, [], ◌∷◌, ℕ, None, rules, refl, sym, ◌∙◌, ap, subst}
+use Rattle.std.specs.Prelude.{Err, IfSome, Some, position}
 use Rattle.ip_spec.specs.declared.command.Command.TheVariants as Command
 use Rattle.ip_spec.specs.Path.{same_bytes}
+use Rattle.ip_spec.specs.Map.{insert}
+use Rattle.ip_spec.specs.Step.{new_commit, with_commit}
+use Rattle.ip_spec.specs.TreeAt.{present}
 use Rattle.ip_image.specs.declared.slot.Slot.{Slot}
+use Rattle.ip_image.proofs.SpelledCommits.{present_front}
 use Rattle.ip_space.specs.SpaceView.{SpaceView, grown}
 use Rattle.ip_store.specs.declared.committing.StoreFault.TheVariants as StoreFault
-use Rattle.ip_store.specs.Commits.{Answers, Commits, repository_after, reply_to, met_by}
-use Rattle.ip_store.specs.Store.{session}
-use Rattle.ip_store.proofs.Stepping.{itself, same_tables, changes_none, same_can_step, same_step}
-use Rattle.ip_store.proofs.AfterCommit.{after_tables, after_lawful, further, inside, can_step, made, cut, answers_refused, answers_made}
-use Rattle.ip_spec.specs.Map.{insert}
+use Rattle.ip_store.specs.Changes.{LimitsSpace}
+use Rattle.ip_store.specs.Commits.{Answers, Commits, end_of, repository_after, reply_to, met_by}
 use Rattle.ip_store.specs.Histories.{with_parents}
+use Rattle.ip_store.specs.Work.{session}
 use Rattle.ip_store.proofs.Histories.{may_enter}
 use Rattle.ip_store.proofs.Machine.{refused_memory}
-use Rattle.ip_store.proofs.Tables.{none_below, free, same_lawful}
+use Rattle.ip_store.proofs.Planning.{err_of}
+use Rattle.ip_store.proofs.Stepping.{itself, same_tables, changes_none, stays_still, same_can_step, same_step}
+use Rattle.ip_store.proofs.AfterCommit.{some_commit, after_tables, after_parents, held_after, read_root, further, inside, can_step, made, cut, list_on, saved_tree, work_after, answers_refused, answers_made, same_at}
+use Rattle.ip_store.proofs.Tables.{none_below, none_named, free}
 use Rattle.ip_store.proofs.store.Store.commit_work.Goals as goal
 
 pub enter-requires-clause-new : goal.enter-requires-clause-new
 enter-requires-clause-new g c =
     let r = c.requires.tables.0 in
     let of = c.requires.tables.1 in
-    let is = c.in_ok-plan.ensures.planned r of c.requires.tables.2 in
-    subst (λ h. position (λ n. same_bytes n h) c.args.self.now.names ≡ None) (sym (c.name-name.ensures ∙ is.name)) (free c.args.self.now r of _ is.may.new_name)
+    let is = c.in_ok-plan.ensures.coming r of in
+    subst (λ h. position (λ n. same_bytes n h) c.args.self.now.names ≡ None) (sym c.name-name.ensures) (free c.args.self.now r of _ (none_named r _ is.new_name))
 
 pub enter-requires-clause-key : goal.enter-requires-clause-key
-enter-requires-clause-key g c = (c.in_ok-plan.ensures.planned c.requires.tables.0 c.requires.tables.1 c.requires.tables.2).same_branch
+enter-requires-clause-key g c = (c.in_ok-plan.ensures.coming c.requires.tables.0 c.requires.tables.1).same_branch
 
 pub enter-requires-clause-parents : goal.enter-requires-clause-parents
 enter-requires-clause-parents g c = may_enter c.args.self.now c.requires.tables.0 c.requires.tables.1 c.args.work.now.parents _ c.as_slice.ensures c.requires.tables.2.retained
-
-pub returns-in_err-plan-clause-answers : goal.returns-in_err-plan-clause-answers
-returns-in_err-plan-clause-answers g c r of lawful =
-    let fault = c.in_err-plan.field-0.0 in
-    let is : c.from_residual.result ≡ Err fault = search rules in
-    subst (λ res. IfSome (reply_to res) (λ reply. Answers (session r c.args.work.now) (Command.Commit c.args.branch.now c.args.info) (met_by res) reply c.args.self.now c.args.work.now)) (sym is)
-    (answers_refused r c.args.work.now c.args.branch.now c.args.info fault c.args.self.now of lawful (c.in_err-plan.ensures.refused r of lawful))
-
-pub returns-in_err-plan-clause-does : goal.returns-in_err-plan-clause-does
-returns-in_err-plan-clause-does g c told r held lawful =
-    let fault = c.in_err-plan.field-0.0 in
-    let is : c.from_residual.result ≡ Err fault = search rules in
-    subst (λ res. Commits r c.args.work.now c.args.branch.now c.args.info res c.args.self.now (g.G.Ground.told c.args.outside.now) (g.G.Ground.told c.args.outside.now)) (sym is)
-    (changes_none r (repository_after r c.args.work.now c.args.branch.now c.args.info) fault c.args.self.now c.args.self.now (g.G.Ground.told c.args.outside.now) (itself c.args.self.now) held)
-
-pub returns-in_err-enter-clause-answers : goal.returns-in_err-enter-clause-answers
-returns-in_err-enter-clause-answers g c r of lawful =
-    let is : c.from_residual-in_err-enter.result ≡ Err StoreFault.Memory = search rules in
-    let tables = same_tables c.args.self.now c.enter.new.self c.in_err-enter.ensures.err r of in
-    subst (λ res. IfSome (reply_to res) (λ reply. Answers (session r c.args.work.now) (Command.Commit c.args.branch.now c.args.info) (met_by res) reply c.enter.new.self c.args.work.now)) (sym is)
-    (answers_refused r c.args.work.now c.args.branch.now c.args.info StoreFault.Memory c.enter.new.self tables lawful (refused_memory r c.args.work.now c.args.branch.now c.args.info (none_below c.args.self.now r of)))
-
-pub returns-in_err-enter-clause-does : goal.returns-in_err-enter-clause-does
-returns-in_err-enter-clause-does g c told r held lawful =
-    let is : c.from_residual-in_err-enter.result ≡ Err StoreFault.Memory = search rules in
-    subst (λ res. Commits r c.args.work.now c.args.branch.now c.args.info res c.enter.new.self (g.G.Ground.told c.args.outside.now) (g.G.Ground.told c.args.outside.now)) (sym is)
-    (changes_none r (repository_after r c.args.work.now c.args.branch.now c.args.info) StoreFault.Memory c.args.self.now c.enter.new.self (g.G.Ground.told c.args.outside.now) c.in_err-enter.ensures.err held)
 
 pub grow-requires-clause-further : goal.grow-requires-clause-further
 grow-requires-clause-further g c =
     let r = c.requires.tables.0 in
     let of = c.requires.tables.1 in
-    let is = c.in_ok-plan.ensures.planned r of c.requires.tables.2 in
-    subst (λ (s : SpaceView). s.layout.end ≤ c.in_ok-plan.plan.slot.end) (sym c.enter.ensures.rest.2) (further r c.args.work.now c.args.branch.now c.args.info c.args.self.now c.in_ok-plan.plan of is)
+    let plan = c.in_ok-plan.plan in
+    let is = c.in_ok-plan.ensures.coming r of in
+    subst (λ (s : SpaceView). s.layout.end ≤ plan.slot.end) (sym c.enter.ensures.rest.2)
+    (further r c.args.work.now.parents c.args.branch.now c.args.self.now plan of is (some_commit r c.args.work.now.parents c.args.info plan) refl refl)
 
 pub grow-requires-clause-ends : goal.grow-requires-clause-ends
 grow-requires-clause-ends g c =
     let r = c.requires.tables.0 in
     let of = c.requires.tables.1 in
-    inside r c.args.work.now c.args.branch.now c.args.info c.args.self.now c.in_ok-plan.plan of (c.in_ok-plan.ensures.planned r of c.requires.tables.2)
+    let plan = c.in_ok-plan.plan in
+    inside r c.args.work.now.parents c.args.branch.now c.args.self.now plan of (c.in_ok-plan.ensures.coming r of) (some_commit r c.args.work.now.parents c.args.info plan) refl refl
 
 pub durable_step-requires-clause-sound : goal.durable_step-requires-clause-sound
 durable_step-requires-clause-sound g c told =
     let r = (c.requires.held told).0 in
-    let held = (c.requires.held told).1 in
-    let lawful = same_lawful c.args.self.now c.requires.tables.0 r c.args.work.now c.requires.tables.1 held.tables c.requires.tables.2 in
+    let held = (c.requires.held told).2.holds in
     same_can_step c.enter.new.self.slot.end c.args.self.now.slot.end c.enter.new.self.index c.args.self.now.index c.in_ok-plan.plan.slot (g.G.Ground.told c.args.outside.now)
     (ap (λ (s : Slot). s.end) c.enter.ensures.rest.1) c.enter.ensures.rest.0
-    (can_step r c.args.work.now c.args.branch.now c.args.info c.args.self.now c.in_ok-plan.plan held.tables (c.in_ok-plan.ensures.planned r held.tables lawful) (g.G.Ground.told c.args.outside.now) held)
+    (can_step r c.args.work.now.parents c.args.branch.now c.args.info c.args.self.now c.in_ok-plan.plan held.tables (c.in_ok-plan.ensures.coming r held.tables) (g.G.Ground.told c.args.outside.now) held)
+
+-- ---- refused
+
+pub returns-in_err-plan-clause-answers : goal.returns-in_err-plan-clause-answers
+returns-in_err-plan-clause-answers g c told r v at =
+    let fault = c.in_err-plan.field-0.0 in
+    let is : c.from_residual.result ≡ Err fault = search rules in
+    subst (λ res. IfSome (reply_to res) (λ reply. Answers (g.G.Ground.told c.args.outside.now) (session r c.args.work.now v) (Command.Commit c.args.branch.now c.args.info) (met_by res) reply c.args.self.now c.args.work.now)) (sym is)
+    (answers_refused r c.args.work.now v c.args.branch.now c.args.info fault c.args.self.now (g.G.Ground.told c.args.outside.now) at (c.in_err-plan.ensures.refused _ r v at.holds.tables at.lawful))
+
+pub returns-in_err-plan-clause-limits : goal.returns-in_err-plan-clause-limits
+returns-in_err-plan-clause-limits g c told r v at =
+    let fault = c.in_err-plan.field-0.0 in
+    let is : c.from_residual.result ≡ Err fault = search rules in
+    subst (λ res. LimitsSpace (end_of r c.args.work.now v c.args.branch.now c.args.info c.args.self.now) res c.args.self.now) (sym is)
+    (record {
+      space = λ e. c.in_err-plan.ensures.space _ r v at.holds.tables at.lawful (err_of fault _ e);
+      sequence = λ e. c.in_err-plan.ensures.sequence _ r v at.holds.tables at.lawful (err_of fault _ e);
+      enough = tt;
+    })
+
+pub returns-in_err-plan-clause-does : goal.returns-in_err-plan-clause-does
+returns-in_err-plan-clause-does g c told r v at =
+    let fault = c.in_err-plan.field-0.0 in
+    let is : c.from_residual.result ≡ Err fault = search rules in
+    subst (λ res. Commits r c.args.work.now v c.args.branch.now c.args.info res c.args.self.now (g.G.Ground.told c.args.outside.now) (g.G.Ground.told c.args.outside.now)) (sym is)
+    (changes_none r (repository_after r c.args.work.now v c.args.branch.now c.args.info) fault c.args.self.now c.args.self.now (g.G.Ground.told c.args.outside.now) (itself c.args.self.now) at.holds)
+
+pub returns-in_err-plan-clause-stay : goal.returns-in_err-plan-clause-stay
+returns-in_err-plan-clause-stay g c told has r q held now = stays_still c.args.self.now c.args.self.now (itself c.args.self.now) r q (g.G.Ground.told c.args.outside.now) held now
+
+pub returns-in_err-plan-clause-tables : goal.returns-in_err-plan-clause-tables
+returns-in_err-plan-clause-tables g c r of are has = record { repository = r; tables = of; parents = are }
+
+pub returns-in_err-enter-clause-answers : goal.returns-in_err-enter-clause-answers
+returns-in_err-enter-clause-answers g c told r v at =
+    let is : c.from_residual-in_err-enter.result ≡ Err StoreFault.Memory = search rules in
+    subst (λ res. IfSome (reply_to res) (λ reply. Answers (g.G.Ground.told c.args.outside.now) (session r c.args.work.now v) (Command.Commit c.args.branch.now c.args.info) (met_by res) reply c.enter.new.self c.args.work.now)) (sym is)
+    (answers_refused r c.args.work.now v c.args.branch.now c.args.info StoreFault.Memory c.enter.new.self (g.G.Ground.told c.args.outside.now) (same_at c.args.self.now c.enter.new.self c.in_err-enter.ensures.err (g.G.Ground.told c.args.outside.now) r c.args.work.now v at)
+    (refused_memory r c.args.work.now v c.args.branch.now c.args.info (none_below c.args.self.now r at.holds.tables)))
+
+pub returns-in_err-enter-clause-does : goal.returns-in_err-enter-clause-does
+returns-in_err-enter-clause-does g c told r v at =
+    let is : c.from_residual-in_err-enter.result ≡ Err StoreFault.Memory = search rules in
+    subst (λ res. Commits r c.args.work.now v c.args.branch.now c.args.info res c.enter.new.self (g.G.Ground.told c.args.outside.now) (g.G.Ground.told c.args.outside.now)) (sym is)
+    (changes_none r (repository_after r c.args.work.now v c.args.branch.now c.args.info) StoreFault.Memory c.args.self.now c.enter.new.self (g.G.Ground.told c.args.outside.now) c.in_err-enter.ensures.err at.holds)
+
+pub returns-in_err-enter-clause-stay : goal.returns-in_err-enter-clause-stay
+returns-in_err-enter-clause-stay g c told has r q held now = stays_still c.args.self.now c.enter.new.self c.in_err-enter.ensures.err r q (g.G.Ground.told c.args.outside.now) held now
+
+pub returns-in_err-enter-clause-tables : goal.returns-in_err-enter-clause-tables
+returns-in_err-enter-clause-tables g c r of are has = record { repository = r; tables = same_tables c.args.self.now c.enter.new.self c.in_err-enter.ensures.err r of; parents = are }
+
+-- ---- cut short
 
 pub returns-in_err-durable_step-clause-does : goal.returns-in_err-durable_step-clause-does
-returns-in_err-durable_step-clause-does g c told r held lawful =
+returns-in_err-durable_step-clause-does g c told r v at =
     let is : c.from_residual-in_err-durable_step.result ≡ Err StoreFault.Ground = search rules in
     let plan = c.in_ok-plan.plan in
+    let of = at.holds.tables in
     let step = same_step c.enter.new.self.slot.end c.args.self.now.slot.end c.enter.new.self.index c.args.self.now.index c.bytes.result.now plan.batch.bytes.items plan.slot _ (g.G.Ground.told c.args.outside.now) (g.G.Ground.told c.durable_step.new.outside)
     (ap (λ (s : Slot). s.end) c.enter.ensures.rest.1) c.enter.ensures.rest.0 c.bytes.ensures (c.durable_step.ensures.does told) in
-    subst (λ res. Commits r c.args.work.now c.args.branch.now c.args.info res c.enter.new.self (g.G.Ground.told c.args.outside.now) (g.G.Ground.told c.durable_step.new.outside)) (sym is)
-    (cut r c.args.work.now c.args.branch.now c.args.info c.args.self.now plan held.tables (c.in_ok-plan.ensures.planned r held.tables lawful) (g.G.Ground.told c.args.outside.now) held (g.G.Ground.told c.durable_step.new.outside) c.enter.new.self _ step)
+    subst (λ res. Commits r c.args.work.now v c.args.branch.now c.args.info res c.enter.new.self (g.G.Ground.told c.args.outside.now) (g.G.Ground.told c.durable_step.new.outside)) (sym is)
+    (cut r c.args.work.now v c.args.branch.now c.args.info c.args.self.now plan (c.in_ok-plan.ensures.coming r of) (c.in_ok-plan.ensures.planned _ r v of at.lawful) (g.G.Ground.told c.args.outside.now) at (g.G.Ground.told c.durable_step.new.outside) c.enter.new.self _ step)
 
-pub returns-clause-answers : goal.returns-clause-answers
-returns-clause-answers g c r of lawful =
+-- ---- made
+
+pub returns-clause-tables : goal.returns-clause-tables
+returns-clause-tables g c r of are has =
     let plan = c.in_ok-plan.plan in
-    let is = c.in_ok-plan.ensures.planned r of lawful in
-    let placed = c.put_place.ensures ∙ (λ i. c.enter.ensures.places i ++ c.commit_at.ensures i ∷ []) in
-    answers_made r c.args.work.now _ c.args.branch.now c.args.info c.args.self.now _ plan c.name-name.result (none_below c.args.self.now r of) is c.name-name.ensures refl
-    (after_tables r c.args.work.now c.args.branch.now c.args.info c.args.self.now plan of is _ refl (ap (λ (i : ℕ). 1 - i) c.enter.ensures.rest.0) (c.in_ok-enter.ensures.ok.0 ∙ ap (λ h. c.args.self.now.names ++ h ∷ []) c.name-name.ensures) (c.in_ok-enter.ensures.ok.1 ∙ ap (λ b. insert c.args.self.now.branches b plan.number) (sym is.same_branch)) (may_enter c.args.self.now r of c.args.work.now.parents c.args.work.now.parents refl lawful.retained) (c.in_ok-enter.ensures.history ∙ ap (with_parents c.args.self.now.history) c.as_slice.ensures) placed (c.grow.ensures ∙ ap (λ (s : SpaceView). grown s plan.slot.end) c.enter.ensures.rest.2))
-    (after_lawful r c.args.work.now c.args.branch.now c.args.info c.args.self.now plan of is _ is.parents)
+    let is = c.in_ok-plan.ensures.coming r of in
+    let one = some_commit r c.args.work.now.parents c.args.info plan in
+    record {
+      repository = with_commit r one c.args.branch.now;
+      tables = after_tables r c.args.work.now.parents c.args.branch.now c.args.self.now plan of is one refl refl _ refl (ap (λ (i : ℕ). 1 - i) c.enter.ensures.rest.0) (c.in_ok-enter.ensures.ok.0 ∙ ap (λ h. c.args.self.now.names ++ h ∷ []) c.name-name.ensures) (c.in_ok-enter.ensures.ok.1 ∙ ap (λ b. insert c.args.self.now.branches b plan.number) (sym is.same_branch)) (may_enter c.args.self.now r of c.args.work.now.parents c.args.work.now.parents refl are.retained) (c.in_ok-enter.ensures.history ∙ ap (with_parents c.args.self.now.history) c.as_slice.ensures) (c.put_place.ensures ∙ (λ i. c.enter.ensures.places i ++ c.commit_at.ensures i ∷ [])) (c.grow.ensures ∙ ap (λ (s : SpaceView). grown s plan.slot.end) c.enter.ensures.rest.2);
+      parents = after_parents r c.args.work.now.parents c.args.branch.now c.args.self.now plan of is one refl refl plan.parents is.parents;
+    }
 
 pub returns-clause-does : goal.returns-clause-does
-returns-clause-does g c told r held lawful =
+returns-clause-does g c told r v at =
     let plan = c.in_ok-plan.plan in
-    let is = c.in_ok-plan.ensures.planned r held.tables lawful in
+    let of = at.holds.tables in
+    let are = at.lawful.parents in
+    let is = c.in_ok-plan.ensures.coming r of in
+    let planned = c.in_ok-plan.ensures.planned _ r v of at.lawful in
+    let one = new_commit r v.map c.args.work.now.parents c.args.info in
     let placed = c.put_place.ensures ∙ (λ i. c.enter.ensures.places i ++ c.commit_at.ensures i ∷ []) in
     let step = same_step c.enter.new.self.slot.end c.args.self.now.slot.end c.enter.new.self.index c.args.self.now.index c.bytes.result.now plan.batch.bytes.items plan.slot _ (g.G.Ground.told c.args.outside.now) (g.G.Ground.told c.durable_step.new.outside)
     (ap (λ (s : Slot). s.end) c.enter.ensures.rest.1) c.enter.ensures.rest.0 c.bytes.ensures (c.in_ok-durable_step.ensures.does told) in
-    made r c.args.work.now c.args.branch.now c.args.info c.args.self.now plan held.tables is (g.G.Ground.told c.args.outside.now) held (g.G.Ground.told c.durable_step.new.outside) _ refl (ap (λ (i : ℕ). 1 - i) c.enter.ensures.rest.0)
-    (after_tables r c.args.work.now c.args.branch.now c.args.info c.args.self.now plan held.tables is _ refl (ap (λ (i : ℕ). 1 - i) c.enter.ensures.rest.0) (c.in_ok-enter.ensures.ok.0 ∙ ap (λ h. c.args.self.now.names ++ h ∷ []) c.name-name.ensures) (c.in_ok-enter.ensures.ok.1 ∙ ap (λ b. insert c.args.self.now.branches b plan.number) (sym is.same_branch)) (may_enter c.args.self.now r held.tables c.args.work.now.parents c.args.work.now.parents refl lawful.retained) (c.in_ok-enter.ensures.history ∙ ap (with_parents c.args.self.now.history) c.as_slice.ensures) placed (c.grow.ensures ∙ ap (λ (s : SpaceView). grown s plan.slot.end) c.enter.ensures.rest.2)) placed c.name-name.result step
+    made r c.args.work.now v c.args.branch.now c.args.info c.args.self.now plan is planned (g.G.Ground.told c.args.outside.now) at (g.G.Ground.told c.durable_step.new.outside) _ refl (ap (λ (i : ℕ). 1 - i) c.enter.ensures.rest.0)
+    (after_tables r c.args.work.now.parents c.args.branch.now c.args.self.now plan of is one (sym planned.name) refl _ refl (ap (λ (i : ℕ). 1 - i) c.enter.ensures.rest.0) (c.in_ok-enter.ensures.ok.0 ∙ ap (λ h. c.args.self.now.names ++ h ∷ []) c.name-name.ensures) (c.in_ok-enter.ensures.ok.1 ∙ ap (λ b. insert c.args.self.now.branches b plan.number) (sym is.same_branch)) (may_enter c.args.self.now r of c.args.work.now.parents c.args.work.now.parents refl are.retained) (c.in_ok-enter.ensures.history ∙ ap (with_parents c.args.self.now.history) c.as_slice.ensures) (c.put_place.ensures ∙ (λ i. c.enter.ensures.places i ++ c.commit_at.ensures i ∷ [])) (c.grow.ensures ∙ ap (λ (s : SpaceView). grown s plan.slot.end) c.enter.ensures.rest.2)) placed c.name-name.result step
+
+pub returns-clause-limits : goal.returns-clause-limits
+returns-clause-limits g c told r v at =
+    let of = at.holds.tables in
+    let is = c.in_ok-plan.ensures.coming r of in
+    let planned = c.in_ok-plan.ensures.planned _ r v of at.lawful in
+    record {
+      space = λ e. absurd (cc (e));
+      sequence = λ e. absurd (cc (e));
+      enough = (subst (λ (n : ℕ). n ≤ 2 ^ 62) (sym planned.behind) is.ends, is.sequence);
+    }
+
+pub returns-clause-answers : goal.returns-clause-answers
+returns-clause-answers g c told r v at =
+    let plan = c.in_ok-plan.plan in
+    let of = at.holds.tables in
+    let is = c.in_ok-plan.ensures.coming r of in
+    let planned = c.in_ok-plan.ensures.planned _ r v of at.lawful in
+    let step = same_step c.enter.new.self.slot.end c.args.self.now.slot.end c.enter.new.self.index c.args.self.now.index c.bytes.result.now plan.batch.bytes.items plan.slot _ (g.G.Ground.told c.args.outside.now) (g.G.Ground.told c.durable_step.new.outside)
+    (ap (λ (s : Slot). s.end) c.enter.ensures.rest.1) c.enter.ensures.rest.0 c.bytes.ensures (c.in_ok-durable_step.ensures.does told) in
+    let done = returns-clause-does g c told r v at in
+    let holds = held_after r c.args.work.now v c.args.branch.now c.args.info c.args.self.now plan is planned (g.G.Ground.told c.args.outside.now) at (g.G.Ground.told c.durable_step.new.outside) _ _ done in
+    answers_made r c.args.work.now _ v _ c.args.branch.now c.args.info c.args.self.now _ plan c.name-name.result (g.G.Ground.told c.durable_step.new.outside) (none_below c.args.self.now r of) is planned c.name-name.ensures refl refl refl
+    (record {
+      holds = holds;
+      lawful = work_after r c.args.work.now v c.args.branch.now c.args.info c.args.self.now plan is planned (g.G.Ground.told c.args.outside.now) at (g.G.Ground.told c.durable_step.new.outside) _ step _ holds _ (read_root plan.number c.root.result plan.batch.root c.of.result c.root.ensures c.of.ensures) refl refl refl;
+    })
+
+pub returns-clause-saved : goal.returns-clause-saved
+returns-clause-saved g c told r q v at now =
+    let plan = c.in_ok-plan.plan in
+    let of = at.holds.tables in
+    let is = c.in_ok-plan.ensures.coming r of in
+    let planned = c.in_ok-plan.ensures.planned _ r v of at.lawful in
+    let step = same_step c.enter.new.self.slot.end c.args.self.now.slot.end c.enter.new.self.index c.args.self.now.index c.bytes.result.now plan.batch.bytes.items plan.slot _ (g.G.Ground.told c.args.outside.now) (g.G.Ground.told c.durable_step.new.outside)
+    (ap (λ (s : Slot). s.end) c.enter.ensures.rest.1) c.enter.ensures.rest.0 c.bytes.ensures (c.in_ok-durable_step.ensures.does told) in
+    (plan.batch.root.at, saved_tree r c.args.work.now v c.args.branch.now c.args.info c.args.self.now plan is planned (g.G.Ground.told c.args.outside.now) at (g.G.Ground.told c.durable_step.new.outside) _ step q now _ (read_root plan.number c.root.result plan.batch.root c.of.result c.root.ensures c.of.ensures))
+
+pub returns-clause-stay : goal.returns-clause-stay
+returns-clause-stay g c told has r q held now place x there =
+    let own = (c.requires.held told).0 in
+    let v = (c.requires.held told).1 in
+    let at = (c.requires.held told).2 in
+    let plan = c.in_ok-plan.plan in
+    let of = at.holds.tables in
+    let is = c.in_ok-plan.ensures.coming own of in
+    let planned = c.in_ok-plan.ensures.planned _ own v of at.lawful in
+    let step = same_step c.enter.new.self.slot.end c.args.self.now.slot.end c.enter.new.self.index c.args.self.now.index c.bytes.result.now plan.batch.bytes.items plan.slot _ (g.G.Ground.told c.args.outside.now) (g.G.Ground.told c.durable_step.new.outside)
+    (ap (λ (s : Slot). s.end) c.enter.ensures.rest.1) c.enter.ensures.rest.0 c.bytes.ensures (c.in_ok-durable_step.ensures.does told) in
+    let list = list_on own c.args.work.now v c.args.branch.now c.args.info c.args.self.now plan is planned (g.G.Ground.told c.args.outside.now) at (g.G.Ground.told c.durable_step.new.outside) _ step q now in
+    let same = stays_still c.args.self.now c.args.self.now (itself c.args.self.now) r own (g.G.Ground.told c.args.outside.now) held at.holds place x there in
+    subst (λ rs. present rs place ≡ Some x) (sym list) (present_front at.holds.stands.standing.records _ place x same)

@@ -7,7 +7,7 @@ use Rattle.ip_store.specs.declared.committing.StoreFault.TheVariants as StoreFau
 use Rattle.ip_store.specs.Changes.{Changes}
 use Rattle.ip_store.specs.Commits.{met_by, refusal}
 use Rattle.ip_store.specs.Naming.{branch_reply, AnswersSet, Renames}
-use Rattle.ip_store.proofs.Stepping.{itself, changes_none}
+use Rattle.ip_store.proofs.Stepping.{itself, changes_none, stays_still}
 use Rattle.ip_store.proofs.BranchTurns.{set_refused, set_memory, set_answers, set_may, set_fits}
 use Rattle.ip_store.proofs.store.Store.put_branch.Goals as goal
 
@@ -58,3 +58,12 @@ returns-clause-does g c told r held retained =
     let room : room_for_branch r c.args.name.now ≡ Ok tt = search rules in
     subst (λ x. Changes {A = Unit {0}} r (renamed r x) c.rename.result c.rename.new.self (g.G.Ground.told c.args.outside.now) (g.G.Ground.told c.rename.new.outside)) c.in_ok-rec.ensures
     (c.rename.ensures.does told r held (subst (MayName r) (sym c.in_ok-rec.ensures) (set_may r c.args.name.now c.args.number c.args.self.now of retained room)))
+
+pub returns-in_err-room_for-clause-stay : goal.returns-in_err-room_for-clause-stay
+returns-in_err-room_for-clause-stay g c told has r q held now = stays_still c.args.self.now c.args.self.now (itself c.args.self.now) r q (g.G.Ground.told c.args.outside.now) held now
+
+pub returns-in_err-rec-clause-stay : goal.returns-in_err-rec-clause-stay
+returns-in_err-rec-clause-stay g c told has r q held now = stays_still c.args.self.now c.args.self.now (itself c.args.self.now) r q (g.G.Ground.told c.args.outside.now) held now
+
+pub returns-clause-stay : goal.returns-clause-stay
+returns-clause-stay g c told has r q held now = c.rename.ensures.stay told has r q held now

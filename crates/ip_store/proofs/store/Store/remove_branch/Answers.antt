@@ -2,7 +2,9 @@ use Rattle.std.proofs.Common.{sym, subst}
 use Rattle.std.specs.Prelude.{IfSome}
 use Rattle.ip_store.specs.declared.store.Store.{Store}
 use Rattle.ip_store.specs.Naming.{removed_reply, AnswersRemove}
-use Rattle.ip_store.proofs.Stepping.{in_itself, same_changes}
+use Rattle.ip_store.specs.Store.{image_records}
+use Rattle.ip_store.specs.Trees.{RecordsStay}
+use Rattle.ip_store.proofs.Stepping.{in_itself, out_of_itself, same_changes, carried}
 use Rattle.ip_store.proofs.BranchTurns.{same_removed}
 use Rattle.ip_store.proofs.store.Store.remove_branch.Goals as goal
 
@@ -14,3 +16,8 @@ returns-clause-answers g c r of =
 
 pub returns-clause-does : goal.returns-clause-does
 returns-clause-does g c told r held = same_changes c.take_branch-answer.new.self _ (in_itself c.take_branch-answer.new.self c.met_by-self.result) r _ _ _ _ (c.take_branch-answer.ensures.does told r held)
+
+pub returns-clause-stay : goal.returns-clause-stay
+returns-clause-stay g c told has r q held now =
+    carried c.take_branch-answer.new.self _ (out_of_itself c.take_branch-answer.new.self c.met_by-self.result) (g.G.Ground.told c.take_branch-answer.new.outside) q
+    (λ records. RecordsStay (image_records held) records) (λ mid. c.take_branch-answer.ensures.stay told has r q held mid) now

@@ -5,8 +5,8 @@ use Rattle.ip_image.specs.Appending.{renamed}
 use Rattle.ip_store.specs.declared.committing.StoreFault.TheVariants as StoreFault
 use Rattle.ip_store.specs.declared.store.Store.{Store}
 use Rattle.ip_store.specs.Changes.{Changes}
-use Rattle.ip_store.proofs.Stepping.{itself, changes_none, same_step}
-use Rattle.ip_store.proofs.Renamed.{renamed_tables, further, inside, can_rename, was_renamed, rename_cut, slot_from, may_same}
+use Rattle.ip_store.proofs.Stepping.{itself, changes_none, stays_still, same_step}
+use Rattle.ip_store.proofs.Renamed.{renamed_tables, further, inside, can_rename, was_renamed, rename_cut, stays_renamed, slot_from, may_same}
 use Rattle.ip_store.proofs.store.Store.rename.Goals as goal
 
 pub returns-in_err-spelled-clause-does : goal.returns-in_err-spelled-clause-does
@@ -68,3 +68,21 @@ returns-clause-does g c told r held may =
     was_renamed r c.args.self.now held.tables c.args.rec may c.requires.fits c.in_ok-slot.slot slot.0 slot.1 slot.2 (g.G.Ground.told c.args.outside.now) held (g.G.Ground.told c.durable_step.new.outside) _ refl refl refl c.in_ok-name_branch.ensures.ok refl refl c.grow.ensures
     (same_step c.args.self.now.slot.end c.args.self.now.slot.end c.args.self.now.index c.args.self.now.index _ (spelling c.args.rec) c.in_ok-slot.slot _ (g.G.Ground.told c.args.outside.now) (g.G.Ground.told c.durable_step.new.outside)
     refl refl (c.as_slice-bytes.ensures.value ∙ c.in_ok-spelled.ensures) (c.in_ok-durable_step.ensures.does told))
+
+pub returns-in_err-spelled-clause-stay : goal.returns-in_err-spelled-clause-stay
+returns-in_err-spelled-clause-stay g c told has r q held now = stays_still c.args.self.now c.args.self.now (itself c.args.self.now) r q (g.G.Ground.told c.args.outside.now) held now
+
+pub returns-in_err-slot-clause-stay : goal.returns-in_err-slot-clause-stay
+returns-in_err-slot-clause-stay g c told has r q held now = stays_still c.args.self.now c.args.self.now (itself c.args.self.now) r q (g.G.Ground.told c.args.outside.now) held now
+
+pub returns-in_err-name_branch-clause-stay : goal.returns-in_err-name_branch-clause-stay
+returns-in_err-name_branch-clause-stay g c told has r q held now =
+    stays_still c.args.self.now _ (record { index = refl; slot = refl; names = refl; places = refl; branches = c.in_err-name_branch.ensures.err; history = refl; space = refl }) r q (g.G.Ground.told c.args.outside.now) held now
+
+pub returns-clause-stay : goal.returns-clause-stay
+returns-clause-stay g c told has r q held now =
+    let may = may_same c.args.self.now c.requires.tables.0 r c.args.rec c.requires.tables.1 held.tables c.requires.tables.2 in
+    let slot = slot_from c.args.self.now.slot c.args.rec _ c.in_ok-slot.slot (ap length (c.as_slice-bytes.ensures.value ∙ c.in_ok-spelled.ensures)) c.in_ok-slot.ensures in
+    stays_renamed r c.args.self.now held.tables c.args.rec may c.requires.fits c.in_ok-slot.slot slot.0 slot.1 slot.2 (g.G.Ground.told c.args.outside.now) held (g.G.Ground.told c.durable_step.new.outside) _ q
+    (same_step c.args.self.now.slot.end c.args.self.now.slot.end c.args.self.now.index c.args.self.now.index _ (spelling c.args.rec) c.in_ok-slot.slot _ (g.G.Ground.told c.args.outside.now) (g.G.Ground.told c.durable_step.new.outside)
+    refl refl (c.as_slice-bytes.ensures.value ∙ c.in_ok-spelled.ensures) (c.in_ok-durable_step.ensures.does told)) now

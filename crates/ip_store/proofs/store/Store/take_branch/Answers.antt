@@ -4,10 +4,10 @@ use Rattle.ip_spec.specs.Repository.{head}
 use Rattle.ip_spec.specs.Record.{Fits}
 use Rattle.ip_image.specs.Appending.{MayName, renamed}
 use Rattle.ip_store.specs.declared.committing.StoreFault.TheVariants as StoreFault
-use Rattle.ip_store.specs.Changes.{Changes}
+use Rattle.ip_store.specs.Changes.{Changes, HasAnswer}
 use Rattle.ip_store.specs.Commits.{met_by}
 use Rattle.ip_store.specs.Naming.{removed_reply, AnswersRemove, Renames, without_branch}
-use Rattle.ip_store.proofs.Stepping.{itself, changes_none, changes_still, with_value, with_fault}
+use Rattle.ip_store.proofs.Stepping.{itself, changes_none, stays_still, changes_still, with_value, with_answer, with_fault}
 use Rattle.ip_store.proofs.BranchTurns.{none_in, some_in, remove_none, remove_memory, remove_done, remove_cut, remove_fits, absent_same}
 use Rattle.ip_store.proofs.store.Store.take_branch.Goals as goal
 
@@ -68,3 +68,15 @@ returns-clause-does g c told r held =
     with_value tt true r (without_branch r c.args.name.now) c.rename.new.self (g.G.Ground.told c.args.outside.now) (g.G.Ground.told c.rename.new.outside)
     (subst (λ x. Changes {A = Unit {0}} r (renamed r x) (Ok tt) c.rename.new.self (g.G.Ground.told c.args.outside.now) (g.G.Ground.told c.rename.new.outside)) c.in_ok-rec.ensures
     (c.in_ok-rename.ensures.does told r held (subst (MayName r) (sym c.in_ok-rec.ensures) tt)))
+
+pub returns-then-is_none-clause-stay : goal.returns-then-is_none-clause-stay
+returns-then-is_none-clause-stay g c told has r q held now = stays_still c.args.self.now c.args.self.now (itself c.args.self.now) r q (g.G.Ground.told c.args.outside.now) held now
+
+pub returns-in_err-rec-clause-stay : goal.returns-in_err-rec-clause-stay
+returns-in_err-rec-clause-stay g c told has r q held now = stays_still c.args.self.now c.args.self.now (itself c.args.self.now) r q (g.G.Ground.told c.args.outside.now) held now
+
+pub returns-in_err-rename-clause-stay : goal.returns-in_err-rename-clause-stay
+returns-in_err-rename-clause-stay g c told has r q held now =
+    let fault = c.in_err-rename.field-0.0 in
+    let is : c.from_residual-in_err-rename.result ≡ Err fault = search rules in
+    c.in_err-rename.ensures.stay told (with_answer (Unit {0}) Bool fault (subst HasAnswer is has)) r q held now

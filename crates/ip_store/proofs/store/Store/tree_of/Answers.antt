@@ -1,0 +1,29 @@
+use Rattle.ip_spec.specs.Repository.{tree_at}
+use Rattle.ip_store.specs.Showing.{IsRootOf}
+use Rattle.ip_store.specs.Store.{image_records}
+use Rattle.ip_store.proofs.Listed.{leaves_only, records_good}
+use Rattle.ip_store.proofs.SpelledTrees.{short_contents, narrow_tree, lawful_tree}
+use Rattle.ip_store.proofs.Stepping.{looks}
+use Rattle.ip_store.proofs.store.Store.tree_of.Goals as goal
+
+pub returns-in-Ok-clause-tree : goal.returns-in-Ok-clause-tree
+returns-in-Ok-clause-tree g c told r held retained =
+    let store = c.args.self.now in
+    let before = g.G.Ground.told c.args.outside.now in
+    let records = image_records held in
+    let map = tree_at r c.args.number in
+    let at = c.in-Ok.root.at in
+    let good = records_good store before r held in
+    let root : IsRootOf records r c.args.number c.in-Ok.root = c.in-Ok.ensures.root told r held retained in
+    record {
+      at = at;
+      view = c.of.ensures records map root.tree.0 (record { part = root.tree.1; kind = root.kind; name = root.name })
+          (lawful_tree records good at map root.tree) (narrow_tree records good at map root.tree) (leaves_only store before r held);
+      short = short_contents records good at map root.tree;
+    }
+
+pub returns-in-Ok-clause-looks : goal.returns-in-Ok-clause-looks
+returns-in-Ok-clause-looks g c told = looks c.args.self.now _ c.root_of.ensures.same (g.G.Ground.told c.args.outside.now) (g.G.Ground.told c.root_of.new.outside) (c.root_of.ensures.reads told)
+
+pub returns-in-Err-clause-looks : goal.returns-in-Err-clause-looks
+returns-in-Err-clause-looks g c told = looks c.args.self.now _ c.root_of.ensures.same (g.G.Ground.told c.args.outside.now) (g.G.Ground.told c.root_of.new.outside) (c.root_of.ensures.reads told)
