@@ -4,9 +4,4 @@ pub mod Moments
 pub mod RunLemmas
 pub mod TurnLemmas
 pub mod EndingLaw
-pub mod SessionLemmas
-pub mod Referring
-pub mod SessionGoes
-pub mod Durable
-pub mod Committing
-pub mod BranchGoes
+pub mod StatusLines

@@ -1,5 +1,5 @@
 -- The moments of a command, and of opening.
---     cut_again      one that was cut short.      keeps_still      one that changes no file.      turned_moments      one whose reply is said, or not whole
+--     cut_again      one that was cut short.      turned_moments      one whose reply is said, or not whole
 --     order_says      the ground stays in order.      opening_after      opening behind a call that changes no file.      opening_none      and where it came to nothing
 --     headline_none      no command was begun.      headline_turn      one command more
 use Rattle.std.proofs.Common.{◌≡◌, inl, inr, ℕ, ◌+◌, ◌≤◌, List, [], ◌∷◌, ◌++◌, length, map, refl, sym, ap, ◌∙◌, subst, arith, take, Result}
@@ -26,11 +26,6 @@ use Rattle.ip_store.specs.Store.{Holds}
 use Rattle.ip_store.proofs.Secured.{secures_now, secures_since}
 use Rattle.ip_app.specs.Exchanges.{Exchange, answer_of, texts_in, after_all}
 use Rattle.ip_app.proofs.SameFiles.{stands_after}
-
-pub keeps_still : (store : Store) (r after : Repository) (a b : Told) → Holds store a r → IsInOrder a → ChangesOnly NoFile a b → Keeps a b r after
-keeps_still store r after a b holds order only t late le =
-    let now = secures_since store r a holds order b (only.others Control (λ none. none)) (only.others (Chunk 0) (λ none. none)) t late le in
-    record { stands = λ image possible. inl (now.stands image possible); orderly = now.orderly }
 
 -- the reply is said, or a part of it
 module _ (mid new : Told) (text : Bytes) (result : Result (Unit {0}) GroundFault) (says : Says text result mid new) where

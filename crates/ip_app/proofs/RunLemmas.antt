@@ -21,16 +21,17 @@ use Rattle.ip_image.proofs.OneRepository.{one_repository}
 use Rattle.ip_spec.specs.Path.{Bytes, line_feed}
 use Rattle.ip_spec.specs.Merge.{Rule}
 use Rattle.ip_ground.specs.Contents.{Image, Content, bytes_of}
+use Rattle.ip_spec.specs.View.{View}
 use Rattle.ip_spec.specs.Repository.{Repository, no_repository}
 use Rattle.ip_spec.specs.Machine.{State, opened}
+use Rattle.ip_script.specs.Served.{IsServedLine}
 use Rattle.ip_spec.specs.Script.{whole_lines, LineStep}
 use Rattle.ip_spec.specs.Text.{reply_text}
 use Rattle.ip_store.specs.Control.{control_in}
 use Rattle.ip_store.specs.Publishing.{TheTwo}
 use Rattle.ip_store.specs.Opening.{SecuresOpening}
-use Rattle.ip_store.specs.Store.{Holds}
-use Rattle.ip_app.specs.declared.session.Session.{Session}
-use Rattle.ip_app.specs.Session.{IsIn, state_in}
+use Rattle.ip_session.specs.declared.session.Session.{Session}
+use Rattle.ip_session.specs.Session.{IsServing, IsWorking, state_in}
 use Rattle.ip_app.specs.declared.turn_log.Turn.{Turn}
 use Rattle.ip_app.specs.declared.lines.Lines.{Lines}
 use Rattle.ip_app.specs.declared.statuses.Status.{Status}
@@ -39,7 +40,8 @@ use Rattle.ip_app.specs.declared.statuses.Bound.TheVariants as bound
 use Rattle.ip_app.specs.Lines.{longest_line, last_piece}
 use Rattle.ip_app.specs.Pending.{pending}
 use Rattle.ip_app.specs.Reading.{EndsReading, IsCaused}
-use Rattle.ip_app.specs.Exchanges.{Exchange, conditions, answer_of, no_rules, Run, after_all, lines_in, turns_in, texts_in}
+use Rattle.ip_app.specs.Exchanges.{Exchange, conditions, answer_of, Run, after_all, lines_in, turns_in, texts_in}
+use Rattle.ip_session.specs.Session.{no_rules}
 use Rattle.ip_app.specs.Turns.{turn_counts, IsLater, Follow}
 use Rattle.ip_app.specs.Outside.{Outside, GoesOn, KeepsFiles}
 use Rattle.ip_app.specs.Serving.{SaysPart, TurnedIn, Stopped, Unsaid, Stops, Served}
@@ -52,8 +54,8 @@ after_more : (first : State) (xs : List Exchange) (x : Exchange) → after_all f
 after_more first [] x = refl
 after_more first (y ∷ xs) x = after_more y.after xs x
 
-run_more : (rule : Rule) (first mid : State) (xs : List Exchange) (x : Exchange) → mid ≡ after_all first xs → Run rule first xs → LineStep rule mid x.line (conditions x) x.reply x.after → Run rule first (xs ++ x ∷ [])
-run_more rule first mid [] x e h s = (subst (λ (t : State). LineStep rule t x.line (conditions x) x.reply x.after) e s, tt)
+run_more : (rule : Rule) (first mid : State) (xs : List Exchange) (x : Exchange) → mid ≡ after_all first xs → Run rule first xs → LineStep IsServedLine rule mid x.line (conditions x) x.reply x.after → Run rule first (xs ++ x ∷ [])
+run_more rule first mid [] x e h s = (subst (λ (t : State). LineStep IsServedLine rule t x.line (conditions x) x.reply x.after) e s, tt)
 run_more rule first mid (y ∷ xs) x e h s = (h.0, run_more rule y.after mid xs x e h.1 s)
 
 follow_more : (start last : TurnCounts) (ts : List Turn) (t : Turn) → Follow start ts last → t.before ≡ last → IsLater t.before t.after → Follow start (ts ++ t ∷ []) t.after
@@ -121,16 +123,17 @@ abbrev IsShort : Bytes → Type 0
 IsShort line = length line ≤ longest_line
 
 -- one line more was served
-pub served_more : (old mid new : Outside) (lines lines' : Lines) (counts counts' : TurnCounts) (s s' : Session) (h : Served old mid lines counts s) → TurnedIn mid new lines lines' counts counts' s s' h.repository → Served old new lines' counts' s'
+pub served_more : (old mid new : Outside) (lines lines' : Lines) (counts counts' : TurnCounts) (s s' : Session) (h : Served old mid lines counts s) → TurnedIn mid new lines lines' counts counts' s s' h.repository h.view → Served old new lines' counts' s'
 served_more old mid new lines lines' counts counts' s s' h turned =
     let x = turned.exchange in
     let t = turned.turned in
     record {
       first = h.first;
       repository = turned.after;
+      view = turned.view;
       began = h.began;
-      is_in = turned.is_in;
-      holds = λ g. turned.holds (told_before _ _ h.goes_on.ground_tells g);
+      serving = turned.serving;
+      working = λ g. turned.working (told_before _ _ h.goes_on.ground_tells g);
       done = h.done ++ (x.line ++ line_feed ∷ []);
       exchanges = h.exchanges ++ x ∷ [];
       goes_on = goes_on_then old mid new h.goes_on t.goes_on;
@@ -140,12 +143,12 @@ served_more old mid new lines lines' counts counts' s s' h turned =
       rest_then = λ tail. ap last_piece (sym (regroup h.done x.line tail)) ∙ (h.rest_then (x.line ++ line_feed ∷ tail) ∙ last_piece-line x.line tail t.no_line_feed);
       short = subst (All IsShort) (sym (map-append (λ x. x.line) h.exchanges (x ∷ []))) (All-append IsShort (lines_in h.exchanges) (x.line ∷ []) h.short (All-cons IsShort x.line [] t.short (All-nil IsShort)));
       count = omega (arith, h.count, t.count, length-append h.done (x.line ++ line_feed ∷ []), length-append x.line (line_feed ∷ []));
-      run = run_more no_rules (opened h.first) (state_in s h.repository) h.exchanges x h.now_at h.run t.step;
-      now_at = sym turned.now_at ∙ sym (after_more (opened h.first) h.exchanges x);
+      run = λ g. run_more no_rules (opened h.first) (state_in s h.repository h.view) h.exchanges x (h.now_at g) (h.run g) (t.step (told_before _ _ h.goes_on.ground_tells g));
+      now_at = λ g. sym (turned.now_at (told_before _ _ h.goes_on.ground_tells g)) ∙ sym (after_more (opened h.first) h.exchanges x);
       said = λ g. turned.said (told_before _ _ h.goes_on.ground_tells g) ∙ (ap (λ (u : Bytes). u ++ reply_text x.reply) (h.said g) ∙ (append_assoc (said old.told) (texts_in h.exchanges) (reply_text x.reply) ∙ ap (λ (u : Bytes). said old.told ++ u) (sym (texts_more h.exchanges x))));
       opened_at = h.opened_at;
       headline = λ g order. headline_turn (h.opened_at g) old.told mid.told new.told (opened h.first) h.exchanges x (h.headline g order) (t.files (told_before _ _ h.goes_on.ground_tells g)).goes (h.over g) (h.said g)
-          h.repository turned.after (ap (λ (state : State). state.repository) h.now_at) (ap (λ (state : State). state.repository) (sym turned.now_at)) (turned.turning (told_before _ _ h.goes_on.ground_tells g) (h.order g order));
+          h.repository turned.after (ap (λ (state : State). state.repository) (h.now_at g)) (ap (λ (state : State). state.repository) (sym (turned.now_at (told_before _ _ h.goes_on.ground_tells g)))) (turned.turning (told_before _ _ h.goes_on.ground_tells g) (h.order g order));
       over = λ g. let was = h.over g in let later = (t.files (told_before _ _ h.goes_on.ground_tells g)).goes.later in omega (arith, was, later);
       order = λ g order. turned.order (told_before _ _ h.goes_on.ground_tells g) (h.order g order);
       noted = λ l. t.noted l ∙ (ap (λ u. u ++ x.turn ∷ []) (h.noted (t.goes_on.log_tells l)) ∙ (append_assoc old.turns (turns_in h.exchanges) (x.turn ∷ []) ∙ ap (λ u. old.turns ++ u) (sym (map-append (λ x. x.turn) h.exchanges (x ∷ [])))));
@@ -157,15 +160,16 @@ served_more old mid new lines lines' counts counts' s s' h turned =
     }
 
 -- no line was served yet
-pub served_first : (old now : Outside) (lines : Lines) (counts : TurnCounts) (s : Session) (r : Repository) → IsIn s r → state_in s r ≡ opened r → (IsTrue old.ground_tells → Holds s.store now.told r) → (IsTrue old.ground_tells → StandsFor old.told.held r)
+pub served_first : (old now : Outside) (lines : Lines) (counts : TurnCounts) (s : Session) (r : Repository) (v : View) → IsServing s → state_in s r v ≡ opened r → (IsTrue old.ground_tells → IsWorking now.told s r v) → (IsTrue old.ground_tells → StandsFor old.told.held r)
     → (opening : IsTrue old.ground_tells → SecuresOpening old.told now.told) → ((told : IsTrue old.ground_tells) → (opening told).since ≤ now.told.moment)
     → counts ≡ turn_counts now.counts → GoesOn old now → (IsTrue old.ground_tells → ChangesOnly NoFile old.told now.told) → now.left ≡ old.left → now.turns ≡ old.turns → pending lines ≡ [] → lines.taken ≡ 0 → Served old now lines counts s
-served_first old now lines counts s r is_in begun holds began opening over counted g f left turns none zero =
+served_first old now lines counts s r v serving begun working began opening over counted g f left turns none zero =
     record {
       done = [];
       exchanges = [];
       first = r;
       repository = r;
+      view = v;
       goes_on = g;
       files = λ b. keeps_unchanged old.told now.told (f b);
       bytes = λ b. sym left ∙ ap (λ (u : Bytes). u ++ now.left) (sym none);
@@ -174,10 +178,10 @@ served_first old now lines counts s r is_in begun holds began opening over count
       short = All-nil IsShort;
       count = omega (arith, zero, ap length none);
       began = began;
-      run = tt;
-      now_at = begun;
-      is_in = is_in;
-      holds = holds;
+      run = λ told. tt;
+      now_at = λ told. begun;
+      serving = serving;
+      working = working;
       said = λ b. said_now old.told now.told (f b).goes (f b).said ∙ sym (append_nil (said old.told));
       opened_at = λ b. (opening b).since;
       over = over;
@@ -208,7 +212,7 @@ serves_none old new s g f opening left turns begins row =
       short = All-nil IsShort;
       begins = begins;
       first_is = refl;
-      run = tt;
+      run = λ told. tt;
       stands = λ b whole h. stands_after old.told new.told (f b) first.repository h;
       headline = λ b r stands order. ((opening b).since, headline_none old.told new.told (f b) (opening b) r stands order);
       again = λ b may. record { repository = may.repository; stands = stands_after old.told new.told (f b) may.repository may.stands; order = (opening b).order may.order };
@@ -234,6 +238,8 @@ begins_unopened old new s g f opening left turns could_not = by_status s could_n
     by_status status.GroundFault h = serves_none old new status.GroundFault g f opening left turns (inl refl) h
     by_status status.Done h = absurd h
     by_status status.Usage h = absurd h
+    by_status (status.DamagedRecord at) h = absurd h
+    by_status (status.DamagedName at want got) h = absurd h
     by_status status.ReadFault h = absurd h
     by_status status.SayFault h = absurd h
     by_status status.Memory h = serves_none old new status.Memory g f opening left turns refl untouched
@@ -250,6 +256,8 @@ ends_along status.ReadFault r r' t t' A B h e f k = (omega arith, omega arith)
 ends_along status.Usage r r' t t' A B h e f k = absurd h
 ends_along status.NoStore r r' t t' A B h e f k = absurd h
 ends_along (status.Damaged file at) r r' t t' A B h e f k = absurd h
+ends_along (status.DamagedRecord at) r r' t t' A B h e f k = absurd h
+ends_along (status.DamagedName at want got) r r' t t' A B h e f k = absurd h
 ends_along status.SayFault r r' t t' A B h e f k = absurd h
 ends_along status.GroundFault r r' t t' A B h e f k = absurd h
 ends_along status.Memory r r' t t' A B h e f k = absurd h
@@ -270,6 +278,8 @@ row_of status.ReadFault old mid new taken first xs o e f c = record { row = (e, 
 row_of status.Usage old mid new taken first xs o e f c = absurd e
 row_of status.NoStore old mid new taken first xs o e f c = absurd e
 row_of (status.Damaged file at) old mid new taken first xs o e f c = absurd e
+row_of (status.DamagedRecord at) old mid new taken first xs o e f c = absurd e
+row_of (status.DamagedName at want got) old mid new taken first xs o e f c = absurd e
 row_of status.SayFault old mid new taken first xs o e f c = absurd e
 row_of status.GroundFault old mid new taken first xs o e f c = absurd e
 row_of status.Memory old mid new taken first xs o e f c = absurd e
@@ -281,7 +291,7 @@ of_opened : (since : ℕ) (old new : Outside) (first : Repository) (xs : List Ex
 of_opened since old new first xs began r stands run = (since, subst (λ (q : Repository). Headline since old.told new.told (opened q) (map answer_of xs)) (one_repository old.told.held first r began stands) run)
 
 -- the source is read no further
-serves_stopped : (s : Status) (old mid new : Outside) (lines lines' : Lines) (counts counts' : TurnCounts) (session : Session) (h : Served old mid lines counts session) → Stopped s mid new lines lines' counts counts' (state_in session h.repository) → Serves old new s
+serves_stopped : (s : Status) (old mid new : Outside) (lines lines' : Lines) (counts counts' : TurnCounts) (session : Session) (h : Served old mid lines counts session) → Stopped s mid new lines lines' counts counts' (state_in session h.repository h.view) → Serves old new s
 serves_stopped s old mid new lines lines' counts counts' session h t =
     let first = opened h.first in
     let taken = h.done ++ t.rest in
@@ -305,7 +315,7 @@ serves_stopped s old mid new lines lines' counts counts' session h t =
       begins = end.begins;
       first_is = refl;
       run = h.run;
-      stands = λ b whole began. subst (λ (state : State). StandsFor new.told.held state.repository) h.now_at (t.stands (told_before _ _ h.goes_on.ground_tells b));
+      stands = λ b whole began. subst (λ (state : State). StandsFor new.told.held state.repository) (h.now_at b) (t.stands (told_before _ _ h.goes_on.ground_tells b));
       headline = λ b r stands order. of_opened (h.opened_at b) old new h.first h.exchanges (h.began b) r stands
           (headline_later (h.opened_at b) old.told mid.told new.told first (map answer_of h.exchanges) (h.headline b order) (t.files (told_before _ _ h.goes_on.ground_tells b)).goes (t.same_moment (told_before _ _ h.goes_on.ground_tells b)));
       again = λ b may. record { repository = h.repository; stands = t.stands (told_before _ _ h.goes_on.ground_tells b); order = t.order (told_before _ _ h.goes_on.ground_tells b) (h.order b may.order) };
@@ -319,7 +329,7 @@ serves_stopped s old mid new lines lines' counts counts' session h t =
 
 -- a reply could not be said
 serves_unsaid : (s : Status) (old mid new : Outside) (lines lines' : Lines) (counts counts' : TurnCounts) (session : Session) (h : Served old mid lines counts session) → is_cut_off s ≡ true → ((xs : List Exchange) → Begins s old (opened h.first) xs)
-    → Unsaid s mid new lines lines' counts counts' (state_in session h.repository) → ((taken : Bytes) → Row s old new taken) → Serves old new s
+    → Unsaid s mid new lines lines' counts counts' (state_in session h.repository h.view) → ((taken : Bytes) → Row s old new taken) → Serves old new s
 serves_unsaid s old mid new lines lines' counts counts' session h cut opened_so u row =
     let first = opened h.first in
     let x = u.exchange in
@@ -341,11 +351,11 @@ serves_unsaid s old mid new lines lines' counts counts' session h cut opened_so 
       short = subst (All IsShort) (sym (map-append (λ x. x.line) h.exchanges (x ∷ []))) (All-append IsShort (lines_in h.exchanges) (x.line ∷ []) h.short (All-cons IsShort x.line [] t.short (All-nil IsShort)));
       begins = opened_so xs;
       first_is = refl;
-      run = run_more no_rules first (state_in session h.repository) h.exchanges x h.now_at h.run t.step;
+      run = λ b. run_more no_rules first (state_in session h.repository h.view) h.exchanges x (h.now_at b) (h.run b) (t.step (told_before _ _ h.goes_on.ground_tells b));
       stands = λ b whole began. subst (λ (state : State). StandsFor new.told.held state.repository) (sym (after_more first h.exchanges x)) (u.stands (told_before _ _ h.goes_on.ground_tells b) whole);
       headline = λ b r stands order. of_opened (h.opened_at b) old new h.first xs (h.began b) r stands
           (headline_turn (h.opened_at b) old.told mid.told new.told first h.exchanges x (h.headline b order) (t.files (told_before _ _ h.goes_on.ground_tells b)).goes (h.over b) (h.said b)
-          h.repository x.after.repository (ap (λ (state : State). state.repository) h.now_at) refl (u.turning (told_before _ _ h.goes_on.ground_tells b) (h.order b order)));
+          h.repository x.after.repository (ap (λ (state : State). state.repository) (h.now_at b)) refl (u.turning (told_before _ _ h.goes_on.ground_tells b) (h.order b order)));
       again = λ b may. u.again (told_before _ _ h.goes_on.ground_tells b) (h.order b may.order);
       said_part = λ b. let p = u.part (told_before _ _ h.goes_on.ground_tells b) in record { whole = h.exchanges; cut = x ∷ []; part = p.0; unsaid = p.1; all = refl; one = omega arith; text = p.2 ∙ sym (append_nil (reply_text x.reply)); said_is = p.3 ∙ ap (λ (v : Bytes). v ++ p.0) (h.said b); silent = u.silent (told_before _ _ h.goes_on.ground_tells b) };
       said_all = λ b c. absurd (cc (c, cut));
@@ -357,9 +367,11 @@ serves_unsaid s old mid new lines lines' counts counts' session h cut opened_so 
     }
 
 -- how a run ends
-pub serves_stop : (s : Status) (old mid new : Outside) (lines lines' : Lines) (counts counts' : TurnCounts) (session : Session) (h : Served old mid lines counts session) → Stops s mid new lines lines' counts counts' (state_in session h.repository) → Serves old new s
+pub serves_stop : (s : Status) (old mid new : Outside) (lines lines' : Lines) (counts counts' : TurnCounts) (session : Session) (h : Served old mid lines counts session) → Stops s mid new lines lines' counts counts' (state_in session h.repository h.view) → Serves old new s
 serves_stop status.SayFault old mid new lines lines' counts counts' session h u = serves_unsaid status.SayFault old mid new lines lines' counts counts' session h refl (λ xs. h.began) u.0 (λ taken. rose_after old.counts.say_faults mid.counts.say_faults new.counts.say_faults h.goes_on.counts.say_faults u.1)
 serves_stop status.GroundFault old mid new lines lines' counts counts' session h u = serves_unsaid status.GroundFault old mid new lines lines' counts counts' session h refl (λ xs. inr h.began) u.0 (λ taken. rose_after old.counts.file_faults mid.counts.file_faults new.counts.file_faults h.goes_on.counts.file_faults u.1)
+serves_stop (status.DamagedRecord at) old mid new lines lines' counts counts' session h u = serves_unsaid (status.DamagedRecord at) old mid new lines lines' counts counts' session h refl (λ xs. h.began) u.0 (λ taken told. u.1 (told_before _ _ h.goes_on.ground_tells told))
+serves_stop (status.DamagedName at want got) old mid new lines lines' counts counts' session h u = serves_unsaid (status.DamagedName at want got) old mid new lines lines' counts counts' session h refl (λ xs. h.began) u.0 (λ taken told. u.1 (told_before _ _ h.goes_on.ground_tells told))
 serves_stop status.Done old mid new lines lines' counts counts' session h u = serves_stopped status.Done old mid new lines lines' counts counts' session h u
 serves_stop status.Unfinished old mid new lines lines' counts counts' session h u = serves_stopped status.Unfinished old mid new lines lines' counts counts' session h u
 serves_stop (status.Limit l) old mid new lines lines' counts counts' session h u = serves_stopped (status.Limit l) old mid new lines lines' counts counts' session h u
@@ -389,6 +401,8 @@ ends_by_script status.Usage old new taken r told stands calm = r
 ends_by_script status.Exists old new taken r told stands calm = r
 ends_by_script status.NoStore old new taken r told stands calm = absurd (stands_open old.told.held stands.0 stands.1 (r.1 told))
 ends_by_script (status.Damaged file at) old new taken r told stands calm = absurd (not_damaged old.told.held stands.1.standing file at (r.1 told))
+ends_by_script (status.DamagedRecord at) old new taken r told stands calm = absurd (r told)
+ends_by_script (status.DamagedName at want got) old new taken r told stands calm = absurd (r told)
 ends_by_script status.ReadFault old new taken r told stands calm = absurd (calm.read r.1)
 ends_by_script status.SayFault old new taken r told stands calm = absurd (calm.say r)
 ends_by_script status.GroundFault old new taken r told stands calm = absurd (calm.file r)

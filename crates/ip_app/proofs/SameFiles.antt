@@ -1,7 +1,8 @@
 -- An image is as another by what stands in the control file and in the chunk alone: no other file of a store is read so far.
 --     stands_along, damaged_along, none_along      what it stands for, where it is damaged, and that it has no store
+--     working_along      a session's work goes on, while no file changes.
 --     holds_along      a store holds on what it held, while no file changes
-use Rattle.std.proofs.Common.{◌≡◌, ℕ, ◌+◌, ◌≤◌, length, List, [], sym, subst, ◌∙◌, Option, Some, None}
+use Rattle.std.proofs.Common.{◌≡◌, ℕ, ◌+◌, ◌≤◌, length, List, [], sym, ap, subst, ◌∙◌, Option, Some, None}
 use Rattle.std.specs.Prelude.{map, nat_le, if◌then◌else◌, IfSome}
 use Rattle.ip_ground.specs.declared.names.FileName.{FileName}
 use Rattle.ip_ground.specs.declared.names.FileName.TheVariants.{Control, Chunk}
@@ -21,7 +22,13 @@ use Rattle.ip_image.specs.Virtual.{run_of, byte_of, virtual_byte, locate, Stands
 use Rattle.ip_image.specs.Standing.{RunByRun, FillTo, IsGood, Generation, stretches, Standing, StandsFor, NoStore, DamagedAt, no_form, no_mapping, no_row, no_sum, no_prefix, no_record, no_whole}
 use Rattle.ip_store.specs.declared.store.Store.{Store}
 use Rattle.ip_store.specs.Store.{Holds}
-use Rattle.ip_store.proofs.Listed.{holds_on}
+use Rattle.ip_store.specs.Store.{image_records}
+use Rattle.ip_store.specs.Work.{IsLawful}
+use Rattle.ip_store.proofs.Listed.{holds_on, same_list}
+use Rattle.ip_spec.specs.TreeAt.{present}
+use Rattle.ip_spec.specs.View.{View}
+use Rattle.ip_session.specs.declared.session.Session.{Session}
+use Rattle.ip_session.specs.Session.{IsWorking}
 
 module _ (image other : Image) (control_same : other Control ≡ image Control) (chunk_same : other (Chunk 0) ≡ image (Chunk 0)) where
   -- with no generation of a collection there is nothing below the horizon
@@ -80,10 +87,6 @@ module _ (image other : Image) (control_same : other Control ≡ image Control) 
   damaged_along file at (no_whole control index s rows records held live G good whole none) =
       no_whole control index s rows records (held_along control held) live (generation_along s live.fields.served rows G) good (along s live.fields.served (λ bytes_at runs. RunByRun bytes_at runs records) rows G whole) none
 
--- by another name of the store
-pub holds_as : (store other : Store) (told : Told) (r : Repository) → other ≡ store → Holds store told r → Holds other told r
-holds_as store other told r e h = subst (λ (s : Store). Holds s told r) (sym e) h
-
 -- a store holds on what it held, while no file changes
 pub holds_along : (a b : Told) (store : Store) (r : Repository) → KeepsPast a b → ((file : FileName) → KeepsFile a b file) → Holds store a r → Holds store b r
 holds_along a b store r goes files h =
@@ -91,6 +94,15 @@ holds_along a b store r goes files h =
     let chunk : b.held (Chunk 0) ≡ a.held (Chunk 0) = (files (Chunk 0)).held (λ foreign. foreign) in
     let still : EachNow b Control (λ content. content ≡ a.held Control) = left_now a b Control (λ content. content ≡ a.held Control) goes h.kept (each_stays a b Control (λ content. content ≡ a.held Control) (λ loose. loose) (files Control) h.kept) in
     holds_on store a r h b control chunk (λ content left. still content left ∙ sym control)
+
+-- a work goes on over the same records
+pub working_along : (a b : Told) (s : Session) (r : Repository) (v : View) → KeepsPast a b → ((file : FileName) → KeepsFile a b file) → IsWorking a s r v → IsWorking b s r v
+working_along a b s r v goes files h =
+    let control : b.held Control ≡ a.held Control = (files Control).held (λ foreign. foreign) in
+    let chunk : b.held (Chunk 0) ≡ a.held (Chunk 0) = (files (Chunk 0)).held (λ foreign. foreign) in
+    let holds : Holds s.store b r = holds_along a b s.store r goes files h.holds in
+    let same : image_records holds ≡ image_records h.holds = ap (λ (records : List (ℕ × Record)). present records) (same_list s.store a r h.holds b control chunk holds.stands.standing) in
+    record { holds = holds; lawful = subst (λ (records : ℕ → Option Record). IsLawful records r s.work v) (sym same) h.lawful }
 
 -- what the files read as at the end of calls that change none
 module _ (a b : Told) (only : ChangesOnly NoFile a b) where

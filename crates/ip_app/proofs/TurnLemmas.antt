@@ -1,8 +1,9 @@
 -- One line of a run: its command was run and noted, and its reply said; or it was the last.
 --     turned_of      the record Turned of what was read, run and noted
 --     files_of, said_of, part_of      the files and what was said, once the reply was said, or not
---     stops_reading      why a source is read no further
-use Rattle.std.proofs.Common.{◌≡◌, ◌+◌, ◌++◌, [], ◌∷◌, length, refl, sym, ◌∙◌, subst, arith, None, OnOk, Result, IsTrue}
+--     went_to, cut_to      what a session did with a line, where the ground tells
+--     stops_reading      why a source is read no further.      ended_short, stops_ended      the session has ended
+use Rattle.std.proofs.Common.{rules, ◌≡◌, ◌+◌, ◌++◌, [], ◌∷◌, length, refl, sym, ◌∙◌, subst, arith, Bool, true, false, None, Some, OnOk, Result, IsTrue}
 use Rattle.ip_ground.specs.declared.names.GroundCounts.{GroundCounts}
 use Rattle.ip_ground.specs.declared.names.GroundFault.{GroundFault}
 use Rattle.ip_ground.specs.Counts.{NoneFalls}
@@ -14,17 +15,24 @@ use Rattle.ip_spec.specs.declared.met.Met.{Met}
 use Rattle.ip_spec.specs.declared.reply.Reply.{Reply}
 use Rattle.ip_spec.specs.Path.{Bytes}
 use Rattle.ip_spec.specs.Machine.{State}
+use Rattle.ip_script.specs.Served.{IsServedLine}
 use Rattle.ip_spec.specs.Script.{LineStep}
 use Rattle.ip_store.specs.Publishing.{TheTwo}
 use Rattle.ip_app.specs.declared.lines.Lines.{Lines}
+use Rattle.ip_session.specs.declared.session.SessionEnd.{SessionEnd}
 use Rattle.ip_app.specs.declared.statuses.Status.{Status}
 use Rattle.ip_app.specs.declared.statuses.Status.TheVariants as status
 use Rattle.ip_app.specs.Pending.{pending}
 use Rattle.ip_app.specs.Reading.{GetsLine}
-use Rattle.ip_app.specs.Exchanges.{Exchange, no_rules}
+use Rattle.ip_app.specs.Exchanges.{Exchange}
+use Rattle.ip_session.specs.Session.{no_rules}
 use Rattle.ip_app.specs.Outside.{Outside, GoesOn, KeepsFiles}
-use Rattle.ip_app.specs.Session.{conditions_of, ChangedIn}
-use Rattle.ip_app.specs.Serving.{SaysPart, Turned, Stopped, Stops}
+use Rattle.ip_session.specs.declared.session.Session.{Session}
+use Rattle.ip_session.specs.Session.{state_in, IsWorking, conditions_of, ChangedIn, EndsBy, Goes, Cut}
+use Rattle.ip_image.specs.Headline.{IsInOrder, Keeps}
+use Rattle.ip_spec.specs.Repository.{Repository}
+use Rattle.ip_spec.specs.View.{View}
+use Rattle.ip_app.specs.Serving.{SaysPart, Turned, Stopped, Unsaid, Stops, is_cut_short, ended_status}
 use Rattle.ip_app.specs.Turns.{turn_counts, IsLater}
 use Rattle.ip_app.proofs.RunLemmas.{append_nil, keeps_on, keeps_two, keeps_said, says_part}
 
@@ -40,7 +48,7 @@ itself a = record { file = omega arith; remove = omega arith; spawner = refl }
 
 pub turned_of : (old new : Outside) (lines lines' : Lines) (counts counts' : TurnCounts) (state after : State) (line read : Bytes) (met told_met : Met) (reply : Reply) (mid : GroundCounts) → GoesOn old new → (IsTrue old.ground_tells → KeepsFiles old.told new.told)
     → GetsLine line old.source_tells (pending lines ++ old.left) (pending lines' ++ new.left) → lines'.taken + length (pending lines) ≡ lines.taken + (length line + 1) + length (pending lines')
-    → LineStep no_rules state read (conditions_of met) reply after → read ≡ line → told_met ≡ met
+    → (IsTrue old.ground_tells → LineStep IsServedLine no_rules state read (conditions_of met) reply after) → read ≡ line → told_met ≡ met
     → (IsTrue new.log_tells → new.turns ≡ old.turns ++ record { met = told_met; before = counts; after = counts' } ∷ [])
     → counts' ≡ turn_counts mid → IsLater counts (turn_counts old.counts) → NoneFalls old.counts mid → NoneFalls mid new.counts
     → Turned old new lines lines' counts counts' state (exchange_of line told_met counts counts' reply after)
@@ -51,7 +59,7 @@ turned_of old new lines lines' counts counts' state after line read met told_met
   no_line_feed = gets.no_line_feed;
   short = gets.short;
   count = count;
-  step = subst (λ (k : Bytes). LineStep no_rules state k (conditions_of told_met) reply after) same (subst (λ (m : Met). LineStep no_rules state read (conditions_of m) reply after) (sym same_met) step);
+  step = λ told. subst (λ (k : Bytes). LineStep IsServedLine no_rules state k (conditions_of told_met) reply after) same (subst (λ (m : Met). LineStep IsServedLine no_rules state read (conditions_of m) reply after) (sym same_met) (step told));
   noted = noted;
   begins_at = refl;
   ends_at = refl;
@@ -83,4 +91,52 @@ nothing_said old new reply only = ([], reply, refl, said_now old new only.goes o
 pub stops_reading : (s : Status) (old new : Outside) (lines lines' : Lines) (counts counts' : TurnCounts) (state : State) → Stopped s old new lines lines' counts counts' state → Stops s old new lines lines' counts counts' state
 stops_reading status.SayFault old new lines lines' counts counts' state t = absurd t.ends
 stops_reading status.GroundFault old new lines lines' counts counts' state t = absurd t.ends
+stops_reading (status.DamagedRecord at) old new lines lines' counts counts' state t = absurd t.ends
+stops_reading (status.DamagedName at want got) old new lines lines' counts counts' state t = absurd t.ends
 stops_reading _ old new lines lines' counts counts' state t = t
+
+-- a session's end cut the command short
+pub ended_short : (end : SessionEnd) → is_cut_short (ended_status end) ≡ true
+ended_short SessionEnd.Ground = refl
+ended_short (SessionEnd.Damaged at None) = refl
+ended_short (SessionEnd.Damaged at (Some (want, got))) = refl
+
+pub stops_ended : (end : SessionEnd) (s : Status) (old new : Outside) (lines lines' : Lines) (counts counts' : TurnCounts) (state : State) → s ≡ ended_status end → Unsaid (ended_status end) old new lines lines' counts counts' state → EndsBy end old.ground_tells old.counts new.counts
+    → Stops s old new lines lines' counts counts' state
+stops_ended end s old new lines lines' counts counts' state e unsaid ends = subst (λ (t : Status). Stops t old new lines lines' counts counts' state) (sym e) (by_end end unsaid ends)
+  where
+    by_end : (end : SessionEnd) → Unsaid (ended_status end) old new lines lines' counts counts' state → EndsBy end old.ground_tells old.counts new.counts → Stops (ended_status end) old new lines lines' counts counts' state
+    by_end SessionEnd.Ground u h = (u, h)
+    by_end (SessionEnd.Damaged at None) u h = (u, h)
+    by_end (SessionEnd.Damaged at (Some (want, got))) u h = (u, h)
+
+-- ---- what a session did is known only where the ground tells its files
+
+-- something is there on any ground, and so it is where the ground tells
+pub settled : {A : Type 0} (P : A → Type 0) (tells : Bool) → A → (IsTrue tells → (x : A) × P x) → (x : A) × (IsTrue tells → P x)
+settled P true given found = let y = found (search rules) in (y.0, λ told. y.1)
+settled P false given found = (given, λ told. absurd (cc told))
+
+-- a session ran a line and is in this repository then, and its work's tree has this view
+pub record GoesTo (old new : Told) (s s' : Session) (r : Repository) (v : View) (line : Bytes) (reply : Reply) (x : Repository × View) : Type 0 where
+  pub gives : LineStep IsServedLine no_rules (state_in s r v) line (conditions_of s'.met) reply (state_in s' x.0 x.1)
+  pub working : IsWorking new s' x.0 x.1
+  pub only : ChangesOnly (ChangedIn line reply) old new
+  pub keeps : IsInOrder old → Keeps old new r x.0
+  pub order : IsInOrder old → IsInOrder new
+
+pub went_to : (tells : Bool) (old new : Told) (s s' : Session) (r : Repository) (v : View) (line : Bytes) (reply : Reply) → (IsTrue tells → Goes old new s s' r v (ChangedIn line) (LineStep IsServedLine no_rules (state_in s r v) line) reply)
+    → (x : Repository × View) × (IsTrue tells → GoesTo old new s s' r v line reply x)
+went_to tells old new s s' r v line reply goes = settled (GoesTo old new s s' r v line reply) tells (r, v)
+    (λ told. let h = goes told in ((h.after, h.view), record { gives = h.gives; working = h.is_at; only = h.only; keeps = h.keeps; order = h.order }))
+
+-- or it was cut short, with this reply and this state of the machine
+pub record CutTo (old new : Told) (s s' : Session) (r : Repository) (v : View) (line : Bytes) (x : Reply × State) : Type 0 where
+  pub gives : LineStep IsServedLine no_rules (state_in s r v) line (conditions_of s'.met) x.0 x.1
+  pub only : ChangesOnly TheTwo old new
+  pub keeps : IsInOrder old → Keeps old new r x.1.repository
+
+pub cut_to : (tells : Bool) (old new : Told) (s s' : Session) (r : Repository) (v : View) (line : Bytes) → (IsTrue tells → Cut old new s s' r v (LineStep IsServedLine no_rules (state_in s r v) line))
+    → (x : Reply × State) × (IsTrue tells → CutTo old new s s' r v line x)
+cut_to tells old new s s' r v line cut = settled (CutTo old new s s' r v line) tells (Reply.Accepted, state_in s r v)
+    (λ told. let h = cut told in ((h.reply, h.after), record { gives = h.gives; only = h.only; keeps = h.keeps }))

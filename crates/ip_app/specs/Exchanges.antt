@@ -1,15 +1,15 @@
 -- The exchanges of a run: of each line begun its turn, its reply and the state after it.
 --     Run rule first exchanges      each is a step of the machine, from the state of the one before it
 --     lines_in, turns_in, texts_in      their lines, their turns in the log, and the texts of their replies
---     no_rules      the merge rules of a call that is handed none
 use Rattle.std.specs.Prelude.{List, [], ◌∷◌, map, Option}
 use Rattle.ip_spec.specs.Path.{Bytes}
-use Rattle.ip_spec.specs.Merge.{Rule, same_means}
+use Rattle.ip_spec.specs.Merge.{Rule}
 use Rattle.ip_spec.specs.declared.reply.Difference.{Difference}
 use Rattle.ip_spec.specs.declared.reply.Reply.{Reply}
 use Rattle.ip_spec.specs.Machine.{State, Conditions}
 use Rattle.ip_spec.specs.Script as Script
 use Rattle.ip_spec.specs.Script.{Answered, Plays, said_by}
+use Rattle.ip_script.specs.Served.{IsServedLine}
 use Rattle.ip_app.specs.declared.turn_log.Turn.{Turn}
 
 pub record Exchange : Type 0 where
@@ -29,11 +29,8 @@ turn_of x = (x.line, conditions x)
 abbrev pub answer_of : Exchange → Answered
 answer_of x = (x.reply, x.after)
 
-abbrev pub no_rules : Rule
-no_rules path = same_means
-
 abbrev pub Run : Rule → State → List Exchange → Type 0
-Run rule first exchanges = Plays rule first (map turn_of exchanges) (map answer_of exchanges)
+Run rule first exchanges = Plays IsServedLine rule first (map turn_of exchanges) (map answer_of exchanges)
 
 abbrev pub lines_in : List Exchange → List Bytes
 lines_in = map (λ x. x.line)

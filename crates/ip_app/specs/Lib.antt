@@ -7,7 +7,6 @@ pub mod Reading
 pub mod Rooms
 pub mod Run
 pub mod Serving
-pub mod Session
 pub mod Statuses
 pub mod Turns
 pub mod Words

@@ -25,7 +25,8 @@ use Rattle.ip_app.specs.declared.statuses.Status.{Status}
 use Rattle.ip_app.specs.Lines.{longest_line, last_piece}
 use Rattle.ip_app.specs.Reading.{EndsReading}
 use Rattle.ip_app.specs.Ending.{ending_of, IsOfBytes}
-use Rattle.ip_app.specs.Exchanges.{Exchange, answer_of, no_rules, Run, lines_in, turns_in, texts_in, after_all}
+use Rattle.ip_app.specs.Exchanges.{Exchange, answer_of, Run, lines_in, turns_in, texts_in, after_all}
+use Rattle.ip_session.specs.Session.{no_rules}
 use Rattle.ip_app.specs.Serving.{is_cut_short}
 use Rattle.ip_app.specs.Turns.{turn_counts, IsLater, Follow}
 use Rattle.ip_app.specs.Outside.{Outside, GoesOn, KeepsFiles}
@@ -73,6 +74,8 @@ Begins status old first exchanges = IsOpened old first
 abbrev pub is_cut_off : Status → Bool
 is_cut_off Status.SayFault = true
 is_cut_off Status.GroundFault = true
+is_cut_off (Status.DamagedRecord at) = true
+is_cut_off (Status.DamagedName at want got) = true
 is_cut_off _ = false
 
 -- what was said of the replies: all, or all but the last and a part of that; nothing of one whose command was cut short
@@ -108,6 +111,9 @@ Row Status.SayFault old new taken = Rose old.counts.say_faults new.counts.say_fa
 Row Status.GroundFault old new taken = Rose old.counts.file_faults new.counts.file_faults
 Row Status.NoStore old new taken = IsUntouched old new taken × (IsTrue old.ground_tells → NoStore old.told.held)
 Row (Status.Damaged file at) old new taken = IsUntouched old new taken × (IsTrue old.ground_tells → DamagedAt old.told.held file at)
+-- of the files that a call reads: never where the ground tells its content
+Row (Status.DamagedRecord at) old new taken = ¬ IsTrue old.ground_tells
+Row (Status.DamagedName at want got) old new taken = ¬ IsTrue old.ground_tells
 Row Status.Memory old new taken = IsUntouched old new taken
 Row Status.Usage old new taken = ⊥
 Row Status.Exists old new taken = ⊥
@@ -126,11 +132,12 @@ pub record Serves (old new : Outside) (status : Status) : Type 0 where
   -- the commands begun are those of their lines, in order, and of all of them unless one cut the call short
   pub begun : (more : List Bytes) × (whole_lines taken ≡ lines_in exchanges ++ more) × (is_cut_off status ≡ false → more ≡ [])
   pub short : All (λ line. length line ≤ longest_line) (lines_in exchanges)
-  -- they are a run of the machine, from the repository that was opened, each with what it met
+  -- they begin with the repository that was opened
   pub begins : Begins status old first exchanges
   pub first_is : first ≡ opened first.repository
-  pub run : Run no_rules first exchanges
-  -- in the end the files stand for the repository after all of them, unless a fault of the ground cut the last one short
+  -- and are a run of the machine, each with what it met. What is read of records is known only where the ground tells its content
+  pub run : IsTrue old.ground_tells → Run no_rules first exchanges
+  -- in the end the files stand for the repository after all of them, unless a fault of the ground or of its files cut the last one short
   pub stands : IsTrue old.ground_tells → is_cut_short status ≡ false → StandsFor old.told.held first.repository → StandsFor new.told.held (after_all first exchanges).repository
   -- At every moment from the first sync of opening on, where the ground was in order: what had been said was a front of the replies' texts, and whatever a crash leaves
   -- stands for the repository after some first commands, all acknowledged ones among them.

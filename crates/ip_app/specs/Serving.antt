@@ -1,8 +1,8 @@
 -- How serving a script goes on, line by line.
 --     Turned      a line was taken, its command run and noted.      TurnedIn      and its reply said, by a session in a repository
---     Stops      why there is no further line
+--     ended_status      the status of a session's end.      Stops      why there is no further line
 --     Served      so far: the whole lines that were taken, what came of them, and the repository that the session is in
-use Rattle.std.specs.Prelude.{ℕ, ◌+◌, ◌≤◌, ◌≡◌, Bool, true, false, IsTrue, List, [], ◌∷◌, ◌++◌, length, map, All}
+use Rattle.std.specs.Prelude.{ℕ, ◌+◌, ◌≤◌, ◌≡◌, Bool, true, false, IsTrue, List, [], ◌∷◌, ◌++◌, length, map, All, Some, None}
 use Rattle.ip_ground.specs.Counts.{Rose}
 use Rattle.ip_ground.specs.Told.{said}
 use Rattle.ip_image.specs.declared.counts.TurnCounts.{TurnCounts}
@@ -11,19 +11,22 @@ use Rattle.ip_image.specs.Headline.{IsInOrder, MayServe, Turning, Headline}
 use Rattle.ip_spec.specs.Path.{Bytes, line_feed}
 use Rattle.ip_spec.specs.Machine.{State, opened}
 use Rattle.ip_spec.specs.Repository.{Repository}
+use Rattle.ip_spec.specs.View.{View}
+use Rattle.ip_script.specs.Served.{IsServedLine}
 use Rattle.ip_spec.specs.Script.{whole_lines, LineStep}
 use Rattle.ip_spec.specs.Text.{reply_text}
-use Rattle.ip_store.specs.Store.{Holds}
-use Rattle.ip_app.specs.declared.session.Session.{Session}
+use Rattle.ip_session.specs.declared.session.Session.{Session}
+use Rattle.ip_session.specs.declared.session.SessionEnd.{SessionEnd}
 use Rattle.ip_app.specs.declared.statuses.Status.{Status}
 use Rattle.ip_app.specs.declared.lines.Lines.{Lines}
 use Rattle.ip_app.specs.Lines.{longest_line, HasNoLineFeed, last_piece}
 use Rattle.ip_app.specs.Pending.{pending}
 use Rattle.ip_app.specs.Reading.{EndsReading, IsCaused}
-use Rattle.ip_app.specs.Exchanges.{Exchange, conditions, answer_of, no_rules, Run, lines_in, turns_in, texts_in, after_all}
+use Rattle.ip_app.specs.Exchanges.{Exchange, conditions, answer_of, Run, lines_in, turns_in, texts_in, after_all}
+use Rattle.ip_session.specs.Session.{no_rules}
 use Rattle.ip_app.specs.Turns.{turn_counts, IsLater, Follow}
 use Rattle.ip_app.specs.Outside.{Outside, GoesOn, KeepsFiles}
-use Rattle.ip_app.specs.Session.{IsIn, state_in}
+use Rattle.ip_session.specs.Session.{IsServing, IsWorking, state_in}
 
 -- what was said grew by a part from the front of the bytes
 abbrev pub SaysPart : Bytes → Bytes → Bytes → Type 0
@@ -36,20 +39,21 @@ pub record Turned (old new : Outside) (lines lines' : Lines) (counts counts' : T
   pub no_line_feed : HasNoLineFeed x.line
   pub short : length x.line ≤ longest_line
   pub count : lines'.taken + length (pending lines) ≡ lines.taken + (length x.line + 1) + length (pending lines')
-  pub step : LineStep no_rules state x.line (conditions x) x.reply x.after
+  pub step : IsTrue old.ground_tells → LineStep IsServedLine no_rules state x.line (conditions x) x.reply x.after
   pub noted : IsTrue new.log_tells → new.turns ≡ old.turns ++ x.turn ∷ []
   pub begins_at : x.turn.before ≡ counts
   pub ends_at : x.turn.after ≡ counts'
   pub rises : IsLater x.turn.before x.turn.after
   pub until : IsLater counts' (turn_counts new.counts)
 
-pub record TurnedIn (old new : Outside) (lines lines' : Lines) (counts counts' : TurnCounts) (s s' : Session) (r : Repository) : Type 0 where
+pub record TurnedIn (old new : Outside) (lines lines' : Lines) (counts counts' : TurnCounts) (s s' : Session) (r : Repository) (v : View) : Type 0 where
   pub exchange : Exchange
   pub after : Repository
-  pub turned : Turned old new lines lines' counts counts' (state_in s r) exchange
-  pub now_at : exchange.after ≡ state_in s' after
-  pub is_in : IsIn s' after
-  pub holds : IsTrue old.ground_tells → Holds s'.store new.told after
+  pub view : View
+  pub turned : Turned old new lines lines' counts counts' (state_in s r v) exchange
+  pub now_at : IsTrue old.ground_tells → exchange.after ≡ state_in s' after view
+  pub serving : IsServing s'
+  pub working : IsTrue old.ground_tells → IsWorking new.told s' after view
   pub said : IsTrue old.ground_tells → said new.told ≡ said old.told ++ reply_text exchange.reply
   pub turning : IsTrue old.ground_tells → IsInOrder old.told → Turning old.told new.told (reply_text exchange.reply) r after
   pub order : IsTrue old.ground_tells → IsInOrder old.told → IsInOrder new.told
@@ -72,13 +76,21 @@ pub record Stopped (status : Status) (old new : Outside) (lines lines' : Lines) 
   pub same_counts : counts' ≡ counts
   pub until : IsLater counts' (turn_counts new.counts)
 
--- a fault of the ground cut the last command short
+-- how a call ends whose session has ended
+abbrev pub ended_status : SessionEnd → Status
+ended_status SessionEnd.Ground = Status.GroundFault
+ended_status (SessionEnd.Damaged at None) = Status.DamagedRecord at
+ended_status (SessionEnd.Damaged at (Some (want, got))) = Status.DamagedName at want got
+
+-- a fault of the ground or of its files cut the last command short
 abbrev pub is_cut_short : Status → Bool
 is_cut_short Status.GroundFault = true
+is_cut_short (Status.DamagedRecord at) = true
+is_cut_short (Status.DamagedName at want got) = true
 is_cut_short _ = false
 
--- The line was the last: its reply was not said, or only a part of it. Of a command that a fault of the ground cuts short,
--- the reply and the state are those that it has where none of its writes fails.
+-- The line was the last: its reply was not said, or only a part of it. Of a command that a fault of the ground or of its
+-- files cuts short, the reply and the state are those that it has where none of its writes fails.
 pub record Unsaid (status : Status) (old new : Outside) (lines lines' : Lines) (counts counts' : TurnCounts) (state : State) : Type 0 where
   pub exchange : Exchange
   pub turned : Turned old new lines lines' counts counts' state exchange
@@ -92,6 +104,8 @@ pub record Unsaid (status : Status) (old new : Outside) (lines lines' : Lines) (
 abbrev pub Stops : Status → Outside → Outside → Lines → Lines → TurnCounts → TurnCounts → State → Type 0
 Stops Status.SayFault old new lines lines' counts counts' state = Unsaid Status.SayFault old new lines lines' counts counts' state × Rose old.counts.say_faults new.counts.say_faults
 Stops Status.GroundFault old new lines lines' counts counts' state = Unsaid Status.GroundFault old new lines lines' counts counts' state × Rose old.counts.file_faults new.counts.file_faults
+Stops (Status.DamagedRecord at) old new lines lines' counts counts' state = Unsaid (Status.DamagedRecord at) old new lines lines' counts counts' state × (¬ IsTrue old.ground_tells)
+Stops (Status.DamagedName at want got) old new lines lines' counts counts' state = Unsaid (Status.DamagedName at want got) old new lines lines' counts counts' state × (¬ IsTrue old.ground_tells)
 Stops status old new lines lines' counts counts' state = Stopped status old new lines lines' counts counts' state
 
 pub record Served (old now : Outside) (lines : Lines) (counts : TurnCounts) (session : Session) : Type 0 where
@@ -99,6 +113,7 @@ pub record Served (old now : Outside) (lines : Lines) (counts : TurnCounts) (ses
   pub exchanges : List Exchange
   pub first : Repository
   pub repository : Repository
+  pub view : View
   pub goes_on : GoesOn old now
   pub files : IsTrue old.ground_tells → KeepsFiles old.told now.told
   pub bytes : IsTrue old.source_tells → old.left ≡ done ++ (pending lines ++ now.left)
@@ -107,10 +122,10 @@ pub record Served (old now : Outside) (lines : Lines) (counts : TurnCounts) (ses
   pub short : All (λ line. length line ≤ longest_line) (lines_in exchanges)
   pub count : lines.taken ≡ length done + length (pending lines)
   pub began : IsTrue old.ground_tells → StandsFor old.told.held first
-  pub run : Run no_rules (opened first) exchanges
-  pub now_at : state_in session repository ≡ after_all (opened first) exchanges
-  pub is_in : IsIn session repository
-  pub holds : IsTrue old.ground_tells → Holds session.store now.told repository
+  pub run : IsTrue old.ground_tells → Run no_rules (opened first) exchanges
+  pub now_at : IsTrue old.ground_tells → state_in session repository view ≡ after_all (opened first) exchanges
+  pub serving : IsServing session
+  pub working : IsTrue old.ground_tells → IsWorking now.told session repository view
   pub said : IsTrue old.ground_tells → said now.told ≡ said old.told ++ texts_in exchanges
   pub opened_at : IsTrue old.ground_tells → ℕ
   pub over : (told : IsTrue old.ground_tells) → opened_at told ≤ now.told.moment

@@ -4,7 +4,9 @@ use Rattle.std.specs.Prelude.{ℕ, [], ◌∷◌, ◌++◌, Option, Some, None, 
 use Rattle.std.specs.Fmt.{decimal}
 use Rattle.ip_ground.specs.declared.names.FileName.{FileName}
 use Rattle.ip_ground.specs.declared.names.FileName.TheVariants.{Control, Chunk, Prefix, Mapping, Done}
+use Rattle.hex.specs.Hex.{encode_lower}
 use Rattle.ip_spec.specs.Path.{Bytes, space, line_feed}
+use Rattle.ip_spec.specs.Record.{Hash}
 use Rattle.ip_app.specs.declared.statuses.Status.{Status}
 use Rattle.ip_app.specs.declared.statuses.Bound.TheVariants as Bound
 
@@ -13,6 +15,8 @@ code_of Status.Done = 0
 code_of Status.Usage = 2
 code_of Status.NoStore = 3
 code_of (Status.Damaged file at) = 4
+code_of (Status.DamagedRecord at) = 4
+code_of (Status.DamagedName at want got) = 4
 code_of Status.ReadFault = 5
 code_of Status.SayFault = 6
 code_of Status.GroundFault = 7
@@ -29,12 +33,18 @@ file_text (Prefix attempt) = codes "prefix." ++ decimal attempt
 file_text (Mapping attempt) = codes "mapping." ++ decimal attempt
 file_text (Done attempt) = codes "done." ++ decimal attempt
 
+-- two names, as lower-case digits
+abbrev pub names_text : Hash → Hash → Bytes
+names_text want got = encode_lower want ++ space ∷ encode_lower got
+
 -- what the line says, if there is one
 abbrev pub status_text : Status → Option Bytes
 status_text Status.Done = None
 status_text Status.Usage = Some (codes "usage")
 status_text Status.NoStore = Some (codes "no store")
 status_text (Status.Damaged file at) = Some (codes "damaged " ++ file_text file ++ space ∷ decimal at)
+status_text (Status.DamagedRecord at) = Some (codes "damaged record " ++ decimal at)
+status_text (Status.DamagedName at want got) = Some (codes "damaged name " ++ decimal at ++ space ∷ names_text want got)
 status_text Status.ReadFault = Some (codes "read fault")
 status_text Status.SayFault = Some (codes "write fault")
 status_text Status.GroundFault = Some (codes "disk fault")

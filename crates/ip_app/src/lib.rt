@@ -4,7 +4,6 @@
 mod calls;
 mod lines;
 mod serve;
-mod session;
 mod statuses;
 mod turn_log;
 
@@ -15,4 +14,10 @@ pub use turn_log::{Kept, Log, Silent, Turn};
 #[cfg(test)]
 mod branch_tests;
 #[cfg(test)]
+mod model_tests;
+#[cfg(test)]
+mod show_tests;
+#[cfg(test)]
 mod tests;
+#[cfg(test)]
+mod tree_tests;

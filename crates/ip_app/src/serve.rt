@@ -3,22 +3,22 @@ ghost use Rattle.std.specs.Prelude.{◌≡◌, [], IsTrue, OnOk, IfOk, IfErr};
 ghost use Rattle.ip_ground.specs.Counts.{NoneFalls};
 ghost use Rattle.ip_ground.specs.Told.{ChangesOnly, NoFile};
 ghost use Rattle.ip_spec.specs.Repository.{Repository};
+ghost use Rattle.ip_spec.specs.View.{View};
 ghost use Rattle.ip_store.specs.Opening.{SecuresOpening};
-ghost use Rattle.ip_store.specs.Store.{Holds, IsSound};
 ghost use Rattle.ip_app.specs.Outside.{outside};
 ghost use Rattle.ip_app.specs.Turns.{turn_counts, IsLater};
-ghost use Rattle.ip_app.specs.Serving.{TurnedIn, Stops};
+ghost use Rattle.ip_app.specs.Serving.{ended_status, TurnedIn, Stops};
 ghost use Rattle.ip_app.specs.Run.{opening_status, CouldNotOpen, OpensAs, Serves, EndsWhereAllIsWell, EndsAsBytes};
-ghost use Rattle.ip_app.specs.Session.{IsIn, state_in};
+ghost use Rattle.ip_session.specs.Session.{IsServing, IsWorking, state_in};
 
 use crate::lines::{LONGEST_LINE, Lines};
-use crate::session::{Session, SessionEnd};
 use crate::statuses::Status;
 use crate::turn_log::{Log, Turn, turn_counts};
 use ip_base::Memory;
 use ip_ground::Ground;
 use ip_image::counts::TurnCounts;
 use ip_script::Source;
+use ip_session::{Session, SessionEnd};
 use ip_store::{OpenFault, Store};
 use std::alloc::Global;
 
@@ -62,15 +62,15 @@ impl LineRoom {
     ) -> Result<(), Status>
         requires roomy { IsRoomy self.old }
         requires counted { IsLater counts.old (turn_counts (G.counts_of ground.old)) }
-        requires tables { (r : Repository) × IsIn session.old r }
-        requires held { IsTrue G.tells → IsSound session.old.store (G.told ground.old) }
+        requires tables { IsServing session.old }
+        requires held { IsTrue G.tells → (r : Repository) × (v : View) × IsWorking (G.told ground.old) session.old r v }
         ensures roomy { IsRoomy self.new }
         ensures turned { let told = outside S.tells S.left S.read_faults G.tells G.told G.counts_of L.tells L.turns in
-            (r : Repository) → IsIn session.old r → (IsTrue G.tells → Holds session.old.store (G.told ground.old) r) →
-            OnOk result (TurnedIn (told source.old ground.old log.old) (told source.new ground.new log.new) self.old.lines self.new.lines counts.old counts.new session.old session.new r) }
+            (r : Repository) (v : View) → (IsTrue G.tells → IsWorking (G.told ground.old) session.old r v) →
+            OnOk result (TurnedIn (told source.old ground.old log.old) (told source.new ground.new log.new) self.old.lines self.new.lines counts.old counts.new session.old session.new r v) }
         ensures stops { let told = outside S.tells S.left S.read_faults G.tells G.told G.counts_of L.tells L.turns in
-            (r : Repository) → IsIn session.old r → (IsTrue G.tells → Holds session.old.store (G.told ground.old) r) →
-            IfErr result (λ status. Stops status (told source.old ground.old log.old) (told source.new ground.new log.new) self.old.lines self.new.lines counts.old counts.new (state_in session.old r)) }
+            (r : Repository) (v : View) → (IsTrue G.tells → IsWorking (G.told ground.old) session.old r v) →
+            IfErr result (λ status. Stops status (told source.old ground.old log.old) (told source.new ground.new log.new) self.old.lines self.new.lines counts.old counts.new (state_in session.old r v)) }
     {
         self.line.clear();
         self.text.clear();
@@ -90,8 +90,22 @@ impl LineRoom {
                 Ok(()) => Ok(()),
                 Err(_) => Err(Status::SayFault),
             },
-            Err(SessionEnd::Ground) => Err(Status::GroundFault),
+            Err(end) => Err(ended_status(end)),
         }
+    }
+}
+
+// How a call ends whose session has ended.
+fn ended_status(end: SessionEnd) -> Status
+    ensures { result ≡ ended_status end }
+{
+    match end {
+        SessionEnd::Ground => Status::GroundFault,
+        SessionEnd::Damaged { at, names: None } => Status::DamagedRecord { at },
+        SessionEnd::Damaged {
+            at,
+            names: Some((want, got)),
+        } => Status::DamagedName { at, want, got },
     }
 }
 

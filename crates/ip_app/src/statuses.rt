@@ -2,9 +2,10 @@
 ghost use Rattle.std.specs.Prelude.{◌≡◌, ◌++◌, ◌∷◌, OnOk, OnErr};
 ghost use Rattle.std.specs.Fmt.{decimal};
 ghost use Rattle.ip_spec.specs.Path.{space};
-ghost use Rattle.ip_app.specs.Statuses.{code_of, file_text, status_line};
+ghost use Rattle.hex.specs.Hex.{encode_lower};
+ghost use Rattle.ip_app.specs.Statuses.{code_of, file_text, names_text, status_line};
 
-use ip_base::Memory;
+use ip_base::{Hash, Memory};
 use ip_ground::FileName;
 use itoa::Buffer;
 
@@ -28,6 +29,10 @@ pub enum Status {
     NoStore,
     /// The store's files stand for no repository; the byte `at` of the file is the first that is wrong.
     Damaged { file: FileName, at: u64 },
+    /// The files were changed by others while the store was open: at this offset among its records stands none of the kind that stood there.
+    DamagedRecord { at: u64 },
+    /// The same, but one of another name than the wanted one.
+    DamagedName { at: u64, want: Hash, got: Hash },
     /// The source could not be read.
     ReadFault,
     /// A reply could not be said, or not all of it.
@@ -46,14 +51,14 @@ pub enum Status {
 
 impl Status {
     /// The program's exit status.
-    pub fn code(self) -> u8
-        ensures { result ≡ code_of self }
+    pub fn code(&self) -> u8
+        ensures { result ≡ code_of self.now }
     {
         match self {
             Status::Done => 0,
             Status::Usage => 2,
             Status::NoStore => 3,
-            Status::Damaged { .. } => 4,
+            Status::Damaged { .. } | Status::DamagedRecord { .. } | Status::DamagedName { .. } => 4,
             Status::ReadFault => 5,
             Status::SayFault => 6,
             Status::GroundFault => 7,
@@ -65,12 +70,16 @@ impl Status {
     }
 
     /// Writes the line for standard error at the end, with its line feed, if there is one.
-    pub fn put_line(self, out: &mut Vec<u8>) -> Result<(), Memory>
-        ensures { OnOk result (out.new.items ≡ out.old.items ++ status_line self) }
+    pub fn put_line(&self, out: &mut Vec<u8>) -> Result<(), Memory>
+        ensures { OnOk result (out.new.items ≡ out.old.items ++ status_line self.now) }
     {
         let text: &[u8] = match self {
             Status::Done => return Ok(()),
-            Status::Damaged { file, at } => return put_damaged(file, at, out),
+            Status::Damaged { file, at } => return put_damaged(*file, *at, out),
+            Status::DamagedRecord { at } => return put_damaged_record(*at, out),
+            Status::DamagedName { at, want, got } => {
+                return put_damaged_name(*at, want, got, out);
+            }
             Status::Usage => b"ipstore: usage\n",
             Status::NoStore => b"ipstore: no store\n",
             Status::ReadFault => b"ipstore: read fault\n",
@@ -120,5 +129,40 @@ fn put_damaged(file: FileName, at: u64, out: &mut Vec<u8>) -> Result<(), Memory>
     put_file(file, out)?;
     out.push(b' ')?;
     put_number(at, out)?;
+    Ok(out.push(b'\n')?)
+}
+
+fn put_damaged_record(at: u64, out: &mut Vec<u8>) -> Result<(), Memory>
+    ensures { OnOk result (out.new.items ≡ out.old.items ++ status_line (Status.DamagedRecord at)) }
+{
+    out.extend_from_slice(b"ipstore: damaged record ")?;
+    put_number(at, out)?;
+    Ok(out.push(b'\n')?)
+}
+
+// A name's 64 digits.
+fn put_name(name: &Hash, out: &mut Vec<u8>) -> Result<(), Memory>
+    ensures { OnOk result (out.new.items ≡ out.old.items ++ encode_lower name.now) }
+{
+    let mut digits = [0; 64];
+    hex::encode_to_slice(name.as_slice(), &mut digits).unwrap();
+    Ok(out.extend_from_slice(&digits)?)
+}
+
+fn put_names(want: &Hash, got: &Hash, out: &mut Vec<u8>) -> Result<(), Memory>
+    ensures { OnOk result (out.new.items ≡ out.old.items ++ names_text want.now got.now) }
+{
+    put_name(want, out)?;
+    out.push(b' ')?;
+    put_name(got, out)
+}
+
+fn put_damaged_name(at: u64, want: &Hash, got: &Hash, out: &mut Vec<u8>) -> Result<(), Memory>
+    ensures { OnOk result (out.new.items ≡ out.old.items ++ status_line (Status.DamagedName at want.now got.now)) }
+{
+    out.extend_from_slice(b"ipstore: damaged name ")?;
+    put_number(at, out)?;
+    out.push(b' ')?;
+    put_names(want, got, out)?;
     Ok(out.push(b'\n')?)
 }

@@ -2,13 +2,13 @@
 ghost use Rattle.std.specs.Prelude.{[], false};
 
 use crate::{Bound, Kept, Log, Silent, Status, run};
-use ip_base::Blob;
+use ip_base::{Blob, Hash};
 use ip_ground::{Bench, FileName, Ground};
 use ip_script::{Bytes, Source, SourceCounts, SourceFault};
 use std::alloc::{AllocError, Global};
 use std::test::Fail;
 
-fn words(alloc: Global, given: &[&str]) -> Result<Vec<String>, AllocError> {
+pub(crate) fn words(alloc: Global, given: &[&str]) -> Result<Vec<String>, AllocError> {
     let mut words = Vec::new(alloc);
     for word in given {
         words.push(String::from_str(alloc, word)?)?;
@@ -16,7 +16,7 @@ fn words(alloc: Global, given: &[&str]) -> Result<Vec<String>, AllocError> {
     Ok(words)
 }
 
-fn bench(alloc: Global, fails: &[u64]) -> Result<Bench, AllocError> {
+pub(crate) fn bench(alloc: Global, fails: &[u64]) -> Result<Bench, AllocError> {
     let fails = Vec::from_slice(alloc, fails)?;
     Ok(Bench::new(alloc, fails, None, Vec::new(alloc)))
 }
@@ -26,7 +26,7 @@ pub(crate) fn source(alloc: Global, script: &[u8], fails: &[u64]) -> Result<Byte
     Ok(Bytes::new(script, Vec::from_slice(alloc, fails)?))
 }
 
-fn init(alloc: Global, bench: &mut Bench) -> Result<Status, AllocError> {
+pub(crate) fn init(alloc: Global, bench: &mut Bench) -> Result<Status, AllocError> {
     let words = words(alloc, &["ipstore", "init", "mem"])?;
     let mut none = source(alloc, b"", &[])?;
     Ok(run(alloc, &words, &mut none, bench, &mut Silent))
@@ -241,7 +241,7 @@ fn lines_outside_the_grammar(rt: HostRuntime) -> Result<(), Fail> {
         (b" empty\n", b"bad 0\n"),
         (b"set\n", b"bad 3\n"),
         (b"set a\n", b"bad 5\n"),
-        (b"set a/b 01\n", b"bad 5\n"),
+        (b"set a/ 01\n", b"bad 6\n"),
         (b"set  01\n", b"bad 4\n"),
         (b"set a 0\n", b"bad 7\n"),
         (b"set a 0g\n", b"bad 7\n"),
@@ -479,8 +479,9 @@ fn twenty_commits_are_stopped_at_each_call(rt: HostRuntime) -> Result<(), Fail> 
             assert!(rt; before || after, "{stop}");
         }
     }
-    // Opening makes calls 2 to 5, then come twenty lines with a reply alone, the first commit with seven calls and its reply, and nineteen with nine.
-    assert_eq!(rt; last, 5 + 20 + 8 + 19 * 10);
+    // Opening makes calls 2 to 5, then come twenty lines with a reply, of which nineteen read the root of the work's tree by one call, the first
+    // commit with seven calls and its reply, and nineteen with nine.
+    assert_eq!(rt; last, 5 + 20 + 19 + 8 + 19 * 10);
     Ok(())
 }
 
@@ -570,11 +571,26 @@ fn each_status_has_a_code_and_a_line(rt: HostRuntime) -> Result<(), Fail> {
         file: FileName::Chunk(12),
         at: 345,
     };
-    let rows: [(Status, u8, &[u8]); 12] = [
+    let other_name = Status::DamagedName {
+        at: 9,
+        want: Hash([0x0a; 32]),
+        got: Hash([0xf0; 32]),
+    };
+    let rows: [(Status, u8, &[u8]); 14] = [
         (Status::Done, 0, b""),
         (Status::Usage, 2, b"ipstore: usage\n"),
         (Status::NoStore, 3, b"ipstore: no store\n"),
         (damaged, 4, b"ipstore: damaged chunk.12 345\n"),
+        (
+            Status::DamagedRecord { at: 76 },
+            4,
+            b"ipstore: damaged record 76\n",
+        ),
+        (
+            other_name,
+            4,
+            b"ipstore: damaged name 9 0a0a0a0a0a0a0a0a0a0a0a0a0a0a0a0a0a0a0a0a0a0a0a0a0a0a0a0a0a0a0a0a f0f0f0f0f0f0f0f0f0f0f0f0f0f0f0f0f0f0f0f0f0f0f0f0f0f0f0f0f0f0f0f0\n",
+        ),
         (Status::ReadFault, 5, b"ipstore: read fault\n"),
         (Status::SayFault, 6, b"ipstore: write fault\n"),
         (Status::GroundFault, 7, b"ipstore: disk fault\n"),

@@ -4,7 +4,8 @@ use Rattle.ip_app.specs.declared.statuses.Status.TheVariants as status
 use Rattle.ip_app.specs.Turns.{turn_counts}
 use Rattle.ip_app.proofs.EndingLaw.{ends_as_bytes}
 use Rattle.ip_app.proofs.RunLemmas.{serves_stop, served_first, served_more, ends_by_script, begins_unopened}
-use Rattle.ip_app.proofs.SameFiles.{holds_as}
+use Rattle.ip_spec.specs.View.{no_view}
+use Rattle.ip_session.proofs.Beginning.{begins_working}
 use Rattle.ip_app.proofs.serve.serve.Goals as goal
 
 pub returns-in-Err-clause-serves : goal.returns-in-Err-clause-serves
@@ -20,8 +21,8 @@ lines-init g c =
     let opened = c.in-Ok.ensures.opened in
     record {
       roomy = c.in-Ok-new.ensures.roomy;
-      served = served_first _ _ c.in-Ok-new.room.lines c.turn_counts-counts.result c.new-session.result opened.repository (c.new-session.ensures.is_in opened.repository opened.tables) (c.new-session.ensures.state opened.repository)
-          (λ told. holds_as _ _ _ opened.repository c.new-session.ensures.store (opened.holds told)) opened.stands opened.opening opened.over (c.turn_counts-counts.ensures ∙ ap turn_counts c.counts.ensures)
+      served = served_first _ _ c.in-Ok-new.room.lines c.turn_counts-counts.result c.new-session.result opened.repository no_view (opened.repository, c.new-session.ensures.is_in opened.repository opened.tables) (c.new-session.ensures.state opened.repository)
+          (λ told. begins_working _ c.new-session.result _ opened.repository c.new-session.ensures.store c.new-session.ensures.lawful (opened.holds told)) opened.stands opened.opening opened.over (c.turn_counts-counts.ensures ∙ ap turn_counts c.counts.ensures)
           (record { source_tells = refl; ground_tells = refl; log_tells = λ t. t; read_faults = le_refl (g.S.Source.read_faults c.args.source.now); counts = c.open_in.ensures.counts })
           c.open_in.ensures.only refl refl c.in-Ok-new.ensures.pending c.in-Ok-new.ensures.taken;
     }
@@ -29,19 +30,19 @@ lines-init g c =
 pub turn-requires : goal.turn-requires
 turn-requires g c =
     let served = c.lines.invariant.served in
-    record { roomy = c.lines.invariant.roomy; counted = served.until; tables = (served.repository, served.is_in); held = λ told. (served.repository, served.holds told) }
+    record { roomy = c.lines.invariant.roomy; counted = served.until; tables = served.serving; held = λ told. (served.repository, served.view, served.working told) }
 
 pub returns-in-Err-turn-clause-serves : goal.returns-in-Err-turn-clause-serves
 returns-in-Err-turn-clause-serves g c =
     let served = c.lines.invariant.served in
-    serves_stop c.in-Err-turn.status _ _ _ c.lines.room.lines c.turn.new.self.lines c.lines.counts c.turn.new.counts c.lines.session served (c.in-Err-turn.ensures.stops served.repository served.is_in served.holds)
+    serves_stop c.in-Err-turn.status _ _ _ c.lines.room.lines c.turn.new.self.lines c.lines.counts c.turn.new.counts c.lines.session served (c.in-Err-turn.ensures.stops served.repository served.view served.working)
 
 pub lines-preserved : goal.lines-preserved
 lines-preserved g c =
     let served = c.lines.invariant.served in
     record {
       roomy = c.turn.ensures.roomy;
-      served = served_more _ _ _ c.lines.room.lines c.turn.new.self.lines c.lines.counts c.turn.new.counts c.lines.session c.turn.new.session served (c.in_default-turn.ensures.turned served.repository served.is_in served.holds);
+      served = served_more _ _ _ c.lines.room.lines c.turn.new.self.lines c.lines.counts c.turn.new.counts c.lines.session c.turn.new.session served (c.in_default-turn.ensures.turned served.repository served.view served.working);
     }
 
 pub returns-in-Err-clause-complete : goal.returns-in-Err-clause-complete

@@ -1,5 +1,0 @@
-use Rattle.ip_app.proofs.SessionGoes.{written_goes}
-use Rattle.ip_app.proofs.session.Session.answer.Goals as goal
-
-pub returns-in-Ok-clause-goes : goal.returns-in-Ok-clause-goes
-returns-in-Ok-clause-goes g c r is = written_goes _ _ _ c.args.self.now c.step.new.self c.put_reply.new.met r c.args.line.now c.in-Ok.reply _ (c.in-Ok.ensures.goes r is) c.put_reply.ensures.written

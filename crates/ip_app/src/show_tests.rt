@@ -1,0 +1,231 @@
+//! Scripts that show commits, by tables of what goes in and what comes out.
+ghost use Rattle.std.specs.Prelude.{false};
+ghost use Rattle.ip_ground.specs.ReplayLaws.{possible_by};
+
+use crate::tests::{answers, bench, count_lines, init, serve, source, words};
+use crate::{Silent, Status, run};
+use ip_ground::{Bench, FileName, Ground, GroundCounts, GroundFault, Reaped};
+use std::alloc::{AllocError, Global};
+use std::test::Fail;
+
+// The empty tree, committed. Its root's name is the SHA-256 of 02 00000000, and the commit's that of 04, the root's name, 00, 8 zeros, 01 61
+// and 0100 6d.
+const ONE: &[u8] = b"empty\ncommit main 0 a m\nshow main\n\
+    show @363243354106fe784e750f162f5147ec8fd3d66a3f3b58508b264639b524e93c\nshow dev\n\
+    show @0000000000000000000000000000000000000000000000000000000000000000\nshow\nshow main \n";
+
+const ONE_REPLIES: &[u8] = b"ok\n\
+    committed 363243354106fe784e750f162f5147ec8fd3d66a3f3b58508b264639b524e93c\n\
+    commit 363243354106fe784e750f162f5147ec8fd3d66a3f3b58508b264639b524e93c 0 395c2f5598a1643a205154c6f4c46ce36895b28e6c35660a95e5c6fd5ef9aeab 0 a 0 m\n\
+    commit 363243354106fe784e750f162f5147ec8fd3d66a3f3b58508b264639b524e93c 0 395c2f5598a1643a205154c6f4c46ce36895b28e6c35660a95e5c6fd5ef9aeab 0 a 0 m\n\
+    no-branch dev\n\
+    no-commit 0000000000000000000000000000000000000000000000000000000000000000\n\
+    bad 4\n\
+    bad 9\n";
+
+// A commit with two parents, whose message begins with a space, and the first of them.
+const TWO_PARENTS: &[u8] =
+    b"empty\ncommit main 0 a m\nempty\nset k 01\ncommit dev 7 bob two words\n\
+    parent main\nset b 02\ncommit main 8 al  both\nshow main\nshow dev\n";
+
+const TWO_PARENTS_REPLIES: &[u8] = b"ok\n\
+    committed 363243354106fe784e750f162f5147ec8fd3d66a3f3b58508b264639b524e93c\n\
+    ok\nok\n\
+    committed 7ef07ae693bbb45abb370780eec81f3f74588b07834eb0ed695a6d8ef632b5ca\n\
+    ok\nok\n\
+    committed c30ac29a69bbbbf685ed19e862a638a9c3cb509d83262de6e7d16e0fc45a8b31\n\
+    commit c30ac29a69bbbbf685ed19e862a638a9c3cb509d83262de6e7d16e0fc45a8b31 2 01f28f5de49806141e8547598e52c1690756911f4ae2b5dad6070ac18699ec30 8 al 2 7ef07ae693bbb45abb370780eec81f3f74588b07834eb0ed695a6d8ef632b5ca 363243354106fe784e750f162f5147ec8fd3d66a3f3b58508b264639b524e93c  both\n\
+    commit 7ef07ae693bbb45abb370780eec81f3f74588b07834eb0ed695a6d8ef632b5ca 1 3b0a8a781e3bf3aba7a7ae7b2f06387049a919f002a8b80f56e93e1a37464ce5 7 bob 0 two words\n";
+
+#[test]
+fn commits_are_shown(rt: HostRuntime) -> Result<(), Fail> {
+    let alloc = rt.alloc();
+    let rows: [(&[u8], &[u8]); 2] = [(ONE, ONE_REPLIES), (TWO_PARENTS, TWO_PARENTS_REPLIES)];
+    for (script, replies) in rows {
+        let (status, said) = answers(alloc, script, &[], &[])?;
+        assert_eq!(rt; status, Status::Done);
+        assert_eq!(rt; said.as_slice(), replies);
+    }
+    Ok(())
+}
+
+// Wherever a call of the ground fails, what was said is a front of the replies. A commit that could not be read has none.
+#[test]
+fn each_call_fails_once_where_commits_are_shown(rt: HostRuntime) -> Result<(), Fail> {
+    let alloc = rt.alloc();
+    let mut unread = false;
+    for fault in 4..60 {
+        let (status, said) = answers(alloc, TWO_PARENTS, &[], &[fault])?;
+        assert!(rt; TWO_PARENTS_REPLIES.starts_with(&said));
+        match status {
+            Status::GroundFault => {
+                assert!(rt; said.is_empty() || said.ends_with(b"\n"));
+                unread = unread || count_lines(&said) == 8;
+            }
+            Status::SayFault => (),
+            _ => assert_eq!(rt; said.as_slice(), TWO_PARENTS_REPLIES),
+        }
+    }
+    assert!(rt; unread);
+    Ok(())
+}
+
+// A ground that tells nothing. Of chunk 0 it gives another byte than the one that stands there, in each read that begins behind the start: opening
+// reads from the start on, and showing a commit from its record on.
+#[derive(Drop)]
+struct Changed {
+    bench: Bench,
+    place: u64,
+    byte: u8,
+}
+
+impl Ground for Changed {
+    ghost tells = { false };
+
+    ghost told = { λ g. ⟦<Bench as Ground>⟧.told g.bench };
+
+    ghost counts_of = { λ g. ⟦<Bench as Ground>⟧.counts_of g.bench };
+
+    ghost possible = { λ g _. possible_by g.bench.log.items };
+
+    fn attach(&mut self, dir: &str) -> Result<(), GroundFault> {
+        self.bench.attach(dir)
+    }
+
+    fn length(&mut self, file: FileName) -> Result<Option<u64>, GroundFault> {
+        self.bench.length(file)
+    }
+
+    fn read(&mut self, file: FileName, at: u64, out: &mut [u8]) -> Result<usize, GroundFault> {
+        let read = self.bench.read(file, at, out);
+        if file == FileName::Chunk(0) && at > 0 && at <= self.place {
+            if let Some(byte) = out.get_mut((self.place - at) as usize) {
+                *byte = self.byte;
+            }
+        }
+        read
+    }
+
+    fn write(&mut self, _file: FileName, _at: u64, _bytes: &[u8]) -> Result<(), GroundFault> {
+        Ok(())
+    }
+
+    fn sync(&mut self, file: FileName) -> Result<(), GroundFault> {
+        self.bench.sync(file)
+    }
+
+    fn remove(&mut self, file: FileName) -> Result<(), GroundFault> {
+        self.bench.remove(file)
+    }
+
+    fn lend(&mut self, attempt: u64) -> Result<(), GroundFault> {
+        self.bench.lend(attempt)
+    }
+
+    fn settle(&mut self, attempt: u64, reaped: &Reaped) -> Result<(), GroundFault> {
+        self.bench.settle(attempt, reaped)
+    }
+
+    fn say(&mut self, bytes: &[u8]) -> Result<(), GroundFault> {
+        self.bench.say(bytes)
+    }
+
+    fn counts(&self) -> GroundCounts {
+        self.bench.counts()
+    }
+}
+
+// A script is served after others changed this byte of the open store that another one made: the status and its line, and what was said.
+fn told_after(
+    alloc: Global,
+    made: &[u8],
+    asked: &[u8],
+    place: u64,
+    byte: u8,
+) -> Result<(u8, Vec<u8>, Vec<u8>), Fail> {
+    let mut store = bench(alloc, &[])?;
+    let _ = init(alloc, &mut store)?;
+    let mut script = source(alloc, made, &[])?;
+    let _ = serve(alloc, &mut script, &mut store, &mut Silent)?;
+    let mut changed = Changed {
+        bench: store.after_stop(true)?,
+        place,
+        byte,
+    };
+    let mut script = source(alloc, asked, &[])?;
+    let words = words(alloc, &["ipstore", "serve", "mem"])?;
+    let status = run(alloc, &words, &mut script, &mut changed, &mut Silent);
+    let mut line = Vec::new(alloc);
+    status.put_line(&mut line).ok().ok_or("memory")?;
+    let said = changed.bench.said(alloc)?;
+    Ok((status.code(), line, said))
+}
+
+const EMPTY_MADE: &[u8] = b"empty\ncommit main 0 a m\n";
+
+const SHOWN: &[u8] = b"stat\nshow main\nstat\n";
+
+const STAT: &[u8] = b"stat 0 1 1 idle\n";
+
+const STAT_AND_COMMIT: &[u8] = b"stat 0 1 1 idle\n\
+    commit 363243354106fe784e750f162f5147ec8fd3d66a3f3b58508b264639b524e93c 0 395c2f5598a1643a205154c6f4c46ce36895b28e6c35660a95e5c6fd5ef9aeab 0 a 0 m\n\
+    stat 0 1 1 idle\n";
+
+// The record of the commit begins at 9 and ends before 76: its kind, the last byte of the author, which makes another commit's name, and a byte
+// behind the record.
+#[test]
+fn a_record_that_was_changed_ends_the_session(rt: HostRuntime) -> Result<(), Fail> {
+    let alloc = rt.alloc();
+    let rows: [(u64, u8, u8, &[u8], &[u8]); 3] = [
+        (9, 1, 4, b"ipstore: damaged record 9\n", STAT),
+        (
+            72,
+            b'b',
+            4,
+            b"ipstore: damaged name 9 363243354106fe784e750f162f5147ec8fd3d66a3f3b58508b264639b524e93c bb14a922c4c5879dc3ac0056dfc712c6308e516337b7f85576efc9a9a6bbf689\n",
+            STAT,
+        ),
+        (76, 0, 0, b"", STAT_AND_COMMIT),
+    ];
+    for (place, byte, code, line, said) in rows {
+        let (ended, printed, replies) = told_after(alloc, EMPTY_MADE, SHOWN, place, byte)?;
+        assert_eq!(rt; ended, code);
+        assert_eq!(rt; printed.as_slice(), line);
+        assert_eq!(rt; replies.as_slice(), said);
+    }
+    Ok(())
+}
+
+// Contents at 0, the root at 6, the commit at 59. What is damaged in a tree is met by the line that reads it.
+const LEAF_MADE: &[u8] = b"set k 01\ncommit main 0 a m\n";
+
+#[test]
+fn a_record_of_a_tree_that_was_changed_ends_the_session(rt: HostRuntime) -> Result<(), Fail> {
+    let alloc = rt.alloc();
+    let at = b"at 571ffe90a283223a2d630b786eff9b4c1fe990a15307903ee35e5d7d8fb3ecf8\n";
+    let rows: [(&[u8], u8, u8, &[u8]); 4] = [
+        (
+            b"checkout main\nget k\n",
+            1,
+            4,
+            b"ipstore: damaged record 6\n",
+        ),
+        (
+            b"checkout main\nset x 02\n",
+            1,
+            4,
+            b"ipstore: damaged record 6\n",
+        ),
+        (b"checkout main\nset x 02\n", 2, 0, b""),
+        (b"checkout main\ncommit main 1 a m\n", 1, 0, b""),
+    ];
+    for (asked, byte, code, line) in rows {
+        let (ended, printed, said) = told_after(alloc, LEAF_MADE, asked, 6, byte)?;
+        assert_eq!(rt; ended, code);
+        assert_eq!(rt; printed.as_slice(), line);
+        if code == 4 {
+            assert_eq!(rt; said.as_slice(), at.as_slice());
+        }
+    }
+    Ok(())
+}

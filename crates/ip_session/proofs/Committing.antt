@@ -1,0 +1,148 @@
+-- What a session does that ran a commit.
+--     commit_goes      the store answered it.      commit_cut      a fault of the ground cut it short
+--     has_answer, is_ground      what has a reply is an answer, and what has none a fault of the ground
+use Rattle.std.proofs.Common.{◌≡◌, Bool, true, false, length, refl, sym, ap, ◌∙◌, arith, Some, None, Ok, Err, length-append, ◌++◌, ◌∷◌, [], ◌*◌}
+use Rattle.std.specs.Prelude.{Result, IfSome, IfOk, IsErrOf, codes}
+use Rattle.std.proofs.lemmas.Option.{IfSome_then}
+use Rattle.ip_base.specs.declared.info.Info.{Info}
+use Rattle.ip_ground.specs.Told.{Told}
+use Rattle.ip_spec.specs.declared.command.Command.{Command}
+use Rattle.ip_spec.specs.declared.met.Met.{Met}
+use Rattle.ip_spec.specs.declared.reply.Reply.{Reply}
+use Rattle.ip_spec.specs.Path.{Bytes, space}
+use Rattle.ip_spec.specs.Record.{Hash}
+use Rattle.ip_spec.specs.Repository.{Repository, next}
+use Rattle.ip_spec.specs.Machine.{Phase, State, Limit}
+use Rattle.ip_spec.specs.Machine.{Work as MachineWork}
+use Rattle.ip_spec.specs.Step.{Refused, ◌>>◌, refuse_if, or_refused, Turned, not_given_up, head_among_parents, not_leaving, room_for_branch, not_existing, new_commit, with_commit, is_short, Step, outcome, answer, turned}
+use Rattle.ip_spec.specs.View.{View}
+use Rattle.ip_spec.specs.Text.{reply_text, hex_text}
+use Rattle.ip_store.specs.declared.store.Store.{Store}
+use Rattle.ip_store.specs.declared.work.Work.{Work}
+use Rattle.ip_store.specs.declared.committing.StoreFault.{StoreFault}
+use Rattle.ip_store.specs.Changes.{HasAnswer, IsUndamaged}
+use Rattle.ip_store.specs.Commits.{fault_reply, met_nothing, reply_to, Answers, repository_after, Commits}
+use Rattle.ip_store.specs.Work.{work_at, session}
+use Rattle.ip_session.specs.declared.session.Session.{Session}
+use Rattle.ip_session.specs.Session.{no_rules, IsWorking, state_in, met_only, conditions_of, IsLong, IsDurable, ChangedBy, Goes, Cut}
+use Rattle.ip_session.proofs.SessionLemmas.{at, commit_refused}
+use Rattle.ip_session.proofs.DurableGoes.{IsWhole, IsTurn, turned_by, fault_so, done_so, reply_so, cut_so, Went, answered, unanswered}
+
+abbrev IsCommitted : Reply → Type 0
+IsCommitted (Reply.Committed name) = Unit {0}
+IsCommitted reply = ⊥
+
+-- the refusals of a commit in their order, the last two where a limit is met
+abbrev chain : (g1 g2 g3 g4 g5 : Refused (Unit {0})) (short_space short_sequence : Bool) → Turned → Refused Turned
+chain g1 g2 g3 g4 g5 short_space short_sequence t = g1 >> (g2 >> (g3 >> (g4 >> (g5 >> (refuse_if short_space (Reply.Limit Limit.Space) >> (refuse_if short_sequence (Reply.Limit Limit.Sequence) >> Ok t))))))
+
+-- what refuses, changes nothing
+quiet_chain : (s : State) (g1 g2 g3 g4 g5 : Refused (Unit {0})) (short_space short_sequence : Bool) (t : Turned) → IsCommitted t.0
+    → ¬ IsCommitted (or_refused s (chain g1 g2 g3 g4 g5 short_space short_sequence t)).0 → (or_refused s (chain g1 g2 g3 g4 g5 short_space short_sequence t)).1 ≡ s
+quiet_chain s (Err e) g2 g3 g4 g5 short_space short_sequence t is quiet = refl
+quiet_chain s (Ok u1) (Err e) g3 g4 g5 short_space short_sequence t is quiet = refl
+quiet_chain s (Ok u1) (Ok u2) (Err e) g4 g5 short_space short_sequence t is quiet = refl
+quiet_chain s (Ok u1) (Ok u2) (Ok u3) (Err e) g5 short_space short_sequence t is quiet = refl
+quiet_chain s (Ok u1) (Ok u2) (Ok u3) (Ok u4) (Err e) short_space short_sequence t is quiet = refl
+quiet_chain s (Ok u1) (Ok u2) (Ok u3) (Ok u4) (Ok u5) true short_sequence t is quiet = refl
+quiet_chain s (Ok u1) (Ok u2) (Ok u3) (Ok u4) (Ok u5) false true t is quiet = refl
+quiet_chain s (Ok u1) (Ok u2) (Ok u3) (Ok u4) (Ok u5) false false t is quiet = absurd (quiet is)
+
+-- a commit that is not refused meets no limit
+alike_chain : (s : State) (g1 g2 g3 g4 g5 : Refused (Unit {0})) (short_space short_sequence : Bool) (t : Turned)
+    → IsCommitted (or_refused s (chain g1 g2 g3 g4 g5 short_space short_sequence t)).0 → or_refused s (chain g1 g2 g3 g4 g5 false false t) ≡ or_refused s (chain g1 g2 g3 g4 g5 short_space short_sequence t)
+alike_chain s (Err e) g2 g3 g4 g5 short_space short_sequence t is = refl
+alike_chain s (Ok u1) (Err e) g3 g4 g5 short_space short_sequence t is = refl
+alike_chain s (Ok u1) (Ok u2) (Err e) g4 g5 short_space short_sequence t is = refl
+alike_chain s (Ok u1) (Ok u2) (Ok u3) (Err e) g5 short_space short_sequence t is = refl
+alike_chain s (Ok u1) (Ok u2) (Ok u3) (Ok u4) (Err e) short_space short_sequence t is = refl
+alike_chain s (Ok u1) (Ok u2) (Ok u3) (Ok u4) (Ok u5) true short_sequence t is = absurd is
+alike_chain s (Ok u1) (Ok u2) (Ok u3) (Ok u4) (Ok u5) false true t is = absurd is
+alike_chain s (Ok u1) (Ok u2) (Ok u3) (Ok u4) (Ok u5) false false t is = refl
+
+durable_commit : (branch : Bytes) (info : Info) (reply : Reply) → IsCommitted reply → IsDurable reply (Command.Commit branch info)
+durable_commit branch info (Reply.Committed name) is = is
+durable_commit branch info _ is = absurd is
+
+committed_only : (branch : Bytes) (info : Info) (reply : Reply) → IsDurable reply (Command.Commit branch info) → IsCommitted reply
+committed_only branch info (Reply.Committed name) is = is
+committed_only branch info _ is = absurd is
+
+module _ (r : Repository) (w : MachineWork) (branch : Bytes) (info : Info) where
+  abbrev s : State
+  s = at r w
+
+  abbrev command : Command
+  command = Command.Commit branch info
+
+  abbrev after : Repository
+  after = (turned s command (conditions_of met_nothing)).1.repository
+
+  abbrev named : Hash
+  named = (new_commit r w.tree w.parents info).name
+
+  abbrev done : Turned
+  done = (Reply.Committed named, record { repository = with_commit r (new_commit r w.tree w.parents info) branch; phase = Phase.Idle; work = record { tree = w.tree; parents = next r ∷ []; least = Some (next r) } })
+
+  quiet_commit : (met : Met) → ¬ IsDurable (answer s command (conditions_of met)).0 command → (answer s command (conditions_of met)).1 ≡ s
+  unfolding outcome
+  quiet_commit met quiet = quiet_chain s (not_given_up s) (head_among_parents s branch) (not_leaving s w.least) (room_for_branch r branch) (not_existing r named) (is_short Limit.Space met.short) (is_short Limit.Sequence met.short) done tt
+      (λ is. quiet (durable_commit branch info (answer s command (conditions_of met)).0 is))
+
+  alike_commit : (met : Met) → IsDurable (answer s command (conditions_of met)).0 command → answer s command (conditions_of met_nothing) ≡ answer s command (conditions_of met)
+  unfolding outcome
+  alike_commit met is = alike_chain s (not_given_up s) (head_among_parents s branch) (not_leaving s w.least) (room_for_branch r branch) (not_existing r named) (is_short Limit.Space met.short) (is_short Limit.Sequence met.short) done
+      (committed_only branch info (answer s command (conditions_of met)).0 is)
+
+  after_is : (met : Met) → answer s command (conditions_of met_nothing) ≡ answer s command (conditions_of met) → (answer s command (conditions_of met)).1.repository ≡ after
+  after_is met same = ap (λ (t : Turned). t.1.repository) (sym (turned_by r w command met_nothing false refl ∙ same))
+
+  pub whole : IsWhole r w command after
+  whole = record { quiet = quiet_commit; done = λ met is. after_is met (alike_commit met is); plain = λ met t e. e; refusable = commit_refused branch info }
+
+-- ---- the text of a commit's name
+
+hex_long : (bytes : Bytes) → length (hex_text bytes) ≡ 2 * length bytes
+hex_long [] = refl
+hex_long (b ∷ bytes) = let h = hex_long bytes in omega (arith, h)
+
+name_is_short : (name : Hash) → length name ≡ 32 → IsLong (Reply.Committed name) → ⊥
+unfolding reply_text
+name_is_short name long_name long =
+    omega (arith, long, long_name, hex_long name, length-append (codes "committed" ++ space ∷ hex_text name) (10 ∷ []), length-append (codes "committed") (space ∷ hex_text name))
+
+-- ---- the command
+
+module _ (a b : Told) (s : Session) (store : Store) (work : Work) (met : Met) (r : Repository) (v : View) (here : IsWorking a s r v) (branch : Bytes) (info : Info) (made : Result Hash StoreFault) (does : Commits r s.work v branch info made store a b) where
+  abbrev committing : Command
+  committing = Command.Commit branch info
+
+  abbrev committed_to : Repository
+  committed_to = repository_after r s.work v branch info
+
+  abbrev Machine : Reply → Type 0
+  Machine reply = Answers b (session r s.work v) committing store.met reply store work
+
+  turn_of : (reply : Reply) → Machine reply → IsTurn b s store work r v committing reply
+  turn_of reply A = record { next = A.after; view = A.view; turns = A.turns; is_at = λ holds. A.is_at }
+
+  -- the store answered the commit
+  pub commit_goes : (reply : Reply) → met ≡ store.met → reply_to made ≡ Some reply → IfOk made (λ name. length name ≡ 32) → IfSome (reply_to made) Machine
+      → Goes a b s (record s { store = store; work = work; met = met }) r v (ChangedBy committing) (Step no_rules (state_in s r v) committing) reply
+  commit_goes reply m e long A = reply_so a b s store work r committed_to v here committing (whole r (work_at s.work v) branch info) met (reply_to made) reply m e (by made long A does)
+    where
+      by : (made : Result Hash StoreFault) → IfOk made (λ name. length name ≡ 32) → IfSome (reply_to made) Machine → Commits r s.work v branch info made store a b
+          → IfSome (reply_to made) (Went a b s store work r committed_to v here committing (whole r (work_at s.work v) branch info))
+      by (Ok name) long A does = done_so a b s store work r committed_to v here committing (whole r (work_at s.work v) branch info) name (Reply.Committed name) tt (name_is_short name long) (turn_of (Reply.Committed name) A) does
+      by (Err fault) long A does = fault_so a b s store work r committed_to v here committing (whole r (work_at s.work v) branch info) fault (IfSome_then (fault_reply fault) A (λ reply x has. turn_of reply x)) does
+
+  pub commit_cut : met ≡ met_only false → Cut a b s (record s { store = store; work = work; met = met }) r v (Step no_rules (state_in s r v) committing)
+  commit_cut e = cut_so a b s store work r committed_to v here committing (whole r (work_at s.work v) branch info) made met e (after_is r (work_at s.work v) branch info met_nothing refl) does
+
+pub has_answer : (made : Result Hash StoreFault) (reply : Reply) → reply_to made ≡ Some reply → HasAnswer made
+has_answer (Ok name) reply e = tt
+has_answer (Err fault) reply e = answered Hash fault reply e
+
+pub is_ground : (made : Result Hash StoreFault) → IsUndamaged made → reply_to made ≡ None → IsErrOf made StoreFault.Ground
+is_ground (Ok name) u e = absurd (cc e)
+is_ground (Err fault) u e = ap Err (unanswered Hash fault u e)

@@ -1,0 +1,166 @@
+-- What a session does that ran a command which may change files.
+--     keeps_still      a call that changes no file, at every moment
+--     IsWhole r work command after      refused it changes nothing, and done it leaves this repository
+--     IsTurn b s store work r v command reply      what the store answered it is the machine's turn, and the work is lawful where the store holds the repository after it
+--     refused_so, fault_so      the store refused it.      done_so      it did it.      cut_so      a fault of the ground cut it short
+--     reply_so      of an answer that there is
+--     answered, unanswered      a fault that has a reply, and one that has none
+use Rattle.std.proofs.Common.{◌≡◌, inl, Bool, true, false, refl, sym, ap, ◌∙◌, subst, Option, Some, None, Ok, Err}
+use Rattle.std.specs.Prelude.{Result, IfSome, MatchBool, if◌then◌else◌}
+use Rattle.ip_ground.specs.declared.names.FileName.TheVariants.{Control, Chunk}
+use Rattle.ip_ground.specs.Told.{Told, NoFile, ChangesOnly}
+use Rattle.ip_ground.proofs.Spans.{only_more}
+use Rattle.ip_image.specs.Headline.{IsInOrder, Keeps}
+use Rattle.ip_image.proofs.HeadlineLaws.{order_passes}
+use Rattle.ip_spec.specs.declared.command.Command.{Command}
+use Rattle.ip_spec.specs.declared.met.Met.{Met}
+use Rattle.ip_spec.specs.declared.reply.Reply.{Reply}
+use Rattle.ip_spec.specs.Repository.{Repository}
+use Rattle.ip_spec.specs.Machine.{Work as MachineWork, State, Conditions}
+use Rattle.ip_spec.specs.Step.{Turned, IsMet, Turns, Step, answer, turned}
+use Rattle.ip_spec.specs.View.{View}
+use Rattle.ip_store.specs.declared.store.Store.{Store}
+use Rattle.ip_store.specs.declared.work.Work.{Work}
+use Rattle.ip_store.specs.declared.committing.StoreFault.{StoreFault}
+use Rattle.ip_store.specs.Changes.{HasAnswer, IsUndamaged, Changes}
+use Rattle.ip_store.specs.Commits.{fault_reply}
+use Rattle.ip_store.specs.Commits as commits
+use Rattle.ip_store.specs.Store.{Holds}
+use Rattle.ip_store.specs.Work.{work_at, session, IsAt}
+use Rattle.ip_store.proofs.Secured.{secures_since}
+use Rattle.ip_session.specs.declared.session.Session.{Session}
+use Rattle.ip_session.specs.Session.{no_rules, IsWorking, state_in, met_only, conditions_of, IsLong, IsDurable, ChangedBy, Goes, Cut}
+use Rattle.ip_session.proofs.SessionLemmas.{at, plainly, Refusable}
+
+pub keeps_still : (store : Store) (r after : Repository) (a b : Told) → Holds store a r → IsInOrder a → ChangesOnly NoFile a b → Keeps a b r after
+keeps_still store r after a b holds order only t late le =
+    let now = secures_since store r a holds order b (only.others Control (λ none. none)) (only.others (Chunk 0) (λ none. none)) t late le in
+    record { stands = λ image possible. inl (now.stands image possible); orderly = now.orderly }
+
+module _ (r : Repository) (w : MachineWork) (command : Command) where
+  abbrev s : State
+  s = at r w
+
+  -- plain: it is no merge, whose turns are a relation
+  pub record IsWhole (after : Repository) : Type 0 where
+    pub quiet : (met : Met) → ¬ IsDurable (answer s command (conditions_of met)).0 command → (answer s command (conditions_of met)).1 ≡ s
+    pub done : (met : Met) → IsDurable (answer s command (conditions_of met)).0 command → (answer s command (conditions_of met)).1.repository ≡ after
+    pub plain : (met : Conditions) (t : Turned) → t ≡ answer s command met → Turns no_rules s command met t
+    pub refusable : Refusable command
+
+  pub turned_by : (met : Met) (b : Bool) → met.refused ≡ b → turned s command (conditions_of met) ≡ (if b then (Reply.Memory, s) else answer s command (conditions_of met))
+  unfolding turned
+  turned_by met b e = ap (λ (b : Bool). if b then (Reply.Memory, s) else answer s command (conditions_of met)) e
+
+  module _ (after : Repository) (whole : IsWhole after) (met : Met) (reply : Reply) (s' : State) (e : turned s command (conditions_of met) ≡ (reply, s')) where
+    -- memory was refused, or this is the machine's answer
+    unless_refused : (P : Reply → State → Type 0) → P Reply.Memory s → P (answer s command (conditions_of met)).0 (answer s command (conditions_of met)).1 → P reply s'
+    unless_refused P refused answered = by met.refused refl
+      where
+        by : (b : Bool) → met.refused ≡ b → P reply s'
+        by true is = let same = sym (turned_by met true is) ∙ e in subst (λ (t : Turned). P t.0 t.1) same refused
+        by false is = let same = sym (turned_by met false is) ∙ e in subst (λ (t : Turned). P t.0 t.1) same answered
+
+    pub stays : ¬ IsDurable reply command → s' ≡ s
+    stays = unless_refused (λ x t. ¬ IsDurable x command → t ≡ s) (λ quiet. refl) (whole.quiet met)
+
+    made : IsDurable reply command → s'.repository ≡ after
+    made = unless_refused (λ x t. IsDurable x command → t.repository ≡ after) (λ done. absurd done) (whole.done met)
+
+    step_of : IsMet s command (conditions_of met) reply → Step no_rules s command (conditions_of met) reply s'
+    step_of is_met = (is_met, by met.refused refl)
+      where
+        by : (b : Bool) → met.refused ≡ b → MatchBool b ((reply ≡ Reply.Memory) × (s' ≡ s)) (Turns no_rules s command (conditions_of met) (reply, s'))
+        by true is = let same = sym e ∙ turned_by met true is in (ap (λ (t : Turned). t.0) same, ap (λ (t : Turned). t.1) same)
+        by false is = whole.plain (conditions_of met) (reply, s') (sym e ∙ turned_by met false is)
+
+pub record IsTurn (b : Told) (s : Session) (store : Store) (work : Work) (r : Repository) (v : View) (command : Command) (reply : Reply) : Type 0 where
+  pub next : Repository
+  pub view : View
+  pub turns : commits.Turns (state_in s r v) command store.met reply (session next work view)
+  pub is_at : Holds store b next → IsAt b store next work view
+
+module _ (a b : Told) (s : Session) (store : Store) (work : Work) (r after : Repository) (v : View) (here : IsWorking a s r v) (command : Command) (whole : IsWhole r (work_at s.work v) command after) where
+  abbrev pub after_it : Session
+  after_it = record s { store = store; work = work; met = store.met }
+
+  abbrev pub Went : Reply → Type 0
+  Went = Goes a b s after_it r v (ChangedBy command) (Step no_rules (state_in s r v) command)
+
+  abbrev pub Turn : Reply → Type 0
+  Turn = IsTurn b s store work r v command
+
+  pub refused_so : (reply : Reply) → ¬ IsDurable reply command → Turn reply → ChangesOnly NoFile a b × Holds store b r → Went reply
+  refused_so reply quiet T does =
+      let only : ChangesOnly NoFile a b = does.0 in
+      let state : session T.next work T.view ≡ state_in s r v = stays r (work_at s.work v) command after whole store.met reply (session T.next work T.view) T.turns.1 quiet in
+      let repository : T.next ≡ r = ap (λ (t : State). t.repository) state in
+      record {
+        after = T.next;
+        view = T.view;
+        gives = step_of r (work_at s.work v) command after whole store.met reply (session T.next work T.view) T.turns.1 T.turns.0;
+        is_at = T.is_at (subst (Holds store b) (sym repository) does.1);
+        only = only_more a b NoFile (ChangedBy command reply) (λ file none. absurd none) only;
+        keeps = λ order. keeps_still s.store r T.next a b here.holds order only;
+        order = λ order. order_passes a b only.goes (only.others Control (λ none. none)) (only.others (Chunk 0) (λ none. none)) order;
+        spared = λ long. record { same = state; refused = whole.refusable r (work_at s.work v) };
+        still = λ long file changed. quiet changed.0;
+      }
+
+  pub fault_so : {A : Type 0} (fault : StoreFault) → IfSome (fault_reply fault) (λ reply. HasAnswer {A = A} (Err fault) → Turn reply) → Changes {A = A} r after (Err fault) store a b → IfSome (fault_reply fault) Went
+  fault_so (StoreFault.HeadMoved name) T does = refused_so (Reply.HeadMoved name) (λ h. h) (T tt) (does.refused (refl, tt))
+  fault_so (StoreFault.Existing name) T does = refused_so (Reply.Existing name) (λ h. h) (T tt) (does.refused (refl, tt))
+  fault_so (StoreFault.Limit limit) T does = refused_so (Reply.Limit limit) (λ h. h) (T tt) (does.refused (refl, tt))
+  fault_so StoreFault.Memory T does = refused_so Reply.Memory (λ h. h) (T tt) (does.refused (refl, tt))
+  fault_so StoreFault.Ground T does = tt
+  fault_so (StoreFault.Damaged at names) T does = tt
+
+  pub done_so : {A : Type 0} (x : A) (reply : Reply) → IsDurable reply command → ¬ IsLong reply → Turn reply → Changes {A = A} r after (Ok x) store a b → Went reply
+  done_so x reply done short T does =
+      let repository : T.next ≡ after = made r (work_at s.work v) command after whole store.met reply (session T.next work T.view) T.turns.1 done in
+      record {
+        after = T.next;
+        view = T.view;
+        gives = step_of r (work_at s.work v) command after whole store.met reply (session T.next work T.view) T.turns.1 T.turns.0;
+        is_at = T.is_at (subst (Holds store b) (sym repository) does.ok);
+        only = only_more a b _ (ChangedBy command reply) (λ file changed. (done, changed)) does.only;
+        keeps = λ order. subst (λ (q : Repository). Keeps a b r q) (sym repository) (does.keeps order);
+        order = λ order. does.order order tt;
+        spared = λ long. absurd (short long);
+        still = λ long. absurd (short long);
+      }
+
+  -- the store tells what was met
+  pub reply_so : (met : Met) (o : Option Reply) (reply : Reply) → met ≡ store.met → o ≡ Some reply → IfSome o Went → Goes a b s (record s { store = store; work = work; met = met }) r v (ChangedBy command) (Step no_rules (state_in s r v) command) reply
+  reply_so met o reply m e went =
+      subst (λ (x : Met). Goes a b s (record s { store = store; work = work; met = x }) r v (ChangedBy command) (Step no_rules (state_in s r v) command) reply) (sym m) (subst (λ (x : Option Reply). IfSome x Went) e went)
+
+  -- what the machine gives where nothing was met
+  pub cut_so : {A : Type 0} (result : Result A StoreFault) (met : Met) → met ≡ met_only false → (answer (state_in s r v) command (conditions_of (met_only false))).1.repository ≡ after → Changes {A = A} r after result store a b
+      → Cut a b s (record s { store = store; work = work; met = met }) r v (Step no_rules (state_in s r v) command)
+  cut_so result met e repository does =
+      let t = answer (state_in s r v) command (conditions_of (met_only false)) in
+      record {
+        reply = t.0;
+        after = t.1;
+        gives = subst (λ (m : Met). Step no_rules (state_in s r v) command (conditions_of m) t.0 t.1) (sym e) (plainly r (work_at s.work v) command false t.0 (λ h. absurd (cc h)), whole.plain (conditions_of (met_only false)) t refl);
+        only = does.only;
+        keeps = λ order. subst (λ (q : Repository). Keeps a b r q) (sym repository) (does.keeps order);
+      }
+
+pub answered : (A : Type 0) (fault : StoreFault) (reply : Reply) → fault_reply fault ≡ Some reply → HasAnswer {A = A} (Err fault)
+answered A (StoreFault.HeadMoved name) reply e = tt
+answered A (StoreFault.Existing name) reply e = tt
+answered A (StoreFault.Limit limit) reply e = tt
+answered A StoreFault.Memory reply e = tt
+answered A StoreFault.Ground reply e = absurd (cc e)
+answered A (StoreFault.Damaged at names) reply e = absurd (cc e)
+
+-- where it is none of the files
+pub unanswered : (A : Type 0) (fault : StoreFault) → IsUndamaged {A = A} (Err fault) → fault_reply fault ≡ None → fault ≡ StoreFault.Ground
+unanswered A (StoreFault.HeadMoved name) u e = absurd (cc e)
+unanswered A (StoreFault.Existing name) u e = absurd (cc e)
+unanswered A (StoreFault.Limit limit) u e = absurd (cc e)
+unanswered A StoreFault.Memory u e = absurd (cc e)
+unanswered A StoreFault.Ground u e = refl
+unanswered A (StoreFault.Damaged at names) u e = absurd u

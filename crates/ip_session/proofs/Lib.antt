@@ -1,0 +1,9 @@
+pub mod SessionLemmas
+pub mod Referring
+pub mod Reading
+pub mod SessionGoes
+pub mod DurableGoes
+pub mod Committing
+pub mod BranchGoes
+pub mod ReadGoes
+pub mod Beginning

@@ -1,0 +1,79 @@
+-- What a session does that ran a command which may only read.
+--     read_serves      the session goes on serving, whatever is told.      read_goes      it is answered.      read_cut      a fault of the ground or of its files cut it short
+use Rattle.std.proofs.Common.{◌≡◌, ℕ, Bool, false, refl, sym, ◌∙◌, subst, Option, Ok, Err, IsTrue}
+use Rattle.std.specs.Prelude.{Result, IfOk, OnErr}
+use Rattle.ip_ground.specs.declared.names.FileName.TheVariants.{Control, Chunk}
+use Rattle.ip_ground.specs.Told.{Told, NoFile}
+use Rattle.ip_ground.proofs.Spans.{only_more}
+use Rattle.ip_image.proofs.HeadlineLaws.{order_passes}
+use Rattle.ip_spec.specs.declared.command.Command.{Command}
+use Rattle.ip_spec.specs.declared.met.Met.{Met}
+use Rattle.ip_spec.specs.declared.record.Record.{Record}
+use Rattle.ip_spec.specs.declared.reply.Reply.{Reply}
+use Rattle.ip_spec.specs.Machine.{State, Conditions}
+use Rattle.ip_spec.specs.Repository.{Repository}
+use Rattle.ip_spec.specs.Step.{Turns, Step, answer}
+use Rattle.ip_spec.specs.View.{View}
+use Rattle.ip_store.specs.Publishing.{TheTwo}
+use Rattle.ip_store.specs.Store.{Holds, image_records}
+use Rattle.ip_store.specs.Trees.{OnlyLooks}
+use Rattle.ip_store.specs.Work.{IsLawful, work_at}
+use Rattle.ip_session.specs.declared.session.Session.{Session}
+use Rattle.ip_session.specs.declared.session.SessionEnd.{SessionEnd}
+use Rattle.ip_session.specs.Session.{no_rules, IsServing, IsWorking, state_in, met_only, conditions_of, HasWords, is_durable, IsDurable, ChangedBy, IsAnswered, HasRead, Goes, Cut}
+use Rattle.ip_session.proofs.SessionLemmas.{plainly}
+use Rattle.ip_session.proofs.DurableGoes.{keeps_still}
+
+none_durable : (reply : Reply) (command : Command) → is_durable command ≡ false → ¬ IsDurable reply command
+none_durable (Reply.Committed hash) (Command.Commit branch info) e h = absurd (cc e)
+none_durable Reply.Accepted (Command.Branch name target) e h = absurd (cc e)
+none_durable Reply.Accepted (Command.BranchRm name) e h = absurd (cc e)
+none_durable _ _ e h = absurd h
+
+-- the turns of all commands but merges are the machine's one answer
+plain : (s : State) (command : Command) (met : Conditions) → HasWords command → Turns no_rules s command met (answer s command met)
+plain s (Command.Merge target branch info) met words = absurd words
+plain s _ met words = refl
+
+module _ (a b : Told) (s s' : Session) (r : Repository) (v : View) (here : IsWorking a s r v) (looks : OnlyLooks a b s.store s'.store) (command : Command) (quiet : is_durable command ≡ false) where
+  -- the store holds the repository over the same records
+  goes : (reply : Reply) → IsAnswered (image_records here.holds) s s' r v (Step no_rules (state_in s r v) command) reply → Goes a b s s' r v (ChangedBy command) (Step no_rules (state_in s r v) command) reply
+  goes reply A =
+      let holds : Holds s'.store b r = looks.holds r here.holds in
+      record {
+        after = r;
+        view = A.view;
+        gives = A.gives;
+        is_at = record { holds = holds; lawful = subst (λ (records : ℕ → Option Record). IsLawful records r s'.work A.view) (sym (looks.records r here.holds holds)) A.lawful };
+        only = only_more a b NoFile (ChangedBy command reply) (λ file none. absurd none) looks.reads.only;
+        keeps = λ order. keeps_still s.store r r a b here.holds order looks.reads.only;
+        order = λ order. order_passes a b looks.reads.only.goes (looks.reads.only.others Control (λ none. none)) (looks.reads.only.others (Chunk 0) (λ none. none)) order;
+        spared = A.spared;
+        still = λ long file changed. none_durable reply command quiet changed.0;
+      }
+
+  -- the machine's answer, where nothing was met
+  cut : HasWords command → s'.met ≡ met_only false → Cut a b s s' r v (Step no_rules (state_in s r v) command)
+  cut words e =
+      let t = answer (state_in s r v) command (conditions_of (met_only false)) in
+      record {
+        reply = t.0;
+        after = t.1;
+        gives = subst (λ (m : Met). Step no_rules (state_in s r v) command (conditions_of m) t.0 t.1) (sym e)
+            (plainly r (work_at s.work v) command false t.0 (λ h. absurd (cc h)), plain (state_in s r v) command (conditions_of (met_only false)) words);
+        only = only_more a b NoFile TheTwo (λ file none. absurd none) looks.reads.only;
+        keeps = λ order. keeps_still s.store r t.1.repository a b here.holds order looks.reads.only;
+      }
+
+pub read_serves : (tells : Bool) (a b : Told) (s s' : Session) (command : Command) (result : Result Reply SessionEnd) → IsServing s → HasRead tells a b s s' command result → IfOk result (λ reply. IsServing s')
+read_serves tells a b s s' command (Ok reply) (r, is) has = (r, has.tables r is)
+read_serves tells a b s s' command (Err end) serving has = tt
+
+module _ (tells : Bool) (a b : Told) (s s' : Session) (command : Command) (told : IsTrue tells) (r : Repository) (v : View) (here : IsWorking a s r v) where
+  pub read_goes : (result : Result Reply SessionEnd) → is_durable command ≡ false → HasRead tells a b s s' command result → IfOk result (Goes a b s s' r v (ChangedBy command) (Step no_rules (state_in s r v) command))
+  read_goes (Ok reply) quiet has = goes a b s s' r v here (has.looks told) command quiet reply (has.answered told r v here)
+  read_goes (Err end) quiet has = tt
+
+  pub read_cut : (result : Result Reply SessionEnd) → is_durable command ≡ false → HasWords command → s.met ≡ met_only false → HasRead tells a b s s' command result → OnErr result (Cut a b s s' r v (Step no_rules (state_in s r v) command))
+  read_cut (Ok reply) quiet words e has = tt
+  read_cut (Err end) quiet words e has = cut a b s s' r v here (has.looks told) command quiet words (has.unmet refl ∙ e)

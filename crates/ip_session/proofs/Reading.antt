@@ -1,0 +1,542 @@
+-- What a session does that ran a command which changes no file.
+--     still_answered, memory_answered      the machine's state stays, and memory was refused
+--     answered_read      it was answered.      still_read      and nothing changed.      fault_read, ends      what comes of a call of the store that failed
+--     unread      it looked at nothing.      within_read      it asks nothing of the ground
+--     X_answered      the record IsAnswered, command by command
+--     looks_nowhere, looks_on, same_on      no call of the store, and one behind another
+use Rattle.std.proofs.Common.{◌≡◌, ◌≢◌, ℕ, ◌<◌, ◌≤◌, ◌==◌, Bool, true, false, not, cond, List, [], ◌∷◌, ◌++◌, refl, sym, ap, ◌∙◌, subst, arith, Option, Some, None, Ok, Err, IsTrue, length, get_or, length-append, fold}
+use Rattle.std.specs.Prelude.{Result, IfErr, min, nat_le, if◌then◌else◌}
+use Rattle.std.specs.List.{list_any}
+use Rattle.std.proofs.lemmas.Bool.Decides.{nat_tests}
+use Rattle.std.proofs.lemmas.List.Elements.{All-nil, All-push}
+use Rattle.std.proofs.lemmas.List.Folds.{list_any_at}
+use Rattle.std.proofs.lemmas.List.Quantifiers.{all_pairs_push}
+use Rattle.sha2.specs.Sha256.{sha256}
+use Rattle.ip_base.specs.declared.limit.Limit.TheVariants as Limit
+use Rattle.ip_ground.specs.declared.names.GroundCounts.{GroundCounts}
+use Rattle.ip_ground.specs.Counts.{Rose}
+use Rattle.ip_ground.specs.Told.{Told}
+use Rattle.ip_spec.specs.declared.command.Command.{Command}
+use Rattle.ip_spec.specs.declared.command.Target.{Target}
+use Rattle.ip_spec.specs.declared.met.Met.{Met}
+use Rattle.ip_spec.specs.declared.record.Record.{Record}
+use Rattle.ip_spec.specs.declared.reply.Reply.{Reply}
+use Rattle.ip_spec.specs.Map.{get}
+use Rattle.ip_spec.specs.Path.{Bytes, Path, is_prefix, is_related}
+use Rattle.ip_spec.specs.declared.tree.Got.{Got}
+use Rattle.ip_spec.specs.declared.tree.Listed.{Listed}
+use Rattle.ip_spec.specs.Tree.{Tree, graft, subtree, is_empty, got_at, listed_at}
+use Rattle.ip_spec.specs.TreeAt.{present}
+use Rattle.ip_spec.specs.View.{View, no_view, put_view, remove_view, graft_view, least}
+use Rattle.ip_spec.specs.Repository.{Repository, is_retained, tree_at, name_at}
+use Rattle.ip_spec.specs.Machine.{State, Conditions, empty_work}
+use Rattle.ip_spec.specs.Machine as Machine
+use Rattle.ip_spec.specs.Step.{Step, contents_limit, got_reply, listed_reply, commit_reply, resolve, least_with}
+use Rattle.ip_spec.proofs.GraftLaws.{get-graft, get-graft_beside}
+use Rattle.ip_image.proofs.OneRepository.{all_records}
+use Rattle.ip_space.specs.declared.fault.FetchFault.TheVariants as FetchFault
+use Rattle.ip_space.proofs.Passing.{reads_nothing, reads_on}
+use Rattle.ip_tree.specs.Reads.{IsFree}
+use Rattle.ip_tree.specs.TreeView.{IsView, stored_view, IsSetFault, IsSet, IsRemoved, IsGraftFault, IsGrafted, Grafts}
+use Rattle.ip_tree.specs.declared.tree.Tree as lazy
+use Rattle.ip_tree.specs.declared.tree.TreeFault.{TreeFault}
+use Rattle.ip_tree.proofs.Removing.{rest_of}
+use Rattle.ip_save.specs.Batches.{HasShortContents}
+use Rattle.ip_store.specs.Showing.{IsFetchedOr, IsShown}
+use Rattle.ip_store.specs.Store.{IsOf, Holds, SameTables, image_records}
+use Rattle.ip_store.specs.Trees.{OnlyLooks, IsTreeOf}
+use Rattle.ip_store.specs.Work.{AreParents, IsLawful, work_at, state_at}
+use Rattle.ip_store.specs.declared.committing.StoreFault.{StoreFault}
+use Rattle.ip_store.specs.declared.store.Store.{Store}
+use Rattle.ip_store.specs.declared.work.Work.{Work}
+use Rattle.ip_store.proofs.Editing.{short_put, short_removed}
+use Rattle.ip_store.proofs.Stepping.{same_tables}
+use Rattle.ip_session.specs.declared.session.Session.{Session}
+use Rattle.ip_session.specs.declared.session.SessionEnd.{SessionEnd}
+use Rattle.ip_session.specs.Session.{no_rules, IsIn, IsWorking, state_in, met_only, conditions_of, IsLong, IsAnswered, HasRead, EndsBy, Fails, tree_fault}
+use Rattle.ip_session.proofs.SessionLemmas.{at, Refusable, floor_zero, stat_of, empty_done, set_done, set_long, set_wide, rm_done, rm_absent, get_done, list_done, stat_done, hash_done, hash_refused, ok_is_short, at_is_short, memory_is_short, stat_is_short}
+use Rattle.ip_session.proofs.Referring.{checkout_done, cat_done, graft_absent, graft_deep, graft_wide, graft_done, parent_done, show_done}
+
+-- ---- what was met, and what stays
+
+-- what the command met
+met_as : (s : State) (command : Command) (met met' : Met) (reply : Reply) (s' : State) → met ≡ met' → Step no_rules s command (conditions_of met') reply s' → Step no_rules s command (conditions_of met) reply s'
+met_as s command met met' reply s' e h = subst (λ (m : Met). Step no_rules s command (conditions_of m) reply s') (sym e) h
+
+module _ (records : ℕ → Option Record) (s s' : Session) (r : Repository) (v : View) (command : Command) (same : work_at s'.work v ≡ work_at s.work v) (lawful : IsLawful records r s'.work v) where
+  state : state_in s' r v ≡ state_in s r v
+  state = ap (state_at r) same
+
+  pub plainly_answered : (reply : Reply) → s'.met ≡ met_only false → Step no_rules (state_in s r v) command (conditions_of (met_only false)) reply (state_in s r v)
+      → (IsLong reply → Refusable command) → IsAnswered records s s' r v (Step no_rules (state_in s r v) command) reply
+  plainly_answered reply e step spared = record {
+    view = v;
+    gives = met_as (state_in s r v) command s'.met (met_only false) reply (state_in s' r v) e (subst (Step no_rules (state_in s r v) command (conditions_of (met_only false)) reply) (sym state) step);
+    lawful = lawful;
+    spared = λ long. record { same = state; refused = spared long r (work_at s.work v) };
+  }
+
+  pub still_answered : (reply : Reply) → s'.met ≡ met_only false → Step no_rules (state_in s r v) command (conditions_of (met_only false)) reply (state_in s r v)
+      → Refusable command → IsAnswered records s s' r v (Step no_rules (state_in s r v) command) reply
+  still_answered reply e step refusable = plainly_answered reply e step (λ long. refusable)
+
+  pub memory_answered : s'.met ≡ met_only true → Refusable command → IsAnswered records s s' r v (Step no_rules (state_in s r v) command) Reply.Memory
+  memory_answered e refusable = record {
+    view = v;
+    gives = met_as (state_in s r v) command s'.met (met_only true) Reply.Memory (state_in s' r v) e
+        (subst (Step no_rules (state_in s r v) command (conditions_of (met_only true)) Reply.Memory) (sym state) (refusable r (work_at s.work v)));
+    lawful = lawful;
+    spared = λ long. absurd (omega (arith, long, memory_is_short));
+  }
+
+-- ---- calls of the store, one behind another
+
+pub looks_nowhere : (a : Told) (store : Store) → OnlyLooks a a store store
+looks_nowhere a store = record {
+  reads = reads_nothing a store.space;
+  holds = λ r held. held;
+  records = λ r held still. ap present (all_records a.held still.stands.standing held.stands.standing);
+}
+
+pub looks_on : (a b c : Told) (store mid now : Store) → OnlyLooks a b store mid → OnlyLooks b c mid now → OnlyLooks a c store now
+looks_on a b c store mid now one two = record {
+  reads = reads_on a b c store.space mid.space now.space one.reads two.reads;
+  holds = λ r held. two.holds r (one.holds r held);
+  records = λ r held still. two.records r (one.holds r held) still ∙ one.records r held (one.holds r held);
+}
+
+pub same_on : (store mid now : Store) → SameTables store mid → SameTables mid now → SameTables store now
+same_on store mid now one two = record {
+  index = two.index ∙ one.index;
+  slot = two.slot ∙ one.slot;
+  names = two.names ∙ one.names;
+  places = two.places ∙ one.places;
+  branches = two.branches ∙ one.branches;
+  history = two.history ∙ one.history;
+  space = two.space ∙ one.space;
+}
+
+-- ---- what comes of a call that failed
+
+-- the machine refuses the command so; of a call that fetched, where the records are told
+abbrev pub Refuses : State → Command → StoreFault → Type 0
+Refuses s command (StoreFault.Limit limit) = Step no_rules s command (conditions_of (met_only false)) (Reply.Limit limit) s
+Refuses s command StoreFault.Ground = Unit {0}
+Refuses s command StoreFault.Memory = Unit {0}
+Refuses s command fault = ⊥
+
+pub free_refuses : (s : State) (command : Command) (fault : TreeFault) → IsFree fault → Refuses s command (tree_fault fault)
+free_refuses s command (TreeFault.Limit limit) free = absurd free
+free_refuses s command (TreeFault.Fetch FetchFault.Ground) free = tt
+free_refuses s command (TreeFault.Fetch FetchFault.Memory) free = tt
+free_refuses s command (TreeFault.Fetch (FetchFault.Form at fault)) free = absurd free
+free_refuses s command (TreeFault.Fetch (FetchFault.Name at want got)) free = absurd free
+free_refuses s command TreeFault.Memory free = tt
+
+pub fetched_refuses : {A : Type 0} (P : A → Type 0) (s : State) (command : Command) (fault : StoreFault) → IsFetchedOr P (Err fault) → Refuses s command fault
+fetched_refuses P s command StoreFault.Ground h = tt
+fetched_refuses P s command StoreFault.Memory h = tt
+fetched_refuses P s command _ h = absurd h
+
+-- a commit that was not shown
+pub unshown_refuses : (r : Repository) (n : ℕ) (s : State) (command : Command) (fault : StoreFault) → IsShown r n (Err fault) → Refuses s command fault
+unshown_refuses r n s command StoreFault.Ground h = tt
+unshown_refuses r n s command StoreFault.Memory h = tt
+unshown_refuses r n s command _ h = absurd h
+
+pub set_refuses : (r : Repository) (w : Machine.Work) (path : Path) (bytes : Bytes) (fault : TreeFault) → r.floor ≡ 0 → IsSetFault w.tree path bytes fault → Refuses (at r w) (Command.Set path bytes) (tree_fault fault)
+set_refuses r w path bytes (TreeFault.Limit Limit.Contents) zero f = set_long r w zero path bytes f
+set_refuses r w path bytes (TreeFault.Limit Limit.Entries) zero f = set_wide r w zero path bytes f.0 f.1
+set_refuses r w path bytes (TreeFault.Limit _) zero f = absurd f
+set_refuses r w path bytes (TreeFault.Fetch fetch) zero f = free_refuses (at r w) (Command.Set path bytes) (TreeFault.Fetch fetch) f
+set_refuses r w path bytes TreeFault.Memory zero f = tt
+
+pub graft_refuses : (r : Repository) (w : Machine.Work) (target : Target) (from to : Path) (n : ℕ) (fault : TreeFault) → r.floor ≡ 0 → resolve r target ≡ Ok n → IsGraftFault w.tree (tree_at r n) from to fault
+    → Refuses (at r w) (Command.Graft target from to) (tree_fault fault)
+graft_refuses r w target from to n (TreeFault.Limit Limit.Depth) zero is f = graft_deep r w target from to n zero is f.0 f.1
+graft_refuses r w target from to n (TreeFault.Limit Limit.Entries) zero is f = graft_wide r w target from to n zero is f.0 f.1 f.2
+graft_refuses r w target from to n (TreeFault.Limit _) zero is f = absurd f
+graft_refuses r w target from to n (TreeFault.Fetch fetch) zero is f = free_refuses (at r w) (Command.Graft target from to) (TreeFault.Fetch fetch) f
+graft_refuses r w target from to n TreeFault.Memory zero is f = tt
+
+-- a fault of the ground, of a call on a tree
+pub tree_cause : {R : Type 0} (fault : TreeFault) → (fault ≡ TreeFault.Fetch FetchFault.Ground → R) → tree_fault fault ≡ StoreFault.Ground → R
+tree_cause (TreeFault.Limit limit) cause e = absurd (cc e)
+tree_cause (TreeFault.Fetch FetchFault.Ground) cause e = cause refl
+tree_cause (TreeFault.Fetch FetchFault.Memory) cause e = absurd (cc e)
+tree_cause (TreeFault.Fetch (FetchFault.Form at fault)) cause e = absurd (cc e)
+tree_cause (TreeFault.Fetch (FetchFault.Name at want got)) cause e = absurd (cc e)
+tree_cause TreeFault.Memory cause e = absurd (cc e)
+
+pub ends : (fault : StoreFault) (command : Command) (met met' : Met) (result : Result Reply SessionEnd) (tells : Bool) (before after : GroundCounts) → Fails fault met met' result
+    → (fault ≡ StoreFault.Ground → Rose before.file_faults after.file_faults) → (IsTrue tells → (s : State) × Refuses s command fault) → IfErr result (λ (end : SessionEnd). EndsBy end tells before after)
+ends StoreFault.Ground command met met' result tells before after f cause told = subst (λ (x : Result Reply SessionEnd). IfErr x (λ (end : SessionEnd). EndsBy end tells before after)) (sym f.0) (cause refl)
+ends (StoreFault.Damaged at names) command met met' result tells before after f cause told = subst (λ (x : Result Reply SessionEnd). IfErr x (λ (end : SessionEnd). EndsBy end tells before after)) (sym f.0) (λ t. (told t).1)
+ends StoreFault.Memory command met met' result tells before after f cause told = subst (λ (x : Result Reply SessionEnd). IfErr x (λ (end : SessionEnd). EndsBy end tells before after)) (sym f.0) tt
+ends (StoreFault.Limit limit) command met met' result tells before after f cause told = subst (λ (x : Result Reply SessionEnd). IfErr x (λ (end : SessionEnd). EndsBy end tells before after)) (sym f.0) tt
+ends (StoreFault.HeadMoved name) command met met' result tells before after f cause told = subst (λ (x : Result Reply SessionEnd). IfErr x (λ (end : SessionEnd). EndsBy end tells before after)) (sym f.0) tt
+ends (StoreFault.Existing name) command met met' result tells before after f cause told = subst (λ (x : Result Reply SessionEnd). IfErr x (λ (end : SessionEnd). EndsBy end tells before after)) (sym f.0) tt
+
+-- ---- what a command did that reads
+
+module _ (tells : Bool) (old new : Told) (s s' : Session) (command : Command) (tables : (r : Repository) → IsIn s r → IsIn s' r) (looks : IsTrue tells → OnlyLooks old new s.store s'.store) where
+  abbrev Did : Result Reply SessionEnd → Type 0
+  Did result = HasRead tells old new s s' command result
+
+  pub answered_read : (reply : Reply) → (IsTrue tells → (r : Repository) (v : View) (here : IsWorking old s r v) → IsAnswered (image_records here.holds) s s' r v (Step no_rules (state_in s r v) command) reply) → Did (Ok reply)
+  answered_read reply answered = record { tables = tables; answered = answered; looks = looks; unmet = λ err. absurd (cc err) }
+
+  ended_read : (end : SessionEnd) → s'.met ≡ s.met → Did (Err end)
+  ended_read end same = record { tables = tables; answered = λ told r v here. tt; looks = looks; unmet = λ err. same }
+
+  -- over the view as it was
+  module _ (same : (v : View) → work_at s'.work v ≡ work_at s.work v) (e : s.met ≡ met_only false) (refusable : Refusable command) where
+    pub still_read : (reply : Reply) → s'.met ≡ s.met
+        → (IsTrue tells → (r : Repository) (v : View) (here : IsWorking old s r v) → IsLawful (image_records here.holds) r s'.work v × Step no_rules (state_in s r v) command (conditions_of (met_only false)) reply (state_in s r v)) → Did (Ok reply)
+    still_read reply met does = answered_read reply (λ told r v here. let x = does told r v here in still_answered (image_records here.holds) s s' r v command (same v) x.0 reply (met ∙ e) x.1 refusable)
+
+    pub fault_read : (fault : StoreFault) (result : Result Reply SessionEnd) → Fails fault s.met s'.met result
+        → (IsTrue tells → (r : Repository) (v : View) (here : IsWorking old s r v) → IsLawful (image_records here.holds) r s'.work v × Refuses (state_in s r v) command fault) → Did result
+    fault_read StoreFault.Memory result f does = subst Did (sym f.0) (answered_read Reply.Memory (λ told r v here. memory_answered (image_records here.holds) s s' r v command (same v) (does told r v here).0 f.1 refusable))
+    fault_read StoreFault.Ground result f does = subst Did (sym f.0) (ended_read SessionEnd.Ground f.1)
+    fault_read (StoreFault.Damaged at names) result f does = subst Did (sym f.0) (ended_read (SessionEnd.Damaged at names) f.1)
+    fault_read (StoreFault.Limit limit) result f does = subst Did (sym f.0) (still_read (Reply.Limit limit) f.1 does)
+    fault_read (StoreFault.HeadMoved name) result f does = subst Did (sym f.0) (answered_read (Reply.HeadMoved name) (λ told r v here. absurd (does told r v here).1))
+    fault_read (StoreFault.Existing name) result f does = subst Did (sym f.0) (answered_read (Reply.Existing name) (λ told r v here. absurd (does told r v here).1))
+
+-- it looked at nothing, and nothing changed but what was met
+pub unread : (tells : Bool) (a : Told) (s : Session) (met : Met) (command : Command) (reply : Reply) → met ≡ met_only false → Refusable command
+    → ((r : Repository) (v : View) → IsOf s.store r → Step no_rules (state_in s r v) command (conditions_of (met_only false)) reply (state_in s r v)) → HasRead tells a a s (record s { met = met }) command (Ok reply)
+unread tells a s met command reply e refusable gives = answered_read tells a a s (record s { met = met }) command (λ r is. is) (λ told. looks_nowhere a s.store) reply
+    (λ told r v here. still_answered (image_records here.holds) s (record s { met = met }) r v command refl here.lawful reply e (gives r v here.holds.tables) refusable)
+
+-- and it was refused memory
+pub refused_unread : (tells : Bool) (a : Told) (s : Session) (met : Met) (command : Command) (reply : Reply) → met ≡ met_only true → reply ≡ Reply.Memory → Refusable command → HasRead tells a a s (record s { met = met }) command (Ok reply)
+refused_unread tells a s met command reply e is refusable = subst (λ (x : Reply). HasRead tells a a s (record s { met = met }) command (Ok x)) (sym is)
+    (answered_read tells a a s (record s { met = met }) command (λ r is. is) (λ told. looks_nowhere a s.store) Reply.Memory
+    (λ told r v here. memory_answered (image_records here.holds) s (record s { met = met }) r v command refl here.lawful e refusable))
+
+-- it asks nothing of the ground
+pub within_read : (tells : Bool) (a : Told) (s s' : Session) (command : Command) (reply : Reply) → ((r : Repository) → IsIn s r → IsIn s' r) → s'.store ≡ s.store
+    → ((records : ℕ → Option Record) (r : Repository) (v : View) → IsOf s.store r → IsLawful records r s.work v → IsAnswered records s s' r v (Step no_rules (state_in s r v) command) reply) → HasRead tells a a s s' command (Ok reply)
+within_read tells a s s' command reply tables same answered = answered_read tells a a s s' command tables (λ told. subst (OnlyLooks a a s.store) (sym same) (looks_nowhere a s.store)) reply
+    (λ told r v here. answered (image_records here.holds) r v here.holds.tables here.lawful)
+
+-- by another name of the command
+pub read_as : (tells : Bool) (a b : Told) (s s' : Session) (command command' : Command) (result : Result Reply SessionEnd) → command' ≡ command → HasRead tells a b s s' command' result → HasRead tells a b s s' command result
+read_as tells a b s s' command command' result e h = subst (λ (x : Command). HasRead tells a b s s' x result) e h
+
+-- ---- contents stay short
+
+some_same : {A : Type 0} (x y : A) → Some x ≡ Some y → x ≡ y
+some_same x y e = cc
+
+short_without : (t : Tree) (q : Path) (b : Bytes) (gone : Bool) → HasShortContents t → cond (not gone) (get t q) None ≡ Some b → length b ≤ contents_limit
+short_without t q b true short e = absurd (cc e)
+short_without t q b false short e = short q b e
+
+short_graft : (t source : Tree) (from to : Path) → HasShortContents t → HasShortContents source → HasShortContents (graft t source from to)
+short_graft t source from to short short_source q b is = by (is_prefix to q) refl
+  where
+    by : (under : Bool) → is_prefix to q ≡ under → length b ≤ contents_limit
+    by true e = let rest = rest_of to q e in short_source (from ++ rest.0) b (sym (ap (get (graft t source from to)) rest.1 ∙ get-graft t source from to rest.0) ∙ is)
+    by false e = short_without t q b (is_related to q) short (sym (get-graft_beside t source from to q e) ∙ is)
+
+-- ---- the least number
+
+min_low : (m n : ℕ) (b : Bool) → nat_le m n ≡ b → Some (min m n) ≡ (if b then Some m else Some n)
+min_low m n true e = let low : min m n ≡ m = grind (arith, nat_tests) in ap Some low
+min_low m n false e = let high : min m n ≡ n = grind (arith, nat_tests) in ap Some high
+
+with_least : (o : Option ℕ) (n : ℕ) → least_with o n ≡ least o (Some n)
+with_least None n = refl
+with_least (Some m) n = min_low m n (nat_le m n) refl
+
+with_two : (o : Option ℕ) (m n : ℕ) → least_with (least_with o m) n ≡ least_with (least_with o n) m
+with_two None m n = let same : min m n ≡ min n m = omega arith in ap Some same
+with_two (Some k) m n = let same : min (min k m) n ≡ min (min k n) m = omega arith in ap Some same
+
+least_more : (o : Option ℕ) (parents : List ℕ) (n : ℕ) → least_with (fold least_with o parents) n ≡ fold least_with (least_with o n) parents
+least_more o [] n = refl
+least_more o (p ∷ parents) n = least_more (least_with o p) parents n ∙ ap (λ (x : Option ℕ). fold least_with x parents) (with_two o p n)
+
+least_last : (o : Option ℕ) (parents : List ℕ) (n : ℕ) → fold least_with o (parents ++ n ∷ []) ≡ least_with (fold least_with o parents) n
+least_last o [] n = refl
+least_last o (p ∷ parents) n = least_last (least_with o p) parents n
+
+-- ---- the work's parents
+
+pub one_parent : (r : Repository) (n : ℕ) → IsTrue (is_retained r n) → AreParents r (n ∷ [])
+one_parent r n retained = record {
+  retained = All-push (λ m. IsTrue (is_retained r m)) [] n (All-nil (λ m. IsTrue (is_retained r m))) retained;
+  distinct = λ i j d before inside. absurd (omega (arith, before, inside));
+  few = omega arith;
+}
+
+-- ---- the work's tree
+
+-- another tree of the same view, perhaps over other records
+lawful_with : (records : ℕ → Option Record) (r : Repository) (work : Work) (v : View) (tree : lazy.Tree) → IsLawful records r work v → IsView records tree v → IsLawful records r (record work { tree = tree }) v
+lawful_with records r work v tree l view = record { tree = view; short = l.short; parents = l.parents; least = l.least }
+
+module _ (records : ℕ → Option Record) (s : Session) (store : Store) (met : Met) (r : Repository) (v : View) (e : met ≡ met_only false) (zero : r.floor ≡ 0) (l : IsLawful records r s.work v) where
+  abbrev with_tree : lazy.Tree → Option ℕ → Session
+  with_tree tree least = record s { store = store; work = record s.work { tree = tree; least = least }; met = met }
+
+  abbrev Answers : Command → Session → Reply → Type 0
+  Answers command s' reply = IsAnswered records s s' r v (Step no_rules (state_in s r v) command) reply
+
+  pub set_answered : (tree : lazy.Tree) (path : Path) (bytes : Bytes) → IsSet records path bytes tree v → Answers (Command.Set path bytes) (with_tree tree s.work.least) Reply.Accepted
+  unfolding put_view
+  set_answered tree path bytes is = record {
+    view = put_view v path bytes;
+    gives = met_as (state_in s r v) (Command.Set path bytes) met (met_only false) Reply.Accepted _ e (set_done r (work_at s.work v) zero path bytes is.short is.narrow);
+    lawful = record { tree = is.view; short = short_put v.map path bytes l.short is.short; parents = l.parents; least = l.least };
+    spared = λ long. absurd (ok_is_short long);
+  }
+
+  pub rm_answered : (tree : lazy.Tree) (path : Path) → IsRemoved records path tree v true → Answers (Command.Rm path) (with_tree tree s.work.least) Reply.Accepted
+  unfolding remove_view
+  rm_answered tree path is = record {
+    view = remove_view v path;
+    gives = met_as (state_in s r v) (Command.Rm path) met (met_only false) Reply.Accepted _ e (rm_done r (work_at s.work v) zero path (some_there (is_empty (subtree v.map path)) is.found));
+    lawful = record { tree = is.view; short = short_removed v.map path l.short; parents = l.parents; least = l.least };
+    spared = λ long. absurd (ok_is_short long);
+  }
+    where
+      some_there : (b : Bool) → true ≡ not b → b ≡ false
+      some_there true e = absurd (cc e)
+      some_there false e = refl
+
+  pub graft_answered : (tree : lazy.Tree) (target : Target) (from to : Path) (n at_root low : ℕ) → resolve r target ≡ Ok n → Some low ≡ least_with s.work.least n → HasShortContents (tree_at r n)
+      → IsGrafted records from to tree v (stored_view records n at_root (tree_at r n)) true → Answers (Command.Graft target from to) (with_tree tree (Some low)) Reply.Accepted
+  unfolding graft_view
+  graft_answered tree target from to n at_root low named less short is = record {
+    view = graft_view v (stored_view records n at_root (tree_at r n)) from to;
+    gives = met_as (state_in s r v) (Command.Graft target from to) met (met_only false) Reply.Accepted _ e
+        (subst (λ (o : Option ℕ). Step no_rules (state_in s r v) (Command.Graft target from to) (conditions_of (met_only false)) Reply.Accepted (at r (record (work_at s.work v) { tree = graft v.map (tree_at r n) from to; least = o }))) (sym less)
+        (graft_done r (work_at s.work v) target from to n zero named (some_grafted (is_empty (subtree (tree_at r n) from)) is.found) (is.shallow refl) (is.narrow refl)));
+    lawful = record {
+      tree = is.view;
+      short = short_graft v.map (tree_at r n) from to l.short short;
+      parents = l.parents;
+      least = less ∙ ap (λ (o : Option ℕ). least_with o n) l.least ∙ least_more v.oldest s.work.parents n ∙ ap (λ (o : Option ℕ). fold least_with o s.work.parents) (with_least v.oldest n);
+    };
+    spared = λ long. absurd (ok_is_short long);
+  }
+    where
+      some_grafted : (b : Bool) → true ≡ not b → b ≡ false
+      some_grafted true e = absurd (cc e)
+      some_grafted false e = refl
+
+  pub checkout_answered : (tree : lazy.Tree) (parents : List ℕ) (target : Target) (n : ℕ) (name : Bytes) → parents ≡ n ∷ [] → resolve r target ≡ Ok n → IsTrue (is_retained r n) → name ≡ name_at r n → length name ≡ 32 → IsTreeOf records r n tree
+      → Answers (Command.Checkout target) (record s { store = store; work = record { tree = tree; parents = parents; least = Some n }; met = met }) (Reply.At name)
+  checkout_answered tree parents target n name one named retained is_name long_name t = record {
+    view = stored_view records n t.at (tree_at r n);
+    gives = met_as (state_in s r v) (Command.Checkout target) met (met_only false) (Reply.At name) _ e
+        (subst (λ (ps : List ℕ). Step no_rules (state_in s r v) (Command.Checkout target) (conditions_of (met_only false)) (Reply.At name) (at r (record { tree = tree_at r n; parents = ps; least = Some n }))) (sym one)
+        (subst (λ (x : Bytes). Step no_rules (state_in s r v) (Command.Checkout target) (conditions_of (met_only false)) (Reply.At x) (at r (record { tree = tree_at r n; parents = n ∷ []; least = Some n }))) (sym is_name)
+        (checkout_done r (work_at s.work v) target n named)));
+    lawful = record {
+      tree = t.view;
+      short = t.short;
+      parents = subst (AreParents r) (sym one) (one_parent r n retained);
+      least = let same : n ≡ min n n = omega arith in ap Some same ∙ sym (ap (λ (ps : List ℕ). fold least_with (Some n) ps) one);
+    };
+    spared = λ long. absurd (at_is_short name long_name long);
+  }
+
+-- ---- commands that ask nothing of the ground
+
+-- by another name of the command
+pub answered_as : (records : ℕ → Option Record) (s s' : Session) (r : Repository) (v : View) (command command' : Command) (reply : Reply) → command ≡ command'
+    → IsAnswered records s s' r v (Step no_rules (state_in s r v) command') reply → IsAnswered records s s' r v (Step no_rules (state_in s r v) command) reply
+answered_as records s s' r v command command' reply e h = subst (λ (x : Command). IsAnswered records s s' r v (Step no_rules (state_in s r v) x) reply) (sym e) h
+
+-- a retained commit more is a parent
+pub more_parents : (r : Repository) (parents : List ℕ) (n : ℕ) → AreParents r parents → IsTrue (is_retained r n) → list_any (λ p. p == n) parents ≡ false → length parents < 16 → AreParents r (parents ++ n ∷ [])
+more_parents r parents n are retained new few = record {
+  retained = All-push (λ m. IsTrue (is_retained r m)) parents n are.retained retained;
+  distinct = all_pairs_push (λ m k. m ≢ k) parents n are.distinct apart;
+  few = omega (arith, few, length-append parents (n ∷ []));
+}
+  where
+    equal : (m k : ℕ) → m ≡ k → (m == k) ≡ true
+    equal m k e = grind (arith, nat_tests)
+
+    apart : (k d : ℕ) → k < length parents → get_or parents k d ≢ n
+    apart k d low e = absurd (cc (sym (list_any_at (λ p. p == n) parents k d low (equal (get_or parents k d) n e)) ∙ new))
+
+module _ (records : ℕ → Option Record) (s : Session) (r : Repository) (v : View) (of : IsOf s.store r) (l : IsLawful records r s.work v) where
+  abbrev Said : Command → Session → Reply → Type 0
+  Said command s' reply = IsAnswered records s s' r v (Step no_rules (state_in s r v) command) reply
+
+  pub empty_answered : (work : Work) (met : Met) → met ≡ met_only false → IsLawful records r work no_view → work_at work no_view ≡ empty_work → Said Command.Empty (record s { work = work; met = met }) Reply.Accepted
+  empty_answered work met e lawful empty = record {
+    view = no_view;
+    gives = met_as (state_in s r v) Command.Empty met (met_only false) Reply.Accepted (state_at r (work_at work no_view)) e
+        (subst (λ (w : Machine.Work). Step no_rules (state_in s r v) Command.Empty (conditions_of (met_only false)) Reply.Accepted (state_at r w)) (sym empty) (empty_done r (work_at s.work v)));
+    lawful = lawful;
+    spared = λ long. absurd (ok_is_short long);
+  }
+
+  pub hash_answered : (met : Met) (bytes hash : Bytes) → met ≡ met_only false → hash ≡ sha256 bytes → Said (Command.Hash bytes) (record s { met = met }) (Reply.Hash hash)
+  hash_answered met bytes hash e is = subst (λ (x : Bytes). Said (Command.Hash bytes) (record s { met = met }) (Reply.Hash x)) (sym is)
+      (still_answered records s (record s { met = met }) r v (Command.Hash bytes) refl l (Reply.Hash (sha256 bytes)) e (hash_done r (work_at s.work v) bytes) (hash_refused bytes))
+
+  pub stat_answered : (met : Met) (reply : Reply) → met ≡ met_only false → reply ≡ stat_of r → Said Command.Stat (record s { met = met }) reply
+  stat_answered met reply e is = subst (Said Command.Stat (record s { met = met })) (sym is)
+      (plainly_answered records s (record s { met = met }) r v Command.Stat refl l (stat_of r) e (stat_done r (work_at s.work v)) (λ long. absurd (stat_is_short s.store r of long)))
+
+  pub parent_answered : (parents : List ℕ) (low : ℕ) (met : Met) (target : Target) (n : ℕ) → met ≡ met_only false → resolve r target ≡ Ok n → IsTrue (is_retained r n) → list_any (λ p. p == n) s.work.parents ≡ false → length s.work.parents < 16
+      → parents ≡ s.work.parents ++ n ∷ [] → Some low ≡ least_with s.work.least n
+      → Said (Command.Parent target) (record s { work = record s.work { parents = parents; least = Some low }; met = met }) Reply.Accepted
+  parent_answered parents low met target n e named retained new few added less = record {
+    view = v;
+    gives = met_as (state_in s r v) (Command.Parent target) met (met_only false) Reply.Accepted _ e
+        (subst (λ (ps : List ℕ). Step no_rules (state_in s r v) (Command.Parent target) (conditions_of (met_only false)) Reply.Accepted (at r (record (work_at s.work v) { parents = ps; least = Some low }))) (sym added)
+        (subst (λ (o : Option ℕ). Step no_rules (state_in s r v) (Command.Parent target) (conditions_of (met_only false)) Reply.Accepted (at r (record (work_at s.work v) { parents = s.work.parents ++ n ∷ []; least = o }))) (sym less)
+        (parent_done r (work_at s.work v) target n (floor_zero s.store r of) named new few)));
+    lawful = record {
+      tree = l.tree;
+      short = l.short;
+      parents = subst (AreParents r) (sym added) (more_parents r s.work.parents n l.parents retained new few);
+      least = less ∙ ap (λ (o : Option ℕ). least_with o n) l.least ∙ sym (ap (λ (ps : List ℕ). fold least_with v.oldest ps) added ∙ least_last v.oldest s.work.parents n);
+    };
+    spared = λ long. absurd (ok_is_short long);
+  }
+
+-- ---- a commit's tree, and what was read of it behind that
+
+module _ (a b : Told) (store now : Store) (looks : OnlyLooks a b store now) (r : Repository) (held : Holds store a r) where
+  over : image_records (looks.holds r held) ≡ image_records held
+  over = looks.records r held (looks.holds r held)
+
+  pub grafts_behind : (from to : Path) (tree source new : lazy.Tree) (result : Result Bool TreeFault) (n : ℕ)
+      → ((q : Repository) (v w : View) (h : Holds now b q) → IsView (image_records h) tree v → IsView (image_records h) source w → Grafts (image_records h) from to new v w result)
+      → (v : View) → IsView (image_records held) tree v → (t : IsTreeOf (image_records held) r n source) → Grafts (image_records held) from to new v (stored_view (image_records held) n t.at (tree_at r n)) result
+  grafts_behind from to tree source new result n grafts v view t =
+      let w : View = stored_view (image_records held) n t.at (tree_at r n) in
+      subst (λ (records : ℕ → Option Record). Grafts records from to new v w result) over
+      (grafts r v w (looks.holds r held) (subst (λ (records : ℕ → Option Record). IsView records tree v) (sym over) view) (subst (λ (records : ℕ → Option Record). IsView records source w) (sym over) t.view))
+
+  -- what was answered over the tree of a commit
+  pub got_behind : (source : lazy.Tree) (n : ℕ) (Is : Tree → Type 0) → ((q : Repository) (w : View) (h : Holds now b q) → IsView (image_records h) source w → Is w.map) → IsTreeOf (image_records held) r n source → Is (tree_at r n)
+  got_behind source n Is got t =
+      let w : View = stored_view (image_records held) n t.at (tree_at r n) in
+      got r w (looks.holds r held) (subst (λ (records : ℕ → Option Record). IsView records source w) (sym over) t.view)
+
+-- ---- calls of the store in a command
+
+pub kept_in : (s s' : Session) → SameTables s.store s'.store → s'.work.parents ≡ s.work.parents → (r : Repository) → IsIn s r → IsIn s' r
+kept_in s s' same parents r is = (same_tables s.store s'.store same r is.0, subst (AreParents r) (sym parents) is.1)
+
+-- whatever the work's tree is then
+module _ (tells : Bool) (old new : Told) (s : Session) (store : Store) (same : SameTables s.store store) (looks : IsTrue tells → OnlyLooks old new s.store store) (e : s.met ≡ met_only false) where
+  abbrev after : lazy.Tree → Met → Session
+  after tree met = record s { store = store; work = record s.work { tree = tree }; met = met }
+
+  pub set_read : (tree : lazy.Tree) (path : Path) (bytes : Bytes) → (IsTrue tells → (r : Repository) (v : View) (held : Holds s.store old r) → IsView (image_records held) s.work.tree v → IsSet (image_records held) path bytes tree v)
+      → HasRead tells old new s (after tree s.met) (Command.Set path bytes) (Ok Reply.Accepted)
+  set_read tree path bytes is = answered_read tells old new s (after tree s.met) (Command.Set path bytes) (kept_in s (after tree s.met) same refl) looks Reply.Accepted
+      (λ told r v here. set_answered (image_records here.holds) s store s.met r v e (floor_zero s.store r here.holds.tables) here.lawful tree path bytes (is told r v here.holds here.lawful.tree))
+
+  pub rm_read : (tree : lazy.Tree) (path : Path) → (IsTrue tells → (r : Repository) (v : View) (held : Holds s.store old r) → IsView (image_records held) s.work.tree v → IsRemoved (image_records held) path tree v true)
+      → HasRead tells old new s (after tree s.met) (Command.Rm path) (Ok Reply.Accepted)
+  rm_read tree path is = answered_read tells old new s (after tree s.met) (Command.Rm path) (kept_in s (after tree s.met) same refl) looks Reply.Accepted
+      (λ told r v here. rm_answered (image_records here.holds) s store s.met r v e (floor_zero s.store r here.holds.tables) here.lawful tree path (is told r v here.holds here.lawful.tree))
+
+  -- over the same view
+  pub same_read : (tree : lazy.Tree) (command : Command) (reply : Reply) → Refusable command
+      → (IsTrue tells → (r : Repository) (v : View) (here : IsWorking old s r v) → IsView (image_records here.holds) tree v × Step no_rules (state_in s r v) command (conditions_of (met_only false)) reply (state_in s r v))
+      → HasRead tells old new s (after tree s.met) command (Ok reply)
+  same_read tree command reply refusable does = still_read tells old new s (after tree s.met) command (kept_in s (after tree s.met) same refl) looks (λ v. refl) e refusable reply refl
+      (λ told r v here. let x = does told r v here in (lawful_with (image_records here.holds) r s.work v tree here.lawful x.0, x.1))
+
+  pub failed_read : (tree : lazy.Tree) (met : Met) (command : Command) (fault : StoreFault) (result : Result Reply SessionEnd) → Refusable command → Fails fault s.met met result
+      → (IsTrue tells → (r : Repository) (v : View) (here : IsWorking old s r v) → IsView (image_records here.holds) tree v × Refuses (state_in s r v) command fault)
+      → HasRead tells old new s (after tree met) command result
+  failed_read tree met command fault result refusable f does = fault_read tells old new s (after tree met) command (kept_in s (after tree met) same refl) looks (λ v. refl) e refusable fault result f
+      (λ told r v here. let x = does told r v here in (lawful_with (image_records here.holds) r s.work v tree here.lawful x.0, x.1))
+
+-- what came of a call on a tree
+pub fails_as : (fault : TreeFault) (called : StoreFault) (met met' : Met) (result : Result Reply SessionEnd) → called ≡ tree_fault fault → Fails called met met' result → Fails (tree_fault fault) met met' result
+fails_as fault called met met' result e f = subst (λ (x : StoreFault). Fails x met met' result) e f
+
+-- ---- what was answered is the machine's
+
+pub got_gives : (r : Repository) (w : Machine.Work) (path : Path) (got : Got) (reply : Reply) → r.floor ≡ 0 → reply ≡ got_reply got → got ≡ got_at w.tree path → Step no_rules (at r w) (Command.Get path) (conditions_of (met_only false)) reply (at r w)
+got_gives r w path got reply zero is_reply is_got = subst (λ (x : Reply). Step no_rules (at r w) (Command.Get path) (conditions_of (met_only false)) x (at r w)) (sym (is_reply ∙ ap got_reply is_got)) (get_done r w zero path)
+
+pub listed_gives : (r : Repository) (w : Machine.Work) (path : Path) (listed : Listed) (reply : Reply) → r.floor ≡ 0 → reply ≡ listed_reply listed → listed ≡ listed_at w.tree path
+    → Step no_rules (at r w) (Command.List path) (conditions_of (met_only false)) reply (at r w)
+listed_gives r w path listed reply zero is_reply is_listed = subst (λ (x : Reply). Step no_rules (at r w) (Command.List path) (conditions_of (met_only false)) x (at r w)) (sym (is_reply ∙ ap listed_reply is_listed)) (list_done r w zero path)
+
+pub cat_gives : (r : Repository) (w : Machine.Work) (target : Target) (path : Path) (n : ℕ) (got : Got) (reply : Reply) → resolve r target ≡ Ok n → reply ≡ got_reply got → got ≡ got_at (tree_at r n) path
+    → Step no_rules (at r w) (Command.Cat target path) (conditions_of (met_only false)) reply (at r w)
+cat_gives r w target path n got reply named is_reply is_got =
+    subst (λ (x : Reply). Step no_rules (at r w) (Command.Cat target path) (conditions_of (met_only false)) x (at r w)) (sym (is_reply ∙ ap got_reply is_got)) (cat_done r w target path n named)
+
+pub shown_gives : (r : Repository) (w : Machine.Work) (target : Target) (n : ℕ) (shown reply : Reply) → resolve r target ≡ Ok n → reply ≡ shown → commit_reply r n ≡ shown
+    → Step no_rules (at r w) (Command.Show target) (conditions_of (met_only false)) reply (at r w)
+shown_gives r w target n shown reply named is_reply is_shown =
+    subst (λ (x : Reply). Step no_rules (at r w) (Command.Show target) (conditions_of (met_only false)) x (at r w)) (is_shown ∙ sym is_reply) (show_done r w target n named)
+
+none_there : (b : Bool) → false ≡ not b → b ≡ true
+none_there true e = refl
+none_there false e = absurd (cc e)
+
+pub absent_gives : (r : Repository) (w : Machine.Work) (path : Path) → r.floor ≡ 0 → false ≡ not (is_empty (subtree w.tree path)) → Step no_rules (at r w) (Command.Rm path) (conditions_of (met_only false)) Reply.Absent (at r w)
+absent_gives r w path zero none = rm_absent r w zero path (none_there (is_empty (subtree w.tree path)) none)
+
+-- the reply is known by another name
+pub reply_as : (tells : Bool) (a b : Told) (s s' : Session) (command : Command) (reply reply' : Reply) → reply ≡ reply' → HasRead tells a b s s' command (Ok reply') → HasRead tells a b s s' command (Ok reply)
+reply_as tells a b s s' command reply reply' e h = subst (λ (x : Reply). HasRead tells a b s s' command (Ok x)) (sym e) h
+
+-- ---- commands that take the tree of a commit
+
+module _ (tells : Bool) (old new : Told) (s : Session) (store : Store) (same : SameTables s.store store) (looks : IsTrue tells → OnlyLooks old new s.store store) (e : s.met ≡ met_only false)
+    (target : Target) (n : ℕ) (named : (r : Repository) → IsOf s.store r → Ok n ≡ resolve r target) (retained : (r : Repository) → IsOf s.store r → IsTrue (is_retained r n)) where
+  abbrev IsReadFor : (r : Repository) → Holds s.store old r → lazy.Tree → Type 0
+  IsReadFor r held source = IsTreeOf (image_records held) r n source
+
+  pub checkout_read : (tree : lazy.Tree) (parents : List ℕ) (name : Bytes) → parents ≡ n ∷ [] → ((r : Repository) → IsOf store r → IsTrue (is_retained r n) → name ≡ name_at r n) → length name ≡ 32
+      → (IsTrue tells → (r : Repository) (held : Holds s.store old r) → IsTrue (is_retained r n) → IsReadFor r held tree)
+      → HasRead tells old new s (record s { store = store; work = record { tree = tree; parents = parents; least = Some n } }) (Command.Checkout target) (Ok (Reply.At name))
+  checkout_read tree parents name one is_name long_name read =
+      let s' : Session = record s { store = store; work = record { tree = tree; parents = parents; least = Some n } } in
+      answered_read tells old new s s' (Command.Checkout target) (λ r is. (same_tables s.store store same r is.0, subst (AreParents r) (sym one) (one_parent r n (retained r is.0)))) looks (Reply.At name)
+      (λ told r v here.
+      let of : IsOf s.store r = here.holds.tables in
+      checkout_answered (image_records here.holds) s store s.met r v e (floor_zero s.store r of) here.lawful tree parents target n name one (sym (named r of)) (retained r of)
+      (is_name r (same_tables s.store store same r of) (retained r of)) long_name (read told r here.holds (retained r of)))
+
+  pub graft_read : (tree source : lazy.Tree) (from to : Path) (low : ℕ) → Some low ≡ least_with s.work.least n
+      → (IsTrue tells → (r : Repository) (held : Holds s.store old r) → IsTrue (is_retained r n) → IsReadFor r held source)
+      → (IsTrue tells → (r : Repository) (v : View) (held : Holds s.store old r) (t : IsReadFor r held source) → IsView (image_records held) s.work.tree v
+      → IsGrafted (image_records held) from to tree v (stored_view (image_records held) n t.at (tree_at r n)) true)
+      → HasRead tells old new s (record s { store = store; work = record s.work { tree = tree; least = Some low } }) (Command.Graft target from to) (Ok Reply.Accepted)
+  graft_read tree source from to low less read grafted =
+      let s' : Session = record s { store = store; work = record s.work { tree = tree; least = Some low } } in
+      answered_read tells old new s s' (Command.Graft target from to) (kept_in s s' same refl) looks Reply.Accepted
+      (λ told r v here.
+      let of : IsOf s.store r = here.holds.tables in
+      let t : IsReadFor r here.holds source = read told r here.holds (retained r of) in
+      graft_answered (image_records here.holds) s store s.met r v e (floor_zero s.store r of) here.lawful tree target from to n t.at low (sym (named r of)) less t.short (grafted told r v here.holds t here.lawful.tree))
+
+  -- it could not be read
+  pub unfetched_read : (met : Met) (command : Command) (fault : StoreFault) (result : Result Reply SessionEnd) → Refusable command → Fails fault s.met met result
+      → (IsTrue tells → (r : Repository) (held : Holds s.store old r) → IsTrue (is_retained r n) → IsFetchedOr (IsReadFor r held) (Err fault)) → HasRead tells old new s (record s { store = store; met = met }) command result
+  unfetched_read met command fault result refusable f read = failed_read tells old new s store same looks e s.work.tree met command fault result refusable f
+      (λ told r v here. (here.lawful.tree, fetched_refuses (IsReadFor r here.holds) (state_in s r v) command fault (read told r here.holds (retained r here.holds.tables))))
+
+pub unfetched_ends : (s : Session) (old : Told) (n : ℕ) (tells : Bool) (command : Command) (met : Met) (fault : StoreFault) (result : Result Reply SessionEnd) (before after : GroundCounts) → ((r : Repository) → IsOf s.store r → IsTrue (is_retained r n))
+    → Fails fault s.met met result → (fault ≡ StoreFault.Ground → Rose before.file_faults after.file_faults) → (IsTrue tells → (r : Repository) × (v : View) × IsWorking old s r v)
+    → (IsTrue tells → (r : Repository) (held : Holds s.store old r) → IsTrue (is_retained r n) → IsFetchedOr (IsTreeOf (image_records held) r n) (Err fault)) → IfErr result (λ (end : SessionEnd). EndsBy end tells before after)
+unfetched_ends s old n tells command met fault result before after retained f cause held read = ends fault command s.met met result tells before after f cause
+    (λ told. let h = held told in
+    (state_in s h.0 h.1, fetched_refuses (IsTreeOf (image_records h.2.holds) h.0 n) (state_in s h.0 h.1) command fault (read told h.0 h.2.holds (retained h.0 h.2.holds.tables))))
+
+pub ungrafted_gives : (r : Repository) (w : Machine.Work) (target : Target) (from to : Path) (n : ℕ) → r.floor ≡ 0 → resolve r target ≡ Ok n → false ≡ not (is_empty (subtree (tree_at r n) from))
+    → Step no_rules (at r w) (Command.Graft target from to) (conditions_of (met_only false)) Reply.Absent (at r w)
+ungrafted_gives r w target from to n zero named none = graft_absent r w target from to n zero named (none_there (is_empty (subtree (tree_at r n) from)) none)

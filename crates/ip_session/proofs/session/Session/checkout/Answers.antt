@@ -1,0 +1,48 @@
+use Rattle.std.proofs.Common.{rules, ◌≡◌, [], ◌∷◌, ap, sym, Err}
+use Rattle.ip_spec.specs.declared.command.Command.TheVariants as Command
+use Rattle.ip_spec.specs.declared.reply.Reply.TheVariants as Reply
+use Rattle.ip_store.specs.Work.{work_at}
+use Rattle.ip_store.proofs.Stepping.{same_tables}
+use Rattle.ip_session.proofs.SessionLemmas.{checkout_refused}
+use Rattle.ip_session.proofs.Referring.{checkout_unnamed}
+use Rattle.ip_session.proofs.Reading.{unread, refused_unread, reply_as, checkout_read, unfetched_read, unfetched_ends}
+use Rattle.ip_session.proofs.session.Session.checkout.Goals as goal
+
+pub returns-in-Err-clause-reads : goal.returns-in-Err-clause-reads
+returns-in-Err-clause-reads g c =
+    let s = c.args.self.now in
+    unread _ _ s s.met (Command.Checkout c.args.target) c.in-Err.reply c.requires.met (checkout_refused c.args.target)
+    (λ r v of. checkout_unnamed r (work_at s.work v) c.args.target c.in-Err.reply (sym (c.in-Err.ensures.number r of)))
+
+pub returns-then-is_err-clause-reads : goal.returns-then-is_err-clause-reads
+returns-then-is_err-clause-reads g c = refused_unread _ _ c.args.self.now c.refuse.new.met (Command.Checkout c.args.target) c.refuse.result c.refuse.ensures.met c.refuse.ensures.reply (checkout_refused c.args.target)
+
+pub tree_of-requires : goal.tree_of-requires
+tree_of-requires g c =
+    let r = c.requires.tables.0 in
+    let is = c.requires.tables.1 in
+    record { tables = (r, is.0, c.in-Ok.ensures.retained r is.0) }
+
+pub returns-in-Err-tree_of-clause-reads : goal.returns-in-Err-tree_of-clause-reads
+returns-in-Err-tree_of-clause-reads g c =
+    unfetched_read _ _ _ c.args.self.now c.tree_of.new.self c.tree_of.ensures.same c.tree_of.ensures.looks c.requires.met c.args.target c.in-Ok.number c.in-Ok.ensures.number c.in-Ok.ensures.retained
+    c.failed.new.met (Command.Checkout c.args.target) c.in-Err-tree_of.fault c.failed.result (checkout_refused c.args.target) c.failed.ensures c.in-Err-tree_of.ensures.tree
+
+pub returns-in-Err-tree_of-clause-cause : goal.returns-in-Err-tree_of-clause-cause
+returns-in-Err-tree_of-clause-cause g c =
+    unfetched_ends c.args.self.now _ c.in-Ok.number _ (Command.Checkout c.args.target) c.failed.new.met c.in-Err-tree_of.fault c.failed.result _ _ c.in-Ok.ensures.retained c.failed.ensures
+    (λ e. c.in-Err-tree_of.ensures.cause (ap Err e)) c.requires.held c.in-Err-tree_of.ensures.tree
+
+pub retained_name-requires : goal.retained_name-requires
+retained_name-requires g c =
+    let r = c.requires.tables.0 in
+    let is = c.requires.tables.1 in
+    record { tables = (r, same_tables c.args.self.now.store c.tree_of.new.self c.tree_of.ensures.same r is.0, c.in-Ok.ensures.retained r is.0) }
+
+pub returns-clause-reads : goal.returns-clause-reads
+returns-clause-reads g c =
+    let s = c.args.self.now in
+    let one : c.push.new.self ≡ c.in-Ok.number ∷ [] = search rules in
+    reply_as _ _ _ s _ (Command.Checkout c.args.target) c.at_reply.result (Reply.At c.retained_name.result) c.at_reply.ensures.reply
+    (checkout_read _ _ _ s c.tree_of.new.self c.tree_of.ensures.same c.tree_of.ensures.looks c.requires.met c.args.target c.in-Ok.number c.in-Ok.ensures.number c.in-Ok.ensures.retained
+    c.in-Ok-tree_of.tree c.push.new.self c.retained_name.result one c.retained_name.ensures c.at_reply.ensures.long c.in-Ok-tree_of.ensures.tree)

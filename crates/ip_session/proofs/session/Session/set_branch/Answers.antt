@@ -1,0 +1,46 @@
+use Rattle.std.proofs.Common.{sym, subst, ◌∙◌, Option}
+use Rattle.std.specs.Prelude.{IfSome}
+use Rattle.ip_spec.specs.declared.command.Command.TheVariants as Command
+use Rattle.ip_spec.specs.declared.reply.Reply.{Reply}
+use Rattle.ip_store.specs.Naming.{AnswersSet}
+use Rattle.ip_session.proofs.BranchGoes.{unnamed_goes, serves, set_goes, set_cut, is_ground_set}
+use Rattle.ip_session.proofs.session.Session.set_branch.Goals as goal
+
+pub returns-in-Err-clause-goes : goal.returns-in-Err-clause-goes
+returns-in-Err-clause-goes g c told r v here = unnamed_goes _ c.args.self.now c.args.self.now.met r v here c.args.name.now c.args.target c.in-Err.reply c.requires.met (sym (c.in-Err.ensures.number r here.holds.tables))
+
+pub set_branch-made-requires-clause-tables : goal.set_branch-made-requires-clause-tables
+set_branch-made-requires-clause-tables g c =
+    let (r, is) = c.requires.tables in
+    (r, is.0, c.in-Ok.ensures.retained r is.0)
+
+pub set_branch-made-requires-clause-held : goal.set_branch-made-requires-clause-held
+set_branch-made-requires-clause-held g c told =
+    let (r, v, here) = c.requires.held told in
+    (r, here.holds)
+
+pub returns-in-Some-clause-tables : goal.returns-in-Some-clause-tables
+returns-in-Some-clause-tables g c =
+    let (r, is) = c.requires.tables in
+    let store = c.set_branch-made.new.self in
+    let answers = subst (λ (o : Option Reply). IfSome o (AnswersSet r c.args.name.now c.in-Ok.number store.met store)) (sym c.branch_reply.ensures ∙ c.in-Some.is) (c.set_branch-made.ensures.answers r is.0 (c.in-Ok.ensures.retained r is.0)) in
+    serves r (Command.Branch c.args.name.now c.args.target) store.met c.in-Some.reply store c.args.self.now is.1 (answers c.args.target (sym (c.in-Ok.ensures.number r is.0)))
+
+pub returns-in-Some-clause-goes : goal.returns-in-Some-clause-goes
+returns-in-Some-clause-goes g c told r v here =
+    let tables = here.holds.tables in
+    let retained = c.in-Ok.ensures.retained r tables in
+    set_goes _ _ c.args.self.now c.set_branch-made.new.self _ r v here c.args.name.now c.args.target c.in-Ok.number (sym (c.in-Ok.ensures.number r tables)) c.set_branch-made.result (c.set_branch-made.ensures.does told r here.holds retained)
+    (λ has q now parents. record { holds = now; lawful = c.works_stay.ensures _ _ r q _ v here.lawful (c.set_branch-made.ensures.stay told has r q here.holds now) (c.leaves_only.ensures _ now.stands.standing) parents })
+    c.in-Some.reply c.met-self.ensures (sym c.branch_reply.ensures ∙ c.in-Some.is) (c.set_branch-made.ensures.answers r tables retained)
+
+pub returns-in-None-clause-cut : goal.returns-in-None-clause-cut
+returns-in-None-clause-cut g c told r v here =
+    let tables = here.holds.tables in
+    let retained = c.in-Ok.ensures.retained r tables in
+    set_cut _ _ c.args.self.now c.set_branch-made.new.self _ r v here c.args.name.now c.args.target c.in-Ok.number (sym (c.in-Ok.ensures.number r tables)) c.set_branch-made.result (c.set_branch-made.ensures.does told r here.holds retained)
+    (λ has q now parents. record { holds = now; lawful = c.works_stay.ensures _ _ r q _ v here.lawful (c.set_branch-made.ensures.stay told has r q here.holds now) (c.leaves_only.ensures _ now.stands.standing) parents })
+    c.requires.met (c.set_branch-made.ensures.begun r tables (is_ground_set c.set_branch-made.result c.set_branch-made.ensures.undamaged (sym c.branch_reply.ensures ∙ c.in-None.is)))
+
+pub returns-in-None-clause-cause : goal.returns-in-None-clause-cause
+returns-in-None-clause-cause g c = c.set_branch-made.ensures.cause (is_ground_set c.set_branch-made.result c.set_branch-made.ensures.undamaged (sym c.branch_reply.ensures ∙ c.in-None.is))

@@ -1,0 +1,23 @@
+use Rattle.std.proofs.Common.{rules, subst, Err}
+use Rattle.ip_spec.specs.declared.command.LineFault.{LineFault}
+use Rattle.ip_spec.specs.Line.{Reads}
+use Rattle.ip_script.specs.Served.{IsServedLine}
+use Rattle.ip_store.specs.Work.{work_at}
+use Rattle.ip_session.proofs.SessionLemmas.{line_refused, has_words}
+use Rattle.ip_session.proofs.SessionGoes.{lined_ok, lined_cut, bad_goes, refused_goes}
+use Rattle.ip_session.proofs.session.Session.step.Goals as goal
+
+pub returns-in-Ok-clause-goes : goal.returns-in-Ok-clause-goes
+returns-in-Ok-clause-goes g c told r v here = lined_ok _ _ c.args.self.now c.run.new.self c.met_only-self.result r v c.in-Ok.command c.args.line.now c.run.result c.in-Ok.ensures.reads
+    (λ other spelled. c.grammar.ensures.one c.args.line.now other c.in-Ok.command spelled c.in-Ok.ensures.reads) (c.run.ensures.goes told r v here)
+
+pub returns-in-Ok-clause-cut : goal.returns-in-Ok-clause-cut
+returns-in-Ok-clause-cut g c told r v here = lined_cut _ _ c.args.self.now c.run.new.self c.met_only-self.result r v c.in-Ok.command c.args.line.now c.run.result c.in-Ok.ensures.reads (c.run.ensures.cut told r v here)
+
+pub returns-in-Err-Bad-clause-goes : goal.returns-in-Err-Bad-clause-goes
+returns-in-Err-Bad-clause-goes g c told r v here = bad_goes _ c.args.self.now c.met_only-self.result r v here c.args.line.now c.in-Err-Bad.at c.met_only-self.ensures
+    (subst (λ (f : LineFault). Reads IsServedLine c.args.line.now (Err f)) c.in-Err-Bad.field-0-is c.in-Err-Bad.ensures.reads) (search rules)
+
+pub returns-in-Err-Memory-clause-goes : goal.returns-in-Err-Memory-clause-goes
+returns-in-Err-Memory-clause-goes g c told r v here = refused_goes _ c.args.self.now c.refuse.new.met r v here c.args.line.now c.refuse.result c.refuse.ensures.met c.refuse.ensures.reply
+    (line_refused r (work_at c.args.self.now.work v) c.args.line.now (c.grammar.ensures.each c.args.line.now) (has_words c.args.line.now c.in-Err-Memory.field-0 c.in-Err-Memory.field-0-is c.in-Err-Memory.ensures.one_word))

@@ -1,0 +1,171 @@
+-- A session: the repository that it is in, and what its commands meet.
+--     IsIn session r      the store's tables are the repository's, and the work goes on from commits of it.      IsServing session      so it is in some repository
+--     IsWorking told session r v      the store holds the repository, and the work's tree has this view.      state_in session r v      the machine's state then
+--     no_rules      the merge rules of a session that is handed none
+--     met_only refused      what a command meets that changes no file: nothing but want of memory, if that
+--     is_durable command      it may change files.      IsDurable reply command      and with this reply it did
+--     asks_ground command      it reads records.      HasWords command      it is served, with the words that its line may have
+--     ChangedBy command reply, ChangedIn line reply      the files that a command or a line with this reply may have changed
+--     IsAnswered records s s' r v Gives reply      a command was run that changes no file, of which Gives says what the machine may give
+--     HasRead tells old new s s' command result      and it may have read records
+--     Goes old new s s' r v Changed Gives reply      a command or a line was run
+--     Cut old new s s' r v Gives      a fault of the ground or of its files cut it short
+--     EndsBy end tells before after      why a session has ended
+--     Fails fault met met' result      what comes of a call of the store that failed
+--     tree_fault fault      a call on a tree fails as one of the store
+--     IsLong reply      the text of such a reply may take memory.      Writes reply met met' text      it was written, or want of it
+use Rattle.std.specs.Prelude.{◌≡◌, ◌⊎◌, ◌<◌, ℕ, Bool, true, false, length, None, Option, IsTrue, IfOk, IsErr, Result, Ok, Err}
+use Rattle.ip_ground.specs.declared.names.FileName.{FileName}
+use Rattle.ip_ground.specs.declared.names.GroundCounts.{GroundCounts}
+use Rattle.ip_ground.specs.Counts.{Rose}
+use Rattle.ip_ground.specs.Told.{Told, ChangesOnly}
+use Rattle.ip_spec.specs.Repository.{Repository}
+use Rattle.ip_spec.specs.View.{View}
+use Rattle.ip_spec.specs.declared.record.Record.{Record}
+use Rattle.ip_spec.specs.declared.command.Command.{Command}
+use Rattle.ip_spec.specs.declared.met.Child.TheVariants as Child
+use Rattle.ip_spec.specs.declared.met.Met.{Met}
+use Rattle.ip_spec.specs.declared.reply.Reply.{Reply}
+use Rattle.ip_spec.specs.Path.{Bytes, IsPath}
+use Rattle.ip_spec.specs.Machine.{State, Conditions}
+use Rattle.ip_spec.specs.Merge.{Rule, same_means}
+use Rattle.ip_spec.specs.Record.{IsBranchName, IsInfo}
+use Rattle.ip_spec.specs.Step.{Step}
+use Rattle.ip_spec.specs.Text.{reply_text}
+use Rattle.ip_script.specs.Served.{IsServed, IsServedLine}
+use Rattle.ip_image.specs.Headline.{IsInOrder, Keeps}
+use Rattle.ip_store.specs.declared.committing.StoreFault.{StoreFault}
+use Rattle.ip_store.specs.Publishing.{TheTwo}
+use Rattle.ip_store.specs.Showing.{fault_from}
+use Rattle.ip_store.specs.Store.{IsOf, image_records}
+use Rattle.ip_store.specs.Trees.{OnlyLooks}
+use Rattle.ip_store.specs.Work.{AreParents, IsLawful, IsAt, session}
+use Rattle.ip_tree.specs.declared.tree.TreeFault.{TreeFault}
+use Rattle.ip_session.specs.declared.session.Session.{Session}
+use Rattle.ip_session.specs.declared.session.SessionEnd.{SessionEnd}
+
+abbrev pub IsIn : Session → Repository → Type 0
+IsIn s r = IsOf s.store r × AreParents r s.work.parents
+
+abbrev pub IsServing : Session → Type 0
+IsServing s = (r : Repository) × IsIn s r
+
+abbrev pub IsWorking : Told → Session → Repository → View → Type 0
+IsWorking told s r v = IsAt told s.store r s.work v
+
+abbrev pub state_in : Session → Repository → View → State
+state_in s r v = session r s.work v
+
+abbrev pub no_rules : Rule
+no_rules path = same_means
+
+abbrev pub met_only : Bool → Met
+met_only refused = record { child = Child.NotAsked; checking = None; start_failed = false; kill_failed = false; left = 0; short = None; refused = refused }
+
+abbrev pub conditions_of : Met → Conditions
+conditions_of met = record { told = met; difference = None }
+
+abbrev pub HasWords : Command → Type 0
+HasWords (Command.Set path bytes) = IsPath path
+HasWords (Command.Rm path) = IsPath path
+HasWords (Command.Graft target from to) = IsPath to
+HasWords (Command.Commit branch info) = IsBranchName branch × IsInfo info
+HasWords (Command.Branch name target) = IsBranchName name
+HasWords (Command.BranchRm name) = IsBranchName name
+HasWords command = IsServed command
+
+-- a text of up to this length takes no memory: there is room for it
+abbrev pub IsLong : Reply → Type 0
+IsLong reply = 4096 < length (reply_text reply)
+
+-- the text is the reply's, or it is long and memory was refused
+abbrev pub Writes : Reply → Met → Met → Bytes → Type 0
+Writes reply met met' text = ((met' ≡ met) × (text ≡ reply_text reply)) ⊎ (IsLong reply × (met' ≡ met_only true) × (text ≡ reply_text Reply.Memory))
+
+abbrev pub is_durable : Command → Bool
+is_durable (Command.Commit branch info) = true
+is_durable (Command.Branch name target) = true
+is_durable (Command.BranchRm name) = true
+is_durable command = false
+
+-- of those that are not durable
+abbrev pub asks_ground : Command → Bool
+asks_ground (Command.Checkout target) = true
+asks_ground (Command.Set path bytes) = true
+asks_ground (Command.Rm path) = true
+asks_ground (Command.Graft target from to) = true
+asks_ground (Command.Get path) = true
+asks_ground (Command.List path) = true
+asks_ground (Command.Cat target path) = true
+asks_ground (Command.Show target) = true
+asks_ground command = false
+
+abbrev pub IsDurable : Reply → Command → Type 0
+IsDurable (Reply.Committed hash) (Command.Commit branch info) = Unit {0}
+IsDurable Reply.Accepted (Command.Branch name target) = Unit {0}
+IsDurable Reply.Accepted (Command.BranchRm name) = Unit {0}
+IsDurable reply command = ⊥
+
+abbrev pub ChangedBy : Command → Reply → FileName → Type 0
+ChangedBy command reply file = IsDurable reply command × TheTwo file
+
+abbrev pub ChangedIn : Bytes → Reply → FileName → Type 0
+ChangedIn line reply file = (command : Command) × IsServedLine command line × ChangedBy command reply file
+
+-- nothing was changed, and memory may be refused instead
+pub record IsSpared (s s' : State) (Gives : Conditions → Reply → State → Type 0) : Type 0 where
+  pub same : s' ≡ s
+  pub refused : Gives (conditions_of (met_only true)) Reply.Memory s
+
+-- over the records of the store, which stay
+pub record IsAnswered (records : ℕ → Option Record) (s s' : Session) (r : Repository) (v : View) (Gives : Conditions → Reply → State → Type 0) (reply : Reply) : Type 0 where
+  pub view : View
+  pub gives : Gives (conditions_of s'.met) reply (state_in s' r view)
+  pub lawful : IsLawful records r s'.work view
+  pub spared : IsLong reply → IsSpared (state_in s r v) (state_in s' r view) Gives
+
+pub record HasRead (tells : Bool) (old new : Told) (s s' : Session) (command : Command) (result : Result Reply SessionEnd) : Type 0 where
+  pub tables : (r : Repository) → IsIn s r → IsIn s' r
+  pub answered : IsTrue tells → (r : Repository) (v : View) (here : IsWorking old s r v) → IfOk result (IsAnswered (image_records here.holds) s s' r v (Step no_rules (state_in s r v) command))
+  pub looks : IsTrue tells → OnlyLooks old new s.store s'.store
+  -- one that was cut short met nothing
+  pub unmet : IsErr result → s'.met ≡ s.met
+
+pub record Goes (old new : Told) (s s' : Session) (r : Repository) (v : View) (Changed : Reply → FileName → Type 0) (Gives : Conditions → Reply → State → Type 0) (reply : Reply) : Type 0 where
+  pub after : Repository
+  pub view : View
+  pub gives : Gives (conditions_of s'.met) reply (state_in s' after view)
+  pub is_at : IsWorking new s' after view
+  pub only : ChangesOnly (Changed reply) old new
+  -- at every moment whatever a crash leaves stands for the repository before or after it
+  pub keeps : IsInOrder old → Keeps old new r after
+  pub order : IsInOrder old → IsInOrder new
+  pub spared : IsLong reply → IsSpared (state_in s r v) (state_in s' after view) Gives
+  pub still : IsLong reply → (file : FileName) → ¬ Changed reply file
+
+-- the reply and the next state are those that the machine gives where none of its writes fails
+pub record Cut (old new : Told) (s s' : Session) (r : Repository) (v : View) (Gives : Conditions → Reply → State → Type 0) : Type 0 where
+  pub reply : Reply
+  pub after : State
+  pub gives : Gives (conditions_of s'.met) reply after
+  pub only : ChangesOnly TheTwo old new
+  pub keeps : IsInOrder old → Keeps old new r after.repository
+
+-- A fault of the ground, whose count rose; or files that others changed, which never comes where the ground tells what the store holds.
+abbrev pub EndsBy : SessionEnd → (tells : Bool) → GroundCounts → GroundCounts → Type 0
+EndsBy SessionEnd.Ground tells before after = Rose before.file_faults after.file_faults
+EndsBy (SessionEnd.Damaged at names) tells before after = ¬ IsTrue tells
+
+-- want of memory is met, other refusals are answered, and faults of the ground and of its files end the session
+abbrev pub Fails : StoreFault → Met → Met → Result Reply SessionEnd → Type 0
+Fails StoreFault.Memory met met' result = (result ≡ Ok Reply.Memory) × (met' ≡ met_only true)
+Fails StoreFault.Ground met met' result = (result ≡ Err SessionEnd.Ground) × (met' ≡ met)
+Fails (StoreFault.Damaged at names) met met' result = (result ≡ Err (SessionEnd.Damaged at names)) × (met' ≡ met)
+Fails (StoreFault.Limit limit) met met' result = (result ≡ Ok (Reply.Limit limit)) × (met' ≡ met)
+Fails (StoreFault.HeadMoved name) met met' result = (result ≡ Ok (Reply.HeadMoved name)) × (met' ≡ met)
+Fails (StoreFault.Existing name) met met' result = (result ≡ Ok (Reply.Existing name)) × (met' ≡ met)
+
+abbrev pub tree_fault : TreeFault → StoreFault
+tree_fault (TreeFault.Limit limit) = StoreFault.Limit limit
+tree_fault (TreeFault.Fetch fault) = fault_from fault
+tree_fault TreeFault.Memory = StoreFault.Memory

@@ -1,0 +1,120 @@
+// The commands that may change files.
+ghost use Rattle.std.specs.Prelude.{◌≡◌, false, IsTrue, IfOk, IfErr, OnErr};
+ghost use Rattle.ip_ground.specs.Counts.{NoneFalls};
+ghost use Rattle.ip_spec.specs.View.{View};
+ghost use Rattle.ip_spec.specs.declared.command.Target.{Target};
+ghost use Rattle.ip_spec.specs.declared.command.Command.TheVariants as Command;
+ghost use Rattle.ip_spec.specs.Record.{IsBranchName, IsInfo};
+ghost use Rattle.ip_spec.specs.Repository.{Repository};
+ghost use Rattle.ip_spec.specs.Step.{Step};
+ghost use Rattle.ip_session.specs.Session.{no_rules, met_only, ChangedBy, EndsBy};
+
+use crate::replies::{branch_reply, removed_reply, reply_to};
+use crate::session::{Session, SessionEnd, resolve};
+use ip_base::{Blob, Info};
+use ip_ground::Ground;
+use ip_script::{Reply, Target};
+use ip_store::{leaves_only, works_stay};
+
+impl Session {
+    ghost use Rattle.ip_session.specs.Session.{IsServing, IsWorking, state_in, Goes, Cut};
+
+    // Commits the work to a branch.
+    pub(crate) fn commit<G: Ground>(
+        &mut self,
+        ground: &mut G,
+        branch: &[u8],
+        info: Info,
+    ) -> Result<Reply, SessionEnd>
+        requires branch { IsBranchName branch.now }
+        requires info { IsInfo info }
+        requires met { self.old.met ≡ met_only false }
+        requires tables { IsServing self.old }
+        requires held { IsTrue G.tells → (r : Repository) × (v : View) × IsWorking (G.told ground.old) self.old r v }
+        ensures tables { IfOk result (λ reply. IsServing self.new) }
+        ensures goes { IsTrue G.tells → (r : Repository) (v : View) → IsWorking (G.told ground.old) self.old r v →
+            IfOk result (Goes (G.told ground.old) (G.told ground.new) self.old self.new r v (ChangedBy (Command.Commit branch.now info)) (Step no_rules (state_in self.old r v) (Command.Commit branch.now info))) }
+        ensures cut { IsTrue G.tells → (r : Repository) (v : View) → IsWorking (G.told ground.old) self.old r v →
+            OnErr result (Cut (G.told ground.old) (G.told ground.new) self.old self.new r v (Step no_rules (state_in self.old r v) (Command.Commit branch.now info))) }
+        ensures counts { NoneFalls (G.counts_of ground.old) (G.counts_of ground.new) }
+        ensures cause { IfErr result (λ end. EndsBy end G.tells (G.counts_of ground.old) (G.counts_of ground.new)) }
+    {
+        let made = self
+            .store
+            .commit(self.alloc, ground, &mut self.work, branch, info);
+        match reply_to(&made) {
+            Some(reply) => {
+                self.met = self.store.met();
+                Ok(reply)
+            }
+            None => Err(SessionEnd::Ground),
+        }
+    }
+
+    // Puts a branch at the commit that a reference names.
+    pub(crate) fn set_branch<G: Ground>(
+        &mut self,
+        ground: &mut G,
+        name: &[u8],
+        target: Target,
+    ) -> Result<Reply, SessionEnd>
+        requires name { IsBranchName name.now }
+        requires met { self.old.met ≡ met_only false }
+        requires tables { IsServing self.old }
+        requires held { IsTrue G.tells → (r : Repository) × (v : View) × IsWorking (G.told ground.old) self.old r v }
+        ensures tables { IfOk result (λ reply. IsServing self.new) }
+        ensures goes { IsTrue G.tells → (r : Repository) (v : View) → IsWorking (G.told ground.old) self.old r v →
+            IfOk result (Goes (G.told ground.old) (G.told ground.new) self.old self.new r v (ChangedBy (Command.Branch name.now target)) (Step no_rules (state_in self.old r v) (Command.Branch name.now target))) }
+        ensures cut { IsTrue G.tells → (r : Repository) (v : View) → IsWorking (G.told ground.old) self.old r v →
+            OnErr result (Cut (G.told ground.old) (G.told ground.new) self.old self.new r v (Step no_rules (state_in self.old r v) (Command.Branch name.now target))) }
+        ensures counts { NoneFalls (G.counts_of ground.old) (G.counts_of ground.new) }
+        ensures cause { IfErr result (λ end. EndsBy end G.tells (G.counts_of ground.old) (G.counts_of ground.new)) }
+    {
+        let number = match resolve(&self.store, target) {
+            Ok(number) => number,
+            Err(reply) => return Ok(reply),
+        };
+        works_stay();
+        leaves_only();
+        let made = self.store.set_branch(self.alloc, ground, name, number);
+        match branch_reply(&made) {
+            Some(reply) => {
+                self.met = self.store.met();
+                Ok(reply)
+            }
+            None => Err(SessionEnd::Ground),
+        }
+    }
+
+    // Takes a branch away.
+    pub(crate) fn remove_branch<G: Ground>(
+        &mut self,
+        ground: &mut G,
+        name: Blob,
+    ) -> Result<Reply, SessionEnd>
+        requires name { IsBranchName name }
+        requires met { self.old.met ≡ met_only false }
+        requires tables { IsServing self.old }
+        requires held { IsTrue G.tells → (r : Repository) × (v : View) × IsWorking (G.told ground.old) self.old r v }
+        ensures tables { IfOk result (λ reply. IsServing self.new) }
+        ensures goes { IsTrue G.tells → (r : Repository) (v : View) → IsWorking (G.told ground.old) self.old r v →
+            IfOk result (Goes (G.told ground.old) (G.told ground.new) self.old self.new r v (ChangedBy (Command.BranchRm name)) (Step no_rules (state_in self.old r v) (Command.BranchRm name))) }
+        ensures cut { IsTrue G.tells → (r : Repository) (v : View) → IsWorking (G.told ground.old) self.old r v →
+            OnErr result (Cut (G.told ground.old) (G.told ground.new) self.old self.new r v (Step no_rules (state_in self.old r v) (Command.BranchRm name))) }
+        ensures counts { NoneFalls (G.counts_of ground.old) (G.counts_of ground.new) }
+        ensures cause { IfErr result (λ end. EndsBy end G.tells (G.counts_of ground.old) (G.counts_of ground.new)) }
+    {
+        works_stay();
+        leaves_only();
+        let made = self
+            .store
+            .remove_branch(self.alloc, ground, name.as_slice());
+        match removed_reply(name, &made) {
+            Some(reply) => {
+                self.met = self.store.met();
+                Ok(reply)
+            }
+            None => Err(SessionEnd::Ground),
+        }
+    }
+}

@@ -1,0 +1,9 @@
+//! A session: one line, one reply.
+#![tactic(auto)]
+
+mod durable;
+mod replies;
+mod session;
+mod trees;
+
+pub use session::{Session, SessionEnd};

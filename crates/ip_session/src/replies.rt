@@ -1,0 +1,176 @@
+// What a session answers, and what it meets.
+ghost use Rattle.std.specs.Prelude.{◌≡◌, ◌≤◌, [], true, IfOk, length};
+ghost use Rattle.std.specs.Vec.{vec_capacity};
+ghost use Rattle.ip_spec.specs.declared.reply.Reply.TheVariants as Reply;
+ghost use Rattle.ip_spec.specs.Step.{got_reply, listed_reply};
+ghost use Rattle.ip_store.specs.Commits.{fault_reply, reply_to};
+ghost use Rattle.ip_store.specs.Naming.{branch_reply, removed_reply};
+ghost use Rattle.ip_session.specs.Session.{met_only, Writes, Fails, tree_fault};
+
+use crate::session::SessionEnd;
+use ip_base::{Blob, Hash};
+use ip_script::{Reply, reply_text};
+use ip_spec::met::{Child, Met};
+use ip_spec::tree::{Got, Listed};
+use ip_store::{Shown, StoreFault};
+use ip_tree::TreeFault;
+
+// Nothing is met outside the session, and memory was refused or not.
+pub(crate) fn met_only(refused: bool) -> Met
+    ensures { result ≡ met_only refused }
+{
+    Met {
+        child: Child::NotAsked,
+        checking: None,
+        start_failed: false,
+        kill_failed: false,
+        left: 0,
+        short: None,
+        refused,
+    }
+}
+
+// The answer of a command that was refused memory.
+pub(crate) fn refuse(met: &mut Met) -> Reply
+    ensures reply { result ≡ Reply.Memory }
+    ensures met { met.new ≡ met_only true }
+{
+    *met = met_only(true);
+    Reply::Memory
+}
+
+// What a read of the work's tree is answered with.
+pub(crate) fn got_reply(got: Got) -> Reply
+    ensures { result ≡ got_reply got }
+{
+    match got {
+        Got::Value(contents) => Reply::Value(contents),
+        Got::Dir(entries) => Reply::Dir(entries),
+        Got::Absent => Reply::Absent,
+    }
+}
+
+// What a listing of the work's tree is answered with.
+pub(crate) fn listed_reply(listed: Listed) -> Reply
+    ensures { result ≡ listed_reply listed }
+{
+    match listed {
+        Listed::Entries(items) => Reply::List(items),
+        Listed::Contents => Reply::Contents,
+        Listed::Absent => Reply::Absent,
+    }
+}
+
+// What a durable command is answered with that was not done. A fault of the ground has no answer, nor has one of its files.
+pub(crate) fn fault_reply(fault: &StoreFault) -> Option<Reply>
+    ensures { result ≡ fault_reply fault.now }
+{
+    match fault {
+        StoreFault::HeadMoved(name) => Some(Reply::HeadMoved(*name)),
+        StoreFault::Existing(name) => Some(Reply::Existing(*name)),
+        StoreFault::Limit(limit) => Some(Reply::Limit(*limit)),
+        StoreFault::Memory => Some(Reply::Memory),
+        StoreFault::Ground | StoreFault::Damaged { .. } => None,
+    }
+}
+
+// What a commit is answered with.
+pub(crate) fn reply_to(made: &Result<Hash, StoreFault>) -> Option<Reply>
+    ensures reply { result ≡ reply_to made.now }
+    ensures long { IfOk made.now (λ name. length name ≡ 32) }
+{
+    match made {
+        Ok(name) => {
+            // It says how long a name is.
+            name.as_slice();
+            Some(Reply::Committed(*name))
+        }
+        Err(fault) => fault_reply(fault),
+    }
+}
+
+// What making a commit's tree the work is answered with.
+pub(crate) fn at_reply(name: Hash) -> Reply
+    ensures reply { result ≡ Reply.At name }
+    ensures long { length name ≡ 32 }
+{
+    // It says how long a name is.
+    name.as_slice();
+    Reply::At(name)
+}
+
+// What putting a branch at a commit is answered with.
+pub(crate) fn branch_reply(made: &Result<(), StoreFault>) -> Option<Reply>
+    ensures { result ≡ branch_reply made.now }
+{
+    match made {
+        Ok(()) => Some(Reply::Accepted),
+        Err(refusal) => fault_reply(refusal),
+    }
+}
+
+// What taking away the branch of this name is answered with.
+pub(crate) fn removed_reply(name: Blob, made: &Result<bool, StoreFault>) -> Option<Reply>
+    ensures { result ≡ removed_reply name made.now }
+{
+    match made {
+        Ok(true) => Some(Reply::Accepted),
+        Ok(false) => Some(Reply::NoBranch(name)),
+        Err(refusal) => fault_reply(refusal),
+    }
+}
+
+// What comes of a call of the store that failed: want of memory is met, other refusals are answered, and faults of the ground and of its files
+// end the session.
+pub(crate) fn failed(fault: StoreFault, met: &mut Met) -> Result<Reply, SessionEnd>
+    ensures { Fails fault met.old met.new result }
+{
+    match fault {
+        StoreFault::Ground => Err(SessionEnd::Ground),
+        StoreFault::Damaged { at, names } => Err(SessionEnd::Damaged { at, names }),
+        StoreFault::Memory => Ok(refuse(met)),
+        StoreFault::Limit(limit) => Ok(Reply::Limit(limit)),
+        StoreFault::HeadMoved(name) => Ok(Reply::HeadMoved(name)),
+        StoreFault::Existing(name) => Ok(Reply::Existing(name)),
+    }
+}
+
+// A call on a tree fails as one of the store.
+pub(crate) fn tree_fault(fault: TreeFault) -> StoreFault
+    ensures { result ≡ tree_fault fault }
+{
+    match fault {
+        TreeFault::Limit(limit) => StoreFault::Limit(limit),
+        TreeFault::Fetch(fault) => StoreFault::from(fault),
+        TreeFault::Memory => StoreFault::Memory,
+    }
+}
+
+// What the command is answered with that shows a commit.
+pub(crate) fn shown_reply(shown: Shown) -> Reply
+    ensures { result ≡ Reply.Commit shown.name shown.number shown.root shown.parents shown.info }
+{
+    Reply::Commit {
+        name: shown.name,
+        number: shown.number,
+        root: shown.root,
+        parents: shown.parents,
+        info: shown.info,
+    }
+}
+
+// Writes a reply's text into an empty one. There is room for 4096 bytes; a longer text may be refused memory, and then that
+// is met and written instead.
+pub(crate) fn put_reply(reply: &Reply, met: &mut Met, text: &mut Vec<u8>)
+    requires empty { text.old.items ≡ [] }
+    requires room { 4096 ≤ vec_capacity text.old }
+    ensures room { vec_capacity text.old ≤ vec_capacity text.new }
+    ensures written { Writes reply.now met.old met.new text.new.items }
+{
+    if reply_text(reply, text).is_ok() {
+        return;
+    }
+    text.clear();
+    let refusal = refuse(met);
+    reply_text(&refusal, text).unwrap();
+}

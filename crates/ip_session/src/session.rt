@@ -1,0 +1,343 @@
+// A session: one line, one reply.
+ghost use Rattle.std.specs.Prelude.{◌≡◌, ◌≤◌, [], true, false, ℕ, Option, IsTrue, IfOk, IfErr, OnOk, OnErr, None, Ok};
+ghost use Rattle.std.specs.Vec.{vec_capacity};
+ghost use Rattle.ip_ground.specs.Counts.{NoneFalls};
+ghost use Rattle.ip_spec.specs.Map.{len};
+ghost use Rattle.ip_spec.specs.View.{View, no_view};
+ghost use Rattle.ip_spec.specs.declared.record.Record.{Record};
+ghost use Rattle.ip_spec.specs.declared.command.Target.{Target};
+ghost use Rattle.ip_spec.specs.Repository.{Repository, next, is_retained};
+ghost use Rattle.ip_spec.specs.Machine.{opened};
+ghost use Rattle.ip_spec.specs.declared.command.Command.TheVariants as Command;
+ghost use Rattle.ip_spec.specs.declared.reply.Reply.{Reply};
+ghost use Rattle.ip_spec.specs.declared.reply.Reply.TheVariants as Reply;
+ghost use Rattle.ip_spec.specs.Step.{Step, resolve, least_with};
+ghost use Rattle.ip_script.specs.Served.{IsServedLine};
+ghost use Rattle.ip_spec.specs.Script.{LineStep};
+ghost use Rattle.ip_spec.specs.Text.{reply_text};
+ghost use Rattle.ip_store.specs.Store.{IsOf};
+ghost use Rattle.ip_tree.specs.Leaves.{HasLeavesOnly};
+ghost use Rattle.ip_store.specs.Work.{IsLawful};
+ghost use Rattle.ip_session.specs.Session.{no_rules, met_only, is_durable, asks_ground, ChangedBy, ChangedIn, HasRead, EndsBy};
+
+use crate::replies::{met_only, put_reply, refuse};
+use ip_base::{Hash, Items, Limit, Number};
+use ip_ground::Ground;
+use ip_script::{Command, LineFault, Reply, Target, grammar, read_line};
+use ip_spec::met::{Met, Phase};
+use ip_store::{Store, Work};
+use sha2::{Digest, Sha256};
+use std::alloc::Global;
+
+/// A work has so many parents at most.
+const MOST_PARENTS: usize = 16;
+
+/// Why a session has ended. The store is to be opened anew.
+#[derive(Clone, Copy, Debug, PartialEq, Eq)]
+pub enum SessionEnd {
+    /// A call on the ground failed, and cut the command short.
+    Ground,
+    /// The files were changed by others: at this offset stands no record of the kind that stood there, or, where `names` has the wanted name
+    /// and the one that was found, one of another name.
+    Damaged {
+        at: u64,
+        names: Option<(Hash, Hash)>,
+    },
+}
+
+// The commit that a reference names, or the answer that there is none.
+pub(crate) fn resolve(store: &Store, target: Target) -> Result<Number, Reply>
+    requires tables { (r : Repository) × IsOf store.now r }
+    ensures number { (r : Repository) → IsOf store.now r → result ≡ resolve r target }
+    ensures retained { (r : Repository) → IsOf store.now r → IfOk result (λ n. IsTrue (is_retained r n)) }
+{
+    match target {
+        Target::Branch(name) => match store.head(name.as_slice()) {
+            Some(number) => Ok(number),
+            None => Err(Reply::NoBranch(name)),
+        },
+        Target::Commit(name) => match store.commit_named(&name) {
+            Some(number) => Ok(number),
+            None => Err(Reply::NoCommit(name)),
+        },
+    }
+}
+
+// The least number of a work that takes from one more commit.
+pub(crate) fn least_with(least: Option<Number>, number: Number) -> Number
+    ensures { Some result ≡ least_with least number }
+{
+    match least {
+        Some(least) if least.get() < number.get() => least,
+        _ => number,
+    }
+}
+
+/// The session's work over an open store, and what the last command met.
+#[derive(Drop)]
+pub struct Session {
+    pub(crate) alloc: Global,
+    pub(crate) store: Store,
+    pub(crate) work: Work,
+    pub(crate) met: Met,
+}
+
+impl Session {
+    ghost use Rattle.ip_session.specs.Session.{IsIn, IsServing, IsWorking, state_in, HasWords, IsAnswered, Goes, Cut};
+
+    /// A session begins idle, with the empty work.
+    pub fn new(alloc: Global, store: Store) -> Self
+        ensures store { result.store ≡ store }
+        ensures is_in { (r : Repository) → IsOf store r → IsIn result r }
+        ensures state { (r : Repository) → state_in result r no_view ≡ opened r }
+        ensures lawful { (records : ℕ → Option Record) (r : Repository) → HasLeavesOnly records → IsLawful records r result.work no_view }
+    {
+        Session {
+            alloc,
+            store,
+            work: Work::empty(alloc),
+            met: met_only(false),
+        }
+    }
+
+    /// What the last command met.
+    pub fn met(&self) -> Met
+        ensures { result ≡ self.now.met }
+    {
+        self.met
+    }
+
+    // Makes a retained commit a parent of the work.
+    fn add_parent(&mut self, number: Number) -> Reply
+        requires met { self.old.met ≡ met_only false }
+        requires tables { (r : Repository) × IsIn self.old r × IsTrue (is_retained r number) }
+        ensures tables { (r : Repository) → IsIn self.old r → IsTrue (is_retained r number) → IsIn self.new r }
+        ensures same_store { self.new.store ≡ self.old.store }
+        ensures answered { (records : ℕ → Option Record) (r : Repository) (v : View) → IsOf self.old.store r → IsLawful records r self.old.work v → IsTrue (is_retained r number) →
+            (target : Target) → resolve r target ≡ Ok number → IsAnswered records self.old self.new r v (Step no_rules (state_in self.old r v) (Command.Parent target)) result }
+    {
+        let parents = self.work.parents.as_slice();
+        if parents.contains(&number) {
+            return Reply::Accepted;
+        }
+        if parents.len() >= MOST_PARENTS {
+            return Reply::Limit(Limit::Parents);
+        }
+        if self.work.parents.push(number).is_err() {
+            return refuse(&mut self.met);
+        }
+        self.work.least = Some(least_with(self.work.least, number));
+        Reply::Accepted
+    }
+
+    // Makes the commit that a reference names a parent of the work.
+    fn parent(&mut self, target: Target) -> Reply
+        requires met { self.old.met ≡ met_only false }
+        requires tables { IsServing self.old }
+        ensures tables { (r : Repository) → IsIn self.old r → IsIn self.new r }
+        ensures same_store { self.new.store ≡ self.old.store }
+        ensures answered { (records : ℕ → Option Record) (r : Repository) (v : View) → IsOf self.old.store r → IsLawful records r self.old.work v →
+            IsAnswered records self.old self.new r v (Step no_rules (state_in self.old r v) (Command.Parent target)) result }
+    {
+        match resolve(&self.store, target) {
+            Ok(number) => self.add_parent(number),
+            Err(reply) => reply,
+        }
+    }
+
+    // The branches, and the names of their commits.
+    fn branches(&mut self) -> Reply
+        requires met { self.old.met ≡ met_only false }
+        requires tables { IsServing self.old }
+        ensures tables { (r : Repository) → IsIn self.old r → IsIn self.new r }
+        ensures same_store { self.new.store ≡ self.old.store }
+        ensures answered { (records : ℕ → Option Record) (r : Repository) (v : View) → IsOf self.old.store r → IsLawful records r self.old.work v →
+            IsAnswered records self.old self.new r v (Step no_rules (state_in self.old r v) Command.Branches) result }
+    {
+        match self.store.branches(self.alloc) {
+            Ok(heads) => Reply::Branches(heads),
+            Err(_) => refuse(&mut self.met),
+        }
+    }
+
+    // A commit and its ancestors.
+    fn log(&mut self, target: Target) -> Reply
+        requires met { self.old.met ≡ met_only false }
+        requires tables { IsServing self.old }
+        ensures tables { (r : Repository) → IsIn self.old r → IsIn self.new r }
+        ensures same_store { self.new.store ≡ self.old.store }
+        ensures answered { (records : ℕ → Option Record) (r : Repository) (v : View) → IsOf self.old.store r → IsLawful records r self.old.work v →
+            IsAnswered records self.old self.new r v (Step no_rules (state_in self.old r v) (Command.Log target)) result }
+    {
+        let number = match resolve(&self.store, target) {
+            Ok(number) => number,
+            Err(reply) => return reply,
+        };
+        match self.store.log(self.alloc, number) {
+            Ok(names) => Reply::Log(Items::of(names)),
+            Err(_) => refuse(&mut self.met),
+        }
+    }
+
+    // The least common ancestors of two commits.
+    fn lcas(&mut self, one: Target, other: Target) -> Reply
+        requires met { self.old.met ≡ met_only false }
+        requires tables { IsServing self.old }
+        ensures tables { (r : Repository) → IsIn self.old r → IsIn self.new r }
+        ensures same_store { self.new.store ≡ self.old.store }
+        ensures answered { (records : ℕ → Option Record) (r : Repository) (v : View) → IsOf self.old.store r → IsLawful records r self.old.work v →
+            IsAnswered records self.old self.new r v (Step no_rules (state_in self.old r v) (Command.Lcas one other)) result }
+    {
+        let one = match resolve(&self.store, one) {
+            Ok(number) => number,
+            Err(reply) => return reply,
+        };
+        let other = match resolve(&self.store, other) {
+            Ok(number) => number,
+            Err(reply) => return reply,
+        };
+        match self.store.lcas(self.alloc, one, other) {
+            Ok(names) => Reply::Lcas(Items::of(names)),
+            Err(_) => refuse(&mut self.met),
+        }
+    }
+
+    // The numbers of the store.
+    fn stat(&self) -> Reply
+        ensures { (r : Repository) → IsOf self.now.store r → result ≡ Reply.Stat r.floor (next r) (len r.branches) None }
+    {
+        Reply::Stat {
+            floor: self.store.floor(),
+            next: self.store.next(),
+            branches: self.store.branch_count(),
+            at: match self.store.phase() {
+                Phase::Idle => None,
+                Phase::Collecting { commit, .. } => Some(commit),
+            },
+        }
+    }
+
+    // Runs a command that asks nothing of the ground.
+    pub(crate) fn run_within(&mut self, command: Command) -> Reply
+        requires words { HasWords command }
+        requires within { (is_durable command ≡ false) × (asks_ground command ≡ false) }
+        requires met { self.old.met ≡ met_only false }
+        requires tables { IsServing self.old }
+        ensures tables { (r : Repository) → IsIn self.old r → IsIn self.new r }
+        ensures same_store { self.new.store ≡ self.old.store }
+        ensures answered { (records : ℕ → Option Record) (r : Repository) (v : View) → IsOf self.old.store r → IsLawful records r self.old.work v →
+            IsAnswered records self.old self.new r v (Step no_rules (state_in self.old r v) command) result }
+    {
+        match command {
+            Command::Empty => {
+                self.work = Work::empty(self.alloc);
+                Reply::Accepted
+            }
+            Command::Parent(target) => self.parent(target),
+            Command::Branches => self.branches(),
+            Command::Log(target) => self.log(target),
+            Command::Lcas { one, other } => self.lcas(one, other),
+            Command::Hash(bytes) => Reply::Hash(Hash(Sha256::digest(bytes.as_slice()))),
+            Command::Stat => self.stat(),
+            _ => unreachable!(),
+        }
+    }
+
+    // Runs a command that changes no file.
+    fn read<G: Ground>(&mut self, ground: &mut G, command: Command) -> Result<Reply, SessionEnd>
+        requires words { HasWords command }
+        requires quiet { is_durable command ≡ false }
+        requires met { self.old.met ≡ met_only false }
+        requires tables { IsServing self.old }
+        requires held { IsTrue G.tells → (r : Repository) × (v : View) × IsWorking (G.told ground.old) self.old r v }
+        ensures reads { HasRead G.tells (G.told ground.old) (G.told ground.new) self.old self.new command result }
+        ensures counts { NoneFalls (G.counts_of ground.old) (G.counts_of ground.new) }
+        ensures cause { IfErr result (λ end. EndsBy end G.tells (G.counts_of ground.old) (G.counts_of ground.new)) }
+    {
+        match command {
+            Command::Checkout(target) => self.checkout(ground, target),
+            Command::Set { path, contents } => self.set(ground, path, contents),
+            Command::Rm(path) => self.remove(ground, path),
+            Command::Graft { target, from, to } => self.graft(ground, target, from, to),
+            Command::Get(path) => self.get(ground, path),
+            Command::List(path) => self.list(ground, path),
+            Command::Cat { target, path } => self.cat(ground, target, path),
+            Command::Show(target) => self.show(ground, target),
+            within => Ok(self.run_within(within)),
+        }
+    }
+
+    // Runs a command.
+    fn run<G: Ground>(&mut self, ground: &mut G, command: Command) -> Result<Reply, SessionEnd>
+        requires words { HasWords command }
+        requires met { self.old.met ≡ met_only false }
+        requires tables { IsServing self.old }
+        requires held { IsTrue G.tells → (r : Repository) × (v : View) × IsWorking (G.told ground.old) self.old r v }
+        ensures tables { IfOk result (λ reply. IsServing self.new) }
+        ensures goes { IsTrue G.tells → (r : Repository) (v : View) → IsWorking (G.told ground.old) self.old r v →
+            IfOk result (Goes (G.told ground.old) (G.told ground.new) self.old self.new r v (ChangedBy command) (Step no_rules (state_in self.old r v) command)) }
+        ensures cut { IsTrue G.tells → (r : Repository) (v : View) → IsWorking (G.told ground.old) self.old r v →
+            OnErr result (Cut (G.told ground.old) (G.told ground.new) self.old self.new r v (Step no_rules (state_in self.old r v) command)) }
+        ensures counts { NoneFalls (G.counts_of ground.old) (G.counts_of ground.new) }
+        ensures cause { IfErr result (λ end. EndsBy end G.tells (G.counts_of ground.old) (G.counts_of ground.new)) }
+    {
+        match command {
+            Command::Commit { branch, info } => self.commit(ground, branch.as_slice(), info),
+            Command::Branch { name, target } => self.set_branch(ground, name.as_slice(), target),
+            Command::BranchRm(name) => self.remove_branch(ground, name),
+            quiet => self.read(ground, quiet),
+        }
+    }
+
+    /// Runs a line's command. At `Err` a fault of the ground or of its files cut it short, and the session has ended.
+    pub fn step<G: Ground>(&mut self, ground: &mut G, line: &[u8]) -> Result<Reply, SessionEnd>
+        requires tables { IsServing self.old }
+        requires held { IsTrue G.tells → (r : Repository) × (v : View) × IsWorking (G.told ground.old) self.old r v }
+        ensures tables { IfOk result (λ reply. IsServing self.new) }
+        ensures goes { IsTrue G.tells → (r : Repository) (v : View) → IsWorking (G.told ground.old) self.old r v →
+            IfOk result (Goes (G.told ground.old) (G.told ground.new) self.old self.new r v (ChangedIn line.now) (LineStep IsServedLine no_rules (state_in self.old r v) line.now)) }
+        ensures cut { IsTrue G.tells → (r : Repository) (v : View) → IsWorking (G.told ground.old) self.old r v →
+            OnErr result (Cut (G.told ground.old) (G.told ground.new) self.old self.new r v (LineStep IsServedLine no_rules (state_in self.old r v) line.now)) }
+        ensures counts { NoneFalls (G.counts_of ground.old) (G.counts_of ground.new) }
+        ensures cause { IfErr result (λ end. EndsBy end G.tells (G.counts_of ground.old) (G.counts_of ground.new)) }
+    {
+        grammar();
+        self.met = met_only(false);
+        match read_line(self.alloc, line) {
+            Ok(command) => self.run(ground, command),
+            Err(LineFault::Bad(at)) => Ok(Reply::Bad(at)),
+            Err(LineFault::Memory) => Ok(refuse(&mut self.met)),
+        }
+    }
+
+    /// Runs a line's command, and writes its reply's text into an empty one. There is room for 4096 bytes; a longer text
+    /// may be refused memory, and then the reply is that. At `Err` a fault of the ground or of its files cut the command
+    /// short: it has no text, and the session has ended.
+    pub fn answer<G: Ground>(
+        &mut self,
+        ground: &mut G,
+        line: &[u8],
+        text: &mut Vec<u8>,
+    ) -> Result<(), SessionEnd>
+        requires empty { text.old.items ≡ [] }
+        requires room { 4096 ≤ vec_capacity text.old }
+        requires tables { IsServing self.old }
+        requires held { IsTrue G.tells → (r : Repository) × (v : View) × IsWorking (G.told ground.old) self.old r v }
+        ensures room { vec_capacity text.old ≤ vec_capacity text.new }
+        ensures tables { OnOk result (IsServing self.new) }
+        ensures goes { OnOk result ((reply : Reply) × (text.new.items ≡ reply_text reply) × (IsTrue G.tells → (r : Repository) (v : View) → IsWorking (G.told ground.old) self.old r v →
+            Goes (G.told ground.old) (G.told ground.new) self.old self.new r v (ChangedIn line.now) (LineStep IsServedLine no_rules (state_in self.old r v) line.now) reply)) }
+        ensures cut { IsTrue G.tells → (r : Repository) (v : View) → IsWorking (G.told ground.old) self.old r v →
+            OnErr result (Cut (G.told ground.old) (G.told ground.new) self.old self.new r v (LineStep IsServedLine no_rules (state_in self.old r v) line.now)) }
+        ensures counts { NoneFalls (G.counts_of ground.old) (G.counts_of ground.new) }
+        ensures cause { IfErr result (λ end. EndsBy end G.tells (G.counts_of ground.old) (G.counts_of ground.new)) }
+    {
+        match self.step(ground, line) {
+            Err(end) => Err(end),
+            Ok(reply) => {
+                put_reply(&reply, &mut self.met, text);
+                Ok(())
+            }
+        }
+    }
+}
