@@ -14,7 +14,7 @@
 --     Fails fault met met' result      what comes of a call of the store that failed
 --     tree_fault fault      a call on a tree fails as one of the store
 --     IsLong reply      the text of such a reply may take memory.      Writes reply met met' text      it was written, or want of it
-use Rattle.std.specs.Prelude.{◌≡◌, ◌⊎◌, ◌<◌, ℕ, Bool, true, false, length, None, Option, IsTrue, IfOk, IsErr, Result, Ok, Err}
+use Rattle.std.specs.Prelude.{◌≡◌, ◌⊎◌, ◌<◌, ℕ, Bool, true, false, length, Option, IsTrue, IfOk, IsErr, Result, Ok, Err}
 use Rattle.ip_ground.specs.declared.names.FileName.{FileName}
 use Rattle.ip_ground.specs.declared.names.GroundCounts.{GroundCounts}
 use Rattle.ip_ground.specs.Counts.{Rose}
@@ -23,7 +23,6 @@ use Rattle.ip_spec.specs.Repository.{Repository}
 use Rattle.ip_spec.specs.View.{View}
 use Rattle.ip_spec.specs.declared.record.Record.{Record}
 use Rattle.ip_spec.specs.declared.command.Command.{Command}
-use Rattle.ip_spec.specs.declared.met.Child.TheVariants as Child
 use Rattle.ip_spec.specs.declared.met.Met.{Met}
 use Rattle.ip_spec.specs.declared.reply.Reply.{Reply}
 use Rattle.ip_spec.specs.Path.{Bytes, IsPath}
@@ -35,6 +34,8 @@ use Rattle.ip_spec.specs.Text.{reply_text}
 use Rattle.ip_script.specs.Served.{IsServed, IsServedLine}
 use Rattle.ip_image.specs.Headline.{IsInOrder, Keeps}
 use Rattle.ip_store.specs.declared.committing.StoreFault.{StoreFault}
+pub use Rattle.ip_store.specs.Commits.{conditions_of}
+use Rattle.ip_store.specs.Commits.{met_nothing}
 use Rattle.ip_store.specs.Publishing.{TheTwo}
 use Rattle.ip_store.specs.Showing.{fault_from}
 use Rattle.ip_store.specs.Store.{IsOf, image_records}
@@ -60,10 +61,7 @@ abbrev pub no_rules : Rule
 no_rules path = same_means
 
 abbrev pub met_only : Bool → Met
-met_only refused = record { child = Child.NotAsked; checking = None; start_failed = false; kill_failed = false; left = 0; short = None; refused = refused }
-
-abbrev pub conditions_of : Met → Conditions
-conditions_of met = record { told = met; difference = None }
+met_only refused = record met_nothing { refused = refused }
 
 abbrev pub HasWords : Command → Type 0
 HasWords (Command.Set path bytes) = IsPath path

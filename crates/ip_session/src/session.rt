@@ -15,6 +15,7 @@ ghost use Rattle.ip_spec.specs.Step.{Step, resolve, least_with};
 ghost use Rattle.ip_script.specs.Served.{IsServedLine};
 ghost use Rattle.ip_spec.specs.Script.{LineStep};
 ghost use Rattle.ip_spec.specs.Text.{reply_text};
+ghost use Rattle.ip_store.specs.Commits.{met_nothing};
 ghost use Rattle.ip_store.specs.Store.{IsOf};
 ghost use Rattle.ip_tree.specs.Leaves.{HasLeavesOnly};
 ghost use Rattle.ip_store.specs.Work.{IsLawful};
@@ -88,6 +89,7 @@ impl Session {
     /// A session begins idle, with the empty work.
     pub fn new(alloc: Global, store: Store) -> Self
         ensures store { result.store ≡ store }
+        ensures met { result.met ≡ met_nothing }
         ensures is_in { (r : Repository) → IsOf store r → IsIn result r }
         ensures state { (r : Repository) → state_in result r no_view ≡ opened r }
         ensures lawful { (records : ℕ → Option Record) (r : Repository) → HasLeavesOnly records → IsLawful records r result.work no_view }
