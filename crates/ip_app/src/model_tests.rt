@@ -1,40 +1,35 @@
-//! Histories drawn at random: each reply is the one that the model of commits gives.
+//! Scripts drawn at random: each reply is the one that the model's machine gives.
 use crate::Status;
 use crate::tests::answers;
-use ip_base::{Blob, Hash, Info, Items, Number, Step};
-use ip_model::{Commits, Entry, root_name};
-use ip_script::{Reply, reply_text};
-use sha2::{Digest, Sha256};
+use ip_base::Hash;
+use ip_model::Machine;
+use ip_script::{Command, Reply, read_line, reply_text};
+use memchr::memmem;
 use std::alloc::Global;
 use std::test::Fail;
 
-const BRANCHES: usize = 8;
+const BRANCHES: u64 = 8;
 
-// Each branch has one letter.
-fn branch(place: usize) -> [u8; 1] {
-    [b'a' + (place % BRANCHES) as u8]
-}
-
-// A script that is drawn, the replies that the model gives, and where its branches are.
+// A script that is drawn, the model's replies, and the names of the commits that it made.
 #[derive(Drop)]
 struct Drawn {
+    alloc: Global,
     seed: u64,
+    machine: Machine,
     script: Vec<u8>,
     replies: Vec<u8>,
-    commits: Commits,
-    names: Vec<Hash>,
-    heads: [Option<Number>; BRANCHES],
+    commits: Vec<Hash>,
 }
 
 impl Drawn {
     fn new(alloc: Global, seed: u64) -> Self {
         Drawn {
+            alloc,
             seed,
+            machine: Machine::none(alloc),
             script: Vec::new(alloc),
             replies: Vec::new(alloc),
-            commits: Commits::none(alloc),
-            names: Vec::new(alloc),
-            heads: [None; BRANCHES],
+            commits: Vec::new(alloc),
         }
     }
 
@@ -47,197 +42,256 @@ impl Drawn {
         (self.seed >> 33) % bound.max(1)
     }
 
-    fn set_head(&mut self, place: usize, number: Number) {
-        if let Some(head) = self.heads.get_mut(place) {
-            *head = Some(number);
-        }
-    }
-
-    fn draw_branch(&mut self) -> usize {
-        self.draw(BRANCHES as u64) as usize
-    }
-
-    fn draw_commit(&mut self) -> Number {
-        let count = self.commits.len() as u64;
-        Number(self.draw(count))
-    }
-
-    // Puts a line of these pieces, and its reply.
-    fn put(&mut self, pieces: &[&[u8]], reply: &Reply) -> Result<(), Fail> {
-        for piece in pieces {
-            self.script.extend_from_slice(piece)?;
-        }
+    // Puts a line of these words, and the model's reply.
+    fn put(&mut self, words: &[&[u8]]) -> Result<(), Fail> {
+        let line = line_of(self.alloc, words)?;
+        self.script.extend_from_slice(line.as_slice())?;
         self.script.push(b'\n')?;
-        Ok(reply_text(reply, &mut self.replies)?)
+        let Ok(command) = read_line(self.alloc, line.as_slice()) else {
+            return Err("no command")?;
+        };
+        self.answer(&command)
     }
 
-    // A commit by its name, as lines have it.
-    fn named(&self, number: Number) -> Result<[u8; 65], Fail> {
-        let Some(name) = self.names.get(number.get() as usize) else {
-            return Err("no commit")?;
+    fn answer(&mut self, command: &Command) -> Result<(), Fail> {
+        let Some(reply) = self.machine.step(self.alloc, command)? else {
+            return Err("not in the model")?;
         };
-        let mut text = [b'@'; 65];
-        let Some(digits) = text.get_mut(1..) else {
+        if let Reply::Committed(name) = &reply {
+            self.commits.push(*name)?;
+        }
+        Ok(reply_text(&reply, &mut self.replies)?)
+    }
+
+    fn branch(&mut self) -> [u8; 1] {
+        [b'a' + (self.draw(BRANCHES) % BRANCHES) as u8]
+    }
+
+    // The name of a commit as lines have it, seldom of none.
+    fn commit_word(&mut self, place: u64) -> Result<Vec<u8>, Fail> {
+        let zeros = Hash([0; 32]);
+        let name = self.commits.get(place as usize).unwrap_or(&zeros);
+        let mut digits = [b'0'; 64];
+        if hex::encode_to_slice(name.as_slice(), &mut digits).is_err() {
             return Err("no digits")?;
+        }
+        let mut word = Vec::new(self.alloc);
+        word.push(b'@')?;
+        word.extend_from_slice(&digits)?;
+        Ok(word)
+    }
+
+    fn target(&mut self) -> Result<Vec<u8>, Fail> {
+        if self.draw(3) == 0 {
+            let branch = self.branch();
+            return Ok(Vec::from_slice(self.alloc, &branch)?);
+        }
+        let bound = (self.commits.len() as u64).saturating_add(1);
+        let place = self.draw(bound);
+        self.commit_word(place)
+    }
+
+    // A path of up to three steps, of two that there are, seldom of 40.
+    fn path(&mut self) -> Result<Vec<u8>, Fail> {
+        let count = if self.draw(30) == 0 {
+            40
+        } else {
+            1 + self.draw(3) % 3
         };
-        match hex::encode_to_slice(name.as_slice(), digits) {
-            Ok(()) => Ok(text),
-            Err(_) => Err("no digits")?,
+        let mut path = Vec::new(self.alloc);
+        for _ in 0..count {
+            if !path.is_empty() {
+                path.push(b'/')?;
+            }
+            path.push(b'x' + (self.draw(2) % 2) as u8)?;
+        }
+        Ok(path)
+    }
+
+    fn place(&mut self) -> Result<Vec<u8>, Fail> {
+        if self.draw(4) == 0 {
+            return Ok(Vec::from_slice(self.alloc, b"/")?);
+        }
+        self.path()
+    }
+
+    fn byte(&mut self) -> [u8; 2] {
+        [b'0', b'0' + (self.draw(4) % 4) as u8]
+    }
+}
+
+fn line_of(alloc: Global, words: &[&[u8]]) -> Result<Vec<u8>, Fail> {
+    let mut line = Vec::new(alloc);
+    for word in words {
+        if !line.is_empty() {
+            line.push(b' ')?;
+        }
+        line.extend_from_slice(word)?;
+    }
+    Ok(line)
+}
+
+// Sets one, or seldom 33 in one directory, which is more than it may have.
+fn put_sets(drawn: &mut Drawn) -> Result<(), Fail> {
+    let byte = drawn.byte();
+    if drawn.draw(300) == 0 {
+        for place in 0..33u8 {
+            drawn.put(&[b"set", &[b'y', b'/', b'A' + place], &byte])?;
         }
     }
+    let path = drawn.path()?;
+    drawn.put(&[b"set", &path, &byte])
 }
 
-// The parents of a commit: first where its branch is, then others, seldom more than three.
-fn draw_parents(alloc: Global, drawn: &mut Drawn, to: usize) -> Result<Vec<Number>, Fail> {
-    let mut parents = Vec::new(alloc);
-    if let Some(Some(head)) = drawn.heads.get(to) {
-        parents.push(*head)?;
-    }
-    let most = if drawn.draw(4) == 0 { 17 } else { 4 };
-    for _ in 0..drawn.draw(most) {
-        let parent = drawn.draw_commit();
-        if drawn.commits.len() > 0 && !parents.contains(&parent) {
-            parents.push(parent)?;
-        }
-    }
-    Ok(parents)
-}
-
-// A tree of one entry, or of two of which one is a directory of one entry: its lines, and the name of its root.
-fn put_tree(alloc: Global, drawn: &mut Drawn) -> Result<Hash, Fail> {
-    let byte = (drawn.draw(4) % 4) as u8;
-    let digits = [b'0', b'0' + byte];
-    let contents = Hash(Sha256::digest(&[byte]));
-    drawn.put(&[b"set x ", &digits], &Reply::Accepted)?;
-    let mut entries = Vec::new(alloc);
-    if drawn.draw(2) == 0 {
-        drawn.put(&[b"set d/y ", &digits], &Reply::Accepted)?;
-        let below = [entry(alloc, b"y", false, contents)?];
-        entries.push(entry(alloc, b"d", true, named_root(&below)?)?)?;
-    }
-    entries.push(entry(alloc, b"x", false, contents)?)?;
-    named_root(&entries)
-}
-
-// The name of a root that is within the model's limits.
-fn named_root(entries: &[Entry]) -> Result<Hash, Fail> {
-    if entries.len() > 32 || !entries.iter().all(|entry| entry.step.bytes().len() <= 255) {
-        return Err("too large")?;
-    }
-    Ok(root_name(entries))
-}
-
-fn entry(alloc: Global, step: &[u8], is_directory: bool, name: Hash) -> Result<Entry, Fail> {
-    Ok(Entry {
-        step: Step::of(Blob::copy_of(alloc, step)?),
-        is_directory,
-        name,
-    })
-}
-
-// A commit of a tree to a branch. Where the commit is there already, the branch stays.
-fn put_commit(alloc: Global, drawn: &mut Drawn) -> Result<(), Fail> {
-    let to = drawn.draw_branch();
-    let parents = draw_parents(alloc, drawn, to)?;
-    drawn.put(&[b"empty"], &Reply::Accepted)?;
-    for parent in &parents {
-        let name = drawn.named(*parent)?;
-        drawn.put(&[b"parent ", &name], &Reply::Accepted)?;
-    }
-    let root = put_tree(alloc, drawn)?;
-    let info = Info {
-        date: 7,
-        author: Blob::copy_of(alloc, b"me")?,
-        message: Blob::copy_of(alloc, b"two words")?,
+// Up to three parents, or seldom 80, most of them once more.
+fn put_parents(drawn: &mut Drawn) -> Result<(), Fail> {
+    let most = if drawn.draw(20) == 0 {
+        80
+    } else {
+        drawn.draw(4)
     };
-    let number = Number(drawn.commits.len() as u64);
-    let reply = make(alloc, &mut drawn.commits, &root, &parents, info)?;
-    drawn.put(&[b"commit ", &branch(to), b" 7 me two words"], &reply)?;
-    if let Reply::Committed(name) = &reply {
-        drawn.names.push(*name)?;
-        drawn.set_head(to, number);
+    for _ in 0..most {
+        let target = drawn.target()?;
+        drawn.put(&[b"parent", &target])?;
     }
     Ok(())
 }
 
-// What the model answers to a commit that is within its limits.
-fn make(
-    alloc: Global,
-    commits: &mut Commits,
-    root: &Hash,
-    parents: &[Number],
-    info: Info,
-) -> Result<Reply, Fail> {
-    let count = commits.len() as u64;
-    if parents.len() > 16 || !parents.iter().all(|parent| parent.get() < count) {
-        return Err("no parents")?;
-    }
-    if info.author.len() > 255 || info.message.len() > 4096 {
-        return Err("no info")?;
-    }
-    Ok(commits.commit(alloc, root, parents, info)?)
+fn put_commit(drawn: &mut Drawn, branch: [u8; 1]) -> Result<(), Fail> {
+    drawn.put(&[b"commit", &branch, b"7", b"me", b"two words"])
 }
 
-// A branch goes to some commit.
-fn put_branch(drawn: &mut Drawn) -> Result<(), Fail> {
-    let to = drawn.draw_branch();
-    let number = drawn.draw_commit();
-    let name = drawn.named(number)?;
-    drawn.put(&[b"branch ", &branch(to), b" ", &name], &Reply::Accepted)?;
-    drawn.set_head(to, number);
-    Ok(())
+// A commit of its own: first from where the branch is, then from others.
+fn put_merge(drawn: &mut Drawn) -> Result<(), Fail> {
+    let branch = drawn.branch();
+    drawn.put(&[b"empty"])?;
+    drawn.put(&[b"parent", &branch])?;
+    put_parents(drawn)?;
+    put_sets(drawn)?;
+    put_commit(drawn, branch)
+}
+
+// A command that changes the work or the branches, or a few that make a commit.
+fn put_change(drawn: &mut Drawn) -> Result<(), Fail> {
+    match drawn.draw(18) {
+        0 => drawn.put(&[b"empty"]),
+        1 | 2 => {
+            let target = drawn.target()?;
+            drawn.put(&[b"checkout", &target])
+        }
+        3..6 => put_sets(drawn),
+        6 => {
+            let path = drawn.path()?;
+            drawn.put(&[b"rm", &path])
+        }
+        7 | 8 => {
+            let target = drawn.target()?;
+            let from = drawn.place()?;
+            let to = drawn.path()?;
+            drawn.put(&[b"graft", &target, &from, &to])
+        }
+        9 | 10 => put_parents(drawn),
+        11 => {
+            let branch = drawn.branch();
+            let target = drawn.target()?;
+            drawn.put(&[b"branch", &branch, &target])
+        }
+        12 => {
+            let branch = drawn.branch();
+            drawn.put(&[b"branch-rm", &branch])
+        }
+        13 => {
+            let branch = drawn.branch();
+            put_commit(drawn, branch)
+        }
+        _ => put_merge(drawn),
+    }
+}
+
+// A command that only asks.
+fn put_question(drawn: &mut Drawn) -> Result<(), Fail> {
+    let path = drawn.path()?;
+    let place = drawn.place()?;
+    let target = drawn.target()?;
+    match drawn.draw(8) {
+        0 => drawn.put(&[b"get", &path]),
+        1 => drawn.put(&[b"list", &place]),
+        2 | 3 => drawn.put(&[b"cat", &target, &path]),
+        4 => drawn.put(&[b"show", &target]),
+        5 => {
+            let byte = drawn.byte();
+            drawn.put(&[b"hash", &byte])
+        }
+        6 => drawn.put(&[b"stat"]),
+        _ => drawn.put(&[b"branches"]),
+    }
 }
 
 // Asks of each commit and of each two, in one order or the other.
-fn put_questions(alloc: Global, drawn: &mut Drawn) -> Result<(), Fail> {
+fn put_history(drawn: &mut Drawn) -> Result<(), Fail> {
     for one in 0..drawn.commits.len() as u64 {
-        let name = drawn.named(Number(one))?;
-        let reply = drawn.commits.show(alloc, Number(one))?;
-        drawn.put(&[b"show ", &name], &reply)?;
-        let reply = drawn.commits.log(alloc, Number(one))?;
-        drawn.put(&[b"log ", &name], &reply)?;
+        let name = drawn.commit_word(one)?;
+        drawn.put(&[b"show", &name])?;
+        drawn.put(&[b"log", &name])?;
         for other in 0..one + 1 {
-            let first = if other % 2 == 0 { one } else { other };
-            put_lcas(alloc, drawn, Number(first), Number(one ^ other ^ first))?;
-        }
-    }
-    Ok(())
-}
-
-fn put_lcas(alloc: Global, drawn: &mut Drawn, one: Number, other: Number) -> Result<(), Fail> {
-    let reply = drawn.commits.lcas(alloc, one, other)?;
-    let first = drawn.named(one)?;
-    let second = drawn.named(other)?;
-    drawn.put(&[b"lcas ", &first, b" ", &second], &reply)
-}
-
-fn put_heads(alloc: Global, drawn: &mut Drawn) -> Result<(), Fail> {
-    for place in 0..BRANCHES {
-        let reply = match drawn.heads.get(place).copied().flatten() {
-            Some(number) => drawn.commits.log(alloc, number)?,
-            None => Reply::NoBranch(Blob::copy_of(alloc, &branch(place))?),
-        };
-        drawn.put(&[b"log ", &branch(place)], &reply)?;
-    }
-    Ok(())
-}
-
-#[test]
-fn drawn_histories_are_told_as_the_model_tells_them(rt: HostRuntime) -> Result<(), Fail> {
-    let alloc = rt.alloc();
-    for seed in 0..200 {
-        let mut drawn = Drawn::new(alloc, seed);
-        for _ in 0..4 + seed % 9 {
-            put_commit(alloc, &mut drawn)?;
-            if drawn.draw(3) == 0 {
-                put_branch(&mut drawn)?;
+            let second = drawn.commit_word(other)?;
+            if other % 2 == 0 {
+                drawn.put(&[b"lcas", &name, &second])?;
+            } else {
+                drawn.put(&[b"lcas", &second, &name])?;
             }
         }
-        put_questions(alloc, &mut drawn)?;
-        put_heads(alloc, &mut drawn)?;
+    }
+    Ok(())
+}
+
+// The replies that are drawn, among others, from the line feed before them on.
+const REPLIES: [&[u8]; 23] = [
+    b"\nabsent\n",
+    b"\nat ",
+    b"\nbranches ",
+    b"\ncommit ",
+    b"\ncommitted ",
+    b"\ncontents\n",
+    b"\ndir ",
+    b"\nexisting ",
+    b"\nhash ",
+    b"\nhead-moved ",
+    b"\nlcas 0\n",
+    b"\nlcas 1 ",
+    b"\nlcas 2 ",
+    b"\nlimit depth\n",
+    b"\nlimit entries\n",
+    b"\nlimit parents\n",
+    b"\nlist 0\n",
+    b"\nlist 2 ",
+    b"\nlog ",
+    b"\nno-branch ",
+    b"\nno-commit ",
+    b"\nstat ",
+    b"\nvalue ",
+];
+
+#[test]
+fn drawn_scripts_are_answered_as_the_model_answers_them(rt: HostRuntime) -> Result<(), Fail> {
+    let alloc = rt.alloc();
+    let mut met = Vec::from_slice(alloc, b"\n")?;
+    for seed in 0..300 {
+        let mut drawn = Drawn::new(alloc, seed);
+        for _ in 0..20 + seed % 60 {
+            put_change(&mut drawn)?;
+            if drawn.draw(2) == 0 {
+                put_question(&mut drawn)?;
+            }
+        }
+        put_history(&mut drawn)?;
         let (status, said) = answers(alloc, &drawn.script, &[], &[])?;
         assert_eq!(rt; status, Status::Done);
         assert_eq!(rt; said, drawn.replies, "{seed}");
+        met.extend_from_slice(&said)?;
+    }
+    for reply in REPLIES {
+        assert!(rt; memmem::find(&met, reply).is_some(), "{reply:?}");
     }
     Ok(())
 }

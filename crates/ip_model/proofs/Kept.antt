@@ -28,7 +28,7 @@ use Rattle.ip_model.specs.Commits.{Told, told, kept, as_kept, IsOf, IsNext, name
 
 -- ---- lists and options
 
-again : {A B C : Type 0} (g : B → C) (f : A → B) (xs : List A) → map g (map f xs) ≡ map (λ x. g (f x)) xs
+pub again : {A B C : Type 0} (g : B → C) (f : A → B) (xs : List A) → map g (map f xs) ≡ map (λ x. g (f x)) xs
 again g f [] = refl
 again g f (x ∷ xs) = ap (λ ys. g (f x) ∷ ys) (again g f xs)
 
@@ -51,6 +51,14 @@ found_from p i (x ∷ xs) = by (p x) (found_from p (i + 1) xs)
     by : (b : Bool) → is_some (position_from p (i + 1) xs) ≡ list_any p xs → is_some (cond b (Some i) (position_from p (i + 1) xs)) ≡ (b || list_any p xs)
     by true ih = refl
     by false ih = ih
+
+position_mapped : {A B : Type 0} (p : B → Bool) (f : A → B) (i : ℕ) (xs : List A) → position_from p i (map f xs) ≡ position_from (λ x. p (f x)) i xs
+position_mapped p f i [] = refl
+position_mapped p f i (x ∷ xs) = ap (cond (p (f x)) (Some i)) (position_mapped p f (i + 1) xs)
+
+unmoved : (o : Option ℕ) → option_map (λ k. 0 + k) o ≡ o
+unmoved None = refl
+unmoved (Some k) = let e : 0 + k ≡ k = omega arith in ap Some e
 
 mapped_some : {A B : Type 0} (f : A → B) (o : Option A) → is_some (option_map f o) ≡ is_some o
 mapped_some f None = refl
@@ -95,10 +103,10 @@ reply_of n None = Reply.Accepted
 reply_of n (Some t) = Reply.Commit t.name n t.root (map (λ (p : CommitParent). p.name) t.parents) t.info
 
 module _ (ms : List Commit) (r : Repository) (of : IsOf ms r) where
-  size : length r.commits ≡ length ms
+  pub size : length r.commits ≡ length ms
   size = sym (length-map r.commits told) ∙ (ap length of.commits ∙ length-map ms kept)
 
-  place : (n : ℕ) → commit_at r n ≡ slice_get r.commits n
+  pub place : (n : ℕ) → commit_at r n ≡ slice_get r.commits n
   place n =
       let floor = of.floor in
       let least : nat_le r.floor n ≡ true = grind (arith, nat_tests, floor) in
@@ -116,7 +124,7 @@ module _ (ms : List Commit) (r : Repository) (of : IsOf ms r) where
   in_reach (x ∷ xs) zero low = refl
   in_reach (x ∷ xs) (suc n) low = in_reach xs n (omega (arith, low))
 
-  named : (n : ℕ) → n < length ms → name_in ms n ≡ name_at r n
+  pub named : (n : ℕ) → n < length ms → name_in ms n ≡ name_at r n
   named n low = in_reach ms n low ∙ ap (λ o. unwrap_or o []) (sym (name_found n))
 
   -- ---- what `show` tells
@@ -184,6 +192,15 @@ module _ (ms : List Commit) (r : Repository) (of : IsOf ms r) where
       ∙ (found_from (λ (c : Repository.Commit). same_bytes c.name hash) 0 r.commits
       ∙ (sym (any_mapped (λ (t : Told). same_bytes t.name hash) told r.commits)
       ∙ (ap (list_any (λ (t : Told). same_bytes t.name hash)) of.commits ∙ any_mapped (λ (t : Told). same_bytes t.name hash) kept ms))))
+
+  pub placed : (hash : Hash) → number_named r hash ≡ position (λ (m : Commit). same_bytes m.name hash) ms
+  placed hash =
+      let p = λ (c : Repository.Commit). same_bytes c.name hash in
+      let q = λ (t : Told). same_bytes t.name hash in
+      let m = λ (m : Commit). same_bytes m.name hash in
+      ap (λ f. option_map (λ k. f + k) (position p r.commits)) of.floor ∙ (unmoved (position p r.commits)
+      ∙ (position_from-zero p r.commits
+      ∙ (sym (position_mapped q told 0 r.commits) ∙ (ap (position_from q 0) of.commits ∙ (position_mapped q kept 0 ms ∙ sym (position_from-zero m ms))))))
 
   module _ (root : Hash) (tree : Tree) (ns : List ℕ) (info : Info) (is_root : root ≡ root_name tree) (below : All (λ n. n < length ms) ns) where
     abbrev c : Repository.Commit

@@ -1,3 +1,12 @@
+mod BranchLaws
 mod Kept
 mod Named
+mod PartLaws
+mod Placing
 mod Reaching
+mod SmallTrees
+mod WorkLaws
+mod MachineLaws
+mod Grafted
+mod Resolved
+mod CheckedOut

@@ -1,4 +1,4 @@
--- The name of a root by its entries.
+-- The name of a directory by its entries.
 use Rattle.std.proofs.Common.{◌≡◌, ◌≤◌, List, [], ◌∷◌, ◌++◌, refl, sym, ap, subst, ◌∙◌, Bool, true, false, length, map, flat_map, arith}
 use Rattle.std.specs.Prelude.{nat_le}
 use Rattle.std.proofs.lemmas.Bool.Decides.{nat_tests}
@@ -6,14 +6,9 @@ use Rattle.std.proofs.lemmas.List.{length-map}
 use Rattle.sha2.specs.Sha256.{sha256}
 use Rattle.ip_spec.specs.Path.{Step}
 use Rattle.ip_spec.specs.Record.{Child, hashed_leaf, hashed_inode, short_text, u8, u32}
-use Rattle.ip_spec.specs.Tree.{Tree}
-use Rattle.ip_spec.specs.Shape.{part_name, children_of, entries_name, root_name}
-use Rattle.ip_spec.proofs.Naming.{root_name-entries}
+use Rattle.ip_spec.specs.Shape.{part_name, children_of, entries_name}
 use Rattle.ip_model.specs.declared.names.Entry.{Entry}
-use Rattle.ip_model.specs.Names.{child_in, AreEntries, hashed_entry}
-
-abbrev paired : Entry → Step × Child
-paired e = (e.step, child_in e)
+use Rattle.ip_model.specs.Names.{paired, hashed_entry}
 
 spelled_same : (es : List Entry) → flat_map hashed_entry es ≡ flat_map (λ (e : Step × Child). short_text e.0 ++ u8 e.1.0 ++ e.1.1) (map paired es)
 spelled_same [] = refl
@@ -29,7 +24,7 @@ few_entries es few = ap (λ (b : Bool). elim b [ true ↦ sha256 (hashed_leaf es
     few_test : nat_le (length es) 32 ≡ true
     few_test = grind (arith, nat_tests)
 
-pub named : (es : List Entry) (t : Tree) → length es ≤ 32 → AreEntries es t → sha256 (2 ∷ u32 (length es) ++ flat_map hashed_entry es) ≡ root_name t
-named es t few are =
+pub named : (es : List Entry) → length es ≤ 32 → sha256 (2 ∷ u32 (length es) ++ flat_map hashed_entry es) ≡ entries_name (map paired es)
+named es few =
     let size : length (map paired es) ≤ 32 = subst (λ n. n ≤ 32) (sym (length-map es paired)) few in
-    ap sha256 (hashed_same es) ∙ (sym (few_entries (map paired es) size) ∙ (ap entries_name (sym are) ∙ sym (root_name-entries t)))
+    ap sha256 (hashed_same es) ∙ sym (few_entries (map paired es) size)

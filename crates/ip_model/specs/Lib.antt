@@ -1,3 +1,5 @@
 pub mod Ancestry
 pub mod Commits
 pub mod Names
+pub mod Parts
+pub mod Working

@@ -1,16 +1,17 @@
 // Commits as they were made, and what is told of them.
-ghost use Rattle.std.specs.Prelude.{◌≡◌, ℕ, ◌<◌, ◌≤◌, ◌++◌, [], ◌∷◌, length, map, reverse, option_map, slice_get, All, IfOk};
+ghost use Rattle.std.specs.Prelude.{◌≡◌, ℕ, ◌<◌, ◌≤◌, ◌++◌, [], ◌∷◌, length, map, reverse, option_map, position, slice_get, All, IfOk};
 ghost use Rattle.std.specs.List.{list_any};
 ghost use Rattle.ip_spec.specs.declared.reply.Reply.TheVariants as Reply;
 ghost use Rattle.ip_spec.specs.Path.{same_bytes};
+ghost use Rattle.ip_spec.specs.Record.{IsInfo};
 ghost use Rattle.ip_spec.specs.Tree.{Tree};
 ghost use Rattle.ip_spec.specs.Shape.{root_name};
-ghost use Rattle.ip_spec.specs.Repository.{Repository, IsRepository, name_at};
+ghost use Rattle.ip_spec.specs.Repository.{Repository, IsRepository, name_at, number_named};
 ghost use Rattle.ip_spec.specs.History.{ancestors, lcas};
 ghost use Rattle.ip_spec.specs.Step.{commit_reply, new_commit};
 ghost use Rattle.ip_model.specs.Commits.{IsOf, IsNext, name_in, history_in, told_reply};
 
-use crate::History;
+use crate::history::History;
 use crate::names::commit_name;
 use ip_base::{Hash, Hashes, Info, Items, Memory, Number, Numbers};
 use ip_spec::record::{Parent, Parents};
@@ -67,11 +68,8 @@ impl Commits {
         parents: &[Number],
         info: Info,
     ) -> Result<Reply, Memory>
-        requires few { length parents.now ≤ 16 }
-        requires there { All (λ n. n < length self.old) parents.now }
-        requires author { length info.author ≤ 255 }
-        requires message { length info.message ≤ 4096 }
-        ensures { (r : Repository) (tree : Tree) → root.now ≡ root_name tree → IsOf self.old r → IfOk result (λ reply. IsNext r (new_commit r tree parents.now info) reply self.new) }
+        ensures { (r : Repository) (tree : Tree) → IsInfo info → length parents.now ≤ 16 → All (λ n. n < length self.old) parents.now → root.now ≡ root_name tree → IsOf self.old r →
+            IfOk result (λ reply. IsNext r (new_commit r tree parents.now info) reply self.new) }
     {
         let parents = self.parents_of(alloc, parents)?;
         let names = names_of(alloc, parents.as_slice())?;
@@ -147,13 +145,23 @@ impl Commits {
         self.commits.get(number.get() as usize)
     }
 
-    // The name of a commit, and zeros for none.
-    fn name_of(&self, number: Number) -> Hash
+    /// The name of a commit, and zeros for none.
+    pub fn name_of(&self, number: Number) -> Hash
         ensures { result ≡ name_in self.now number }
     {
         match self.commits.get(number.get() as usize) {
             Some(commit) => commit.name,
             None => Hash([0; 32]),
+        }
+    }
+
+    /// The number of the commit of a name.
+    pub fn number_named(&self, name: &Hash) -> Option<Number>
+        ensures { (r : Repository) → IsOf self.now r → result ≡ number_named r name.now }
+    {
+        match place_named(self.commits.as_slice(), name) {
+            Some(place) => Some(Number(place as u64)),
+            None => None,
         }
     }
 
@@ -185,6 +193,17 @@ fn shown(alloc: Global, number: Number, commit: &Commit) -> Result<Reply, Memory
             message: commit.info.message.copy(alloc)?,
         },
     })
+}
+
+fn place_named(commits: &[Commit], name: &Hash) -> Option<usize>
+    ensures { result ≡ position (λ c. same_bytes c.name name.now) commits.now }
+{
+    for i in 0..commits.len() {
+        if commits[i].name.cmp(name).is_eq() {
+            return Some(i);
+        }
+    }
+    None
 }
 
 fn names_of(alloc: Global, parents: &[Parent]) -> Result<Hashes, Memory>

@@ -3,10 +3,12 @@
 
 mod commits;
 mod history;
+mod machine;
 mod names;
 #[cfg(test)]
 mod tests;
+mod trees;
+mod work;
 
-pub use commits::{Commit, Commits};
 pub use history::History;
-pub use names::{Entry, commit_name, root_name};
+pub use machine::Machine;
