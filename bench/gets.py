@@ -5,7 +5,7 @@
 
 A thread writes the lines `get PATH` in large pieces, and the replies are read in large pieces, each of them compared; timed
 is from the first line's writing to the last reply's reading. The tree is in the work after edits, or it was
-committed, when each get reads the records on its path. The limits of the same run: a small program that answers each line
+committed, when each get reads the records on its path. The limits of the same run: a small program of Python that answers each line
 with the same reply, by one call of the system a reply as `serve` does it, and knows nothing; and `cat`, which carries the lines in
 large pieces. Beside them stands sqlite: a row by its primary key, in this process and without a pipe.
 """

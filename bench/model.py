@@ -1,0 +1,223 @@
+"""A plain model of a store, for the tests of this folder: what each line is answered, with the names of docs/FORMAT.md. It knows
+the lines that the tests give, and directories of at most 32 entries."""
+
+import hashlib
+import struct
+
+
+def sha(data):
+    return hashlib.sha256(data).digest()
+
+
+def short(text):
+    """A short text of a name."""
+    return bytes([len(text)]) + text.encode("latin-1")
+
+
+def steps_of(path):
+    return tuple(path.split("/"))
+
+
+def is_under(path, place):
+    """Whether a path is a place or stands under it."""
+    return path[: len(place)] == place
+
+
+def placed(tree, path, data):
+    """The tree with bytes at a path: what stood under it, and contents on the way to it, are gone."""
+    kept = {other: its for other, its in tree.items() if not is_under(other, path) and not is_under(path, other)}
+    kept[path] = data
+    return kept
+
+
+def without(tree, path):
+    """The tree without all that stands under a path."""
+    return {other: its for other, its in tree.items() if not is_under(other, path)}
+
+
+def entries(tree, place):
+    """The entries of the directory at a place: of each step, whether it leads to a directory."""
+    depth = len(place)
+    return {path[depth]: len(path) > depth + 1 for path in tree if len(path) > depth and is_under(path, place)}
+
+
+def root_name(tree, place=()):
+    """The name of the directory at a place."""
+    found = entries(tree, place)
+    text = b"\x02" + struct.pack("<I", len(found))
+    for step in sorted(found):
+        if found[step]:
+            text += short(step) + b"\x02" + root_name(tree, place + (step,))
+        else:
+            text += short(step) + b"\x01" + sha(tree[place + (step,)])
+    return sha(text)
+
+
+def said(tree, path):
+    """The reply to `get` of a path."""
+    if path in tree:
+        return "value " + (tree[path].hex() or "-")
+    found = entries(tree, path)
+    return f"dir {len(found)}" if found else "absent"
+
+
+def listed(tree, place):
+    """The reply to `list` of a place."""
+    if place in tree:
+        return "contents"
+    found = entries(tree, place)
+    if place and not found:
+        return "absent"
+    return " ".join([f"list {len(found)}"] + [("d:" if found[step] else "c:") + step for step in sorted(found)])
+
+
+def bytes_of(word):
+    return b"" if word == "-" else bytes.fromhex(word)
+
+
+class Commit:
+    """A commit: its number, its name, and what is named by it."""
+
+    def __init__(self, number, tree, parents, date, author, message):
+        self.number, self.tree, self.parents = number, tree, parents
+        self.date, self.author, self.message = date, author, message
+        self.root = root_name(tree)
+        self.name = sha(self.text()).hex()
+
+    def text(self):
+        """What the name is the SHA-256 of."""
+        parents = b"".join(bytes.fromhex(parent.name) for parent in self.parents)
+        message = self.message.encode("latin-1")
+        return (
+            b"\x04" + self.root + bytes([len(self.parents)]) + parents + struct.pack("<Q", self.date)
+            + short(self.author) + struct.pack("<H", len(message)) + message
+        )
+
+    def shown(self):
+        """The reply to `show`."""
+        words = ["commit", self.name, str(self.number), self.root.hex(), str(self.date), self.author, str(len(self.parents))]
+        return " ".join(words + [parent.name for parent in self.parents] + [self.message])
+
+    def ancestors(self):
+        """The commit and its ancestors, descending by number."""
+        seen, left = {}, [self]
+        while left:
+            commit = left.pop()
+            if commit.number not in seen:
+                seen[commit.number] = commit
+                left += commit.parents
+        return [seen[number] for number in sorted(seen, reverse=True)]
+
+
+class Refused(Exception):
+    """A line is refused, with this reply."""
+
+
+class Model:
+    """A store and its work."""
+
+    def __init__(self):
+        self.commits = []
+        self.names = {}
+        self.branches = {}
+        self.forget_work()
+
+    def copy(self):
+        """A model that goes its own way."""
+        other = Model()
+        other.commits, other.names, other.branches = list(self.commits), dict(self.names), dict(self.branches)
+        other.tree, other.parents = self.tree, self.parents
+        return other
+
+    def forget_work(self):
+        """The work is the empty one, as when a store is opened."""
+        self.tree, self.parents = {}, []
+
+    def reply(self, line):
+        """What a line is answered; it is done."""
+        word, *rest = line.split(" ")
+        try:
+            return getattr(self, "do_" + word.replace("-", "_"))(*rest)
+        except Refused as refused:
+            return str(refused)
+
+    def at(self, ref):
+        """The commit that a REF names."""
+        if ref.startswith("@"):
+            if ref[1:] not in self.names:
+                raise Refused("no-commit " + ref[1:])
+            return self.names[ref[1:]]
+        if ref not in self.branches:
+            raise Refused("no-branch " + ref)
+        return self.branches[ref]
+
+    def do_empty(self):
+        self.forget_work()
+        return "ok"
+
+    def do_checkout(self, ref):
+        commit = self.at(ref)
+        self.tree, self.parents = commit.tree, [commit]
+        return "at " + commit.name
+
+    def do_parent(self, ref):
+        commit = self.at(ref)
+        if commit not in self.parents:
+            if len(self.parents) == 16:
+                raise Refused("limit parents")
+            self.parents = self.parents + [commit]
+        return "ok"
+
+    def do_set(self, path, word):
+        self.tree = placed(self.tree, steps_of(path), bytes_of(word))
+        return "ok"
+
+    def do_rm(self, path):
+        if said(self.tree, steps_of(path)) == "absent":
+            raise Refused("absent")
+        self.tree = without(self.tree, steps_of(path))
+        return "ok"
+
+    def do_get(self, path):
+        return said(self.tree, steps_of(path))
+
+    def do_list(self, place):
+        return listed(self.tree, () if place == "/" else steps_of(place))
+
+    def do_cat(self, ref, path):
+        return said(self.at(ref).tree, steps_of(path))
+
+    def do_commit(self, branch, date, author, *message):
+        head = self.branches.get(branch)
+        if head is not None and head not in self.parents:
+            raise Refused("head-moved " + head.name)
+        commit = Commit(len(self.commits), self.tree, self.parents, int(date), author, " ".join(message))
+        if commit.name in self.names:
+            raise Refused("existing " + commit.name)
+        self.commits.append(commit)
+        self.names[commit.name] = self.branches[branch] = commit
+        self.parents = [commit]
+        return "committed " + commit.name
+
+    def do_branch(self, name, ref):
+        self.branches[name] = self.at(ref)
+        return "ok"
+
+    def do_branch_rm(self, name):
+        self.at(name)
+        del self.branches[name]
+        return "ok"
+
+    def do_branches(self):
+        rows = [f"{name} {self.branches[name].name}" for name in sorted(self.branches)]
+        return " ".join([f"branches {len(rows)}"] + rows)
+
+    def do_show(self, ref):
+        return self.at(ref).shown()
+
+    def do_log(self, ref):
+        found = self.at(ref).ancestors()
+        return " ".join([f"log {len(found)}"] + [commit.name for commit in found])
+
+    def do_stat(self):
+        return f"stat 0 {len(self.commits)} {len(self.branches)} idle"
