@@ -583,6 +583,24 @@ def init_on_a_full_disk(bed):
     return "status 7"
 
 
+@check
+def few_open_files(bed):
+    seen = []
+    for most in range(4, 17):
+        limit = {"preexec_fn": lambda: resource.setrlimit(resource.RLIMIT_NOFILE, (most, most))}
+        made = bed.call("init", bed.folder(), **limit)
+        folder = bed.store("commit first 0 a m")
+        served = bed.serve(folder, script(*SOME), **limit)
+        for ended in (made, served):
+            need(ended.status in (DONE, DISK), f"{most} files: {ended.words[0]} has status {ended.status}")
+        acknowledged = served.out.count(b"committed ")
+        number = int(bed.serve(folder, script("stat")).must(DONE, None).out.split()[2])
+        need(number - 1 in (acknowledged, acknowledged + 1), f"{most} files: {number - 1} commits, {acknowledged} acknowledged")
+        seen.append((most, made.status, served.status))
+    same(seen[-1][1:], (DONE, DONE), "the statuses with most files")
+    return f"so many may be open, init, serve: {seen[:4]} ..; what was acknowledged is there"
+
+
 # Scripts in pieces
 
 
