@@ -1,0 +1,3 @@
+mod Taking
+mod Plain
+pub mod OneCall

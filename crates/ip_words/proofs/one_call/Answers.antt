@@ -1,0 +1,8 @@
+use Rattle.ip_words.proofs.OneCall.{one_asked, allowed}
+use Rattle.ip_words.proofs.one_call.Goals as goal
+
+pub returns-clause-one : goal.returns-clause-one
+returns-clause-one c = one_asked
+
+pub returns-clause-allowed : goal.returns-clause-allowed
+returns-clause-allowed c = allowed
