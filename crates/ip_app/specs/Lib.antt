@@ -9,4 +9,3 @@ pub mod Run
 pub mod Serving
 pub mod Statuses
 pub mod Turns
-pub mod Words

@@ -15,7 +15,7 @@ use Rattle.ip_spec.specs.Path.{Bytes}
 use Rattle.ip_spec.specs.Repository.{Repository, no_repository}
 use Rattle.ip_spec.specs.Machine.{State, opened}
 use Rattle.ip_spec.specs.Script.{whole_lines}
-use Rattle.ip_store.specs.Control.{control_in, default_chunk, IsFresh}
+use Rattle.ip_store.specs.Control.{control_in, IsFresh}
 use Rattle.ip_store.specs.declared.store.InitFault.{InitFault}
 use Rattle.ip_store.specs.declared.opening.OpenFault.{OpenFault}
 use Rattle.ip_store.specs.declared.store.Store.{Store}
@@ -184,10 +184,10 @@ init_status (Ok u) = Status.Done
 init_status (Err InitFault.Existing) = Status.Exists
 init_status (Err InitFault.Ground) = Status.GroundFault
 
--- no slot was open, and a store without commits stands there, of which a crash leaves all
-pub record IsMade (old new : Told) : Type 0 where
+-- no slot was open, and a store without commits and with chunks of so many bytes stands there, of which a crash leaves all
+pub record IsMade (chunk : ℕ) (old new : Told) : Type 0 where
   pub closed : live_index (control_in old.held) ≡ None
-  pub fresh : IsFresh default_chunk new.held
+  pub fresh : IsFresh chunk new.held
   pub kept : IsKept new Control
   pub stands : EachImageNow new (λ image. StandsFor image no_repository)
   pub order : IsInOrder new
@@ -197,19 +197,21 @@ pub record IsThere (old new : Told) : Type 0 where
   pub gate_open : IsSome (live_index (control_in old.held))
   pub only : ChangesOnly NoFile old new
 
-abbrev pub InitRow : Status → (tells : Bool) → Told → Told → GroundCounts → GroundCounts → Type 0
-InitRow Status.Done tells old new before after = IsTrue tells → IsMade old new
-InitRow Status.Exists tells old new before after = IsTrue tells → IsThere old new
-InitRow Status.GroundFault tells old new before after = Rose before.file_faults after.file_faults
-InitRow _ tells old new before after = ⊥
+abbrev pub InitRow : (chunk : ℕ) → Status → (tells : Bool) → Told → Told → GroundCounts → GroundCounts → Type 0
+InitRow chunk Status.Done tells old new before after = IsTrue tells → IsMade chunk old new
+InitRow chunk Status.Exists tells old new before after = IsTrue tells → IsThere old new
+InitRow chunk Status.GroundFault tells old new before after = Rose before.file_faults after.file_faults
+-- before the files are touched
+InitRow chunk Status.Memory tells old new before after = IsTrue tells → ChangesOnly NoFile old new
+InitRow chunk _ tells old new before after = ⊥
 
-pub record Inits (old new : Outside) (status : Status) : Type 0 where
+pub record Inits (chunk : ℕ) (old new : Outside) (status : Status) : Type 0 where
   pub goes_on : GoesOn old new
   pub left : new.left ≡ old.left
   pub turns : new.turns ≡ old.turns
   -- at no moment does another file change, and nothing is said
   pub only : IsTrue old.ground_tells → ChangesOnly (Only Control) old.told new.told
-  pub row : InitRow status old.ground_tells old.told new.told old.counts new.counts
+  pub row : InitRow chunk status old.ground_tells old.told new.told old.counts new.counts
 
 -- ---- a call that is refused
 

@@ -2,8 +2,7 @@
 --     code_of status, status_line status
 use Rattle.std.specs.Prelude.{ℕ, [], ◌∷◌, ◌++◌, Option, Some, None, codes}
 use Rattle.std.specs.Fmt.{decimal}
-use Rattle.ip_ground.specs.declared.names.FileName.{FileName}
-use Rattle.ip_ground.specs.declared.names.FileName.TheVariants.{Control, Chunk, Prefix, Mapping, Done}
+use Rattle.ip_host.specs.Names.{file_text}
 use Rattle.hex.specs.Hex.{encode_lower}
 use Rattle.ip_spec.specs.Path.{Bytes, space, line_feed}
 use Rattle.ip_spec.specs.Record.{Hash}
@@ -24,14 +23,6 @@ code_of Status.Memory = 8
 code_of (Status.Limit bound) = 9
 code_of Status.Unfinished = 10
 code_of Status.Exists = 11
-
--- a file's name in the store's folder
-abbrev pub file_text : FileName → Bytes
-file_text Control = codes "control"
-file_text (Chunk number) = codes "chunk." ++ decimal number
-file_text (Prefix attempt) = codes "prefix." ++ decimal attempt
-file_text (Mapping attempt) = codes "mapping." ++ decimal attempt
-file_text (Done attempt) = codes "done." ++ decimal attempt
 
 -- two names, as lower-case digits
 abbrev pub names_text : Hash → Hash → Bytes

@@ -3,10 +3,12 @@ ghost use Rattle.std.specs.Prelude.{◌≡◌, ◌++◌, ◌∷◌, OnOk, OnErr}
 ghost use Rattle.std.specs.Fmt.{decimal};
 ghost use Rattle.ip_spec.specs.Path.{space};
 ghost use Rattle.hex.specs.Hex.{encode_lower};
-ghost use Rattle.ip_app.specs.Statuses.{code_of, file_text, names_text, status_line};
+ghost use Rattle.ip_host.specs.Names.{file_text};
+ghost use Rattle.ip_app.specs.Statuses.{code_of, names_text, status_line};
 
 use ip_base::{Hash, Memory};
 use ip_ground::FileName;
+use ip_host::file_name;
 use itoa::Buffer;
 
 /// What a source has too much of.
@@ -102,24 +104,11 @@ fn put_number(n: u64, out: &mut Vec<u8>) -> Result<(), Memory>
     Ok(out.extend_from_slice(buffer.format(n).as_bytes())?)
 }
 
-// A file's name, by the number behind its kind.
-fn put_numbered(kind: &[u8], n: u64, out: &mut Vec<u8>) -> Result<(), Memory>
-    ensures { OnOk result (out.new.items ≡ out.old.items ++ (kind.now ++ decimal n)) }
-{
-    out.extend_from_slice(kind)?;
-    put_number(n, out)
-}
-
 fn put_file(file: FileName, out: &mut Vec<u8>) -> Result<(), Memory>
     ensures { OnOk result (out.new.items ≡ out.old.items ++ file_text file) }
 {
-    match file {
-        FileName::Control => Ok(out.extend_from_slice(b"control")?),
-        FileName::Chunk(number) => put_numbered(b"chunk.", number, out),
-        FileName::Prefix(attempt) => put_numbered(b"prefix.", attempt, out),
-        FileName::Mapping(attempt) => put_numbered(b"mapping.", attempt, out),
-        FileName::Done(attempt) => put_numbered(b"done.", attempt, out),
-    }
+    let name = file_name(*out.allocator(), file)?;
+    Ok(out.extend_from_slice(name.as_bytes())?)
 }
 
 fn put_damaged(file: FileName, at: u64, out: &mut Vec<u8>) -> Result<(), Memory>

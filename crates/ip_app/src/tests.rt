@@ -76,10 +76,20 @@ const COMMIT_REPLIES: &[u8] = b"ok\n\
     head-moved 363243354106fe784e750f162f5147ec8fd3d66a3f3b58508b264639b524e93c\n\
     stat 0 1 1 idle\n";
 
+const FIRST_SCRIPT: &[u8] = b"empty\nset a 01\nget a\nget b\nhash -\n\
+    commit main 0 alice first\ncommit main 1 alice second\nstat\n";
+
+const FIRST_REPLIES: &[u8] = b"ok\nok\nvalue 01\nabsent\n\
+    hash e3b0c44298fc1c149afbf4c8996fb92427ae41e4649b934ca495991b7852b855\n\
+    committed 4ae768f4628076a3efe55cb1882a6555fe2fd49945e242f52d96a45f4c77d1b3\n\
+    committed f3237787f9a0d966df6a5f9915070ae3ead3552d1b48fdf208e20a3bfe0da280\n\
+    stat 0 2 1 idle\n";
+
 #[test]
 fn scripts_are_answered(rt: HostRuntime) -> Result<(), Fail> {
     let alloc = rt.alloc();
-    let rows: [(&[u8], &[u64], Status, &[u8]); 9] = [
+    let rows: [(&[u8], &[u64], Status, &[u8]); 10] = [
+        (FIRST_SCRIPT, &[], Status::Done, FIRST_REPLIES),
         (SCRIPT, &[], Status::Done, REPLIES),
         (b"", &[], Status::Done, b""),
         (b"stat", &[], Status::Unfinished, b""),
@@ -501,6 +511,34 @@ fn other_bytes_behind_an_open_gate_are_damage(rt: HostRuntime) -> Result<(), Fai
     };
     assert_eq!(rt; status, damaged);
     assert_eq!(rt; bench.said(alloc)?.len(), 0);
+    Ok(())
+}
+
+// The size of chunks stands at byte 24 of a slot, in eight bytes from the lowest on.
+#[test]
+fn a_store_has_chunks_of_the_size_that_is_asked_for(rt: HostRuntime) -> Result<(), Fail> {
+    let alloc = rt.alloc();
+    let rows: [(&[&str], [u8; 4]); 3] = [
+        (&["ipstore", "init", "mem"], [0, 0, 0x10, 0]),
+        (
+            &["ipstore", "init", "mem", "--chunk", "4096"],
+            [0, 0x10, 0, 0],
+        ),
+        (
+            &["ipstore", "init", "--chunk=1073741824", "mem"],
+            [0, 0, 0, 0x40],
+        ),
+    ];
+    for (given, size) in rows {
+        let mut bench = bench(alloc, &[])?;
+        let mut none = source(alloc, b"", &[])?;
+        let words = words(alloc, given)?;
+        let status = run(alloc, &words, &mut none, &mut bench, &mut Silent);
+        assert_eq!(rt; status, Status::Done);
+        let mut slot = [0; 4];
+        assert_eq!(rt; bench.read(FileName::Control, 24, &mut slot), Ok(4));
+        assert_eq!(rt; slot, size);
+    }
     Ok(())
 }
 

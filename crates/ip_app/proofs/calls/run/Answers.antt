@@ -1,0 +1,55 @@
+use Rattle.std.proofs.Common.{refl, subst, ◌≡◌, List, ℕ, Option, Some}
+use Rattle.std.proofs.Math.Nat.{le_refl}
+use Rattle.ip_ground.specs.Told.{NoFile}
+use Rattle.ip_ground.proofs.Spans.{only_nowhere}
+use Rattle.ip_ground.proofs.Rising.{falls_itself}
+use Rattle.ip_spec.specs.Path.{Bytes}
+use Rattle.ip_words.specs.declared.Call.{Call}
+use Rattle.ip_words.specs.Words.{Asks, IsRead, shown, texts_of}
+use Rattle.ip_words.proofs.OneCall.{same_size, not_both}
+use Rattle.ip_app.specs.declared.statuses.Status.{Status}
+use Rattle.ip_app.specs.declared.statuses.Status.TheVariants as status
+use Rattle.ip_app.specs.Outside.{Outside}
+use Rattle.ip_app.specs.Run.{Inits, Serves}
+use Rattle.ip_app.proofs.Moments.{opening_none}
+use Rattle.ip_app.proofs.RunLemmas.{begins_unopened}
+use Rattle.ip_app.proofs.calls.run.Goals as goal
+
+-- nothing was done
+serves_nothing : (s : Outside) → Serves s s status.Memory
+serves_nothing s = begins_unopened s s status.Memory (record { source_tells = refl; ground_tells = refl; log_tells = λ t. t; read_faults = le_refl s.read_faults; counts = falls_itself s.counts })
+    (λ told. only_nowhere s.told NoFile) (λ told. opening_none s.told s.told (only_nowhere s.told NoFile)) refl refl tt
+
+inits_with : (n m : ℕ) (old new : Outside) (s : Status) → n ≡ m → Inits n old new s → Inits m old new s
+inits_with n m old new s e h = subst (λ (k : ℕ). Inits k old new s) e h
+
+asked_for : (words : List Bytes) (read : Option Call) (call : Call) → read ≡ Some call → IsRead words read → Asks words (shown call)
+asked_for words read call e h = subst (IsRead words) e h
+
+pub returns-in-Err-clause-serve : goal.returns-in-Err-clause-serve
+returns-in-Err-clause-serve g c folder asks = serves_nothing _
+
+pub returns-in-Init-clause-refused : goal.returns-in-Init-clause-refused
+returns-in-Init-clause-refused g c nothing = absurd (nothing _ (asked_for _ _ _ c.in-Ok-Some.field-0-is c.in-Ok-Some.ensures))
+
+pub returns-in-Init-clause-nothing : goal.returns-in-Init-clause-nothing
+returns-in-Init-clause-nothing g c nothing = absurd (nothing _ (asked_for _ _ _ c.in-Ok-Some.field-0-is c.in-Ok-Some.ensures))
+
+pub returns-in-Serve-clause-refused : goal.returns-in-Serve-clause-refused
+returns-in-Serve-clause-refused g c nothing = absurd (nothing _ (asked_for _ _ _ c.in-Ok-Some.field-0-is c.in-Ok-Some.ensures))
+
+pub returns-in-Serve-clause-nothing : goal.returns-in-Serve-clause-nothing
+returns-in-Serve-clause-nothing g c nothing = absurd (nothing _ (asked_for _ _ _ c.in-Ok-Some.field-0-is c.in-Ok-Some.ensures))
+
+pub returns-in-Init-clause-init : goal.returns-in-Init-clause-init
+returns-in-Init-clause-init g c folder chunk asks =
+    let words = texts_of c.args.words.now in
+    let read = subst (λ (call : Call). Asks words (shown call)) c.in-Init.is (asked_for words _ _ c.in-Ok-Some.field-0-is c.in-Ok-Some.ensures) in
+    inits_with _ chunk _ _ c.init.result (same_size words _ _ _ _ read asks)
+    (record { goes_on = record { source_tells = refl; ground_tells = refl; log_tells = λ t. t; read_faults = le_refl _; counts = c.init.ensures.counts }; left = refl; turns = refl; only = c.init.ensures.only; row = c.init.ensures.row })
+
+pub returns-in-Serve-clause-init : goal.returns-in-Serve-clause-init
+returns-in-Serve-clause-init g c folder chunk asks =
+    let words = texts_of c.args.words.now in
+    let read = subst (λ (call : Call). Asks words (shown call)) c.in-Serve.is (asked_for words _ _ c.in-Ok-Some.field-0-is c.in-Ok-Some.ensures) in
+    absurd (not_both words _ _ _ asks read)
