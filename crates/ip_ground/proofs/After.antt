@@ -1,5 +1,5 @@
 -- A call before which the child has changed what is lent.
-use Rattle.std.proofs.Common.{inl, inr, ℕ, ◌<◌, List, ◌++◌, length, take, refl, sym, ◌∙◌, ap, subst, arith}
+use Rattle.std.proofs.Common.{◌≡◌, inl, inr, ℕ, ◌<◌, List, ◌++◌, length, take, refl, sym, ◌∙◌, ap, subst, arith}
 use Rattle.std.specs.Prelude.{OnOk, Result, Err, Option}
 use Rattle.std.proofs.lemmas.Result.{on_ok_weaker, on_err_weaker}
 use Rattle.std.proofs.lemmas.Bool.{cases_lt}
@@ -9,9 +9,9 @@ use Rattle.ip_ground.specs.declared.names.GroundFault.{GroundFault}
 use Rattle.ip_ground.specs.Contents.{Content, written, Torn}
 use Rattle.ip_ground.specs.Custody.{after_sync, after_settle}
 use Rattle.ip_ground.specs.ReplayLaws.{torn_itself}
-use Rattle.ip_ground.specs.Told.{Told, said, IsLoose, KeepsPast, ChangesLeft, KeepsFile, Only, NoFile, ChangesOnly}
+use Rattle.ip_ground.specs.Told.{Told, said, lending, IsLoose, KeepsPast, ChangesLeft, KeepsFile, KeepsCustody, TurnsCustody, Only, NoFile, ChangesOnly}
 use Rattle.ip_ground.specs.Calls.{Passes, Measures, Reads, Writes, Syncs, Removes, Lends, Settles, Says}
-use Rattle.ip_ground.proofs.Spans.{goes_on, stays_on, said_on, said_now, only_on, only_more, left_now, only_nowhere, no_moment}
+use Rattle.ip_ground.proofs.Spans.{goes_on, at_most, synced_on, stays_on, said_on, said_now, lending_now, custody_on, only_on, only_more, left_now, only_nowhere, no_moment}
 
 abbrev Answer : Type 0
 Answer = Result (Unit {0}) GroundFault
@@ -36,6 +36,19 @@ module _ (a b c : Told) (first : ChangesOnly NoFile a b) where
     | inr early ↦ (x, (stays f).left firm t x since early (goes.left t f x early left), itself x)
   ]
 
+  -- the custody of an attempt before
+  was : (n : ℕ) → lending b n ≡ lending a n
+  was n = lending_now a b first.goes n (first.lending n)
+
+  custody_after : (n : ℕ) → KeepsPast b c → KeepsCustody b c n → KeepsCustody a c n
+  custody_after n goes keeps = custody_on a b c n first.goes goes (first.lending n) keeps
+
+  turns_after : (n : ℕ) → KeepsPast b c → TurnsCustody b c n → TurnsCustody a c n
+  turns_after n goes turns t since le = elim (cases_lt b.moment t) [
+    | inl late ↦ elim (turns t late le) [ inl before ↦ inl (before ∙ was n) | inr now ↦ inr now ]
+    | inr early ↦ inl (goes.lending t n early ∙ first.lending n t since early)
+  ]
+
   pub passes_after : (r : Answer) → Passes r b c → Passes r a c
   passes_after r next = record { advances = later r next.advances; only = from_a NoFile next.only }
 
@@ -58,11 +71,13 @@ module _ (a b c : Told) (first : ChangesOnly NoFile a b) where
   syncs_after f r next = record {
     advances = later r next.advances;
     goes = goes_on a b c first.goes next.goes;
-    files = λ g. stays_on a b c g first.goes next.goes (stays g) (next.files g);
+    files = λ g. synced_on a b c g first.goes next.goes (at_most a b g (stays g)) (next.files g);
+    others = λ g ne. stays_on a b c g first.goes next.goes (stays g) (next.others g ne);
     ok = λ own. next.ok ((stays f).own own);
     firm = λ own. next.firm ((stays f).own own);
-    lending = on_ok_weaker r (λ is n. is n ∙ ap (after_sync f n) (first.lending n)) next.lending;
-    refused = on_err_weaker r (λ is n. is n ∙ first.lending n) next.refused;
+    refused = on_err_weaker r (from_a NoFile) next.refused;
+    turns = λ n. turns_after n next.goes (next.turns n);
+    lending = on_ok_weaker r (λ is n. is n ∙ ap (after_sync f n) (was n)) next.lending;
     said = said_on a b c first.goes next.goes first.said next.said;
   }
 
@@ -82,7 +97,8 @@ module _ (a b c : Told) (first : ChangesOnly NoFile a b) where
     files = λ g not. stays_on a b c g first.goes next.goes (stays g) (next.files g not);
     ok = next.ok;
     err = on_err_weaker r (λ so. elim so [ inl is ↦ inl is | inr same ↦ inr (from_a NoFile same) ]) next.err;
-    others = λ n ne. next.others n ne ∙ first.lending n;
+    turns = turns_after attempt next.goes next.turns;
+    others = λ n ne. custody_after n next.goes (next.others n ne);
     said = said_on a b c first.goes next.goes first.said next.said;
   }
 
@@ -91,9 +107,10 @@ module _ (a b c : Told) (first : ChangesOnly NoFile a b) where
     advances = later r next.advances;
     goes = goes_on a b c first.goes next.goes;
     files = λ g. stays_on a b c g first.goes next.goes (stays g) (next.files g);
-    ok = on_ok_weaker r (λ is. is ∙ ap (after_settle c.held) (first.lending attempt)) next.ok;
-    refused = on_err_weaker r (λ is. is ∙ first.lending attempt) next.refused;
-    others = λ n ne. next.others n ne ∙ first.lending n;
+    ok = on_ok_weaker r (λ is. is ∙ ap (after_settle c.held) (was attempt)) next.ok;
+    refused = on_err_weaker r (from_a NoFile) next.refused;
+    turns = turns_after attempt next.goes next.turns;
+    others = λ n ne. custody_after n next.goes (next.others n ne);
     said = said_on a b c first.goes next.goes first.said next.said;
   }
 
@@ -104,7 +121,7 @@ module _ (a b c : Told) (first : ChangesOnly NoFile a b) where
         advances = later r next.advances;
         goes = goes_on a b c first.goes next.goes;
         files = λ g. stays_on a b c g first.goes next.goes (stays g) (next.files g);
-        lending = λ n. next.lending n ∙ first.lending n;
+        lending = λ n. custody_after n next.goes (next.lending n);
         ok = on_ok_weaker r (λ is. is ∙ ap (λ l. l ++ bytes) same) next.ok;
         front = λ t since le. elim (cases_lt b.moment t) [
           | inl late ↦ let so = next.front t late le in (so.0, so.1, so.2 ∙ ap (λ l. l ++ take so.0 bytes) same)
@@ -130,11 +147,13 @@ module _ (a : Told) (e : GroundFault) where
   syncs_nothing f = record {
     advances = tt;
     goes = same.goes;
-    files = λ g. same.others g (λ none. none);
+    files = λ g. at_most a a g (same.others g (λ none. none));
+    others = λ g ne. same.others g (λ none. none);
     ok = λ own. tt;
     firm = λ own. tt;
+    refused = same;
+    turns = λ n t since le. absurd (no_moment a.moment t since le);
     lending = tt;
-    refused = same.lending;
     said = same.said;
   }
 
@@ -154,7 +173,8 @@ module _ (a : Told) (e : GroundFault) where
     files = λ g not. same.others g (λ none. none);
     ok = tt;
     err = inr same;
-    others = λ m ne. refl;
+    turns = λ t since le. absurd (no_moment a.moment t since le);
+    others = λ m ne. same.lending m;
     said = same.said;
   }
 
@@ -164,8 +184,9 @@ module _ (a : Told) (e : GroundFault) where
     goes = same.goes;
     files = λ g. same.others g (λ none. none);
     ok = tt;
-    refused = refl;
-    others = λ m ne. refl;
+    refused = same;
+    turns = λ t since le. absurd (no_moment a.moment t since le);
+    others = λ m ne. same.lending m;
     said = same.said;
   }
 

@@ -1,13 +1,13 @@
 -- A write and a sync of a file that is no attempt's, from a state in which nothing of it is pending.
-use Rattle.std.proofs.Common.{◌≡◌, ℕ, List, length, ◌∙◌, subst, sym}
+use Rattle.std.proofs.Common.{◌≡◌, inl, inr, ℕ, List, length, ◌∙◌, subst, sym}
 use Rattle.std.specs.Prelude.{Result, Ok, Err}
 use Rattle.ip_ground.specs.declared.names.FileName.{FileName}
 use Rattle.ip_ground.specs.declared.names.GroundFault.{GroundFault}
 use Rattle.ip_ground.specs.Contents.{Content, written, Torn}
 use Rattle.ip_ground.specs.Custody.{Custody, after_sync}
-use Rattle.ip_ground.specs.Told.{Told, IsForeign, IsLoose, KeepsFile, EachSince, EachNow, IsKept, Only, NoFile, ChangesOnly}
+use Rattle.ip_ground.specs.Told.{Told, lending, IsForeign, IsLoose, KeepsFile, KeepsCustody, EachSince, EachNow, IsKept, Only, NoFile, ChangesOnly, SyncsOnly}
 use Rattle.ip_ground.specs.Calls.{Writes, Syncs}
-use Rattle.ip_ground.proofs.Spans.{only_on, only_more, each_on, each_stays, each_from_kept, each_weaker, left_now, now_from_since}
+use Rattle.ip_ground.proofs.Spans.{only_on, each_on, each_stays, each_synced, each_from_kept, each_weaker, left_now, now_from_since}
 
 -- the file is no attempt's, as the control file and the chunks; then each part computes
 pub record IsOwn (file : FileName) : Type 1 where
@@ -15,18 +15,25 @@ pub record IsOwn (file : FileName) : Type 1 where
   pub firm : (told : Told) → ¬ IsLoose told file
   pub unmarked : (attempt : ℕ) (custody : Custody) → after_sync file attempt custody ≡ custody
 
-sync_lending : (file : FileName) (own : IsOwn file) (result : Result (Unit {0}) GroundFault) (b c : Told) → Syncs file result b c → (attempt : ℕ) → c.lending attempt ≡ b.lending attempt
-sync_lending file own (Ok u) b c syncs attempt = syncs.lending attempt ∙ own.unmarked attempt (b.lending attempt)
-sync_lending file own (Err e) b c syncs attempt = syncs.refused attempt
+sync_lending : (file : FileName) (own : IsOwn file) (result : Result (Unit {0}) GroundFault) (b c : Told) → Syncs file result b c → (attempt : ℕ) → KeepsCustody b c attempt
+sync_lending file own (Err e) b c syncs attempt t after le = syncs.refused.lending attempt t after le
+sync_lending file own (Ok u) b c syncs attempt t after le = elim (syncs.turns attempt t after le) [
+  | inl before ↦ before
+  | inr now ↦ now ∙ syncs.lending attempt ∙ own.unmarked attempt (lending b attempt)
+]
 
--- a sync of such a file changes nothing
-pub sync_changes : (file : FileName) (own : IsOwn file) (result : Result (Unit {0}) GroundFault) (b c : Told) → Syncs file result b c → ChangesOnly NoFile b c
+-- a sync of such a file changes no other
+pub sync_changes : (file : FileName) (own : IsOwn file) (result : Result (Unit {0}) GroundFault) (b c : Told) → Syncs file result b c → ChangesOnly (Only file) b c
 sync_changes file own result b c syncs = record {
   goes = syncs.goes;
-  others = λ f _. syncs.files f;
+  others = syncs.others;
   lending = sync_lending file own result b c syncs;
   said = syncs.said;
 }
+
+-- and what the files read as stays
+pub sync_syncs : (file : FileName) (own : IsOwn file) (result : Result (Unit {0}) GroundFault) (b c : Told) → Syncs file result b c → SyncsOnly (Only file) b c
+sync_syncs file own result b c syncs = record { changes = sync_changes file own result b c syncs; files = syncs.files }
 
 -- over calls that change no file
 module _ (file : FileName) (own : IsOwn file) (a b : Told) (passes : ChangesOnly NoFile a b) where
@@ -56,12 +63,12 @@ module _ (file : FileName) (own : IsOwn file) (at : ℕ) (bytes : List ℕ) (a b
 
   module _ (c : Told) (writes : Writes file at bytes (Ok tt) a b) (result : Result (Unit {0}) GroundFault) (syncs : Syncs file result b c) where
     pub both_change : ChangesOnly (Only file) a c
-    both_change = only_on a b c (Only file) writes.only (only_more b c NoFile (Only file) (λ f none. absurd none) (sync_changes file own result b c syncs))
+    both_change = only_on a b c (Only file) writes.only (sync_changes file own result b c syncs)
 
     pub both_leave : (P : Content → Type 0) → ((x : Content) → Torn at (length bytes) (a.held file) x → P x) → EachSince a c file P
     both_leave P so =
         let first = write_leaves (Ok tt) writes P so in
-        each_on a b c file P syncs.goes first (each_stays b c file P (own.firm b) (syncs.files file) (now_from_since a b file P writes.advances first))
+        each_on a b c file P syncs.goes first (each_synced b c file P (own.firm b) (syncs.files file) (now_from_since a b file P writes.advances first))
 
     -- what is held then
     pub both_hold : c.held file ≡ written (a.held file) at bytes

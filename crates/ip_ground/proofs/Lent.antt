@@ -1,5 +1,5 @@
 -- Which attempt is lent, by the events so far.
-use Rattle.std.proofs.Common.{◌≡◌, ℕ, Bool, true, false, List, [], ◌∷◌, ◌++◌, refl, ◌∙◌, ap}
+use Rattle.std.proofs.Common.{◌≡◌, ℕ, Bool, true, false, List, [], ◌∷◌, ◌++◌, refl, sym, ◌∙◌, ap}
 use Rattle.std.specs.Prelude.{◌==◌, ◌||◌, ◌&&◌, not, if◌then◌else◌}
 use Rattle.ip_ground.specs.declared.names.FileName.{FileName}
 use Rattle.ip_ground.specs.declared.names.FileName.TheVariants.{Control, Chunk, Prefix, Mapping, Done}
@@ -9,8 +9,9 @@ use Rattle.ip_ground.specs.Custody.{Custody, lent, with_synced, after_sync, afte
 use Rattle.std.proofs.Common.{arith}
 use Rattle.std.proofs.lemmas.Bool.Decides.{nat_tests}
 use Rattle.ip_ground.specs.Files.{no_true}
+use Rattle.ip_ground.specs.Told.{lending}
 use Rattle.ip_ground.specs.Replay.{State, after, blank, replayed, told_by, lent_after}
-use Rattle.ip_ground.proofs.Replays.{replayed_push}
+use Rattle.ip_ground.proofs.Replays.{replayed_push, lending_told}
 
 -- a sync takes nothing back from the child
 lent_with : (b : Bool) (file : FileName) → (if b then with_synced file lent else lent) ≡ lent
@@ -48,6 +49,6 @@ lent_sound (Changed file bytes) s n before was is = was is
 lent_sound (Stopped true) s n before was is = was is
 lent_sound (Stopped false) s n before was is = was is
 
-pub lent_more : (log more : List Event) (event : Event) (n : ℕ) (before : Bool) → more ≡ log ++ event ∷ [] → (before ≡ true → (told_by log).lending n ≡ lent) → lent_after event n before ≡ true → (told_by more).lending n ≡ lent
+pub lent_more : (log more : List Event) (event : Event) (n : ℕ) (before : Bool) → more ≡ log ++ event ∷ [] → (before ≡ true → lending (told_by log) n ≡ lent) → lent_after event n before ≡ true → lending (told_by more) n ≡ lent
 lent_more log more event n before is was so =
-    ap (λ l. (told_by l).lending n) is ∙ ap (λ (s : State). s.lending n) (replayed_push blank log event) ∙ lent_sound event (replayed blank log) n before was so
+    ap (λ l. lending (told_by l) n) is ∙ lending_told (log ++ event ∷ []) n ∙ ap (λ (s : State). s.lending n) (replayed_push blank log event) ∙ lent_sound event (replayed blank log) n before (λ b. sym (lending_told log n) ∙ was b) so

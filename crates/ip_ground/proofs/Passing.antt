@@ -11,6 +11,7 @@ pub stays_itself : (t : Told) (file : FileName) → KeepsFile t t file
 stays_itself t file = record {
   held = λ own. refl;
   left = λ firm moment content after before is. absurd (omega arith);
+  still_left = λ firm moment content after before is. absurd (omega arith);
   own = λ own. own;
   firm = λ firm. firm;
 }

@@ -13,7 +13,7 @@ use Rattle.ip_ground.specs.Contents.{Content, Image, written, Torn}
 use Rattle.ip_ground.specs.Custody.{Custody, own, lent, settled, custody_of, is_same_file, IsOfAttempt, with_synced, after_sync, after_settle}
 use Rattle.ip_ground.specs.Custody as custody
 use Rattle.ip_ground.specs.Files.{no_true, number_itself, file_itself, cases_file, other_file}
-use Rattle.ip_ground.specs.Told.{said, KeepsPast, ChangesLeft, KeepsFile, KeepsSaid, Only, NoFile, ChangesOnly, Reopens}
+use Rattle.ip_ground.specs.Told.{said, lending, IsForeign, IsLoose, KeepsPast, ChangesLeft, SyncsAtMost, KeepsFile, KeepsSaid, KeepsCustody, TurnsCustody, Only, NoFile, ChangesOnly, Reopens}
 use Rattle.ip_ground.specs.Calls.{Writes, Syncs, Removes, Lends, Settles, Says}
 use Rattle.ip_ground.specs.Replay.{State, is_of_attempt, with_held, with_left, with_lending, left_by_sync, left_by_stop, changed_by_child, content_of, after, said_after, blank, replayed, told_by}
 use Rattle.ip_ground.specs.ReplayLaws.{lawful_log, torn_itself, loose_synced, loose_settled, lending_other, lending_here, lending_was}
@@ -21,6 +21,13 @@ use Rattle.ip_ground.specs.ReplayLaws.{lawful_log, torn_itself, loose_synced, lo
 pub replayed_push : (s : State) (log : List Event) (event : Event) → replayed s (log ++ event ∷ []) ≡ after event (replayed s log)
 replayed_push s [] event = refl
 replayed_push s (first ∷ log) event = replayed_push (after first s) log event
+
+-- the custody that is told now
+pub told_lending : (log : List Event) → lending (told_by log) ≡ (replayed blank log).lending
+told_lending log = ap (λ l. (replayed blank l).lending) (take_all (length log) log (omega arith))
+
+pub lending_told : (log : List Event) (n : ℕ) → lending (told_by log) n ≡ (replayed blank log).lending n
+lending_told log n = ap (λ (l : ℕ → Custody). l n) (told_lending log)
 
 said_next : (event : Event) (s : State) → said_after event s.said ≡ (after event s).said
 said_next Passed s = refl
@@ -79,12 +86,16 @@ module _ (log : List Event) (event : Event) where
   at_last : (t : ℕ) (f : FileName) (x : Content) → length log < t → t ≤ length longer → (told_by longer).may_leave t f x → new.may_leave f x
   at_last t f x since le so = subst (λ (s : State). s.may_leave f x) pushed (subst (λ l. (replayed blank l).may_leave f x) (last t since le) so)
 
+  to_last : (t : ℕ) (f : FileName) (x : Content) → length log < t → t ≤ length longer → new.may_leave f x → (told_by longer).may_leave t f x
+  to_last t f x since le so = subst (λ l. (replayed blank l).may_leave f x) (sym (last t since le)) (subst (λ (s : State). s.may_leave f x) (sym pushed) so)
+
   pub goes : KeepsPast (told_by log) (told_by longer)
   goes = record {
     later = omega (arith, longer_size);
     left = λ t f x le left. subst (λ l. (replayed blank l).may_leave f x) (earlier t le) left;
     still_left = λ t f x le left. subst (λ l. (replayed blank l).may_leave f x) (sym (earlier t le)) left;
     said = λ t le. ap (λ l. (replayed blank l).said) (earlier t le);
+    lending = λ t n le. ap (λ l. (replayed blank l).lending n) (earlier t le);
   }
 
   pub advances : length log < length longer
@@ -99,22 +110,59 @@ module _ (log : List Event) (event : Event) where
   quiet : new.said ≡ old.said → KeepsSaid (told_by log) (told_by longer)
   quiet same t since le = said_last t since le ∙ same ∙ sym said_old
 
-  lending_new : (n : ℕ) → (told_by longer).lending n ≡ new.lending n
-  lending_new n = ap (λ (s : State). s.lending n) pushed
+  new_lending : lending (told_by longer) ≡ new.lending
+  new_lending = told_lending longer ∙ ap (λ (s : State). s.lending) pushed
+
+  lending_new : (n : ℕ) → lending (told_by longer) n ≡ new.lending n
+  lending_new n = ap (λ (l : ℕ → Custody). l n) new_lending
+
+  lending_last : (t n : ℕ) → length log < t → t ≤ length longer → (told_by longer).lending_at t n ≡ new.lending n
+  lending_last t n since le = ap (λ l. (replayed blank l).lending n) (last t since le) ∙ ap (λ (s : State). s.lending n) pushed
+
+  custody_by : (n : ℕ) → new.lending n ≡ old.lending n → KeepsCustody (told_by log) (told_by longer) n
+  custody_by n same t since le = lending_last t n since le ∙ same ∙ sym (lending_told log n)
+
+  turns_by : (n : ℕ) → TurnsCustody (told_by log) (told_by longer) n
+  turns_by n t since le = inr (lending_last t n since le ∙ sym (lending_new n))
+
+  -- custody as it is told, and in the states
+  own_was : (f : FileName) → ¬ IsForeign (told_by log) f → ¬ custody.IsForeign (custody_of old.lending f)
+  own_was f not foreign = not (subst (λ (l : ℕ → Custody). custody.IsForeign (custody_of l f)) (sym (told_lending log)) foreign)
+
+  firm_was : (f : FileName) → ¬ IsLoose (told_by log) f → ¬ custody.IsLoose (custody_of old.lending f) f
+  firm_was f not loose = not (subst (λ (l : ℕ → Custody). custody.IsLoose (custody_of l f) f) (sym (told_lending log)) loose)
+
+  foreign_now : (f : FileName) → IsForeign (told_by longer) f → custody.IsForeign (custody_of new.lending f)
+  foreign_now f foreign = subst (λ (l : ℕ → Custody). custody.IsForeign (custody_of l f)) new_lending foreign
+
+  loose_now : (f : FileName) → IsLoose (told_by longer) f → custody.IsLoose (custody_of new.lending f) f
+  loose_now f loose = subst (λ (l : ℕ → Custody). custody.IsLoose (custody_of l f) f) new_lending loose
 
   pub held_new : (f : FileName) → (told_by longer).held f ≡ new.held f
   held_new f = ap (λ (s : State). s.held f) pushed
 
-  stays_by : (f : FileName) → StaysIn old new f → KeepsFile (told_by log) (told_by longer) f
-  stays_by f stays = record {
-    held = λ own. held_new f ∙ stays.held own;
-    left = λ firm t x since le left. from_now f x (stays.left firm x (at_last t f x since le left));
-    own = λ own foreign. stays.own own (subst (λ (s : State). custody.IsForeign (custody_of s.lending f)) pushed foreign);
-    firm = λ firm loose. stays.firm firm (subst (λ (s : State). custody.IsLoose (custody_of s.lending f) f) pushed loose);
+  synced_by : (f : FileName) → StaysIn old new f → SyncsAtMost (told_by log) (told_by longer) f
+  synced_by f stays = record {
+    held = λ own. held_new f ∙ stays.held (own_was f own);
+    left = λ firm t x since le left. from_now f x (stays.left (firm_was f firm) x (at_last t f x since le left));
+    own = λ own foreign. stays.own (own_was f own) (foreign_now f foreign);
+    firm = λ firm loose. stays.firm (firm_was f firm) (loose_now f loose);
   }
 
-  only_by : (these : FileName → Type 0) → ((f : FileName) → ¬ these f → StaysIn old new f) → ((n : ℕ) → new.lending n ≡ old.lending n) → new.said ≡ old.said → ChangesOnly these (told_by log) (told_by longer)
-  only_by these stays lending same = record { goes = goes; others = λ f not. stays_by f (stays f not); lending = λ n. lending_new n ∙ lending n; said = quiet same }
+  stays_by : (f : FileName) → StaysIn old new f → ((x : Content) → old.may_leave f x → new.may_leave f x) → KeepsFile (told_by log) (told_by longer) f
+  stays_by f stays still =
+      let most = synced_by f stays in
+      record {
+        held = most.held;
+        left = most.left;
+        still_left = λ firm t x since le left. to_last t f x since le (still x (to_now f x left));
+        own = most.own;
+        firm = most.firm;
+      }
+
+  only_by : (these : FileName → Type 0) → ((f : FileName) → ¬ these f → StaysIn old new f) → ((f : FileName) → ¬ these f → (x : Content) → old.may_leave f x → new.may_leave f x)
+      → ((n : ℕ) → new.lending n ≡ old.lending n) → new.said ≡ old.said → ChangesOnly these (told_by log) (told_by longer)
+  only_by these stays still lends same = record { goes = goes; others = λ f not. stays_by f (stays f not) (still f not); lending = λ n. custody_by n (lends n); said = quiet same }
 
   steps_by : (f : FileName) (step : Content → Content → Type 0) → ((x : Content) → new.may_leave f x → (before : Content) × old.may_leave f before × step before x) → ChangesLeft step (told_by log) (told_by longer) f
   steps_by f step from t x since le left = let was = from x (at_last t f x since le left) in (was.0, from_now f was.0 was.1, was.2)
@@ -142,6 +190,10 @@ left_other s file these g ne = record {
   firm = λ firm. firm;
 }
 
+-- what might be left of them may be so still
+still_other : (s : State) (file : FileName) (these : Content → Type 0) (g : FileName) → g ≢ file → (x : Content) → s.may_leave g x → with_left file these s.may_leave g x
+still_other s file these g ne x so = subst (λ b. MatchBool b (these x) (s.may_leave g x)) (sym (other_file g file ne)) so
+
 -- the file itself
 made_here : (s : State) (file : FileName) (made : Content) → with_held file made s.held file ≡ made
 made_here s file made = ap (λ (b : Bool). if b then made else s.held file) (file_itself file)
@@ -150,7 +202,7 @@ left_here : (s : State) (file : FileName) (these : Content → Type 0) (x : Cont
 left_here s file these x so = subst (λ b. MatchBool b (these x) (s.may_leave file x)) (file_itself file) so
 
 pub passed : (log : List Event) → ChangesOnly NoFile (told_by log) (told_by (log ++ Passed ∷ []))
-passed log = only_by log Passed NoFile (λ f not. stays_same (replayed blank log) f) (λ n. refl) refl
+passed log = only_by log Passed NoFile (λ f not. stays_same (replayed blank log) f) (λ f not x so. so) (λ n. refl) refl
 
 -- what a write leaves of its file
 torn_left : State → FileName → ℕ → ℕ → Content → Type 0
@@ -163,7 +215,7 @@ wrote log file at bytes =
     let s : State = replayed blank log in
     record {
       advances = advances log event;
-      only = only_by log event (Only file) (λ g ne. stays_other s file (written (s.held file) at bytes.items) (torn_left s file at (length bytes.items)) g ne) (λ n. refl) refl;
+      only = only_by log event (Only file) (λ g ne. stays_other s file (written (s.held file) at bytes.items) (torn_left s file at (length bytes.items)) g ne) (λ g ne. still_other s file (torn_left s file at (length bytes.items)) g ne) (λ n. refl) refl;
       ok = λ own. held_new log event file ∙ made_here s file (written (s.held file) at bytes.items);
       err = λ own. tt;
       left = λ firm. steps_by log event file (Torn at (length bytes.items)) (λ x so. left_here s file (torn_left s file at (length bytes.items)) x so);
@@ -176,7 +228,7 @@ failed log file at bytes e =
     let s : State = replayed blank log in
     record {
       advances = tt;
-      only = only_by log event (Only file) (λ g ne. left_other s file (torn_left s file at (length bytes)) g ne) (λ n. refl) refl;
+      only = only_by log event (Only file) (λ g ne. left_other s file (torn_left s file at (length bytes)) g ne) (λ g ne. still_other s file (torn_left s file at (length bytes)) g ne) (λ n. refl) refl;
       ok = λ own. tt;
       err = λ own. subst (Torn at (length bytes) (s.held file)) (sym (held_new log event file)) (torn_itself at (length bytes) (s.held file));
       left = λ firm. steps_by log event file (Torn at (length bytes)) (λ x so. left_here s file (torn_left s file at (length bytes)) x so);
@@ -189,7 +241,7 @@ removed log file =
     let these : Content → Type 0 = λ x. s.may_leave file x ⊎ (x ≡ None) in
     record {
       advances = advances log event;
-      only = only_by log event (Only file) (λ g ne. stays_other s file None these g ne) (λ n. refl) refl;
+      only = only_by log event (Only file) (λ g ne. stays_other s file None these g ne) (λ g ne. still_other s file these g ne) (λ n. refl) refl;
       ok = λ own. held_new log event file ∙ made_here s file None;
       err = λ own. tt;
       left = λ firm. steps_by log event file (λ before x. (x ≡ before) ⊎ (x ≡ None)) (λ x so. elim (left_here s file these x so) [
@@ -268,22 +320,25 @@ synced log file =
     let event : Event = Synced file in
     let s : State = replayed blank log in
     let these : Content → Type 0 = left_by_sync (custody_of s.lending file) (s.held file) (s.may_leave file) in
+    let most : (g : FileName) → StaysIn s (after event s) g = λ g. record {
+      held = λ own. refl;
+      left = λ firm x so. elim (cases_file g file) [
+        | inl same ↦ subst (λ f. s.may_leave f x) (sym same.1) (sync_keeps (custody_of s.lending file) (s.held file) (s.may_leave file) x ((lawful_log log).possible file) (left_here s file these x (subst (λ f. with_left file these s.may_leave f x) same.1 so)))
+        | inr other ↦ subst (λ b. MatchBool b (these x) (s.may_leave g x)) other so
+      ];
+      own = λ own foreign. own (foreign_synced s.lending file g foreign);
+      firm = λ firm loose. firm (loose_synced s.lending file g loose).0;
+    } in
     record {
       advances = advances log event;
       goes = goes log event;
-      files = λ g. stays_by log event g (record {
-        held = λ own. refl;
-        left = λ firm x so. elim (cases_file g file) [
-          | inl same ↦ subst (λ f. s.may_leave f x) (sym same.1) (sync_keeps (custody_of s.lending file) (s.held file) (s.may_leave file) x ((lawful_log log).possible file) (left_here s file these x (subst (λ f. with_left file these s.may_leave f x) same.1 so)))
-          | inr other ↦ subst (λ b. MatchBool b (these x) (s.may_leave g x)) other so
-        ];
-        own = λ own foreign. own (foreign_synced s.lending file g foreign);
-        firm = λ firm loose. firm (loose_synced s.lending file g loose).0;
-      });
-      ok = λ own x left. kept_by_sync (custody_of s.lending file) (s.held file) (s.may_leave file) x own (left_here s file these x (at_last log event (length (log ++ event ∷ [])) file x (advances log event) (omega arith) left)) ∙ sym (held_new log event file);
-      firm = λ own loose. firm_synced s.lending file own (subst (λ (t : State). custody.IsLoose (custody_of t.lending file) file) (pushed log event) loose);
-      lending = λ n. lending_new log event n;
+      files = λ g. synced_by log event g (most g);
+      others = λ g ne. stays_by log event g (most g) (still_other s file these g ne);
+      ok = λ own x left. kept_by_sync (custody_of s.lending file) (s.held file) (s.may_leave file) x (own_was log event file own) (left_here s file these x (at_last log event (length (log ++ event ∷ [])) file x (advances log event) (omega arith) left)) ∙ sym (held_new log event file);
+      firm = λ own loose. firm_synced s.lending file (own_was log event file own) (loose_now log event file loose);
       refused = tt;
+      turns = turns_by log event;
+      lending = λ n. lending_new log event n ∙ ap (after_sync file n) (sym (lending_told log n));
       said = quiet log event refl;
     }
 
@@ -306,10 +361,11 @@ lent_event log attempt =
         left = λ firm x so. subst (λ b. MatchBool b (Unit {0}) (s.may_leave f x)) other so;
         own = λ own foreign. own (subst custody.IsForeign same foreign);
         firm = λ firm loose. firm (subst (λ st. custody.IsLoose st f) same loose);
-      });
+      }) (λ x so. subst (λ b. MatchBool b (Unit {0}) (s.may_leave f x)) (sym other) so);
       ok = lending_new log event attempt ∙ ap (λ (b : Bool). if b then lent else s.lending attempt) (number_itself attempt);
       err = tt;
-      others = λ other ne. lending_new log event other ∙ ap (λ (b : Bool). if b then lent else s.lending other) (not_number other attempt ne);
+      turns = turns_by log event attempt;
+      others = λ other ne. custody_by log event other (ap (λ (b : Bool). if b then lent else s.lending other) (not_number other attempt ne));
       said = quiet log event refl;
     }
 
@@ -325,11 +381,12 @@ settled_event log attempt =
         left = λ firm x so. so;
         own = λ own foreign. own (foreign_settled s.lending s.held attempt f foreign);
         firm = λ firm loose. firm (loose_settled s.lending s.held attempt f loose);
-      });
+      }) (λ x so. so);
       ok = lending_new log event attempt ∙ ap (λ (b : Bool). if b then after_settle s.held (s.lending attempt) else s.lending attempt) (number_itself attempt)
-          ∙ sym (ap (λ (t : State). after_settle t.held (s.lending attempt)) (pushed log event));
+          ∙ sym (ap (λ (t : State). after_settle t.held (s.lending attempt)) (pushed log event)) ∙ ap (after_settle (told_by (log ++ event ∷ [])).held) (sym (lending_told log attempt));
       refused = tt;
-      others = λ other ne. lending_new log event other ∙ ap (λ (b : Bool). if b then after_settle s.held (s.lending attempt) else s.lending other) (not_number other attempt ne);
+      turns = turns_by log event attempt;
+      others = λ other ne. custody_by log event other (ap (λ (b : Bool). if b then after_settle s.held (s.lending attempt) else s.lending other) (not_number other attempt ne));
       said = quiet log event refl;
     }
 
@@ -340,8 +397,8 @@ said_event log bytes =
     record {
       advances = advances log event;
       goes = goes log event;
-      files = λ f. stays_by log event f (record { held = λ own. refl; left = λ firm x so. so; own = λ own. own; firm = λ firm. firm });
-      lending = λ n. lending_new log event n;
+      files = λ f. stays_by log event f (record { held = λ own. refl; left = λ firm x so. so; own = λ own. own; firm = λ firm. firm }) (λ x so. so);
+      lending = λ n. custody_by log event n refl;
       ok = said_last log event (length (log ++ event ∷ [])) (advances log event) (omega arith) ∙ ap (λ l. l ++ bytes.items) (sym (said_old log event));
       front = λ t since le. (length bytes.items, omega arith, said_last log event t since le ∙ ap (λ l. l ++ bytes.items) (sym (said_old log event)) ∙ ap (λ l. said (told_by log) ++ l) (sym (take_all (length bytes.items) bytes.items (omega arith))));
     }
@@ -365,7 +422,7 @@ changed log file bytes =
       left = λ firm x so. so;
       own = λ own. own;
       firm = λ firm. firm;
-    }) (λ n. refl) refl
+    }) (λ g not x so. so) (λ n. refl) refl
 
 -- a stop
 was_left : (st : Custody) (file : FileName) (durable : Content) (before : Content → Type 0) (x : Content) → before durable → left_by_stop st file durable before x → before x
@@ -385,7 +442,7 @@ stopped log true =
       held = λ f. from_now log event f _ (subst (λ x. s.may_leave f x) (sym (held_new log event f)) ((lawful_log log).possible f));
       left = λ f x left. from_now log event f x (at_last log event (length (log ++ event ∷ [])) f x (advances log event) (omega arith) left);
       said = said_last log event (length (log ++ event ∷ [])) (advances log event) (omega arith);
-      lending = λ n. lending_new log event n;
+      lending = λ n. lending_new log event n ∙ sym (lending_told log n);
     }
 stopped log false =
     let event : Event = Stopped false in
@@ -394,5 +451,5 @@ stopped log false =
       held = λ f. from_now log event f _ (subst (λ x. s.may_leave f x) (sym (held_new log event f)) ((lawful_log log).durable f));
       left = λ f x left. from_now log event f x (was_left (custody_of s.lending f) f (s.durable f) (s.may_leave f) x ((lawful_log log).durable f) (at_last log event (length (log ++ event ∷ [])) f x (advances log event) (omega arith) left));
       said = said_last log event (length (log ++ event ∷ [])) (advances log event) (omega arith);
-      lending = λ n. lending_new log event n;
+      lending = λ n. lending_new log event n ∙ sym (lending_told log n);
     }

@@ -4,7 +4,7 @@ use Rattle.std.proofs.Common.{Bool, true, false, refl, ◌≡◌, inl, inr, ℕ,
 use Rattle.std.proofs.lemmas.Bool.{cases_lt}
 use Rattle.ip_ground.specs.declared.names.FileName.{FileName}
 use Rattle.ip_ground.specs.Contents.{Content, Image}
-use Rattle.ip_ground.specs.Told.{Told, said, IsLoose, KeepsPast, ChangesLeft, KeepsFile, KeepsSaid, EachSince, EachNow, EachImage, EachImageNow, IsAbout, IsPossible, IsKept, IsPossibleNow, ChangesOnly}
+use Rattle.ip_ground.specs.Told.{Told, said, lending, IsLoose, KeepsPast, ChangesLeft, SyncsAtMost, KeepsFile, KeepsSaid, KeepsCustody, EachSince, EachNow, EachImage, EachImageNow, IsAbout, IsPossible, IsKept, IsPossibleNow, NoFile, ChangesOnly, SyncsOnly}
 
 pub goes_nowhere : (a : Told) → KeepsPast a a
 goes_nowhere a = record {
@@ -12,6 +12,7 @@ goes_nowhere a = record {
   left = λ t f x le left. left;
   still_left = λ t f x le left. left;
   said = λ t le i. a.said_at t;
+  lending = λ t n le i. a.lending_at t n;
 }
 
 -- no moment is later than a and not later than a
@@ -24,10 +25,11 @@ only_nowhere a these = record {
   others = λ f _. record {
     held = λ own i. a.held f;
     left = λ firm t x after le left. absurd (no_moment a.moment t after le);
+    still_left = λ firm t x after le left. absurd (no_moment a.moment t after le);
     own = λ own. own;
     firm = λ firm. firm;
   };
-  lending = λ n i. a.lending n;
+  lending = λ n t after le. absurd (no_moment a.moment t after le);
   said = λ t after le. absurd (no_moment a.moment t after le);
 }
 
@@ -52,9 +54,32 @@ module _ (a b : Told) where
         goes.said b.moment still ∙ ap a.said_at same
   ]
 
-  -- what stays has what it had
+  pub lending_now : KeepsPast a b → (n : ℕ) → KeepsCustody a b n → lending b n ≡ lending a n
+  lending_now goes n keeps = elim (cases_lt a.moment b.moment) [
+    | inl later ↦ keeps b.moment later (omega arith)
+    | inr still ↦
+        let same : b.moment ≡ a.moment = omega (arith, goes.later) in
+        goes.lending b.moment n still ∙ ap (λ t. a.lending_at t n) same
+  ]
+
+  -- what may be left at each moment since, as before, may be left now
+  still_now : (f : FileName) → KeepsPast a b → ((t : ℕ) (x : Content) → a.moment < t → t ≤ b.moment → a.may_leave a.moment f x → b.may_leave t f x) → (x : Content) → a.may_leave a.moment f x → b.may_leave b.moment f x
+  still_now f goes since x left = elim (cases_lt a.moment b.moment) [
+    | inl later ↦ since b.moment x later (omega arith) left
+    | inr still ↦
+        let same : a.moment ≡ b.moment = omega (arith, goes.later) in
+        goes.still_left b.moment f x still (subst (λ t. a.may_leave t f x) same left)
+  ]
+
+  pub at_most : (f : FileName) → KeepsFile a b f → SyncsAtMost a b f
+  at_most f stays = record { held = stays.held; left = stays.left; own = stays.own; firm = stays.firm }
+
+  -- what stays has what it had, and so has what was synced
+  pub each_synced : (f : FileName) (P : Content → Type 0) → ¬ IsLoose a f → SyncsAtMost a b f → EachNow a f P → EachSince a b f P
+  each_synced f P firm stays before t x after le left = before x (stays.left firm t x after le left)
+
   pub each_stays : (f : FileName) (P : Content → Type 0) → ¬ IsLoose a f → KeepsFile a b f → EachNow a f P → EachSince a b f P
-  each_stays f P firm stays before t x after le left = before x (stays.left firm t x after le left)
+  each_stays f P firm stays before = each_synced f P firm (at_most f stays) before
 
   pub each_steps : (f : FileName) (P Q : Content → Type 0) (step : Content → Content → Type 0) → ChangesLeft step a b f → EachNow a f P → ((x y : Content) → P x → step x y → Q y) → EachSince a b f Q
   each_steps f P Q step steps before from t x after le left =
@@ -75,6 +100,10 @@ module _ (a b : Told) where
     said = only.said;
   }
 
+  -- where no file has changed, none was synced
+  pub syncs_none : (these : FileName → Type 0) → ChangesOnly NoFile a b → SyncsOnly these a b
+  syncs_none these only = record { changes = only_more NoFile these (λ f none. absurd none) only; files = λ f. at_most f (only.others f (λ none. none)) }
+
   pub each_weaker : (f : FileName) (P Q : Content → Type 0) → EachSince a b f P → ((x : Content) → P x → Q x) → EachSince a b f Q
   each_weaker f P Q since so t x after le left = so x (since t x after le left)
 
@@ -85,6 +114,7 @@ module _ (a b c : Told) where
     left = λ t f x le left. first.left t f x le (next.left t f x (omega (arith, le, first.later)) left);
     still_left = λ t f x le left. next.still_left t f x (omega (arith, le, first.later)) (first.still_left t f x le left);
     said = λ t le. next.said t (omega (arith, le, first.later)) ∙ first.said t le;
+    lending = λ t n le. next.lending t n (omega (arith, le, first.later)) ∙ first.lending t n le;
   }
 
   -- what holds since a, and then since b
@@ -94,14 +124,28 @@ module _ (a b c : Told) where
     | inr early ↦ first t x after early (next.left t f x early left)
   ]
 
-  pub stays_on : (f : FileName) → KeepsPast a b → KeepsPast b c → KeepsFile a b f → KeepsFile b c f → KeepsFile a c f
-  stays_on f first next stays onward = record {
+  pub synced_on : (f : FileName) → KeepsPast a b → KeepsPast b c → SyncsAtMost a b f → SyncsAtMost b c f → SyncsAtMost a c f
+  synced_on f first next stays onward = record {
     held = λ own. onward.held (stays.own own) ∙ stays.held own;
     left = λ firm. each_on f (a.may_leave a.moment f) next (stays.left firm)
-        (each_stays b c f (a.may_leave a.moment f) (stays.firm firm) onward (left_now a b f (a.may_leave a.moment f) first (λ x now. now) (stays.left firm)));
+        (each_synced b c f (a.may_leave a.moment f) (stays.firm firm) onward (left_now a b f (a.may_leave a.moment f) first (λ x now. now) (stays.left firm)));
     own = λ own. onward.own (stays.own own);
     firm = λ firm. onward.firm (stays.firm firm);
   }
+
+  pub stays_on : (f : FileName) → KeepsPast a b → KeepsPast b c → KeepsFile a b f → KeepsFile b c f → KeepsFile a c f
+  stays_on f first next stays onward =
+      let most = synced_on f first next (at_most a b f stays) (at_most b c f onward) in
+      record {
+        held = most.held;
+        left = most.left;
+        still_left = λ firm t x after le left. elim (cases_lt b.moment t) [
+          | inl late ↦ onward.still_left (stays.firm firm) t x late le (still_now a b f first (stays.still_left firm) x left)
+          | inr early ↦ next.still_left t f x early (stays.still_left firm t x after early left)
+        ];
+        own = most.own;
+        firm = most.firm;
+      }
 
   pub said_on : KeepsPast a b → KeepsPast b c → KeepsSaid a b → KeepsSaid b c → KeepsSaid a c
   said_on first next keeps onward t after le = elim (cases_lt b.moment t) [
@@ -109,12 +153,24 @@ module _ (a b c : Told) where
     | inr early ↦ next.said t early ∙ keeps t after early
   ]
 
+  pub custody_on : (n : ℕ) → KeepsPast a b → KeepsPast b c → KeepsCustody a b n → KeepsCustody b c n → KeepsCustody a c n
+  custody_on n first next keeps onward t after le = elim (cases_lt b.moment t) [
+    | inl late ↦ onward t late le ∙ lending_now a b first n keeps
+    | inr early ↦ next.lending t n early ∙ keeps t after early
+  ]
+
   pub only_on : (these : FileName → Type 0) → ChangesOnly these a b → ChangesOnly these b c → ChangesOnly these a c
   only_on these first next = record {
     goes = goes_on first.goes next.goes;
     others = λ f not. stays_on f first.goes next.goes (first.others f not) (next.others f not);
-    lending = λ n. next.lending n ∙ first.lending n;
+    lending = λ n. custody_on n first.goes next.goes (first.lending n) (next.lending n);
     said = said_on first.goes next.goes first.said next.said;
+  }
+
+  pub syncs_on : (these : FileName → Type 0) → SyncsOnly these a b → SyncsOnly these b c → SyncsOnly these a c
+  syncs_on these first next = record {
+    changes = only_on these first.changes next.changes;
+    files = λ f. synced_on f first.changes.goes next.changes.goes (first.files f) (next.files f);
   }
 
 -- what each content has since, what the file reads as has

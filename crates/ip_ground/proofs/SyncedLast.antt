@@ -1,5 +1,5 @@
 -- What a file held when it was synced last is told by what crashes might have left.
-use Rattle.std.proofs.Common.{◌≡◌, ◌⊎◌, inl, inr, ℕ, zero, suc, ◌+◌, ◌<◌, ◌≤◌, Bool, true, false, List, [], ◌∷◌, ◌++◌, length, take, get_or, None, refl, sym, ◌∙◌, ap, subst, arith, length-append}
+use Rattle.std.proofs.Common.{◌≡◌, inl, inr, ℕ, zero, suc, ◌+◌, ◌≤◌, Bool, true, false, List, [], ◌∷◌, ◌++◌, length, take, get_or, None, refl, sym, ◌∙◌, ap, subst, arith, length-append}
 use Rattle.std.specs.Prelude.{if◌then◌else◌, ◌==◌}
 use Rattle.std.proofs.lemmas.List.{take_all, take_more}
 use Rattle.std.proofs.lemmas.Bool.{cases_lt}
@@ -7,13 +7,13 @@ use Rattle.ip_ground.specs.declared.names.FileName.{FileName}
 use Rattle.ip_ground.specs.declared.names.FileName.TheVariants.{Control, Chunk, Prefix, Mapping, Done}
 use Rattle.ip_ground.specs.declared.event.Event.{Event}
 use Rattle.ip_ground.specs.declared.event.Event.TheVariants.{Passed, Wrote, Failed, Synced, Removed, Lent, Settled, Said, Changed, Stopped}
-use Rattle.ip_ground.specs.Contents.{Content, Image}
+use Rattle.ip_ground.specs.Contents.{Image}
 use Rattle.ip_ground.specs.Custody.{Custody, own, lent, settled, custody_of, IsForeign, IsLoose, is_same_file, with_synced, after_sync, after_settle}
 use Rattle.ip_ground.specs.Files.{no_true, same_file, file_itself}
-use Rattle.ip_ground.specs.Told.{IsSyncedAs}
+use Rattle.ip_ground.specs.Told.{IsSyncedAs, IsLoose as IsLooseNow}
 use Rattle.ip_ground.specs.Replay.{State, is_of_attempt, after, blank, replayed, told_by, durable_by}
 use Rattle.ip_ground.specs.ReplayLaws.{lawful_log, lending_other, lending_here, lending_was}
-use Rattle.ip_ground.proofs.Replays.{replayed_push, goes, synced, held_new}
+use Rattle.ip_ground.proofs.Replays.{replayed_push, told_lending, goes, synced, held_new}
 
 abbrev IsLooseIn : State → FileName → Type 0
 IsLooseIn s f = IsLoose (custody_of s.lending f) f
@@ -149,7 +149,7 @@ synced_now log f not =
     let same : (told_by longer).held f ≡ durable_by longer f = held_new log (Synced f) f ∙ sym (ap (λ (b : Bool). if b then s.held f else s.durable f) (file_itself f)) ∙ sym (durable_after log (Synced f) f) in (
       length longer,
       omega arith,
-      λ x left. (synced log f).ok not x left ∙ same,
+      λ x left. (synced log f).ok (λ foreign. not (subst (λ (l : ℕ → Custody). IsForeign (custody_of l f)) (told_lending log) foreign)) x left ∙ same,
       λ t since le. subst (λ (m : ℕ). (told_by longer).may_leave m f (durable_by longer f)) (omega (arith, since, le)) (left_now log (Synced f) f),
     )
 
@@ -197,5 +197,5 @@ module _ (log grown : List Event) where
   pub kept_all : grown ≡ log ++ Stopped true ∷ [] → (f : FileName) → (told_by grown).held f ≡ (told_by log).held f
   kept_all is f = ap (λ l. (told_by l).held f) is ∙ held_new log (Stopped true) f
 
-  pub kept_synced : grown ≡ log ++ Stopped false ∷ [] → (f : FileName) → ¬ IsLooseIn (replayed blank log) f → IsSyncedAs (told_by log) f ((told_by grown).held f)
-  kept_synced is f firm = subst (λ x. IsSyncedAs (told_by log) f x) (sym (ap (λ l. (told_by l).held f) is ∙ held_new log (Stopped false) f)) (synced_as log f firm)
+  pub kept_synced : grown ≡ log ++ Stopped false ∷ [] → (f : FileName) → ¬ IsLooseNow (told_by log) f → IsSyncedAs (told_by log) f ((told_by grown).held f)
+  kept_synced is f firm = subst (λ x. IsSyncedAs (told_by log) f x) (sym (ap (λ l. (told_by l).held f) is ∙ held_new log (Stopped false) f)) (synced_as log f (λ loose. firm (subst (λ (l : ℕ → Custody). IsLoose (custody_of l f) f) (sym (told_lending log)) loose)))

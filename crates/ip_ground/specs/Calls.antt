@@ -5,7 +5,7 @@ use Rattle.ip_ground.specs.declared.names.FileName.{FileName}
 use Rattle.ip_ground.specs.declared.names.GroundFault.{GroundFault}
 use Rattle.ip_ground.specs.Contents.{bytes_of, size_of, written, Torn}
 use Rattle.ip_ground.specs.Custody.{lent, IsOfAttempt, after_sync, after_settle}
-use Rattle.ip_ground.specs.Told.{Told, said, IsForeign, IsLoose, KeepsPast, ChangesLeft, KeepsFile, KeepsSaid, IsKept, Only, NoFile, ChangesOnly}
+use Rattle.ip_ground.specs.Told.{Told, said, lending, IsForeign, IsLoose, KeepsPast, ChangesLeft, SyncsAtMost, KeepsFile, KeepsSaid, KeepsCustody, TurnsCustody, IsKept, Only, NoFile, ChangesOnly}
 
 -- A call that changes no file and says nothing.
 pub record Passes (result : Result (Unit {0}) GroundFault) (old new : Told) : Type 0 where
@@ -33,15 +33,17 @@ pub record Writes (file : FileName) (at : ℕ) (bytes : List ℕ) (result : Resu
   pub err : ¬ IsForeign old file → OnErr result (Torn at (length bytes) (old.held file) (new.held file))
   pub left : ¬ IsLoose old file → ChangesLeft (Torn at (length bytes)) old new file
 
--- Ok: a crash leaves what the file reads as. It changes none.
+-- Ok: a crash leaves what the file reads as. It changes none, and syncs no other; else nothing is changed.
 pub record Syncs (file : FileName) (result : Result (Unit {0}) GroundFault) (old new : Told) : Type 0 where
   pub advances : OnOk result (old.moment < new.moment)
   pub goes : KeepsPast old new
-  pub files : (other : FileName) → KeepsFile old new other
+  pub files : (any : FileName) → SyncsAtMost old new any
+  pub others : (other : FileName) → other ≢ file → KeepsFile old new other
   pub ok : ¬ IsForeign old file → OnOk result (IsKept new file)
   pub firm : ¬ IsForeign old file → OnOk result (¬ IsLoose new file)
-  pub lending : OnOk result ((attempt : ℕ) → new.lending attempt ≡ after_sync file attempt (old.lending attempt))
-  pub refused : OnErr result ((attempt : ℕ) → new.lending attempt ≡ old.lending attempt)
+  pub refused : OnErr result (ChangesOnly NoFile old new)
+  pub turns : (attempt : ℕ) → TurnsCustody old new attempt
+  pub lending : OnOk result ((attempt : ℕ) → lending new attempt ≡ after_sync file attempt (lending old attempt))
   pub said : KeepsSaid old new
 
 -- Ok: the file is absent. A crash may leave it or not, until it is synced.
@@ -57,19 +59,21 @@ pub record Lends (attempt : ℕ) (result : Result (Unit {0}) GroundFault) (old n
   pub advances : OnOk result (old.moment < new.moment)
   pub goes : KeepsPast old new
   pub files : (file : FileName) → ¬ IsOfAttempt attempt file → KeepsFile old new file
-  pub ok : OnOk result (new.lending attempt ≡ lent)
-  pub err : OnErr result ((new.lending attempt ≡ lent) ⊎ ChangesOnly NoFile old new)
-  pub others : (other : ℕ) → other ≢ attempt → new.lending other ≡ old.lending other
+  pub ok : OnOk result (lending new attempt ≡ lent)
+  pub err : OnErr result ((lending new attempt ≡ lent) ⊎ ChangesOnly NoFile old new)
+  pub turns : TurnsCustody old new attempt
+  pub others : (other : ℕ) → other ≢ attempt → KeepsCustody old new other
   pub said : KeepsSaid old new
 
--- Ok: a lent attempt is settled, and holds from then on what it reads as now.
+-- Ok: a lent attempt is settled, and holds from then on what it reads as now. Else nothing is changed.
 pub record Settles (attempt : ℕ) (result : Result (Unit {0}) GroundFault) (old new : Told) : Type 0 where
   pub advances : OnOk result (old.moment < new.moment)
   pub goes : KeepsPast old new
   pub files : (file : FileName) → KeepsFile old new file
-  pub ok : OnOk result (new.lending attempt ≡ after_settle new.held (old.lending attempt))
-  pub refused : OnErr result (new.lending attempt ≡ old.lending attempt)
-  pub others : (other : ℕ) → other ≢ attempt → new.lending other ≡ old.lending other
+  pub ok : OnOk result (lending new attempt ≡ after_settle new.held (lending old attempt))
+  pub refused : OnErr result (ChangesOnly NoFile old new)
+  pub turns : TurnsCustody old new attempt
+  pub others : (other : ℕ) → other ≢ attempt → KeepsCustody old new other
   pub said : KeepsSaid old new
 
 -- Ok: the bytes were said; else a front of them, as at each moment of the call.
@@ -77,6 +81,6 @@ pub record Says (bytes : List ℕ) (result : Result (Unit {0}) GroundFault) (old
   pub advances : OnOk result (old.moment < new.moment)
   pub goes : KeepsPast old new
   pub files : (file : FileName) → KeepsFile old new file
-  pub lending : (attempt : ℕ) → new.lending attempt ≡ old.lending attempt
+  pub lending : (attempt : ℕ) → KeepsCustody old new attempt
   pub ok : OnOk result (said new ≡ said old ++ bytes)
   pub front : (moment : ℕ) → old.moment < moment → moment ≤ new.moment → (n : ℕ) × (n ≤ length bytes) × (new.said_at moment ≡ said old ++ take n bytes)

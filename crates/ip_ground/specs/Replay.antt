@@ -101,7 +101,7 @@ told_by log = record {
   held = (replayed blank log).held;
   may_leave = λ moment. (replayed blank (take moment log)).may_leave;
   said_at = λ moment. (replayed blank (take moment log)).said;
-  lending = (replayed blank log).lending;
+  lending_at = λ moment. (replayed blank (take moment log)).lending;
 }
 
 -- what was said since the last stop, after an event

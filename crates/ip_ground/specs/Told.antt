@@ -1,5 +1,5 @@
 -- What a ground tells of its content, and how that goes on.
-use Rattle.std.specs.Prelude.{◌≡◌, ℕ, ◌<◌, ◌≤◌, List, [], None, Bool, IsTrue}
+use Rattle.std.specs.Prelude.{◌≡◌, ◌⊎◌, ℕ, ◌<◌, ◌≤◌, List, [], None, Bool, IsTrue}
 use Rattle.ip_ground.specs.declared.names.FileName.{FileName}
 use Rattle.ip_ground.specs.Contents.{Content, Image, Leave, Possible, Torn}
 use Rattle.ip_ground.specs.Custody.{Custody, own, settled, custody_of}
@@ -14,23 +14,27 @@ pub record Told : Type 1 where
   pub may_leave : ℕ → Leave
   -- what had been said at a moment up to now
   pub said_at : ℕ → List ℕ
-  -- whose the files of each attempt are, now
-  pub lending : ℕ → Custody
+  -- whose the files of an attempt were at a moment up to now
+  pub lending_at : ℕ → ℕ → Custody
 
 abbrev pub said : Told → List ℕ
 said told = told.said_at told.moment
 
+-- whose the files of each attempt are, now
+abbrev pub lending : Told → ℕ → Custody
+lending told = told.lending_at told.moment
+
 -- the child may change the file between any two calls
 abbrev pub IsForeign : Told → FileName → Type 0
-IsForeign told file = custody.IsForeign (custody_of told.lending file)
+IsForeign told file = custody.IsForeign (custody_of (lending told) file)
 
 -- nothing binds what a crash leaves of the file
 abbrev pub IsLoose : Told → FileName → Type 0
-IsLoose told file = custody.IsLoose (custody_of told.lending file) file
+IsLoose told file = custody.IsLoose (custody_of (lending told) file) file
 
 -- the attempt is settled, and its files held this then
 abbrev pub IsSettledAs : Told → ℕ → Image → Type 0
-IsSettledAs told attempt pair = (synced : FileName → Bool) × (told.lending attempt ≡ settled pair synced)
+IsSettledAs told attempt pair = (synced : FileName → Bool) × (lending told attempt ≡ settled pair synced)
 
 -- Time goes on: what was told of earlier moments stands.
 pub record KeepsPast (old new : Told) : Type 0 where
@@ -38,22 +42,40 @@ pub record KeepsPast (old new : Told) : Type 0 where
   pub left : (moment : ℕ) (file : FileName) (content : Content) → moment ≤ old.moment → new.may_leave moment file content → old.may_leave moment file content
   pub still_left : (moment : ℕ) (file : FileName) (content : Content) → moment ≤ old.moment → old.may_leave moment file content → new.may_leave moment file content
   pub said : (moment : ℕ) → moment ≤ old.moment → new.said_at moment ≡ old.said_at moment
+  pub lending : (moment attempt : ℕ) → moment ≤ old.moment → new.lending_at moment attempt ≡ old.lending_at moment attempt
 
 -- Each content of the file that a crash may leave at a moment since old is one of before, after a step.
 abbrev pub ChangesLeft : (Content → Content → Type 0) → Told → Told → FileName → Type 0
 ChangesLeft step old new file = (moment : ℕ) (content : Content) → old.moment < moment → moment ≤ new.moment → new.may_leave moment file content
     → (before : Content) × old.may_leave old.moment file before × step before content
 
--- The file stays as it was, by what a read gives and by what a crash may leave, as far as its child leaves it so.
+-- The file reads as it did, and a crash leaves nothing more of it, as far as its child leaves it so: at most it was synced.
+pub record SyncsAtMost (old new : Told) (file : FileName) : Type 0 where
+  pub held : ¬ IsForeign old file → new.held file ≡ old.held file
+  pub left : ¬ IsLoose old file → (moment : ℕ) (content : Content) → old.moment < moment → moment ≤ new.moment → new.may_leave moment file content → old.may_leave old.moment file content
+  pub own : ¬ IsForeign old file → ¬ IsForeign new file
+  pub firm : ¬ IsLoose old file → ¬ IsLoose new file
+
+-- The file stays as it was, by what a read gives and by what a crash may leave, as far as its child leaves it so. What was
+-- pending is so still: it was not synced either.
 pub record KeepsFile (old new : Told) (file : FileName) : Type 0 where
   pub held : ¬ IsForeign old file → new.held file ≡ old.held file
   pub left : ¬ IsLoose old file → (moment : ℕ) (content : Content) → old.moment < moment → moment ≤ new.moment → new.may_leave moment file content → old.may_leave old.moment file content
+  pub still_left : ¬ IsLoose old file → (moment : ℕ) (content : Content) → old.moment < moment → moment ≤ new.moment → old.may_leave old.moment file content → new.may_leave moment file content
   pub own : ¬ IsForeign old file → ¬ IsForeign new file
   pub firm : ¬ IsLoose old file → ¬ IsLoose new file
 
 -- Nothing is said.
 abbrev pub KeepsSaid : Told → Told → Type 0
 KeepsSaid old new = (moment : ℕ) → old.moment < moment → moment ≤ new.moment → new.said_at moment ≡ said old
+
+-- The custody of the attempt is what it was, at each moment since.
+abbrev pub KeepsCustody : Told → Told → ℕ → Type 0
+KeepsCustody old new attempt = (moment : ℕ) → old.moment < moment → moment ≤ new.moment → new.lending_at moment attempt ≡ lending old attempt
+
+-- At each moment since, the custody of the attempt is what it was before, or what it is now.
+abbrev pub TurnsCustody : Told → Told → ℕ → Type 0
+TurnsCustody old new attempt = (moment : ℕ) → old.moment < moment → moment ≤ new.moment → (new.lending_at moment attempt ≡ lending old attempt) ⊎ (new.lending_at moment attempt ≡ lending new attempt)
 
 -- Each content that a crash may leave of the file at a moment since old has this.
 abbrev pub EachSince : Told → Told → FileName → (Content → Type 0) → Type 0
@@ -99,19 +121,24 @@ Only file other = other ≡ file
 abbrev pub NoFile : FileName → Type 0
 NoFile file = ⊥
 
--- At no moment since old has a file changed but these, nothing was said, and none was lent or settled.
+-- At no moment since old has a file changed but these, or was synced, nothing was said, and none was lent or settled.
 pub record ChangesOnly (these : FileName → Type 0) (old new : Told) : Type 0 where
   pub goes : KeepsPast old new
   pub others : (file : FileName) → ¬ these file → KeepsFile old new file
-  pub lending : (attempt : ℕ) → new.lending attempt ≡ old.lending attempt
+  pub lending : (attempt : ℕ) → KeepsCustody old new attempt
   pub said : KeepsSaid old new
+
+-- At no moment since old has a file changed, but that these may have been synced, nothing was said, and none was lent or settled.
+pub record SyncsOnly (these : FileName → Type 0) (old new : Told) : Type 0 where
+  pub changes : ChangesOnly these old new
+  pub files : (file : FileName) → SyncsAtMost old new file
 
 -- No file is there, a crash leaves none, nothing was said, and no attempt was ever lent.
 pub record IsBlank (told : Told) : Type 0 where
   pub held : (file : FileName) → told.held file ≡ None
   pub kept : (file : FileName) → IsKept told file
   pub said : said told ≡ []
-  pub lending : (attempt : ℕ) → told.lending attempt ≡ own
+  pub lending : (moment attempt : ℕ) → moment ≤ told.moment → told.lending_at moment attempt ≡ own
 
 -- A ground that is opened again after a stop: it reads as something that a crash might have left, and a further crash
 -- leaves nothing else. An attempt that was not settled stays lent, and a file that was loose stays so until it is synced.
@@ -119,7 +146,7 @@ pub record Reopens (old new : Told) : Type 0 where
   pub held : (file : FileName) → old.may_leave old.moment file (new.held file)
   pub left : (file : FileName) (content : Content) → new.may_leave new.moment file content → old.may_leave old.moment file content
   pub said : said new ≡ []
-  pub lending : (attempt : ℕ) → new.lending attempt ≡ old.lending attempt
+  pub lending : (attempt : ℕ) → lending new attempt ≡ lending old attempt
 
 -- The file held this when nothing of it was pending for the last time: there was a moment at which a crash would have
 -- left this alone, and at none since is it impossible. So it is what the file held when it was synced last.
@@ -129,4 +156,4 @@ IsSyncedAs told file content = (moment : ℕ) × (moment ≤ told.moment) × ((o
 
 -- what a ground that tells nothing tells
 abbrev pub silent : Told
-silent = record { moment = 0; held = λ file. None; may_leave = λ moment file content. Unit {0}; said_at = λ moment. []; lending = λ attempt. own }
+silent = record { moment = 0; held = λ file. None; may_leave = λ moment file content. Unit {0}; said_at = λ moment. []; lending_at = λ moment attempt. own }

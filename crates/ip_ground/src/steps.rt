@@ -1,6 +1,6 @@
 // The steps of a ground in memory, over its files and its log.
 ghost use Rattle.std.specs.Prelude.{◌≡◌, ◌≤◌, ◌-◌, ◌++◌, [], ◌∷◌, length, min, take, drop, IfOk, OnOk, OnErr, IsTrue};
-ghost use Rattle.ip_ground.specs.Told.{said, IsLoose, NoFile, ChangesOnly, Reopens, IsSyncedAs};
+ghost use Rattle.ip_ground.specs.Told.{said, lending, IsLoose, NoFile, ChangesOnly, Reopens, IsSyncedAs};
 ghost use Rattle.ip_ground.specs.Custody.{custody_of, lent};
 ghost use Rattle.ip_ground.specs.Replay.{told_by, durable_by, said_after, lent_after, keeps_files, keeps_durable};
 ghost use Rattle.ip_ground.specs.Map.{content_in, IsTied, IsSynced};
@@ -75,7 +75,7 @@ fn say_again(event: &Event, out: &mut Vec<u8>) -> Result<(), AllocError>
 
 // Whether the child may change the files of this attempt.
 fn is_lent(log: &[Event], attempt: u64) -> bool
-    ensures { IsTrue result → (told_by log.now).lending attempt ≡ lent }
+    ensures { IsTrue result → lending (told_by log.now) attempt ≡ lent }
 {
     let mut is_lent = false;
     for event in log {
@@ -96,7 +96,7 @@ fn is_lent_after(event: &Event, attempt: u64, before: bool) -> bool
 
 // Whether the child may change this file.
 fn is_foreign(log: &[Event], file: FileName) -> bool
-    ensures { IsTrue result → custody_of (told_by log.now).lending file ≡ lent }
+    ensures { IsTrue result → custody_of (lending (told_by log.now)) file ≡ lent }
 {
     match file {
         FileName::Control | FileName::Chunk(_) => false,
@@ -137,7 +137,7 @@ fn note_made(
     bytes: &[u8],
 ) -> Result<(), AllocError>
     requires tied { IsTied files.old log.old.items }
-    requires lent { custody_of (told_by log.old.items).lending file ≡ lent }
+    requires lent { custody_of (lending (told_by log.old.items)) file ≡ lent }
     ensures tied { IsTied files.new log.new.items }
     ensures only { ChangesOnly NoFile (told_by log.old.items) (told_by log.new.items) }
     ensures durable { (file : _) → durable_by log.new.items file ≡ durable_by log.old.items file }
@@ -158,7 +158,7 @@ fn note_made(
 // The child removed a file.
 fn note_gone(files: &mut Files, log: &mut Vec<Event>, file: FileName) -> Result<(), AllocError>
     requires tied { IsTied files.old log.old.items }
-    requires lent { custody_of (told_by log.old.items).lending file ≡ lent }
+    requires lent { custody_of (lending (told_by log.old.items)) file ≡ lent }
     ensures tied { IsTied files.new log.new.items }
     ensures only { ChangesOnly NoFile (told_by log.old.items) (told_by log.new.items) }
     ensures durable { (file : _) → durable_by log.new.items file ≡ durable_by log.old.items file }

@@ -1,9 +1,9 @@
-use Rattle.std.proofs.Common.{◌≡◌, None, refl, sym, ap, subst}
+use Rattle.std.proofs.Common.{◌≡◌, ℕ, None, refl, sym, ◌∙◌, ap, subst}
 use Rattle.ip_ground.specs.declared.event.Event.TheVariants.{Changed}
-use Rattle.ip_ground.specs.Custody.{custody_of}
+use Rattle.ip_ground.specs.Custody.{Custody, custody_of}
 use Rattle.ip_ground.specs.Told.{NoFile, ChangesOnly}
-use Rattle.ip_ground.specs.Replay.{told_by, changed_by_child}
-use Rattle.ip_ground.proofs.Replays.{changed}
+use Rattle.ip_ground.specs.Replay.{blank, replayed, told_by, changed_by_child}
+use Rattle.ip_ground.proofs.Replays.{told_lending, changed}
 use Rattle.ip_ground.proofs.Ties.{tied_made, durable_pushed}
 use Rattle.ip_ground.proofs.steps.note_gone.Goals as goal
 
@@ -14,8 +14,8 @@ returns-clause-only c =
 pub returns-clause-tied : goal.returns-clause-tied
 returns-clause-tied c =
     let log = c.args.log.now.items in
-    let made : changed_by_child (custody_of (told_by log).lending c.args.file) ((told_by log).held c.args.file) None ≡ None =
-    ap (λ st. changed_by_child st ((told_by log).held c.args.file) None) c.requires.lent in
+    let made : changed_by_child (custody_of (replayed blank log).lending c.args.file) ((told_by log).held c.args.file) None ≡ None =
+    ap (λ st. changed_by_child st ((told_by log).held c.args.file) None) (ap (λ (l : ℕ → Custody). custody_of l c.args.file) (sym (told_lending log)) ∙ c.requires.lent) in
     tied_made c.args.files.now c.discard.new.files log c.push.new.self.items (Changed c.args.file None) c.in_ok-push.ensures.items c.requires.tied
     c.args.file _ _ (λ f. refl) c.discard.ensures (sym made)
 

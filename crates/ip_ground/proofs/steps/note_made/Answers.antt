@@ -1,9 +1,9 @@
-use Rattle.std.proofs.Common.{◌≡◌, [], ◌∷◌, ◌++◌, Some, refl, sym, ◌∙◌, ap, subst, rules}
+use Rattle.std.proofs.Common.{◌≡◌, ℕ, [], ◌∷◌, ◌++◌, Some, refl, sym, ◌∙◌, ap, subst, rules}
 use Rattle.ip_ground.specs.declared.event.Event.TheVariants.{Changed}
-use Rattle.ip_ground.specs.Custody.{custody_of}
+use Rattle.ip_ground.specs.Custody.{Custody, custody_of}
 use Rattle.ip_ground.specs.Told.{NoFile, ChangesOnly}
-use Rattle.ip_ground.specs.Replay.{told_by, changed_by_child}
-use Rattle.ip_ground.proofs.Replays.{changed}
+use Rattle.ip_ground.specs.Replay.{blank, replayed, told_by, changed_by_child}
+use Rattle.ip_ground.proofs.Replays.{told_lending, changed}
 use Rattle.ip_ground.proofs.Ties.{tied_made, durable_pushed}
 use Rattle.ip_ground.proofs.steps.note_made.Goals as goal
 
@@ -17,8 +17,8 @@ returns-clause-tied c =
     let log = c.args.log.now.items in
     let grown = c.in-Ok.ensures.items ∙ ap (λ l. l ++ Changed c.args.file (Some c.in_ok-copy.copy) ∷ []) c.reserve.ensures.items in
     let same : c.in_ok-next.next.items ≡ c.in_ok-copy.copy.items = search rules in
-    let made : changed_by_child (custody_of (told_by log).lending c.args.file) ((told_by log).held c.args.file) (Some c.in_ok-copy.copy.items) ≡ Some c.in_ok-copy.copy.items =
-    ap (λ st. changed_by_child st ((told_by log).held c.args.file) (Some c.in_ok-copy.copy.items)) c.requires.lent in
+    let made : changed_by_child (custody_of (replayed blank log).lending c.args.file) ((told_by log).held c.args.file) (Some c.in_ok-copy.copy.items) ≡ Some c.in_ok-copy.copy.items =
+    ap (λ st. changed_by_child st ((told_by log).held c.args.file) (Some c.in_ok-copy.copy.items)) (ap (λ (l : ℕ → Custody). custody_of l c.args.file) (sym (told_lending log)) ∙ c.requires.lent) in
     tied_made c.args.files.now c.replace.new.files log c.push.new.self.items (Changed c.args.file (Some c.in_ok-copy.copy)) grown c.requires.tied
     c.args.file _ _ (λ f. refl) c.in_ok-replace.ensures.ok (ap Some same ∙ sym made)
 
