@@ -12,9 +12,9 @@ use Rattle.ip_ground.specs.declared.names.FileName.{FileName}
 use Rattle.ip_ground.specs.declared.names.FileName.TheVariants.{Chunk}
 use Rattle.ip_ground.specs.declared.names.GroundFault.{GroundFault}
 use Rattle.ip_ground.specs.Contents.{Content, Image}
-use Rattle.ip_ground.specs.Told.{Told, said, KeepsPast, KeepsFile, KeepsSaid, EachSince, EachImage, EachImageNow, IsAbout, IsPossibleNow, IsKept, NoFile}
+use Rattle.ip_ground.specs.Told.{Told, said, KeepsPast, SyncsAtMost, KeepsSaid, EachSince, EachImage, EachImageNow, IsAbout, IsPossibleNow, IsKept}
 use Rattle.ip_ground.proofs.Exits.{Exit, exit_ok, exit_holds}
-use Rattle.ip_ground.proofs.Spans.{goes_on, only_on, only_more, each_on, each_stays, each_steps, left_now}
+use Rattle.ip_ground.proofs.Spans.{goes_on, only_on, each_on, each_synced, each_steps, left_now}
 use Rattle.ip_image.specs.Virtual.{chunk_of}
 use Rattle.ip_chunks.specs.Places.{chunk_file, chunk_start, byte_in, chunk_byte, NoGap, IsChunkBetween}
 use Rattle.ip_chunks.specs.Effects.{TornChunk, Appends, SyncsRange}
@@ -32,8 +32,8 @@ module _ (size at : ℕ) (bytes : List ℕ) where
   pub since_on : (a b c : Told) → KeepsPast b c → LeavesSince size at bytes a b → LeavesSince size at bytes b c → LeavesSince size at bytes a c
   since_on a b c next first onward k lt = each_on a b c (chunk_file size (at + k)) (Has k) next (first k lt) (onward k lt)
 
-  pub leaves_stay : (a b : Told) → ((number : ℕ) → KeepsFile a b (Chunk number)) → Leaves size at bytes a → LeavesSince size at bytes a b
-  leaves_stay a b stays now k lt = each_stays a b (chunk_file size (at + k)) (Has k) (λ x. x) (stays (chunk_of size (at + k))) (now k lt)
+  pub leaves_stay : (a b : Told) → ((number : ℕ) → SyncsAtMost a b (Chunk number)) → Leaves size at bytes a → LeavesSince size at bytes a b
+  leaves_stay a b stays now k lt = each_synced a b (chunk_file size (at + k)) (Has k) (λ x. x) (stays (chunk_of size (at + k))) (now k lt)
 
   pub stand_from : (told : Told) → IsPossibleNow told → Leaves size at bytes told → Holds size at bytes told.held
   unfolding chunk_byte
@@ -71,11 +71,11 @@ pub leaves_front : (size at : ℕ) (front rest : List ℕ) (told : Told) → Lea
 leaves_front size at front rest told leaves k lt content may = leaves k (omega (arith, length-append front rest, lt)) content may ∙ same_front front rest k lt
 
 -- what the places read as, over calls that change no chunk
-pub byte_stays : (size at : ℕ) (a b : Told) → ((number : ℕ) → KeepsFile a b (Chunk number)) → chunk_byte size b.held at ≡ chunk_byte size a.held at
+pub byte_stays : (size at : ℕ) (a b : Told) → ((number : ℕ) → SyncsAtMost a b (Chunk number)) → chunk_byte size b.held at ≡ chunk_byte size a.held at
 unfolding chunk_byte
 byte_stays size at a b stays = ap (byte_in size at) ((stays (chunk_of size at)).held (λ x. x))
 
-pub holds_stay : (size at : ℕ) (bytes : List ℕ) (a b : Told) → ((number : ℕ) → KeepsFile a b (Chunk number)) → Holds size at bytes a.held → Holds size at bytes b.held
+pub holds_stay : (size at : ℕ) (bytes : List ℕ) (a b : Told) → ((number : ℕ) → SyncsAtMost a b (Chunk number)) → Holds size at bytes a.held → Holds size at bytes b.held
 holds_stay size at bytes a b stays holds k lt = byte_stays size (at + k) a b stays ∙ holds k lt
 
 -- an append may follow bytes that begin not behind its chunk
@@ -112,8 +112,8 @@ module _ (size from end : ℕ) (front bytes : List ℕ) (ends : from + length fr
 
 module _ (size from end : ℕ) (front bytes : List ℕ) (ends : from + length front ≡ end) (a b c : Told) (holds : Holds size from front a.held) (appends : Appends size end bytes (Ok tt) a b)
     (r : Result (Unit {0}) GroundFault) (syncs : SyncsRange size end (end + length bytes) r b c) where
-  stays : (number : ℕ) → KeepsFile b c (Chunk number)
-  stays number = syncs.only.others (Chunk number) (λ none. none)
+  stays : (number : ℕ) → SyncsAtMost b c (Chunk number)
+  stays number = syncs.only.files (Chunk number)
 
   both_stand : Holds size from (front ++ bytes) c.held
   both_stand =
@@ -123,13 +123,13 @@ module _ (size from end : ℕ) (front bytes : List ℕ) (ends : from + length fr
   since_both : Leaves size from front a → LeavesSince size from front a c
   since_both leaves =
       let first = front_since size from end front bytes ends a b holds (Ok tt) appends leaves in
-      since_on size from front a b c syncs.only.goes first (leaves_stay size from front b c stays (leaves_on size from front a b appends.only.goes leaves first))
+      since_on size from front a b c syncs.only.changes.goes first (leaves_stay size from front b c stays (leaves_on size from front a b appends.only.goes leaves first))
 
   -- of a place in front a crash leaves what it left, of one behind what its synced chunk reads as
   both_left : Leaves size from front a → ((file : FileName) → IsChunkBetween size end (end + length bytes) file → IsKept c file) → Leaves size from (front ++ bytes) c
   unfolding chunk_byte
   both_left leaves kept k lt content may = elim (cases_lt k (length front)) [
-    | inl early ↦ leaves_on size from front a c (goes_on a b c appends.only.goes syncs.only.goes) leaves (since_both leaves) k early content may ∙ sym (same_front front bytes k early)
+    | inl early ↦ leaves_on size from front a c (goes_on a b c appends.only.goes syncs.only.changes.goes) leaves (since_both leaves) k early content may ∙ sym (same_front front bytes k early)
     | inr late ↦
         ap (byte_in size (from + k)) (kept (chunk_file size (from + k)) (from + k, (omega (arith, late, ends), omega (arith, lt, ends, length-append front bytes)), refl) content may)
         ∙ both_stand k lt
@@ -137,7 +137,7 @@ module _ (size from end : ℕ) (front bytes : List ℕ) (ends : from + length fr
 
   pub appends_kept : (s : Result (Unit {0}) GroundFault) → Exit r s → AppendsKept size from end front bytes s a c
   appends_kept s exit = record {
-    only = only_on a b c (IsChunkBetween size end (end + length bytes)) appends.only (only_more b c NoFile (IsChunkBetween size end (end + length bytes)) (λ f none. absurd none) syncs.only);
+    only = only_on a b c (IsChunkBetween size end (end + length bytes)) appends.only syncs.only.changes;
     held = exit_holds r s _ exit both_stand;
     synced = exit_ok r s _ exit syncs.ok;
     since = since_both;

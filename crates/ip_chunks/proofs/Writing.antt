@@ -9,12 +9,13 @@ use Rattle.ip_ground.specs.declared.names.FileName.TheVariants.{Chunk}
 use Rattle.ip_ground.specs.declared.names.GroundFault.{GroundFault}
 use Rattle.ip_ground.specs.Contents.{Content, Image, bytes_of, size_of, written, Torn}
 use Rattle.ip_ground.specs.Writing.{torn_written}
-use Rattle.ip_ground.specs.Told.{Told, ChangesLeft, Only}
-use Rattle.ip_ground.specs.Calls.{Reads, Writes}
+use Rattle.ip_ground.specs.Told.{Told, ChangesLeft, IsKept, Only}
+use Rattle.ip_ground.specs.Calls.{Reads, Writes, Syncs}
+use Rattle.ip_ground.proofs.Durable.{IsOwn, sync_syncs}
 use Rattle.ip_ground.proofs.Spans.{only_more}
 use Rattle.ip_image.specs.Virtual.{Stands, byte_of}
 use Rattle.ip_chunks.specs.Places.{chunk_start, chunk_byte, IsBetween, NoGap, IsChunkBetween}
-use Rattle.ip_chunks.specs.Effects.{TornByte, TornChunk, Appends, ReadsAt}
+use Rattle.ip_chunks.specs.Effects.{TornByte, TornChunk, Appends, ReadsAt, SyncsRange}
 use Rattle.ip_chunks.proofs.Gaps.{some_byte, no_byte, within_from, byte_there, torn_byte, written_byte}
 
 -- where no place up to the end is a gap, the file reaches so far
@@ -75,6 +76,18 @@ module _ (size end : ℕ) (bytes : List ℕ) (some : 0 < length bytes) (a b : To
     no_new_gap = λ at. (byte_torn at).within;
     left = left;
   }
+
+-- a chunk is no attempt's
+own_chunk : IsOwn (Chunk 0)
+own_chunk = record { own = λ told x. x; firm = λ told x. x; unmarked = λ attempt custody i. custody }
+
+pub syncs_range : (size from to : ℕ) → from < to → (a b : Told) (r : Result (Unit {0}) GroundFault) → Syncs (Chunk 0) r a b → SyncsRange size from to r a b
+syncs_range size from to some a b r syncs =
+    let of_it = sync_syncs (Chunk 0) own_chunk r a b syncs in
+    record {
+      only = record { changes = only_more a b (Only (Chunk 0)) (IsChunkBetween size from to) (λ f is. (from, (omega arith, some), is)) of_it.changes; files = of_it.files };
+      ok = on_ok_weaker r (λ kept file is. subst (λ f. IsKept b f) (sym is.2) kept) (syncs.ok (λ x. x));
+    }
 
 -- what a read of the file gives
 module _ (at n : ℕ) (out filled : List ℕ) (here : Content) (count : n ≡ min (length out) (size_of here - at)) (taken : take n filled ≡ take n (drop at (bytes_of here))) where

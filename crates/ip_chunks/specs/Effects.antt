@@ -6,7 +6,7 @@ use Rattle.ip_ground.specs.declared.names.FileName.{FileName}
 use Rattle.ip_ground.specs.declared.names.FileName.TheVariants.{Chunk}
 use Rattle.ip_ground.specs.declared.names.GroundFault.{GroundFault}
 use Rattle.ip_ground.specs.Contents.{Content}
-use Rattle.ip_ground.specs.Told.{Told, ChangesLeft, IsKept, NoFile, ChangesOnly}
+use Rattle.ip_ground.specs.Told.{Told, ChangesLeft, IsKept, NoFile, ChangesOnly, SyncsOnly}
 use Rattle.ip_image.specs.Virtual.{Stands, chunk_of}
 use Rattle.ip_chunks.specs.Places.{byte_in, chunk_byte, IsBetween, IsChunkBetween}
 
@@ -36,7 +36,8 @@ pub record ReadsAt (size at : ℕ) (out filled : List ℕ) (result : Result ℕ 
   pub bytes : IfOk result (λ n. Stands (chunk_byte size old.held) at (take n filled))
   pub gap : IfOk result (λ n. n < length out → chunk_byte size old.held (at + n) ≡ None)
 
--- Ok: of each chunk that holds a place of the range a crash leaves what it reads as. No file changes.
+-- Ok: of each chunk that holds a place of the range a crash leaves what it reads as. No file changes, and no
+-- other is synced.
 pub record SyncsRange (size from to : ℕ) (result : Result (Unit {0}) GroundFault) (old new : Told) : Type 0 where
-  pub only : ChangesOnly NoFile old new
+  pub only : SyncsOnly (IsChunkBetween size from to) old new
   pub ok : OnOk result ((file : FileName) → IsChunkBetween size from to file → IsKept new file)
