@@ -60,7 +60,7 @@ module _ (chunk : ℕ) (a b c : Told) (passes : ChangesOnly NoFile a b) (result 
 
 module _ (chunk : ℕ) (a b c d : Told) (passes : ChangesOnly NoFile a b) (writes : Writes Control 0 (fresh_control chunk) (Ok tt) b c) (result : Result (Unit {0}) GroundFault) (syncs : Syncs Control result c d) where
   pub sync_only : ChangesOnly (Only Control) a d
-  sync_only = only_on a c d (Only Control) (write_only chunk a b c passes (Ok tt) writes) (to_control c d (sync_changes Control own result c d syncs))
+  sync_only = only_on a c d (Only Control) (write_only chunk a b c passes (Ok tt) writes) (sync_changes Control own result c d syncs)
 
 -- no record is named, so none is pending
 none_begins : (bytes : List ℕ) (content : Content) → BeginsWith (take 0 bytes) content
@@ -86,4 +86,4 @@ makes chunk size a b c d passes closed writes syncs = record {
 }
   where
     made : IsFresh chunk d.held
-    made = ap (λ l. take 256 l) (control_passes c d (sync_changes Control own (Ok tt) c d syncs) ∙ ap bytes_of (writes.ok (λ x. x))) ∙ fresh_written chunk (b.held Control)
+    made = ap (λ l. take 256 (bytes_of l)) ((syncs.files Control).held (λ x. x) ∙ writes.ok (λ x. x)) ∙ fresh_written chunk (b.held Control)

@@ -11,10 +11,10 @@ use Rattle.ip_ground.specs.declared.names.FileName.{FileName}
 use Rattle.ip_ground.specs.declared.names.FileName.TheVariants.{Control, Chunk}
 use Rattle.ip_ground.specs.declared.names.GroundFault.{GroundFault}
 use Rattle.ip_ground.specs.Contents.{Content}
-use Rattle.ip_ground.specs.Told.{Told, NoFile, KeepsFile, ChangesOnly, IsKept}
+use Rattle.ip_ground.specs.Told.{Told, NoFile, Only, KeepsFile, ChangesOnly, SyncsOnly, IsKept}
 use Rattle.ip_ground.specs.Calls.{Syncs}
-use Rattle.ip_ground.proofs.Spans.{only_on}
-use Rattle.ip_ground.proofs.Durable.{sync_changes, kept_passes}
+use Rattle.ip_ground.proofs.Spans.{syncs_none, syncs_on}
+use Rattle.ip_ground.proofs.Durable.{sync_syncs, kept_passes}
 use Rattle.ip_spec.specs.Map.{Map}
 use Rattle.ip_spec.specs.Path.{Bytes, bytes_cmp}
 use Rattle.ip_spec.specs.declared.record.CommitRecord.{CommitRecord}
@@ -26,7 +26,7 @@ use Rattle.ip_image.specs.Slot.{IsSlot, IsLive, live_index}
 use Rattle.ip_image.specs.Virtual.{byte_of}
 use Rattle.ip_image.specs.Standing.{EndToEnd, AreRetained, WholeFits, DamagedAt, commits_in}
 use Rattle.ip_image.specs.Headline.{IsInOrder}
-use Rattle.ip_image.proofs.HeadlineLaws.{order_passes}
+use Rattle.ip_image.proofs.HeadlineLaws.{order_synced}
 use Rattle.ip_control.specs.declared.fault.ControlFault.{ControlFault}
 use Rattle.ip_control.specs.Finding.{Finds}
 use Rattle.ip_audit.specs.Audits.{commit_name}
@@ -111,21 +111,21 @@ module _ (index : ℕ) (s : Slot) (is : IsSlot s) (below : index < 2) (found : F
 -- ---- finding the slot
 
 -- the calls up to the sync
-pub sync_only : (a b c : Told) (result : Result (Unit {0}) GroundFault) → ChangesOnly NoFile a b → Syncs Control result b c → ChangesOnly NoFile a c
-sync_only a b c result passes syncs = only_on a b c NoFile passes (sync_changes Control own result b c syncs)
+pub sync_only : (a b c : Told) (result : Result (Unit {0}) GroundFault) → ChangesOnly NoFile a b → Syncs Control result b c → SyncsOnly (Only Control) a c
+sync_only a b c result passes syncs = syncs_on a b c (Only Control) (syncs_none a b (Only Control) passes) (sync_syncs Control own result b c syncs)
 
 -- no moment is so late
 too_late : {X : Type 0} (now t : ℕ) → now + 1 ≤ t → t ≤ now → X
 too_late now t late le = absurd (omega (arith, late, le))
 
-pub finds_fault : (r : Result (ℕ × Slot) OpenFault) (a b : Told) → IsErrAnd r (λ e. e ≡ OpenFault.Ground) → ChangesOnly NoFile a b → FindsSlot r a b
+pub finds_fault : (r : Result (ℕ × Slot) OpenFault) (a b : Told) → IsErrAnd r (λ e. e ≡ OpenFault.Ground) → SyncsOnly (Only Control) a b → FindsSlot r a b
 finds_fault (Ok live) a b is only = absurd is
 finds_fault (Err fault) a b is only = record {
   only = only;
   finds = subst (λ (f : OpenFault). FoundIn b.held (Err f)) (sym is) tt;
   kept = tt;
   since = b.moment + 1;
-  begins = (let later = only.goes.later in omega (arith, later));
+  begins = (let later = only.changes.goes.later in omega (arith, later));
   reached = λ answered. absurd (subst (λ (f : OpenFault). IsReached {A = ℕ × Slot} (Err f)) is answered);
   left = λ t late le. too_late b.moment t late le;
 }
@@ -137,7 +137,7 @@ measured size (Some bytes) none is = let e : is_none (Some (length bytes)) ≡ t
 -- no control file is there
 pub finds_none : (a b : Told) → ChangesOnly NoFile a b → b.held Control ≡ None → FindsSlot (Err OpenFault.NoStore) a b
 finds_none a b only none = record {
-  only = only;
+  only = syncs_none a b (Only Control) only;
   finds = subst (λ (c : Content). IfSome c (λ control. live_index control ≡ None)) (sym none) tt;
   kept = tt;
   since = b.moment + 1;
@@ -172,7 +172,7 @@ found_form control fault index is found = subst (λ (x : ControlFault). Finds co
 module _ (a b c d : Told) (passes : ChangesOnly NoFile a b) (syncs : Syncs Control (Ok tt) b c) (reads : ChangesOnly NoFile c d) where
   pub finds : (r : Result (ℕ × Slot) OpenFault) → FoundIn d.held r → FindsSlot r a d
   finds r found = record {
-    only = only_on a c d NoFile (sync_only a b c (Ok tt) passes syncs) reads;
+    only = syncs_on a c d (Only Control) (sync_only a b c (Ok tt) passes syncs) (syncs_none c d (Only Control) reads);
     finds = found;
     kept = on_ok r (IsKept d Control) (kept_passes Control own c d reads (syncs.ok (λ x. x)));
     since = c.moment;
@@ -197,8 +197,8 @@ module _ (a b c d : Told) (passes : ChangesOnly NoFile a b) (syncs : Syncs Contr
 
 -- ---- opening
 
-passes_order : (a b : Told) → ChangesOnly NoFile a b → IsInOrder a → IsInOrder b
-passes_order a b only = order_passes a b only.goes (only.others Control (λ x. absurd x)) (only.others (Chunk 0) (λ x. absurd x))
+synced_order : (a b : Told) → SyncsOnly (Only Control) a b → IsInOrder a → IsInOrder b
+synced_order a b only = order_synced a b only.changes.goes (only.files Control) (only.files (Chunk 0))
 
 -- no slot was found
 pub opens_none : (fault : OpenFault) (r : Result Store OpenFault) (a b : Told) → IsErr r × IsErrAnd r (λ e. e ≡ fault) → FindsSlot (Err fault) a b → Opens r a b
@@ -212,7 +212,7 @@ opens_none fault (Err other) a b is slot = record {
     since = slot.since;
     begins = slot.begins;
     secures = secures_from a b slot.since slot.begins slot.only slot.left;
-    order = passes_order a b slot.only;
+    order = synced_order a b slot.only;
   };
   reached = λ answered some. slot.reached (subst (λ (f : OpenFault). IsReached {A = ℕ × Slot} (Err f)) is.1 (by other answered)) some;
 }
@@ -227,8 +227,8 @@ module _ (index : ℕ) (s : Slot) (below : index < 2) (is : IsSlot s) (a b c : T
   live_now : IsLive (control_in c.held) index s
   live_now = subst (λ (bytes : Bytes). IsLive bytes index s) (sym (control_passes b c reads)) slot.finds
 
-  only_now : ChangesOnly NoFile a c
-  only_now = only_on a b c NoFile slot.only reads
+  only_now : SyncsOnly (Only Control) a c
+  only_now = syncs_on a b c (Only Control) slot.only (syncs_none b c (Only Control) reads)
 
   reached_now : IsSome (a.held Control) → slot.since ≤ c.moment
   reached_now some = let was = slot.reached tt some in let later = reads.goes.later in omega (arith, was, later)
@@ -247,7 +247,7 @@ module _ (index : ℕ) (s : Slot) (below : index < 2) (is : IsSlot s) (a b c : T
     since = slot.since;
     begins = slot.begins;
     secures = secures_from a c slot.since slot.begins only_now left_now;
-    order = passes_order a c only_now;
+    order = synced_order a c only_now;
   }
 
   pub opens_bad : (fault : OpenFault) → (fault ≡ OpenFault.NoStore → ⊥) → ((file : FileName) (at : ℕ) → fault ≡ OpenFault.Damaged file at → BadRecord s (chunk c) file at) → Opens (Err fault) a c

@@ -9,7 +9,7 @@ use Rattle.ip_ground.specs.declared.names.FileName.TheVariants.{Control, Chunk}
 use Rattle.ip_ground.specs.Contents.{Content, Image, Leave, Possible, bytes_of}
 use Rattle.ip_ground.specs.Custody.{is_same_file}
 use Rattle.ip_ground.specs.Files.{same_file}
-use Rattle.ip_ground.specs.Told.{Told, KeepsFile, NoFile, ChangesOnly}
+use Rattle.ip_ground.specs.Told.{Told, KeepsFile, Only, SyncsOnly}
 use Rattle.ip_spec.specs.Path.{Bytes}
 use Rattle.ip_spec.specs.Repository.{Repository}
 use Rattle.ip_image.specs.declared.slot.Slot.{Slot}
@@ -67,13 +67,13 @@ module _ (store : Store) (r : Repository) (a : Told) (holds : Holds store a r) w
 standing_has : (image : Image) (r : Repository) (stands : StandsFor image r) → HasLive stands.standing.slot image
 standing_has image r stands = record { control = stands.standing.control; index = stands.standing.index; held = stands.standing.held; live = stands.standing.live }
 
--- from a moment on a crash leaves the control file that is read, and no file changes
-pub secures_from : (a b : Told) (from : ℕ) → a.moment < from → ChangesOnly NoFile a b → ((t : ℕ) → from ≤ t → t ≤ b.moment → (content : Content) → b.may_leave t Control content → content ≡ b.held Control)
+-- from a moment on a crash leaves the control file that is read, and no file changes, but that it is synced
+pub secures_from : (a b : Told) (from : ℕ) → a.moment < from → SyncsOnly (Only Control) a b → ((t : ℕ) → from ≤ t → t ≤ b.moment → (content : Content) → b.may_leave t Control content → content ≡ b.held Control)
     → (r : Repository) → StandsFor a.held r → IsInOrder a → (t : ℕ) → from ≤ t → t ≤ b.moment → Secures (b.may_leave t) r
 secures_from a b from begins only left r stands order t late le =
     secured (b.may_leave t) a.held r stands.standing.slot stands (standing_has a.held r stands)
-    (λ content here. left t late le content here ∙ (only.others Control (λ none. absurd none)).held (λ x. x))
-    (λ content here. order stands.standing.slot (standing_has a.held r stands) content ((only.others (Chunk 0) (λ none. absurd none)).left (λ x. x) t content (omega (arith, begins, late)) le here))
+    (λ content here. left t late le content here ∙ (only.files Control).held (λ x. x))
+    (λ content here. order stands.standing.slot (standing_has a.held r stands) content ((only.files (Chunk 0)).left (λ x. x) t content (omega (arith, begins, late)) le here))
 
 -- the same image, with another content of the chunk
 with_chunk : Image → Content → Image

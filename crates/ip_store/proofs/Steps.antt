@@ -9,7 +9,7 @@ use Rattle.ip_ground.specs.Contents.{Image, bytes_of, size_of, Torn}
 use Rattle.ip_ground.specs.Told.{Told, KeepsFile, IsPossibleNow, EachSince, EachNow, EachImage, Only, NoFile, ChangesOnly}
 use Rattle.ip_ground.specs.Calls.{Writes, Syncs}
 use Rattle.ip_ground.proofs.Exits.{Exit, exit_ok, exit_holds}
-use Rattle.ip_ground.proofs.Spans.{only_on, only_more, each_on, each_stays, each_steps, each_weaker, left_now, held_since, images_on, images_of_two}
+use Rattle.ip_ground.proofs.Spans.{only_on, only_more, each_on, each_stays, each_synced, each_steps, each_weaker, left_now, held_since, images_on, images_of_two}
 use Rattle.ip_ground.proofs.Durable.{IsOwn, sync_changes, now_from_kept}
 use Rattle.ip_image.specs.declared.slot.Slot.{Slot}
 use Rattle.ip_image.specs.Slot.{slot_bytes}
@@ -45,11 +45,11 @@ module _ (end : ℕ) (bytes : List ℕ) (a b : Told) (long : end ≤ size_of (a.
 
   pub writes_records : (c : Told) (r s : Result (Unit {0}) GroundFault) → Exit r s → Writes (Chunk 0) end bytes (Ok tt) a b → Syncs (Chunk 0) r b c → WritesRecords end bytes s a c
   writes_records c r s exit writes syncs = record {
-    only = only_on a b c (Only (Chunk 0)) writes.only (only_more b c NoFile (Only (Chunk 0)) (λ f none. absurd none) (sync_changes (Chunk 0) chunk_own r b c syncs));
+    only = only_on a b c (Only (Chunk 0)) writes.only (sync_changes (Chunk 0) chunk_own r b c syncs);
     held = exit_holds r s _ exit holds;
     kept = on_ok_weaker s (λ kept. now_from_kept (Chunk 0) c (BeginsWith (front ++ bytes)) kept holds) (exit_ok r s _ exit (syncs.ok (λ x. x)));
     since = λ left. each_on a b c (Chunk 0) (BeginsWith front) syncs.goes (front_since (Ok tt) writes left)
-        (each_stays b c (Chunk 0) (BeginsWith front) (λ x. x) (syncs.files (Chunk 0)) (left_now a b (Chunk 0) (BeginsWith front) writes.only.goes left (front_since (Ok tt) writes left)));
+        (each_synced b c (Chunk 0) (BeginsWith front) (λ x. x) (syncs.files (Chunk 0)) (left_now a b (Chunk 0) (BeginsWith front) writes.only.goes left (front_since (Ok tt) writes left)));
   }
     where
       holds : BeginsWith (front ++ bytes) (c.held (Chunk 0))

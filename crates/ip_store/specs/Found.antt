@@ -2,7 +2,7 @@
 --     FindsSlot result old new      what finding the live slot does.      Finishes index s found result      what makes a store of it, and of what was found
 use Rattle.std.specs.Prelude.{◌≡◌, ℕ, ◌*◌, ◌<◌, ◌≤◌, map, Result, Ok, Err, OnOk, IsSome}
 use Rattle.ip_ground.specs.declared.names.FileName.TheVariants.{Control}
-use Rattle.ip_ground.specs.Told.{Told, ChangesOnly, NoFile, IsKept}
+use Rattle.ip_ground.specs.Told.{Told, SyncsOnly, Only, IsKept}
 use Rattle.ip_ground.specs.Contents.{Content, Image}
 use Rattle.ip_spec.specs.Record.{Names}
 use Rattle.ip_spec.specs.TreeAt.{Records}
@@ -33,7 +33,7 @@ IsReached (Err OpenFault.Ground) = ⊥
 IsReached result = Unit {0}
 
 pub record FindsSlot (result : Result (ℕ × Slot) OpenFault) (old new : Told) : Type 0 where
-  pub only : ChangesOnly NoFile old new
+  pub only : SyncsOnly (Only Control) old new
   pub finds : FoundIn new.held result
   pub kept : OnOk result (IsKept new Control)
   -- the moment of the sync: from then on a crash leaves the control file that is read

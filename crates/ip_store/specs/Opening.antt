@@ -2,7 +2,7 @@
 use Rattle.std.specs.Prelude.{◌≡◌, ℕ, ◌<◌, ◌≤◌, None, IsSome, Result, OnOk, IfOk, IsErrOf}
 use Rattle.ip_ground.specs.declared.names.FileName.{FileName}
 use Rattle.ip_ground.specs.declared.names.FileName.TheVariants.{Control}
-use Rattle.ip_ground.specs.Told.{Told, ChangesOnly, Only, NoFile, IsKept, EachImageNow}
+use Rattle.ip_ground.specs.Told.{Told, ChangesOnly, SyncsOnly, Only, NoFile, IsKept, EachImageNow}
 use Rattle.ip_spec.specs.Repository.{Repository, no_repository}
 use Rattle.ip_image.specs.Slot.{live_index}
 use Rattle.ip_image.specs.Standing.{StandsFor, NoStore, DamagedAt}
@@ -35,8 +35,8 @@ pub record SecuresOpening (old new : Told) : Type 0 where
   pub order : IsInOrder old → IsInOrder new
 
 pub record Opens (result : Result Store OpenFault) (old new : Told) : Type 0 where
-  -- no file changes at any moment, nothing is said, none is lent or settled
-  pub only : ChangesOnly NoFile old new
+  -- no file changes at any moment, and none but the control file is synced, nothing is said, none is lent or settled
+  pub only : SyncsOnly (Only Control) old new
   pub no_store : IsErrOf result OpenFault.NoStore → NoStore new.held
   pub damaged : (file : FileName) (at : ℕ) → IsErrOf result (OpenFault.Damaged file at) → DamagedAt new.held file at
   pub holds : IfOk result (λ store. IsSound store new)

@@ -1,11 +1,13 @@
 use Rattle.ip_store.proofs.OpenedImages.{no_store}
 use Rattle.std.proofs.Common.{◌≡◌, None, rules}
 use Rattle.ip_ground.specs.declared.names.FileName.TheVariants.{Control}
+use Rattle.ip_ground.specs.Told.{Only}
+use Rattle.ip_ground.proofs.Spans.{syncs_none}
 use Rattle.ip_store.proofs.OpenedStores.{measured, sync_only, finds_fault, finds_none, finds, finds_form, found_some, found_none, found_form}
 use Rattle.ip_store.proofs.opening.find_slot.Goals as goal
 
 pub returns-in_err-length-clause-does : goal.returns-in_err-length-clause-does
-returns-in_err-length-clause-does g c told = finds_fault _ _ _ c.from_residual.ensures.1 (c.in_err-length.ensures.does told).only
+returns-in_err-length-clause-does g c told = finds_fault _ _ _ c.from_residual.ensures.1 (syncs_none _ _ (Only Control) (c.in_err-length.ensures.does told).only)
 
 pub returns-then-is_none-clause-does : goal.returns-then-is_none-clause-does
 returns-then-is_none-clause-does g c told =
