@@ -9,9 +9,9 @@ use Rattle.ip_ground.specs.declared.names.FileName.{FileName}
 use Rattle.ip_ground.specs.declared.names.FileName.TheVariants.{Control, Chunk}
 use Rattle.ip_ground.specs.declared.names.GroundFault.{GroundFault}
 use Rattle.ip_ground.specs.Contents.{Content}
-use Rattle.ip_ground.specs.Told.{Told, said, NoFile, KeepsPast, IsPossibleNow, ChangesOnly}
+use Rattle.ip_ground.specs.Told.{Told, said, NoFile, Only, KeepsPast, IsPossibleNow, ChangesOnly, SyncsOnly}
 use Rattle.ip_ground.specs.Calls.{Says}
-use Rattle.ip_ground.proofs.Spans.{said_now}
+use Rattle.ip_ground.proofs.Spans.{said_now, syncs_none}
 use Rattle.ip_image.specs.Standing.{StandsFor}
 use Rattle.ip_image.specs.Headline.{IsInOrder, MayServe, SecuresEither, Keeps, Turning, Headline}
 use Rattle.ip_image.proofs.HeadlineLaws.{order_passes, in_order, turns_quietly, turns_saying, turning_on, headline_begins, headline_more}
@@ -81,7 +81,7 @@ abbrev pub opening_after : (a b c : Told) → ChangesOnly NoFile a b → Secures
 opening_after a b c only opening = record {
   since = opening.since;
   begins = (let later = only.goes.later in let begins = opening.begins in omega (arith, later, begins));
-  secures = λ r stands order. opening.secures r (stands_after a b only r stands) (order_on order);
+  secures = λ r stands order. opening.secures r (stands_after a b (syncs_none a b (Only Control) only) r stands) (order_on order);
   order = λ order. opening.order (order_on order);
 }
   where
@@ -90,9 +90,13 @@ opening_after a b c only opening = record {
 
 -- ---- a run
 
-pub headline_none : (old new : Told) → ChangesOnly NoFile old new → (opening : SecuresOpening old new) → (r : Repository) → StandsFor old.held r → IsInOrder old → Headline opening.since old new (opened r) []
-headline_none old new only opening r stands order = headline_begins old new (opened r) opening.since opening.begins only.said
-    (λ t late early le. record { left = λ file firm content left. (only.others file (λ none. none)).left firm t content late le left; said = only.said t late le })
+pub headline_none : (old new : Told) → SyncsOnly (Only Control) old new → (opening : SecuresOpening old new) → (r : Repository) → StandsFor old.held r → IsInOrder old → Headline opening.since old new (opened r) []
+headline_none old new only opening r stands order = headline_begins old new (opened r) opening.since opening.begins only.changes.said
+    (λ t late early le. record {
+      left = λ file firm content left. (only.files file).left firm t content late le left;
+      still_left = λ file other firm content left. (only.changes.others file other).still_left firm t content late le left;
+      said = only.changes.said t late le;
+    })
     (opening.secures r stands order)
 
 after_steps : (first : State) (xs : List Exchange) → state_after first (map answer_of xs) (length (map answer_of xs)) ≡ after_all first xs

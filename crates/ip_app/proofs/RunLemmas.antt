@@ -6,9 +6,9 @@ use Rattle.std.proofs.lemmas.List.{map-append, take-append-drop}
 use Rattle.std.proofs.lemmas.List.Elements.{All-append, All-cons, All-nil}
 use Rattle.ip_ground.specs.declared.names.FileName.TheVariants.{Control}
 use Rattle.ip_ground.specs.declared.names.GroundFault.{GroundFault}
-use Rattle.ip_ground.specs.Told.{Told, said, ChangesOnly, NoFile}
+use Rattle.ip_ground.specs.Told.{Told, said, ChangesOnly, SyncsOnly, Only, NoFile}
 use Rattle.ip_ground.specs.Calls.{Says}
-use Rattle.ip_ground.proofs.Spans.{goes_nowhere, goes_on, stays_on, said_now, only_more}
+use Rattle.ip_ground.proofs.Spans.{goes_nowhere, only_nowhere, goes_on, stays_on, custody_on, said_now, only_more}
 use Rattle.ip_ground.proofs.Passing.{stays_itself}
 use Rattle.ip_ground.proofs.Rising.{none_falls_on, rose_after}
 use Rattle.ip_image.specs.declared.counts.TurnCounts.{TurnCounts}
@@ -88,20 +88,21 @@ goes_on_then a b c g h = record {
 -- ---- files
 
 pub keeps_itself : (a : Told) → KeepsFiles a a
-keeps_itself a = record { goes = goes_nowhere a; others = λ file others. stays_itself a file; lending = λ n. refl }
+keeps_itself a = record { goes = goes_nowhere a; others = λ file others. stays_itself a file; lending = (only_nowhere a NoFile).lending }
 
 pub keeps_on : (a b c : Told) → KeepsFiles a b → KeepsFiles b c → KeepsFiles a c
 keeps_on a b c first next = record {
   goes = goes_on a b c first.goes next.goes;
   others = λ file others. stays_on a b c file first.goes next.goes (first.others file others) (next.others file others);
-  lending = λ n. next.lending n ∙ first.lending n;
+  lending = λ n. custody_on a b c n first.goes next.goes (first.lending n) (next.lending n);
 }
 
 pub keeps_two : (a b : Told) → ChangesOnly TheTwo a b → KeepsFiles a b
 keeps_two a b only = record { goes = only.goes; others = only.others; lending = only.lending }
 
-pub keeps_unchanged : (a b : Told) → ChangesOnly NoFile a b → KeepsFiles a b
-keeps_unchanged a b only = keeps_two a b (only_more a b NoFile TheTwo (λ file none. absurd none) only)
+-- while the control file alone may be synced
+pub keeps_unchanged : (a b : Told) → SyncsOnly (Only Control) a b → KeepsFiles a b
+keeps_unchanged a b only = keeps_two a b (only_more a b (Only Control) TheTwo (λ file is. inr is) only.changes)
 
 pub keeps_said : (bytes : Bytes) (r : Result (Unit {0}) GroundFault) (a b : Told) → Says bytes r a b → KeepsFiles a b
 keeps_said bytes r a b says = record { goes = says.goes; others = λ file others. says.files file; lending = says.lending }
@@ -162,7 +163,7 @@ served_more old mid new lines lines' counts counts' s s' h turned =
 -- no line was served yet
 pub served_first : (old now : Outside) (lines : Lines) (counts : TurnCounts) (s : Session) (r : Repository) (v : View) → IsServing s → state_in s r v ≡ opened r → (IsTrue old.ground_tells → IsWorking now.told s r v) → (IsTrue old.ground_tells → StandsFor old.told.held r)
     → (opening : IsTrue old.ground_tells → SecuresOpening old.told now.told) → ((told : IsTrue old.ground_tells) → (opening told).since ≤ now.told.moment)
-    → counts ≡ turn_counts now.counts → GoesOn old now → (IsTrue old.ground_tells → ChangesOnly NoFile old.told now.told) → now.left ≡ old.left → now.turns ≡ old.turns → pending lines ≡ [] → lines.taken ≡ 0 → Served old now lines counts s
+    → counts ≡ turn_counts now.counts → GoesOn old now → (IsTrue old.ground_tells → SyncsOnly (Only Control) old.told now.told) → now.left ≡ old.left → now.turns ≡ old.turns → pending lines ≡ [] → lines.taken ≡ 0 → Served old now lines counts s
 served_first old now lines counts s r v serving begun working began opening over counted g f left turns none zero =
     record {
       done = [];
@@ -182,7 +183,7 @@ served_first old now lines counts s r v serving begun working began opening over
       now_at = λ told. begun;
       serving = serving;
       working = working;
-      said = λ b. said_now old.told now.told (f b).goes (f b).said ∙ sym (append_nil (said old.told));
+      said = λ b. said_now old.told now.told (f b).changes.goes (f b).changes.said ∙ sym (append_nil (said old.told));
       opened_at = λ b. (opening b).since;
       over = over;
       headline = λ b order. headline_none old.told now.told (f b) (opening b) r (began b) order;
@@ -195,10 +196,10 @@ served_first old now lines counts s r v serving begun working began opening over
     }
 
 -- no line was served at all
-pub serves_none : (old new : Outside) (s : Status) → GoesOn old new → (IsTrue old.ground_tells → ChangesOnly NoFile old.told new.told) → (IsTrue old.ground_tells → SecuresOpening old.told new.told) → new.left ≡ old.left → new.turns ≡ old.turns → Begins s old (opened no_repository) [] → Row s old new [] → Serves old new s
+pub serves_none : (old new : Outside) (s : Status) → GoesOn old new → (IsTrue old.ground_tells → SyncsOnly (Only Control) old.told new.told) → (IsTrue old.ground_tells → SecuresOpening old.told new.told) → new.left ≡ old.left → new.turns ≡ old.turns → Begins s old (opened no_repository) [] → Row s old new [] → Serves old new s
 serves_none old new s g f opening left turns begins row =
     let first = opened no_repository in
-    let quiet : IsTrue old.ground_tells → said new.told ≡ said old.told = λ b. said_now old.told new.told (f b).goes (f b).said in
+    let quiet : IsTrue old.ground_tells → said new.told ≡ said old.told = λ b. said_now old.told new.told (f b).changes.goes (f b).changes.said in
     record {
       taken = [];
       exchanges = [];
@@ -226,11 +227,11 @@ serves_none old new s g f opening left turns begins row =
     }
 
 -- the store could not be opened
-pub begins_unopened : (old new : Outside) (s : Status) → GoesOn old new → (IsTrue old.ground_tells → ChangesOnly NoFile old.told new.told) → (IsTrue old.ground_tells → SecuresOpening old.told new.told) → new.left ≡ old.left → new.turns ≡ old.turns → CouldNotOpen s old.ground_tells old.told old.counts new.counts → Serves old new s
+pub begins_unopened : (old new : Outside) (s : Status) → GoesOn old new → (IsTrue old.ground_tells → SyncsOnly (Only Control) old.told new.told) → (IsTrue old.ground_tells → SecuresOpening old.told new.told) → new.left ≡ old.left → new.turns ≡ old.turns → CouldNotOpen s old.ground_tells old.told old.counts new.counts → Serves old new s
 begins_unopened old new s g f opening left turns could_not = by_status s could_not
   where
     untouched : IsUntouched old new []
-    untouched = record { none_taken = refl; left = left; said_nothing = λ told. said_now old.told new.told (f told).goes (f told).said; only = f; turns = turns }
+    untouched = record { none_taken = refl; left = left; said_nothing = λ told. said_now old.told new.told (f told).changes.goes (f told).changes.said; only = f; turns = turns }
 
     by_status : (s : Status) → CouldNotOpen s old.ground_tells old.told old.counts new.counts → Serves old new s
     by_status status.NoStore h = serves_none old new status.NoStore g f opening left turns refl (untouched, h)

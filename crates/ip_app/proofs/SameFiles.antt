@@ -7,7 +7,7 @@ use Rattle.std.specs.Prelude.{map, nat_le, if◌then◌else◌, IfSome}
 use Rattle.ip_ground.specs.declared.names.FileName.{FileName}
 use Rattle.ip_ground.specs.declared.names.FileName.TheVariants.{Control, Chunk}
 use Rattle.ip_ground.specs.Contents.{Image, Content}
-use Rattle.ip_ground.specs.Told.{Told, KeepsPast, KeepsFile, NoFile, ChangesOnly, EachNow}
+use Rattle.ip_ground.specs.Told.{Told, KeepsPast, KeepsFile, Only, SyncsOnly, EachNow}
 use Rattle.ip_ground.proofs.Spans.{each_stays, left_now}
 use Rattle.ip_spec.specs.Path.{Bytes}
 use Rattle.ip_spec.specs.declared.record.Record.{Record}
@@ -104,13 +104,13 @@ working_along a b s r v goes files h =
     let same : image_records holds ≡ image_records h.holds = ap (λ (records : List (ℕ × Record)). present records) (same_list s.store a r h.holds b control chunk holds.stands.standing) in
     record { holds = holds; lawful = subst (λ (records : ℕ → Option Record). IsLawful records r s.work v) (sym same) h.lawful }
 
--- what the files read as at the end of calls that change none
-module _ (a b : Told) (only : ChangesOnly NoFile a b) where
+-- what the files read as at the end of calls that change none, though they may sync the control file
+module _ (a b : Told) (only : SyncsOnly (Only Control) a b) where
   control_kept : b.held Control ≡ a.held Control
-  control_kept = (only.others Control (λ none. none)).held (λ foreign. foreign)
+  control_kept = (only.files Control).held (λ foreign. foreign)
 
   chunk_kept : b.held (Chunk 0) ≡ a.held (Chunk 0)
-  chunk_kept = (only.others (Chunk 0) (λ none. none)).held (λ foreign. foreign)
+  chunk_kept = (only.files (Chunk 0)).held (λ foreign. foreign)
 
   pub stands_after : (r : Repository) → StandsFor a.held r → StandsFor b.held r
   stands_after r h = stands_along a.held b.held control_kept chunk_kept r h

@@ -1,12 +1,12 @@
 -- What a source, a ground and a log tell at a moment.
 --     Outside, outside      the record, and how the traits' ghost members make it
 --     GoesOn old new      what no call changes: who tells, and that no count falls. A log may tell no more
---     KeepsFiles old new      at no moment has a file changed but the chunk and the control file, and none was lent or settled
+--     KeepsFiles old new      at no moment has a file changed but the chunk and the control file, or was synced, and none was lent or settled
 use Rattle.std.specs.Prelude.{ℕ, ◌≤◌, ◌≡◌, Bool, IsTrue, List}
 use Rattle.ip_ground.specs.declared.names.FileName.{FileName}
 use Rattle.ip_ground.specs.declared.names.GroundCounts.{GroundCounts}
 use Rattle.ip_ground.specs.Counts.{NoneFalls}
-use Rattle.ip_ground.specs.Told.{Told, KeepsPast, KeepsFile}
+use Rattle.ip_ground.specs.Told.{Told, KeepsPast, KeepsFile, KeepsCustody}
 use Rattle.ip_spec.specs.Path.{Bytes}
 use Rattle.ip_store.specs.Publishing.{TheTwo}
 use Rattle.ip_app.specs.declared.turn_log.Turn.{Turn}
@@ -44,4 +44,4 @@ pub record GoesOn (old new : Outside) : Type 0 where
 pub record KeepsFiles (old new : Told) : Type 0 where
   pub goes : KeepsPast old new
   pub others : (file : FileName) → ¬ TheTwo file → KeepsFile old new file
-  pub lending : (attempt : ℕ) → new.lending attempt ≡ old.lending attempt
+  pub lending : (attempt : ℕ) → KeepsCustody old new attempt

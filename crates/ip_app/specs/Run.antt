@@ -6,7 +6,7 @@ use Rattle.std.specs.Prelude.{ℕ, ◌≤◌, ◌≡◌, ◌⊎◌, Bool, true, 
 use Rattle.ip_ground.specs.declared.names.FileName.TheVariants.{Control}
 use Rattle.ip_ground.specs.declared.names.GroundCounts.{GroundCounts}
 use Rattle.ip_ground.specs.Counts.{Rose}
-use Rattle.ip_ground.specs.Told.{Told, said, ChangesOnly, Only, NoFile, IsKept, EachImageNow}
+use Rattle.ip_ground.specs.Told.{Told, said, ChangesOnly, SyncsOnly, Only, NoFile, IsKept, EachImageNow}
 use Rattle.ip_image.specs.declared.counts.TurnCounts.{TurnCounts}
 use Rattle.ip_image.specs.Slot.{live_index}
 use Rattle.ip_image.specs.Standing.{StandsFor, NoStore, DamagedAt}
@@ -90,12 +90,12 @@ pub record SaysUpTo (status : Status) (exchanges : List Exchange) (old new : Byt
   pub said_is : new ≡ old ++ texts_in whole ++ part
   pub silent : is_cut_short status ≡ true → part ≡ []
 
--- no byte was taken, no command begun, nothing said, and no file changed at any moment
+-- no byte was taken, no command begun, nothing said, and no file changed at any moment, nor any but the control file synced
 pub record IsUntouched (old new : Outside) (taken : Bytes) : Type 0 where
   pub none_taken : taken ≡ []
   pub left : new.left ≡ old.left
   pub said_nothing : IsTrue old.ground_tells → said new.told ≡ said old.told
-  pub only : IsTrue old.ground_tells → ChangesOnly NoFile old.told new.told
+  pub only : IsTrue old.ground_tells → SyncsOnly (Only Control) old.told new.told
   pub turns : new.turns ≡ old.turns
 
 abbrev pub ReadingEnds : Status → Outside → Outside → Bytes → Type 0

@@ -1,7 +1,8 @@
 // Serving a script: line by line, one reply each.
 ghost use Rattle.std.specs.Prelude.{◌≡◌, [], IsTrue, OnOk, IfOk, IfErr};
 ghost use Rattle.ip_ground.specs.Counts.{NoneFalls};
-ghost use Rattle.ip_ground.specs.Told.{ChangesOnly, NoFile};
+ghost use Rattle.ip_ground.specs.Told.{SyncsOnly, Only};
+ghost use Rattle.ip_ground.specs.declared.names.FileName.TheVariants.{Control};
 ghost use Rattle.ip_spec.specs.Repository.{Repository};
 ghost use Rattle.ip_spec.specs.View.{View};
 ghost use Rattle.ip_store.specs.Opening.{SecuresOpening};
@@ -123,7 +124,7 @@ fn opening_status(fault: OpenFault) -> Status
 
 // Binds the folder and opens the store in it.
 fn open_in<G: Ground>(alloc: Global, folder: &str, ground: &mut G) -> Result<Store, Status>
-    ensures only { IsTrue G.tells → ChangesOnly NoFile (G.told ground.old) (G.told ground.new) }
+    ensures only { IsTrue G.tells → SyncsOnly (Only Control) (G.told ground.old) (G.told ground.new) }
     ensures opening { IsTrue G.tells → SecuresOpening (G.told ground.old) (G.told ground.new) }
     ensures opened { IfOk result (OpensAs G.tells (G.told ground.old) (G.told ground.new)) }
     ensures refused { IfErr result (λ status. CouldNotOpen status G.tells (G.told ground.old) (G.counts_of ground.old) (G.counts_of ground.new)) }
