@@ -49,15 +49,16 @@ abbrev pub ChangesLeft : (Content → Content → Type 0) → Told → Told → 
 ChangesLeft step old new file = (moment : ℕ) (content : Content) → old.moment < moment → moment ≤ new.moment → new.may_leave moment file content
     → (before : Content) × old.may_leave old.moment file before × step before content
 
--- The file reads as it did, and a crash leaves nothing more of it, as far as its child leaves it so: at most it was synced.
+-- The file reads as it did, and a crash leaves nothing more of it, as far as its child leaves it so: at
+-- most it was synced.
 pub record SyncsAtMost (old new : Told) (file : FileName) : Type 0 where
   pub held : ¬ IsForeign old file → new.held file ≡ old.held file
   pub left : ¬ IsLoose old file → (moment : ℕ) (content : Content) → old.moment < moment → moment ≤ new.moment → new.may_leave moment file content → old.may_leave old.moment file content
   pub own : ¬ IsForeign old file → ¬ IsForeign new file
   pub firm : ¬ IsLoose old file → ¬ IsLoose new file
 
--- The file stays as it was, by what a read gives and by what a crash may leave, as far as its child leaves it so. What was
--- pending is so still: it was not synced either.
+-- The file stays as it was, by what a read gives and by what a crash may leave, as far as its child leaves
+-- it so. What was pending is so still: it was not synced either.
 pub record KeepsFile (old new : Told) (file : FileName) : Type 0 where
   pub held : ¬ IsForeign old file → new.held file ≡ old.held file
   pub left : ¬ IsLoose old file → (moment : ℕ) (content : Content) → old.moment < moment → moment ≤ new.moment → new.may_leave moment file content → old.may_leave old.moment file content
@@ -121,14 +122,16 @@ Only file other = other ≡ file
 abbrev pub NoFile : FileName → Type 0
 NoFile file = ⊥
 
--- At no moment since old has a file changed but these, or was synced, nothing was said, and none was lent or settled.
+-- At no moment since old has a file changed but these, or was synced, nothing was said, and none was lent
+-- or settled.
 pub record ChangesOnly (these : FileName → Type 0) (old new : Told) : Type 0 where
   pub goes : KeepsPast old new
   pub others : (file : FileName) → ¬ these file → KeepsFile old new file
   pub lending : (attempt : ℕ) → KeepsCustody old new attempt
   pub said : KeepsSaid old new
 
--- At no moment since old has a file changed, but that these may have been synced, nothing was said, and none was lent or settled.
+-- At no moment since old has a file changed, but that these may have been synced, nothing was said, and none
+-- was lent or settled.
 pub record SyncsOnly (these : FileName → Type 0) (old new : Told) : Type 0 where
   pub changes : ChangesOnly these old new
   pub files : (file : FileName) → SyncsAtMost old new file
