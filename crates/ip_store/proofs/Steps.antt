@@ -6,7 +6,7 @@ use Rattle.std.proofs.lemmas.List.{length-take-le}
 use Rattle.ip_ground.specs.declared.names.FileName.TheVariants.{Control, Chunk}
 use Rattle.ip_ground.specs.declared.names.GroundFault.{GroundFault}
 use Rattle.ip_ground.specs.Contents.{Image, bytes_of, size_of, Torn}
-use Rattle.ip_ground.specs.Told.{Told, KeepsFile, IsPossibleNow, EachSince, EachNow, EachImage, Only, NoFile, ChangesOnly}
+use Rattle.ip_ground.specs.Told.{Told, KeepsFile, IsPossibleNow, EachSince, EachNow, EachImage, Only, ChangesOnly}
 use Rattle.ip_ground.specs.Calls.{Writes, Syncs}
 use Rattle.ip_ground.proofs.Exits.{Exit, exit_ok, exit_holds}
 use Rattle.ip_ground.proofs.Spans.{only_on, only_more, each_on, each_stays, each_synced, each_steps, each_weaker, left_now, held_since, images_on, images_of_two}
