@@ -1,7 +1,8 @@
 use Rattle.std.proofs.Common.{refl, subst, ◌≡◌, List, ℕ, Option, Some}
 use Rattle.std.proofs.Math.Nat.{le_refl}
-use Rattle.ip_ground.specs.Told.{NoFile}
-use Rattle.ip_ground.proofs.Spans.{only_nowhere}
+use Rattle.ip_ground.specs.declared.names.FileName.TheVariants.{Control}
+use Rattle.ip_ground.specs.Told.{NoFile, Only}
+use Rattle.ip_ground.proofs.Spans.{only_nowhere, syncs_none}
 use Rattle.ip_ground.proofs.Rising.{falls_itself}
 use Rattle.ip_spec.specs.Path.{Bytes}
 use Rattle.ip_words.specs.declared.Call.{Call}
@@ -18,7 +19,7 @@ use Rattle.ip_app.proofs.calls.run.Goals as goal
 -- nothing was done
 serves_nothing : (s : Outside) → Serves s s status.Memory
 serves_nothing s = begins_unopened s s status.Memory (record { source_tells = refl; ground_tells = refl; log_tells = λ t. t; read_faults = le_refl s.read_faults; counts = falls_itself s.counts })
-    (λ told. only_nowhere s.told NoFile) (λ told. opening_none s.told s.told (only_nowhere s.told NoFile)) refl refl tt
+    (λ told. syncs_none s.told s.told (Only Control) (only_nowhere s.told NoFile)) (λ told. opening_none s.told s.told (only_nowhere s.told NoFile)) refl refl tt
 
 inits_with : (n m : ℕ) (old new : Outside) (s : Status) → n ≡ m → Inits n old new s → Inits m old new s
 inits_with n m old new s e h = subst (λ (k : ℕ). Inits k old new s) e h
