@@ -1,28 +1,31 @@
 -- The law of the next commit, on the first commit of a fresh store: its premises hold, and it gives the store that was stored.
-use Rattle.std.proofs.Common.{◌≡◌, ◌⊎◌, inl, inr, ℕ, ◌<◌, ◌≤◌, [], ◌∷◌, refl, sym, ap, subst, ◌∙◌, Some, None, false, lit<, lit≤, arith, length}
+use Rattle.std.proofs.Common.{Option, ◌≡◌, ℕ, ◌<◌, [], ◌∷◌, refl, sym, ap, subst, ◌∙◌, Some, None, lit<, lit≤, arith}
 use Rattle.std.proofs.lemmas.Bool.{false≢true}
 use Rattle.std.proofs.lemmas.List.Elements.{All-from_recursion}
-use Rattle.std.specs.Prelude.{codes, IsSome, is_some}
+use Rattle.std.specs.Prelude.{codes, is_some}
 use Rattle.ip_ground.specs.Contents.{Image}
-use Rattle.ip_ground.specs.declared.names.FileName.TheVariants.{Control}
-use Rattle.ip_spec.specs.Map.{get}
-use Rattle.ip_spec.specs.Path.{Bytes, Path, IsPath, IsStep, AreBytes, is_related}
-use Rattle.ip_spec.specs.Record.{Fits, contents_limit}
+use Rattle.ip_ground.specs.declared.names.FileName.TheVariants.{Control, Chunk}
+use Rattle.ip_spec.specs.Path.{Bytes, Path, IsPath, IsStep}
+use Rattle.ip_spec.specs.Record.{Fits}
 use Rattle.ip_spec.specs.declared.record.Record.{Record}
 use Rattle.ip_spec.specs.Tree as Tree
-use Rattle.ip_spec.specs.Tree.{IsTree}
+use Rattle.ip_spec.specs.Tree.{Tree, IsTree}
 use Rattle.ip_spec.specs.Shape.{shape_runs}
-use Rattle.ip_spec.specs.Batch.{batch_runs}
+use Rattle.ip_spec.specs.Batch.{KnownStand, batch_runs}
+use Rattle.ip_spec.specs.TreeAt.{present}
 use Rattle.ip_spec.specs.Repository.{no_repository}
 use Rattle.ip_spec.specs.Step.{new_commit, with_commit, step_runs}
-use Rattle.ip_spec.proofs.Subtrees.{get-no_tree, lawful_put, put_where}
+use Rattle.ip_spec.proofs.Subtrees.{get-no_tree, lawful_put}
 use Rattle.ip_image.specs.Slot.{fresh, fresh_control}
 use Rattle.ip_image.specs.Standing.{StandsFor, IsServedKind}
 use Rattle.ip_image.specs.Collection.{image_runs}
-use Rattle.ip_image.specs.Appending.{BeginsWith, HasLive, next_slot, IsFlat, MayCommit, fields_of, batch_of, batch_end_of, bytes_of_records, AreWithin}
+use Rattle.ip_image.specs.Virtual.{byte_of, chunk_byte}
+use Rattle.ip_image.specs.Pending.{HasLive}
+use Rattle.ip_image.specs.Appending.{SameGeneration, AddsBytes, unread, MayGrow, fields_of, grown_batch, grown_end, bytes_of_records, AreWithin}
+use Rattle.ip_image.proofs.InChunk.{chunk_lies, present_below}
 use Rattle.ip_image.proofs.FreshLaws.{fresh_stands, is_live}
-use Rattle.ip_image.proofs.AppendingLaws.{stands_next}
-use Rattle.ip_image.proofs.StoreExample.{control, chunk0, image, info, tree, records, live, is_info, is_main, is_step, are_bytes, good}
+use Rattle.ip_image.proofs.AppendingLaws.{get_behind, stands_grown}
+use Rattle.ip_image.proofs.StoreExample.{control, chunk0, image, slot, info, tree, records, live, is_info, is_main, is_step, good}
 
 pub fresh_image : Image
 fresh_image Control = Some (fresh_control 4096)
@@ -48,30 +51,14 @@ no_lawful = record {
   paths = λ p a. absurd (false≢true (ap is_some (sym (get-no_tree p)) ∙ a));
 }
 
-one_step : (p : Path) → IsSome (get tree p) → length p ≡ 1
-unfolding path
-one_step p some = by (put_where Tree.no_tree (codes "a" ∷ []) p (1 ∷ []) some)
-  where
-    by : (p ≡ codes "a" ∷ []) ⊎ ((is_related (codes "a" ∷ []) p ≡ false) × IsSome (get Tree.no_tree p)) → length p ≡ 1
-    by (inl is) = ap length is
-    by (inr other) = absurd (false≢true (ap is_some (sym (get-no_tree p)) ∙ other.1))
-
-flat : IsFlat tree
-unfolding shape_runs path
-flat = record {
-  is_tree = lawful_put Tree.no_tree path (1 ∷ []) no_lawful is_path;
-  one_step = one_step;
-  few = lit≤ tt;
-  contents = All-from_recursion (λ e. (length e.1 ≤ contents_limit 1) × AreBytes e.1) tree.entries ((lit≤ tt, are_bytes (1 ∷ []) tt), tt);
-}
-
 pub none_below : (k : ℕ) → k < 0 → ⊥
 none_below k l = omega (arith, l)
 
-may_commit : MayCommit no_repository tree [] info (codes "main")
-unfolding step_runs
-may_commit = record {
-  flat = flat;
+may_grow : MayGrow no_repository tree [] info (codes "main")
+unfolding step_runs shape_runs path
+may_grow = record {
+  is_tree = lawful_put Tree.no_tree path (1 ∷ []) no_lawful is_path;
+  narrow = lit≤ tt;
   retained = λ k d l. absurd (none_below k l);
   distinct = λ i j d low high. absurd (none_below j high);
   few = lit≤ tt;
@@ -81,11 +68,27 @@ may_commit = record {
   room = lit≤ tt;
 }
 
-the_batch : batch_of tree (fields_of no_repository [] info (codes "main")) 0 ≡ records
+pub fresh_live : HasLive (fresh 4096) fresh_image
+unfolding fresh_image image_runs
+fresh_live = record { control = fresh_control 4096; index = 0; held = refl; live = is_live (fresh_control 4096) 4096 (12, lit≤ tt, lit≤ tt, refl) refl }
+
+-- where no part is known, what is known stands
+pub nothing_known : (J : ℕ → Option Record) (t : Tree) (end : ℕ) → ((at : ℕ) (r : Record) → J at ≡ Some r → at < end) → KnownStand J (unread t) end
+nothing_known J t end below = record {
+  below = below;
+  bytes = λ p at b known is. absurd (false≢true (ap is_some known));
+  parts = λ p indexes at known no_contents. absurd (false≢true (ap is_some known));
+}
+
+first_known : KnownStand (present starts.standing.records) (unread tree) 0
+first_known = nothing_known (present starts.standing.records) tree 0
+    (λ at r is. present_below (byte_of (fresh_image (Chunk 0))) 0 starts.standing.records 0 at r (chunk_lies fresh_image (fresh 4096) fresh_live starts.standing) is)
+
+the_batch : grown_batch (unread tree) (fields_of no_repository [] info (codes "main")) 0 ≡ records
 unfolding batch_runs image_runs step_runs
 the_batch = refl
 
-the_end : batch_end_of tree (fields_of no_repository [] info (codes "main")) 0 ≡ 144
+the_end : grown_end (unread tree) (fields_of no_repository [] info (codes "main")) 0 ≡ 144
 unfolding batch_runs image_runs step_runs
 the_end = refl
 
@@ -99,17 +102,21 @@ within = All-from_recursion (λ (x : ℕ × Record). Fits 1 x.1 × IsServedKind 
   ((good.1.0.bounds, good.1.0.served), ((good.1.1.0.bounds, good.1.1.0.served), ((good.1.1.1.0.bounds, good.1.1.1.0.served), tt))),
 )
 
-begins : BeginsWith chunk0 (Some chunk0)
-begins = record { long = lit≤ tt; same = λ place l. refl }
+-- none stood there before
+adds : AddsBytes (fresh 4096) chunk0 fresh_image image
+unfolding chunk_byte
+adds = record {
+  same = record { chunks = λ at low high. absurd (none_below at high); mapping = λ some. absurd (some refl); prefix = λ some. absurd (some refl) };
+  added = λ k l. get_behind [] chunk0 k;
+}
 
-pub fresh_live : HasLive (fresh 4096) fresh_image
-unfolding fresh_image image_runs
-fresh_live = record { control = fresh_control 4096; index = 0; held = refl; live = is_live (fresh_control 4096) 4096 (12, lit≤ tt, lit≤ tt, refl) refl }
-
-after_live : HasLive (next_slot (fresh 4096) 144) image
+after_live : HasLive slot image
 after_live = record { control = control; index = 1; held = refl; live = live }
 
+pub same_generation : (sequence end next : ℕ) → SameGeneration (fresh 4096) (record (fresh 4096) { sequence = sequence; end = end; next = next })
+same_generation sequence end next = record { version = refl; chunk = refl; horizon = refl; floor = refl; live = refl; prefix_len = refl; rows = refl }
+
 the_next_image_by_the_law : StandsFor image (with_commit no_repository (new_commit no_repository tree [] info) (codes "main"))
-the_next_image_by_the_law = stands_next fresh_image image no_repository (fresh 4096) tree [] info (codes "main") starts fresh_live may_commit
-    (subst (AreWithin 1) (sym the_batch) within) (subst (λ (n : ℕ). HasLive (next_slot (fresh 4096) n) image) (sym the_end) after_live)
-    (subst (λ (front : Bytes). BeginsWith front (Some chunk0)) (sym (ap bytes_of_records the_batch ∙ the_bytes)) begins)
+the_next_image_by_the_law = (stands_grown fresh_image image no_repository (fresh 4096) slot (unread tree) [] info (codes "main") starts fresh_live may_grow first_known
+    (subst (AreWithin 1) (sym the_batch) within) after_live (same_generation 2 144 1) (sym the_end) refl
+    (subst (λ (bytes : Bytes). AddsBytes (fresh 4096) bytes fresh_image image) (sym (ap bytes_of_records the_batch ∙ the_bytes)) adds)).0

@@ -1,22 +1,21 @@
 -- How what an image stands for goes on.
 --     stands_still      with the same records it stands for the same repository
---     stands_grown, stands_next      with the records of a commit behind them, for the repository after the commit
+--     stands_grown      with the records of a commit behind them, for the repository after the commit
 --     some_repository      an image that holds all that it must stands for some repository
---     begun_byte, spelled_lies      where bytes begin a file, their records lie there
---     lies_behind      so do the records of a file and others behind them
---     good_append, good_next_slot      records that are good behind others, and under the slot that follows
-use Rattle.std.proofs.Common.{◌≡◌, ℕ, zero, suc, ◌+◌, ◌<◌, ◌≤◌, List, [], ◌∷◌, ◌++◌, refl, sym, ap, subst, ◌∙◌, Option, Some, None, Bool, true, false, cond, length, take, arith, append_assoc, append-nil, length-take-le, length-append}
-use Rattle.std.proofs.lemmas.Bool.{false≢true}
+--     spelled_lies, lies_behind      records lie where the bytes that spell them stand, and behind others
+--     same_byte, lies_on      a byte of an image's records, and they and others behind them, in an image that has the bytes of both
+--     good_append, still_good, good_one      records that are good behind others, and under a slot of the same generation
+--     still_retained, set_retained      branches at retained commits, there, and with one that was set
+use Rattle.std.proofs.Common.{◌≡◌, ℕ, zero, suc, ◌+◌, ◌<◌, ◌≤◌, List, [], ◌∷◌, ◌++◌, refl, sym, ap, subst, ◌∙◌, Option, Some, None, Bool, true, false, cond, length, arith, append_assoc, append-nil, length-append}
 use Rattle.std.proofs.lemmas.List.Elements.{recursion_from_All, filter_map-append}
 use Rattle.std.proofs.lemmas.List.Sums.{fold-append}
-use Rattle.std.proofs.lemmas.Option.{slice_get-get_or, slice_get_within, get_or_from_slice_get}
-use Rattle.std.specs.Prelude.{is_some, slice_get, get_or, IfSome, fold}
+use Rattle.std.specs.Prelude.{slice_get, IfSome, fold}
 use Rattle.std.specs.List.{AllByRecursion, AllZip, cons_option}
 use Rattle.std.specs.Cmp.Lexicographic.{nat_list_cmp_total}
 use Rattle.std.specs.Ordering.{eq_by_cmp}
 use Rattle.ip_base.specs.declared.info.Info.{Info}
 use Rattle.ip_ground.specs.declared.names.FileName.TheVariants.{Chunk}
-use Rattle.ip_ground.specs.Contents.{Content, bytes_of}
+use Rattle.ip_ground.specs.Contents.{Content, Image}
 use Rattle.ip_spec.specs.declared.record.Record.{Record}
 use Rattle.ip_spec.specs.declared.record.CommitRecord.{CommitRecord}
 use Rattle.ip_spec.specs.Map.{Map, empty, get, insert, len, get-insert}
@@ -24,35 +23,29 @@ use Rattle.ip_spec.specs.Path.{Bytes, bytes_cmp}
 use Rattle.ip_spec.specs.Record.{Names, Fits, spelling, spelling_of}
 use Rattle.ip_spec.specs.TreeAt.{Records, present, TreeAt}
 use Rattle.ip_spec.specs.View.{View}
-use Rattle.ip_spec.specs.Batch.{CommitFields, Sources, AreEndToEnd, KnownStand, SourcesStand, sources, batch, batch_end}
+use Rattle.ip_spec.specs.Batch.{CommitFields, Sources, AreEndToEnd, KnownStand, SourcesStand, sources, batch}
 use Rattle.ip_spec.specs.Repository.{Repository, Commit, next}
 use Rattle.ip_spec.specs.Step.{new_commit, with_commit}
 use Rattle.ip_spec.proofs.TreeAtLaws.{more_part}
 use Rattle.ip_spec.proofs.BatchLaws.{batch_lies, sources_stand}
 use Rattle.ip_image.specs.Slot.{Slot, IsSlot}
-use Rattle.ip_image.specs.Virtual.{byte_of}
-use Rattle.ip_image.specs.Standing.{EndToEnd, RecordFits, IsServedKind, IsGood, AreGood, commit_of, commits_in, names_after, named, AreRetained, WholeFits, Spells, terms_of}
-use Rattle.ip_image.specs.Appending.{BeginsWith, front_of, unread, next_slot, MayGrow, fields_of, grown_batch, grown_end, bytes_of_records, AreWithin, StandsStill, StandsNext, StandsGrown}
-use Rattle.ip_image.proofs.InChunk.{InChunk, in_chunk, same_in_chunk, stands_by, same_standing, chunk_lies, ends_over, ends_append, present_below, byte_is, all_inside}
+use Rattle.ip_image.specs.Virtual.{Stands, byte_of, chunk_byte}
+use Rattle.ip_image.specs.Standing.{Terms, EndToEnd, RecordFits, IsServedKind, IsGood, AreGood, commit_of, commits_in, names_after, named, AreRetained, WholeFits, Spells, terms_of, may_be_outside}
+use Rattle.ip_image.specs.Pending.{HasLive, SameSpace}
+use Rattle.ip_image.specs.Appending.{SameGeneration, AddsBytes, MayGrow, fields_of, grown_batch, bytes_of_records, AreWithin, StandsStill, StandsGrown}
+use Rattle.ip_image.proofs.InChunk.{InChunk, in_chunk, same_in_chunk, stands_by, same_standing, ends_over, ends_append}
 use Rattle.ip_image.proofs.TreeParts.{all_left, all_right, IsTreePart, AreTreeParts}
 use Rattle.ip_image.proofs.TreeBatch.{ends_apart, commit_record, TreeBatch, tree_behind}
-use Rattle.ip_image.proofs.FlatTrees.{may_grow, nothing_known}
 use Rattle.ip_image.proofs.NextCommit.{next_number, commit_fits, spells_next}
 use Rattle.ip_image.proofs.SpelledCommits.{FitCommits, present_front, each_spelled, zip_append}
 pub use Rattle.ip_image.proofs.SpelledCommits.{some_repository}
 
 -- ---- bytes
 
-pub get_take : (n : ℕ) (xs : Bytes) (k b : ℕ) → k < n → slice_get xs k ≡ Some b → slice_get (take n xs) k ≡ Some b
-get_take zero xs k b l is = absurd (omega (arith, l))
-get_take (suc n) [] k b l is = is
-get_take (suc n) (x ∷ xs) zero b l is = is
-get_take (suc n) (x ∷ xs) (suc k) b l is = get_take n xs k b (omega (arith, l)) is
-
-pub get_front : (xs ys : Bytes) (k b : ℕ) → slice_get xs k ≡ Some b → slice_get (xs ++ ys) k ≡ Some b
-get_front [] ys k b is = absurd (false≢true (ap is_some is))
-get_front (x ∷ xs) ys zero b is = is
-get_front (x ∷ xs) ys (suc k) b is = get_front xs ys k b is
+pub get_front : (xs ys : Bytes) (k : ℕ) → k < length xs → slice_get (xs ++ ys) k ≡ slice_get xs k
+get_front [] ys k l = absurd (omega (arith, l))
+get_front (x ∷ xs) ys zero l = refl
+get_front (x ∷ xs) ys (suc k) l = get_front xs ys k (omega (arith, l))
 
 pub get_behind : (xs ys : Bytes) (k : ℕ) → slice_get (xs ++ ys) (length xs + k) ≡ slice_get ys k
 get_behind [] ys k = ap (slice_get ys) (omega arith)
@@ -60,44 +53,38 @@ get_behind (x ∷ xs) ys k =
     let e : suc (length xs) + k ≡ suc (length xs + k) = omega arith in
     ap (slice_get (x ∷ (xs ++ ys))) e ∙ get_behind xs ys k
 
--- a byte of what the content begins with
-pub begun_byte : (front : Bytes) (content : Content) → BeginsWith front content → (k b : ℕ) → slice_get front k ≡ Some b → byte_of content k ≡ Some b
-begun_byte front content begins k b is =
-    let inside = slice_get_within front k b is in
-    let same = begins.same k inside ∙ get_or_from_slice_get front k b 0 is in
-    let long = begins.long in
-    byte_is content k ∙ slice_get-get_or (bytes_of content) k 0 (omega (arith, inside, long)) ∙ ap Some same
-
 -- records lie where the bytes that spell them stand
-pub spelled_lies : (f : ℕ → Option ℕ) (from : ℕ) (xs : Records) (to : ℕ) → AreEndToEnd from xs to → ((k b : ℕ) → slice_get (bytes_of_records xs) k ≡ Some b → f (from + k) ≡ Some b) → EndToEnd f from xs to
+pub spelled_lies : (f : ℕ → Option ℕ) (from : ℕ) (xs : Records) (to : ℕ) → AreEndToEnd from xs to → Stands f from (bytes_of_records xs) → EndToEnd f from xs to
 unfolding spelling_of
-spelled_lies f from [] to e there = e
-spelled_lies f from (x ∷ xs) to e there = (
-  e.0,
-  (λ k l.
-      let is = slice_get-get_or (spelling x.1) k 0 l in
-      there k (get_or (spelling x.1) k 0) (get_front (spelling x.1) (bytes_of_records xs) k _ is) ∙ sym is),
-  spelled_lies f (from + length (spelling x.1)) xs to e.1 (λ k b is.
-      let place : from + (length (spelling x.1) + k) ≡ from + length (spelling x.1) + k = omega arith in
-      subst (λ (n : ℕ). f n ≡ Some b) place (there (length (spelling x.1) + k) b (get_behind (spelling x.1) (bytes_of_records xs) k ∙ is))),
-)
+spelled_lies f from [] to e stands = e
+spelled_lies f from (x ∷ xs) to e stands =
+    let both = length-append (spelling x.1) (bytes_of_records xs) in (
+      e.0,
+      (λ k l. stands k (omega (arith, l, both)) ∙ get_front (spelling x.1) (bytes_of_records xs) k l),
+      spelled_lies f (from + length (spelling x.1)) xs to e.1 (λ k l.
+          let place : from + length (spelling x.1) + k ≡ from + (length (spelling x.1) + k) = omega arith in
+          ap f place ∙ stands (length (spelling x.1) + k) (omega (arith, l, both)) ∙ get_behind (spelling x.1) (bytes_of_records xs) k),
+    )
 
--- ---- the same records
+-- and behind others, whose bytes are there too
+pub lies_behind : (f g : ℕ → Option ℕ) (from : ℕ) (old new : Records) (end to : ℕ) → EndToEnd f from old end → AreEndToEnd end new to → ((k b : ℕ) → k < end → f k ≡ Some b → g k ≡ Some b)
+    → Stands g end (bytes_of_records new) → EndToEnd g from (old ++ new) to
+lies_behind f g from old new end to lies ends same stands = ends_append g from old new end to (ends_over f g from old end same lies) (spelled_lies g end new to ends stands)
 
-pub stands_still : StandsStill
-stands_still image other r s stands live live' begins =
-    let chunk = in_chunk image s live r stands in
-    stands_by other s live' r (record {
-      records = chunk.records;
-      lies = ends_over (byte_of (image (Chunk 0))) (byte_of (other (Chunk 0))) 0 chunk.records s.end
-          (λ k b l is. begun_byte (front_of s.end image) (other (Chunk 0)) begins k b (get_take s.end (bytes_of (image (Chunk 0))) k b l (sym (byte_is (image (Chunk 0)) k) ∙ is))) chunk.lies;
-      good = chunk.good;
-      fits = chunk.fits;
-      floor = chunk.floor;
-      commits = chunk.commits;
-      branches = chunk.branches;
-      tags = chunk.tags;
-    })
+-- while no generation is live, the bytes of a slot's records are those of chunk 0
+module _ (s : Slot) (image other : Image) (live : HasLive s image) where
+  pub same_byte : SameSpace s image other → (k b : ℕ) → k < s.end → byte_of (image (Chunk 0)) k ≡ Some b → byte_of (other (Chunk 0)) k ≡ Some b
+  unfolding chunk_byte
+  same_byte same k b l is = same.chunks k (let none = live.live.fields.none_live.0 live.live.fields.served in omega (arith, none)) l ∙ is
+
+  added_bytes : (bytes : Bytes) → AddsBytes s bytes image other → Stands (byte_of (other (Chunk 0))) s.end bytes
+  unfolding chunk_byte
+  added_bytes bytes adds = adds.added
+
+  pub lies_on : (old new : Records) (to : ℕ) → EndToEnd (byte_of (image (Chunk 0))) 0 old s.end → AreEndToEnd s.end new to → AddsBytes s (bytes_of_records new) image other
+      → EndToEnd (byte_of (other (Chunk 0))) 0 (old ++ new) to
+  lies_on old new to lies ends adds =
+      lies_behind (byte_of (image (Chunk 0))) (byte_of (other (Chunk 0))) 0 old new s.end to lies ends (same_byte adds.same) (added_bytes (bytes_of_records new) adds)
 
 -- ---- good records
 
@@ -105,13 +92,22 @@ pub good_append : (s : Slot) (pre xs ys : Records) → AreGood s pre xs → AreG
 good_append s pre [] ys good later = subst (λ (before : Records). AreGood s before ys) (append-nil pre) later
 good_append s pre (x ∷ xs) ys good later = (good.0, good_append s (pre ++ x ∷ []) xs ys good.1 (subst (λ (before : Records). AreGood s before ys) (sym (append_assoc pre (x ∷ []) xs)) later))
 
--- a record is tested against nothing that differs in the slot that follows
-pub good_next_slot : (s : Slot) (end : ℕ) (pre xs : Records) → AreGood s pre xs → AreGood (next_slot s end) pre xs
-good_next_slot s end pre [] good = tt
-good_next_slot s end pre (x ∷ xs) good = (
-  record { bounds = good.0.bounds; served = good.0.served; kept_kind = good.0.kept_kind; first = good.0.first; fits = good.0.fits },
-  good_next_slot s end (pre ++ x ∷ []) xs good.1,
+-- a record is tested against nothing that differs within a generation
+pub still_good : (s t : Slot) → SameGeneration s t → (pre xs : Records) → AreGood s pre xs → AreGood t pre xs
+still_good s t same pre [] good = tt
+still_good s t same pre (x ∷ xs) good = (
+  record {
+    bounds = subst (λ (v : ℕ). Fits v x.1) (sym same.version) good.0.bounds;
+    served = good.0.served;
+    kept_kind = λ low. good.0.kept_kind (subst (λ (h : ℕ). x.0 < h) same.horizon low);
+    first = λ some at. good.0.first (λ none. some (same.live ∙ none)) (at ∙ same.horizon);
+    fits = subst (λ (terms : Terms). RecordFits terms pre x.0 x.1) (sym same_terms) good.0.fits;
+  },
+  still_good s t same (pre ++ x ∷ []) xs good.1,
 )
+  where
+    same_terms : terms_of t ≡ terms_of s
+    same_terms = λ i. record { floor = same.floor i; outside_allowed = may_be_outside (same.version i) }
 
 abbrev IsWithin : ℕ → ℕ × Record → Type 0
 IsWithin version x = Fits version x.1 × IsServedKind x.1
@@ -159,38 +155,44 @@ module _ (J : ℕ → Option Record) where
 
 -- ---- names
 
-still_retained : (s : Slot) (end : ℕ) (m : Map bytes_cmp ℕ) → AreRetained s m → AreRetained (next_slot s end) m
-still_retained s end m is = record { each = λ name. by (get m name) (is.each name); few = is.few }
+pub still_retained : (s t : Slot) → SameGeneration s t → s.next ≤ t.next → (m : Map bytes_cmp ℕ) → AreRetained s m → AreRetained t m
+still_retained s t same more m is = record { each = λ name. by (get m name) (is.each name); few = is.few }
   where
-    by : (o : Option ℕ) → IfSome o (λ n. (s.floor ≤ n) × (n < s.next)) → IfSome o (λ n. (s.floor ≤ n) × (n < s.next + 1))
+    by : (o : Option ℕ) → IfSome o (λ n. (s.floor ≤ n) × (n < s.next)) → IfSome o (λ n. (t.floor ≤ n) × (n < t.next))
     by None is = tt
-    by (Some n) (low, high) = (low, omega (arith, high))
+    by (Some n) (low, high) = let floor = same.floor in (omega (arith, low, floor), omega (arith, high, more))
 
-next_retained : (s : Slot) (end : ℕ) (m : Map bytes_cmp ℕ) (branch : Bytes) → s.floor ≤ s.next → AreRetained s m → len (insert m branch s.next) ≤ 4096 → AreRetained (next_slot s end) (insert m branch s.next)
-next_retained s end m branch floor is few = record {
-  each = λ name. subst (λ (o : Option ℕ). IfSome o (λ n. (s.floor ≤ n) × (n < s.next + 1))) (sym (get-insert nat_list_cmp_total m branch s.next name)) (by (eq_by_cmp bytes_cmp name branch) (get m name) ((still_retained s end m is).each name));
+pub set_retained : (t : Slot) (m : Map bytes_cmp ℕ) (name : Bytes) (number : ℕ) → t.floor ≤ number → number < t.next → len (insert m name number) ≤ 4096 → AreRetained t m → AreRetained t (insert m name number)
+set_retained t m name number low high few is = record {
+  each = λ q. subst (λ (o : Option ℕ). IfSome o (λ n. (t.floor ≤ n) × (n < t.next))) (sym (get-insert nat_list_cmp_total m name number q)) (by (eq_by_cmp bytes_cmp q name) (get m q) (is.each q));
   few = few;
 }
   where
-    by : (b : Bool) (o : Option ℕ) → IfSome o (λ n. (s.floor ≤ n) × (n < s.next + 1)) → IfSome (cond b (Some s.next) o) (λ n. (s.floor ≤ n) × (n < s.next + 1))
-    by true o is = (floor, omega arith)
+    by : (b : Bool) (o : Option ℕ) → IfSome o (λ n. (t.floor ≤ n) × (n < t.next)) → IfSome (cond b (Some number) o) (λ n. (t.floor ≤ n) × (n < t.next))
+    by true o is = (low, high)
     by false o is = is
 
--- ---- records behind others
+-- ---- the same records
 
-pub lies_behind : (content after : Content) (end : ℕ) (old new : Records) (to : ℕ) → EndToEnd (byte_of content) 0 old end → AreEndToEnd end new to
-    → BeginsWith (take end (bytes_of content) ++ bytes_of_records new) after → EndToEnd (byte_of after) 0 (old ++ new) to
-lies_behind content after end old new to lies ends begins =
-    ends_append (byte_of after) 0 old new end to
-    (ends_over (byte_of content) (byte_of after) 0 old end (λ k b l is.
-    begun_byte (take end (bytes_of content) ++ bytes_of_records new) after begins k b
-    (get_front (take end (bytes_of content)) (bytes_of_records new) k b (get_take end (bytes_of content) k b l (sym (byte_is content k) ∙ is)))) lies)
-    (spelled_lies (byte_of after) end new to ends (λ k b is.
-    begun_byte (take end (bytes_of content) ++ bytes_of_records new) after begins (end + k) b
-    (ap (slice_get (take end (bytes_of content) ++ bytes_of_records new)) (ap (λ n. n + k) (sym whole_front)) ∙ get_behind (take end (bytes_of content)) (bytes_of_records new) k ∙ is)))
-  where
-    whole_front : length (take end (bytes_of content)) ≡ end
-    whole_front = length-take-le end (bytes_of content) (all_inside content 0 old end (omega arith) lies)
+pub stands_still : StandsStill
+stands_still image other r s t stands live live' same end next space =
+    let chunk = in_chunk image s live r stands in
+    let more : s.next ≤ t.next = omega (arith, next) in
+    stands_by other t live' r (record {
+      records = chunk.records;
+      lies = subst (EndToEnd (byte_of (other (Chunk 0))) 0 chunk.records) (sym end)
+          (ends_over (byte_of (image (Chunk 0))) (byte_of (other (Chunk 0))) 0 chunk.records s.end (same_byte s image other live space) chunk.lies);
+      good = still_good s t same [] chunk.records chunk.good;
+      fits = record {
+        next = (let is = chunk.fits.next in let floor = same.floor in omega (arith, is, next, floor));
+        branches = still_retained s t same more (named Names.branches chunk.records) chunk.fits.branches;
+        tags = still_retained s t same more (named Names.tags chunk.records) chunk.fits.tags;
+      };
+      floor = chunk.floor ∙ sym same.floor;
+      commits = chunk.commits;
+      branches = chunk.branches;
+      tags = chunk.tags;
+    })
 
 -- ---- a commit's records behind those of its repository
 
@@ -205,9 +207,6 @@ module _ (s : Slot) (fields : IsSlot s) (content : Content) (r : Repository) (ch
 
   abbrev new : Records
   new = batch v from f s.end
-
-  abbrev end : ℕ
-  end = batch_end v from f s.end
 
   abbrev after : Commit
   after = new_commit r v.map parents info
@@ -282,18 +281,6 @@ module _ (s : Slot) (fields : IsSlot s) (content : Content) (r : Repository) (ch
   number_is : next r ≡ s.next
   number_is = next_number s content r fields chunk
 
-  fits_after : WholeFits (next_slot s end) (old ++ new)
-  fits_after =
-      let is = chunk.fits.next in
-      let more = ap length all_commits ∙ length-append (commits_in old) (c ∷ []) in
-      record {
-        next = omega (arith, is, more);
-        branches = subst (AreRetained (next_slot s end)) (ap (λ (n : ℕ). insert (named Names.branches old) branch n) (sym number_is) ∙ sym (all_names Names.branches))
-            (next_retained s end (named Names.branches old) branch fields.floor chunk.fits.branches
-            (subst (λ (n : ℕ). len (insert (named Names.branches old) branch n) ≤ 4096) number_is (subst (λ (m : Map bytes_cmp ℕ). len (insert m branch (next r)) ≤ 4096) chunk.branches may.room)));
-        tags = subst (AreRetained (next_slot s end)) (sym (all_names Names.tags)) (still_retained s end (named Names.tags old) chunk.fits.tags);
-      }
-
   commits_after : AllZip (Spells (old ++ new)) (commits_in (old ++ new)) (r.commits ++ after ∷ [])
   commits_after = subst (λ (cs : List CommitRecord). AllZip (Spells (old ++ new)) cs (r.commits ++ after ∷ [])) (sym all_commits)
       (zip_append (Spells (old ++ new)) (commits_in old) (c ∷ []) r.commits (after ∷ [])
@@ -302,42 +289,58 @@ module _ (s : Slot) (fields : IsSlot s) (content : Content) (r : Repository) (ch
 
   -- ---- the repository after the commit
 
-  module _ (grown : Content) (begins : BeginsWith (take s.end (bytes_of content) ++ bytes_of_records new) grown) where
-    pub chunk_after : InChunk (next_slot s end) grown (with_commit r after branch)
-    chunk_after = record {
-      records = old ++ new;
-      lies = lies_behind content grown s.end old new end chunk.lies (batch_lies v from f s.end) begins;
-      good = good_append (next_slot s end) [] old new (good_next_slot s end [] old chunk.good) (good_next_slot s end old new good_batch);
-      fits = fits_after;
-      floor = chunk.floor;
-      commits = commits_after;
-      branches = branches_after;
-      tags = tags_after;
+  module _ (t : Slot) (same : SameGeneration s t) (one_more : t.next ≡ s.next + 1) where
+    more : s.next ≤ t.next
+    more = omega (arith, one_more)
+
+    branches_fit : AreRetained t (named Names.branches (old ++ new))
+    branches_fit =
+        let low = fields.floor in
+        let floor = same.floor in
+        subst (AreRetained t) branches_after
+        (set_retained t r.branches branch (next r) (omega (arith, low, floor, number_is)) (omega (arith, one_more, number_is)) may.room
+        (still_retained s t same more r.branches (subst (AreRetained s) (sym chunk.branches) chunk.fits.branches)))
+
+    fits_after : WholeFits t (old ++ new)
+    fits_after = record {
+      next =
+          (let is = chunk.fits.next in
+          let floor = same.floor in
+          let all = ap length all_commits ∙ length-append (commits_in old) (c ∷ []) in
+          omega (arith, is, all, floor, one_more));
+      branches = branches_fit;
+      tags = subst (AreRetained t) (sym (all_names Names.tags)) (still_retained s t same more (named Names.tags old) chunk.fits.tags);
     }
 
-    pub records_after : chunk_after.records ≡ old ++ new
-    unfolding chunk_after
-    records_after = refl
+    module _ (grown : Content) (lies : EndToEnd (byte_of grown) 0 (old ++ new) t.end) where
+      pub chunk_after : InChunk t grown (with_commit r after branch)
+      chunk_after = record {
+        records = old ++ new;
+        lies = lies;
+        good = still_good s t same [] (old ++ new) (good_append s [] old new chunk.good good_batch);
+        fits = fits_after;
+        floor = chunk.floor ∙ sym same.floor;
+        commits = commits_after;
+        branches = branches_after;
+        tags = tags_after;
+      }
+
+      pub records_after : chunk_after.records ≡ old ++ new
+      unfolding chunk_after
+      records_after = refl
 
 pub stands_grown : StandsGrown
-stands_grown image other r s v parents info branch stands live may known within live' begins =
+stands_grown image other r s t v parents info branch stands live may known within live' same ends next adds =
     let f = fields_of r parents info branch in
-    let t = next_slot s (grown_end v f s.end) in
     let q = with_commit r (new_commit r v.map parents info) branch in
     let chunk = in_chunk image s live r stands in
-    let same : chunk.records ≡ stands.standing.records = same_in_chunk image s live r stands in
-    let known : KnownStand (present chunk.records) v s.end = subst (λ (rs : Records). KnownStand (present rs) v s.end) (sym same) known in
+    let same_records : chunk.records ≡ stands.standing.records = same_in_chunk image s live r stands in
+    let known : KnownStand (present chunk.records) v s.end = subst (λ (rs : Records). KnownStand (present rs) v s.end) (sym same_records) known in
     let stand = sources_stand (present chunk.records) v s.end known in
-    let next_chunk = chunk_after s live.live.fields (image (Chunk 0)) r chunk v (sources v) parents info branch may known stand within (other (Chunk 0)) begins in (
-      stands_by other t live' q next_chunk,
-      same_standing other t live' q next_chunk
-          ∙ records_after s live.live.fields (image (Chunk 0)) r chunk v (sources v) parents info branch may known stand within (other (Chunk 0)) begins
-          ∙ ap (λ (rs : Records). rs ++ grown_batch v f s.end) same,
+    let lies = lies_on s image other live chunk.records (grown_batch v f s.end) t.end chunk.lies (subst (AreEndToEnd s.end (grown_batch v f s.end)) (sym ends) (batch_lies v (sources v) f s.end)) adds in
+    let after = chunk_after s live.live.fields (image (Chunk 0)) r chunk v (sources v) parents info branch may known stand within t same next (other (Chunk 0)) lies in (
+      stands_by other t live' q after,
+      same_standing other t live' q after
+          ∙ records_after s live.live.fields (image (Chunk 0)) r chunk v (sources v) parents info branch may known stand within t same next (other (Chunk 0)) lies
+          ∙ ap (λ (rs : Records). rs ++ grown_batch v f s.end) same_records,
     )
-
--- no part is known
-pub stands_next : StandsNext
-stands_next image other r s tree parents info branch stands live may within live' begins =
-    let records = stands.standing.records in
-    let known = nothing_known (present records) tree s.end (λ at x is. present_below (byte_of (image (Chunk 0))) 0 records s.end at x (chunk_lies image s live stands.standing) is) in
-    (stands_grown image other r s (unread tree) parents info branch stands live (may_grow r tree parents info branch may) known within live' begins).0

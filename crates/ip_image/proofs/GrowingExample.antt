@@ -1,9 +1,9 @@
 -- The law of a tree of any depth, on two commits: `set a/b 02`, and then `set c 01`. The directory `a` is known to the second one, and so is what stands there:
 -- its batch has neither.
-use Rattle.std.proofs.Common.{◌≡◌, ◌≢◌, inl, inr, ℕ, zero, ◌<◌, ◌≤◌, List, [], ◌∷◌, ◌++◌, refl, sym, ap, subst, ◌∙◌, Option, Some, None, Bool, true, false, T, lit<, lit≤, arith, length}
+use Rattle.std.proofs.Common.{◌≡◌, ◌≢◌, inl, inr, ℕ, zero, ◌+◌, ◌<◌, ◌≤◌, List, [], ◌∷◌, ◌++◌, refl, sym, ap, subst, ◌∙◌, Option, Some, None, Bool, true, false, T, lit<, lit≤, arith, length}
 use Rattle.std.proofs.lemmas.Bool.{false≢true, true≢false}
 use Rattle.std.proofs.lemmas.List.Elements.{All-from_recursion}
-use Rattle.std.specs.Prelude.{codes, IsTrue, is_some, not, ◌&&◌, ◌==◌}
+use Rattle.std.specs.Prelude.{codes, IsTrue, is_some, slice_get, not, ◌&&◌, ◌==◌}
 use Rattle.std.specs.List.{list_all}
 use Rattle.sha2.specs.Sha256.{sha256}
 use Rattle.ip_ground.specs.Contents.{Image}
@@ -25,17 +25,17 @@ use Rattle.ip_spec.specs.Repository.{Repository, no_repository, is_retained}
 use Rattle.ip_spec.specs.Step.{new_commit, with_commit, step_runs}
 use Rattle.ip_spec.proofs.Subtrees.{lawful_put, same_as}
 use Rattle.ip_image.specs.Slot.{Slot, IsSlot, fresh, slot_bytes}
-use Rattle.ip_image.specs.Virtual.{byte_of}
+use Rattle.ip_image.specs.Virtual.{byte_of, chunk_byte}
 use Rattle.ip_image.specs.Standing.{StandsFor, IsServedKind}
 use Rattle.ip_image.specs.Collection.{image_runs}
-use Rattle.ip_image.specs.Appending.{BeginsWith, front_of, HasLive, unread, next_slot, MayGrow, fields_of, grown_batch, grown_end, bytes_of_records, AreWithin}
+use Rattle.ip_image.specs.Pending.{HasLive}
+use Rattle.ip_image.specs.Appending.{SameGeneration, AddsBytes, unread, MayGrow, fields_of, grown_batch, grown_end, bytes_of_records, AreWithin}
 use Rattle.ip_image.proofs.OneRepository.{good_fit, same_stretch}
 use Rattle.ip_image.proofs.InChunk.{chunk_lies, chunk_good, present_below}
 use Rattle.ip_image.proofs.TreeBatch.{found_below}
-use Rattle.ip_image.proofs.FlatTrees.{nothing_known}
-use Rattle.ip_image.proofs.AppendingLaws.{stands_grown}
+use Rattle.ip_image.proofs.AppendingLaws.{get_front, get_behind, stands_grown}
 use Rattle.ip_image.proofs.StoreExample.{info, is_info, is_main, is_hash, are_bytes, each, is_word_byte, step_byte}
-use Rattle.ip_image.proofs.AppendingExample.{fresh_image, starts, fresh_live, no_lawful, none_below}
+use Rattle.ip_image.proofs.AppendingExample.{fresh_image, starts, fresh_live, no_lawful, none_below, nothing_known, same_generation}
 
 -- ---- the trees, and what the second one knows
 
@@ -117,10 +117,10 @@ second_end = refl
 -- ---- the images
 
 abbrev first_slot : Slot
-first_slot = next_slot (fresh 4096) 197
+first_slot = record (fresh 4096) { sequence = 2; end = 197; next = 1 }
 
 abbrev second_slot : Slot
-second_slot = next_slot first_slot 425
+second_slot = record (fresh 4096) { sequence = 3; end = 425; next = 2 }
 
 abbrev first_chunk : Bytes
 first_chunk = bytes_of_records first_records
@@ -297,14 +297,17 @@ first_known : KnownStand (present starts.standing.records) (unread first_tree) 0
 first_known = nothing_known (present starts.standing.records) first_tree 0
     (λ at r is. present_below (byte_of (fresh_image (Chunk 0))) 0 starts.standing.records 0 at r (chunk_lies fresh_image (fresh 4096) fresh_live starts.standing) is)
 
-first_begins : BeginsWith first_chunk (Some first_chunk)
-first_begins = record { long = omega arith; same = λ place l. refl }
+first_adds : AddsBytes (fresh 4096) first_chunk fresh_image first_image
+unfolding chunk_byte first_image
+first_adds = record {
+  same = record { chunks = λ at low high. absurd (none_below at high); mapping = λ some. absurd (some refl); prefix = λ some. absurd (some refl) };
+  added = λ k l. get_behind [] first_chunk k;
+}
 
 the_first : (stands : StandsFor first_image after_first) × (stands.standing.records ≡ starts.standing.records ++ grown_batch (unread first_tree) first_fields 0)
-unfolding first_image
-the_first = stands_grown fresh_image first_image no_repository (fresh 4096) (unread first_tree) [] info (codes "main") starts fresh_live first_may first_known
-    (subst (AreWithin 1) (sym first_batch) first_within) (subst (λ (n : ℕ). HasLive (next_slot (fresh 4096) n) first_image) (sym first_end) first_live)
-    (subst (λ (rs : Records). BeginsWith (bytes_of_records rs) (Some first_chunk)) (sym first_batch) first_begins)
+the_first = stands_grown fresh_image first_image no_repository (fresh 4096) first_slot (unread first_tree) [] info (codes "main") starts fresh_live first_may first_known
+    (subst (AreWithin 1) (sym first_batch) first_within) first_live (same_generation 2 197 1) (sym first_end) refl
+    (subst (λ (rs : Records). AddsBytes (fresh 4096) (bytes_of_records rs) fresh_image first_image) (sym first_batch) first_adds)
 
 first_holds : the_first.0.standing.records ≡ first_records
 first_holds = the_first.1 ∙ (λ i. nothing_before i ++ first_batch i)
@@ -361,19 +364,29 @@ second_known = record {
     parts p [] at false false x_is y_is known is = absurd (false≢true (ap is_some known))
     parts p (i ∷ indexes) at x y x_is y_is known is = absurd (false≢true (ap is_some known))
 
-whole_front : front_of 197 first_image ≡ first_chunk
-unfolding first_image image_runs shape_runs
-whole_front = refl
+first_length : length first_chunk ≡ 197
+unfolding image_runs shape_runs
+first_length = refl
 
-second_begins : BeginsWith (front_of 197 first_image ++ bytes_of_records second_records) (Some second_chunk)
-second_begins = subst (λ (front : Bytes). BeginsWith (front ++ bytes_of_records second_records) (Some second_chunk)) (sym whole_front) (record { long = omega arith; same = λ place l. refl })
+second_adds : AddsBytes first_slot (bytes_of_records second_records) first_image second_image
+unfolding chunk_byte first_image second_image
+second_adds = record {
+  same = record {
+    chunks = λ at low high. get_front first_chunk (bytes_of_records second_records) at (subst (λ (n : ℕ). at < n) (sym first_length) high);
+    mapping = λ some. absurd (some refl);
+    prefix = λ some. absurd (some refl);
+  };
+  added = λ k l. ap (λ n. slice_get second_chunk (n + k)) (sym first_length) ∙ get_behind first_chunk (bytes_of_records second_records) k;
+}
+
+on_from_first : SameGeneration first_slot second_slot
+on_from_first = record { version = refl; chunk = refl; horizon = refl; floor = refl; live = refl; prefix_len = refl; rows = refl }
 
 the_second : (stands : StandsFor second_image after_second) × (stands.standing.records ≡ the_first.0.standing.records ++ grown_batch second_view second_fields 197)
-unfolding second_image
-the_second = stands_grown first_image second_image after_first first_slot second_view (0 ∷ []) info (codes "main") the_first.0 first_live second_may
+the_second = stands_grown first_image second_image after_first first_slot second_slot second_view (0 ∷ []) info (codes "main") the_first.0 first_live second_may
     (subst (λ (rs : Records). KnownStand (present rs) second_view 197) (sym first_holds) second_known)
-    (subst (AreWithin 1) (sym second_batch) second_within) (subst (λ (n : ℕ). HasLive (next_slot first_slot n) second_image) (sym second_end) second_live)
-    (subst (λ (rs : Records). BeginsWith (front_of 197 first_image ++ bytes_of_records rs) (Some second_chunk)) (sym second_batch) second_begins)
+    (subst (AreWithin 1) (sym second_batch) second_within) second_live on_from_first (sym second_end) refl
+    (subst (λ (rs : Records). AddsBytes first_slot (bytes_of_records rs) first_image second_image) (sym second_batch) second_adds)
 
 the_records_of_both : the_second.0.standing.records ≡ first_records ++ second_records
 the_records_of_both = the_second.1 ∙ (λ i. first_holds i ++ second_batch i)

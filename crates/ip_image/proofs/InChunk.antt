@@ -4,12 +4,12 @@
 --     same_in_chunk, same_standing      by the same records
 --     chunk_lies, chunk_good      the records of an image that stands, there
 --     ends_over, ends_append      records that lie end to end lie so in other bytes, and behind others
---     present_below, all_inside      they are present below their end, and the bytes go so far
-use Rattle.std.proofs.Common.{◌≡◌, ℕ, ◌+◌, ◌-◌, ◌<◌, ◌≤◌, List, [], ◌∷◌, ◌++◌, refl, sym, ap, subst, ◌∙◌, Option, Some, None, Bool, true, false, cond, length, arith, append-nil, map}
-use Rattle.std.proofs.lemmas.Bool.{false≢true}
+--     present_below, all_inside, ends_filled      they are present below their end, the bytes go so far, and none is missing.      space_filled      nor is one of an image that stands
+use Rattle.std.proofs.Common.{◌≡◌, inl, inr, ℕ, ◌+◌, ◌-◌, ◌<◌, ◌≤◌, List, [], ◌∷◌, ◌++◌, refl, sym, ap, subst, ◌∙◌, Option, Some, None, Bool, true, false, cond, length, arith, append-nil, map}
+use Rattle.std.proofs.lemmas.Bool.{false≢true, cases_lt}
 use Rattle.std.proofs.lemmas.Bool.Decides.{nat_tests}
 use Rattle.std.proofs.lemmas.Option.{slice_get-get_or, slice_get_within}
-use Rattle.std.specs.Prelude.{is_some, slice_get, get_or, nat_le, if◌then◌else◌}
+use Rattle.std.specs.Prelude.{is_some, IsSome, slice_get, get_or, nat_le, if◌then◌else◌}
 use Rattle.std.specs.List.{AllZip}
 use Rattle.std.specs.Option.{option_and_then}
 use Rattle.std.specs.Ordering.{nat_cmp, eq_by_cmp, is_eq}
@@ -24,9 +24,9 @@ use Rattle.ip_spec.specs.Record.{Names, spelling}
 use Rattle.ip_spec.specs.TreeAt.{Records, present}
 use Rattle.ip_spec.specs.Repository.{Repository}
 use Rattle.ip_image.specs.Slot.{Slot, layout_of}
-use Rattle.ip_image.specs.Virtual.{Row, run_of, locate, byte_of, virtual_byte}
+use Rattle.ip_image.specs.Virtual.{Row, run_of, locate, byte_of, chunk_byte, virtual_byte}
 use Rattle.ip_image.specs.Standing.{EndToEnd, RunByRun, AreGood, WholeFits, Generation, stretches, named, commits_in, Spells, Standing, StandsFor}
-use Rattle.ip_image.specs.Appending.{HasLive}
+use Rattle.ip_image.specs.Pending.{HasLive}
 use Rattle.ip_image.proofs.OneRepository.{some_bytes, goes_on}
 use Rattle.ip_image.proofs.DamageLaws.{slot_is}
 
@@ -81,6 +81,16 @@ all_inside content from (x ∷ xs) to low (at, stands, e) =
     let last = byte_inside content (from + (length (spelling x.1) - 1)) _ (stands (length (spelling x.1) - 1) l ∙ slice_get-get_or (spelling x.1) (length (spelling x.1) - 1) 0 l) in
     all_inside content (from + length (spelling x.1)) xs to (omega (arith, last, some)) e
 
+-- there is a byte at each place of theirs
+pub ends_filled : (f : ℕ → Option ℕ) (from : ℕ) (xs : Records) (to at : ℕ) → EndToEnd f from xs to → from ≤ at → at < to → IsSome (f at)
+ends_filled f from [] to at e low high = absurd (omega (arith, e, low, high))
+ends_filled f from (x ∷ xs) to at (place, stands, e) low high = elim (cases_lt at (from + length (spelling x.1))) [
+  | inl here ↦
+      let inside : at - from < length (spelling x.1) = omega (arith, low, here) in
+      subst (λ (n : ℕ). IsSome (f n)) (omega (arith, low)) (ap is_some (stands (at - from) inside ∙ slice_get-get_or (spelling x.1) (at - from) 0 inside))
+  | inr later ↦ ends_filled f (from + length (spelling x.1)) xs to at e later high
+]
+
 -- ---- what an image holds in chunk 0
 
 pub record InChunk (s : Slot) (content : Content) (r : Repository) : Type 0 where
@@ -124,6 +134,11 @@ module _ (image : Image) (s : Slot) (live : HasLive s image) where
         subst (λ (n : ℕ). EndToEnd (virtual_byte image (layout_of s) []) n whole.0 s.end) no_horizon
         (subst (λ (n : ℕ). EndToEnd (virtual_byte image (layout_of s) []) s.horizon whole.0 n) (let low = live.live.fields.horizon in omega (arith, low)) whole.3) in
         subst (λ (rs : Records). EndToEnd (byte_of (image (Chunk 0))) 0 rs s.end) records (subst (λ (f : ℕ → Option ℕ). EndToEnd f 0 whole.0 s.end) (chunk_bytes image s no_horizon) from_zero)
+
+    -- from the horizon to the end the chunks have no gap
+    pub space_filled : (at : ℕ) → at < s.end → IsSome (chunk_byte s.chunk image at)
+    unfolding chunk_byte
+    space_filled at high = ends_filled (byte_of (image (Chunk 0))) 0 A.records s.end at chunk_lies (omega arith) high
 
     pub chunk_good : AreGood s [] A.records
     chunk_good = subst (λ (t : Slot). AreGood t [] A.records) is_slot A.good

@@ -1,5 +1,5 @@
 -- The records of an image that goes on.
---     records_go_on      where its bytes begin with those of another image's records and then with those of more, its records are these
+--     records_go_on      where it has the bytes of another image's records and behind them those of more, its records are these
 use Rattle.std.proofs.Common.{ℕ, [], ◌++◌, sym, subst}
 use Rattle.std.proofs.lemmas.List.Elements.{recursion_from_All}
 use Rattle.std.specs.List.{AllByRecursion}
@@ -11,14 +11,14 @@ use Rattle.ip_image.specs.Appending.{RecordsGoOn}
 use Rattle.ip_image.proofs.OneRepository.{same_stretch, good_fit}
 use Rattle.ip_image.proofs.InChunk.{chunk_lies, chunk_good}
 use Rattle.ip_image.proofs.TreeParts.{all_join}
-use Rattle.ip_image.proofs.AppendingLaws.{lies_behind}
+use Rattle.ip_image.proofs.AppendingLaws.{lies_on}
 
 pub records_go_on : RecordsGoOn
-records_go_on image other s t new before after live live' same ends fits begins =
+records_go_on image other s t new before after live live' same ends fits adds =
     same_stretch t.version (byte_of (other (Chunk 0))) 0 t.end after.records (before.records ++ new)
     (good_fit t [] after.records (chunk_good other t live' after))
     (all_join (λ (x : ℕ × Record). Fits t.version x.1) before.records new
-    (subst (λ (v : ℕ). AllByRecursion (λ (x : ℕ × Record). Fits v x.1) before.records) (sym same) (good_fit s [] before.records (chunk_good image s live before)))
+    (subst (λ (v : ℕ). AllByRecursion (λ (x : ℕ × Record). Fits v x.1) before.records) (sym same.version) (good_fit s [] before.records (chunk_good image s live before)))
     (recursion_from_All (λ (x : ℕ × Record). Fits t.version x.1) new fits))
     (chunk_lies other t live' after)
-    (lies_behind (image (Chunk 0)) (other (Chunk 0)) s.end before.records new t.end (chunk_lies image s live before) ends begins)
+    (lies_on s image other live before.records new t.end (chunk_lies image s live before) ends adds)

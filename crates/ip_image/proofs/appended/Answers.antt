@@ -1,13 +1,10 @@
-use Rattle.ip_image.proofs.AppendingLaws.{stands_still, stands_next, stands_grown}
+use Rattle.ip_image.proofs.AppendingLaws.{stands_still, stands_grown}
 use Rattle.ip_image.proofs.RecordsOn.{records_go_on}
 use Rattle.ip_image.proofs.Renaming.{stands_renamed}
 use Rattle.ip_image.proofs.appended.Goals as goal
 
 pub returns-clause-still : goal.returns-clause-still
 returns-clause-still c = stands_still
-
-pub returns-clause-next : goal.returns-clause-next
-returns-clause-next c = stands_next
 
 pub returns-clause-grown : goal.returns-clause-grown
 returns-clause-grown c = stands_grown
