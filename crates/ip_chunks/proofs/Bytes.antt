@@ -1,21 +1,20 @@
 -- Bytes from a place on.
 use Rattle.std.proofs.Common.{◌≡◌, ℕ, ◌+◌, ◌-◌, ◌<◌, ◌≤◌, List, ◌∷◌, ◌++◌, length, get_or, Option, Some, None, Bool, true, zero, suc, inl, inr, refl, sym, ◌∙◌, ap, subst, arith, length-append}
 use Rattle.std.proofs.lemmas.Bool.{false≢true, cases_lt}
-use Rattle.std.proofs.lemmas.List.{ext_get_or, get_or-take, length-take-le, get_or_append_left, get_or-append_right}
+use Rattle.std.proofs.lemmas.List.{ext_get_or, get_or_append_left, get_or-append_right}
 use Rattle.std.proofs.lemmas.Option.{slice_get-get_or, same_Some}
 use Rattle.std.specs.Prelude.{is_some, IsSome, filter_map, nat_le, if◌then◌else◌}
 use Rattle.std.specs.List.{range_with_len, cons_option}
 use Rattle.std.specs.Option.{option_and_then}
 use Rattle.std.proofs.lemmas.Bool.Decides.{nat_tests}
 use Rattle.ip_ground.specs.declared.names.FileName.TheVariants.{Chunk, Prefix}
-use Rattle.ip_ground.specs.Contents.{Content, Image, bytes_of, size_of}
+use Rattle.ip_ground.specs.Contents.{Image}
 use Rattle.ip_image.specs.Virtual.{Stands, byte_of, locate, virtual_byte}
 use Rattle.ip_image.specs.declared.layout.Layout.{Layout}
 use Rattle.ip_image.specs.declared.run.Run.{Run}
-use Rattle.ip_image.specs.Appending.{BeginsWith, front_of}
+use Rattle.ip_image.specs.Pending.{SameChunks}
 use Rattle.ip_chunks.specs.Places.{chunk_byte, NoGap}
 use Rattle.ip_chunks.specs.Fronts.{Holds, bytes_from}
-use Rattle.ip_chunks.proofs.Gaps.{some_byte, within_from}
 
 -- a byte of a list, in its two forms
 pub elements_stand : (f : ℕ → Option ℕ) (at : ℕ) (bytes : List ℕ) (k : ℕ) → Stands f at bytes → k < length bytes → f (at + k) ≡ Some (get_or bytes k 0)
@@ -39,6 +38,12 @@ module _ (f : ℕ → Option ℕ) (at : ℕ) (front rest : List ℕ) where
         ap f (omega (arith, late)) ∙ elements_stand f (at + length front) rest (k - length front) later inside
         ∙ sym (ap Some (get_or-append_right front rest (length front) k 0 refl late)) ∙ sym (slice_get-get_or (front ++ rest) k 0 lt)
   ]
+
+  pub stands_behind : Stands f at (front ++ rest) → Stands f (at + length front) rest
+  stands_behind stands k lt =
+      let inside : length front + k < length (front ++ rest) = omega (arith, length-append front rest, lt) in
+      ap f (omega arith) ∙ elements_stand f at (front ++ rest) (length front + k) stands inside
+      ∙ ap Some (get_or-append_right front rest (length front) (length front + k) 0 refl (omega arith) ∙ ap (λ (n : ℕ). get_or rest n 0) (omega arith)) ∙ sym (slice_get-get_or rest k 0 lt)
 
 -- bytes that stand from one place on are the same as far as they go
 pub same_bytes : (f : ℕ → Option ℕ) (at : ℕ) (xs ys : List ℕ) → length xs ≡ length ys → Stands f at xs → Stands f at ys → xs ≡ ys
@@ -86,6 +91,16 @@ one_bytes size at bytes image holds =
     let no_gap = no_gap_from size at bytes image holds in
     same_bytes (chunk_byte size image) at (bytes_from size image at (length bytes)) bytes (length-bytes_from size at (length bytes) image no_gap) (some_bytes size at (length bytes) image no_gap) holds
 
+-- another image that has them has the same byte at each place, and the other way round
+module _ (size at n : ℕ) (image other : Image) (no_gap : NoGap size image at (at + n)) where
+  pub same_places : Holds size at (bytes_from size image at n) other → SameChunks size at (at + n) image other
+  same_places holds place low high =
+      let inside : place - at < length (bytes_from size image at n) = omega (arith, length-bytes_from size at n image no_gap, low, high) in
+      subst (λ (p : ℕ). chunk_byte size other p ≡ chunk_byte size image p) (omega (arith, low)) (holds (place - at) inside ∙ sym (some_bytes size at n image no_gap (place - at) inside))
+
+  pub places_same : SameChunks size at (at + n) image other → Holds size at (bytes_from size image at n) other
+  places_same same k lt = same (at + k) (omega arith) (omega (arith, length-bytes_from size at n image no_gap, lt)) ∙ some_bytes size at n image no_gap k lt
+
 -- ---- while one file holds all places
 
 le_test : (m n : ℕ) → m ≤ n → nat_le m n ≡ true
@@ -94,40 +109,3 @@ le_test m n le = grind (arith, nat_tests)
 pub virtual_bytes : (image : Image) (s : Layout) (runs : List Run) (at : ℕ) → s.horizon ≤ at → virtual_byte image s runs at ≡ chunk_byte s.chunk image at
 unfolding virtual_byte chunk_byte
 virtual_bytes image s runs at from = ap (λ (test : Bool). if test then byte_of (image (Chunk 0)) at else option_and_then (λ place. byte_of (image (Prefix s.live)) place) (locate runs at)) (le_test s.horizon at from)
-
--- bytes that stand from the first place on, by their places
-module _ (f : ℕ → Option ℕ) (bytes : List ℕ) where
-  first_elements : Stands f 0 bytes → (k : ℕ) → k < length bytes → f k ≡ Some (get_or bytes k 0)
-  first_elements stands k lt = ap f (omega arith) ∙ elements_stand f 0 bytes k stands lt
-
-  first_stand : ((k : ℕ) → k < length bytes → f k ≡ Some (get_or bytes k 0)) → Stands f 0 bytes
-  first_stand each k lt = ap f (omega arith) ∙ each k lt ∙ sym (slice_get-get_or bytes k 0 lt)
-
-module _ (size : ℕ) (front : List ℕ) (image : Image) where
-  abbrev file : Content
-  file = image (Chunk 0)
-
-  byte_is_there : Holds size 0 front image → (k : ℕ) → k < length front → byte_of file k ≡ Some (get_or front k 0)
-  unfolding chunk_byte
-  byte_is_there holds k lt = first_elements (byte_of file) front holds k lt
-
-  pub begins_from : Holds size 0 front image → BeginsWith front file
-  begins_from holds = record {
-    long = elim (cases_lt (size_of file) (length front)) [
-      | inl short ↦ let there = within_from file (size_of file) (ap is_some (byte_is_there holds (size_of file) short)) in absurd (omega (arith, there))
-      | inr long ↦ long
-    ];
-    same = λ p lt. same_Some _ _ (sym (some_byte file p (within_from file p (ap is_some (byte_is_there holds p lt)))) ∙ byte_is_there holds p lt);
-  }
-
-  pub holds_from : BeginsWith front file → Holds size 0 front image
-  unfolding chunk_byte
-  holds_from begins = first_stand (byte_of file) front (λ k lt. some_byte file k (omega (arith, lt, begins.long)) ∙ ap Some (begins.same k lt))
-
-pub front_from : (size : ℕ) (front : List ℕ) (image : Image) → Holds size 0 front image → front_of (length front) image ≡ front
-front_from size front image holds =
-    let begins = begins_from size front image holds in
-    let long : length (front_of (length front) image) ≡ length front = length-take-le (length front) (bytes_of (image (Chunk 0))) begins.long in
-    ext_get_or 0 (front_of (length front) image) front long (λ k lt.
-    let l : k < length front = omega (arith, lt, long) in
-    get_or-take (length front) (bytes_of (image (Chunk 0))) k 0 l ∙ begins.same k l)

@@ -3,7 +3,8 @@ ghost use Rattle.std.specs.Prelude.{◌≡◌, ◌+◌, ◌^◌, ◌≤◌, Ok, 
 ghost use Rattle.ip_ground.specs.Counts.{NoneFalls, Rose, RoseBy};
 ghost use Rattle.ip_ground.specs.Told.{ChangesOnly};
 ghost use Rattle.ip_image.specs.Slot.{IsChunkSize};
-ghost use Rattle.ip_chunks.specs.Places.{chunk_start, NoGap, IsChunkNumbered};
+ghost use Rattle.ip_image.specs.Virtual.{place_in_chunk};
+ghost use Rattle.ip_chunks.specs.Places.{chunk_start, chunk_file, NoGap, IsChunkNumbered};
 ghost use Rattle.ip_chunks.specs.Effects.{Appends, ReadsAt, SyncsRange};
 
 use ip_ground::{FileName, Ground, GroundFault};
@@ -20,6 +21,14 @@ pub struct Chunks {
 }
 
 impl Chunks {
+    /// The file that holds a place of the list, and the place in that file.
+    pub fn file_of(&self, at: u64) -> (FileName, u64)
+        requires { IsChunkSize self.now.size }
+        ensures { result ≡ (chunk_file self.now.size at, place_in_chunk self.now.size at) }
+    {
+        (SPACE, at)
+    }
+
     /// Writes the bytes at the place `end` of the list. From the start of its chunk up to `end` there is to be no gap, where the ground
     /// tells its files. What is written is pending until the chunks are synced, and after a fault any bytes may stand in its place.
     pub fn append<G: Ground>(
