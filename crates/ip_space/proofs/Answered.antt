@@ -1,23 +1,25 @@
 -- What reading one record comes to, for a reference and for a walk.
 --     record_there      the record at an offset is what is read there
+--     whole_there      the record that the bytes begin with stands whole.      some_bytes      it has some
 --     found_err, found_ok      for a walk.      fetched_err, fetched_ok      for a reference
-use Rattle.std.proofs.Common.{◌≡◌, ℕ, ◌+◌, ◌-◌, ◌≤◌, refl, sym, ◌∙◌, ap, subst, arith, [], length, drop, length-drop}
+use Rattle.std.proofs.Common.{◌≡◌, ℕ, ◌+◌, ◌-◌, ◌<◌, ◌≤◌, refl, sym, ◌∙◌, ap, subst, arith, [], length, drop, length-drop, length-append}
 use Rattle.std.specs.Prelude.{Option, Some, None, Result, Ok, Err}
 use Rattle.ip_ground.specs.Told.{Told}
 use Rattle.ip_spec.specs.declared.record.Record.{Record}
 use Rattle.ip_spec.specs.declared.record.Ref.{Ref}
 use Rattle.ip_spec.specs.declared.record.RecordFault.{RecordFault}
 use Rattle.ip_spec.specs.Path.{Bytes}
-use Rattle.ip_spec.specs.Record.{reference_kind, name_of}
+use Rattle.ip_spec.specs.Record.{reference_kind, name_of, spelling}
+use Rattle.ip_image.specs.Virtual.{Stands}
 use Rattle.ip_image.specs.Stored.{record_at, record_read, stored}
 use Rattle.ip_space.specs.SpaceView.{SpaceView, records_of, read_at, byte_at}
-use Rattle.ip_space.specs.Ahead.{Shows}
+use Rattle.ip_space.specs.Ahead.{Shows, BeginsWith}
 use Rattle.ip_space.specs.ScanView.{ScanView}
 use Rattle.ip_space.specs.Fetching.{Fetches, Refers, ReadsOne, BlamesPlace, Meets}
 use Rattle.ip_space.specs.Scanning.{Finds, IsCurrent}
 use Rattle.ip_space.specs.declared.fault.FetchFault.{FetchFault}
 use Rattle.ip_space.specs.declared.fault.FetchFault.TheVariants.{Ground, Form, Name, Memory}
-use Rattle.ip_space.proofs.StoodBytes.{stands_drop}
+use Rattle.ip_space.proofs.StoodBytes.{stands_drop, stands_front}
 
 pub record_there : (told : Told) (space : SpaceView) (at : ℕ) → records_of told space at ≡ record_read (read_at told space at)
 unfolding stored record_at
@@ -84,6 +86,16 @@ passed_shows f end at n bytes shows = record {
   stands = stands_drop f at n bytes shows.stands;
   inside = let i = shows.inside in let l = length-drop n bytes in omega (arith, i, l);
 }
+
+pub some_bytes : (r : Record) → 0 < length (spelling r)
+unfolding spelling
+some_bytes r = omega arith
+
+pub whole_there : (f : ℕ → Option ℕ) (end at : ℕ) (r : Record) (bytes : Bytes) → Shows f end at bytes → BeginsWith (spelling r) bytes → Stands f at (spelling r) × (at + length (spelling r) ≤ end)
+whole_there f end at r bytes shows (rest, is) = (
+  stands_front f at (spelling r) rest (subst (Stands f at) is shows.stands),
+  let i = shows.inside in let e = ap length is in let l = length-append (spelling r) rest in let some = some_bytes r in omega (arith, i, e, l, some),
+)
 
 pub shows_nothing : (f : ℕ → Option ℕ) (end at : ℕ) (bytes : Bytes) → bytes ≡ [] → Shows f end at bytes
 shows_nothing f end at bytes none = record {

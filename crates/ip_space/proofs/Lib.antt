@@ -5,4 +5,5 @@ pub mod Stayed
 pub mod Filled
 pub mod Answered
 pub mod Passing
+pub mod Lying
 mod Laws

@@ -1,9 +1,10 @@
 -- Bytes that were read ahead.
 --     held_in a      these bytes.      IsAhead a      their places in the buffer are in order
+--     BeginsWith front bytes      they begin with these
 --     Shows bytes_at end at bytes      they stand from there on, and below the end
 --     IsUpTo bytes_at end at bytes      they are all that there is up to the end, or up to the first that is missing
 --     IsEnough bytes_at end at bytes      they tell what record they begin with, or that they begin with none
-use Rattle.std.specs.Prelude.{◌≡◌, ◌⊎◌, ℕ, ◌+◌, ◌-◌, ◌<◌, ◌≤◌, List, length, take, drop, Option, None, Result, IfOk}
+use Rattle.std.specs.Prelude.{◌≡◌, ◌⊎◌, ℕ, ◌+◌, ◌-◌, ◌<◌, ◌≤◌, List, ◌++◌, length, take, drop, Option, None, Result, IfOk}
 use Rattle.ip_ground.specs.declared.names.GroundFault.{GroundFault}
 use Rattle.ip_spec.specs.Path.{Bytes}
 use Rattle.ip_image.specs.Virtual.{Stands}
@@ -16,6 +17,9 @@ held_in a = take (a.stop - a.start) (drop a.start a.buffer.items)
 pub record IsAhead (a : Ahead) : Type 0 where
   pub low : a.start ≤ a.stop
   pub high : a.stop ≤ length a.buffer.items
+
+abbrev pub BeginsWith : Bytes → Bytes → Type 0
+BeginsWith front bytes = (rest : Bytes) × (bytes ≡ front ++ rest)
 
 pub record Shows (bytes_at : ℕ → Option ℕ) (end at : ℕ) (bytes : Bytes) : Type 0 where
   pub stands : Stands bytes_at at bytes

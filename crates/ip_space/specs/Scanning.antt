@@ -1,6 +1,7 @@
 -- What a walk over records answers.
 --     IsCurrent told space scan      what was read ahead is what stands there
 --     Moves old new result      where the walk is then.      Finds records at result      what it found at a place
+--     FindsWhole bytes_at end at result      the bytes of the record that it found stand there, below the end
 --     RunsTo records from to      records lie end to end between the places: with this, no form is wrong
 --     IsWalked records old new result      then a walk goes on to its end
 use Rattle.std.specs.Prelude.{◌≡◌, ℕ, ◌+◌, ◌<◌, ◌≤◌, length, Option, Some, None, Result, Ok, Err}
@@ -8,6 +9,7 @@ use Rattle.ip_ground.specs.Told.{Told}
 use Rattle.ip_spec.specs.declared.record.Record.{Record}
 use Rattle.ip_spec.specs.declared.record.RecordFault.{RecordFault}
 use Rattle.ip_spec.specs.Record.{spelling}
+use Rattle.ip_image.specs.Virtual.{Stands}
 use Rattle.ip_space.specs.SpaceView.{SpaceView, byte_at}
 use Rattle.ip_space.specs.Ahead.{Shows}
 use Rattle.ip_space.specs.ScanView.{ScanView}
@@ -42,6 +44,11 @@ Finds records next (Err Ground) = Unit {0}
 Finds records next (Err (Form at fault)) = records next ≡ None
 Finds records next (Err (Name at want got)) = ⊥
 Finds records next (Err Memory) = Unit {0}
+
+abbrev pub FindsWhole : (ℕ → Option ℕ) → ℕ → ℕ → Result (Option (ℕ × Record)) FetchFault → Type 0
+FindsWhole bytes_at end next (Ok None) = Unit {0}
+FindsWhole bytes_at end next (Ok (Some (at, found))) = Stands bytes_at next (spelling found) × (next + length (spelling found) ≤ end)
+FindsWhole bytes_at end next (Err fault) = Unit {0}
 
 -- the fault of the form says why
 abbrev pub IsScanBecause : Result (Record × ℕ) RecordFault → Result (Option (ℕ × Record)) FetchFault → Type 0

@@ -9,7 +9,7 @@ ghost use Rattle.ip_space.specs.SpaceView.{IsLayout, byte_at, read_at};
 ghost use Rattle.ip_space.specs.Viewed.{view_of};
 ghost use Rattle.ip_space.specs.Fetching.{ReadsOne, BlamesPlace, IsReadFault};
 ghost use Rattle.ip_space.specs.Head.{needed};
-ghost use Rattle.ip_space.specs.Ahead.{held_in, IsAhead, Shows, ReadsBytes};
+ghost use Rattle.ip_space.specs.Ahead.{held_in, IsAhead, BeginsWith, Shows, ReadsBytes};
 ghost use Rattle.ip_space.specs.Filling.{GoesOn, Fills};
 ghost use Rattle.ip_space.specs.declared.fault.FetchFault.TheVariants as FetchFault;
 
@@ -92,14 +92,16 @@ impl Ahead {
     }
 
     /// The record at the offset `at`, where the bytes begin, and its length in bytes. Where they do not tell it, more are read: at first
-    /// as many as `page` says or as the head has, and then as many as the record has.
+    /// those of the head, and then those of the record. Each read is of `stretch` bytes or more, as long as no more than `most` are held
+    /// then.
     pub fn read_one<G: Ground>(
         &mut self,
         alloc: Global,
         source: &Source,
         outside: &mut G,
         at: u64,
-        page: u64,
+        stretch: u64,
+        most: u64,
     ) -> Result<(Record, u64), FetchFault>
         requires layout { IsLayout source.now.layout }
         requires ahead { IsAhead self.old }
@@ -114,11 +116,12 @@ impl Ahead {
             ReadsOne (read_at (G.told outside.old) (view_of source.now) at) result }
         ensures blames { BlamesPlace at result }
         ensures found { IfOk result (λ found. Fits newest_version found.0 × (found.1 ≡ length (spelling found.0)) × (found.1 ≤ length (held_in self.new))) }
+        ensures spelled { IfOk result (λ found. BeginsWith (spelling found.0) (held_in self.new)) }
         ensures only { IsTrue G.tells → ChangesOnly NoFile (G.told outside.old) (G.told outside.new) }
         ensures counts { NoneFalls (G.counts_of outside.old) (G.counts_of outside.new) }
         ensures cause { IsErrOf result FetchFault.Ground → (Rose (G.counts_of outside.old).file_faults (G.counts_of outside.new).file_faults) }
     {
-        self.fill(source, outside, at, page)?;
+        self.fill(source, outside, at, stretch, most)?;
         front_record(alloc, at, self.held())
     }
 
@@ -128,7 +131,8 @@ impl Ahead {
         source: &Source,
         outside: &mut G,
         at: u64,
-        page: u64,
+        stretch: u64,
+        most: u64,
     ) -> Result<(), FetchFault>
         requires layout { IsLayout source.now.layout }
         requires ahead { IsAhead self.old }
@@ -140,8 +144,8 @@ impl Ahead {
         ensures counts { NoneFalls (G.counts_of outside.old) (G.counts_of outside.new) }
         ensures cause { IsErrOf result FetchFault.Ground → (Rose (G.counts_of outside.old).file_faults (G.counts_of outside.new).file_faults) }
     {
-        self.fill_head(source, outside, at, page)?;
-        self.fill_body(source, outside, at, page)
+        self.fill_head(source, outside, at, stretch, most)?;
+        self.fill_body(source, outside, at, stretch, most)
     }
 
     // Reads until the bytes have a head.
@@ -150,7 +154,8 @@ impl Ahead {
         source: &Source,
         outside: &mut G,
         at: u64,
-        page: u64,
+        stretch: u64,
+        most: u64,
     ) -> Result<(), FetchFault>
         requires layout { IsLayout source.now.layout }
         requires ahead { IsAhead self.old }
@@ -165,7 +170,8 @@ impl Ahead {
         if self.stop - self.start >= HEAD {
             return Ok(());
         }
-        self.more(source, outside, at, page.max(HEAD as u64))
+        let want = self.wanted(HEAD as u64, stretch, most);
+        self.more(source, outside, at, want)
     }
 
     // Reads until the bytes have as many as their head says.
@@ -174,7 +180,8 @@ impl Ahead {
         source: &Source,
         outside: &mut G,
         at: u64,
-        page: u64,
+        stretch: u64,
+        most: u64,
     ) -> Result<(), FetchFault>
         requires layout { IsLayout source.now.layout }
         requires ahead { IsAhead self.old }
@@ -190,7 +197,17 @@ impl Ahead {
         if self.stop - self.start >= need {
             return Ok(());
         }
-        self.more(source, outside, at, page.max(need as u64))
+        let want = self.wanted(need as u64, stretch, most);
+        self.more(source, outside, at, want)
+    }
+
+    // How many bytes to read up to: a stretch more, but no more than so many, or as many as are needed.
+    fn wanted(&self, need: u64, stretch: u64, most: u64) -> u64
+        requires { IsAhead self.now }
+        ensures { need ≤ result }
+    {
+        let held = (self.stop - self.start) as u64;
+        need.max(held + stretch.min(most.saturating_sub(held)))
     }
 
     // Reads on, up to so many bytes.
@@ -290,6 +307,7 @@ fn front_record(alloc: Global, at: u64, bytes: &[u8]) -> Result<(Record, u64), F
     ensures reads { ReadsOne (reading newest_version bytes.now) result }
     ensures blames { BlamesPlace at result }
     ensures found { IfOk result (λ found. Fits newest_version found.0 × (found.1 ≡ length (spelling found.0)) × (found.1 ≤ length bytes.now)) }
+    ensures spelled { IfOk result (λ found. BeginsWith (spelling found.0) bytes.now) }
     ensures ground { IsErrOf result FetchFault.Ground → ⊥ }
 {
     match read_record(alloc, VERSION, bytes) {

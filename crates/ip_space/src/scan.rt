@@ -3,9 +3,9 @@ ghost use Rattle.std.specs.Prelude.{◌≡◌, ◌-◌, ◌≤◌, [], length, I
 ghost use Rattle.ip_ground.specs.Counts.{NoneFalls, Rose};
 ghost use Rattle.ip_spec.specs.Record.{Fits};
 ghost use Rattle.ip_image.specs.Slot.{newest_version};
-ghost use Rattle.ip_space.specs.SpaceView.{OnlyReads, IsReadable, records_of, read_at};
+ghost use Rattle.ip_space.specs.SpaceView.{OnlyReads, IsReadable, records_of, read_at, byte_at};
 ghost use Rattle.ip_space.specs.Fetching.{BlamesPlace};
-ghost use Rattle.ip_space.specs.Scanning.{IsCurrent, Moves, Finds, IsScanBecause};
+ghost use Rattle.ip_space.specs.Scanning.{IsCurrent, Moves, Finds, FindsWhole, IsScanBecause};
 ghost use Rattle.ip_space.specs.declared.fault.FetchFault.TheVariants as FetchFault;
 
 use crate::ahead::Ahead;
@@ -15,7 +15,7 @@ use ip_spec::record::Record;
 use std::alloc::Global;
 use std::marker::Model;
 
-/// The bytes that are read at once: a mebibyte, or more where a record has more.
+/// The bytes that are read at once: a mebibyte, or more where a record needs more, or all that is left of the walk.
 const STRETCH: u64 = 1048576;
 
 /// A walk over the records from one offset to another.
@@ -57,8 +57,9 @@ impl Scan {
         self.next
     }
 
-    /// The next record and its offset, or nothing at the end of the walk. It reads a mebibyte at once, into a buffer that is used again.
-    /// After a fault the walk is where it was.
+    /// The next record and its offset, or nothing at the end of the walk. It reads a mebibyte at once, or all that is left of the walk,
+    /// into a buffer that is used again. That has no more than a mebibyte and the bytes of the longest record, as its head tells them, and
+    /// none beyond the end. After a fault the walk is where it was.
     pub fn step<G: Ground>(
         &mut self,
         outside: &mut G,
@@ -67,6 +68,8 @@ impl Scan {
         ensures reads { IsTrue G.tells → OnlyReads (G.told outside.old) (G.told outside.new) space.now space.now }
         ensures found { IsTrue G.tells → IsReadable (G.told outside.old) space.now → IsCurrent (G.told outside.old) space.now self.old →
             Finds (records_of (G.told outside.old) space.now) self.old.next result }
+        ensures whole { IsTrue G.tells → IsReadable (G.told outside.old) space.now → IsCurrent (G.told outside.old) space.now self.old →
+            FindsWhole (byte_at (G.told outside.new) space.now) space.now.layout.end self.old.next result }
         ensures because { IsTrue G.tells → IsReadable (G.told outside.old) space.now → IsCurrent (G.told outside.old) space.now self.old →
             IsScanBecause (read_at (G.told outside.old) space.now self.old.next) result }
         ensures current { IsTrue G.tells → IsReadable (G.told outside.old) space.now → IsCurrent (G.told outside.old) space.now self.old →
@@ -83,11 +86,14 @@ impl Scan {
         }
         self.ahead
             .keep_up_to(space.source.layout.end.saturating_sub(at));
-        let page = STRETCH.min(self.to - at);
-        match self
-            .ahead
-            .read_one(self.alloc, &space.source, outside, at, page)
-        {
+        match self.ahead.read_one(
+            self.alloc,
+            &space.source,
+            outside,
+            at,
+            STRETCH,
+            self.to - at,
+        ) {
             Ok((rec, length)) => {
                 self.ahead.pass(length as usize);
                 self.next += length;

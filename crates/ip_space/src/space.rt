@@ -4,6 +4,7 @@ ghost use Rattle.ip_ground.specs.Counts.{NoneFalls, Rose};
 ghost use Rattle.ip_ground.specs.Told.{NoFile, ChangesOnly};
 ghost use Rattle.ip_spec.specs.Record.{Fits, kind_of};
 ghost use Rattle.ip_image.specs.Slot.{newest_version, IsChunkSize};
+ghost use Rattle.ip_image.specs.Virtual.{lies_at};
 ghost use Rattle.ip_space.specs.SpaceView.{grown, OnlyReads, IsReadable, records_of, read_at};
 ghost use Rattle.ip_space.specs.Fetching.{Blames, Fetches, IsBecause, Meets, Refers};
 ghost use Rattle.ip_space.specs.ScanView.{ScanView};
@@ -13,7 +14,8 @@ ghost use Rattle.ip_space.specs.declared.fault.SpaceFault.TheVariants as SpaceFa
 use crate::ahead::Ahead;
 use crate::source::Source;
 use crate::{FetchFault, Scan, SpaceFault};
-use ip_ground::Ground;
+use ip_chunks::Chunks;
+use ip_ground::{FileName, Ground};
 use ip_image::layout::Layout;
 use ip_object::name_of_record;
 use ip_spec::record::{Record, RecordFault, Ref};
@@ -79,6 +81,16 @@ impl Space {
         self.source.layout
     }
 
+    /// The file where the byte at an offset lies, and the place in that file; nothing where no byte may lie there.
+    pub fn lies_at(&self, at: u64) -> Option<(FileName, u64)>
+        ensures { result ≡ lies_at self.now.layout self.now.runs at }
+    {
+        let chunks = Chunks {
+            size: self.source.layout.chunk,
+        };
+        Some(chunks.file_of(at))
+    }
+
     /// The record at a reference, of its kind and name. It makes two reads at most, into a buffer that is used again, and takes memory for
     /// what the record holds. The kind is tried before the name.
     pub fn fetch<G: Ground>(
@@ -100,10 +112,14 @@ impl Space {
         ensures cause { IsErrOf result FetchFault.Ground → Rose (G.counts_of outside.old).file_faults (G.counts_of outside.new).file_faults }
     {
         self.ahead.clear();
-        let (rec, _) = match self
-            .ahead
-            .read_one(self.alloc, &self.source, outside, reference.at, PAGE)
-        {
+        let (rec, _) = match self.ahead.read_one(
+            self.alloc,
+            &self.source,
+            outside,
+            reference.at,
+            PAGE,
+            PAGE,
+        ) {
             Ok(found) => found,
             Err(fault) => return Err(fault),
         };

@@ -1,12 +1,12 @@
 use Rattle.std.proofs.Common.{◌≡◌, ◌+◌, refl, subst}
-use Rattle.std.specs.Prelude.{Some, Err}
+use Rattle.std.specs.Prelude.{Some, Ok, Err}
 use Rattle.ip_space.specs.SpaceView.{SpaceView, records_of, read_at, byte_at}
 use Rattle.ip_space.specs.ScanView.{ScanView}
 use Rattle.ip_space.specs.Viewed.{view_of}
 use Rattle.ip_space.specs.Ahead.{held_in, Shows}
-use Rattle.ip_space.specs.Scanning.{Finds}
+use Rattle.ip_space.specs.Scanning.{Finds, FindsWhole}
 use Rattle.ip_space.proofs.Stayed.{only_reads}
-use Rattle.ip_space.proofs.Answered.{record_there, found_err, found_ok, passed_shows, shows_same, begun}
+use Rattle.ip_space.proofs.Answered.{record_there, whole_there, found_err, found_ok, passed_shows, shows_same, begun}
 use Rattle.ip_space.proofs.scan.Scan.step.Goals as goal
 
 pub returns-in-Ok-clause-reads : goal.returns-in-Ok-clause-reads
@@ -48,3 +48,15 @@ returns-in-Ok-clause-current g c told readable current =
     subst (λ (s : SpaceView). Shows (byte_at after s) s.layout.end (at + c.in-Ok.length) (held_in c.pass.new.self)) c.space.view_is
     (shows_same (byte_at after space) space.layout.end (at + c.in-Ok.length) _ (held_in c.pass.new.self) c.pass.ensures.held
     (passed_shows (byte_at after space) space.layout.end at c.in-Ok.length (held_in c.read_one.new.self) (c.in-Ok.ensures.shows told shows)))
+
+pub returns-in-Ok-clause-whole : goal.returns-in-Ok-clause-whole
+returns-in-Ok-clause-whole g c told readable current =
+    let now = g.G.Ground.told c.args.outside.now in
+    let after = g.G.Ground.told c.read_one.new.outside in
+    let space : SpaceView = view_of c.space.inside.source in
+    let at = c.self.inside.next in
+    let shows = begun now space c.args.space.now c.space.view_is c.self.inside.next c.self.inside.to (held_in c.self.inside.ahead) c.args.self.now c.self.view_is current
+    (held_in c.keep_up_to.new.self) c.saturating_sub.result c.saturating_sub.ensures c.keep_up_to.ensures.held in
+    subst (λ (v : ScanView). FindsWhole (byte_at after c.args.space.now) c.args.space.now.layout.end v.next (Ok (Some (at, c.in-Ok.rec)))) c.self.view_is
+    (subst (λ (s : SpaceView). FindsWhole (byte_at after s) s.layout.end at (Ok (Some (at, c.in-Ok.rec)))) c.space.view_is
+    (whole_there (byte_at after space) space.layout.end at c.in-Ok.rec (held_in c.read_one.new.self) (c.in-Ok.ensures.shows told shows) c.in-Ok.ensures.spelled))
