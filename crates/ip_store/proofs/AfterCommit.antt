@@ -13,7 +13,6 @@ use Rattle.std.proofs.lemmas.Bool.Decides.{nat_tests}
 use Rattle.std.specs.Cmp.Lexicographic.{nat_list_cmp_total}
 use Rattle.std.specs.Ordering.{eq_by_cmp}
 use Rattle.ip_base.specs.declared.info.Info.{Info}
-use Rattle.ip_ground.specs.declared.names.FileName.TheVariants.{Chunk}
 use Rattle.ip_ground.specs.declared.names.GroundFault.{GroundFault}
 use Rattle.ip_ground.specs.Contents.{Image}
 use Rattle.ip_ground.specs.Told.{Told}
@@ -36,12 +35,12 @@ use Rattle.ip_spec.proofs.TreeAtLaws.{more_part}
 use Rattle.ip_spec.specs.Step.{as_parent, new_commit, with_commit, entries_limit, Turned, IsMet}
 use Rattle.ip_image.specs.declared.slot.Slot.{Slot}
 use Rattle.ip_image.specs.declared.layout.Layout.{Layout}
-use Rattle.ip_image.specs.Slot.{IsSlot, slot_bytes}
+use Rattle.ip_image.specs.Slot.{IsSlot}
 use Rattle.ip_image.specs.Standing.{StandsFor, AreRetained}
-use Rattle.ip_image.specs.Appending.{BeginsWith, front_of, HasLive, fields_of, next_slot}
+use Rattle.ip_image.specs.Appending.{AddsBytes, fields_of}
+use Rattle.ip_image.specs.Pending.{HasLive}
 use Rattle.ip_image.proofs.AppendingLaws.{stands_grown}
 use Rattle.ip_image.proofs.TreeBatch.{found_together}
-use Rattle.ip_control.specs.Live.{live_slot}
 use Rattle.ip_history.specs.History.{History, HasParentsFirst}
 use Rattle.ip_history.proofs.Parents.{first_push}
 use Rattle.ip_tree.specs.declared.tree.Tree as lazy
@@ -54,15 +53,17 @@ use Rattle.ip_store.specs.declared.committing.Plan.{Plan}
 use Rattle.ip_store.specs.declared.committing.StoreFault.{StoreFault}
 use Rattle.ip_store.specs.declared.store.Store.{Store}
 use Rattle.ip_store.specs.declared.work.Work.{Work}
-use Rattle.ip_store.specs.Commits.{IsNext, IsPlan, IsRefusal, GoesOn, Commits, Answers, Turns, repository_after, fault_reply, met_of, conditions_of, met_nothing, records_of, end_of}
+use Rattle.ip_store.specs.Commits.{IsNext, IsPlan, IsRefusal, GoesOn, Commits, Answers, Turns, repository_after, fault_reply, met_of, conditions_of, met_nothing, records_of}
 use Rattle.ip_space.specs.SpaceView.{grown}
 use Rattle.ip_store.specs.Placed.{IsSpaceOf}
-use Rattle.ip_store.specs.Publishing.{StandsAs, CanStep, MakesStep}
+use Rattle.ip_store.specs.Publishing.{CanStep, MakesStep}
+use Rattle.ip_store.specs.Changes.{next_slot}
 use Rattle.ip_store.specs.Store.{IsOf, Holds, SameTables, image_records}
 use Rattle.ip_store.specs.Work.{AreParents, IsLawful, IsAt, least_of, session}
-use Rattle.ip_store.proofs.Secured.{in_image, held_has}
+use Rattle.ip_store.proofs.Recovering.{held_has}
 use Rattle.ip_store.proofs.Listed.{within_fits, same_records, leaves_only, records_below}
-use Rattle.ip_store.proofs.Stepping.{same_tables, same_holds, space_same, space_next, may_step, changed, stays_on, cut_short}
+use Rattle.ip_store.proofs.Stepping.{same_tables, same_holds, space_same, may_step, changed, list_after, cut_short, same_can_step, same_step}
+use Rattle.ip_store.proofs.NextSlot.{next_is, next_generation, next_space}
 use Rattle.ip_store.proofs.Histories.{history_committed}
 use Rattle.ip_store.proofs.Machine.{met_done}
 
@@ -85,32 +86,11 @@ module _ (r : Repository) (parents : List ℕ) (branch : Bytes) (store : Store) 
   grows : store.slot.end < end
   grows = let some = is.some in omega (arith, some)
 
-  pub slot_after : IsSlot plan.slot
-  slot_after = subst IsSlot (sym is.slot) next_is
-    where
-      next_is : IsSlot (next_slot store.slot end)
-      next_is = record {
-        version_low = of.slot.version_low;
-        version_high = of.slot.version_high;
-        chunk = of.slot.chunk;
-        sequence_low = omega arith;
-        sequence_high = let low = is.sequence in omega arith;
-        horizon = let low = of.slot.horizon in let more = grows in omega arith;
-        ends = is.ends;
-        floor = let low = of.slot.floor in omega arith;
-        next = let low = of.slot.next in let more = grows in omega arith;
-        live = of.slot.live;
-        next_attempt = of.slot.next_attempt;
-        prefix_len = of.slot.prefix_len;
-        rows = of.slot.rows;
-        first_attempt_low = of.slot.first_attempt_low;
-        first_attempt_high = of.slot.first_attempt_high;
-        first_attempt_live = of.slot.first_attempt_live;
-        first_chunk = of.slot.first_chunk;
-        none_live = of.slot.none_live;
-        nothing_below = of.slot.nothing_below;
-        served = of.slot.served;
-      }
+  few : 1 ≤ length plan.batch.bytes.items
+  few = let some = is.some in omega (arith, some)
+
+  slot_after : IsSlot plan.slot
+  slot_after = subst IsSlot (sym is.slot) (next_is store.slot (length plan.batch.bytes.items) 1 of.slot is.ends is.sequence few)
 
   next_after : next after ≡ next r + 1
   next_after = omega (arith, length-append r.commits (commit ∷ []))
@@ -141,7 +121,7 @@ module _ (r : Repository) (parents : List ℕ) (branch : Bytes) (store : Store) 
     history = history_committed r commit parents branch onto ∙ ap (λ (h : History). with_parents h parents) of.history ∙ sym history;
     parents_first = subst HasParentsFirst (sym history) (first_push store.history of.parents_first parents enters.1);
     space = space_same plan.slot store'.slot (grown store.space plan.slot.end) store'.space slot space
-        (subst (λ (s : Slot). IsSpaceOf s (grown store.space s.end)) (sym is.slot) (space_next store.slot end store.space of.space));
+        (subst (λ (s : Slot). IsSpaceOf s (grown store.space s.end)) (sym is.slot) (next_space store.slot (length plan.batch.bytes.items) 1 store.space of.space));
     placed = ap length places ∙ (let was = of.placed in let e : length (store.places.items ++ plan.batch.commit_at ∷ []) ≡ length (r.commits ++ commit ∷ []) = omega (arith, was, length-append store.places.items (plan.batch.commit_at ∷ []), length-append r.commits (commit ∷ [])) in e);
   }
 
@@ -169,21 +149,15 @@ module _ (r : Repository) (parents : List ℕ) (branch : Bytes) (store : Store) 
   pub inside : plan.slot.end ≤ 2 ^ 62
   inside = subst (λ (s : Slot). s.end ≤ 2 ^ 62) (sym is.slot) is.ends
 
-  pub newer : store.slot.sequence < plan.slot.sequence
-  newer = subst (λ (s : Slot). store.slot.sequence < s.sequence) (sym is.slot) (omega arith)
-
-  pub ends : store.slot.end + length plan.batch.bytes.items ≡ plan.slot.end
-  ends = ap (λ (s : Slot). s.end) (sym is.slot)
-
 -- some commit of the plan's name, where nothing is told of the tree
 abbrev pub some_commit : Repository → List ℕ → Info → Plan → Commit
 some_commit r parents info plan = record { name = plan.batch.name; parents = map (as_parent r) parents; info = info; tree = no_tree }
 
 -- what the step asks needs no view
-pub can_step : (r : Repository) (parents : List ℕ) (branch : Bytes) (info : Info) (store : Store) (plan : Plan) (of : IsOf store r) → IsNext r branch store plan → (a : Told) → Holds store a r → CanStep store.slot.end (1 - store.index) plan.slot a
-can_step r parents branch info store plan of is a held =
-    let c = some_commit r parents info plan in
-    may_step r (with_commit r c branch) store plan.slot plan.batch.bytes.items of (slot_after r parents branch store plan of is c refl refl) (newer r parents branch store plan of is c refl refl) (ends r parents branch store plan of is c refl refl) a held
+pub can_step : (r : Repository) (branch : Bytes) (store : Store) (plan : Plan) (of : IsOf store r) → IsNext r branch store plan → (a : Told) → Holds store a r → CanStep store.slot.end (1 - store.index) plan.slot a
+can_step r branch store plan of is a held =
+    same_can_step store.slot.end store.slot.end store.index store.index plan.slot (next_slot store.slot (length plan.batch.bytes.items) 1) a refl refl is.slot
+    (may_step r r store 1 plan.batch.bytes.items of is.ends is.sequence (let some = is.some in omega (arith, some)) a held)
 
 -- ---- the files, where the tree has this view
 
@@ -210,17 +184,11 @@ module _ (r : Repository) (work : Work) (v : View) (branch : Bytes) (info : Info
   abbrev all : Records
   all = records_of r work v branch info store
 
-  slot_there : IsSlot plan.slot
-  slot_there = slot_after r work.parents branch store plan of coming commit (sym is.name) refl
+  abbrev next_live : Slot
+  next_live = next_slot store.slot (length plan.batch.bytes.items) 1
 
-  sequence_on : store.slot.sequence < plan.slot.sequence
-  sequence_on = newer r work.parents branch store plan of coming commit (sym is.name) refl
-
-  ends_there : store.slot.end + length plan.batch.bytes.items ≡ plan.slot.end
-  ends_there = ends r work.parents branch store plan of coming commit (sym is.name) refl
-
-  slot_is : plan.slot ≡ next_slot store.slot (end_of r work v branch info store)
-  slot_is = coming.slot ∙ ap (λ (n : ℕ). next_slot store.slot n) (sym is.behind)
+  few_there : 1 ≤ length plan.batch.bytes.items
+  few_there = let some = coming.some in omega (arith, some)
 
   pub after_is : repository_after r work v branch info ≡ made_is
   after_is = ap (λ (t : Turned). t.1.repository) is.turn
@@ -228,37 +196,39 @@ module _ (r : Repository) (work : Work) (v : View) (branch : Bytes) (info : Info
   known : KnownStand (image_records held) v store.slot.end
   known = known_stand (image_records held) work.tree v store.slot.end at.lawful.tree (records_below store a r held)
 
-  stands_new : (image : Image) → StandsAs (live_slot (1 - store.index) (slot_bytes plan.slot)) (front_of store.slot.end a.held ++ plan.batch.bytes.items) image → StandsFor image (repository_after r work v branch info)
-  stands_new image (live, begins) = subst (StandsFor image) (sym after_is)
-      (stands_grown a.held image r store.slot v work.parents info branch held.stands (held_has store r a held) is.may known is.within
-      (subst (λ (s : Slot). HasLive s image) slot_is (in_image (1 - store.index) plan.slot image slot_there live))
-      (subst (λ bytes. BeginsWith (front_of store.slot.end a.held ++ bytes) (image (Chunk 0))) is.bytes begins)).0
+  stands_new : (image : Image) → HasLive next_live image → AddsBytes store.slot plan.batch.bytes.items a.held image → StandsFor image (repository_after r work v branch info)
+  stands_new image live adds = subst (StandsFor image) (sym after_is)
+      (stands_grown a.held image r store.slot next_live v work.parents info branch held.stands (held_has store r a held) is.may known is.within live
+      (next_generation store.slot (length plan.batch.bytes.items) 1) (sym is.behind) refl (subst (λ (bs : List ℕ). AddsBytes store.slot bs a.held image) is.bytes adds)).0
 
-  all_lie : AreEndToEnd store.slot.end all plan.slot.end
-  all_lie = subst (λ (n : ℕ). AreEndToEnd store.slot.end all n) (is.behind ∙ ends_there) (batch_lies v (sources v) (fields_of r work.parents info branch) store.slot.end)
+  all_lie : AreEndToEnd store.slot.end all next_live.end
+  all_lie = subst (λ (n : ℕ). AreEndToEnd store.slot.end all n) is.behind (batch_lies v (sources v) (fields_of r work.parents info branch) store.slot.end)
 
   abbrev Step : Told → Result (Unit {0}) GroundFault → Type 0
   Step b res = MakesStep store.slot.end plan.batch.bytes.items (1 - store.index) plan.slot res a b
 
+  to_next : (b : Told) (res : Result (Unit {0}) GroundFault) → Step b res → MakesStep store.slot.end plan.batch.bytes.items (1 - store.index) next_live res a b
+  to_next b res step = same_step store.slot.end store.slot.end store.index store.index plan.batch.bytes.items plan.batch.bytes.items plan.slot next_live res a b refl refl refl coming.slot step
+
   pub made : (b : Told) (store' : Store) → store'.slot ≡ plan.slot → store'.index ≡ 1 - store.index → IsOf store' made_is
       → store'.places.items ≡ store.places.items ++ plan.batch.commit_at ∷ [] → (name : Hash) → Step b (Ok tt) → Commits r work v branch info (Ok name) store' a b
   made b store' slot index tables places name step =
-      changed r (repository_after r work v branch info) store plan.slot plan.batch.bytes.items of slot_there sequence_on ends_there a held stands_new name b store' slot index (subst (IsOf store') (sym after_is) tables)
-      all (within_fits store.slot of.slot all is.within) all_lie is.bytes (places ∙ ap (λ (ps : List ℕ). store.places.items ++ ps) (sym is.place)) step
+      changed r (repository_after r work v branch info) store 1 plan.batch.bytes.items of coming.ends coming.sequence few_there a held stands_new b (to_next b (Ok tt) step)
+      all (within_fits store.slot of.slot all is.within) all_lie is.bytes store' (slot ∙ coming.slot) index (subst (IsOf store') (sym after_is) tables) (places ∙ ap (λ (ps : List ℕ). store.places.items ++ ps) (sym is.place)) name
 
   pub held_after : (b : Told) (store' : Store) (name : Hash) → Commits r work v branch info (Ok name) store' a b → Holds store' b made_is
   held_after b store' name is = subst (Holds store' b) after_is is.ok
 
   -- a fault of the ground cut it short
   pub cut : (b : Told) (store' : Store) (res : Result (Unit {0}) GroundFault) → Step b res → Commits r work v branch info (Err StoreFault.Ground) store' a b
-  cut b store' res step = cut_short r (repository_after r work v branch info) store plan.slot plan.batch.bytes.items of slot_there sequence_on ends_there a held stands_new b store' res step
+  cut b store' res step = cut_short r (repository_after r work v branch info) store 1 plan.batch.bytes.items of coming.ends coming.sequence few_there a held stands_new b store' res (to_next b res step)
 
   -- ---- the records after it
 
   module _ (b : Told) (store' : Store) (step : Step b (Ok tt)) (q : Repository) (now : Holds store' b q) where
     pub list_on : now.stands.standing.records ≡ held.stands.standing.records ++ all
-    list_on = stays_on r made_is store plan.slot plan.batch.bytes.items of slot_there sequence_on ends_there a held
-        (λ image stands. subst (StandsFor image) after_is (stands_new image stands)) q b store' all (within_fits store.slot of.slot all is.within) all_lie is.bytes step now
+    list_on = list_after r (repository_after r work v branch info) store 1 plan.batch.bytes.items of coming.ends coming.sequence few_there a held stands_new b (to_next b (Ok tt) step)
+        all (within_fits store.slot of.slot all is.within) all_lie is.bytes now.stands.standing
 
     spelled : TreeAt (with_batch (image_records held) all) plan.batch.root.at v.map
     spelled = subst (λ (root : Ref). TreeAt (with_batch (image_records held) all) root.at v.map) (sym is.root)
@@ -266,7 +236,7 @@ module _ (r : Repository) (work : Work) (v : View) (branch : Bytes) (info : Info
 
     found : (place : ℕ) (x : Record) → with_batch (image_records held) all place ≡ Some x → image_records now place ≡ Some x
     found place x there = subst (λ (rs : Records). present rs place ≡ Some x) (sym list_on)
-        (found_together held.stands.standing.records all store.slot.end plan.slot.end (records_below store a r held) all_lie place x there)
+        (found_together held.stands.standing.records all store.slot.end next_live.end (records_below store a r held) all_lie place x there)
 
     pub saved_tree : (tree : lazy.Tree) → IsRead plan.number plan.batch.root tree → IsView (image_records now) tree (stored_view (image_records now) (next r) plan.batch.root.at v.map)
     saved_tree tree read = subst (λ (n : ℕ). IsView (image_records now) tree (stored_view (image_records now) n plan.batch.root.at v.map)) coming.number

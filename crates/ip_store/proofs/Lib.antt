@@ -3,7 +3,6 @@ mod Making
 mod Sizes
 mod Spelling
 mod Keyed
-mod Fronts
 mod Steps
 mod Tables
 mod Machine
@@ -11,7 +10,8 @@ mod BatchKinds
 mod SpelledTrees
 mod Hashes
 mod Planning
-pub mod Secured
+pub mod Recovering
+mod NextSlot
 pub mod Stepping
 pub mod Editing
 mod NestedTests
@@ -21,9 +21,6 @@ mod AfterCommit
 mod Numbered
 mod Histories
 mod Removed
-mod FrontRecords
-mod LongestRecord
-mod ReadAhead
 mod Walking
 mod RecordSteps
 mod OpenedImages

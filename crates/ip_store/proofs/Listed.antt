@@ -1,25 +1,24 @@
 -- The records of an image, while no generation is live: those that lie end to end in its chunk.
 --     good_newest, within_fits, places_size      good records are within the bounds of the newest version; and have as many places as commits
---     list_lies, one_list      they lie so, and no others do.      behind_list      after more were put behind them
---     readable_of      a store's space is readable.      holds_on      a store holds on what it held, where both files read as before
+--     list_lies, one_list      they lie so, and no others do
+--     readable_of      a store's space is readable.      holds_on      a store holds on what it held, where the live slot and the bytes of its records are as before
 --     only_leaves      none of the records of an image that stands is an inode
 --     record_there      a record is found where it lies.      commits_there      at the store's places stand the records of its commits
 --     over, leaves_only, records_good, records_below      of the records of the image that a store holds: the space reads them; none is an inode; what each of them is; where it lies
 --     same_list, same_records      of two images of which one reads as the other did; and of one image, whichever proof says that it stands
-use Rattle.std.proofs.Common.{◌≡◌, ℕ, zero, suc, ◌+◌, List, [], ◌∷◌, ◌++◌, map, length, take, refl, sym, ◌∙◌, ap, subst, arith, append_assoc, append-nil, length-append}
+use Rattle.std.proofs.Common.{◌≡◌, ℕ, zero, suc, ◌+◌, List, [], ◌∷◌, ◌++◌, map, length, refl, sym, ◌∙◌, ap, subst, arith, append_assoc, append-nil, length-append}
 use Rattle.std.specs.Prelude.{◌<◌, Bool, true, false, cond, Option, Some, None, slice_get}
 use Rattle.std.proofs.lemmas.Cmp.{nat_cmp_total}
 use Rattle.std.specs.Cmp.{tied_itself}
 use Rattle.std.specs.Ordering.{is_eq, nat_cmp, eq_by_cmp}
 use Rattle.std.specs.List.{AllByRecursion, AllZip}
-use Rattle.std.proofs.lemmas.List.{length-take-le, length-take, get_or-take}
 use Rattle.std.proofs.lemmas.List.Elements.{filter_map-append, recursion_from_All}
 use Rattle.ip_ground.specs.declared.names.FileName.TheVariants.{Control, Chunk}
 use Rattle.ip_ground.specs.Contents.{Content, Image, bytes_of}
 use Rattle.ip_ground.specs.Told.{Told, IsKept}
 use Rattle.ip_spec.specs.declared.record.Record.{Record}
 use Rattle.ip_spec.specs.declared.record.CommitRecord.{CommitRecord}
-use Rattle.ip_spec.specs.Record.{Fits, spelling}
+use Rattle.ip_spec.specs.Record.{Fits, spelling, spelling_of}
 use Rattle.ip_spec.specs.Shape.{root_name}
 use Rattle.ip_spec.specs.TreeAt.{Records, present}
 use Rattle.ip_spec.specs.Batch.{AreEndToEnd}
@@ -34,11 +33,13 @@ use Rattle.ip_image.specs.declared.run.Row.{Row}
 use Rattle.ip_image.specs.Virtual.{run_of, byte_of, virtual_byte}
 use Rattle.ip_image.specs.Standing.{EndToEnd, RunByRun, IsServedKind, IsGood, AreGood, commit_of, commits_in, stretches, Spells, Standing, StandsFor}
 use Rattle.ip_image.specs.Stored.{stored}
-use Rattle.ip_image.specs.Appending.{BeginsWith, front_of, HasLive, AreWithin, bytes_of_records}
+use Rattle.ip_image.specs.Appending.{AreWithin}
+use Rattle.ip_image.specs.Pending.{HasLive, SameSpace}
 use Rattle.ip_image.proofs.OneRepository.{same_stretch, good_fit}
 use Rattle.ip_image.proofs.DamageLaws.{slot_is}
-use Rattle.ip_image.proofs.InChunk.{ends_over, ends_append, byte_is, all_inside}
-use Rattle.ip_image.proofs.AppendingLaws.{get_take, get_front, get_behind, begun_byte, spelled_lies, stands_still}
+use Rattle.ip_image.proofs.AppendingLaws.{stands_still}
+use Rattle.ip_image.proofs.RecordsOn.{records_go_on}
+use Rattle.ip_image.proofs.HeadlineLaws.{same_generation_itself}
 use Rattle.ip_image.proofs.SpelledCommits.{present_front, present_behind}
 use Rattle.ip_image.proofs.TreeBatch.{ends_apart, found_below}
 use Rattle.ip_image.proofs.OneRepository.{all_records}
@@ -99,12 +100,6 @@ places_size ((at, Record.TagSet n name) ∷ records) = places_size records
 places_size ((at, Record.TagRemove name) ∷ records) = places_size records
 places_size ((at, Record.TagTable rows) ∷ records) = places_size records
 
-begins_itself : (n : ℕ) (content : Content) → BeginsWith (take n (bytes_of content)) content
-begins_itself n content = record {
-  long = (let l = length-take n (bytes_of content) in omega (arith, l));
-  same = λ place below. sym (get_or-take n (bytes_of content) place 0 (let l = length-take n (bytes_of content) in omega (arith, l, below)));
-}
-
 module _ (image : Image) (s : Slot) (has : HasLive s image) (A : Standing image) where
   pub same_slot : A.slot ≡ s
   same_slot = slot_is image A has.control has.index has.held s has.live
@@ -136,25 +131,6 @@ module _ (image : Image) (s : Slot) (has : HasLive s image) (A : Standing image)
 
   pub one_list : (records : Records) → AreNewest records → EndToEnd (byte_of (image (Chunk 0))) 0 records s.end → A.records ≡ records
   one_list records fit lies = same_stretch newest_version (byte_of (image (Chunk 0))) 0 s.end A.records records list_fits fit list_lies lies
-
--- the records of an image with more behind those of another
-module _ (old new : Image) (s t : Slot) (has : HasLive s old) (has' : HasLive t new) (A : Standing old) (B : Standing new) (more : Records) where
-  pub behind_list : AreNewest more → AreEndToEnd s.end more t.end → BeginsWith (front_of s.end old ++ bytes_of_records more) (new (Chunk 0)) → B.records ≡ A.records ++ more
-  behind_list fit lie begins =
-      one_list new t has' B (A.records ++ more) (both_fit A.records more (list_fits old s has A) fit)
-      (ends_append (byte_of (new (Chunk 0))) 0 A.records more s.end t.end
-      (ends_over (byte_of (old (Chunk 0))) (byte_of (new (Chunk 0))) 0 A.records s.end (λ k b l is.
-      begun_byte (front_of s.end old ++ bytes_of_records more) (new (Chunk 0)) begins k b
-      (get_front (front_of s.end old) (bytes_of_records more) k b (get_take s.end (bytes_of (old (Chunk 0))) k b l (sym (byte_is (old (Chunk 0)) k) ∙ is)))) lies)
-      (spelled_lies (byte_of (new (Chunk 0))) s.end more t.end lie (λ k b is.
-      begun_byte (front_of s.end old ++ bytes_of_records more) (new (Chunk 0)) begins (s.end + k) b
-      (ap (slice_get (front_of s.end old ++ bytes_of_records more)) (ap (λ n. n + k) (sym front_size)) ∙ get_behind (front_of s.end old) (bytes_of_records more) k ∙ is))))
-    where
-      lies : EndToEnd (byte_of (old (Chunk 0))) 0 A.records s.end
-      lies = list_lies old s has A
-
-      front_size : length (front_of s.end old) ≡ s.end
-      front_size = length-take-le s.end (bytes_of (old (Chunk 0))) (all_inside (old (Chunk 0)) 0 A.records s.end (omega arith) lies)
 
 -- ---- where the commits stand
 
@@ -314,22 +290,21 @@ module _ (store : Store) (told : Told) (r : Repository) (holds : Holds store tol
       (commits_from store.slot A.records [] A.records 0 store.slot.end r.commits refl refl good_here
       (ends_apart (byte_of (told.held (Chunk 0))) 0 A.records store.slot.end (list_lies told.held store.slot has A)) holds.stands.commits))
 
-  -- while both files read as before
-  module _ (new : Told) (control : new.held Control ≡ told.held Control) (chunk : new.held (Chunk 0) ≡ told.held (Chunk 0)) where
+  -- while all bytes of the records and the live slot are as before
+  module _ (new : Told) (control : new.held Control ≡ told.held Control) (same : SameSpace store.slot told.held new.held) where
     has_new : HasLive store.slot new.held
     has_new = record { control = has.control; index = has.index; held = control ∙ has.held; live = has.live }
 
-    begins : BeginsWith (front_of store.slot.end told.held) (new.held (Chunk 0))
-    begins = subst (λ (content : Content). BeginsWith (front_of store.slot.end told.held) content) (sym chunk) (begins_itself store.slot.end (told.held (Chunk 0)))
-
     -- the records are the same, in whatever way the image stands
     pub same_list : (B : Standing new.held) → B.records ≡ A.records
-    same_list B = one_list new.held store.slot has_new B A.records (list_fits told.held store.slot has A)
-        (subst (λ (content : Content). EndToEnd (byte_of content) 0 A.records store.slot.end) (sym chunk) (list_lies told.held store.slot has A))
+    unfolding spelling_of
+    same_list B =
+        records_go_on told.held new.held store.slot store.slot [] A B has has_new (same_generation_itself store.slot) refl (λ k d low. absurd (omega (arith, low)))
+        (record { same = same; added = λ k low. absurd (omega (arith, low)) }) ∙ append-nil A.records
 
     pub holds_on : IsKept new Control → Holds store new r
     holds_on kept =
-        let stands : StandsFor new.held r = stands_still told.held new.held r store.slot holds.stands has has_new begins in
+        let stands : StandsFor new.held r = stands_still told.held new.held r store.slot store.slot holds.stands has has_new (same_generation_itself store.slot) refl refl same in
         record {
           tables = holds.tables;
           stands = stands;

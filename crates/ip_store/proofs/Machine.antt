@@ -16,7 +16,8 @@ use Rattle.ip_spec.specs.Step.{IsMet, Refused, Turned, outcome, turned, answer, 
 use Rattle.ip_store.specs.declared.work.Work.{Work}
 use Rattle.ip_image.specs.declared.slot.Slot.{Slot}
 use Rattle.ip_store.specs.declared.committing.StoreFault.{StoreFault}
-use Rattle.ip_store.specs.Commits.{met_nothing, met_of, short_of, conditions_of, refusal, refused_by, SlotBehind, IsRefusal, committed}
+use Rattle.ip_store.specs.Changes.{IsNextSlot}
+use Rattle.ip_store.specs.Commits.{met_nothing, met_of, short_of, conditions_of, refusal, refused_by, IsRefusal, committed}
 use Rattle.ip_store.specs.Work.{session}
 
 -- what an answer is refused by
@@ -151,7 +152,7 @@ module _ (r : Repository) (work : Work) (v : View) (branch : Bytes) (info : Info
         behind_name met = behind_room met ∙ ap (λ g. g >> (enough (conditions_of met) Limit.Space >> (enough (conditions_of met) Limit.Sequence >> Ok done))) name_is
 
         -- space or sequence is short, and the met says so
-        pub refused_short : (slot : Slot) (length : ℕ) (fault : StoreFault) → SlotBehind slot length (Err fault) → IsRefusal r work v branch info fault
+        pub refused_short : (slot : Slot) (length : ℕ) (fault : StoreFault) → IsNextSlot slot length 1 (Err fault) → IsRefusal r work v branch info fault
         refused_short slot length (StoreFault.Limit Limit.Space) is = (met_short Limit.Space (refl, tt), turn_refused (met_of (StoreFault.Limit Limit.Space)) (Reply.Limit Limit.Space) refl (behind_name (met_of (StoreFault.Limit Limit.Space))))
         refused_short slot length (StoreFault.Limit Limit.Sequence) is = (met_short Limit.Sequence (refl, tt), turn_refused (met_of (StoreFault.Limit Limit.Sequence)) (Reply.Limit Limit.Sequence) refl (behind_name (met_of (StoreFault.Limit Limit.Sequence))))
         refused_short slot length (StoreFault.Limit _) is = absurd is

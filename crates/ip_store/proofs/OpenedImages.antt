@@ -1,17 +1,19 @@
 -- What an image is, where no generation of a collection is live, by its live slot and by what its chunk holds.
 --     has_live      the control file is there.      no_store, form_damaged      where no slot is live, or one has no form
+--     lies_in_chunk      the records of its space lie in its chunk
 --     bad_damaged, misfit_damaged      where a record is no good one, or all together don't fit the slot
 --     no_tags, whole_from, whole_parts      the parts of what records must hold together
 --     names_spelled, repository_of, stands_for      the repository of records, and that the image stands for it
-use Rattle.std.proofs.Common.{◌≡◌, inl, ℕ, ◌+◌, ◌-◌, ◌*◌, List, [], ◌∷◌, ◌++◌, map, length, refl, sym, ◌∙◌, ap, subst, arith, append-nil}
+use Rattle.std.proofs.Common.{◌≡◌, inl, ℕ, ◌+◌, ◌*◌, List, [], ◌∷◌, ◌++◌, map, length, refl, sym, ◌∙◌, ap, subst, arith, append-nil}
 use Rattle.std.proofs.lemmas.Bool.Decides.{nat_tests}
 use Rattle.std.proofs.lemmas.List.{length-map}
 use Rattle.std.specs.Prelude.{Option, Some, None, true, nat_le, if◌then◌else◌, fold, filter_map, IfSome}
-use Rattle.std.specs.Option.{option_and_then, option_map}
+use Rattle.std.specs.Option.{option_and_then}
 use Rattle.std.specs.List.{AllZip, cons_option}
 use Rattle.ip_ground.specs.declared.names.FileName.{FileName}
 use Rattle.ip_ground.specs.declared.names.FileName.TheVariants.{Control, Chunk, Prefix}
 use Rattle.ip_ground.specs.Contents.{Content, Image, bytes_of}
+use Rattle.ip_ground.specs.Told.{Told}
 use Rattle.ip_spec.specs.declared.record.Record.{Record}
 use Rattle.ip_spec.specs.declared.record.CommitRecord.{CommitRecord}
 use Rattle.ip_spec.specs.declared.record.Parent.{Parent}
@@ -21,15 +23,19 @@ use Rattle.ip_spec.specs.Path.{Bytes, bytes_cmp}
 use Rattle.ip_spec.specs.TreeAt.{Records}
 use Rattle.ip_spec.specs.Repository.{Repository, Commit, CommitParent}
 use Rattle.ip_image.specs.declared.slot.Slot.{Slot}
+use Rattle.ip_image.specs.declared.layout.Layout.{Layout}
+use Rattle.ip_image.specs.declared.run.Run.{Run}
 use Rattle.ip_image.specs.Slot.{IsSlot, IsLive, live_index, layout_of}
 use Rattle.ip_image.specs.Virtual.{locate, byte_of, virtual_byte, lies_at}
 use Rattle.ip_image.specs.Standing.{EndToEnd, RunByRun, FillTo, IsServedKind, AreGood, Generation, stretches, named, names_after, commits_in, AreRetained, WholeFits, Spells, StandsFor, parent_of, NoStore, DamagedAt, no_form, no_record, no_whole}
-use Rattle.ip_image.specs.Appending.{HasLive}
+use Rattle.ip_image.specs.Pending.{HasLive}
 use Rattle.ip_image.proofs.InChunk.{stands_by}
 use Rattle.ip_image.proofs.SpelledCommits.{commits_spelled}
 use Rattle.ip_audit.specs.Audits.{commit_name}
 use Rattle.ip_history.specs.History.{history_of}
+use Rattle.ip_space.specs.SpaceView.{SpaceView, byte_at}
 use Rattle.ip_store.specs.Control.{control_in}
+use Rattle.ip_store.specs.Placed.{IsSpaceOf}
 use Rattle.ip_store.specs.Histories.{numbers_in, history_in}
 use Rattle.ip_store.specs.Walk.{BadRecord}
 
@@ -74,23 +80,32 @@ module _ (image : Image) (s : Slot) (none : s.horizon ≡ 0) where
       is : (at : ℕ) → virtual_byte image (layout_of s) [] at ≡ byte_of (image (Chunk 0)) at
       is at = ap (λ b. if b then byte_of (image (Chunk 0)) at else option_and_then (λ place. byte_of (image (Prefix s.live)) place) (locate [] at)) (above_zero s.horizon at none)
 
-  in_chunk : (at : ℕ) → lies_at (layout_of s) [] at ≡ Some (Chunk 0, at)
-  unfolding lies_at
-  in_chunk at = ap (λ b. if b then Some (Chunk 0, at) else option_map (λ place. (Prefix s.live, place)) (locate [] at)) (above_zero s.horizon at none)
+  -- from the horizon on all lies in the chunk
+  to_chunk : (records : Records) → EndToEnd (virtual_byte image (layout_of s) []) s.horizon records s.end → EndToEnd (byte_of (image (Chunk 0))) 0 records s.end
+  to_chunk records lies =
+      subst (λ (n : ℕ). EndToEnd (byte_of (image (Chunk 0))) n records s.end) none
+      (subst (λ (f : ℕ → Option ℕ). EndToEnd f s.horizon records s.end) chunk_bytes lies)
 
-  from_horizon : (records : Records) (to : ℕ) → EndToEnd (byte_of (image (Chunk 0))) 0 records to → EndToEnd (virtual_byte image (layout_of s) []) s.horizon records to
-  from_horizon records to lies =
-      subst (λ (f : ℕ → Option ℕ). EndToEnd f s.horizon records to) (sym chunk_bytes)
-      (subst (λ (n : ℕ). EndToEnd (byte_of (image (Chunk 0))) n records to) (sym none) lies)
-
-module _ (image : Image) (index : ℕ) (s : Slot) (live : IsLive (control_in image) index s) where
+module _ (told : Told) (index : ℕ) (s : Slot) (live : IsLive (control_in told.held) index s) (space : SpaceView) (of : IsSpaceOf s space) where
   is_slot : IsSlot s
   is_slot = live.fields
 
   no_horizon : s.horizon ≡ 0
   no_horizon = is_slot.none_live.0 is_slot.served
 
-  no_generation : Generation image (layout_of s) []
+  no_runs : space.runs ≡ []
+  no_runs = of.runs is_slot.served
+
+  bytes_are : byte_at told space ≡ virtual_byte told.held (layout_of s) []
+  bytes_are = ap (λ (l : Layout). virtual_byte told.held l space.runs) of.layout ∙ ap (λ (rs : List Run). virtual_byte told.held (layout_of s) rs) no_runs
+
+  lies_virtual : (records : Records) (to : ℕ) → EndToEnd (byte_at told space) s.horizon records to → EndToEnd (virtual_byte told.held (layout_of s) []) s.horizon records to
+  lies_virtual records to lies = subst (λ (f : ℕ → Option ℕ). EndToEnd f s.horizon records to) bytes_are lies
+
+  pub lies_in_chunk : (records : Records) → EndToEnd (byte_at told space) s.horizon records s.end → EndToEnd (byte_of (told.held (Chunk 0))) 0 records s.end
+  lies_in_chunk records lies = to_chunk told.held s no_horizon records (lies_virtual records s.end lies)
+
+  no_generation : Generation told.held (layout_of s) []
   no_generation = record {
     file = λ some. absurd (some is_slot.served);
     fits = tt;
@@ -99,31 +114,31 @@ module _ (image : Image) (index : ℕ) (s : Slot) (live : IsLive (control_in ima
     none = λ none. refl;
   }
 
-  abbrev there_is : HasLive s image
-  there_is = has_live image index s live
+  abbrev there_is : HasLive s told.held
+  there_is = has_live told.held index s live
 
-  pub bad_damaged : (file : FileName) (at : ℕ) → BadRecord s (image (Chunk 0)) file at → DamagedAt image file at
+  pub bad_damaged : (file : FileName) (place : ℕ) → BadRecord s told space file place → DamagedAt told.held file place
   unfolding has_live
-  bad_damaged file at bad =
-      let bytes_are = chunk_bytes image s no_horizon in
+  bad_damaged file place bad =
       let inside = bad.inside in
-      let fill : FillTo (virtual_byte image (layout_of s) []) (stretches (layout_of s) []) bad.before at s.end =
-      inl (from_horizon image s no_horizon bad.before at bad.lies, (let h = no_horizon in omega (arith, h, inside)), (let h = no_horizon in omega (arith, h))) in
-      no_record there_is.control index s [] bad.before at s.end at file there_is.held there_is.live no_generation bad.good fill
-      (λ r below stands. bad.none r below (λ k within. ap (λ (f : ℕ → Option ℕ). f (at + k)) (sym bytes_are) ∙ stands k within))
-      (in_chunk image s no_horizon at ∙ ap (λ (f : FileName). Some (f, at)) (sym bad.in_chunk))
+      let h = no_horizon in
+      let fill : FillTo (virtual_byte told.held (layout_of s) []) (stretches (layout_of s) []) bad.before bad.at s.end =
+      inl (lies_virtual bad.before bad.at bad.lies, omega (arith, h, inside), omega (arith, h)) in
+      no_record there_is.control index s [] bad.before bad.at s.end place file there_is.held there_is.live no_generation bad.good fill
+      (λ r below stands. bad.none r below (λ k within. ap (λ (f : ℕ → Option ℕ). f (bad.at + k)) bytes_are ∙ stands k within))
+      (ap (λ (rs : List Run). lies_at (layout_of s) rs bad.at) (sym no_runs) ∙ ap (λ (l : Layout). lies_at l space.runs bad.at) (sym of.layout) ∙ bad.here)
 
-  module _ (records : Records) (good : AreGood s [] records) (lies : EndToEnd (byte_of (image (Chunk 0))) 0 records s.end) where
-    one_stretch : RunByRun (virtual_byte image (layout_of s) []) (stretches (layout_of s) []) records
+  module _ (records : Records) (good : AreGood s [] records) (lies : EndToEnd (byte_at told space) s.horizon records s.end) where
+    one_stretch : RunByRun (virtual_byte told.held (layout_of s) []) (stretches (layout_of s) []) records
     one_stretch = (
       records,
       [],
       sym (append-nil records),
-      from_horizon image s no_horizon records (s.horizon + (s.end - s.horizon)) (subst (EndToEnd (byte_of (image (Chunk 0))) 0 records) (let h = no_horizon in omega (arith, h)) lies),
+      subst (EndToEnd (virtual_byte told.held (layout_of s) []) s.horizon records) (let h = no_horizon in omega (arith, h)) (lies_virtual records s.end lies),
       refl,
     )
 
-    pub misfit_damaged : ¬ WholeFits s records → DamagedAt image Control (128 * index)
+    pub misfit_damaged : ¬ WholeFits s records → DamagedAt told.held Control (128 * index)
     unfolding has_live
     misfit_damaged none = no_whole there_is.control index s [] records there_is.held there_is.live no_generation good one_stretch none
 

@@ -25,8 +25,8 @@ use Rattle.ip_image.specs.declared.slot.Slot.{Slot}
 use Rattle.ip_image.specs.Slot.{IsSlot, IsLive, live_index}
 use Rattle.ip_image.specs.Virtual.{byte_of}
 use Rattle.ip_image.specs.Standing.{EndToEnd, AreRetained, WholeFits, DamagedAt, commits_in}
-use Rattle.ip_image.specs.Headline.{IsInOrder}
-use Rattle.ip_image.proofs.HeadlineLaws.{order_synced}
+use Rattle.ip_image.specs.Pending.{NothingPending}
+use Rattle.ip_image.proofs.HeadlineLaws.{pending_synced}
 use Rattle.ip_control.specs.declared.fault.ControlFault.{ControlFault}
 use Rattle.ip_control.specs.Finding.{Finds}
 use Rattle.ip_audit.specs.Audits.{commit_name}
@@ -34,18 +34,18 @@ use Rattle.ip_store.specs.declared.opening.OpenFault.{OpenFault}
 use Rattle.ip_store.specs.declared.store.Store.{Store}
 use Rattle.ip_store.specs.declared.walk.Found.{Found}
 use Rattle.ip_store.specs.Control.{control_in}
-use Rattle.ip_store.specs.Placed.{places_in}
-use Rattle.ip_store.specs.Window.{chunk}
+use Rattle.ip_space.specs.SpaceView.{SpaceView}
+use Rattle.ip_store.specs.Placed.{places_in, IsSpaceOf}
 use Rattle.ip_store.specs.Walk.{Tells, Covers, BadRecord}
 use Rattle.ip_store.specs.Found.{IsReached, FoundIn, FindsSlot, Finished, Finishes}
 use Rattle.ip_store.specs.Store.{IsOf, Holds}
-use Rattle.ip_store.specs.Opening.{SecuresOpening, Opens}
-use Rattle.ip_store.proofs.Secured.{secures_from}
+use Rattle.ip_store.specs.Opening.{RecoversOnceOpen, Opens}
+use Rattle.ip_store.proofs.Recovering.{recovers_from}
 use Rattle.ip_store.proofs.Hashes.{sha_is_hash}
 use Rattle.ip_store.proofs.Listed.{one_list, readable_of, good_newest, places_size}
 use Rattle.ip_store.proofs.Stepping.{space_same}
 use Rattle.ip_store.proofs.Reading.{own, control_passes}
-use Rattle.ip_store.proofs.OpenedImages.{has_live, form_damaged, bad_damaged, misfit_damaged, whole_from, repository_of, repository_names, repository_history, repository_floor, repository_branches, repository_size, stands_for}
+use Rattle.ip_store.proofs.OpenedImages.{has_live, form_damaged, lies_in_chunk, bad_damaged, misfit_damaged, whole_from, repository_of, repository_names, repository_history, repository_floor, repository_branches, repository_size, stands_for}
 
 abbrev Branching : Type 0
 Branching = Map bytes_cmp ℕ
@@ -95,7 +95,7 @@ module _ (index : ℕ) (s : Slot) (is : IsSlot s) (below : index < 2) (found : F
         retained = subst (λ (t : Slot). AreRetained t (repository_of s records tells.good).branches) (sym finished.slot) (subst (λ (m : Branching). AreRetained s m) (sym branches) fits.branches);
       }
 
-  pub holds_of : (told : Told) → IsLive (control_in told.held) index s → IsKept told Control → EndToEnd (byte_of (chunk told)) 0 records s.end → Holds store told (repository_of s records tells.good)
+  pub holds_of : (told : Told) → IsLive (control_in told.held) index s → IsKept told Control → EndToEnd (byte_of (told.held (Chunk 0))) 0 records s.end → Holds store told (repository_of s records tells.good)
   holds_of told live kept lies = record {
     tables = tables_of;
     stands = stands_for s records tells.good told.held index live lies fits;
@@ -197,8 +197,8 @@ module _ (a b c d : Told) (passes : ChangesOnly NoFile a b) (syncs : Syncs Contr
 
 -- ---- opening
 
-synced_order : (a b : Told) → SyncsOnly (Only Control) a b → IsInOrder a → IsInOrder b
-synced_order a b only = order_synced a b only.changes.goes (only.files Control) (only.files (Chunk 0))
+synced_order : (a b : Told) → SyncsOnly (Only Control) a b → NothingPending a → NothingPending b
+synced_order a b only = pending_synced a b only.changes.goes only.files only.changes.lending
 
 -- no slot was found
 pub opens_none : (fault : OpenFault) (r : Result Store OpenFault) (a b : Told) → IsErr r × IsErrAnd r (λ e. e ≡ fault) → FindsSlot (Err fault) a b → Opens r a b
@@ -211,8 +211,8 @@ opens_none fault (Err other) a b is slot = record {
   opening = record {
     since = slot.since;
     begins = slot.begins;
-    secures = secures_from a b slot.since slot.begins slot.only slot.left;
-    order = synced_order a b slot.only;
+    recovers = recovers_from a b slot.since slot.begins slot.only slot.left;
+    nothing_pending = synced_order a b slot.only;
   };
   reached = λ answered some. slot.reached (subst (λ (f : OpenFault). IsReached {A = ℕ × Slot} (Err f)) is.1 (by other answered)) some;
 }
@@ -223,7 +223,8 @@ opens_none fault (Err other) a b is slot = record {
     by OpenFault.Ground answered = answered
     by OpenFault.Memory answered = tt
 
-module _ (index : ℕ) (s : Slot) (below : index < 2) (is : IsSlot s) (a b c : Told) (slot : FindsSlot (Ok (index, s)) a b) (reads : ChangesOnly NoFile b c) where
+module _ (index : ℕ) (s : Slot) (below : index < 2) (is : IsSlot s) (a b c : Told) (slot : FindsSlot (Ok (index, s)) a b) (reads : ChangesOnly NoFile b c)
+    (space : SpaceView) (of : IsSpaceOf s space) where
   live_now : IsLive (control_in c.held) index s
   live_now = subst (λ (bytes : Bytes). IsLive bytes index s) (sym (control_passes b c reads)) slot.finds
 
@@ -242,32 +243,32 @@ module _ (index : ℕ) (s : Slot) (below : index < 2) (is : IsSlot s) (a b c : T
     | inr was ↦ slot.left t late was content (reads.goes.left t Control content was left) ∙ sym (stays.held (λ x. x))
   ]
 
-  abbrev opening_now : SecuresOpening a c
+  abbrev opening_now : RecoversOnceOpen a c
   opening_now = record {
     since = slot.since;
     begins = slot.begins;
-    secures = secures_from a c slot.since slot.begins only_now left_now;
-    order = synced_order a c only_now;
+    recovers = recovers_from a c slot.since slot.begins only_now left_now;
+    nothing_pending = synced_order a c only_now;
   }
 
-  pub opens_bad : (fault : OpenFault) → (fault ≡ OpenFault.NoStore → ⊥) → ((file : FileName) (at : ℕ) → fault ≡ OpenFault.Damaged file at → BadRecord s (chunk c) file at) → Opens (Err fault) a c
+  pub opens_bad : (fault : OpenFault) → (fault ≡ OpenFault.NoStore → ⊥) → ((file : FileName) (at : ℕ) → fault ≡ OpenFault.Damaged file at → BadRecord s c space file at) → Opens (Err fault) a c
   opens_bad fault there bad = record {
     only = only_now;
     no_store = λ none. absurd (there (same_fault fault OpenFault.NoStore none));
-    damaged = λ file at damaged. bad_damaged c.held index s live_now file at (bad file at (same_fault fault (OpenFault.Damaged file at) damaged));
+    damaged = λ file at damaged. bad_damaged c index s live_now space of file at (bad file at (same_fault fault (OpenFault.Damaged file at) damaged));
     holds = tt;
     opening = opening_now;
     reached = λ answered some. reached_now some;
   }
 
-  pub opens_at_end : (found : Found) (r : Result Store OpenFault) → Covers s true (chunk c) found → Finishes index s found r → Opens r a c
+  pub opens_at_end : (found : Found) (r : Result Store OpenFault) → Covers s true c space found → Finishes index s found r → Opens r a c
   opens_at_end found (Ok store) covers finished = record {
     only = only_now;
     no_store = λ none. absurd (cc (none));
     damaged = λ file at damaged. absurd (cc (damaged));
     holds = (
       repository_of s covers.records covers.true_of.good,
-      holds_of index s is below found store covers.records covers.true_of finished c live_now (kept_passes Control own b c reads slot.kept) (covers.lies refl),
+      holds_of index s is below found store covers.records covers.true_of finished c live_now (kept_passes Control own b c reads slot.kept) (lies_in_chunk c index s live_now space of covers.records (covers.lies refl)),
     );
     opening = opening_now;
     reached = λ answered some. reached_now some;
@@ -290,19 +291,19 @@ module _ (index : ℕ) (s : Slot) (below : index < 2) (is : IsSlot s) (a b c : T
           let n : 128 * index ≡ at = cc in
           subst (λ (m : ℕ). DamagedAt c.held file m) n
           (subst (λ (g : FileName). DamagedAt c.held g (128 * index)) f
-          (misfit_damaged c.held index s live_now covers.records covers.true_of.good (covers.lies refl) (finished.1 covers.records covers.true_of)))
+          (misfit_damaged c index s live_now space of covers.records covers.true_of.good (covers.lies refl) (finished.1 covers.records covers.true_of)))
 
   -- by the flag that the ground tells
-  pub opens_by : (found : Found) (r : Result Store OpenFault) (tells : Bool) → IsTrue tells → Covers s tells (chunk c) found → Finishes index s found r → Opens r a c
-  opens_by found r tells told covers finished = opens_at_end found r (subst (λ (b : Bool). Covers s b (chunk c) found) told covers) finished
+  pub opens_by : (found : Found) (r : Result Store OpenFault) (tells : Bool) → IsTrue tells → Covers s tells c space found → Finishes index s found r → Opens r a c
+  opens_by found r tells told covers finished = opens_at_end found r (subst (λ (b : Bool). Covers s b c space found) told covers) finished
 
   pub opens_bad_as : (r : Result Store OpenFault) (fault : OpenFault) → IsErr r × IsErrAnd r (λ e. e ≡ fault) → (IsErrOf {T = Found} (Err fault) OpenFault.NoStore → ⊥)
-      → ((file : FileName) (at : ℕ) → IsErrOf {T = Found} (Err fault) (OpenFault.Damaged file at) → BadRecord s (chunk c) file at) → Opens r a c
+      → ((file : FileName) (at : ℕ) → IsErrOf {T = Found} (Err fault) (OpenFault.Damaged file at) → BadRecord s c space file at) → Opens r a c
   opens_bad_as (Ok store) fault is there bad = absurd is.1
   opens_bad_as (Err other) fault is there bad =
       opens_bad other (λ none. there (ap (λ (f : OpenFault). Err f) (sym is.1 ∙ none))) (λ file at damaged. bad file at (ap (λ (f : OpenFault). Err f) (sym is.1 ∙ damaged)))
 
-pub tables_at_end : (index : ℕ) (s : Slot) → IsSlot s → index < 2 → (tells : Bool) (content : Content) (found : Found) (r : Result Store OpenFault) → Covers s tells content found → Finishes index s found r
+pub tables_at_end : (index : ℕ) (s : Slot) → IsSlot s → index < 2 → (tells : Bool) (told : Told) (space : SpaceView) (found : Found) (r : Result Store OpenFault) → Covers s tells told space found → Finishes index s found r
     → IfOk r (λ store. (q : Repository) × IsOf store q)
-tables_at_end index s is below tells content found (Ok store) covers finished = (repository_of s covers.records covers.true_of.good, tables_of index s is below found store covers.records covers.true_of finished)
-tables_at_end index s is below tells content found (Err fault) covers finished = tt
+tables_at_end index s is below tells told space found (Ok store) covers finished = (repository_of s covers.records covers.true_of.good, tables_of index s is below found store covers.records covers.true_of finished)
+tables_at_end index s is below tells told space found (Err fault) covers finished = tt

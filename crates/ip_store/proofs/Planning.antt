@@ -27,8 +27,8 @@ use Rattle.ip_store.specs.declared.store.Store.{Store}
 use Rattle.ip_store.specs.declared.work.Work.{Work}
 use Rattle.ip_store.specs.declared.committing.Plan.{Plan}
 use Rattle.ip_store.specs.declared.committing.StoreFault.{StoreFault}
-use Rattle.ip_store.specs.Changes.{LimitsSpace}
-use Rattle.ip_store.specs.Commits.{parent_named, SlotBehind, IsRefusal, IsNewBatch, IsPastTheEnd, IsNext, IsPlan, end_of}
+use Rattle.ip_store.specs.Changes.{IsNextSlot, LimitsSpace}
+use Rattle.ip_store.specs.Commits.{parent_named, IsRefusal, IsNewBatch, IsPastTheEnd, IsNext, IsPlan, end_of}
 use Rattle.ip_store.specs.Store.{IsOf}
 use Rattle.ip_store.specs.Work.{IsLawful}
 use Rattle.ip_store.proofs.BatchKinds.{batch_served, batch_places}
@@ -107,7 +107,7 @@ module _ (r : Repository) (work : Work) (v : View) (branch : Bytes) (info : Info
       by_sequence (StoreFault.Limit Limit.Sequence) is e = absurd is
       by_sequence fault is e = absurd (cc (e))
 
-  pub slot_limits : (store : Store) (of : IsOf store r) (batch : Batch) → IsBatch v f store.slot.end batch → (fault : StoreFault) → SlotBehind store.slot (length batch.bytes.items) (Err fault) → LimitsSpace {A = Plan} (end_of r work v branch info store) (Err fault) store
+  pub slot_limits : (store : Store) (of : IsOf store r) (batch : Batch) → IsBatch v f store.slot.end batch → (fault : StoreFault) → IsNextSlot store.slot (length batch.bytes.items) 1 (Err fault) → LimitsSpace {A = Plan} (end_of r work v branch info store) (Err fault) store
   slot_limits store of batch is_batch fault is = record {
     space = λ e. by fault is (cc (e));
     sequence = λ e. by_sequence fault is (cc (e));
@@ -117,11 +117,11 @@ module _ (r : Repository) (work : Work) (v : View) (branch : Bytes) (info : Info
       ends : end_of r work v branch info store ≡ store.slot.end + length batch.bytes.items
       ends = ap (λ g. grown_end v g store.slot.end) (sym told) ∙ sym is_batch.ends ∙ is_batch.long
 
-      by : (fault : StoreFault) → SlotBehind store.slot (length batch.bytes.items) (Err fault) → fault ≡ StoreFault.Limit Limit.Space → 2 ^ 62 < end_of r work v branch info store
+      by : (fault : StoreFault) → IsNextSlot store.slot (length batch.bytes.items) 1 (Err fault) → fault ≡ StoreFault.Limit Limit.Space → 2 ^ 62 < end_of r work v branch info store
       by (StoreFault.Limit Limit.Space) is e = subst (λ (n : ℕ). 2 ^ 62 < n) (sym ends) is
       by fault is e = absurd (cc (e))
 
-      by_sequence : (fault : StoreFault) → SlotBehind store.slot (length batch.bytes.items) (Err fault) → fault ≡ StoreFault.Limit Limit.Sequence → (end_of r work v branch info store ≤ 2 ^ 62) × (store.slot.sequence ≡ 2 ^ 62)
+      by_sequence : (fault : StoreFault) → IsNextSlot store.slot (length batch.bytes.items) 1 (Err fault) → fault ≡ StoreFault.Limit Limit.Sequence → (end_of r work v branch info store ≤ 2 ^ 62) × (store.slot.sequence ≡ 2 ^ 62)
       by_sequence (StoreFault.Limit Limit.Sequence) is e = (subst (λ (n : ℕ). n ≤ 2 ^ 62) (sym ends) is.0, (let low = is.1 in let high = of.slot.sequence_high in omega (arith, low, high)))
       by_sequence fault is e = absurd (cc (e))
 
@@ -131,7 +131,7 @@ err_of fault other e = let same : fault ≡ other = cc (e) in ap Err same
 
 -- what comes of any tree
 pub coming : (r : Repository) (branch : Bytes) (store : Store) (of : IsOf store r) (number : ℕ) (name : Bytes) (batch : Batch) (slot : Slot) (parents : List ℕ) → number ≡ next r → name ≡ branch → IsHash batch.name → 0 < length batch.bytes.items
-    → room_for_branch r branch ≡ Ok tt → not_existing r batch.name ≡ Ok tt → SlotBehind store.slot (length batch.bytes.items) (Ok slot) → parents ≡ number ∷ []
+    → room_for_branch r branch ≡ Ok tt → not_existing r batch.name ≡ Ok tt → IsNextSlot store.slot (length batch.bytes.items) 1 (Ok slot) → parents ≡ number ∷ []
     → IsNext r branch store (record { number = number; branch = name; batch = batch; slot = slot; parents = parents })
 coming r branch store of number name batch slot parents is named is_name some room fresh behind only = record {
   number = is;

@@ -1,139 +1,164 @@
 -- The walk, from one record to the next.
---     walks_filled, goes_on      after a read, and behind a record
---     fails_front      the audit fails the record in front.      further      a record has bytes.      bad_record      where no good record stands
-use Rattle.std.proofs.Common.{◌≡◌, inl, inr, ℕ, ◌+◌, ◌-◌, ◌<◌, ◌≤◌, Bool, [], ◌∷◌, ◌++◌, length, drop, refl, sym, ◌∙◌, ap, subst, arith}
-use Rattle.std.specs.Prelude.{Option, Some, None, Result, Ok, Err, OnOk, IsTrue, IsErrOf}
-use Rattle.std.proofs.lemmas.Option.{slice_get-get_or}
+--     refused_here, other_kind      a record that is refused.      readable_now      its space is readable
+--     stays_there, goes_on      after a step that found nothing, and behind a record.      further      a record has bytes
+--     bad_taken, bad_unread      where no good record stands
+use Rattle.std.proofs.Common.{◌≡◌, ℕ, ◌+◌, ◌<◌, ◌≤◌, Bool, [], ◌∷◌, ◌++◌, length, refl, sym, ◌∙◌, ap, subst, arith}
+use Rattle.std.specs.Prelude.{Option, Some, None, Ok, Err, IsTrue, IsErrOf}
 use Rattle.ip_ground.specs.declared.names.FileName.{FileName}
-use Rattle.ip_ground.specs.declared.names.FileName.TheVariants.{Chunk}
-use Rattle.ip_ground.specs.Contents.{Content}
+use Rattle.ip_ground.specs.Told.{Told, NoFile, ChangesOnly}
 use Rattle.ip_spec.specs.declared.record.Record.{Record}
 use Rattle.ip_spec.specs.Record.{Fits, spelling}
-use Rattle.ip_spec.specs.Path.{Bytes}
 use Rattle.ip_image.specs.declared.slot.Slot.{Slot}
-use Rattle.ip_image.specs.Slot.{IsSlot}
-use Rattle.ip_image.specs.Virtual.{byte_of, Stands}
-use Rattle.ip_image.specs.Standing.{EndToEnd, IsGood}
-use Rattle.ip_image.proofs.InChunk.{byte_inside, ends_append}
+use Rattle.ip_image.specs.declared.layout.Layout.{Layout}
+use Rattle.ip_image.specs.Slot.{newest_version, IsSlot}
+use Rattle.ip_image.specs.Virtual.{Stands}
+use Rattle.ip_image.specs.Standing.{EndToEnd, IsServedKind, IsGood}
+use Rattle.ip_image.proofs.InChunk.{ends_append}
 use Rattle.ip_audit.specs.Audits.{IsBeyond}
-use Rattle.ip_audit.specs.declared.audit.AuditFault.{AuditFault}
+use Rattle.ip_space.specs.SpaceView.{SpaceView, IsReadable, OnlyReads, byte_at, records_of}
+use Rattle.ip_space.specs.ScanView.{ScanView}
+use Rattle.ip_space.specs.Scanning.{IsCurrent, Stays, Steps, Finds}
+use Rattle.ip_space.specs.Fetching.{BlamesPlace}
+use Rattle.ip_space.specs.declared.fault.FetchFault.{FetchFault}
+use Rattle.ip_space.proofs.StoodBytes.{alike}
+use Rattle.ip_space.proofs.Stayed.{byte_stays}
+use Rattle.ip_space.proofs.Answered.{some_bytes}
+use Rattle.ip_space.proofs.Lying.{stands_there}
 use Rattle.ip_store.specs.declared.opening.OpenFault.{OpenFault}
-use Rattle.ip_store.specs.declared.window.Window.{Window}
 use Rattle.ip_store.specs.declared.walk.Found.{Found}
-use Rattle.ip_store.specs.Window.{held_in, IsFull, Shows}
-use Rattle.ip_store.specs.Walk.{HasFront, ReadsServed, TakesOne, Took, TakesFront, Walks, BadRecord}
-use Rattle.ip_store.proofs.LongestRecord.{longest_served}
-use Rattle.ip_store.proofs.Walking.{some_bytes, beyond_push, stands_front, stands_behind, front_of}
+use Rattle.ip_store.specs.Placed.{IsSpaceOf}
+use Rattle.ip_store.specs.Walk.{IsRefused, IsPlaced, IsUnread, TakesRead, Walks, BadRecord}
+use Rattle.ip_store.proofs.Walking.{beyond_push, no_horizon}
 
-abbrev Taking : Type 0
-Taking = Result (Unit {0}) OpenFault
+-- ---- one record
 
-abbrev FrontRead : Type 0
-FrontRead = Option (Record × ℕ)
+pub refused_here : (space : SpaceView) (at : ℕ) (r : Record) (old new : Found) (out : OpenFault) → IsPlaced space at out → IsRefused at r old → TakesRead space at r old new (Err out)
+refused_here space at r old new (OpenFault.Damaged file place) placed refused = (placed, refused)
+refused_here space at r old new OpenFault.NoStore placed refused = placed
+refused_here space at r old new OpenFault.Ground placed refused = placed
+refused_here space at r old new OpenFault.Memory placed refused = tt
 
--- where the audit fails the record that was read, none that is good stands there
-module _ (version : ℕ) (w v : Window) (old new : Found) (bytes : Bytes) (found : FrontRead) (q : Record) (n at : ℕ) where
-  pub fails_front : bytes ≡ held_in w → ReadsServed version bytes (Ok found) → found ≡ Some (q, n) → at ≡ w.at → (fault : AuditFault) → fault ≡ AuditFault.Fails → TakesOne at q old new (Err fault)
-      → (out : OpenFault) → out ≡ OpenFault.Damaged (Chunk 0) at → TakesFront version w v old new (Err out)
-  fails_front is reads some place fault fails takes out answer =
-      subst (λ (o : OpenFault). TakesFront version w v old new (Err o)) (sym answer) (
-        refl,
-        place,
-        λ s before is_slot same tells beyond r rest spelled good.
-            let front : HasFront version bytes r = record { fits = subst (λ (k : ℕ). Fits k r) same good.bounds; rest = rest; spelled = is ∙ spelled } in
-            let one : r ≡ q = one_front found reads some r front in
-            let refuses = subst (λ (f : AuditFault). TakesOne at q old new (Err f)) fails takes in
-            refuses s before is_slot tells (subst (λ (k : ℕ). IsBeyond k before) (sym place) beyond)
-            (subst (λ (k : ℕ). IsGood s before (k, q)) (sym place) (subst (λ (x : Record). IsGood s before (w.at, x)) one good)),
-      )
-    where
-      one_front : (found : FrontRead) → ReadsServed version bytes (Ok found) → found ≡ Some (q, n) → (r : Record) → HasFront version bytes r → r ≡ q
-      one_front None reads some r front = absurd (cc (some))
-      one_front (Some read) reads some r front = let e : read ≡ (q, n) = same_some read (q, n) some in reads.3 r front ∙ ap (λ (x : Record × ℕ). x.0) e
-        where
-          same_some : (a b : Record × ℕ) → Some a ≡ Some b → a ≡ b
-          same_some a b e = cc
+pub other_kind : (at : ℕ) (r : Record) (found : Found) → (IsServedKind r → ⊥) → IsRefused at r found
+other_kind at r found none s before is tells beyond good = none good.served
+
+same_some : (x y : Record) → Some x ≡ Some y → x ≡ y
+same_some x y e = cc
+
+same_fault : (one other : OpenFault) → IsErrOf {T = Bool} (Err one) other → one ≡ other
+same_fault one other e = cc
 
 -- ---- the walk
 
-pub walks_filled : (s : Slot) (tells : Bool) (old new : Content) (w v : Window) (found : Found) → Walks s tells old w found → v.at ≡ w.at
-    → (IsTrue tells → new ≡ old) → (IsTrue tells → (end : ℕ) → Shows end w old → Shows end v new) → Walks s tells new v found
-walks_filled s tells old new w v found walks at same shows = record {
-  before = walks.before;
-  true_of = walks.true_of;
-  beyond = subst (λ (n : ℕ). IsBeyond n walks.before) (sym at) walks.beyond;
-  lies = λ told. subst (λ (n : ℕ). EndToEnd (byte_of new) 0 walks.before n) (sym at) (subst (λ (x : Content). EndToEnd (byte_of x) 0 walks.before w.at) (sym (same told)) (walks.lies told));
-  shows = λ told. shows told s.end (walks.shows told);
-}
+module _ (s : Slot) (is : IsSlot s) (space : SpaceView) (of : IsSpaceOf s space) where
+  version : s.version ≡ newest_version
+  version = let low = is.version_low in let high = is.version_high in omega (arith, low, high)
 
-module _ (s : Slot) (is : IsSlot s) (tells : Bool) (content : Content) (w v : Window) (found : Found) (walks : Walks s tells content w found) where
-  version : s.version ≡ 1
-  version = let low = is.version_low in let high = is.version_high in omega arith
+  end_is : space.layout.end ≡ s.end
+  end_is = ap (λ (l : Layout). l.end) of.layout
 
-  module _ (new : Found) where
-    taken : (u : Unit {0}) → TakesFront s.version w v found new (Ok u) → Took s walks.before w v new
-    taken u takes = takes s walks.before is refl walks.true_of walks.beyond
+  pub above : (at : ℕ) → space.layout.horizon ≤ at
+  above at = let h = ap (λ (l : Layout). l.horizon) of.layout in let n = no_horizon s is in omega (arith, h, n)
 
-    pub further : (r : Taking) → TakesFront s.version w v found new r → OnOk r (w.at < v.at)
-    further (Ok u) takes =
-        let took = taken u takes in
-        let some = some_bytes took.taken in
-        let at = took.at in
-        omega (arith, some, at)
-    further (Err fault) takes = tt
+  pub readable_now : (told : Told) → IsReadable told space
+  readable_now told = record { own = λ live. absurd (live (ap (λ (l : Layout). l.live) of.layout ∙ is.served)); none = λ none. of.runs is.served }
 
-    pub goes_on : (r : Taking) → TakesFront s.version w v found new r → OnOk r (Walks s tells content v new)
-    goes_on (Ok u) takes =
-        let took = taken u takes in
-        let some = some_bytes took.taken in
-        let place = took.at in
-        let stands = λ (told : IsTrue tells). subst (Stands (byte_of content) w.at) took.spelled (walks.shows told).stands in
-        record {
-          before = walks.before ++ (w.at, took.taken) ∷ [];
-          true_of = took.tells;
-          beyond = beyond_push w.at v.at walks.before took.taken (omega (arith, some, place)) walks.beyond;
-          lies = λ told. ends_append (byte_of content) 0 walks.before ((w.at, took.taken) ∷ []) w.at v.at (walks.lies told) (refl, stands_front (byte_of content) w.at (spelling took.taken) took.rest (stands told), sym place);
-          shows = λ told. record {
-            stands = subst (λ (at : ℕ). Stands (byte_of content) at (held_in v)) (sym place)
-                (subst (Stands (byte_of content) (w.at + length (spelling took.taken))) (sym took.held) (stands_behind (byte_of content) w.at (spelling took.taken) took.rest (stands told)));
-            below = let b = (walks.shows told).below in let l = took.limit in omega (arith, b, l);
-            bound = elim (walks.shows told).bound [
-              | inl all ↦ inl (took.limit ∙ all)
-              | inr short ↦ inr (let l = took.limit in omega (arith, short, l))
-            ];
-          };
-        }
-    goes_on (Err fault) takes = tt
+  module _ (tells : Bool) (told now : Told) (scan : ScanView) (found : Found) (walks : Walks s tells told space scan found) (only : IsTrue tells → ChangesOnly NoFile told now) where
+    bytes_stay : IsTrue tells → byte_at now space ≡ byte_at told space
+    bytes_stay t = alike (byte_at told space) (byte_at now space) (byte_stays told now (only t) space (walks.readable t))
 
-  module _ (told : IsTrue tells) (full : IsFull w) where
-    -- a good record that stands there is held whole
-    held_whole : (r : Record) → w.at + length (spelling r) ≤ s.end → Stands (byte_of content) w.at (spelling r) → IsGood s walks.before (w.at, r) → length (spelling r) ≤ length (held_in w)
-    held_whole r inside stands good =
-        let some = some_bytes r in
-        let last : length (spelling r) - 1 < length (spelling r) = omega (arith, some) in
-        let there = byte_inside content (w.at + (length (spelling r) - 1)) _ (stands (length (spelling r) - 1) last ∙ slice_get-get_or (spelling r) (length (spelling r) - 1) 0 last) in
-        let short = longest_served r (subst (λ (n : ℕ). Fits n r) version good.bounds) good.served in
-        elim (walks.shows told).bound [
-          | inl all ↦ omega (arith, full, short, inside, all)
-          | inr ends ↦ omega (arith, full, short, there, ends, some)
-        ]
+    lies_still : IsTrue tells → EndToEnd (byte_at now space) s.horizon walks.before scan.next
+    lies_still t = subst (λ (f : ℕ → Option ℕ). EndToEnd f s.horizon walks.before scan.next) (sym (bytes_stay t)) (walks.lies t)
 
-    pub bad_record : (new : Found) (r : Taking) → w.at < s.end → TakesFront s.version w v found new r → (file : FileName) (at : ℕ) → IsErrOf r (OpenFault.Damaged file at) → BadRecord s content file at
-    bad_record new (Ok u) more takes file at is_fault = absurd (cc (is_fault))
-    bad_record new (Err OpenFault.NoStore) more takes file at is_fault = absurd takes
-    bad_record new (Err OpenFault.Ground) more takes file at is_fault = absurd takes
-    bad_record new (Err OpenFault.Memory) more takes file at is_fault = absurd (cc (is_fault))
-    bad_record new (Err (OpenFault.Damaged other place)) more takes file at is_fault =
-        let e : place ≡ at = cc (is_fault) in
-        let f : other ≡ file = cc (is_fault) in
-        subst (λ (n : ℕ). BadRecord s content file n) (sym (takes.1) ∙ e) (record {
+    pub stays_there : (new : ScanView) → Stays scan new → (IsTrue tells → IsCurrent now space new) → Walks s tells now space new found
+    stays_there new stays current = record {
+      before = walks.before;
+      true_of = walks.true_of;
+      beyond = subst (λ (n : ℕ). IsBeyond n walks.before) (sym stays.next) walks.beyond;
+      to = stays.to ∙ walks.to;
+      readable = λ t. readable_now now;
+      inside = λ t. let i = walks.inside t in let e = stays.next in omega (arith, i, e);
+      lies = λ t. subst (EndToEnd (byte_at now space) s.horizon walks.before) (sym stays.next) (lies_still t);
+      current = current;
+    }
+
+    module _ (new : ScanView) (at : ℕ) (r : Record) (fits : Fits newest_version r) (steps : Steps scan new at r) where
+      next_is : new.next ≡ scan.next + length (spelling r)
+      next_is = let n = steps.next in let p = steps.place in omega (arith, n, p)
+
+      pub further : (scan.next < new.next) × (scan.next < s.end)
+      further =
+          let some = some_bytes r in
+          let n = next_is in
+          let more = steps.more in
+          let to = walks.to in (omega (arith, some, n), omega (arith, more, to))
+
+      pub told_some : (n : ℕ) → n ≡ at → IsBeyond n walks.before
+      told_some n same = subst (λ (k : ℕ). IsBeyond k walks.before) (sym (same ∙ steps.place)) walks.beyond
+
+      module _ (taken : Found) (whole : IsTrue tells → Stands (byte_at now space) scan.next (spelling r) × (scan.next + length (spelling r) ≤ space.layout.end)) where
+        pub goes_on : (u : Unit {0}) → TakesRead space at r found taken (Ok u) → (IsTrue tells → IsCurrent now space new) → Walks s tells now space new taken
+        goes_on u takes current =
+            let took = takes s walks.before is (subst (λ (v : ℕ). Fits v r) (sym version) fits) walks.true_of (told_some at refl) in
+            let some = some_bytes r in
+            let n = next_is in
+            let place = steps.place in
+            record {
+              before = walks.before ++ (at, r) ∷ [];
+              true_of = took.1;
+              beyond = beyond_push at new.next walks.before r (omega (arith, some, n, place)) (told_some at refl);
+              to = steps.to ∙ walks.to;
+              readable = λ t. readable_now now;
+              inside = λ t. let w = (whole t).1 in let e = end_is in omega (arith, w, e, n);
+              lies = λ t. ends_append (byte_at now space) s.horizon walks.before ((at, r) ∷ []) scan.next new.next (lies_still t) (place, (whole t).0, sym n);
+              current = current;
+            }
+
+        -- whatever record stands there is the one that was read
+        pub bad_taken : IsTrue tells → (file : FileName) (place : ℕ) → TakesRead space at r found taken (Err (OpenFault.Damaged file place)) → BadRecord s now space file place
+        bad_taken t file place takes = record {
           before = walks.before;
           good = walks.true_of.good;
-          lies = walks.lies told;
-          inside = more;
-          none = λ r inside stands good.
-              let long = held_whole r inside stands good in
-              takes.2 s walks.before is refl walks.true_of walks.beyond r (drop (length (spelling r)) (held_in w))
-              (front_of (spelling r) (held_in w) long (λ k below. sym ((walks.shows told).stands k (omega (arith, long, below))) ∙ stands k below)) good;
-          in_chunk = sym f ∙ takes.0;
-        })
+          at = scan.next;
+          lies = lies_still t;
+          inside = further.1;
+          none = λ q inside stands good.
+              let e = end_is in
+              let there : records_of now space scan.next ≡ Some q = stands_there now space scan.next q (subst (λ (v : ℕ). Fits v q) version good.bounds) stands (omega (arith, inside, e)) in
+              let here : records_of now space scan.next ≡ Some r = stands_there now space scan.next r fits (whole t).0 (whole t).1 in
+              let one : q ≡ r = same_some q r (sym there ∙ here) in
+              takes.1 s walks.before is walks.true_of (told_some at refl)
+              (subst (λ (n : ℕ). IsGood s walks.before (n, r)) (sym steps.place) (subst (λ (x : Record). IsGood s walks.before (scan.next, x)) one good));
+          here = subst (λ (n : ℕ). IsPlaced space n (OpenFault.Damaged file place)) steps.place takes.0;
+        }
+
+        pub bad_taken_as : IsTrue tells → (out : OpenFault) (file : FileName) (place : ℕ) → IsErrOf {T = Bool} (Err out) (OpenFault.Damaged file place) → TakesRead space at r found taken (Err out) → BadRecord s now space file place
+        bad_taken_as t out file place is_fault takes = bad_taken t file place (subst (λ (f : OpenFault). TakesRead space at r found taken (Err f)) (same_fault out (OpenFault.Damaged file place) is_fault) takes)
+
+    -- where the bytes spell none, none stands
+    pub bad_form : IsTrue tells → (file : FileName) (at place : ℕ) → scan.next < scan.to → at ≡ scan.next → records_of told space scan.next ≡ None → OnlyReads told now space space
+        → IsPlaced space at (OpenFault.Damaged file place) → BadRecord s now space file place
+    bad_form t file at place more same none reads placed = record {
+      before = walks.before;
+      good = walks.true_of.good;
+      at = scan.next;
+      lies = lies_still t;
+      inside = (let to = walks.to in omega (arith, more, to));
+      none = λ q inside stands good.
+          let e = end_is in
+          let there : records_of now space scan.next ≡ Some q = stands_there now space scan.next q (subst (λ (v : ℕ). Fits v q) version good.bounds) stands (omega (arith, inside, e)) in
+          let was : records_of now space scan.next ≡ None = reads.records (walks.readable t) scan.next ∙ none in
+          absurd (cc (there, was));
+      here = subst (λ (n : ℕ). IsPlaced space n (OpenFault.Damaged file place)) same placed;
+    }
+
+    module _ (told_now : IsTrue tells) (file : FileName) (place : ℕ) (more : scan.next < scan.to) (reads : OnlyReads told now space space) where
+      by_cause : (fault : FetchFault) (out : OpenFault) → out ≡ OpenFault.Damaged file place → IsUnread space fault out → Finds (records_of told space) scan.next (Err fault)
+          → BlamesPlace {A = Option (ℕ × Record)} scan.next (Err fault) → BadRecord s now space file place
+      by_cause FetchFault.Ground out is unread finds blames = absurd (cc (is, unread))
+      by_cause (FetchFault.Form at fault) out is unread finds blames = bad_form told_now file at place more blames.0 finds reads (subst (IsPlaced space at) is unread)
+      by_cause (FetchFault.Name at want got) out is unread finds blames = absurd unread
+      by_cause FetchFault.Memory out is unread finds blames = absurd (cc (is, unread))
+
+      pub bad_unread : (fault : FetchFault) (out : OpenFault) → IsErrOf {T = Bool} (Err out) (OpenFault.Damaged file place) → IsUnread space fault out → Finds (records_of told space) scan.next (Err fault)
+          → BlamesPlace {A = Option (ℕ × Record)} scan.next (Err fault) → BadRecord s now space file place
+      bad_unread fault out is_fault unread finds blames = by_cause fault out (same_fault out (OpenFault.Damaged file place) is_fault) unread finds blames

@@ -10,31 +10,32 @@ use Rattle.ip_ground.specs.declared.names.GroundFault.{GroundFault}
 use Rattle.ip_ground.specs.Contents.{Image}
 use Rattle.ip_ground.specs.Told.{Told}
 use Rattle.ip_spec.specs.declared.record.Record.{Record}
-use Rattle.ip_spec.specs.Map.{get, insert, remove, len, get-insert}
+use Rattle.ip_spec.specs.Map.{get, insert, remove, len, from_entries, get-insert}
 use Rattle.ip_spec.specs.Path.{Bytes, bytes_cmp}
 use Rattle.ip_spec.specs.Record.{Names, Fits, IsHash, spelling, spelling_of}
 use Rattle.ip_spec.specs.Repository.{Repository, next}
 use Rattle.ip_image.specs.declared.slot.Slot.{Slot}
 use Rattle.ip_image.specs.declared.layout.Layout.{Layout}
-use Rattle.ip_image.specs.Slot.{IsSlot, slot_bytes}
-use Rattle.ip_image.specs.Standing.{StandsFor, AreRetained, names_after}
-use Rattle.ip_image.specs.Appending.{front_of, HasLive, later_slot, MayName, renamed, bytes_of_records}
+use Rattle.ip_image.specs.Slot.{IsSlot}
+use Rattle.ip_image.specs.Standing.{StandsFor, AreRetained, IsServedKind, names_after}
+use Rattle.ip_image.specs.Appending.{AddsBytes, MayName, renamed, bytes_of_records}
+use Rattle.ip_image.specs.Pending.{HasLive}
 use Rattle.ip_image.proofs.Renaming.{get_without, few_without, stands_renamed}
+use Rattle.ip_image.proofs.Tables.{made_again}
 use Rattle.ip_history.specs.History.{HasParentsFirst}
-use Rattle.ip_control.specs.Live.{live_slot}
 use Rattle.ip_store.specs.declared.committing.StoreFault.{StoreFault}
 use Rattle.ip_store.specs.declared.store.Store.{Store}
 use Rattle.ip_space.specs.SpaceView.{grown}
-use Rattle.ip_store.specs.Changes.{Changes}
-use Rattle.ip_store.specs.Naming.{SlotLater}
+use Rattle.ip_store.specs.Changes.{Changes, next_slot, IsNextSlot}
 use Rattle.ip_store.specs.Placed.{places_in, IsSpaceOf}
-use Rattle.ip_store.specs.Publishing.{StandsAs, CanStep, MakesStep}
+use Rattle.ip_store.specs.Publishing.{CanStep, MakesStep}
 use Rattle.ip_spec.specs.TreeAt.{Records, present}
 use Rattle.ip_image.proofs.SpelledCommits.{present_front}
 use Rattle.ip_store.specs.Store.{IsOf, Holds, image_records}
 use Rattle.ip_store.specs.Trees.{RecordsStay}
-use Rattle.ip_store.proofs.Secured.{in_image, held_has}
-use Rattle.ip_store.proofs.Stepping.{may_step, changed, stays_on, cut_short, space_same, space_later}
+use Rattle.ip_store.proofs.Recovering.{held_has}
+use Rattle.ip_store.proofs.Stepping.{may_step, changed, list_after, cut_short, space_same, same_can_step, same_step}
+use Rattle.ip_store.proofs.NextSlot.{next_is, next_generation, next_space}
 
 abbrev IsAmong : Slot → ℕ → Type 0
 IsAmong s n = (s.floor ≤ n) × (n < s.next)
@@ -49,9 +50,9 @@ within floor n m is = (low floor n m is, high floor n m is)
     high floor n m is = grind (arith, nat_tests)
 
 -- the slot, by the length of the record
-pub slot_from : (s : Slot) (x : Record) (n : ℕ) (slot : Slot) → n ≡ length (spelling x) → SlotLater s n (Ok slot)
-    → (slot ≡ later_slot s (s.end + length (spelling x))) × (s.end + length (spelling x) ≤ 2 ^ 62) × (s.sequence < 2 ^ 62)
-slot_from s x n slot is = subst (λ (k : ℕ). SlotLater s n (Ok slot) → SlotLater s k (Ok slot)) is (λ later. later)
+pub slot_from : (s : Slot) (x : Record) (n : ℕ) (slot : Slot) → n ≡ length (spelling x) → IsNextSlot s n 0 (Ok slot)
+    → (slot ≡ next_slot s (length (spelling x)) 0) × (s.end + length (spelling x) ≤ 2 ^ 62) × (s.sequence < 2 ^ 62)
+slot_from s x n slot is = subst (λ (k : ℕ). IsNextSlot s n 0 (Ok slot) → IsNextSlot s k 0 (Ok slot)) is (λ given. given)
 
 -- whatever repository the tables are of
 pub may_same : (store : Store) (q r : Repository) (x : Record) → IsOf store q → IsOf store r → MayName q x → MayName r x
@@ -60,11 +61,13 @@ may_same store q r (Record.BranchSet number name) a b may = (
   subst (λ m. len (insert m name number) ≤ 4096) (a.branches ∙ sym b.branches) may.1,
 )
 may_same store q r (Record.BranchRemove name) a b may = tt
+may_same store q r (Record.BranchTable rows) a b may = may ∙ ap (λ m. m.entries) (a.branches ∙ sym b.branches)
 may_same store q r _ a b may = absurd may
 
 no_place : (r : Repository) (at : ℕ) (x : Record) → MayName r x → places_in ((at, x) ∷ []) ≡ []
 no_place r at (Record.BranchSet number name) may = refl
 no_place r at (Record.BranchRemove name) may = refl
+no_place r at (Record.BranchTable rows) may = refl
 no_place r at _ may = absurd may
 
 spelled_is : (at : ℕ) (x : Record) → spelling x ≡ bytes_of_records ((at, x) ∷ [])
@@ -95,47 +98,22 @@ module _ (r : Repository) (store : Store) (of : IsOf store r) where
     each = retained_without name;
     few = (let few = few_without r.branches name in let was = of.retained.few in omega (arith, few, was));
   }
+  retained_after (Record.BranchTable rows) may =
+      subst (AreRetained store.slot) (sym (ap from_entries may ∙ made_again r.branches)) of.retained
   retained_after _ may = absurd may
 
-  module _ (x : Record) (may : MayName r x) (fits : Fits 1 x) (slot : Slot) (slot_is : slot ≡ later_slot store.slot (store.slot.end + length (spelling x))) (small : store.slot.end + length (spelling x) ≤ 2 ^ 62) (low : store.slot.sequence < 2 ^ 62) where
+  module _ (x : Record) (may : MayName r x) (fits : Fits 1 x) (served : IsServedKind x) (slot : Slot) (slot_is : slot ≡ next_slot store.slot (length (spelling x)) 0) (small : store.slot.end + length (spelling x) ≤ 2 ^ 62) (low : store.slot.sequence < 2 ^ 62) where
     abbrev after : Repository
     after = renamed r x
 
-    abbrev later : Slot
-    later = later_slot store.slot (store.slot.end + length (spelling x))
-
-    later_is : IsSlot later
-    later_is = record {
-      version_low = of.slot.version_low;
-      version_high = of.slot.version_high;
-      chunk = of.slot.chunk;
-      sequence_low = omega arith;
-      sequence_high = omega (arith, low);
-      horizon = (let h = of.slot.horizon in omega (arith, h));
-      ends = small;
-      floor = of.slot.floor;
-      next = (let n = of.slot.next in omega (arith, n));
-      live = of.slot.live;
-      next_attempt = of.slot.next_attempt;
-      prefix_len = of.slot.prefix_len;
-      rows = of.slot.rows;
-      first_attempt_low = of.slot.first_attempt_low;
-      first_attempt_high = of.slot.first_attempt_high;
-      first_attempt_live = of.slot.first_attempt_live;
-      first_chunk = of.slot.first_chunk;
-      none_live = of.slot.none_live;
-      nothing_below = of.slot.nothing_below;
-      served = of.slot.served;
-    }
+    abbrev next_live : Slot
+    next_live = next_slot store.slot (length (spelling x)) 0
 
     slot_after : IsSlot slot
-    slot_after = subst IsSlot (sym slot_is) later_is
+    slot_after = subst IsSlot (sym slot_is) (next_is store.slot (length (spelling x)) 0 of.slot small low (omega arith))
 
-    newer : store.slot.sequence < slot.sequence
-    newer = subst (λ (s : Slot). store.slot.sequence < s.sequence) (sym slot_is) (omega arith)
-
-    ends : store.slot.end + length (spelling x) ≡ slot.end
-    ends = ap (λ (s : Slot). s.end) (sym slot_is)
+    same_next : next_live.next ≡ store.slot.next
+    same_next = omega arith
 
     pub renamed_tables : (store' : Store) → store'.slot ≡ slot → store'.index ≡ 1 - store.index → store'.names ≡ store.names → store'.branches ≡ names_after Names.branches store.branches x → store'.history ≡ store.history
         → store'.places.items ≡ store.places.items → store'.space ≡ grown store.space slot.end → IsOf store' after
@@ -143,16 +121,16 @@ module _ (r : Repository) (store : Store) (of : IsOf store r) where
       slot = subst IsSlot (sym slot') slot_after;
       index = subst (λ (i : ℕ). i < 2) (sym index) (omega arith);
       floor = of.floor ∙ ap (λ (s : Slot). s.floor) (sym slot_is) ∙ ap (λ (s : Slot). s.floor) (sym slot');
-      next = of.next ∙ ap (λ (s : Slot). s.next) (sym slot_is) ∙ ap (λ (s : Slot). s.next) (sym slot');
+      next = of.next ∙ sym same_next ∙ ap (λ (s : Slot). s.next) (sym slot_is) ∙ ap (λ (s : Slot). s.next) (sym slot');
       names = of.names ∙ sym names;
       hashes = subst (All IsHash) (sym names) of.hashes;
       branches = ap (λ m. names_after Names.branches m x) of.branches ∙ sym branches;
       history = of.history ∙ sym history;
       parents_first = subst HasParentsFirst (sym history) of.parents_first;
       space = space_same slot store'.slot (grown store.space slot.end) store'.space slot' space
-          (subst (λ (s : Slot). IsSpaceOf s (grown store.space s.end)) (sym slot_is) (space_later store.slot (store.slot.end + length (spelling x)) store.space of.space));
+          (subst (λ (s : Slot). IsSpaceOf s (grown store.space s.end)) (sym slot_is) (next_space store.slot (length (spelling x)) 0 store.space of.space));
       placed = ap length places ∙ of.placed;
-      retained = (let is = retained_after x may in subst (λ (s : Slot). AreRetained s after.branches) (sym slot_is ∙ sym slot') (record { each = is.each; few = is.few }));
+      retained = (let is = retained_after x may in subst (λ (s : Slot). AreRetained s after.branches) (sym slot_is ∙ sym slot') (record { each = λ name. subst (λ (n : ℕ). IfSome (get after.branches name) (λ m. (store.slot.floor ≤ m) × (m < n))) (sym same_next) (is.each name); few = is.few }));
     }
 
     -- the space goes on as far
@@ -167,24 +145,31 @@ module _ (r : Repository) (store : Store) (of : IsOf store r) where
 
     module _ (a : Told) (held : Holds store a r) where
       pub can_rename : CanStep store.slot.end (1 - store.index) slot a
-      can_rename = may_step r after store slot (spelling x) of slot_after newer ends a held
+      can_rename = same_can_step store.slot.end store.slot.end store.index store.index slot next_live a refl refl slot_is (may_step r after store 0 (spelling x) of small low (omega arith) a held)
 
-      stands_new : (image : Image) → StandsAs (live_slot (1 - store.index) (slot_bytes slot)) (front_of store.slot.end a.held ++ spelling x) image → StandsFor image after
-      stands_new image (live, begins) = stands_renamed a.held image r store.slot x held.stands (held_has store r a held) may
-          (subst (λ (v : ℕ). Fits v x) (let l = of.slot.version_low in let h = of.slot.version_high in omega (arith, l, h)) fits)
-          (subst (λ (s : Slot). HasLive s image) slot_is (in_image (1 - store.index) slot image slot_after live)) begins
+      stands_new : (image : Image) → HasLive next_live image → AddsBytes store.slot (spelling x) a.held image → StandsFor image after
+      stands_new image live adds = stands_renamed a.held image r store.slot next_live x held.stands (held_has store r a held) may
+          (subst (λ (v : ℕ). Fits v x) (let l = of.slot.version_low in let h = of.slot.version_high in omega (arith, l, h)) fits) served live
+          (next_generation store.slot (length (spelling x)) 0) refl same_next adds
+
+      abbrev Step : Told → Result (Unit {0}) GroundFault → Type 0
+      Step b res = MakesStep store.slot.end (spelling x) (1 - store.index) slot res a b
+
+      to_next : (b : Told) (res : Result (Unit {0}) GroundFault) → Step b res → MakesStep store.slot.end (spelling x) (1 - store.index) next_live res a b
+      to_next b res step = same_step store.slot.end store.slot.end store.index store.index (spelling x) (spelling x) slot next_live res a b refl refl refl slot_is step
 
       pub was_renamed : (b : Told) (store' : Store) → store'.slot ≡ slot → store'.index ≡ 1 - store.index → store'.names ≡ store.names → store'.branches ≡ names_after Names.branches store.branches x → store'.history ≡ store.history
-          → store'.places.items ≡ store.places.items → store'.space ≡ grown store.space slot.end → MakesStep store.slot.end (spelling x) (1 - store.index) slot (Ok tt) a b → Changes {A = Unit {0}} r after (Ok tt) store' a b
+          → store'.places.items ≡ store.places.items → store'.space ≡ grown store.space slot.end → Step b (Ok tt) → Changes {A = Unit {0}} r after (Ok tt) store' a b
       was_renamed b store' slot' index names branches history places space step =
-          changed r after store slot (spelling x) of slot_after newer ends a held stands_new tt b store' slot' index (renamed_tables store' slot' index names branches history places space)
-          ((store.slot.end, x) ∷ []) (fits, tt) (refl, ends) (spelled_is store.slot.end x) (places ∙ sym (append-nil store.places.items) ∙ ap (λ (ps : List ℕ). store.places.items ++ ps) (sym (no_place r store.slot.end x may))) step
+          changed r after store 0 (spelling x) of small low (omega arith) a held stands_new b (to_next b (Ok tt) step)
+          ((store.slot.end, x) ∷ []) (fits, tt) (refl, refl) (spelled_is store.slot.end x) store' (slot' ∙ slot_is) index (renamed_tables store' slot' index names branches history places space)
+          (places ∙ sym (append-nil store.places.items) ∙ ap (λ (ps : List ℕ). store.places.items ++ ps) (sym (no_place r store.slot.end x may))) tt
 
       -- each record stays
-      pub stays_renamed : (b : Told) (store' : Store) (q : Repository) → MakesStep store.slot.end (spelling x) (1 - store.index) slot (Ok tt) a b → (now : Holds store' b q) → RecordsStay (image_records held) (image_records now)
+      pub stays_renamed : (b : Told) (store' : Store) (q : Repository) → Step b (Ok tt) → (now : Holds store' b q) → RecordsStay (image_records held) (image_records now)
       stays_renamed b store' q step now place y there =
-          let list = stays_on r after store slot (spelling x) of slot_after newer ends a held stands_new q b store' ((store.slot.end, x) ∷ []) (fits, tt) (refl, ends) (spelled_is store.slot.end x) step now in
+          let list = list_after r after store 0 (spelling x) of small low (omega arith) a held stands_new b (to_next b (Ok tt) step) ((store.slot.end, x) ∷ []) (fits, tt) (refl, refl) (spelled_is store.slot.end x) now.stands.standing in
           subst (λ (rs : Records). present rs place ≡ Some y) (sym list) (present_front held.stands.standing.records ((store.slot.end, x) ∷ []) place y there)
 
-      pub rename_cut : (b : Told) (store' : Store) (res : Result (Unit {0}) GroundFault) → MakesStep store.slot.end (spelling x) (1 - store.index) slot res a b → Changes {A = Unit {0}} r after (Err StoreFault.Ground) store' a b
-      rename_cut b store' res step = cut_short r after store slot (spelling x) of slot_after newer ends a held stands_new b store' res step
+      pub rename_cut : (b : Told) (store' : Store) (res : Result (Unit {0}) GroundFault) → Step b res → Changes {A = Unit {0}} r after (Err StoreFault.Ground) store' a b
+      rename_cut b store' res step = cut_short r after store 0 (spelling x) of small low (omega arith) a held stands_new b store' res (to_next b res step)

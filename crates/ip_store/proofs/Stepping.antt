@@ -1,48 +1,59 @@
 -- A durable step from a repository to the next one, whatever command takes it.
 --     may_step      what the durable step asks.      changed, cut_short      the relation of a call that was made, and of one that a fault cut short
+--     list_after      the records of the image after it
 --     same_tables, same_holds, same_changes      a store with the same tables.      changes_none      the relation of a call that was refused
 --     same_can_step, same_step      what a step asks and does, of a slot and bytes that are the same
-use Rattle.std.proofs.Common.{◌≡◌, ◌≢◌, ◌⊎◌, inl, inr, ℕ, ◌+◌, ◌-◌, ◌<◌, List, ◌++◌, length, take, refl, sym, ◌∙◌, ap, subst, arith, length-append}
+use Rattle.std.proofs.Common.{◌≡◌, ◌≢◌, ◌⊎◌, inl, inr, ℕ, ◌+◌, ◌-◌, ◌^◌, ◌<◌, ◌≤◌, List, ◌++◌, length, refl, sym, ◌∙◌, ap, subst, arith, length-append}
 use Rattle.std.specs.Prelude.{Option, Some, Result, Ok, Err, All}
-use Rattle.std.proofs.lemmas.List.{length-take-le}
-use Rattle.std.proofs.lemmas.List.Elements.{filter_map-append}
+use Rattle.std.specs.List.{AllByRecursion}
+use Rattle.std.proofs.lemmas.Bool.{cases_lt}
+use Rattle.std.proofs.lemmas.List.Elements.{filter_map-append, All-from_recursion}
 use Rattle.std.proofs.lemmas.Result.{on_ok_weaker}
+use Rattle.ip_ground.specs.declared.names.FileName.{FileName}
 use Rattle.ip_ground.specs.declared.names.FileName.TheVariants.{Control, Chunk}
 use Rattle.ip_ground.specs.declared.names.GroundFault.{GroundFault}
-use Rattle.ip_ground.specs.Contents.{Image, Possible, bytes_of}
+use Rattle.ip_ground.specs.Contents.{Content, Image, Possible, bytes_of}
+use Rattle.ip_ground.specs.Custody as custody
 use Rattle.ip_ground.specs.Told.{Told, NoFile, ChangesOnly}
 use Rattle.ip_ground.proofs.Durable.{kept_passes}
-use Rattle.ip_ground.proofs.Spans.{only_nowhere}
+use Rattle.ip_ground.proofs.Spans.{only_nowhere, only_more, lending_now, at_most}
 use Rattle.ip_spec.specs.declared.met.Met.{Met}
-use Rattle.ip_spec.specs.Record.{IsHash}
+use Rattle.ip_spec.specs.Record.{Fits, IsHash}
 use Rattle.ip_spec.specs.declared.record.Record.{Record}
 use Rattle.ip_spec.specs.TreeAt.{Records, present}
 use Rattle.ip_spec.specs.Batch.{AreEndToEnd}
 use Rattle.ip_spec.specs.Repository.{Repository}
 use Rattle.ip_image.specs.declared.slot.Slot.{Slot}
-use Rattle.ip_image.specs.declared.layout.Layout.{Layout}
 use Rattle.ip_image.specs.Slot.{IsSlot, IsLive, slot_bytes}
-use Rattle.ip_image.specs.Standing.{StandsFor, AreRetained}
-use Rattle.ip_image.specs.Appending.{BeginsWith, front_of, HasLive, next_slot, later_slot, bytes_of_records}
-use Rattle.ip_image.specs.Headline.{IsInOrder, Keeps, Secures}
-use Rattle.ip_image.proofs.HeadlineLaws.{begins_take}
-use Rattle.ip_image.proofs.InChunk.{in_chunk, all_inside}
+use Rattle.ip_image.specs.Virtual.{chunk_of, place_in_chunk, byte_of, chunk_byte}
+use Rattle.ip_image.specs.Standing.{Standing, StandsFor, AreRetained}
+use Rattle.ip_image.specs.Pending.{HasLive, crash_at, crash_now, SameSpace, NothingPending, AllFlushed, KeepsSpace}
+use Rattle.ip_image.specs.Appending.{AddsBytes, bytes_of_records}
+use Rattle.ip_image.specs.Headline.{IsAtomic, RecoversTo}
+use Rattle.ip_image.proofs.HeadlineLaws.{one_slot, same_generation_itself, flushed_less}
+use Rattle.ip_image.proofs.InChunk.{space_filled}
 use Rattle.ip_image.proofs.AppendingLaws.{stands_still}
+use Rattle.ip_image.proofs.RecordsOn.{records_go_on}
+use Rattle.ip_chunks.specs.Places.{NoGap}
+use Rattle.ip_chunks.specs.Fronts.{Leaves}
+use Rattle.ip_chunks.specs.Fronts as fronts
+use Rattle.ip_chunks.proofs.Behind.{byte_stays, no_gap_before}
 use Rattle.ip_history.specs.History.{HasParentsFirst}
 use Rattle.ip_control.specs.Live.{live_slot, live_of}
 use Rattle.ip_control.specs.Changes.{control}
 use Rattle.ip_control.proofs.LiveLaws.{is_live, live_from, spare_from, newer_from, reaches_from}
 use Rattle.ip_store.specs.declared.committing.StoreFault.{StoreFault}
 use Rattle.ip_store.specs.declared.store.Store.{Store}
-use Rattle.ip_store.specs.Changes.{HasAnswer, Changes}
-use Rattle.ip_store.specs.Publishing.{StandsAs, LeavesFront, CanStep, MakesStep, TheTwo}
-use Rattle.ip_space.specs.SpaceView.{SpaceView, IsReadable, OnlyReads, grown}
+use Rattle.ip_store.specs.Changes.{HasAnswer, Changes, next_slot}
+use Rattle.ip_store.specs.Publishing.{front_in, CanStep, MakesStep, IsWritten, MayChange, IsOfStore}
+use Rattle.ip_space.specs.SpaceView.{SpaceView, IsReadable, OnlyReads}
 use Rattle.ip_store.specs.Placed.{place_of, places_in, IsSpaceOf}
 use Rattle.ip_store.specs.Store.{IsOf, Holds, SameTables, image_records}
 use Rattle.ip_store.specs.Trees.{RecordsStay, OnlyLooks}
-use Rattle.ip_store.proofs.Listed.{AreNewest, readable_of, behind_list, same_list, same_records, holds_on}
+use Rattle.ip_store.proofs.Listed.{AreNewest, newest, readable_of, same_list, same_records, holds_on}
+use Rattle.ip_store.proofs.NextSlot.{next_is, next_generation}
 use Rattle.ip_store.proofs.Reading.{own}
-use Rattle.ip_store.proofs.Secured.{in_image, front_left, order_of, secures_now, orderly_step}
+use Rattle.ip_store.proofs.Recovering.{in_image, recovers_now, pending_of, front_left, front_end, same_space, adds_bytes, IsOld, IsNew, flushed_step}
 
 -- ---- tables
 
@@ -52,15 +63,16 @@ itself store = record { index = refl; slot = refl; names = refl; places = refl; 
 pub in_itself : (store : Store) (met : Met) → SameTables store (record store { met = met })
 in_itself store met = record { index = refl; slot = refl; names = refl; places = refl; branches = refl; history = refl; space = refl }
 
--- the space of a slot that follows
-pub space_next : (s : Slot) (end : ℕ) (space : SpaceView) → IsSpaceOf s space → IsSpaceOf (next_slot s end) (grown space end)
-space_next s end space is = record { layout = ap (λ (l : Layout). record l { end = end }) is.layout; runs = is.runs }
-
-pub space_later : (s : Slot) (end : ℕ) (space : SpaceView) → IsSpaceOf s space → IsSpaceOf (later_slot s end) (grown space end)
-space_later s end space is = record { layout = ap (λ (l : Layout). record l { end = end }) is.layout; runs = is.runs }
-
 pub space_same : (s t : Slot) (one other : SpaceView) → t ≡ s → other ≡ one → IsSpaceOf s one → IsSpaceOf t other
 space_same s t one other slot space is = subst (λ (u : Slot). IsSpaceOf u other) (sym slot) (subst (IsSpaceOf s) (sym space) is)
+
+-- calls that change no file leave the bytes of all records
+still_space : (s : Slot) → IsSlot s → (a b : Told) → ChangesOnly NoFile a b → SameSpace s a.held b.held
+still_space s is a b only = record {
+  chunks = λ at low high. byte_stays s.chunk at a b (λ number. at_most a b (Chunk number) (only.others (Chunk number) (λ none. none)));
+  mapping = λ live. absurd (live is.served);
+  prefix = λ live. absurd (live is.served);
+}
 
 module _ (store store' : Store) (same : SameTables store store') where
   pub same_tables : (r : Repository) → IsOf store r → IsOf store' r
@@ -91,12 +103,12 @@ module _ (store store' : Store) (same : SameTables store store') where
 
   -- and where no file was changed
   pub still_holds : (r : Repository) (a b : Told) → ChangesOnly NoFile a b → Holds store a r → Holds store' b r
-  still_holds r a b only held = same_holds r b (holds_on store a r held b ((only.others Control (λ none. none)).held (λ x. x)) ((only.others (Chunk 0) (λ none. none)).held (λ x. x)) (kept_passes Control own a b only held.kept))
+  still_holds r a b only held = same_holds r b (holds_on store a r held b ((only.others Control (λ none. none)).held (λ x. x)) (still_space store.slot held.tables.slot a b only) (kept_passes Control own a b only held.kept))
 
   -- by the same records
   pub still_records : (q r : Repository) (a b : Told) → ChangesOnly NoFile a b → (held : Holds store a q) (still : Holds store' b r) → image_records still ≡ image_records held
   still_records q r a b only held still =
-      ap (λ (rs : Records). present rs) (same_list store a q held b ((only.others Control (λ none. none)).held (λ x. x)) ((only.others (Chunk 0) (λ none. none)).held (λ x. x)) still.stands.standing)
+      ap (λ (rs : Records). present rs) (same_list store a q held b ((only.others Control (λ none. none)).held (λ x. x)) (still_space store.slot held.tables.slot a b only) still.stands.standing)
 
   pub looks : (a b : Told) → OnlyReads a b store.space store'.space → OnlyLooks a b store store'
   looks a b reads = record {
@@ -114,10 +126,12 @@ module _ (store store' : Store) (same : SameTables store store') where
     only = is.only;
     refused = λ ref. let both = is.refused ref in (both.0, same_holds r b both.1);
     ok = on_ok_weaker res (same_holds after b) is.ok;
-    keeps = is.keeps;
-    secures = is.secures;
-    secures_refused = is.secures_refused;
-    order = is.order;
+    atomic = is.atomic;
+    recovers = is.recovers;
+    recovers_refused = is.recovers_refused;
+    nothing_pending = is.nothing_pending;
+    flushed = is.flushed;
+    space = is.space;
   }
 
 pub out_of_itself : (store : Store) (met : Met) → SameTables (record store { met = met }) store
@@ -129,8 +143,36 @@ carried store store' back told r P so now = let held = same_holds store' store b
 
 -- ---- the files
 
-module _ (r after : Repository) (store : Store) (next : Slot) (bytes : List ℕ) (of : IsOf store r) (next_is : IsSlot next) (newer : store.slot.sequence < next.sequence) (ends : store.slot.end + length bytes ≡ next.end)
-    (a : Told) (held : Holds store a r) where
+-- what a call may change is of the store
+pub of_store : (image : Image) (file : FileName) → MayChange image file → IsOfStore file
+of_store image file may = elim may [ inl control ↦ inl control | inr chunk ↦ inr (chunk.0.chunk, chunk.2.0, chunk.2.2) ]
+
+-- what a crash leaves of bytes that an image has, place by place
+chunks_left : (size from end : ℕ) (bytes : List ℕ) (told : Told) (image : Image) → from + length bytes ≡ end → Leaves size from bytes told → fronts.Holds size from bytes image
+    → (at : ℕ) → from ≤ at → at < end → (content : Content) → told.may_leave told.moment (Chunk (chunk_of size at)) content → byte_of content (place_in_chunk size at) ≡ chunk_byte size image at
+chunks_left size from end bytes told image ends left holds at low high content here =
+    let place : from + (at - from) ≡ at = omega (arith, low) in
+    let inside : at - from < length bytes = omega (arith, low, high, ends) in
+    subst (λ (n : ℕ). told.may_leave told.moment (Chunk (chunk_of size n)) content → byte_of content (place_in_chunk size n) ≡ chunk_byte size image n) place
+    (λ may. left (at - from) inside content may ∙ sym (holds (at - from) inside)) here
+
+-- where no moment passed, nothing is pending that was not
+none_since : (a b : Told) (these : FileName → Type 0) → ChangesOnly these a b → b.moment ≤ a.moment → AllFlushed (crash_now a) → AllFlushed (crash_now b)
+none_since a b these only still flushed =
+    let same : b.moment ≡ a.moment = omega (arith, still, only.goes.later) in
+    flushed_less (crash_now a) (crash_now b) (λ file content left. subst (λ (t : ℕ). a.may_leave t file content) same (only.goes.left b.moment file content still left))
+    (λ attempt. lending_now a b only.goes attempt (only.lending attempt)) flushed
+
+module _ (r after : Repository) (store : Store) (commits : ℕ) (bytes : List ℕ) (of : IsOf store r) (small : store.slot.end + length bytes ≤ 2 ^ 62) (low : store.slot.sequence < 2 ^ 62) (few : commits ≤ length bytes) (a : Told) (held : Holds store a r) where
+  abbrev s : Slot
+  s = store.slot
+
+  abbrev next : Slot
+  next = next_slot store.slot (length bytes) commits
+
+  next_there : IsSlot next
+  next_there = next_is store.slot (length bytes) commits of.slot small low few
+
   old_live : live_of (control a) ≡ live_slot store.index (slot_bytes store.slot)
   old_live = live_from (control a) store.index store.slot held.live
 
@@ -140,137 +182,176 @@ module _ (r after : Repository) (store : Store) (next : Slot) (bytes : List ℕ)
   other : store.index ≢ 1 - store.index
   other e = let two = of.index in absurd (omega (arith, e))
 
+  filled : NoGap store.slot.chunk a.held store.slot.horizon store.slot.end
+  filled at between = space_filled a.held store.slot old_has held.stands.standing at between.1
+
   pub may_step : CanStep store.slot.end (1 - store.index) next a
   may_step = record {
-    long = all_inside (a.held (Chunk 0)) 0 (in_chunk a.held store.slot old_has r held.stands).records store.slot.end (omega arith) (in_chunk a.held store.slot old_has r held.stands).lies;
+    above = of.slot.horizon;
+    filled = filled;
+    reaches = no_gap_before store.slot.chunk store.slot.horizon store.slot.end a.held (let none = of.slot.none_live.0 of.slot.served in omega (arith, none)) filled;
     ready = record {
       kept = held.kept;
       reaches = reaches_from (control a) store.index (1 - store.index) store.slot held.live (omega arith) (λ e. other (sym e));
       spare = spare_from (control a) store.index (1 - store.index) store.slot held.live other;
     };
-    newer = newer_from (control a) store.index next.sequence store.slot held.live newer;
+    newer = newer_from (control a) store.index next.sequence store.slot held.live (omega arith);
   }
 
-  stands_old : (image : Image) → StandsAs (live_slot store.index (slot_bytes store.slot)) (front_of store.slot.end a.held) image → StandsFor image r
-  stands_old image (live, begins) = stands_still a.held image r store.slot held.stands old_has (in_image store.index store.slot image of.slot live) begins
+  abbrev front : List ℕ
+  front = front_in store.slot store.slot.end a.held
 
-  abbrev whole : List ℕ
-  whole = front_of store.slot.end a.held ++ bytes
+  front_leaves : NothingPending a → Leaves store.slot.chunk store.slot.horizon front a
+  front_leaves pending = front_left store.slot of.slot.horizon a.held filled (a.may_leave a.moment) (pending.chunks store.slot old_has)
 
-  front_size : length (front_of store.slot.end a.held) ≡ store.slot.end
-  front_size = length-take-le store.slot.end (bytes_of (a.held (Chunk 0))) may_step.long
+  whole_end : store.slot.horizon + length (front ++ bytes) ≡ next.end
+  whole_end = omega (arith, front_end store.slot of.slot.horizon a.held filled, length-append front bytes)
 
-  whole_end : length whole ≡ next.end
-  whole_end =
-      let front = front_size in
-      let both = length-append (front_of store.slot.end a.held) bytes in
-      omega (arith, front, both, ends)
+  stands_old : (image : Image) → live_of (image Control) ≡ live_slot store.index (slot_bytes store.slot) → SameSpace store.slot a.held image → StandsFor image r
+  stands_old image live same = stands_still a.held image r store.slot store.slot held.stands old_has (in_image store.index store.slot image of.slot live) (same_generation_itself store.slot) refl refl same
 
   abbrev NewStands : Type 0
-  NewStands = (image : Image) → StandsAs (live_slot (1 - store.index) (slot_bytes next)) (front_of store.slot.end a.held ++ bytes) image → StandsFor image after
+  NewStands = (image : Image) → HasLive next image → AddsBytes store.slot bytes a.held image → StandsFor image after
+
+  has_next : (image : Image) → live_of (image Control) ≡ live_slot (1 - store.index) (slot_bytes next) → HasLive next image
+  has_next image live = in_image (1 - store.index) next image next_there live
+
+  abbrev Step : Told → Result (Unit {0}) GroundFault → Type 0
+  Step b res = MakesStep store.slot.end bytes (1 - store.index) next res a b
+
+  drawn_at : (b : Told) (res : Result (Unit {0}) GroundFault) → Step b res → NothingPending a → (t : ℕ) → a.moment < t → t ≤ b.moment → (attempt : ℕ) → b.lending_at t attempt ≢ custody.own → attempt < store.slot.next_attempt
+  drawn_at b res step pending t late le attempt some = pending.drawn store.slot old_has attempt (λ none. some (step.only.lending attempt t late le ∙ none))
+
+  -- each image has the old slot live and the same bytes, or the next slot and these behind them
+  images_at : (b : Told) (res : Result (Unit {0}) GroundFault) → Step b res → NothingPending a → (t : ℕ) → a.moment < t → t ≤ b.moment → (image : Image) → Possible (b.may_leave t) image
+      → IsOld store.index store.slot a.held image ⊎ IsNew (1 - store.index) store.slot commits bytes a.held image
+  images_at b res step pending t late le image possible = elim (step.images (front_leaves pending) t image late le possible) [
+    | inl old ↦ inl (old.0 ∙ old_live, same_space store.slot of.slot.horizon a.held filled of.slot image old.1)
+    | inr new ↦ inr (new.0, adds_bytes store.slot of.slot.horizon a.held filled of.slot bytes image new.1)
+  ]
+
+  flushed_at : (b : Told) (res : Result (Unit {0}) GroundFault) → Step b res → NothingPending a → (t : ℕ) → a.moment < t → t ≤ b.moment → AllFlushed (crash_at b t)
+  flushed_at b res step pending t late le =
+      flushed_step (crash_at b t) store.index (1 - store.index) store.slot commits bytes a.held of.slot next_there other (drawn_at b res step pending t late le) (images_at b res step pending t late le)
+
+  -- whatever the answer is
+  pub flushed_now : (b : Told) (res : Result (Unit {0}) GroundFault) → Step b res → NothingPending a → AllFlushed (crash_now b)
+  flushed_now b res step pending = elim (cases_lt a.moment b.moment) [
+    | inl later ↦ flushed_at b res step pending b.moment later (omega arith)
+    | inr still ↦ none_since a b (IsWritten store.slot.chunk store.slot.end) step.only still (recovers_now store r a held pending).flushed
+  ]
+
+  pub keeps_space : (b : Told) (res : Result (Unit {0}) GroundFault) → Step b res → NothingPending a → (u : Slot) → HasLive u a.held → KeepsSpace u a b
+  keeps_space b res step pending u has t late le image possible =
+      subst (λ (v : Slot). SameSpace v a.held image) (one_slot store.slot u a.held old_has has) (elim (images_at b res step pending t late le image possible) [ inl old ↦ old.1 | inr new ↦ new.1.same ])
+
+  pub only_changes : (b : Told) (res : Result (Unit {0}) GroundFault) → Step b res → ChangesOnly (MayChange a.held) a b
+  only_changes b res step = only_more a b (IsWritten store.slot.chunk store.slot.end) (MayChange a.held) (λ file written. elim written [ inl control ↦ inl control | inr chunk ↦ inr (store.slot, old_has, chunk) ]) step.only
 
   module _ (stands_new : NewStands) where
-    keeps_of : (b : Told) (res : Result (Unit {0}) GroundFault) → MakesStep store.slot.end bytes (1 - store.index) next res a b → IsInOrder a → Keeps a b r after
-    keeps_of b res step order t late le = record {
-      stands = λ image possible. elim (images image possible) [
-        | inl old ↦ inl (stands_old image old)
-        | inr new ↦ inr (stands_new image new)
+    atomic_of : (b : Told) (res : Result (Unit {0}) GroundFault) → Step b res → NothingPending a → IsAtomic a b r after
+    atomic_of b res step pending t late le = record {
+      stands = λ image possible. elim (images_at b res step pending t late le image possible) [
+        | inl old ↦ inl (stands_old image old.0 old.1)
+        | inr new ↦ inr (stands_new image (has_next image new.0) new.1)
       ];
-      orderly = orderly_step (b.may_leave t) store.index (1 - store.index) store.slot next (front_of store.slot.end a.held) whole of.slot next_is other front_size whole_end images;
+      flushed = flushed_at b res step pending t late le;
     }
-      where
-        images : (image : Image) → Possible (b.may_leave t) image
-            → StandsAs (live_slot store.index (slot_bytes store.slot)) (front_of store.slot.end a.held) image ⊎ StandsAs (live_slot (1 - store.index) (slot_bytes next)) (front_of store.slot.end a.held ++ bytes) image
-        images image possible = elim (step.images (front_left store r a held order) t image late le possible) [
-          | inl old ↦ inl (old.0 ∙ old_live, old.1)
-          | inr new ↦ inr new
-        ]
 
     -- it was made, of these records
-    pub changed : {A : Type 0} (x : A) (b : Told) (store' : Store) → store'.slot ≡ next → store'.index ≡ 1 - store.index → IsOf store' after
-        → (more : Records) → AreNewest more → AreEndToEnd store.slot.end more next.end → bytes ≡ bytes_of_records more → store'.places.items ≡ store.places.items ++ places_in more
-        → MakesStep store.slot.end bytes (1 - store.index) next (Ok tt) a b → Changes r after (Ok x) store' a b
-    changed x b store' slot index tables more fit lie spelled places step = record {
-      only = step.only;
-      refused = λ r. absurd (cc (r.0));
-      ok = holds;
-      keeps = keeps_of b (Ok tt) step;
-      secures = λ order. secures_now store' after b holds order_now;
-      secures_refused = λ order r. absurd (cc (r.0));
-      order = λ order some. order_now;
-    }
-      where
-        live_now : IsLive (bytes_of (b.held Control)) store'.index store'.slot
-        live_now = subst (λ (i : ℕ). IsLive (bytes_of (b.held Control)) i store'.slot) (sym index)
-            (subst (λ (s : Slot). IsLive (bytes_of (b.held Control)) (1 - store.index) s) (sym slot) (is_live (b.held Control) (1 - store.index) next step.held.0 next_is))
+    module _ (b : Told) (step : Step b (Ok tt)) where
+      has_now : HasLive next b.held
+      has_now = has_next b.held step.held.0
 
-        list : (stands_new b.held step.held).standing.records ≡ held.stands.standing.records ++ more
-        list = behind_list a.held b.held store.slot next old_has (in_image (1 - store.index) next b.held next_is step.held.0) held.stands.standing (stands_new b.held step.held).standing more fit lie
-            (subst (λ (bs : List ℕ). BeginsWith (front_of store.slot.end a.held ++ bs) (b.held (Chunk 0))) spelled step.held.1)
+      adds_now : AddsBytes store.slot bytes a.held b.held
+      adds_now = adds_bytes store.slot of.slot.horizon a.held filled of.slot bytes b.held step.held.1
 
-        holds : Holds store' b after
-        holds = record {
-          tables = tables;
-          stands = stands_new b.held step.held;
-          live = live_now;
-          kept = step.kept;
-          readable = readable_of store' after b tables;
-          places = places ∙ ap (λ (ps : List ℕ). ps ++ places_in more) held.places ∙ sym (filter_map-append place_of held.stands.standing.records more) ∙ ap places_in (sym list);
-        }
+      stands_now : StandsFor b.held after
+      stands_now = stands_new b.held has_now adds_now
 
-        end_is : store'.slot.end ≡ length whole
-        end_is = ap (λ (s : Slot). s.end) slot ∙ sym whole_end
+      module _ (more : Records) (fit : AreNewest more) (lie : AreEndToEnd store.slot.end more next.end) (spelled : bytes ≡ bytes_of_records more) where
+        -- whichever proof says that it stands, each record of the image before is one of the image after
+        pub list_after : (B : Standing b.held) → B.records ≡ held.stands.standing.records ++ more
+        list_after B = records_go_on a.held b.held store.slot next more held.stands.standing B old_has has_now (next_generation store.slot (length bytes) commits) lie
+            (All-from_recursion (λ (x : ℕ × Record). Fits next.version x.1) more (subst (λ (v : ℕ). AllByRecursion (λ (x : ℕ × Record). Fits v x.1) more) (sym (newest store.slot of.slot)) fit))
+            (subst (λ (bs : List ℕ). AddsBytes store.slot bs a.held b.held) spelled adds_now)
 
-        front_is : front_of store'.slot.end b.held ≡ whole
-        front_is = ap (λ (n : ℕ). take n (bytes_of (b.held (Chunk 0)))) end_is ∙ begins_take whole (b.held (Chunk 0)) step.held.1
+        module _ (store' : Store) (slot : store'.slot ≡ next) (index : store'.index ≡ 1 - store.index) (tables : IsOf store' after) (places : store'.places.items ≡ store.places.items ++ places_in more) where
+          live_now : IsLive (bytes_of (b.held Control)) store'.index store'.slot
+          live_now = subst (λ (i : ℕ). IsLive (bytes_of (b.held Control)) i store'.slot) (sym index)
+              (subst (λ (u : Slot). IsLive (bytes_of (b.held Control)) (1 - store.index) u) (sym slot) (is_live (b.held Control) (1 - store.index) next step.held.0 next_there))
 
-        order_now : IsInOrder b
-        order_now = order_of store' after b holds (subst (λ front. LeavesFront front b) (sym front_is) step.front)
+          holds : Holds store' b after
+          holds = record {
+            tables = tables;
+            stands = stands_now;
+            live = live_now;
+            kept = step.kept;
+            readable = readable_of store' after b tables;
+            places = places ∙ ap (λ (ps : List ℕ). ps ++ places_in more) held.places ∙ sym (filter_map-append place_of held.stands.standing.records more) ∙ ap places_in (sym (list_after stands_now.standing));
+          }
 
-    -- each record of the image before is one of the image after, whichever proof says that it stands
-    pub stays_on : (q : Repository) (b : Told) (store' : Store) → (more : Records) → AreNewest more → AreEndToEnd store.slot.end more next.end → bytes ≡ bytes_of_records more
-        → MakesStep store.slot.end bytes (1 - store.index) next (Ok tt) a b → (now : Holds store' b q) → (now.stands.standing.records ≡ held.stands.standing.records ++ more)
-    stays_on q b store' more fit lie spelled step now =
-        behind_list a.held b.held store.slot next old_has (in_image (1 - store.index) next b.held next_is step.held.0) held.stands.standing now.stands.standing more fit lie
-        (subst (λ (bs : List ℕ). BeginsWith (front_of store.slot.end a.held ++ bs) (b.held (Chunk 0))) spelled step.held.1)
+          pending_now : NothingPending a → NothingPending b
+          pending_now pending = pending_of next b next_there has_now
+              (chunks_left store.slot.chunk store.slot.horizon next.end (front ++ bytes) b b.held whole_end (step.front (front_leaves pending)) step.held.1)
+              (λ attempt some. pending.drawn store.slot old_has attempt (λ none. some (lending_now a b step.only.goes attempt (step.only.lending attempt) ∙ none)))
+
+          pub changed : {A : Type 0} (x : A) → Changes r after (Ok x) store' a b
+          changed x = record {
+            only = only_changes b (Ok tt) step;
+            refused = λ ref. absurd (cc (ref.0));
+            ok = holds;
+            atomic = atomic_of b (Ok tt) step;
+            recovers = λ pending. recovers_now store' after b holds (pending_now pending);
+            recovers_refused = λ pending ref. absurd (cc (ref.0));
+            nothing_pending = λ pending some. pending_now pending;
+            flushed = flushed_now b (Ok tt) step;
+            space = keeps_space b (Ok tt) step;
+          }
 
     -- a fault of the ground cut it short
-    pub cut_short : {A : Type 0} (b : Told) (store' : Store) (res : Result (Unit {0}) GroundFault) → MakesStep store.slot.end bytes (1 - store.index) next res a b → Changes {A = A} r after (Err StoreFault.Ground) store' a b
+    pub cut_short : {A : Type 0} (b : Told) (store' : Store) (res : Result (Unit {0}) GroundFault) → Step b res → Changes {A = A} r after (Err StoreFault.Ground) store' a b
     cut_short b store' res step = record {
-      only = step.only;
-      refused = λ r. absurd (r.1);
+      only = only_changes b res step;
+      refused = λ ref. absurd (ref.1);
       ok = tt;
-      keeps = keeps_of b res step;
-      secures = λ order. tt;
-      secures_refused = λ order r. absurd (r.1);
-      order = λ order some. absurd some;
+      atomic = atomic_of b res step;
+      recovers = λ pending. tt;
+      recovers_refused = λ pending ref. absurd (ref.1);
+      nothing_pending = λ pending some. absurd some;
+      flushed = flushed_now b res step;
+      space = keeps_space b res step;
     }
 
 -- it was refused, of a store with the same tables
 pub changes_none : {A : Type 0} (r after : Repository) (fault : StoreFault) (store store' : Store) (a : Told)
     → SameTables store store' → Holds store a r → Changes {A = A} r after (Err fault) store' a a
 changes_none r after fault store store' a same held = record {
-  only = only_nowhere a TheTwo;
+  only = only_nowhere a (MayChange a.held);
   refused = λ _. (only_nowhere a NoFile, same_holds store store' same r a held);
   ok = tt;
-  keeps = λ order t late le. absurd (omega (arith, late, le));
-  secures = λ order. tt;
-  secures_refused = λ order _ t low high.
+  atomic = λ order t late le. absurd (omega (arith, late, le));
+  recovers = λ order. tt;
+  recovers_refused = λ order _ t low high.
       let now : t ≡ a.moment = omega (arith, low, high) in
-      subst (λ (n : ℕ). Secures (a.may_leave n) r) (sym now) (secures_now store r a held order);
-  order = λ order some. order;
+      subst (λ (n : ℕ). RecoversTo (crash_at a n) r) (sym now) (recovers_now store r a held order);
+  nothing_pending = λ order some. order;
+  flushed = λ order. (recovers_now store r a held order).flushed;
+  space = λ order u has t late le. absurd (omega (arith, late, le));
 }
 
 -- nothing was called
 pub changes_still : {A : Type 0} (x : A) (r : Repository) (store : Store) (a : Told) → Holds store a r → Changes r r (Ok x) store a a
 changes_still x r store a held = record {
-  only = only_nowhere a TheTwo;
+  only = only_nowhere a (MayChange a.held);
   refused = λ ref. absurd (cc (ref.0));
   ok = held;
-  keeps = λ order t late le. absurd (omega (arith, late, le));
-  secures = λ order. secures_now store r a held order;
-  secures_refused = λ order ref. absurd (cc (ref.0));
-  order = λ order some. order;
+  atomic = λ order t late le. absurd (omega (arith, late, le));
+  recovers = λ order. recovers_now store r a held order;
+  recovers_refused = λ order ref. absurd (cc (ref.0));
+  nothing_pending = λ order some. order;
+  flushed = λ order. (recovers_now store r a held order).flushed;
+  space = λ order u has t late le. absurd (omega (arith, late, le));
 }
 
 -- the same with another value, and as the fault of another call
@@ -279,10 +360,12 @@ with_value x y r after store a b is = record {
   only = is.only;
   refused = λ ref. absurd (cc (ref.0));
   ok = is.ok;
-  keeps = is.keeps;
-  secures = is.secures;
-  secures_refused = λ order ref. absurd (cc (ref.0));
-  order = λ order some. is.order order tt;
+  atomic = is.atomic;
+  recovers = is.recovers;
+  recovers_refused = λ order ref. absurd (cc (ref.0));
+  nothing_pending = λ order some. is.nothing_pending order tt;
+  flushed = is.flushed;
+  space = is.space;
 }
 
 pub with_answer : (A B : Type 0) (fault : StoreFault) → HasAnswer {A = B} (Err fault) → HasAnswer {A = A} (Err fault)
@@ -298,15 +381,19 @@ with_fault {A = A} {B = B} fault r after store a b is = record {
   only = is.only;
   refused = λ ref. is.refused (refl, with_answer A B fault ref.1);
   ok = tt;
-  keeps = is.keeps;
-  secures = λ order. tt;
-  secures_refused = λ order ref. is.secures_refused order (refl, with_answer A B fault ref.1);
-  order = λ order has. is.order order (with_answer A B fault has);
+  atomic = is.atomic;
+  recovers = λ order. tt;
+  recovers_refused = λ order ref. is.recovers_refused order (refl, with_answer A B fault ref.1);
+  nothing_pending = λ order has. is.nothing_pending order (with_answer A B fault has);
+  flushed = is.flushed;
+  space = is.space;
 }
 
-pub same_can_step : (end end' index index' : ℕ) (slot : Slot) (a : Told) → end ≡ end' → index ≡ index' → CanStep end' (1 - index') slot a → CanStep end (1 - index) slot a
-same_can_step end end' index index' slot a ends indexes can = subst (λ (i : ℕ). CanStep end (1 - i) slot a) (sym indexes) (subst (λ (e : ℕ). CanStep e (1 - index') slot a) (sym ends) can)
+pub same_can_step : (end end' index index' : ℕ) (slot slot' : Slot) (a : Told) → end ≡ end' → index ≡ index' → slot ≡ slot' → CanStep end' (1 - index') slot' a → CanStep end (1 - index) slot a
+same_can_step end end' index index' slot slot' a ends indexes slots can =
+    subst (λ (u : Slot). CanStep end (1 - index) u a) (sym slots) (subst (λ (i : ℕ). CanStep end (1 - i) slot' a) (sym indexes) (subst (λ (e : ℕ). CanStep e (1 - index') slot' a) (sym ends) can))
 
-pub same_step : (end end' index index' : ℕ) (bytes bytes' : List ℕ) (slot : Slot) (res : Result (Unit {0}) GroundFault) (a b : Told) → end ≡ end' → index ≡ index' → bytes ≡ bytes' → MakesStep end bytes (1 - index) slot res a b → MakesStep end' bytes' (1 - index') slot res a b
-same_step end end' index index' bytes bytes' slot res a b ends indexes same step =
-    subst (λ (e : ℕ). MakesStep e bytes' (1 - index') slot res a b) ends (subst (λ bs. MakesStep end bs (1 - index') slot res a b) same (subst (λ (i : ℕ). MakesStep end bytes (1 - i) slot res a b) indexes step))
+pub same_step : (end end' index index' : ℕ) (bytes bytes' : List ℕ) (slot slot' : Slot) (res : Result (Unit {0}) GroundFault) (a b : Told) → end ≡ end' → index ≡ index' → bytes ≡ bytes' → slot ≡ slot' → MakesStep end bytes (1 - index) slot res a b → MakesStep end' bytes' (1 - index') slot' res a b
+same_step end end' index index' bytes bytes' slot slot' res a b ends indexes same slots step =
+    subst (λ (u : Slot). MakesStep end' bytes' (1 - index') u res a b) slots
+    (subst (λ (e : ℕ). MakesStep e bytes' (1 - index') slot res a b) ends (subst (λ bs. MakesStep end bs (1 - index') slot res a b) same (subst (λ (i : ℕ). MakesStep end bytes (1 - i) slot res a b) indexes step)))

@@ -1,19 +1,15 @@
 -- The walk over records, step by step.
 --     good_push, named_push      one good record behind those before it
---     takes_good      a record that the audit took.      some_bytes, beyond_push      offsets ascend
---     stands_front, stands_behind, front_of      bytes that stand, in two parts, and a front of bytes by its members
-use Rattle.std.proofs.Common.{◌≡◌, ℕ, zero, suc, ◌+◌, ◌<◌, ◌≤◌, List, [], ◌∷◌, ◌++◌, length, drop, refl, sym, ◌∙◌, ap, subst, arith, append_assoc, append-nil, length-append}
-use Rattle.std.specs.Prelude.{slice_get, Option, Some}
+--     takes_good      a record that the audit took.      beyond_push      offsets ascend
+use Rattle.std.proofs.Common.{◌≡◌, ℕ, ◌<◌, List, [], ◌∷◌, ◌++◌, sym, ◌∙◌, ap, subst, arith, append_assoc, append-nil}
 use Rattle.std.proofs.lemmas.List.Elements.{filter_map-append}
 use Rattle.std.proofs.lemmas.List.Sums.{fold-append}
 use Rattle.ip_spec.specs.declared.record.Record.{Record}
-use Rattle.ip_spec.specs.Record.{Names, Fits, spelling}
+use Rattle.ip_spec.specs.Record.{Names, Fits}
 use Rattle.ip_spec.specs.TreeAt.{Records}
-use Rattle.ip_spec.specs.Path.{Bytes}
 use Rattle.ip_image.specs.declared.slot.Slot.{Slot}
 use Rattle.ip_image.specs.declared.terms.Terms.{Terms}
 use Rattle.ip_image.specs.Slot.{IsSlot}
-use Rattle.ip_image.specs.Virtual.{Stands}
 use Rattle.ip_image.specs.Standing.{terms_of, RecordFits, IsServedKind, IsGood, AreGood, named, names_after}
 use Rattle.ip_audit.specs.Audits.{Audited, IsBeyond}
 use Rattle.ip_store.specs.declared.walk.Found.{Found}
@@ -65,38 +61,3 @@ module _ (s : Slot) (before : Records) (at : ℕ) (r : Record) (old new : Found)
           parents_first = subst HasParentsFirst (sym history) (first_after old.history r tells.parents_first enters);
         },
       )
-
--- ---- bytes that stand
-
-pub some_bytes : (r : Record) → 0 < length (spelling r)
-unfolding spelling
-some_bytes r = omega arith
-
-within : (xs ys : Bytes) (k : ℕ) → k < length xs → slice_get (xs ++ ys) k ≡ slice_get xs k
-within [] ys k below = absurd (omega arith)
-within (x ∷ xs) ys zero below = refl
-within (x ∷ xs) ys (suc k) below = within xs ys k (omega (arith, below))
-
-behind : (xs ys : Bytes) (k : ℕ) → slice_get (xs ++ ys) (length xs + k) ≡ slice_get ys k
-behind [] ys k = let e : 0 + k ≡ k = omega arith in ap (slice_get ys) e
-behind (x ∷ xs) ys k = let e : suc (length xs) + k ≡ suc (length xs + k) = omega arith in ap (slice_get (x ∷ (xs ++ ys))) e ∙ behind xs ys k
-
-pub stands_front : (bytes_at : ℕ → Option ℕ) (at : ℕ) (xs ys : Bytes) → Stands bytes_at at (xs ++ ys) → Stands bytes_at at xs
-stands_front bytes_at at xs ys stands k below = stands k (let l = length-append xs ys in omega (arith, l, below)) ∙ within xs ys k below
-
-pub stands_behind : (bytes_at : ℕ → Option ℕ) (at : ℕ) (xs ys : Bytes) → Stands bytes_at at (xs ++ ys) → Stands bytes_at (at + length xs) ys
-stands_behind bytes_at at xs ys stands k below =
-    let e : at + length xs + k ≡ at + (length xs + k) = omega arith in
-    ap bytes_at e ∙ stands (length xs + k) (let l = length-append xs ys in omega (arith, l, below)) ∙ behind xs ys k
-
--- bytes that agree with a list as far as that goes have it in front
-pub front_of : (xs ys : Bytes) → length xs ≤ length ys → ((k : ℕ) → k < length xs → slice_get ys k ≡ slice_get xs k) → ys ≡ xs ++ drop (length xs) ys
-front_of [] [] long same = refl
-front_of [] (y ∷ ys) long same = refl
-front_of (x ∷ xs) [] long same = absurd (omega (arith, long))
-front_of (x ∷ xs) (y ∷ ys) long same =
-    let first : y ≡ x = same_some y x (same 0 (omega arith)) in
-    (λ i. first i ∷ front_of xs ys (omega (arith, long)) (λ k below. same (suc k) (omega (arith, below))) i)
-  where
-    same_some : (a b : ℕ) → Some a ≡ Some b → a ≡ b
-    same_some a b e = cc

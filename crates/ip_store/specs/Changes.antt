@@ -2,15 +2,18 @@
 --     HasAnswer result      it is no fault of the ground or of its files.      IsRefused result      another answer than Ok and those faults
 --     IsUndamaged result      it is no fault of the files
 --     Changes r after result store old new      what it does to what a ground tells, and what the store holds then
+--     next_slot s length commits      the slot of a durable step.      IsNextSlot s length commits result      it, or which limit is met
 --     LimitsSpace end result store      which limit is met
-use Rattle.std.specs.Prelude.{◌≡◌, ℕ, ◌^◌, ◌<◌, ◌≤◌, IsErr, IsErrOf, Result, Err, OnOk}
+use Rattle.std.specs.Prelude.{◌≡◌, ℕ, ◌+◌, ◌^◌, ◌<◌, ◌≤◌, IsErr, IsErrOf, Result, Ok, Err, OnOk}
 use Rattle.ip_base.specs.declared.limit.Limit.{Limit}
 use Rattle.ip_ground.specs.Told.{Told, NoFile, ChangesOnly}
 use Rattle.ip_spec.specs.Repository.{Repository}
-use Rattle.ip_image.specs.Headline.{IsInOrder, Keeps, Secures}
+use Rattle.ip_image.specs.declared.slot.Slot.{Slot}
+use Rattle.ip_image.specs.Pending.{HasLive, crash_at, crash_now, NothingPending, AllFlushed, KeepsSpace}
+use Rattle.ip_image.specs.Headline.{IsAtomic, RecoversTo}
 use Rattle.ip_store.specs.declared.committing.StoreFault.{StoreFault}
 use Rattle.ip_store.specs.declared.store.Store.{Store}
-use Rattle.ip_store.specs.Publishing.{TheTwo}
+use Rattle.ip_store.specs.Publishing.{MayChange}
 use Rattle.ip_store.specs.Store.{Holds}
 
 abbrev pub HasAnswer : {A : Type 0} → Result A StoreFault → Type 0
@@ -27,15 +30,29 @@ abbrev pub IsRefused : {A : Type 0} → Result A StoreFault → Type 0
 IsRefused result = IsErr result × HasAnswer result
 
 pub record Changes {A : Type 0} (r after : Repository) (result : Result A StoreFault) (store : Store) (old new : Told) : Type 0 where
-  pub only : ChangesOnly TheTwo old new
+  pub only : ChangesOnly (MayChange old.held) old new
   -- a refused call changes nothing
   pub refused : IsRefused result → ChangesOnly NoFile old new × Holds store new r
   pub ok : OnOk result (Holds store new after)
-  -- from a ground in order: at every moment whatever a crash leaves stands for the repository before or after the call, and once it is answered for the latter alone
-  pub keeps : IsInOrder old → Keeps old new r after
-  pub secures : IsInOrder old → OnOk result (Secures (new.may_leave new.moment) after)
-  pub secures_refused : IsInOrder old → IsRefused result → (t : ℕ) → old.moment ≤ t → t ≤ new.moment → Secures (new.may_leave t) r
-  pub order : IsInOrder old → HasAnswer result → IsInOrder new
+  -- Where nothing was pending: at every moment whatever a crash leaves stands for the repository before or after the call, and once it is answered for the latter alone.
+  pub atomic : NothingPending old → IsAtomic old new r after
+  pub recovers : NothingPending old → OnOk result (RecoversTo (crash_now new) after)
+  pub recovers_refused : NothingPending old → IsRefused result → (t : ℕ) → old.moment ≤ t → t ≤ new.moment → RecoversTo (crash_at new t) r
+  -- Once it is answered nothing is pending, and whatever the answer is, nothing is of any image that a crash may leave.
+  pub nothing_pending : NothingPending old → HasAnswer result → NothingPending new
+  pub flushed : NothingPending old → AllFlushed (crash_now new)
+  -- what a child may read that runs meanwhile stays as it was at the start
+  pub space : NothingPending old → (s : Slot) → HasLive s old.held → KeepsSpace s old new
+
+-- the slot of a durable step, behind so many bytes of records and so many commits
+abbrev pub next_slot : Slot → ℕ → ℕ → Slot
+next_slot s length commits = record s { sequence = s.sequence + 1; end = s.end + length; next = s.next + commits }
+
+abbrev pub IsNextSlot : Slot → ℕ → ℕ → Result Slot StoreFault → Type 0
+IsNextSlot s length commits (Ok next) = (next ≡ next_slot s length commits) × (s.end + length ≤ 2 ^ 62) × (s.sequence < 2 ^ 62)
+IsNextSlot s length commits (Err (StoreFault.Limit Limit.Space)) = 2 ^ 62 < s.end + length
+IsNextSlot s length commits (Err (StoreFault.Limit Limit.Sequence)) = (s.end + length ≤ 2 ^ 62) × (2 ^ 62 ≤ s.sequence)
+IsNextSlot s length commits (Err fault) = ⊥
 
 -- the place after the call's records would pass the greatest one, or the slot's sequence is the greatest
 pub record LimitsSpace {A : Type 0} (end : ℕ) (result : Result A StoreFault) (store : Store) : Type 0 where

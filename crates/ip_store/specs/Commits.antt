@@ -27,8 +27,7 @@ use Rattle.ip_spec.specs.Step.{IsMet, turned, Refused, Turned, new_commit, with_
 use Rattle.ip_spec.specs.Tree.{Tree}
 use Rattle.ip_spec.specs.TreeAt.{Records}
 use Rattle.ip_spec.specs.View.{View}
-use Rattle.ip_image.specs.declared.slot.Slot.{Slot}
-use Rattle.ip_image.specs.Appending.{next_slot, fields_of, grown_batch, grown_end, bytes_of_records, AreWithin, MayGrow}
+use Rattle.ip_image.specs.Appending.{fields_of, grown_batch, grown_end, bytes_of_records, AreWithin, MayGrow}
 use Rattle.ip_save.specs.Batches.{IsBatch}
 use Rattle.ip_save.specs.declared.batch.Batch.{Batch}
 use Rattle.ip_tree.specs.TreeView.{IsView, stored_view}
@@ -37,7 +36,7 @@ use Rattle.ip_store.specs.declared.store.Store.{Store}
 use Rattle.ip_store.specs.declared.work.Work.{Work}
 use Rattle.ip_store.specs.declared.committing.Plan.{Plan}
 use Rattle.ip_store.specs.declared.committing.StoreFault.{StoreFault}
-use Rattle.ip_store.specs.Changes.{Changes}
+use Rattle.ip_store.specs.Changes.{Changes, next_slot}
 use Rattle.ip_store.specs.Placed.{places_in}
 use Rattle.ip_store.specs.Store.{IsOf}
 use Rattle.ip_store.specs.Work.{AreParents, IsAt, session}
@@ -101,13 +100,6 @@ IsRefusal r work v branch info fault = IfSome (fault_reply fault) (λ reply. Tur
 abbrev pub parent_named : Repository → ℕ → Parent
 parent_named r n = record { number = n; name = name_at r n }
 
--- the slot behind the live one, where so many bytes of records follow
-abbrev pub SlotBehind : Slot → ℕ → Result Slot StoreFault → Type 0
-SlotBehind s length (Ok next) = (next ≡ next_slot s (s.end + length)) × (s.end + length ≤ 2 ^ 62) × (s.sequence < 2 ^ 62)
-SlotBehind s length (Err (StoreFault.Limit Limit.Space)) = 2 ^ 62 < s.end + length
-SlotBehind s length (Err (StoreFault.Limit Limit.Sequence)) = (s.end + length ≤ 2 ^ 62) × (2 ^ 62 ≤ s.sequence)
-SlotBehind s length (Err fault) = ⊥
-
 -- why there is no batch, where its records would pass the greatest end
 abbrev pub IsPastTheEnd : Repository → View → Batches.CommitFields → StoreFault → Type 0
 IsPastTheEnd r v f (StoreFault.Existing name) = not_existing r (Batches.batch_name v f) ≡ Err (Reply.Existing name)
@@ -144,7 +136,7 @@ pub record IsNext (r : Repository) (branch : Bytes) (store : Store) (plan : Plan
   pub room : len (insert r.branches branch (next r)) ≤ 4096
   pub parents : plan.parents ≡ next r ∷ []
   pub some : 0 < length plan.batch.bytes.items
-  pub slot : plan.slot ≡ next_slot store.slot (store.slot.end + length plan.batch.bytes.items)
+  pub slot : plan.slot ≡ next_slot store.slot (length plan.batch.bytes.items) 1
   pub ends : store.slot.end + length plan.batch.bytes.items ≤ 2 ^ 62
   pub sequence : store.slot.sequence < 2 ^ 62
 

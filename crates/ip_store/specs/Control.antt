@@ -10,9 +10,5 @@ use Rattle.ip_image.specs.Slot.{fresh_control}
 abbrev pub control_in : Image → Bytes
 control_in image = bytes_of (image Control)
 
--- bytes in a chunk of a store that `serve` opens
-abbrev pub default_chunk : ℕ
-default_chunk = 1048576
-
 abbrev pub IsFresh : ℕ → Image → Type 0
 IsFresh chunk image = take 256 (control_in image) ≡ fresh_control chunk

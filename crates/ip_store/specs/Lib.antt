@@ -11,6 +11,5 @@ pub mod Entries
 pub mod Publishing
 pub mod Store
 pub mod Walk
-pub mod Window
 pub mod Work
 pub mod Trees

@@ -1,9 +1,8 @@
 -- What calls on branches answer, and do.
 --     AnswersBranch r command met reply store      the reply and the next state are the machine's, for what was met, and the store's tables are the next repository's
 --     branch_reply, removed_reply      the reply; a fault of the ground has none, nor has one of its files
---     SlotLater s length result      the slot behind the live one, where so many bytes of records follow that are no commit
 --     Names r x result store old new      the tables after a record of a branch, or without it
-use Rattle.std.specs.Prelude.{◌≡◌, ℕ, List, ◌+◌, ◌^◌, ◌<◌, ◌≤◌, true, false, Bool, Option, Some, Result, Ok, Err}
+use Rattle.std.specs.Prelude.{◌≡◌, ℕ, List, true, false, Bool, Option, Some, Result, Ok, Err}
 use Rattle.ip_base.specs.declared.limit.Limit.{Limit}
 use Rattle.ip_spec.specs.declared.met.Met.{Met}
 use Rattle.ip_spec.specs.declared.record.Record.{Record}
@@ -14,8 +13,7 @@ use Rattle.ip_spec.specs.Path.{Bytes}
 use Rattle.ip_spec.specs.Map.{remove}
 use Rattle.ip_spec.specs.Repository.{Repository}
 use Rattle.ip_spec.specs.Step.{resolve}
-use Rattle.ip_image.specs.declared.slot.Slot.{Slot}
-use Rattle.ip_image.specs.Appending.{later_slot, renamed}
+use Rattle.ip_image.specs.Appending.{renamed}
 use Rattle.ip_store.specs.declared.committing.StoreFault.{StoreFault}
 use Rattle.ip_store.specs.declared.store.Store.{Store}
 use Rattle.ip_spec.specs.Machine.{Work}
@@ -50,12 +48,6 @@ AnswersRemove r name met store reply = AnswersBranch r (Command.BranchRm name) m
 
 abbrev pub without_branch : Repository → Bytes → Repository
 without_branch r name = record r { branches = remove r.branches name }
-
-abbrev pub SlotLater : Slot → ℕ → Result Slot StoreFault → Type 0
-SlotLater s length (Ok next) = (next ≡ later_slot s (s.end + length)) × (s.end + length ≤ 2 ^ 62) × (s.sequence < 2 ^ 62)
-SlotLater s length (Err (StoreFault.Limit Limit.Space)) = 2 ^ 62 < s.end + length
-SlotLater s length (Err (StoreFault.Limit Limit.Sequence)) = (s.end + length ≤ 2 ^ 62) × (2 ^ 62 ≤ s.sequence)
-SlotLater s length (Err fault) = ⊥
 
 -- the faults of a call that appends a record of a branch, and the tables after it
 abbrev pub Renames : Repository → Record → Result (Unit {0}) StoreFault → Store → Type 0

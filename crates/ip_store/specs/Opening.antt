@@ -2,11 +2,13 @@
 use Rattle.std.specs.Prelude.{◌≡◌, ℕ, ◌<◌, ◌≤◌, None, IsSome, Result, OnOk, IfOk, IsErrOf}
 use Rattle.ip_ground.specs.declared.names.FileName.{FileName}
 use Rattle.ip_ground.specs.declared.names.FileName.TheVariants.{Control}
-use Rattle.ip_ground.specs.Told.{Told, ChangesOnly, SyncsOnly, Only, NoFile, IsKept, EachImageNow}
+use Rattle.ip_ground.specs.Custody.{own}
+use Rattle.ip_ground.specs.Told.{Told, lending, ChangesOnly, SyncsOnly, Only, NoFile, IsKept, EachImageNow}
 use Rattle.ip_spec.specs.Repository.{Repository, no_repository}
 use Rattle.ip_image.specs.Slot.{live_index}
 use Rattle.ip_image.specs.Standing.{StandsFor, NoStore, DamagedAt}
-use Rattle.ip_image.specs.Headline.{IsInOrder, Secures}
+use Rattle.ip_image.specs.Pending.{crash_at, NothingPending}
+use Rattle.ip_image.specs.Headline.{RecoversTo}
 use Rattle.ip_store.specs.declared.store.InitFault.{InitFault}
 use Rattle.ip_store.specs.declared.opening.OpenFault.{OpenFault}
 use Rattle.ip_store.specs.declared.store.Store.{Store}
@@ -25,14 +27,15 @@ pub record Makes (chunk : ℕ) (result : Result (Unit {0}) InitFault) (old new :
   pub made : OnOk result (IsFresh chunk new.held)
   pub kept : OnOk result (IsKept new Control)
   pub stands : OnOk result (EachImageNow new (λ image. StandsFor image no_repository))
-  pub order : OnOk result (IsInOrder new)
+  -- and nothing is pending, where no attempt was ever lent
+  pub nothing_pending : ((attempt : ℕ) → lending old attempt ≡ own) → OnOk result (NothingPending new)
 
 -- From a moment of opening on, that of its sync, whatever a crash leaves stands for the repository that the files stood for, where the ground was in order.
-pub record SecuresOpening (old new : Told) : Type 0 where
+pub record RecoversOnceOpen (old new : Told) : Type 0 where
   pub since : ℕ
   pub begins : old.moment < since
-  pub secures : (r : Repository) → StandsFor old.held r → IsInOrder old → (t : ℕ) → since ≤ t → t ≤ new.moment → Secures (new.may_leave t) r
-  pub order : IsInOrder old → IsInOrder new
+  pub recovers : (r : Repository) → StandsFor old.held r → NothingPending old → (t : ℕ) → since ≤ t → t ≤ new.moment → RecoversTo (crash_at new t) r
+  pub nothing_pending : NothingPending old → NothingPending new
 
 pub record Opens (result : Result Store OpenFault) (old new : Told) : Type 0 where
   -- no file changes at any moment, and none but the control file is synced, nothing is said, none is lent or settled
@@ -41,5 +44,5 @@ pub record Opens (result : Result Store OpenFault) (old new : Told) : Type 0 whe
   pub damaged : (file : FileName) (at : ℕ) → IsErrOf result (OpenFault.Damaged file at) → DamagedAt new.held file at
   pub holds : IfOk result (λ store. IsSound store new)
   -- every answer but a fault of the ground comes after the sync, where there is a control file
-  pub opening : SecuresOpening old new
+  pub opening : RecoversOnceOpen old new
   pub reached : IsReached result → IsSome (old.held Control) → opening.since ≤ new.moment

@@ -18,8 +18,8 @@ ghost use Rattle.ip_spec.specs.View.{View};
 ghost use Rattle.ip_spec.specs.declared.record.Record.{Record};
 ghost use Rattle.ip_tree.specs.TreeView.{IsView};
 ghost use Rattle.ip_store.specs.declared.committing.StoreFault.TheVariants as StoreFault;
-ghost use Rattle.ip_store.specs.Commits.{parent_named, reply_to, refused_by, met_by, SlotBehind, IsRefusal, IsNewBatch, IsNext, IsPlan, IsPastTheEnd, end_of, Answers, Commits, GoesOn, IsSaved};
-ghost use Rattle.ip_store.specs.Changes.{HasAnswer, IsUndamaged, LimitsSpace};
+ghost use Rattle.ip_store.specs.Commits.{parent_named, reply_to, refused_by, met_by, IsRefusal, IsNewBatch, IsNext, IsPlan, IsPastTheEnd, end_of, Answers, Commits, GoesOn, IsSaved};
+ghost use Rattle.ip_store.specs.Changes.{HasAnswer, IsUndamaged, IsNextSlot, LimitsSpace};
 ghost use Rattle.ip_store.specs.Histories.{with_parents, MayEnter};
 ghost use Rattle.ip_store.specs.Store.{IsOf, Holds, SameTables, image_records};
 ghost use Rattle.ip_store.specs.Trees.{RecordsStay};
@@ -41,7 +41,7 @@ use ip_tree::Tree;
 use std::alloc::Global;
 
 /// Of offsets and sequences.
-pub(crate) const GREATEST: u64 = 1 << 62;
+const GREATEST: u64 = 1 << 62;
 
 /// Why a call of the store did nothing.
 #[derive(Clone, Copy, Debug, PartialEq, Eq)]
@@ -247,10 +247,11 @@ impl Store {
         Ok(parents)
     }
 
-    // The slot behind the live one, where so many bytes of records follow.
-    fn slot_behind(&self, length: usize) -> Result<Slot, StoreFault>
-        requires { IsSlot self.now.slot }
-        ensures { SlotBehind self.now.slot length result }
+    // The slot of a durable step, behind so many bytes of records and so many commits.
+    pub(crate) fn next_slot(&self, length: usize, commits: u64) -> Result<Slot, StoreFault>
+        requires slot { IsSlot self.now.slot }
+        requires few { commits ≤ 1 }
+        ensures { IsNextSlot self.now.slot length commits result }
     {
         if length as u64 > GREATEST - self.slot.end {
             return Err(StoreFault::Limit(Limit::Space));
@@ -261,7 +262,7 @@ impl Store {
         Ok(Slot {
             sequence: self.slot.sequence + 1,
             end: self.slot.end + length as u64,
-            next: self.slot.next + 1,
+            next: self.slot.next + commits,
             ..self.slot
         })
     }
@@ -373,7 +374,7 @@ impl Store {
         self.room_for(branch)?;
         let fields = self.fields(alloc, work.parents.as_slice(), branch, info)?;
         let batch = self.new_batch(alloc, &work.tree, &fields)?;
-        let slot = self.slot_behind(batch.bytes().len())?;
+        let slot = self.next_slot(batch.bytes().len(), 1)?;
         let parents = only(alloc, fields.number)?;
         Ok(Plan {
             number: fields.number,

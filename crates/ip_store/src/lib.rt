@@ -15,12 +15,11 @@ mod store;
 mod tests;
 mod trees;
 mod walk;
-mod window;
 mod work;
 
 pub use branches::Branches;
 pub use committing::StoreFault;
 pub use opening::OpenFault;
 pub use show::Shown;
-pub use store::{DEFAULT_CHUNK, InitFault, Store, chunk_allowed};
+pub use store::{InitFault, Store, chunk_allowed};
 pub use work::{Work, leaves_only, works_stay};

@@ -5,21 +5,20 @@ ghost use Rattle.ip_spec.specs.Record.{Fits, IsBranchName, spelling};
 ghost use Rattle.ip_spec.specs.Repository.{Repository, head, is_retained};
 ghost use Rattle.ip_spec.specs.Step.{with_branch, room_for_branch};
 ghost use Rattle.ip_spec.specs.declared.record.Record.TheVariants as Record;
-ghost use Rattle.ip_image.specs.Slot.{IsSlot};
+ghost use Rattle.ip_image.specs.Standing.{IsServedKind};
 ghost use Rattle.ip_image.specs.Appending.{MayName, renamed};
 ghost use Rattle.ip_store.specs.Changes.{Changes, HasAnswer, IsUndamaged, LimitsSpace};
 ghost use Rattle.ip_store.specs.Commits.{met_by};
-ghost use Rattle.ip_store.specs.Naming.{branch_reply, removed_reply, AnswersSet, AnswersRemove, without_branch, SlotLater, Renames};
+ghost use Rattle.ip_store.specs.Naming.{branch_reply, removed_reply, AnswersSet, AnswersRemove, without_branch, Renames};
 ghost use Rattle.ip_store.specs.Store.{IsOf, Holds, IsSound, image_records};
 ghost use Rattle.ip_store.specs.Trees.{RecordsStay};
 ghost use Rattle.ip_store.specs.declared.committing.StoreFault.TheVariants as StoreFault;
 
-use crate::committing::{GREATEST, met_by};
+use crate::committing::met_by;
 use crate::publish::durable_step;
 use crate::walk::name_branch;
 use crate::{Store, StoreFault};
-use ip_base::{Blob, Limit, Memory, Number};
-use ip_control::Slot;
+use ip_base::{Blob, Memory, Number};
 use ip_ground::Ground;
 use ip_object::encode_into;
 use ip_spec::record::Record;
@@ -55,24 +54,6 @@ fn spelled(alloc: Global, rec: &Record) -> Result<Vec<u8>, Memory>
 }
 
 impl Store {
-    // The slot behind the live one, where so many bytes of records follow that are no commit.
-    fn slot_later(&self, length: usize) -> Result<Slot, StoreFault>
-        requires { IsSlot self.now.slot }
-        ensures { SlotLater self.now.slot length result }
-    {
-        if length as u64 > GREATEST - self.slot.end {
-            return Err(StoreFault::Limit(Limit::Space));
-        }
-        if self.slot.sequence >= GREATEST {
-            return Err(StoreFault::Limit(Limit::Sequence));
-        }
-        Ok(Slot {
-            sequence: self.slot.sequence + 1,
-            end: self.slot.end + length as u64,
-            ..self.slot
-        })
-    }
-
     // Appends a record of a branch, and changes the branches as it says.
     fn rename<G: Ground>(
         &mut self,
@@ -82,6 +63,7 @@ impl Store {
     ) -> Result<(), StoreFault>
         requires tables { (r : Repository) × IsOf self.old r × MayName r rec }
         requires fits { Fits 1 rec }
+        requires served { IsServedKind rec }
         requires held { IsTrue G.tells → IsSound self.old (G.told outside.old) }
         ensures tables { (r : Repository) → IsOf self.old r → MayName r rec → Renames r rec result self.new }
         ensures limits { LimitsSpace (self.old.slot.end + length (spelling rec)) result self.old }
@@ -95,7 +77,7 @@ impl Store {
     {
         let spelled = spelled(alloc, &rec)?;
         let bytes = spelled.as_slice();
-        let slot = self.slot_later(bytes.len())?;
+        let slot = self.next_slot(bytes.len(), 0)?;
         name_branch(&mut self.branches, rec)?;
         durable_step(outside, self.slot.end, bytes, 1 - self.index, &slot)?;
         self.index = 1 - self.index;

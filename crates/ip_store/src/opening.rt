@@ -57,7 +57,8 @@ impl From<Memory> for OpenFault {
 
 impl Store {
     /// Opens the store: it reads each byte of its records once, and keeps the names of the commits, where their records lie, and the
-    /// branches. Besides these it takes memory for a buffer of two mebibytes at most and for one record. `NoStore` and `Damaged` are final; after the other two it
+    /// branches. It reads by the mebibyte, and besides these it takes memory for one record and for a buffer, which has no more than a
+    /// mebibyte and the bytes of the longest record, as its head tells them. `NoStore` and `Damaged` are final; after the other two it
     /// may be tried again.
     pub fn open_at<G: Ground>(alloc: Global, outside: &mut G) -> Result<Store, OpenFault>
         ensures tables { IfOk result (λ store. (r : Repository) × IsOf store r) }
@@ -67,8 +68,8 @@ impl Store {
         ensures cause { IsErrOf result OpenFault.Ground → Rose (G.counts_of outside.old).file_faults (G.counts_of outside.new).file_faults }
     {
         let (index, slot) = find_slot(outside)?;
-        let found = read_records(alloc, outside, &slot)?;
         let space = space_of(alloc, outside, &slot);
+        let found = read_records(alloc, outside, &slot, &space)?;
         finish(index, slot, found, space)
     }
 }
@@ -410,7 +411,8 @@ mod tests {
             .ok_or("control")?;
         ground.write(CHUNK, 0, &chunk).ok().ok_or("chunk")?;
         assert_eq!(&rt; Store::open_at(alloc, &mut ground).is_ok(), true);
-        assert_eq!(&rt; ground.reads(CHUNK), 2);
+        // Three reads of 1048576 bytes each, and one of the 15 that are left.
+        assert_eq!(&rt; ground.reads(CHUNK), 4);
         Ok(())
     }
 }

@@ -1,15 +1,15 @@
-// A durable step: records behind the end of the chunk, and then a slot that names their end.
-ghost use Rattle.std.specs.Prelude.{◌≡◌, ◌<◌, ◌≤◌, IsTrue, OnErr};
-ghost use Rattle.ip_ground.specs.Contents.{size_of};
-ghost use Rattle.ip_ground.specs.declared.names.FileName.TheVariants.{Chunk};
+// A durable step: records behind the end, and then a slot that names their end.
+ghost use Rattle.std.specs.Prelude.{◌+◌, ◌^◌, ◌<◌, ◌≤◌, length, IsTrue, OnErr};
 ghost use Rattle.ip_ground.specs.Counts.{NoneFalls, Rose};
-ghost use Rattle.ip_store.specs.Publishing.{CanStep, WritesRecords, MakesStep};
+ghost use Rattle.ip_image.specs.Slot.{IsChunkSize};
+ghost use Rattle.ip_store.specs.Publishing.{CanStep, MakesStep};
 
+use ip_chunks::Chunks;
 use ip_control::{Slot, open_gate, prepare};
-use ip_ground::{FileName, Ground, GroundFault};
+use ip_ground::{Ground, GroundFault};
 
-/// Writes records at `end`, an offset up to which the chunk reaches, and makes them durable; then it makes slot 0 or 1, which is not live, ready with these
-/// fields, and opens its gate. Nothing of the control file may be pending. After a fault something may be.
+/// Appends records at `end`, an offset up to which the chunks have no gap, and syncs the chunks that hold them; then it makes slot 0 or 1, which is not
+/// live, ready with these fields, and opens its gate. Nothing of the control file may be pending. After a fault something may be.
 pub fn durable_step<G: Ground>(
     outside: &mut G,
     end: u64,
@@ -18,24 +18,16 @@ pub fn durable_step<G: Ground>(
     fields: &Slot,
 ) -> Result<(), GroundFault>
     requires which { slot < 2 }
+    requires chunk { IsChunkSize fields.now.chunk }
+    requires room { end + length bytes.now ≤ 2 ^ 62 }
     requires sound { IsTrue G.tells → CanStep end slot fields.now (G.told outside.old) }
     ensures does { IsTrue G.tells → MakesStep end bytes.now slot fields.now result (G.told outside.old) (G.told outside.new) }
     ensures counts { NoneFalls (G.counts_of outside.old) (G.counts_of outside.new) }
     ensures cause { OnErr result (Rose (G.counts_of outside.old).file_faults (G.counts_of outside.new).file_faults) }
 {
-    write_records(outside, end, bytes)?;
+    let chunks = Chunks { size: fields.chunk };
+    chunks.append(outside, end, bytes)?;
+    chunks.sync_range(outside, end, end + bytes.len() as u64)?;
     prepare(outside, slot, fields)?;
     open_gate(outside, slot)
-}
-
-// The records, behind all that is there.
-fn write_records<G: Ground>(outside: &mut G, end: u64, bytes: &[u8]) -> Result<(), GroundFault>
-    requires { IsTrue G.tells → end ≤ size_of ((G.told outside.old).held (Chunk 0)) }
-    ensures does { IsTrue G.tells → WritesRecords end bytes.now result (G.told outside.old) (G.told outside.new) }
-    ensures counts { NoneFalls (G.counts_of outside.old) (G.counts_of outside.new) }
-    ensures cause { OnErr result (Rose (G.counts_of outside.old).file_faults (G.counts_of outside.new).file_faults) }
-{
-    outside.write(FileName::Chunk(0), end, bytes)?;
-    outside.sync(FileName::Chunk(0))?;
-    Ok(())
 }

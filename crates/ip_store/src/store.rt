@@ -22,9 +22,6 @@ use ip_spec::met::{Met, Phase};
 use ip_spec::reply::{Head, Heads};
 use std::alloc::Global;
 
-/// The bytes of a chunk where nothing else was asked for.
-pub const DEFAULT_CHUNK: u64 = 1048576;
-
 /// Whether a store may have chunks of so many bytes: a power of two from 4096 to 2^30.
 pub fn chunk_allowed(chunk: u64) -> bool
     ensures { IsTrue result ↔ IsChunkSize chunk }

@@ -1,29 +1,28 @@
 // The walk over a store's records: each is read once, in the order of the offsets, and tested behind those before it.
-ghost use Rattle.std.specs.Prelude.{◌≡◌, ◌↔◌, ℕ, [], ◌∷◌, ◌++◌, ◌<◌, map, IsTrue, IfOk, OnOk, OnErr, IsErrOf};
+ghost use Rattle.std.specs.Prelude.{◌≡◌, ◌↔◌, ℕ, [], ◌∷◌, ◌++◌, ◌<◌, ◌≤◌, map, Option, Err, IsTrue, IsFalse, IfOk, OnOk, OnErr, IsErrOf};
 ghost use Rattle.ip_ground.specs.Counts.{NoneFalls, Rose};
 ghost use Rattle.ip_ground.specs.Told.{NoFile, ChangesOnly};
 ghost use Rattle.ip_spec.specs.Record.{Names, Fits};
-ghost use Rattle.ip_image.specs.Slot.{IsSlot};
+ghost use Rattle.ip_spec.specs.declared.record.Record.{Record};
+ghost use Rattle.ip_image.specs.Slot.{newest_version, IsSlot};
 ghost use Rattle.ip_image.specs.Standing.{IsServedKind, names_after};
-ghost use Rattle.ip_store.specs.Placed.{places_in};
-ghost use Rattle.ip_store.specs.Window.{chunk, IsWindow};
+ghost use Rattle.ip_space.specs.SpaceView.{IsReadable};
+ghost use Rattle.ip_space.specs.Fetching.{BlamesPlace};
+ghost use Rattle.ip_store.specs.Placed.{places_in, IsSpaceOf};
 ghost use Rattle.ip_store.specs.Histories.{RecordEnters, history_after};
 ghost use Rattle.ip_spec.specs.declared.record.Parent.{Parent};
-ghost use Rattle.ip_store.specs.Walk.{ReadsFront, ReadsServed, Tells, TellsSome, TakesOne, TakesFront, Walks, Covers, BadRecord};
+ghost use Rattle.ip_store.specs.Walk.{Tells, TellsSome, TakesOne, IsPlaced, IsUnread, TakesRead, Walks, Covers, BadRecord};
 ghost use Rattle.ip_store.specs.declared.opening.OpenFault.TheVariants as OpenFault;
-ghost use Rattle.ip_spec.specs.declared.record.RecordFault.TheVariants as RecordFault;
 ghost use Rattle.ip_ground.specs.declared.names.FileName.{FileName};
-ghost use Rattle.ip_ground.specs.declared.names.FileName.TheVariants.{Chunk};
 
-use crate::window::Window;
 use crate::{Branches, OpenFault};
 use ip_audit::{Audit, AuditFault, Terms};
 use ip_base::{Memory, Number, Numbers};
 use ip_control::Slot;
-use ip_ground::{FileName, Ground};
+use ip_ground::Ground;
 use ip_history::Table;
-use ip_object::read_record;
-use ip_spec::record::{Parent, Record, RecordFault};
+use ip_space::{FetchFault, Scan, Space};
+use ip_spec::record::{Parent, Record};
 use std::alloc::Global;
 
 /// Entries of one directory, which is one leaf.
@@ -155,117 +154,103 @@ fn is_served(rec: &Record) -> bool
     }
 }
 
-// Whether memory was wanted. Any other fault says that there is no record.
-fn is_memory(fault: RecordFault) -> bool
-    ensures { IsTrue result ↔ (fault ≡ RecordFault.Memory) }
+// What shows that the files are no store's: no good record stands at this offset, which lies in some file.
+fn damaged_at(space: &Space, at: u64) -> OpenFault
+    requires { space.now.layout.horizon ≤ at }
+    ensures { IsPlaced space.now at result }
 {
-    matches!(fault, RecordFault::Memory)
-}
-
-/// The record that the bytes begin with, and its length in bytes.
-fn read_front(alloc: Global, version: u32, bytes: &[u8]) -> Result<Option<(Record, u64)>, Memory>
-    ensures { ReadsFront version bytes.now result }
-{
-    match read_record(alloc, version, bytes) {
-        Ok((rec, length)) => Ok(Some((rec, length))),
-        Err(fault) if is_memory(fault) => Err(Memory),
-        Err(_) => Ok(None),
+    match space.lies_at(at) {
+        Some((file, place)) => OpenFault::Damaged { file, at: place },
+        None => unreachable!(),
     }
 }
 
-/// That record, if it is served.
-fn read_served(alloc: Global, version: u32, bytes: &[u8]) -> Result<Option<(Record, u64)>, Memory>
-    ensures { ReadsServed version bytes.now result }
+// Why the walk found no record at some place.
+fn unread(space: &Space, fault: FetchFault) -> OpenFault
+    requires { (place : ℕ) × (space.now.layout.horizon ≤ place) × BlamesPlace {A = Option (ℕ × Record)} place (Err fault) }
+    ensures { IsUnread space.now fault result }
 {
-    let Some((rec, length)) = read_front(alloc, version, bytes)? else {
-        return Ok(None);
-    };
-    if is_served(&rec) {
-        Ok(Some((rec, length)))
-    } else {
-        Ok(None)
+    match fault {
+        FetchFault::Ground => OpenFault::Ground,
+        FetchFault::Form { at, .. } => damaged_at(space, at),
+        FetchFault::Name { .. } => unreachable!(),
+        FetchFault::Memory => OpenFault::Memory,
     }
 }
 
-// What shows that the files are no store's: no good record stands at this place of the chunk.
-fn damaged_at(at: u64) -> OpenFault
-    ensures { result ≡ OpenFault.Damaged (Chunk 0) at }
-{
-    OpenFault::Damaged {
-        file: FileName::Chunk(0),
-        at,
-    }
-}
-
-// Takes the record that the window has in front, and goes on behind it.
-fn take_front(
+// Takes a record that was read, where it is a good one.
+fn take_read(
     alloc: Global,
-    version: u32,
-    window: &mut Window,
+    space: &Space,
+    at: u64,
+    rec: Record,
     found: &mut Found,
 ) -> Result<(), OpenFault>
-    requires window { IsWindow window.old }
-    requires told { TellsSome window.old.at found.old }
-    ensures window { IsWindow window.new }
-    ensures takes { TakesFront version window.old window.new found.old found.new result }
+    requires above { space.now.layout.horizon ≤ at }
+    requires told { TellsSome at found.old }
+    requires bounds { Fits newest_version rec }
+    ensures { TakesRead space.now at rec found.old found.new result }
 {
-    let at = window.at();
-    let Some((rec, length)) = read_served(alloc, version, window.bytes())? else {
-        return Err(damaged_at(at));
-    };
+    if !is_served(&rec) {
+        return Err(damaged_at(space, at));
+    }
     match found.take(alloc, at, rec) {
-        Ok(()) => {
-            window.pass(length as usize);
-            Ok(())
-        }
-        Err(AuditFault::Fails) => Err(damaged_at(at)),
+        Ok(()) => Ok(()),
+        Err(AuditFault::Fails) => Err(damaged_at(space, at)),
         Err(AuditFault::Memory) => Err(OpenFault::Memory),
     }
 }
 
-// Reads and takes the next record, of which there is one where the window is not at the end.
+// Reads and takes the next record; false at the end of the walk.
 fn take_next<G: Ground>(
     alloc: Global,
     outside: &mut G,
     slot: &Slot,
-    window: &mut Window,
+    space: &Space,
+    scan: &mut Scan,
     found: &mut Found,
-) -> Result<(), OpenFault>
+) -> Result<bool, OpenFault>
     requires slot { IsSlot slot.now }
-    requires window { IsWindow window.old }
-    requires more { window.old.at < slot.now.end }
-    requires walks { Walks slot.now G.tells (chunk (G.told outside.old)) window.old found.old }
-    ensures window { IsWindow window.new }
-    ensures further { OnOk result (window.old.at < window.new.at) }
-    ensures walks { OnOk result (Walks slot.now G.tells (chunk (G.told outside.new)) window.new found.new) }
-    ensures damaged { IsTrue G.tells → (file : FileName) (at : ℕ) → IsErrOf result (OpenFault.Damaged file at) → BadRecord slot.now (chunk (G.told outside.new)) file at }
+    requires space { IsSpaceOf slot.now space.now }
+    requires walks { Walks slot.now G.tells (G.told outside.old) space.now scan.old found.old }
+    ensures walks { IfOk result (λ more. Walks slot.now G.tells (G.told outside.new) space.now scan.new found.new) }
+    ensures further { IfOk result (λ more. IsTrue more → (scan.old.next < scan.new.next) × (scan.old.next < slot.now.end)) }
+    ensures ends { IfOk result (λ more. IsFalse more → slot.now.end ≤ scan.new.next) }
+    ensures damaged { IsTrue G.tells → (file : FileName) (at : ℕ) → IsErrOf result (OpenFault.Damaged file at) → BadRecord slot.now (G.told outside.new) space.now file at }
     ensures there { IsErrOf result OpenFault.NoStore → ⊥ }
     ensures only { IsTrue G.tells → ChangesOnly NoFile (G.told outside.old) (G.told outside.new) }
     ensures counts { NoneFalls (G.counts_of outside.old) (G.counts_of outside.new) }
     ensures cause { IsErrOf result OpenFault.Ground → Rose (G.counts_of outside.old).file_faults (G.counts_of outside.new).file_faults }
 {
-    window.fill(outside)?;
-    take_front(alloc, slot.version, window, found)
+    match scan.step(outside, space) {
+        Ok(None) => Ok(false),
+        Ok(Some((at, rec))) => match take_read(alloc, space, at, rec, found) {
+            Ok(()) => Ok(true),
+            Err(fault) => Err(fault),
+        },
+        Err(fault) => Err(unread(space, fault)),
+    }
 }
 
-/// Reads all records of a store with this slot.
+/// Reads all records of a store with this slot, from the horizon to the end of its space.
 pub fn read_records<G: Ground>(
     alloc: Global,
     outside: &mut G,
     slot: &Slot,
+    space: &Space,
 ) -> Result<Found, OpenFault>
-    requires { IsSlot slot.now }
-    ensures covers { IfOk result (λ found. Covers slot.now G.tells (chunk (G.told outside.new)) found) }
-    ensures damaged { IsTrue G.tells → (file : FileName) (at : ℕ) → IsErrOf result (OpenFault.Damaged file at) → BadRecord slot.now (chunk (G.told outside.new)) file at }
+    requires slot { IsSlot slot.now }
+    requires space { IsSpaceOf slot.now space.now }
+    requires readable { IsTrue G.tells → IsReadable (G.told outside.old) space.now }
+    ensures covers { IfOk result (λ found. Covers slot.now G.tells (G.told outside.new) space.now found) }
+    ensures damaged { IsTrue G.tells → (file : FileName) (at : ℕ) → IsErrOf result (OpenFault.Damaged file at) → BadRecord slot.now (G.told outside.new) space.now file at }
     ensures there { IsErrOf result OpenFault.NoStore → ⊥ }
     ensures only { IsTrue G.tells → ChangesOnly NoFile (G.told outside.old) (G.told outside.new) }
     ensures counts { NoneFalls (G.counts_of outside.old) (G.counts_of outside.new) }
     ensures cause { IsErrOf result OpenFault.Ground → Rose (G.counts_of outside.old).file_faults (G.counts_of outside.new).file_faults }
 {
-    let mut window = Window::new(alloc, slot.end)?;
+    let mut scan = space.scan(slot.horizon, slot.end);
     let mut found = Found::new(alloc, slot);
-    while window.at() < slot.end {
-        take_next(alloc, outside, slot, &mut window, &mut found)?;
-    }
+    while take_next(alloc, outside, slot, space, &mut scan, &mut found)? {}
     Ok(found)
 }

@@ -1,4 +1,4 @@
-use Rattle.std.proofs.Common.{◌≡◌, ◌-◌, ◌^◌, ◌≤◌, ◌++◌, [], ◌∷◌, ℕ, None, rules, refl, sym, ◌∙◌, ap, subst}
+use Rattle.std.proofs.Common.{◌≡◌, ◌+◌, ◌-◌, ◌^◌, ◌≤◌, ◌++◌, length, [], ◌∷◌, ℕ, None, rules, refl, sym, ◌∙◌, ap, subst}
 use Rattle.std.specs.Prelude.{Err, IfSome, Some, position}
 use Rattle.ip_spec.specs.declared.command.Command.TheVariants as Command
 use Rattle.ip_spec.specs.Path.{same_bytes}
@@ -6,6 +6,7 @@ use Rattle.ip_spec.specs.Map.{insert}
 use Rattle.ip_spec.specs.Step.{new_commit, with_commit}
 use Rattle.ip_spec.specs.TreeAt.{present}
 use Rattle.ip_image.specs.declared.slot.Slot.{Slot}
+use Rattle.ip_image.specs.Slot.{IsChunkSize}
 use Rattle.ip_image.proofs.SpelledCommits.{present_front}
 use Rattle.ip_space.specs.SpaceView.{SpaceView, grown}
 use Rattle.ip_store.specs.declared.committing.StoreFault.TheVariants as StoreFault
@@ -54,9 +55,20 @@ pub durable_step-requires-clause-sound : goal.durable_step-requires-clause-sound
 durable_step-requires-clause-sound g c told =
     let r = (c.requires.held told).0 in
     let held = (c.requires.held told).2.holds in
-    same_can_step c.enter.new.self.slot.end c.args.self.now.slot.end c.enter.new.self.index c.args.self.now.index c.in_ok-plan.plan.slot (g.G.Ground.told c.args.outside.now)
-    (ap (λ (s : Slot). s.end) c.enter.ensures.rest.1) c.enter.ensures.rest.0
-    (can_step r c.args.work.now.parents c.args.branch.now c.args.info c.args.self.now c.in_ok-plan.plan held.tables (c.in_ok-plan.ensures.coming r held.tables) (g.G.Ground.told c.args.outside.now) held)
+    same_can_step c.enter.new.self.slot.end c.args.self.now.slot.end c.enter.new.self.index c.args.self.now.index c.in_ok-plan.plan.slot c.in_ok-plan.plan.slot (g.G.Ground.told c.args.outside.now)
+    (ap (λ (s : Slot). s.end) c.enter.ensures.rest.1) c.enter.ensures.rest.0 refl
+    (can_step r c.args.branch.now c.args.self.now c.in_ok-plan.plan held.tables (c.in_ok-plan.ensures.coming r held.tables) (g.G.Ground.told c.args.outside.now) held)
+
+pub durable_step-requires-clause-chunk : goal.durable_step-requires-clause-chunk
+durable_step-requires-clause-chunk g c =
+    let of = c.requires.tables.1 in
+    let is = c.in_ok-plan.ensures.coming c.requires.tables.0 of in
+    subst (λ (s : Slot). IsChunkSize s.chunk) (sym is.slot) of.slot.chunk
+
+pub durable_step-requires-clause-room : goal.durable_step-requires-clause-room
+durable_step-requires-clause-room g c =
+    let is = c.in_ok-plan.ensures.coming c.requires.tables.0 c.requires.tables.1 in
+    subst (λ (s : Slot). s.end + length c.bytes.result.now ≤ 2 ^ 62) (sym c.enter.ensures.rest.1) (subst (λ bytes. c.args.self.now.slot.end + length bytes ≤ 2 ^ 62) (sym c.bytes.ensures) is.ends)
 
 -- ---- refused
 
@@ -117,8 +129,8 @@ returns-in_err-durable_step-clause-does g c told r v at =
     let is : c.from_residual-in_err-durable_step.result ≡ Err StoreFault.Ground = search rules in
     let plan = c.in_ok-plan.plan in
     let of = at.holds.tables in
-    let step = same_step c.enter.new.self.slot.end c.args.self.now.slot.end c.enter.new.self.index c.args.self.now.index c.bytes.result.now plan.batch.bytes.items plan.slot _ (g.G.Ground.told c.args.outside.now) (g.G.Ground.told c.durable_step.new.outside)
-    (ap (λ (s : Slot). s.end) c.enter.ensures.rest.1) c.enter.ensures.rest.0 c.bytes.ensures (c.durable_step.ensures.does told) in
+    let step = same_step c.enter.new.self.slot.end c.args.self.now.slot.end c.enter.new.self.index c.args.self.now.index c.bytes.result.now plan.batch.bytes.items plan.slot plan.slot _ (g.G.Ground.told c.args.outside.now) (g.G.Ground.told c.durable_step.new.outside)
+    (ap (λ (s : Slot). s.end) c.enter.ensures.rest.1) c.enter.ensures.rest.0 c.bytes.ensures refl (c.durable_step.ensures.does told) in
     subst (λ res. Commits r c.args.work.now v c.args.branch.now c.args.info res c.enter.new.self (g.G.Ground.told c.args.outside.now) (g.G.Ground.told c.durable_step.new.outside)) (sym is)
     (cut r c.args.work.now v c.args.branch.now c.args.info c.args.self.now plan (c.in_ok-plan.ensures.coming r of) (c.in_ok-plan.ensures.planned _ r v of at.lawful) (g.G.Ground.told c.args.outside.now) at (g.G.Ground.told c.durable_step.new.outside) c.enter.new.self _ step)
 
@@ -144,8 +156,8 @@ returns-clause-does g c told r v at =
     let planned = c.in_ok-plan.ensures.planned _ r v of at.lawful in
     let one = new_commit r v.map c.args.work.now.parents c.args.info in
     let placed = c.put_place.ensures ∙ (λ i. c.enter.ensures.places i ++ c.commit_at.ensures i ∷ []) in
-    let step = same_step c.enter.new.self.slot.end c.args.self.now.slot.end c.enter.new.self.index c.args.self.now.index c.bytes.result.now plan.batch.bytes.items plan.slot _ (g.G.Ground.told c.args.outside.now) (g.G.Ground.told c.durable_step.new.outside)
-    (ap (λ (s : Slot). s.end) c.enter.ensures.rest.1) c.enter.ensures.rest.0 c.bytes.ensures (c.in_ok-durable_step.ensures.does told) in
+    let step = same_step c.enter.new.self.slot.end c.args.self.now.slot.end c.enter.new.self.index c.args.self.now.index c.bytes.result.now plan.batch.bytes.items plan.slot plan.slot _ (g.G.Ground.told c.args.outside.now) (g.G.Ground.told c.durable_step.new.outside)
+    (ap (λ (s : Slot). s.end) c.enter.ensures.rest.1) c.enter.ensures.rest.0 c.bytes.ensures refl (c.in_ok-durable_step.ensures.does told) in
     made r c.args.work.now v c.args.branch.now c.args.info c.args.self.now plan is planned (g.G.Ground.told c.args.outside.now) at (g.G.Ground.told c.durable_step.new.outside) _ refl (ap (λ (i : ℕ). 1 - i) c.enter.ensures.rest.0)
     (after_tables r c.args.work.now.parents c.args.branch.now c.args.self.now plan of is one (sym planned.name) refl _ refl (ap (λ (i : ℕ). 1 - i) c.enter.ensures.rest.0) (c.in_ok-enter.ensures.ok.0 ∙ ap (λ h. c.args.self.now.names ++ h ∷ []) c.name-name.ensures) (c.in_ok-enter.ensures.ok.1 ∙ ap (λ b. insert c.args.self.now.branches b plan.number) (sym is.same_branch)) (may_enter c.args.self.now r of c.args.work.now.parents c.args.work.now.parents refl are.retained) (c.in_ok-enter.ensures.history ∙ ap (with_parents c.args.self.now.history) c.as_slice.ensures) (c.put_place.ensures ∙ (λ i. c.enter.ensures.places i ++ c.commit_at.ensures i ∷ [])) (c.grow.ensures ∙ ap (λ (s : SpaceView). grown s plan.slot.end) c.enter.ensures.rest.2)) placed c.name-name.result step
 
@@ -166,8 +178,8 @@ returns-clause-answers g c told r v at =
     let of = at.holds.tables in
     let is = c.in_ok-plan.ensures.coming r of in
     let planned = c.in_ok-plan.ensures.planned _ r v of at.lawful in
-    let step = same_step c.enter.new.self.slot.end c.args.self.now.slot.end c.enter.new.self.index c.args.self.now.index c.bytes.result.now plan.batch.bytes.items plan.slot _ (g.G.Ground.told c.args.outside.now) (g.G.Ground.told c.durable_step.new.outside)
-    (ap (λ (s : Slot). s.end) c.enter.ensures.rest.1) c.enter.ensures.rest.0 c.bytes.ensures (c.in_ok-durable_step.ensures.does told) in
+    let step = same_step c.enter.new.self.slot.end c.args.self.now.slot.end c.enter.new.self.index c.args.self.now.index c.bytes.result.now plan.batch.bytes.items plan.slot plan.slot _ (g.G.Ground.told c.args.outside.now) (g.G.Ground.told c.durable_step.new.outside)
+    (ap (λ (s : Slot). s.end) c.enter.ensures.rest.1) c.enter.ensures.rest.0 c.bytes.ensures refl (c.in_ok-durable_step.ensures.does told) in
     let done = returns-clause-does g c told r v at in
     let holds = held_after r c.args.work.now v c.args.branch.now c.args.info c.args.self.now plan is planned (g.G.Ground.told c.args.outside.now) at (g.G.Ground.told c.durable_step.new.outside) _ _ done in
     answers_made r c.args.work.now _ v _ c.args.branch.now c.args.info c.args.self.now _ plan c.name-name.result (g.G.Ground.told c.durable_step.new.outside) (none_below c.args.self.now r of) is planned c.name-name.ensures refl refl refl
@@ -182,8 +194,8 @@ returns-clause-saved g c told r q v at now =
     let of = at.holds.tables in
     let is = c.in_ok-plan.ensures.coming r of in
     let planned = c.in_ok-plan.ensures.planned _ r v of at.lawful in
-    let step = same_step c.enter.new.self.slot.end c.args.self.now.slot.end c.enter.new.self.index c.args.self.now.index c.bytes.result.now plan.batch.bytes.items plan.slot _ (g.G.Ground.told c.args.outside.now) (g.G.Ground.told c.durable_step.new.outside)
-    (ap (λ (s : Slot). s.end) c.enter.ensures.rest.1) c.enter.ensures.rest.0 c.bytes.ensures (c.in_ok-durable_step.ensures.does told) in
+    let step = same_step c.enter.new.self.slot.end c.args.self.now.slot.end c.enter.new.self.index c.args.self.now.index c.bytes.result.now plan.batch.bytes.items plan.slot plan.slot _ (g.G.Ground.told c.args.outside.now) (g.G.Ground.told c.durable_step.new.outside)
+    (ap (λ (s : Slot). s.end) c.enter.ensures.rest.1) c.enter.ensures.rest.0 c.bytes.ensures refl (c.in_ok-durable_step.ensures.does told) in
     (plan.batch.root.at, saved_tree r c.args.work.now v c.args.branch.now c.args.info c.args.self.now plan is planned (g.G.Ground.told c.args.outside.now) at (g.G.Ground.told c.durable_step.new.outside) _ step q now _ (read_root plan.number c.root.result plan.batch.root c.of.result c.root.ensures c.of.ensures))
 
 pub returns-clause-stay : goal.returns-clause-stay
@@ -195,8 +207,8 @@ returns-clause-stay g c told has r q held now place x there =
     let of = at.holds.tables in
     let is = c.in_ok-plan.ensures.coming own of in
     let planned = c.in_ok-plan.ensures.planned _ own v of at.lawful in
-    let step = same_step c.enter.new.self.slot.end c.args.self.now.slot.end c.enter.new.self.index c.args.self.now.index c.bytes.result.now plan.batch.bytes.items plan.slot _ (g.G.Ground.told c.args.outside.now) (g.G.Ground.told c.durable_step.new.outside)
-    (ap (λ (s : Slot). s.end) c.enter.ensures.rest.1) c.enter.ensures.rest.0 c.bytes.ensures (c.in_ok-durable_step.ensures.does told) in
+    let step = same_step c.enter.new.self.slot.end c.args.self.now.slot.end c.enter.new.self.index c.args.self.now.index c.bytes.result.now plan.batch.bytes.items plan.slot plan.slot _ (g.G.Ground.told c.args.outside.now) (g.G.Ground.told c.durable_step.new.outside)
+    (ap (λ (s : Slot). s.end) c.enter.ensures.rest.1) c.enter.ensures.rest.0 c.bytes.ensures refl (c.in_ok-durable_step.ensures.does told) in
     let list = list_on own c.args.work.now v c.args.branch.now c.args.info c.args.self.now plan is planned (g.G.Ground.told c.args.outside.now) at (g.G.Ground.told c.durable_step.new.outside) _ step q now in
     let same = stays_still c.args.self.now c.args.self.now (itself c.args.self.now) r own (g.G.Ground.told c.args.outside.now) held at.holds place x there in
     subst (λ rs. present rs place ≡ Some x) (sym list) (present_front at.holds.stands.standing.records _ place x same)

@@ -6,8 +6,8 @@ use Rattle.ip_store.specs.declared.committing.StoreFault.TheVariants as StoreFau
 use Rattle.ip_image.specs.Appending.{fields_of}
 use Rattle.ip_save.specs.Batches.{fields_told}
 use Rattle.ip_store.specs.declared.committing.Plan.{Plan}
-use Rattle.ip_store.specs.Changes.{LimitsSpace}
-use Rattle.ip_store.specs.Commits.{refused_by, SlotBehind, IsRefusal, end_of}
+use Rattle.ip_store.specs.Changes.{IsNextSlot, LimitsSpace}
+use Rattle.ip_store.specs.Commits.{refused_by, IsRefusal, end_of}
 use Rattle.ip_store.proofs.Planning.{told_from, name_from, refused_batch, batch_limits, slot_limits, coming, planned}
 use Rattle.ip_store.proofs.Tables.{none_below}
 use Rattle.ip_store.proofs.Machine.{if_err_is, Head, refused_head, refused_room, refused_short, refused_memory}
@@ -101,7 +101,7 @@ returns-in_err-slot-clause-space c records r v of lawful e =
     told_from r c.in_ok-fields.fields c.args.info c.args.branch.now c.as_slice-2.result.now c.args.work.now.parents c.as_slice-2.ensures (c.in_ok-fields.ensures.fields r of) lawful.parents.retained in
     (subst (λ res. LimitsSpace {A = Plan} (end_of r c.args.work.now v c.args.branch.now c.args.info c.args.self.now) res c.args.self.now) (sym is)
     (slot_limits r c.args.work.now v c.args.branch.now c.args.info (none_below c.args.self.now r of) head room (fields_told c.in_ok-fields.fields) told c.args.self.now of c.in_ok-batch.batch (c.in_ok-batch.ensures.made records r v of lawful.tree lawful.short) fault
-    (subst (λ bytes. SlotBehind c.args.self.now.slot (length bytes) (Err fault)) c.bytes.ensures c.in_err-slot.ensures))).space e
+    (subst (λ bytes. IsNextSlot c.args.self.now.slot (length bytes) 1 (Err fault)) c.bytes.ensures c.in_err-slot.ensures))).space e
 
 pub returns-in_err-slot-clause-sequence : goal.returns-in_err-slot-clause-sequence
 returns-in_err-slot-clause-sequence c records r v of lawful e =
@@ -113,7 +113,7 @@ returns-in_err-slot-clause-sequence c records r v of lawful e =
     told_from r c.in_ok-fields.fields c.args.info c.args.branch.now c.as_slice-2.result.now c.args.work.now.parents c.as_slice-2.ensures (c.in_ok-fields.ensures.fields r of) lawful.parents.retained in
     (subst (λ res. LimitsSpace {A = Plan} (end_of r c.args.work.now v c.args.branch.now c.args.info c.args.self.now) res c.args.self.now) (sym is)
     (slot_limits r c.args.work.now v c.args.branch.now c.args.info (none_below c.args.self.now r of) head room (fields_told c.in_ok-fields.fields) told c.args.self.now of c.in_ok-batch.batch (c.in_ok-batch.ensures.made records r v of lawful.tree lawful.short) fault
-    (subst (λ bytes. SlotBehind c.args.self.now.slot (length bytes) (Err fault)) c.bytes.ensures c.in_err-slot.ensures))).sequence e
+    (subst (λ bytes. IsNextSlot c.args.self.now.slot (length bytes) 1 (Err fault)) c.bytes.ensures c.in_err-slot.ensures))).sequence e
 
 pub returns-in_err-parents-clause-refused : goal.returns-in_err-parents-clause-refused
 returns-in_err-parents-clause-refused c records r v of lawful =
@@ -126,7 +126,7 @@ returns-clause-coming c r of =
     let room : room_for_branch r c.args.branch.now ≡ Ok tt = search rules in
     coming r c.args.branch.now c.args.self.now of c.in_ok-fields.fields.number c.in_ok-fields.fields.branch c.in_ok-batch.batch c.in_ok-slot.slot c.in_ok-parents.parents
     (c.in_ok-fields.ensures.number r of).0 (c.in_ok-fields.ensures.number r of).1 c.in_ok-batch.ensures.is_name c.in_ok-batch.ensures.some room (c.in_ok-batch.ensures.fresh r of)
-    (subst (λ bytes. SlotBehind c.args.self.now.slot (length bytes) (Ok c.in_ok-slot.slot)) c.bytes.ensures c.in_ok-slot.ensures) c.in_ok-parents.ensures
+    (subst (λ bytes. IsNextSlot c.args.self.now.slot (length bytes) 1 (Ok c.in_ok-slot.slot)) c.bytes.ensures c.in_ok-slot.ensures) c.in_ok-parents.ensures
 
 pub returns-clause-planned : goal.returns-clause-planned
 returns-clause-planned c records r v of lawful =

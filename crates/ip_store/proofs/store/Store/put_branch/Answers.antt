@@ -2,6 +2,7 @@ use Rattle.std.proofs.Common.{◌≡◌, rules, sym, subst}
 use Rattle.std.specs.Prelude.{Ok, Err, IfSome}
 use Rattle.ip_spec.specs.Record.{Fits}
 use Rattle.ip_spec.specs.Step.{room_for_branch, with_branch}
+use Rattle.ip_image.specs.Standing.{IsServedKind}
 use Rattle.ip_image.specs.Appending.{MayName, renamed}
 use Rattle.ip_store.specs.declared.committing.StoreFault.TheVariants as StoreFault
 use Rattle.ip_store.specs.Changes.{Changes}
@@ -42,6 +43,9 @@ rename-requires-clause-tables g c =
     let of = c.requires.tables.1 in
     let room : room_for_branch r c.args.name.now ≡ Ok tt = search rules in
     (r, of, subst (MayName r) (sym c.in_ok-rec.ensures) (set_may r c.args.name.now c.args.number c.args.self.now of c.requires.tables.2 room))
+
+pub rename-requires-clause-served : goal.rename-requires-clause-served
+rename-requires-clause-served g c = subst IsServedKind (sym c.in_ok-rec.ensures) tt
 
 pub rename-requires-clause-fits : goal.rename-requires-clause-fits
 rename-requires-clause-fits g c = subst (Fits 1) (sym c.in_ok-rec.ensures) (set_fits c.requires.tables.0 c.args.name.now c.args.number c.args.self.now c.requires.tables.1 c.requires.tables.2 c.requires.name)

@@ -1,6 +1,8 @@
 use Rattle.std.proofs.Common.{◌≡◌, rules, refl, sym, ap, subst, ◌∙◌, length}
 use Rattle.std.specs.Prelude.{Err}
 use Rattle.ip_spec.specs.Record.{spelling}
+use Rattle.ip_image.specs.declared.slot.Slot.{Slot}
+use Rattle.ip_image.specs.Slot.{IsChunkSize}
 use Rattle.ip_image.specs.Appending.{renamed}
 use Rattle.ip_store.specs.declared.committing.StoreFault.TheVariants as StoreFault
 use Rattle.ip_store.specs.declared.store.Store.{Store}
@@ -34,18 +36,23 @@ durable_step-requires-clause-sound g c told =
     let r = (c.requires.held told).0 in
     let held = (c.requires.held told).1 in
     let slot = slot_from c.args.self.now.slot c.args.rec _ c.in_ok-slot.slot (ap length (c.as_slice-bytes.ensures.value ∙ c.in_ok-spelled.ensures)) c.in_ok-slot.ensures in
-    can_rename r c.args.self.now held.tables c.args.rec (may_same c.args.self.now c.requires.tables.0 r c.args.rec c.requires.tables.1 held.tables c.requires.tables.2) c.requires.fits c.in_ok-slot.slot slot.0 slot.1 slot.2
+    can_rename r c.args.self.now held.tables c.args.rec (may_same c.args.self.now c.requires.tables.0 r c.args.rec c.requires.tables.1 held.tables c.requires.tables.2) c.requires.fits c.requires.served c.in_ok-slot.slot slot.0 slot.1 slot.2
     (g.G.Ground.told c.args.outside.now) held
+
+pub durable_step-requires-clause-chunk : goal.durable_step-requires-clause-chunk
+durable_step-requires-clause-chunk g c =
+    let of = c.requires.tables.1 in
+    subst (λ (s : Slot). IsChunkSize s.chunk) (sym c.in_ok-slot.ensures.0) of.slot.chunk
 
 pub grow-requires-clause-further : goal.grow-requires-clause-further
 grow-requires-clause-further g c =
     let slot = slot_from c.args.self.now.slot c.args.rec _ c.in_ok-slot.slot (ap length (c.as_slice-bytes.ensures.value ∙ c.in_ok-spelled.ensures)) c.in_ok-slot.ensures in
-    further c.requires.tables.0 c.args.self.now c.requires.tables.1 c.args.rec c.requires.tables.2 c.requires.fits c.in_ok-slot.slot slot.0 slot.1 slot.2
+    further c.requires.tables.0 c.args.self.now c.requires.tables.1 c.args.rec c.requires.tables.2 c.requires.fits c.requires.served c.in_ok-slot.slot slot.0 slot.1 slot.2
 
 pub grow-requires-clause-ends : goal.grow-requires-clause-ends
 grow-requires-clause-ends g c =
     let slot = slot_from c.args.self.now.slot c.args.rec _ c.in_ok-slot.slot (ap length (c.as_slice-bytes.ensures.value ∙ c.in_ok-spelled.ensures)) c.in_ok-slot.ensures in
-    inside c.requires.tables.0 c.args.self.now c.requires.tables.1 c.args.rec c.requires.tables.2 c.requires.fits c.in_ok-slot.slot slot.0 slot.1 slot.2
+    inside c.requires.tables.0 c.args.self.now c.requires.tables.1 c.args.rec c.requires.tables.2 c.requires.fits c.requires.served c.in_ok-slot.slot slot.0 slot.1 slot.2
 
 pub returns-in_err-durable_step-clause-does : goal.returns-in_err-durable_step-clause-does
 returns-in_err-durable_step-clause-does g c told r held may =
@@ -53,21 +60,21 @@ returns-in_err-durable_step-clause-does g c told r held may =
     let slot = slot_from c.args.self.now.slot c.args.rec _ c.in_ok-slot.slot (ap length (c.as_slice-bytes.ensures.value ∙ c.in_ok-spelled.ensures)) c.in_ok-slot.ensures in
     let store : Store = record { index = c.args.self.now.index; slot = c.args.self.now.slot; names = c.args.self.now.names; branches = c.name_branch.new.branches; history = c.args.self.now.history; places = c.args.self.now.places; space = c.args.self.now.space; met = c.args.self.now.met } in
     subst (λ res. Changes {A = Unit {0}} r (renamed r c.args.rec) res store (g.G.Ground.told c.args.outside.now) (g.G.Ground.told c.durable_step.new.outside)) (sym is)
-    (rename_cut r c.args.self.now held.tables c.args.rec may c.requires.fits c.in_ok-slot.slot slot.0 slot.1 slot.2 (g.G.Ground.told c.args.outside.now) held (g.G.Ground.told c.durable_step.new.outside) store _
-    (same_step c.args.self.now.slot.end c.args.self.now.slot.end c.args.self.now.index c.args.self.now.index _ (spelling c.args.rec) c.in_ok-slot.slot _ (g.G.Ground.told c.args.outside.now) (g.G.Ground.told c.durable_step.new.outside)
-    refl refl (c.as_slice-bytes.ensures.value ∙ c.in_ok-spelled.ensures) (c.durable_step.ensures.does told)))
+    (rename_cut r c.args.self.now held.tables c.args.rec may c.requires.fits c.requires.served c.in_ok-slot.slot slot.0 slot.1 slot.2 (g.G.Ground.told c.args.outside.now) held (g.G.Ground.told c.durable_step.new.outside) store _
+    (same_step c.args.self.now.slot.end c.args.self.now.slot.end c.args.self.now.index c.args.self.now.index _ (spelling c.args.rec) c.in_ok-slot.slot c.in_ok-slot.slot _ (g.G.Ground.told c.args.outside.now) (g.G.Ground.told c.durable_step.new.outside)
+    refl refl (c.as_slice-bytes.ensures.value ∙ c.in_ok-spelled.ensures) refl (c.durable_step.ensures.does told)))
 
 pub returns-clause-tables : goal.returns-clause-tables
 returns-clause-tables g c r of may =
     let slot = slot_from c.args.self.now.slot c.args.rec _ c.in_ok-slot.slot (ap length (c.as_slice-bytes.ensures.value ∙ c.in_ok-spelled.ensures)) c.in_ok-slot.ensures in
-    renamed_tables r c.args.self.now of c.args.rec may c.requires.fits c.in_ok-slot.slot slot.0 slot.1 slot.2 _ refl refl refl c.in_ok-name_branch.ensures.ok refl refl c.grow.ensures
+    renamed_tables r c.args.self.now of c.args.rec may c.requires.fits c.requires.served c.in_ok-slot.slot slot.0 slot.1 slot.2 _ refl refl refl c.in_ok-name_branch.ensures.ok refl refl c.grow.ensures
 
 pub returns-clause-does : goal.returns-clause-does
 returns-clause-does g c told r held may =
     let slot = slot_from c.args.self.now.slot c.args.rec _ c.in_ok-slot.slot (ap length (c.as_slice-bytes.ensures.value ∙ c.in_ok-spelled.ensures)) c.in_ok-slot.ensures in
-    was_renamed r c.args.self.now held.tables c.args.rec may c.requires.fits c.in_ok-slot.slot slot.0 slot.1 slot.2 (g.G.Ground.told c.args.outside.now) held (g.G.Ground.told c.durable_step.new.outside) _ refl refl refl c.in_ok-name_branch.ensures.ok refl refl c.grow.ensures
-    (same_step c.args.self.now.slot.end c.args.self.now.slot.end c.args.self.now.index c.args.self.now.index _ (spelling c.args.rec) c.in_ok-slot.slot _ (g.G.Ground.told c.args.outside.now) (g.G.Ground.told c.durable_step.new.outside)
-    refl refl (c.as_slice-bytes.ensures.value ∙ c.in_ok-spelled.ensures) (c.in_ok-durable_step.ensures.does told))
+    was_renamed r c.args.self.now held.tables c.args.rec may c.requires.fits c.requires.served c.in_ok-slot.slot slot.0 slot.1 slot.2 (g.G.Ground.told c.args.outside.now) held (g.G.Ground.told c.durable_step.new.outside) _ refl refl refl c.in_ok-name_branch.ensures.ok refl refl c.grow.ensures
+    (same_step c.args.self.now.slot.end c.args.self.now.slot.end c.args.self.now.index c.args.self.now.index _ (spelling c.args.rec) c.in_ok-slot.slot c.in_ok-slot.slot _ (g.G.Ground.told c.args.outside.now) (g.G.Ground.told c.durable_step.new.outside)
+    refl refl (c.as_slice-bytes.ensures.value ∙ c.in_ok-spelled.ensures) refl (c.in_ok-durable_step.ensures.does told))
 
 pub returns-in_err-spelled-clause-stay : goal.returns-in_err-spelled-clause-stay
 returns-in_err-spelled-clause-stay g c told has r q held now = stays_still c.args.self.now c.args.self.now (itself c.args.self.now) r q (g.G.Ground.told c.args.outside.now) held now
@@ -83,6 +90,6 @@ pub returns-clause-stay : goal.returns-clause-stay
 returns-clause-stay g c told has r q held now =
     let may = may_same c.args.self.now c.requires.tables.0 r c.args.rec c.requires.tables.1 held.tables c.requires.tables.2 in
     let slot = slot_from c.args.self.now.slot c.args.rec _ c.in_ok-slot.slot (ap length (c.as_slice-bytes.ensures.value ∙ c.in_ok-spelled.ensures)) c.in_ok-slot.ensures in
-    stays_renamed r c.args.self.now held.tables c.args.rec may c.requires.fits c.in_ok-slot.slot slot.0 slot.1 slot.2 (g.G.Ground.told c.args.outside.now) held (g.G.Ground.told c.durable_step.new.outside) _ q
-    (same_step c.args.self.now.slot.end c.args.self.now.slot.end c.args.self.now.index c.args.self.now.index _ (spelling c.args.rec) c.in_ok-slot.slot _ (g.G.Ground.told c.args.outside.now) (g.G.Ground.told c.durable_step.new.outside)
-    refl refl (c.as_slice-bytes.ensures.value ∙ c.in_ok-spelled.ensures) (c.in_ok-durable_step.ensures.does told)) now
+    stays_renamed r c.args.self.now held.tables c.args.rec may c.requires.fits c.requires.served c.in_ok-slot.slot slot.0 slot.1 slot.2 (g.G.Ground.told c.args.outside.now) held (g.G.Ground.told c.durable_step.new.outside) _ q
+    (same_step c.args.self.now.slot.end c.args.self.now.slot.end c.args.self.now.index c.args.self.now.index _ (spelling c.args.rec) c.in_ok-slot.slot c.in_ok-slot.slot _ (g.G.Ground.told c.args.outside.now) (g.G.Ground.told c.durable_step.new.outside)
+    refl refl (c.as_slice-bytes.ensures.value ∙ c.in_ok-spelled.ensures) refl (c.in_ok-durable_step.ensures.does told)) now

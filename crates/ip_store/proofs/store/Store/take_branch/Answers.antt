@@ -2,6 +2,7 @@ use Rattle.std.proofs.Common.{◌≡◌, rules, true, false, Bool, None, sym, su
 use Rattle.std.specs.Prelude.{Ok, Err, IfSome}
 use Rattle.ip_spec.specs.Repository.{head}
 use Rattle.ip_spec.specs.Record.{Fits}
+use Rattle.ip_image.specs.Standing.{IsServedKind}
 use Rattle.ip_image.specs.Appending.{MayName, renamed}
 use Rattle.ip_store.specs.declared.committing.StoreFault.TheVariants as StoreFault
 use Rattle.ip_store.specs.Changes.{Changes, HasAnswer}
@@ -35,6 +36,9 @@ returns-in_err-rec-clause-does g c told r held =
 
 pub rename-requires-clause-tables : goal.rename-requires-clause-tables
 rename-requires-clause-tables g c = (c.requires.tables.0, c.requires.tables.1, subst (MayName c.requires.tables.0) (sym c.in_ok-rec.ensures) tt)
+
+pub rename-requires-clause-served : goal.rename-requires-clause-served
+rename-requires-clause-served g c = subst IsServedKind (sym c.in_ok-rec.ensures) tt
 
 pub rename-requires-clause-fits : goal.rename-requires-clause-fits
 rename-requires-clause-fits g c = subst (Fits 1) (sym c.in_ok-rec.ensures) (remove_fits c.requires.tables.0 c.args.name.now c.requires.name)
