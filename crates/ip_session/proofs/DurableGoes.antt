@@ -7,11 +7,11 @@
 --     answered, unanswered      a fault that has a reply, and one that has none
 use Rattle.std.proofs.Common.{◌≡◌, inl, Bool, true, false, refl, sym, ap, ◌∙◌, subst, Option, Some, None, Ok, Err}
 use Rattle.std.specs.Prelude.{Result, IfSome, MatchBool, if◌then◌else◌}
-use Rattle.ip_ground.specs.declared.names.FileName.TheVariants.{Control, Chunk}
 use Rattle.ip_ground.specs.Told.{Told, NoFile, ChangesOnly}
 use Rattle.ip_ground.proofs.Spans.{only_more}
-use Rattle.ip_image.specs.Headline.{IsInOrder, Keeps}
-use Rattle.ip_image.proofs.HeadlineLaws.{order_passes}
+use Rattle.ip_image.specs.Pending.{NothingPending}
+use Rattle.ip_image.specs.Headline.{IsAtomic}
+use Rattle.ip_image.proofs.HeadlineLaws.{pending_passes}
 use Rattle.ip_spec.specs.declared.command.Command.{Command}
 use Rattle.ip_spec.specs.declared.met.Met.{Met}
 use Rattle.ip_spec.specs.declared.reply.Reply.{Reply}
@@ -27,15 +27,17 @@ use Rattle.ip_store.specs.Commits.{fault_reply}
 use Rattle.ip_store.specs.Commits as commits
 use Rattle.ip_store.specs.Store.{Holds}
 use Rattle.ip_store.specs.Work.{work_at, session, IsAt}
-use Rattle.ip_store.proofs.Secured.{secures_since}
+use Rattle.ip_store.specs.Publishing.{MayChange, IsOfStore}
+use Rattle.ip_store.proofs.Recovering.{recovers_since}
+use Rattle.ip_store.proofs.Stepping.{of_store}
 use Rattle.ip_session.specs.declared.session.Session.{Session}
 use Rattle.ip_session.specs.Session.{no_rules, IsWorking, state_in, met_only, conditions_of, IsLong, IsDurable, ChangedBy, Goes, Cut}
 use Rattle.ip_session.proofs.SessionLemmas.{at, plainly, Refusable}
 
-pub keeps_still : (store : Store) (r after : Repository) (a b : Told) → Holds store a r → IsInOrder a → ChangesOnly NoFile a b → Keeps a b r after
+pub keeps_still : (store : Store) (r after : Repository) (a b : Told) → Holds store a r → NothingPending a → ChangesOnly NoFile a b → IsAtomic a b r after
 keeps_still store r after a b holds order only t late le =
-    let now = secures_since store r a holds order b (only.others Control (λ none. none)) (only.others (Chunk 0) (λ none. none)) t late le in
-    record { stands = λ image possible. inl (now.stands image possible); orderly = now.orderly }
+    let now = recovers_since store r a holds order b (λ file. only.others file (λ none. none)) only.lending t late le in
+    record { stands = λ image possible. inl (now.stands image possible); flushed = now.flushed }
 
 module _ (r : Repository) (w : MachineWork) (command : Command) where
   abbrev s : State
@@ -101,8 +103,8 @@ module _ (a b : Told) (s : Session) (store : Store) (work : Work) (r after : Rep
         gives = step_of r (work_at s.work v) command after whole store.met reply (session T.next work T.view) T.turns.1 T.turns.0;
         is_at = T.is_at (subst (Holds store b) (sym repository) does.1);
         only = only_more a b NoFile (ChangedBy command reply) (λ file none. absurd none) only;
-        keeps = λ order. keeps_still s.store r T.next a b here.holds order only;
-        order = λ order. order_passes a b only.goes (only.others Control (λ none. none)) (only.others (Chunk 0) (λ none. none)) order;
+        atomic = λ order. keeps_still s.store r T.next a b here.holds order only;
+        nothing_pending = λ order. pending_passes a b only.goes (λ file. only.others file (λ none. none)) only.lending order;
         spared = λ long. record { same = state; refused = whole.refusable r (work_at s.work v) };
         still = λ long file changed. quiet changed.0;
       }
@@ -123,9 +125,9 @@ module _ (a b : Told) (s : Session) (store : Store) (work : Work) (r after : Rep
         view = T.view;
         gives = step_of r (work_at s.work v) command after whole store.met reply (session T.next work T.view) T.turns.1 T.turns.0;
         is_at = T.is_at (subst (Holds store b) (sym repository) does.ok);
-        only = only_more a b _ (ChangedBy command reply) (λ file changed. (done, changed)) does.only;
-        keeps = λ order. subst (λ (q : Repository). Keeps a b r q) (sym repository) (does.keeps order);
-        order = λ order. does.order order tt;
+        only = only_more a b _ (ChangedBy command reply) (λ file changed. (done, of_store a.held file changed)) does.only;
+        atomic = λ order. subst (λ (q : Repository). IsAtomic a b r q) (sym repository) (does.atomic order);
+        nothing_pending = λ order. does.nothing_pending order tt;
         spared = λ long. absurd (short long);
         still = λ long. absurd (short long);
       }
@@ -144,8 +146,8 @@ module _ (a b : Told) (s : Session) (store : Store) (work : Work) (r after : Rep
         reply = t.0;
         after = t.1;
         gives = subst (λ (m : Met). Step no_rules (state_in s r v) command (conditions_of m) t.0 t.1) (sym e) (plainly r (work_at s.work v) command false t.0 (λ h. absurd (cc h)), whole.plain (conditions_of (met_only false)) t refl);
-        only = does.only;
-        keeps = λ order. subst (λ (q : Repository). Keeps a b r q) (sym repository) (does.keeps order);
+        only = only_more a b (MayChange a.held) IsOfStore (of_store a.held) does.only;
+        atomic = λ order. subst (λ (q : Repository). IsAtomic a b r q) (sym repository) (does.atomic order);
       }
 
 pub answered : (A : Type 0) (fault : StoreFault) (reply : Reply) → fault_reply fault ≡ Some reply → HasAnswer {A = A} (Err fault)

@@ -2,10 +2,9 @@
 --     read_serves      the session goes on serving, whatever is told.      read_goes      it is answered.      read_cut      a fault of the ground or of its files cut it short
 use Rattle.std.proofs.Common.{◌≡◌, ℕ, Bool, false, refl, sym, ◌∙◌, subst, Option, Ok, Err, IsTrue}
 use Rattle.std.specs.Prelude.{Result, IfOk, OnErr}
-use Rattle.ip_ground.specs.declared.names.FileName.TheVariants.{Control, Chunk}
 use Rattle.ip_ground.specs.Told.{Told, NoFile}
 use Rattle.ip_ground.proofs.Spans.{only_more}
-use Rattle.ip_image.proofs.HeadlineLaws.{order_passes}
+use Rattle.ip_image.proofs.HeadlineLaws.{pending_passes}
 use Rattle.ip_spec.specs.declared.command.Command.{Command}
 use Rattle.ip_spec.specs.declared.met.Met.{Met}
 use Rattle.ip_spec.specs.declared.record.Record.{Record}
@@ -14,7 +13,7 @@ use Rattle.ip_spec.specs.Machine.{State, Conditions}
 use Rattle.ip_spec.specs.Repository.{Repository}
 use Rattle.ip_spec.specs.Step.{Turns, Step, answer}
 use Rattle.ip_spec.specs.View.{View}
-use Rattle.ip_store.specs.Publishing.{TheTwo}
+use Rattle.ip_store.specs.Publishing.{IsOfStore}
 use Rattle.ip_store.specs.Store.{Holds, image_records}
 use Rattle.ip_store.specs.Trees.{OnlyLooks}
 use Rattle.ip_store.specs.Work.{IsLawful, work_at}
@@ -46,8 +45,8 @@ module _ (a b : Told) (s s' : Session) (r : Repository) (v : View) (here : IsWor
         gives = A.gives;
         is_at = record { holds = holds; lawful = subst (λ (records : ℕ → Option Record). IsLawful records r s'.work A.view) (sym (looks.records r here.holds holds)) A.lawful };
         only = only_more a b NoFile (ChangedBy command reply) (λ file none. absurd none) looks.reads.only;
-        keeps = λ order. keeps_still s.store r r a b here.holds order looks.reads.only;
-        order = λ order. order_passes a b looks.reads.only.goes (looks.reads.only.others Control (λ none. none)) (looks.reads.only.others (Chunk 0) (λ none. none)) order;
+        atomic = λ order. keeps_still s.store r r a b here.holds order looks.reads.only;
+        nothing_pending = λ order. pending_passes a b looks.reads.only.goes (λ file. looks.reads.only.others file (λ none. none)) looks.reads.only.lending order;
         spared = A.spared;
         still = λ long file changed. none_durable reply command quiet changed.0;
       }
@@ -61,8 +60,8 @@ module _ (a b : Told) (s s' : Session) (r : Repository) (v : View) (here : IsWor
         after = t.1;
         gives = subst (λ (m : Met). Step no_rules (state_in s r v) command (conditions_of m) t.0 t.1) (sym e)
             (plainly r (work_at s.work v) command false t.0 (λ h. absurd (cc h)), plain (state_in s r v) command (conditions_of (met_only false)) words);
-        only = only_more a b NoFile TheTwo (λ file none. absurd none) looks.reads.only;
-        keeps = λ order. keeps_still s.store r t.1.repository a b here.holds order looks.reads.only;
+        only = only_more a b NoFile IsOfStore (λ file none. absurd none) looks.reads.only;
+        atomic = λ order. keeps_still s.store r t.1.repository a b here.holds order looks.reads.only;
       }
 
 pub read_serves : (tells : Bool) (a b : Told) (s s' : Session) (command : Command) (result : Result Reply SessionEnd) → IsServing s → HasRead tells a b s s' command result → IfOk result (λ reply. IsServing s')

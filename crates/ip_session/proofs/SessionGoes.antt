@@ -33,8 +33,8 @@ still_goes a s met r v here Changed Gives reply gives refused none = record {
   gives = gives;
   is_at = here;
   only = only_nowhere a (Changed reply);
-  keeps = λ order t late le. absurd (no_moment a.moment t late le);
-  order = λ order. order;
+  atomic = λ order t late le. absurd (no_moment a.moment t late le);
+  nothing_pending = λ order. order;
   spared = λ long. record { same = refl; refused = refused long };
   still = λ long. none;
 }
@@ -50,8 +50,8 @@ lined a b s s' met r v command line reply served one h = record {
   gives = inl (command, served, h.gives);
   is_at = h.is_at;
   only = only_more a b (ChangedBy command reply) (ChangedIn line reply) (λ file changed. (command, served, changed)) h.only;
-  keeps = h.keeps;
-  order = h.order;
+  atomic = h.atomic;
+  nothing_pending = h.nothing_pending;
   spared = λ long. let x = h.spared long in record { same = x.same; refused = inl (command, served, x.refused) };
   still = λ long file (other, spelled, changed). h.still long file (subst (λ (c : Command). ChangedBy c reply file) (one other spelled) changed);
 }
@@ -64,7 +64,7 @@ lined_ok a b s s' met r v command line (Err end) served one h = tt
 pub lined_cut : (a b : Told) (s s' : Session) (met : Met) (r : Repository) (v : View) (command : Command) (line : Bytes) (result : Result Reply SessionEnd) → IsServedLine command line
     → OnErr result (Cut a b (record s { met = met }) s' r v (Step no_rules (state_in s r v) command)) → OnErr result (Cut a b s s' r v (LineStep IsServedLine no_rules (state_in s r v) line))
 lined_cut a b s s' met r v command line (Ok reply) served h = tt
-lined_cut a b s s' met r v command line (Err end) served h = record { reply = h.reply; after = h.after; gives = inl (command, served, h.gives); only = h.only; keeps = h.keeps }
+lined_cut a b s s' met r v command line (Err end) served h = record { reply = h.reply; after = h.after; gives = inl (command, served, h.gives); only = h.only; atomic = h.atomic }
 
 -- a reply that none of the durable commands has
 none_changed : (line : Bytes) (reply : Reply) → ((command : Command) → ¬ IsDurable reply command) → (file : FileName) → ¬ ChangedIn line reply file
@@ -99,8 +99,8 @@ memory_instead a b s s' met r v Changed Gives reply h long e none = record {
   gives = let x = h.spared long in subst (λ (m : Met). Gives (conditions_of m) Reply.Memory (state_in s' h.after h.view)) (sym e) (subst (Gives (conditions_of (met_only true)) Reply.Memory) (sym x.same) x.refused);
   is_at = h.is_at;
   only = only_more a b (Changed reply) (Changed Reply.Memory) (λ file changed. absurd (h.still long file changed)) h.only;
-  keeps = h.keeps;
-  order = h.order;
+  atomic = h.atomic;
+  nothing_pending = h.nothing_pending;
   spared = λ again. absurd (omega (arith, again, memory_is_short));
   still = λ again. none;
 }

@@ -32,11 +32,12 @@ use Rattle.ip_spec.specs.Record.{IsBranchName, IsInfo}
 use Rattle.ip_spec.specs.Step.{Step}
 use Rattle.ip_spec.specs.Text.{reply_text}
 use Rattle.ip_script.specs.Served.{IsServed, IsServedLine}
-use Rattle.ip_image.specs.Headline.{IsInOrder, Keeps}
+use Rattle.ip_image.specs.Pending.{NothingPending}
+use Rattle.ip_image.specs.Headline.{IsAtomic}
 use Rattle.ip_store.specs.declared.committing.StoreFault.{StoreFault}
 pub use Rattle.ip_store.specs.Commits.{conditions_of}
 use Rattle.ip_store.specs.Commits.{met_nothing}
-use Rattle.ip_store.specs.Publishing.{TheTwo}
+use Rattle.ip_store.specs.Publishing.{IsOfStore}
 use Rattle.ip_store.specs.Showing.{fault_from}
 use Rattle.ip_store.specs.Store.{IsOf, image_records}
 use Rattle.ip_store.specs.Trees.{OnlyLooks}
@@ -105,7 +106,7 @@ IsDurable Reply.Accepted (Command.BranchRm name) = Unit {0}
 IsDurable reply command = ⊥
 
 abbrev pub ChangedBy : Command → Reply → FileName → Type 0
-ChangedBy command reply file = IsDurable reply command × TheTwo file
+ChangedBy command reply file = IsDurable reply command × IsOfStore file
 
 abbrev pub ChangedIn : Bytes → Reply → FileName → Type 0
 ChangedIn line reply file = (command : Command) × IsServedLine command line × ChangedBy command reply file
@@ -136,8 +137,8 @@ pub record Goes (old new : Told) (s s' : Session) (r : Repository) (v : View) (C
   pub is_at : IsWorking new s' after view
   pub only : ChangesOnly (Changed reply) old new
   -- at every moment whatever a crash leaves stands for the repository before or after it
-  pub keeps : IsInOrder old → Keeps old new r after
-  pub order : IsInOrder old → IsInOrder new
+  pub atomic : NothingPending old → IsAtomic old new r after
+  pub nothing_pending : NothingPending old → NothingPending new
   pub spared : IsLong reply → IsSpared (state_in s r v) (state_in s' after view) Gives
   pub still : IsLong reply → (file : FileName) → ¬ Changed reply file
 
@@ -146,8 +147,8 @@ pub record Cut (old new : Told) (s s' : Session) (r : Repository) (v : View) (Gi
   pub reply : Reply
   pub after : State
   pub gives : Gives (conditions_of s'.met) reply after
-  pub only : ChangesOnly TheTwo old new
-  pub keeps : IsInOrder old → Keeps old new r after.repository
+  pub only : ChangesOnly IsOfStore old new
+  pub atomic : NothingPending old → IsAtomic old new r after.repository
 
 -- A fault of the ground, whose count rose; or files that others changed, which never comes where the ground tells what the store holds.
 abbrev pub EndsBy : SessionEnd → (tells : Bool) → GroundCounts → GroundCounts → Type 0
