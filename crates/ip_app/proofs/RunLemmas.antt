@@ -28,8 +28,8 @@ use Rattle.ip_script.specs.Served.{IsServedLine}
 use Rattle.ip_spec.specs.Script.{whole_lines, LineStep}
 use Rattle.ip_spec.specs.Text.{reply_text}
 use Rattle.ip_store.specs.Control.{control_in}
-use Rattle.ip_store.specs.Publishing.{TheTwo}
-use Rattle.ip_store.specs.Opening.{SecuresOpening}
+use Rattle.ip_store.specs.Publishing.{IsOfStore}
+use Rattle.ip_store.specs.Opening.{RecoversOnceOpen}
 use Rattle.ip_session.specs.declared.session.Session.{Session}
 use Rattle.ip_session.specs.Session.{IsServing, IsWorking, state_in}
 use Rattle.ip_app.specs.declared.turn_log.Turn.{Turn}
@@ -97,12 +97,12 @@ keeps_on a b c first next = record {
   lending = λ n. custody_on a b c n first.goes next.goes (first.lending n) (next.lending n);
 }
 
-pub keeps_two : (a b : Told) → ChangesOnly TheTwo a b → KeepsFiles a b
+pub keeps_two : (a b : Told) → ChangesOnly IsOfStore a b → KeepsFiles a b
 keeps_two a b only = record { goes = only.goes; others = only.others; lending = only.lending }
 
 -- while the control file alone may be synced
 pub keeps_unchanged : (a b : Told) → SyncsOnly (Only Control) a b → KeepsFiles a b
-keeps_unchanged a b only = keeps_two a b (only_more a b (Only Control) TheTwo (λ file is. inr is) only.changes)
+keeps_unchanged a b only = keeps_two a b (only_more a b (Only Control) IsOfStore (λ file is. inl is) only.changes)
 
 pub keeps_said : (bytes : Bytes) (r : Result (Unit {0}) GroundFault) (a b : Told) → Says bytes r a b → KeepsFiles a b
 keeps_said bytes r a b says = record { goes = says.goes; others = λ file others. says.files file; lending = says.lending }
@@ -149,9 +149,9 @@ served_more old mid new lines lines' counts counts' s s' h turned =
       said = λ g. turned.said (told_before _ _ h.goes_on.ground_tells g) ∙ (ap (λ (u : Bytes). u ++ reply_text x.reply) (h.said g) ∙ (append_assoc (said old.told) (texts_in h.exchanges) (reply_text x.reply) ∙ ap (λ (u : Bytes). said old.told ++ u) (sym (texts_more h.exchanges x))));
       opened_at = h.opened_at;
       headline = λ g order. headline_turn (h.opened_at g) old.told mid.told new.told (opened h.first) h.exchanges x (h.headline g order) (t.files (told_before _ _ h.goes_on.ground_tells g)).goes (h.over g) (h.said g)
-          h.repository turned.after (ap (λ (state : State). state.repository) (h.now_at g)) (ap (λ (state : State). state.repository) (sym (turned.now_at (told_before _ _ h.goes_on.ground_tells g)))) (turned.turning (told_before _ _ h.goes_on.ground_tells g) (h.order g order));
+          h.repository turned.after (ap (λ (state : State). state.repository) (h.now_at g)) (ap (λ (state : State). state.repository) (sym (turned.now_at (told_before _ _ h.goes_on.ground_tells g)))) (turned.turning (told_before _ _ h.goes_on.ground_tells g) (h.nothing_pending g order));
       over = λ g. let was = h.over g in let later = (t.files (told_before _ _ h.goes_on.ground_tells g)).goes.later in omega (arith, was, later);
-      order = λ g order. turned.order (told_before _ _ h.goes_on.ground_tells g) (h.order g order);
+      nothing_pending = λ g order. turned.nothing_pending (told_before _ _ h.goes_on.ground_tells g) (h.nothing_pending g order);
       noted = λ l. t.noted l ∙ (ap (λ u. u ++ x.turn ∷ []) (h.noted (t.goes_on.log_tells l)) ∙ (append_assoc old.turns (turns_in h.exchanges) (x.turn ∷ []) ∙ ap (λ u. old.turns ++ u) (sym (map-append (λ x. x.turn) h.exchanges (x ∷ [])))));
       start = h.start;
       since = h.since;
@@ -162,7 +162,7 @@ served_more old mid new lines lines' counts counts' s s' h turned =
 
 -- no line was served yet
 pub served_first : (old now : Outside) (lines : Lines) (counts : TurnCounts) (s : Session) (r : Repository) (v : View) → IsServing s → state_in s r v ≡ opened r → (IsTrue old.ground_tells → IsWorking now.told s r v) → (IsTrue old.ground_tells → StandsFor old.told.held r)
-    → (opening : IsTrue old.ground_tells → SecuresOpening old.told now.told) → ((told : IsTrue old.ground_tells) → (opening told).since ≤ now.told.moment)
+    → (opening : IsTrue old.ground_tells → RecoversOnceOpen old.told now.told) → ((told : IsTrue old.ground_tells) → (opening told).since ≤ now.told.moment)
     → counts ≡ turn_counts now.counts → GoesOn old now → (IsTrue old.ground_tells → SyncsOnly (Only Control) old.told now.told) → now.left ≡ old.left → now.turns ≡ old.turns → pending lines ≡ [] → lines.taken ≡ 0 → Served old now lines counts s
 served_first old now lines counts s r v serving begun working began opening over counted g f left turns none zero =
     record {
@@ -187,7 +187,7 @@ served_first old now lines counts s r v serving begun working began opening over
       opened_at = λ b. (opening b).since;
       over = over;
       headline = λ b order. headline_none old.told now.told (f b) (opening b) r (began b) order;
-      order = λ b order. (opening b).order order;
+      nothing_pending = λ b order. (opening b).nothing_pending order;
       noted = λ b. turns ∙ sym (append_nil old.turns);
       start = turn_counts now.counts;
       since = record { file = g.counts.file_faults; remove = g.counts.remove_faults; spawner = refl };
@@ -196,7 +196,7 @@ served_first old now lines counts s r v serving begun working began opening over
     }
 
 -- no line was served at all
-pub serves_none : (old new : Outside) (s : Status) → GoesOn old new → (IsTrue old.ground_tells → SyncsOnly (Only Control) old.told new.told) → (IsTrue old.ground_tells → SecuresOpening old.told new.told) → new.left ≡ old.left → new.turns ≡ old.turns → Begins s old (opened no_repository) [] → Row s old new [] → Serves old new s
+pub serves_none : (old new : Outside) (s : Status) → GoesOn old new → (IsTrue old.ground_tells → SyncsOnly (Only Control) old.told new.told) → (IsTrue old.ground_tells → RecoversOnceOpen old.told new.told) → new.left ≡ old.left → new.turns ≡ old.turns → Begins s old (opened no_repository) [] → Row s old new [] → Serves old new s
 serves_none old new s g f opening left turns begins row =
     let first = opened no_repository in
     let quiet : IsTrue old.ground_tells → said new.told ≡ said old.told = λ b. said_now old.told new.told (f b).changes.goes (f b).changes.said in
@@ -216,7 +216,7 @@ serves_none old new s g f opening left turns begins row =
       run = λ told. tt;
       stands = λ b whole h. stands_after old.told new.told (f b) first.repository h;
       headline = λ b r stands order. ((opening b).since, headline_none old.told new.told (f b) (opening b) r stands order);
-      again = λ b may. record { repository = may.repository; stands = stands_after old.told new.told (f b) may.repository may.stands; order = (opening b).order may.order };
+      again = λ b may. record { repository = may.repository; stands = stands_after old.told new.told (f b) may.repository may.stands; nothing_pending = (opening b).nothing_pending may.nothing_pending };
       said_part = λ b. record { whole = []; cut = []; part = []; unsaid = []; all = refl; one = omega arith; text = refl; said_is = quiet b ∙ (sym (append_nil (said old.told)) ∙ sym (append_nil (said old.told ++ []))); silent = λ cut_short. refl };
       said_all = λ b c. quiet b ∙ sym (append_nil (said old.told));
       noted = λ b. turns ∙ sym (append_nil old.turns);
@@ -227,7 +227,7 @@ serves_none old new s g f opening left turns begins row =
     }
 
 -- the store could not be opened
-pub begins_unopened : (old new : Outside) (s : Status) → GoesOn old new → (IsTrue old.ground_tells → SyncsOnly (Only Control) old.told new.told) → (IsTrue old.ground_tells → SecuresOpening old.told new.told) → new.left ≡ old.left → new.turns ≡ old.turns → CouldNotOpen s old.ground_tells old.told old.counts new.counts → Serves old new s
+pub begins_unopened : (old new : Outside) (s : Status) → GoesOn old new → (IsTrue old.ground_tells → SyncsOnly (Only Control) old.told new.told) → (IsTrue old.ground_tells → RecoversOnceOpen old.told new.told) → new.left ≡ old.left → new.turns ≡ old.turns → CouldNotOpen s old.ground_tells old.told old.counts new.counts → Serves old new s
 begins_unopened old new s g f opening left turns could_not = by_status s could_not
   where
     untouched : IsUntouched old new []
@@ -319,7 +319,7 @@ serves_stopped s old mid new lines lines' counts counts' session h t =
       stands = λ b whole began. subst (λ (state : State). StandsFor new.told.held state.repository) (h.now_at b) (t.stands (told_before _ _ h.goes_on.ground_tells b));
       headline = λ b r stands order. of_opened (h.opened_at b) old new h.first h.exchanges (h.began b) r stands
           (headline_later (h.opened_at b) old.told mid.told new.told first (map answer_of h.exchanges) (h.headline b order) (t.files (told_before _ _ h.goes_on.ground_tells b)).goes (t.same_moment (told_before _ _ h.goes_on.ground_tells b)));
-      again = λ b may. record { repository = h.repository; stands = t.stands (told_before _ _ h.goes_on.ground_tells b); order = t.order (told_before _ _ h.goes_on.ground_tells b) (h.order b may.order) };
+      again = λ b may. record { repository = h.repository; stands = t.stands (told_before _ _ h.goes_on.ground_tells b); nothing_pending = t.nothing_pending (told_before _ _ h.goes_on.ground_tells b) (h.nothing_pending b may.nothing_pending) };
       said_part = λ b. record { whole = h.exchanges; cut = []; part = []; unsaid = []; all = append_nil h.exchanges; one = omega arith; text = refl; said_is = quiet b ∙ sym (append_nil (said old.told ++ texts_in h.exchanges)); silent = λ cut_short. refl };
       said_all = λ b c. quiet b;
       noted = λ l. t.same_turns ∙ h.noted (t.goes_on.log_tells l);
@@ -356,8 +356,8 @@ serves_unsaid s old mid new lines lines' counts counts' session h cut opened_so 
       stands = λ b whole began. subst (λ (state : State). StandsFor new.told.held state.repository) (sym (after_more first h.exchanges x)) (u.stands (told_before _ _ h.goes_on.ground_tells b) whole);
       headline = λ b r stands order. of_opened (h.opened_at b) old new h.first xs (h.began b) r stands
           (headline_turn (h.opened_at b) old.told mid.told new.told first h.exchanges x (h.headline b order) (t.files (told_before _ _ h.goes_on.ground_tells b)).goes (h.over b) (h.said b)
-          h.repository x.after.repository (ap (λ (state : State). state.repository) (h.now_at b)) refl (u.turning (told_before _ _ h.goes_on.ground_tells b) (h.order b order)));
-      again = λ b may. u.again (told_before _ _ h.goes_on.ground_tells b) (h.order b may.order);
+          h.repository x.after.repository (ap (λ (state : State). state.repository) (h.now_at b)) refl (u.turning (told_before _ _ h.goes_on.ground_tells b) (h.nothing_pending b order)));
+      again = λ b may. u.again (told_before _ _ h.goes_on.ground_tells b) (h.nothing_pending b may.nothing_pending);
       said_part = λ b. let p = u.part (told_before _ _ h.goes_on.ground_tells b) in record { whole = h.exchanges; cut = x ∷ []; part = p.0; unsaid = p.1; all = refl; one = omega arith; text = p.2 ∙ sym (append_nil (reply_text x.reply)); said_is = p.3 ∙ ap (λ (v : Bytes). v ++ p.0) (h.said b); silent = u.silent (told_before _ _ h.goes_on.ground_tells b) };
       said_all = λ b c. absurd (cc (c, cut));
       noted = λ l. t.noted l ∙ (ap (λ u. u ++ x.turn ∷ []) (h.noted (t.goes_on.log_tells l)) ∙ (append_assoc old.turns (turns_in h.exchanges) (x.turn ∷ []) ∙ ap (λ u. old.turns ++ u) (sym (map-append (λ x. x.turn) h.exchanges (x ∷ [])))));

@@ -17,8 +17,9 @@ use Rattle.ip_image.specs.declared.slot.Slot.{Slot}
 use Rattle.ip_image.specs.declared.layout.Layout.{Layout}
 use Rattle.ip_image.specs.declared.run.Run.{Run}
 use Rattle.ip_image.specs.declared.run.Row.{Row}
-use Rattle.ip_image.specs.Slot.{layout_of, live_index}
-use Rattle.ip_image.specs.Virtual.{run_of, byte_of, virtual_byte, locate, Stands}
+use Rattle.ip_image.specs.Slot.{IsSlot, layout_of, live_index}
+use Rattle.ip_image.specs.Virtual.{run_of, byte_of, chunk_of, place_in_chunk, chunk_byte, virtual_byte, locate, Stands}
+use Rattle.ip_image.specs.Pending.{SameSpace}
 use Rattle.ip_image.specs.Standing.{RunByRun, FillTo, IsGood, Generation, stretches, Standing, StandsFor, NoStore, DamagedAt, no_form, no_mapping, no_row, no_sum, no_prefix, no_record, no_whole}
 use Rattle.ip_store.specs.declared.store.Store.{Store}
 use Rattle.ip_store.specs.Store.{Holds}
@@ -87,21 +88,28 @@ module _ (image other : Image) (control_same : other Control ≡ image Control) 
   damaged_along file at (no_whole control index s rows records held live G good whole none) =
       no_whole control index s rows records (held_along control held) live (generation_along s live.fields.served rows G) good (along s live.fields.served (λ bytes_at runs. RunByRun bytes_at runs records) rows G whole) none
 
+-- the bytes of all records are the same, while no file changes
+same_space : (s : Slot) → IsSlot s → (a b : Told) → ((file : FileName) → KeepsFile a b file) → SameSpace s a.held b.held
+unfolding chunk_byte
+same_space s is a b files = record {
+  chunks = λ at low high. ap (λ (c : Content). byte_of c (place_in_chunk s.chunk at)) ((files (Chunk (chunk_of s.chunk at))).held (λ foreign. foreign));
+  mapping = λ live. absurd (live is.served);
+  prefix = λ live. absurd (live is.served);
+}
+
 -- a store holds on what it held, while no file changes
 pub holds_along : (a b : Told) (store : Store) (r : Repository) → KeepsPast a b → ((file : FileName) → KeepsFile a b file) → Holds store a r → Holds store b r
 holds_along a b store r goes files h =
     let control : b.held Control ≡ a.held Control = (files Control).held (λ foreign. foreign) in
-    let chunk : b.held (Chunk 0) ≡ a.held (Chunk 0) = (files (Chunk 0)).held (λ foreign. foreign) in
     let still : EachNow b Control (λ content. content ≡ a.held Control) = left_now a b Control (λ content. content ≡ a.held Control) goes h.kept (each_stays a b Control (λ content. content ≡ a.held Control) (λ loose. loose) (files Control) h.kept) in
-    holds_on store a r h b control chunk (λ content left. still content left ∙ sym control)
+    holds_on store a r h b control (same_space store.slot h.tables.slot a b files) (λ content left. still content left ∙ sym control)
 
 -- a work goes on over the same records
 pub working_along : (a b : Told) (s : Session) (r : Repository) (v : View) → KeepsPast a b → ((file : FileName) → KeepsFile a b file) → IsWorking a s r v → IsWorking b s r v
 working_along a b s r v goes files h =
     let control : b.held Control ≡ a.held Control = (files Control).held (λ foreign. foreign) in
-    let chunk : b.held (Chunk 0) ≡ a.held (Chunk 0) = (files (Chunk 0)).held (λ foreign. foreign) in
     let holds : Holds s.store b r = holds_along a b s.store r goes files h.holds in
-    let same : image_records holds ≡ image_records h.holds = ap (λ (records : List (ℕ × Record)). present records) (same_list s.store a r h.holds b control chunk holds.stands.standing) in
+    let same : image_records holds ≡ image_records h.holds = ap (λ (records : List (ℕ × Record)). present records) (same_list s.store a r h.holds b control (same_space s.store.slot h.holds.tables.slot a b files) holds.stands.standing) in
     record { holds = holds; lawful = subst (λ (records : ℕ → Option Record). IsLawful records r s.work v) (sym same) h.lawful }
 
 -- what the files read as at the end of calls that change none, though they may sync the control file

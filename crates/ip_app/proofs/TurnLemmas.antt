@@ -17,7 +17,7 @@ use Rattle.ip_spec.specs.Path.{Bytes}
 use Rattle.ip_spec.specs.Machine.{State}
 use Rattle.ip_script.specs.Served.{IsServedLine}
 use Rattle.ip_spec.specs.Script.{LineStep}
-use Rattle.ip_store.specs.Publishing.{TheTwo}
+use Rattle.ip_store.specs.Publishing.{IsOfStore}
 use Rattle.ip_app.specs.declared.lines.Lines.{Lines}
 use Rattle.ip_session.specs.declared.session.SessionEnd.{SessionEnd}
 use Rattle.ip_app.specs.declared.statuses.Status.{Status}
@@ -29,7 +29,8 @@ use Rattle.ip_session.specs.Session.{no_rules}
 use Rattle.ip_app.specs.Outside.{Outside, GoesOn, KeepsFiles}
 use Rattle.ip_session.specs.declared.session.Session.{Session}
 use Rattle.ip_session.specs.Session.{state_in, IsWorking, conditions_of, ChangedIn, EndsBy, Goes, Cut}
-use Rattle.ip_image.specs.Headline.{IsInOrder, Keeps}
+use Rattle.ip_image.specs.Pending.{NothingPending}
+use Rattle.ip_image.specs.Headline.{IsAtomic}
 use Rattle.ip_spec.specs.Repository.{Repository}
 use Rattle.ip_spec.specs.View.{View}
 use Rattle.ip_app.specs.Serving.{SaysPart, Turned, Stopped, Unsaid, Stops, is_cut_short, ended_status}
@@ -68,8 +69,8 @@ turned_of old new lines lines' counts counts' state after line read met told_met
 }
 
 -- whatever the line and the reply, no files are changed but two
-pub two_of : (line : Bytes) (given : Reply) (a b : Told) → ChangesOnly (ChangedIn line given) a b → ChangesOnly TheTwo a b
-two_of line given a b only = only_more a b (ChangedIn line given) TheTwo (λ file changed. changed.2.1) only
+pub two_of : (line : Bytes) (given : Reply) (a b : Told) → ChangesOnly (ChangedIn line given) a b → ChangesOnly IsOfStore a b
+two_of line given a b only = only_more a b (ChangedIn line given) IsOfStore (λ file changed. changed.2.1) only
 
 module _ (old mid new : Told) (line : Bytes) (given : Reply) (only : ChangesOnly (ChangedIn line given) old mid) (text : Bytes) (r : Result (Unit {0}) GroundFault) (says : Says text r mid new) where
   quiet : said mid ≡ said old
@@ -85,7 +86,7 @@ module _ (old mid new : Told) (line : Bytes) (given : Reply) (only : ChangesOnly
   part_of reply e = subst (λ (t : Bytes). SaysPart t (said old) (said new)) e (subst (λ (s : Bytes). SaysPart text s (said new)) quiet (says_part text r mid new says))
 
 -- nothing of the reply was said
-abbrev pub nothing_said : (old new : Told) (reply : Bytes) → ChangesOnly TheTwo old new → SaysPart reply (said old) (said new)
+abbrev pub nothing_said : (old new : Told) (reply : Bytes) → ChangesOnly IsOfStore old new → SaysPart reply (said old) (said new)
 nothing_said old new reply only = ([], reply, refl, said_now old new only.goes only.said ∙ sym (append_nil (said old)))
 
 pub stops_reading : (s : Status) (old new : Outside) (lines lines' : Lines) (counts counts' : TurnCounts) (state : State) → Stopped s old new lines lines' counts counts' state → Stops s old new lines lines' counts counts' state
@@ -122,21 +123,21 @@ pub record GoesTo (old new : Told) (s s' : Session) (r : Repository) (v : View) 
   pub gives : LineStep IsServedLine no_rules (state_in s r v) line (conditions_of s'.met) reply (state_in s' x.0 x.1)
   pub working : IsWorking new s' x.0 x.1
   pub only : ChangesOnly (ChangedIn line reply) old new
-  pub keeps : IsInOrder old → Keeps old new r x.0
-  pub order : IsInOrder old → IsInOrder new
+  pub atomic : NothingPending old → IsAtomic old new r x.0
+  pub nothing_pending : NothingPending old → NothingPending new
 
 pub went_to : (tells : Bool) (old new : Told) (s s' : Session) (r : Repository) (v : View) (line : Bytes) (reply : Reply) → (IsTrue tells → Goes old new s s' r v (ChangedIn line) (LineStep IsServedLine no_rules (state_in s r v) line) reply)
     → (x : Repository × View) × (IsTrue tells → GoesTo old new s s' r v line reply x)
 went_to tells old new s s' r v line reply goes = settled (GoesTo old new s s' r v line reply) tells (r, v)
-    (λ told. let h = goes told in ((h.after, h.view), record { gives = h.gives; working = h.is_at; only = h.only; keeps = h.keeps; order = h.order }))
+    (λ told. let h = goes told in ((h.after, h.view), record { gives = h.gives; working = h.is_at; only = h.only; atomic = h.atomic; nothing_pending = h.nothing_pending }))
 
 -- or it was cut short, with this reply and this state of the machine
 pub record CutTo (old new : Told) (s s' : Session) (r : Repository) (v : View) (line : Bytes) (x : Reply × State) : Type 0 where
   pub gives : LineStep IsServedLine no_rules (state_in s r v) line (conditions_of s'.met) x.0 x.1
-  pub only : ChangesOnly TheTwo old new
-  pub keeps : IsInOrder old → Keeps old new r x.1.repository
+  pub only : ChangesOnly IsOfStore old new
+  pub atomic : NothingPending old → IsAtomic old new r x.1.repository
 
 pub cut_to : (tells : Bool) (old new : Told) (s s' : Session) (r : Repository) (v : View) (line : Bytes) → (IsTrue tells → Cut old new s s' r v (LineStep IsServedLine no_rules (state_in s r v) line))
     → (x : Reply × State) × (IsTrue tells → CutTo old new s s' r v line x)
 cut_to tells old new s s' r v line cut = settled (CutTo old new s s' r v line) tells (Reply.Accepted, state_in s r v)
-    (λ told. let h = cut told in ((h.reply, h.after), record { gives = h.gives; only = h.only; keeps = h.keeps }))
+    (λ told. let h = cut told in ((h.reply, h.after), record { gives = h.gives; only = h.only; atomic = h.atomic }))

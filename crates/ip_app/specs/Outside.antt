@@ -8,7 +8,7 @@ use Rattle.ip_ground.specs.declared.names.GroundCounts.{GroundCounts}
 use Rattle.ip_ground.specs.Counts.{NoneFalls}
 use Rattle.ip_ground.specs.Told.{Told, KeepsPast, KeepsFile, KeepsCustody}
 use Rattle.ip_spec.specs.Path.{Bytes}
-use Rattle.ip_store.specs.Publishing.{TheTwo}
+use Rattle.ip_store.specs.Publishing.{IsOfStore}
 use Rattle.ip_app.specs.declared.turn_log.Turn.{Turn}
 
 pub record Outside : Type 1 where
@@ -43,5 +43,5 @@ pub record GoesOn (old new : Outside) : Type 0 where
 
 pub record KeepsFiles (old new : Told) : Type 0 where
   pub goes : KeepsPast old new
-  pub others : (file : FileName) → ¬ TheTwo file → KeepsFile old new file
+  pub others : (file : FileName) → ¬ IsOfStore file → KeepsFile old new file
   pub lending : (attempt : ℕ) → KeepsCustody old new attempt

@@ -6,11 +6,13 @@ use Rattle.std.specs.Prelude.{ℕ, ◌≤◌, ◌≡◌, ◌⊎◌, Bool, true, 
 use Rattle.ip_ground.specs.declared.names.FileName.TheVariants.{Control}
 use Rattle.ip_ground.specs.declared.names.GroundCounts.{GroundCounts}
 use Rattle.ip_ground.specs.Counts.{Rose}
-use Rattle.ip_ground.specs.Told.{Told, said, ChangesOnly, SyncsOnly, Only, NoFile, IsKept, EachImageNow}
+use Rattle.ip_ground.specs.Custody.{own}
+use Rattle.ip_ground.specs.Told.{Told, said, lending, ChangesOnly, SyncsOnly, Only, NoFile, IsKept, EachImageNow}
 use Rattle.ip_image.specs.declared.counts.TurnCounts.{TurnCounts}
 use Rattle.ip_image.specs.Slot.{live_index}
 use Rattle.ip_image.specs.Standing.{StandsFor, NoStore, DamagedAt}
-use Rattle.ip_image.specs.Headline.{IsInOrder, MayServe, Headline}
+use Rattle.ip_image.specs.Pending.{NothingPending}
+use Rattle.ip_image.specs.Headline.{MayServe, Headline}
 use Rattle.ip_spec.specs.Path.{Bytes}
 use Rattle.ip_spec.specs.Repository.{Repository, no_repository}
 use Rattle.ip_spec.specs.Machine.{State, opened}
@@ -19,7 +21,7 @@ use Rattle.ip_store.specs.Control.{control_in, IsFresh}
 use Rattle.ip_store.specs.declared.store.InitFault.{InitFault}
 use Rattle.ip_store.specs.declared.opening.OpenFault.{OpenFault}
 use Rattle.ip_store.specs.declared.store.Store.{Store}
-use Rattle.ip_store.specs.Opening.{SecuresOpening}
+use Rattle.ip_store.specs.Opening.{RecoversOnceOpen}
 use Rattle.ip_store.specs.Store.{IsOf, Holds}
 use Rattle.ip_app.specs.declared.statuses.Status.{Status}
 use Rattle.ip_app.specs.Lines.{longest_line, last_piece}
@@ -53,7 +55,7 @@ pub record OpensAs (tells : Bool) (old new : Told) (store : Store) : Type 0 wher
   pub tables : IsOf store repository
   pub holds : IsTrue tells → Holds store new repository
   pub stands : IsTrue tells → StandsFor old.held repository
-  pub opening : IsTrue tells → SecuresOpening old new
+  pub opening : IsTrue tells → RecoversOnceOpen old new
   pub over : (told : IsTrue tells) → (opening told).since ≤ new.moment
 
 -- what the files read as when the call began stands for the repository with which the run begins
@@ -141,7 +143,7 @@ pub record Serves (old new : Outside) (status : Status) : Type 0 where
   pub stands : IsTrue old.ground_tells → is_cut_short status ≡ false → StandsFor old.told.held first.repository → StandsFor new.told.held (after_all first exchanges).repository
   -- At every moment from the first sync of opening on, where the ground was in order: what had been said was a front of the replies' texts, and whatever a crash leaves
   -- stands for the repository after some first commands, all acknowledged ones among them.
-  pub headline : IsTrue old.ground_tells → (r : Repository) → StandsFor old.told.held r → IsInOrder old.told → (since : ℕ) × Headline since old.told new.told (opened r) (map answer_of exchanges)
+  pub headline : IsTrue old.ground_tells → (r : Repository) → StandsFor old.told.held r → NothingPending old.told → (since : ℕ) × Headline since old.told new.told (opened r) (map answer_of exchanges)
   -- and the ground that is left may be served again, however this run ended
   pub again : IsTrue old.ground_tells → MayServe old.told → MayServe new.told
   -- what was said grows by the replies' texts
@@ -190,7 +192,7 @@ pub record IsMade (chunk : ℕ) (old new : Told) : Type 0 where
   pub fresh : IsFresh chunk new.held
   pub kept : IsKept new Control
   pub stands : EachImageNow new (λ image. StandsFor image no_repository)
-  pub order : IsInOrder new
+  pub nothing_pending : ((attempt : ℕ) → lending old attempt ≡ own) → NothingPending new
 
 -- a slot was open, and nothing was changed
 pub record IsThere (old new : Told) : Type 0 where

@@ -7,7 +7,8 @@ use Rattle.ip_ground.specs.Counts.{Rose}
 use Rattle.ip_ground.specs.Told.{said}
 use Rattle.ip_image.specs.declared.counts.TurnCounts.{TurnCounts}
 use Rattle.ip_image.specs.Standing.{StandsFor}
-use Rattle.ip_image.specs.Headline.{IsInOrder, MayServe, Turning, Headline}
+use Rattle.ip_image.specs.Pending.{NothingPending}
+use Rattle.ip_image.specs.Headline.{MayServe, Turning, Headline}
 use Rattle.ip_spec.specs.Path.{Bytes, line_feed}
 use Rattle.ip_spec.specs.Machine.{State, opened}
 use Rattle.ip_spec.specs.Repository.{Repository}
@@ -55,8 +56,8 @@ pub record TurnedIn (old new : Outside) (lines lines' : Lines) (counts counts' :
   pub serving : IsServing s'
   pub working : IsTrue old.ground_tells → IsWorking new.told s' after view
   pub said : IsTrue old.ground_tells → said new.told ≡ said old.told ++ reply_text exchange.reply
-  pub turning : IsTrue old.ground_tells → IsInOrder old.told → Turning old.told new.told (reply_text exchange.reply) r after
-  pub order : IsTrue old.ground_tells → IsInOrder old.told → IsInOrder new.told
+  pub turning : IsTrue old.ground_tells → NothingPending old.told → Turning old.told new.told (reply_text exchange.reply) r after
+  pub nothing_pending : IsTrue old.ground_tells → NothingPending old.told → NothingPending new.told
 
 -- `rest` is what stands behind the last line feed
 pub record Stopped (status : Status) (old new : Outside) (lines lines' : Lines) (counts counts' : TurnCounts) (state : State) : Type 0 where
@@ -71,7 +72,7 @@ pub record Stopped (status : Status) (old new : Outside) (lines lines' : Lines) 
   pub cause : IsCaused status old.read_faults new.read_faults
   pub same_said : IsTrue old.ground_tells → said new.told ≡ said old.told
   pub same_moment : IsTrue old.ground_tells → new.told.moment ≡ old.told.moment
-  pub order : IsTrue old.ground_tells → IsInOrder old.told → IsInOrder new.told
+  pub nothing_pending : IsTrue old.ground_tells → NothingPending old.told → NothingPending new.told
   pub same_turns : new.turns ≡ old.turns
   pub same_counts : counts' ≡ counts
   pub until : IsLater counts' (turn_counts new.counts)
@@ -98,8 +99,8 @@ pub record Unsaid (status : Status) (old new : Outside) (lines lines' : Lines) (
   -- a command that was cut short says nothing
   pub silent : (told : IsTrue old.ground_tells) → is_cut_short status ≡ true → (part told).0 ≡ []
   pub stands : IsTrue old.ground_tells → is_cut_short status ≡ false → StandsFor new.told.held exchange.after.repository
-  pub turning : IsTrue old.ground_tells → IsInOrder old.told → Turning old.told new.told (reply_text exchange.reply) state.repository exchange.after.repository
-  pub again : IsTrue old.ground_tells → IsInOrder old.told → MayServe new.told
+  pub turning : IsTrue old.ground_tells → NothingPending old.told → Turning old.told new.told (reply_text exchange.reply) state.repository exchange.after.repository
+  pub again : IsTrue old.ground_tells → NothingPending old.told → MayServe new.told
 
 abbrev pub Stops : Status → Outside → Outside → Lines → Lines → TurnCounts → TurnCounts → State → Type 0
 Stops Status.SayFault old new lines lines' counts counts' state = Unsaid Status.SayFault old new lines lines' counts counts' state × Rose old.counts.say_faults new.counts.say_faults
@@ -129,8 +130,8 @@ pub record Served (old now : Outside) (lines : Lines) (counts : TurnCounts) (ses
   pub said : IsTrue old.ground_tells → said now.told ≡ said old.told ++ texts_in exchanges
   pub opened_at : IsTrue old.ground_tells → ℕ
   pub over : (told : IsTrue old.ground_tells) → opened_at told ≤ now.told.moment
-  pub headline : (told : IsTrue old.ground_tells) → IsInOrder old.told → Headline (opened_at told) old.told now.told (opened first) (map answer_of exchanges)
-  pub order : IsTrue old.ground_tells → IsInOrder old.told → IsInOrder now.told
+  pub headline : (told : IsTrue old.ground_tells) → NothingPending old.told → Headline (opened_at told) old.told now.told (opened first) (map answer_of exchanges)
+  pub nothing_pending : IsTrue old.ground_tells → NothingPending old.told → NothingPending now.told
   pub noted : IsTrue now.log_tells → now.turns ≡ old.turns ++ turns_in exchanges
   pub start : TurnCounts
   pub since : IsLater (turn_counts old.counts) start

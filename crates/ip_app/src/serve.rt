@@ -5,7 +5,7 @@ ghost use Rattle.ip_ground.specs.Told.{SyncsOnly, Only};
 ghost use Rattle.ip_ground.specs.declared.names.FileName.TheVariants.{Control};
 ghost use Rattle.ip_spec.specs.Repository.{Repository};
 ghost use Rattle.ip_spec.specs.View.{View};
-ghost use Rattle.ip_store.specs.Opening.{SecuresOpening};
+ghost use Rattle.ip_store.specs.Opening.{RecoversOnceOpen};
 ghost use Rattle.ip_app.specs.Outside.{outside};
 ghost use Rattle.ip_app.specs.Turns.{turn_counts, IsLater};
 ghost use Rattle.ip_app.specs.Serving.{ended_status, TurnedIn, Stops};
@@ -125,7 +125,7 @@ fn opening_status(fault: OpenFault) -> Status
 // Binds the folder and opens the store in it.
 fn open_in<G: Ground>(alloc: Global, folder: &str, ground: &mut G) -> Result<Store, Status>
     ensures only { IsTrue G.tells → SyncsOnly (Only Control) (G.told ground.old) (G.told ground.new) }
-    ensures opening { IsTrue G.tells → SecuresOpening (G.told ground.old) (G.told ground.new) }
+    ensures opening { IsTrue G.tells → RecoversOnceOpen (G.told ground.old) (G.told ground.new) }
     ensures opened { IfOk result (OpensAs G.tells (G.told ground.old) (G.told ground.new)) }
     ensures refused { IfErr result (λ status. CouldNotOpen status G.tells (G.told ground.old) (G.counts_of ground.old) (G.counts_of ground.new)) }
     ensures counts { NoneFalls (G.counts_of ground.old) (G.counts_of ground.new) }

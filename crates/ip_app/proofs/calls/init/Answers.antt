@@ -4,7 +4,7 @@ use Rattle.ip_ground.specs.declared.names.FileName.TheVariants.{Control}
 use Rattle.ip_ground.specs.declared.names.GroundCounts.{GroundCounts}
 use Rattle.ip_ground.specs.Counts.{Rose, NoneFalls}
 use Rattle.ip_ground.specs.Told.{Told, ChangesOnly, Only, NoFile}
-use Rattle.ip_ground.proofs.Spans.{only_on, only_more}
+use Rattle.ip_ground.proofs.Spans.{only_on, only_more, lending_now}
 use Rattle.ip_ground.proofs.Rising.{rose_after}
 use Rattle.ip_image.specs.Slot.{live_index}
 use Rattle.ip_store.specs.Opening.{Makes}
@@ -29,7 +29,7 @@ init_row chunk made s tells old mid new a b d e only makes falls cause = subst (
       fresh = (m told).made;
       kept = (m told).kept;
       stands = (m told).stands;
-      order = (m told).order;
+      nothing_pending = λ none. (m told).nothing_pending (λ attempt. lending_now old mid (only told).goes attempt ((only told).lending attempt) ∙ none attempt);
     }
     by_answer (Err InitFault.Existing) m h = λ told. record {
       gate_open = subst (λ bytes. IsSome (live_index bytes)) (same_control old mid (only told)) ((m told).existing refl);

@@ -22,7 +22,7 @@ returns-in-Err-clause-stops g c r v working = stops_reading c.in-Err.status _ _ 
   cause = c.in-Err.ensures.err.cause;
   same_said = λ told. refl;
   same_moment = λ told. refl;
-  order = λ told order. order;
+  nothing_pending = λ told order. order;
   same_turns = refl;
   same_counts = refl;
   until = c.requires.counted;
@@ -46,8 +46,8 @@ returns-in-Ok-say-clause-turned g c r v working =
       serving = c.in-Ok.ensures.tables;
       working = λ told. working_along _ _ c.answer-answered.new.self went.0.0 went.0.1 (c.say.ensures.does told).goes (c.say.ensures.does told).files (goes told).working;
       said = λ told. said_of _ _ _ c.deref.result.now answered.0 (goes told).only _ _ (c.in-Ok-say.ensures.does told) _ text;
-      turning = λ told order. turned_moments _ _ _ _ (c.say.ensures.does told) _ (ChangedIn c.deref.result.now answered.0) (goes told).only _ text r went.0.0 ((goes told).keeps order) _ (goes told).working.holds ((goes told).order order);
-      order = λ told order. order_says _ _ _ _ (c.say.ensures.does told) ((goes told).order order);
+      turning = λ told order. turned_moments _ _ _ _ (c.say.ensures.does told) _ (ChangedIn c.deref.result.now answered.0) (goes told).only _ text r went.0.0 ((goes told).atomic order) _ (goes told).working.holds ((goes told).nothing_pending order);
+      nothing_pending = λ told order. order_says _ _ _ _ (c.say.ensures.does told) ((goes told).nothing_pending order);
     }
 
 pub returns-in-Err-say-clause-stops : goal.returns-in-Err-say-clause-stops
@@ -64,11 +64,11 @@ returns-in-Err-say-clause-stops g c r v working =
             c.in_default.ensures.ok c.in_default.ensures.count (λ told. (goes told).gives) c.deref.ensures.value c.met.ensures c.note.ensures.noted (c.turn_counts.ensures ∙ ap turn_counts c.counts.ensures) c.requires.counted c.answer-answered.ensures.counts c.say.ensures.counts;
         part = λ told. part_of _ _ _ c.deref.result.now answered.0 (goes told).only _ _ (c.say.ensures.does told) _ text;
         silent = λ told cut_short. absurd (cc cut_short);
-        turning = λ told order. turned_moments _ _ _ _ (c.say.ensures.does told) _ (ChangedIn c.deref.result.now answered.0) (goes told).only _ text r went.0.0 ((goes told).keeps order) _ (goes told).working.holds ((goes told).order order);
+        turning = λ told order. turned_moments _ _ _ _ (c.say.ensures.does told) _ (ChangedIn c.deref.result.now answered.0) (goes told).only _ text r went.0.0 ((goes told).atomic order) _ (goes told).working.holds ((goes told).nothing_pending order);
         again = λ told order. record {
           repository = went.0.0;
           stands = (working_along _ _ c.answer-answered.new.self went.0.0 went.0.1 (c.say.ensures.does told).goes (c.say.ensures.does told).files (goes told).working).holds.stands;
-          order = order_says _ _ _ _ (c.say.ensures.does told) ((goes told).order order);
+          nothing_pending = order_says _ _ _ _ (c.say.ensures.does told) ((goes told).nothing_pending order);
         };
         stands = λ told whole. (working_along _ _ c.answer-answered.new.self went.0.0 went.0.1 (c.say.ensures.does told).goes (c.say.ensures.does told).files (goes told).working).holds.stands;
       },
@@ -88,6 +88,6 @@ returns-in-Err-answered-clause-stops g c r v working =
       part = λ told. nothing_said _ _ _ (cut told).only;
       silent = λ told cut_short. refl;
       stands = λ told whole. absurd (cc (whole, ended_short c.in-Err-answered.end));
-      turning = λ told order. turns_quietly (g.G.Ground.told c.args.ground.now) (g.G.Ground.told c.answer-answered.new.ground) _ r ended.0.1.repository (cut told).only.said ((cut told).keeps order);
-      again = λ told order. cut_again _ r ended.0.1.repository _ _ (working told).holds order (cut told).only.goes ((cut told).keeps order) (g.met.G.Ground.possible c.answer-answered.new.ground told);
+      turning = λ told order. turns_quietly (g.G.Ground.told c.args.ground.now) (g.G.Ground.told c.answer-answered.new.ground) _ r ended.0.1.repository (cut told).only.said ((cut told).atomic order);
+      again = λ told order. cut_again _ r ended.0.1.repository _ _ (working told).holds order (cut told).only.goes ((cut told).atomic order) (g.met.G.Ground.possible c.answer-answered.new.ground told);
     }) c.in-Err-answered.ensures.cause
