@@ -4,7 +4,7 @@ use Rattle.std.proofs.lemmas.Bool.{false≢true}
 use Rattle.std.proofs.lemmas.List.Elements.{All-from_recursion}
 use Rattle.std.specs.Prelude.{codes, is_some}
 use Rattle.ip_ground.specs.Contents.{Image}
-use Rattle.ip_ground.specs.declared.names.FileName.TheVariants.{Control, Chunk}
+use Rattle.ip_ground.specs.declared.names.FileName.TheVariants.{Control}
 use Rattle.ip_spec.specs.Path.{Bytes, Path, IsPath, IsStep}
 use Rattle.ip_spec.specs.Record.{Fits}
 use Rattle.ip_spec.specs.declared.record.Record.{Record}
@@ -16,15 +16,16 @@ use Rattle.ip_spec.specs.TreeAt.{present}
 use Rattle.ip_spec.specs.Repository.{no_repository}
 use Rattle.ip_spec.specs.Step.{new_commit, with_commit, step_runs}
 use Rattle.ip_spec.proofs.Subtrees.{get-no_tree, lawful_put}
-use Rattle.ip_image.specs.Slot.{fresh, fresh_control}
+use Rattle.ip_image.specs.Slot.{layout_of, fresh, fresh_control}
 use Rattle.ip_image.specs.Standing.{StandsFor, IsServedKind}
 use Rattle.ip_image.specs.Collection.{image_runs}
-use Rattle.ip_image.specs.Virtual.{byte_of, chunk_byte}
+use Rattle.ip_image.specs.Virtual.{chunk_byte}
 use Rattle.ip_image.specs.Pending.{HasLive}
 use Rattle.ip_image.specs.Appending.{SameGeneration, AddsBytes, unread, MayGrow, fields_of, grown_batch, grown_end, bytes_of_records, AreWithin}
-use Rattle.ip_image.proofs.InChunk.{chunk_lies, present_below}
+use Rattle.ip_image.proofs.InChunk.{chunk_lies, lies_below}
 use Rattle.ip_image.proofs.FreshLaws.{fresh_stands, is_live}
-use Rattle.ip_image.proofs.AppendingLaws.{get_behind, stands_grown}
+use Rattle.ip_image.proofs.AppendingLaws.{stands_grown}
+use Rattle.ip_image.proofs.KeptRuns.{get_behind}
 use Rattle.ip_image.proofs.StoreExample.{control, chunk0, image, slot, info, tree, records, live, is_info, is_main, is_step, good}
 
 pub fresh_image : Image
@@ -82,7 +83,7 @@ nothing_known J t end below = record {
 
 first_known : KnownStand (present starts.standing.records) (unread tree) 0
 first_known = nothing_known (present starts.standing.records) tree 0
-    (λ at r is. present_below (byte_of (fresh_image (Chunk 0))) 0 starts.standing.records 0 at r (chunk_lies fresh_image (fresh 4096) fresh_live starts.standing) is)
+    (λ at r is. lies_below fresh_image (layout_of (fresh 4096)) (lit≤ tt) starts.standing.records (chunk_lies fresh_image (fresh 4096) fresh_live starts.standing) at r is)
 
 the_batch : grown_batch (unread tree) (fields_of no_repository [] info (codes "main")) 0 ≡ records
 unfolding batch_runs image_runs step_runs

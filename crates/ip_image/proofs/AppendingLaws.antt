@@ -2,89 +2,39 @@
 --     stands_still      with the same records it stands for the same repository
 --     stands_grown      with the records of a commit behind them, for the repository after the commit
 --     some_repository      an image that holds all that it must stands for some repository
---     spelled_lies, lies_behind      records lie where the bytes that spell them stand, and behind others
---     same_byte, lies_on      a byte of an image's records, and they and others behind them, in an image that has the bytes of both
---     good_append, still_good, good_one      records that are good behind others, and under a slot of the same generation
+--     good_append, still_good, good_one      records that are good behind others, under a slot of the same generation, and behind the commit that it begins with
 --     still_retained, set_retained      branches at retained commits, there, and with one that was set
-use Rattle.std.proofs.Common.{◌≡◌, ℕ, zero, suc, ◌+◌, ◌<◌, ◌≤◌, List, [], ◌∷◌, ◌++◌, refl, sym, ap, subst, ◌∙◌, Option, Some, None, Bool, true, false, cond, length, arith, append_assoc, append-nil, length-append}
+use Rattle.std.proofs.Common.{◌≡◌, ◌≢◌, ◌⊎◌, inl, inr, ℕ, ◌+◌, ◌<◌, ◌≤◌, List, [], ◌∷◌, ◌++◌, refl, sym, ap, subst, ◌∙◌, Option, Some, None, Bool, true, false, cond, length, arith, append_assoc, append-nil, length-append}
 use Rattle.std.proofs.lemmas.List.Elements.{recursion_from_All, filter_map-append}
 use Rattle.std.proofs.lemmas.List.Sums.{fold-append}
-use Rattle.std.specs.Prelude.{slice_get, IfSome, fold}
+use Rattle.std.specs.Prelude.{IfSome, fold}
 use Rattle.std.specs.List.{AllByRecursion, AllZip, cons_option}
 use Rattle.std.specs.Cmp.Lexicographic.{nat_list_cmp_total}
 use Rattle.std.specs.Ordering.{eq_by_cmp}
 use Rattle.ip_base.specs.declared.info.Info.{Info}
-use Rattle.ip_ground.specs.declared.names.FileName.TheVariants.{Chunk}
-use Rattle.ip_ground.specs.Contents.{Content, Image}
+use Rattle.ip_ground.specs.Contents.{Image}
 use Rattle.ip_spec.specs.declared.record.Record.{Record}
 use Rattle.ip_spec.specs.declared.record.CommitRecord.{CommitRecord}
 use Rattle.ip_spec.specs.Map.{Map, empty, get, insert, len, get-insert}
 use Rattle.ip_spec.specs.Path.{Bytes, bytes_cmp}
-use Rattle.ip_spec.specs.Record.{Names, Fits, spelling, spelling_of}
+use Rattle.ip_spec.specs.Record.{Names, Fits, kind_of, spelling, spelling_of}
 use Rattle.ip_spec.specs.TreeAt.{Records, present, TreeAt}
 use Rattle.ip_spec.specs.View.{View}
-use Rattle.ip_spec.specs.Batch.{CommitFields, Sources, AreEndToEnd, KnownStand, SourcesStand, sources, batch}
+use Rattle.ip_spec.specs.Batch.{CommitFields, Sources, AreEndToEnd, KnownStand, SourcesStand, sources, batch, batch_end}
 use Rattle.ip_spec.specs.Repository.{Repository, Commit, next}
 use Rattle.ip_spec.specs.Step.{new_commit, with_commit}
 use Rattle.ip_spec.proofs.TreeAtLaws.{more_part}
 use Rattle.ip_spec.proofs.BatchLaws.{batch_lies, sources_stand}
-use Rattle.ip_image.specs.Slot.{Slot, IsSlot}
-use Rattle.ip_image.specs.Virtual.{Stands, byte_of, chunk_byte}
-use Rattle.ip_image.specs.Standing.{Terms, EndToEnd, RecordFits, IsServedKind, IsGood, AreGood, commit_of, commits_in, names_after, named, AreRetained, WholeFits, Spells, terms_of, may_be_outside}
-use Rattle.ip_image.specs.Pending.{HasLive, SameSpace}
-use Rattle.ip_image.specs.Appending.{SameGeneration, AddsBytes, MayGrow, fields_of, grown_batch, bytes_of_records, AreWithin, StandsStill, StandsGrown}
-use Rattle.ip_image.proofs.InChunk.{InChunk, in_chunk, same_in_chunk, stands_by, same_standing, ends_over, ends_append}
+use Rattle.ip_image.specs.Slot.{Slot, IsSlot, layout_of}
+use Rattle.ip_image.specs.Standing.{Terms, RecordFits, IsServedKind, IsGood, AreGood, commit_of, commits_in, names_after, named, AreRetained, WholeFits, Spells, terms_of, may_be_outside}
+use Rattle.ip_image.specs.Appending.{SameGeneration, MayGrow, fields_of, grown_batch, AreWithin, StandsStill, StandsGrown}
+use Rattle.ip_image.proofs.OneRepository.{zero_or_not}
+use Rattle.ip_image.proofs.InChunk.{LiesIn, lies_on, lies_above, InChunk, in_chunk, same_in_chunk, stands_by, same_standing}
 use Rattle.ip_image.proofs.TreeParts.{all_left, all_right, IsTreePart, AreTreeParts}
-use Rattle.ip_image.proofs.TreeBatch.{ends_apart, commit_record, TreeBatch, tree_behind}
+use Rattle.ip_image.proofs.TreeBatch.{commit_record, TreeBatch, tree_behind}
 use Rattle.ip_image.proofs.NextCommit.{next_number, commit_fits, spells_next}
 use Rattle.ip_image.proofs.SpelledCommits.{FitCommits, present_front, each_spelled, zip_append}
 pub use Rattle.ip_image.proofs.SpelledCommits.{some_repository}
-
--- ---- bytes
-
-pub get_front : (xs ys : Bytes) (k : ℕ) → k < length xs → slice_get (xs ++ ys) k ≡ slice_get xs k
-get_front [] ys k l = absurd (omega (arith, l))
-get_front (x ∷ xs) ys zero l = refl
-get_front (x ∷ xs) ys (suc k) l = get_front xs ys k (omega (arith, l))
-
-pub get_behind : (xs ys : Bytes) (k : ℕ) → slice_get (xs ++ ys) (length xs + k) ≡ slice_get ys k
-get_behind [] ys k = ap (slice_get ys) (omega arith)
-get_behind (x ∷ xs) ys k =
-    let e : suc (length xs) + k ≡ suc (length xs + k) = omega arith in
-    ap (slice_get (x ∷ (xs ++ ys))) e ∙ get_behind xs ys k
-
--- records lie where the bytes that spell them stand
-pub spelled_lies : (f : ℕ → Option ℕ) (from : ℕ) (xs : Records) (to : ℕ) → AreEndToEnd from xs to → Stands f from (bytes_of_records xs) → EndToEnd f from xs to
-unfolding spelling_of
-spelled_lies f from [] to e stands = e
-spelled_lies f from (x ∷ xs) to e stands =
-    let both = length-append (spelling x.1) (bytes_of_records xs) in (
-      e.0,
-      (λ k l. stands k (omega (arith, l, both)) ∙ get_front (spelling x.1) (bytes_of_records xs) k l),
-      spelled_lies f (from + length (spelling x.1)) xs to e.1 (λ k l.
-          let place : from + length (spelling x.1) + k ≡ from + (length (spelling x.1) + k) = omega arith in
-          ap f place ∙ stands (length (spelling x.1) + k) (omega (arith, l, both)) ∙ get_behind (spelling x.1) (bytes_of_records xs) k),
-    )
-
--- and behind others, whose bytes are there too
-pub lies_behind : (f g : ℕ → Option ℕ) (from : ℕ) (old new : Records) (end to : ℕ) → EndToEnd f from old end → AreEndToEnd end new to → ((k b : ℕ) → k < end → f k ≡ Some b → g k ≡ Some b)
-    → Stands g end (bytes_of_records new) → EndToEnd g from (old ++ new) to
-lies_behind f g from old new end to lies ends same stands = ends_append g from old new end to (ends_over f g from old end same lies) (spelled_lies g end new to ends stands)
-
--- while no generation is live, the bytes of a slot's records are those of chunk 0
-module _ (s : Slot) (image other : Image) (live : HasLive s image) where
-  pub same_byte : SameSpace s image other → (k b : ℕ) → k < s.end → byte_of (image (Chunk 0)) k ≡ Some b → byte_of (other (Chunk 0)) k ≡ Some b
-  unfolding chunk_byte
-  same_byte same k b l is = same.chunks k (let none = live.live.fields.none_live.0 live.live.fields.served in omega (arith, none)) l ∙ is
-
-  added_bytes : (bytes : Bytes) → AddsBytes s bytes image other → Stands (byte_of (other (Chunk 0))) s.end bytes
-  unfolding chunk_byte
-  added_bytes bytes adds = adds.added
-
-  pub lies_on : (old new : Records) (to : ℕ) → EndToEnd (byte_of (image (Chunk 0))) 0 old s.end → AreEndToEnd s.end new to → AddsBytes s (bytes_of_records new) image other
-      → EndToEnd (byte_of (other (Chunk 0))) 0 (old ++ new) to
-  lies_on old new to lies ends adds =
-      lies_behind (byte_of (image (Chunk 0))) (byte_of (other (Chunk 0))) 0 old new s.end to lies ends (same_byte adds.same) (added_bytes (bytes_of_records new) adds)
 
 -- ---- good records
 
@@ -112,20 +62,37 @@ still_good s t same pre (x ∷ xs) good = (
 abbrev IsWithin : ℕ → ℕ × Record → Type 0
 IsWithin version x = Fits version x.1 × IsServedKind x.1
 
+-- it lies behind the commit that a generation begins with
+abbrev pub IsBehind : Slot → ℕ → Type 0
+IsBehind s at = s.live ≢ 0 → s.horizon < at
+
+abbrev AreBehind : Slot → Records → Type 0
+AreBehind s xs = AllByRecursion (λ (x : ℕ × Record). IsBehind s x.0) xs
+
 module _ (s : Slot) (fields : IsSlot s) where
-  -- no generation is live, so its tests of kinds say nothing
-  pub good_one : (before : Records) (x : ℕ × Record) → IsWithin s.version x → RecordFits (terms_of s) before x.0 x.1 → IsGood s before x
-  good_one before x within fits = record {
+  -- below the horizon, and at it, kinds are tested
+  pub good_one : (before : Records) (x : ℕ × Record) → IsBehind s x.0 → IsWithin s.version x → RecordFits (terms_of s) before x.0 x.1 → IsGood s before x
+  good_one before x behind within fits = record {
     bounds = within.0;
     served = within.1;
-    kept_kind = λ l. (let none = fields.none_live.0 fields.served in absurd (omega (arith, l, none)));
-    first = λ some. absurd (some fields.served);
+    kept_kind = λ l. by l (zero_or_not s.live);
+    first = λ some at. (let late = behind some in absurd (omega (arith, late, at)));
     fits = fits;
   }
+    where
+      by : x.0 < s.horizon → (s.live ≡ 0) ⊎ (s.live ≢ 0) → kind_of x.1 ≤ 3
+      by l (inl nothing) = let zero = fields.none_live.0 nothing in absurd (omega (arith, l, zero))
+      by l (inr some) = let late = behind some in absurd (omega (arith, late, l))
 
-  good_fits : (before xs : Records) → AllByRecursion (IsWithin s.version) xs → FitCommits (terms_of s) before xs → AreGood s before xs
-  good_fits before [] within fit = tt
-  good_fits before (x ∷ xs) within fit = (good_one before x within.0 fit.0, good_fits (before ++ x ∷ []) xs within.1 fit.1)
+  good_fits : (before xs : Records) → AreBehind s xs → AllByRecursion (IsWithin s.version) xs → FitCommits (terms_of s) before xs → AreGood s before xs
+  good_fits before [] behind within fit = tt
+  good_fits before (x ∷ xs) behind within fit = (good_one before x behind.0 within.0 fit.0, good_fits (before ++ x ∷ []) xs behind.1 within.1 fit.1)
+
+-- records from there on lie behind it
+all_behind : (s : Slot) (from : ℕ) (xs : Records) (to : ℕ) → IsBehind s from → AreEndToEnd from xs to → AreBehind s xs
+all_behind s from [] to behind e = tt
+all_behind s from (x ∷ xs) to behind e =
+    ((λ some. let late = behind some in let at = e.0 in omega (arith, late, at)), all_behind s (from + length (spelling x.1)) xs to (λ some. let late = behind some in omega (arith, late)) e.1)
 
 -- ---- what the parts of a tree leave as it was
 
@@ -175,13 +142,14 @@ set_retained t m name number low high few is = record {
 -- ---- the same records
 
 pub stands_still : StandsStill
+unfolding spelling_of
 stands_still image other r s t stands live live' same end next space =
     let chunk = in_chunk image s live r stands in
     let more : s.next ≤ t.next = omega (arith, next) in
     stands_by other t live' r (record {
       records = chunk.records;
-      lies = subst (EndToEnd (byte_of (other (Chunk 0))) 0 chunk.records) (sym end)
-          (ends_over (byte_of (image (Chunk 0))) (byte_of (other (Chunk 0))) 0 chunk.records s.end (same_byte s image other live space) chunk.lies);
+      lies = subst (LiesIn (layout_of t) other) (append-nil chunk.records)
+          (lies_on s t image other live.live.fields.none_live.0 same chunk.records [] chunk.lies (sym end) (record { same = space; added = λ k l. absurd (omega (arith, l)) }));
       good = still_good s t same [] chunk.records chunk.good;
       fits = record {
         next = (let is = chunk.fits.next in let floor = same.floor in omega (arith, is, next, floor));
@@ -196,7 +164,7 @@ stands_still image other r s t stands live live' same end next space =
 
 -- ---- a commit's records behind those of its repository
 
-module _ (s : Slot) (fields : IsSlot s) (content : Content) (r : Repository) (chunk : InChunk s content r) (v : View) (from : Sources) (parents : List ℕ) (info : Info) (branch : Bytes)
+module _ (s : Slot) (fields : IsSlot s) (image : Image) (r : Repository) (chunk : InChunk s image r) (v : View) (from : Sources) (parents : List ℕ) (info : Info) (branch : Bytes)
     (may : MayGrow r v.map parents info branch) (known : KnownStand (present chunk.records) v s.end) (stand : SourcesStand (present chunk.records) v from)
     (within : AreWithin s.version (batch v from (fields_of r parents info branch) s.end)) where
   abbrev old : Records
@@ -215,7 +183,7 @@ module _ (s : Slot) (fields : IsSlot s) (content : Content) (r : Repository) (ch
   all_within = recursion_from_All (IsWithin s.version) new within
 
   tree : TreeBatch (terms_of s) v from f s.end old
-  tree = tree_behind (terms_of s) v from f s.end old (ends_apart (byte_of content) 0 old s.end chunk.lies) known stand may.is_tree (served new all_within)
+  tree = tree_behind (terms_of s) v from f s.end old known stand may.is_tree (served new all_within)
     where
       served : (xs : Records) → AllByRecursion (IsWithin s.version) xs → AllByRecursion (λ (x : ℕ × Record). IsServedKind x.1) xs
       served [] all = tt
@@ -270,22 +238,32 @@ module _ (s : Slot) (fields : IsSlot s) (content : Content) (r : Repository) (ch
   last_within : AllByRecursion (IsWithin s.version) (commit ∷ set ∷ [])
   last_within = all_right (IsWithin s.version) parts (commit ∷ set ∷ []) pieces_within
 
+  behind : IsBehind s s.end
+  behind = lies_above image (layout_of s) fields.horizon old chunk.lies
+
+  pieces_behind : AreBehind s (parts ++ commit ∷ set ∷ [])
+  pieces_behind = subst (AreBehind s) tree.is (all_behind s s.end new (batch_end v from f s.end) behind (batch_lies v from f s.end))
+
+  last_behind : AreBehind s (commit ∷ set ∷ [])
+  last_behind = all_right (λ (x : ℕ × Record). IsBehind s x.0) parts (commit ∷ set ∷ []) pieces_behind
+
   good_commit : IsGood s before commit
-  good_commit = good_one s fields before commit last_within.0 (commit_fits s content r fields chunk v.map parents info branch may tree.root before tree.commit_at same_commits tree.spelled tree.root_below)
+  good_commit = good_one s fields before commit last_behind.0 last_within.0 (commit_fits s image r fields chunk v.map parents info branch may tree.root before tree.commit_at same_commits tree.spelled tree.root_below)
 
   good_batch : AreGood s old new
   good_batch = subst (AreGood s old) (sym tree.is)
-      (good_append s old parts (commit ∷ set ∷ []) (good_fits s fields old parts (all_left (IsWithin s.version) parts (commit ∷ set ∷ []) pieces_within) tree.fit)
-      (good_commit, (good_one s fields (before ++ commit ∷ []) set last_within.1.0 tt, tt)))
+      (good_append s old parts (commit ∷ set ∷ [])
+      (good_fits s fields old parts (all_left (λ (x : ℕ × Record). IsBehind s x.0) parts (commit ∷ set ∷ []) pieces_behind) (all_left (IsWithin s.version) parts (commit ∷ set ∷ []) pieces_within) tree.fit)
+      (good_commit, (good_one s fields (before ++ commit ∷ []) set last_behind.1.0 last_within.1.0 tt, tt)))
 
   number_is : next r ≡ s.next
-  number_is = next_number s content r fields chunk
+  number_is = next_number s image r fields chunk
 
   commits_after : AllZip (Spells (old ++ new)) (commits_in (old ++ new)) (r.commits ++ after ∷ [])
   commits_after = subst (λ (cs : List CommitRecord). AllZip (Spells (old ++ new)) cs (r.commits ++ after ∷ [])) (sym all_commits)
       (zip_append (Spells (old ++ new)) (commits_in old) (c ∷ []) r.commits (after ∷ [])
       (each_spelled old (old ++ new) (present_front old new) (commits_in old) r.commits chunk.commits)
-      (spells_next s content r fields chunk v.map parents info branch may tree.root (old ++ new) root_stays, tt))
+      (spells_next s image r fields chunk v.map parents info branch may tree.root (old ++ new) root_stays, tt))
 
   -- ---- the repository after the commit
 
@@ -312,8 +290,8 @@ module _ (s : Slot) (fields : IsSlot s) (content : Content) (r : Repository) (ch
       tags = subst (AreRetained t) (sym (all_names Names.tags)) (still_retained s t same more (named Names.tags old) chunk.fits.tags);
     }
 
-    module _ (grown : Content) (lies : EndToEnd (byte_of grown) 0 (old ++ new) t.end) where
-      pub chunk_after : InChunk t grown (with_commit r after branch)
+    module _ (other : Image) (lies : LiesIn (layout_of t) other (old ++ new)) where
+      pub chunk_after : InChunk t other (with_commit r after branch)
       chunk_after = record {
         records = old ++ new;
         lies = lies;
@@ -337,10 +315,10 @@ stands_grown image other r s t v parents info branch stands live may known withi
     let same_records : chunk.records ≡ stands.standing.records = same_in_chunk image s live r stands in
     let known : KnownStand (present chunk.records) v s.end = subst (λ (rs : Records). KnownStand (present rs) v s.end) (sym same_records) known in
     let stand = sources_stand (present chunk.records) v s.end known in
-    let lies = lies_on s image other live chunk.records (grown_batch v f s.end) t.end chunk.lies (subst (AreEndToEnd s.end (grown_batch v f s.end)) (sym ends) (batch_lies v (sources v) f s.end)) adds in
-    let after = chunk_after s live.live.fields (image (Chunk 0)) r chunk v (sources v) parents info branch may known stand within t same next (other (Chunk 0)) lies in (
+    let lies = lies_on s t image other live.live.fields.none_live.0 same chunk.records (grown_batch v f s.end) chunk.lies (subst (AreEndToEnd s.end (grown_batch v f s.end)) (sym ends) (batch_lies v (sources v) f s.end)) adds in
+    let after = chunk_after s live.live.fields image r chunk v (sources v) parents info branch may known stand within t same next other lies in (
       stands_by other t live' q after,
       same_standing other t live' q after
-          ∙ records_after s live.live.fields (image (Chunk 0)) r chunk v (sources v) parents info branch may known stand within t same next (other (Chunk 0)) lies
+          ∙ records_after s live.live.fields image r chunk v (sources v) parents info branch may known stand within t same next other lies
           ∙ ap (λ (rs : Records). rs ++ grown_batch v f s.end) same_records,
     )

@@ -107,7 +107,6 @@ module _ (control : Bytes) where
       first_chunk = omega arith;
       none_live = (λ e. e, λ e. e);
       nothing_below = λ e. (refl, refl, refl);
-      served = refl;
     }
 
     pub is_live : IsLive control 0 (fresh chunk)

@@ -24,16 +24,17 @@ use Rattle.ip_spec.specs.Batch.{CommitFields, AreEndToEnd, KnownStand, batch_run
 use Rattle.ip_spec.specs.Repository.{Repository, no_repository, is_retained}
 use Rattle.ip_spec.specs.Step.{new_commit, with_commit, step_runs}
 use Rattle.ip_spec.proofs.Subtrees.{lawful_put, same_as}
-use Rattle.ip_image.specs.Slot.{Slot, IsSlot, fresh, slot_bytes}
-use Rattle.ip_image.specs.Virtual.{byte_of, chunk_byte}
+use Rattle.ip_image.specs.Slot.{Slot, IsSlot, layout_of, fresh, slot_bytes}
+use Rattle.ip_image.specs.Virtual.{chunk_byte}
 use Rattle.ip_image.specs.Standing.{StandsFor, IsServedKind}
 use Rattle.ip_image.specs.Collection.{image_runs}
 use Rattle.ip_image.specs.Pending.{HasLive}
 use Rattle.ip_image.specs.Appending.{SameGeneration, AddsBytes, unread, MayGrow, fields_of, grown_batch, grown_end, bytes_of_records, AreWithin}
 use Rattle.ip_image.proofs.OneRepository.{good_fit, same_stretch}
-use Rattle.ip_image.proofs.InChunk.{chunk_lies, chunk_good, present_below}
+use Rattle.ip_image.proofs.InChunk.{lies_in_chunk, lies_below, chunk_lies, chunk_good}
 use Rattle.ip_image.proofs.TreeBatch.{found_below}
-use Rattle.ip_image.proofs.AppendingLaws.{get_front, get_behind, stands_grown}
+use Rattle.ip_image.proofs.AppendingLaws.{stands_grown}
+use Rattle.ip_image.proofs.KeptRuns.{get_front, get_behind}
 use Rattle.ip_image.proofs.StoreExample.{info, is_info, is_main, is_hash, are_bytes, each, is_word_byte, step_byte}
 use Rattle.ip_image.proofs.AppendingExample.{fresh_image, starts, fresh_live, no_lawful, none_below, nothing_known, same_generation}
 
@@ -159,7 +160,6 @@ allowed sequence end next low high short few = record {
   first_chunk = lit≤ tt;
   none_live = (λ _. refl, λ _. refl);
   nothing_below = λ _. (refl, refl, refl);
-  served = refl;
 }
 
 first_live : HasLive first_slot first_image
@@ -290,12 +290,12 @@ second_within = All-from_recursion IsWithin second_records (
 -- ---- the first commit
 
 nothing_before : starts.standing.records ≡ []
-nothing_before = same_stretch 1 (byte_of (fresh_image (Chunk 0))) 0 0 starts.standing.records [] (good_fit (fresh 4096) [] starts.standing.records (chunk_good fresh_image (fresh 4096) fresh_live starts.standing)) tt
-    (chunk_lies fresh_image (fresh 4096) fresh_live starts.standing) refl
+nothing_before = same_stretch 1 (chunk_byte 4096 fresh_image) 0 0 starts.standing.records [] (good_fit (fresh 4096) [] starts.standing.records (chunk_good fresh_image (fresh 4096) fresh_live starts.standing)) tt
+    (lies_in_chunk (layout_of (fresh 4096)) fresh_image starts.standing.records refl refl (chunk_lies fresh_image (fresh 4096) fresh_live starts.standing)) refl
 
 first_known : KnownStand (present starts.standing.records) (unread first_tree) 0
 first_known = nothing_known (present starts.standing.records) first_tree 0
-    (λ at r is. present_below (byte_of (fresh_image (Chunk 0))) 0 starts.standing.records 0 at r (chunk_lies fresh_image (fresh 4096) fresh_live starts.standing) is)
+    (λ at r is. lies_below fresh_image (layout_of (fresh 4096)) (lit≤ tt) starts.standing.records (chunk_lies fresh_image (fresh 4096) fresh_live starts.standing) at r is)
 
 first_adds : AddsBytes (fresh 4096) first_chunk fresh_image first_image
 unfolding chunk_byte first_image

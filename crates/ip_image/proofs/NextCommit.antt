@@ -15,7 +15,7 @@ use Rattle.std.specs.Ordering.{is_eq}
 use Rattle.sha2.specs.Sha256.{sha256}
 use Rattle.ip_base.specs.declared.hash.Hash.{Hash}
 use Rattle.ip_base.specs.declared.info.Info.{Info}
-use Rattle.ip_ground.specs.Contents.{Content}
+use Rattle.ip_ground.specs.Contents.{Image}
 use Rattle.ip_spec.specs.declared.record.Record.{Record}
 use Rattle.ip_spec.specs.declared.record.CommitRecord.{CommitRecord}
 use Rattle.ip_spec.specs.declared.record.Parent.{Parent}
@@ -123,7 +123,7 @@ module _ (r : Repository) where
 
 -- ---- the next commit
 
-module _ (s : Slot) (content : Content) (r : Repository) (fields : IsSlot s) (chunk : InChunk s content r) where
+module _ (s : Slot) (image : Image) (r : Repository) (fields : IsSlot s) (chunk : InChunk s image r) where
   pub next_number : next r ≡ s.next
   next_number =
       let long = AllZip-long (Spells chunk.records) (commits_in chunk.records) r.commits chunk.commits in

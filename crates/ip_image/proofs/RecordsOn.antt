@@ -3,22 +3,20 @@
 use Rattle.std.proofs.Common.{ℕ, [], ◌++◌, sym, subst}
 use Rattle.std.proofs.lemmas.List.Elements.{recursion_from_All}
 use Rattle.std.specs.List.{AllByRecursion}
-use Rattle.ip_ground.specs.declared.names.FileName.TheVariants.{Chunk}
 use Rattle.ip_spec.specs.declared.record.Record.{Record}
 use Rattle.ip_spec.specs.Record.{Fits}
-use Rattle.ip_image.specs.Virtual.{byte_of}
+use Rattle.ip_image.specs.Slot.{layout_of}
 use Rattle.ip_image.specs.Appending.{RecordsGoOn}
-use Rattle.ip_image.proofs.OneRepository.{same_stretch, good_fit}
-use Rattle.ip_image.proofs.InChunk.{chunk_lies, chunk_good}
+use Rattle.ip_image.proofs.OneRepository.{good_fit}
+use Rattle.ip_image.proofs.InChunk.{lies_on, one_lies, chunk_lies, chunk_good}
 use Rattle.ip_image.proofs.TreeParts.{all_join}
-use Rattle.ip_image.proofs.AppendingLaws.{lies_on}
 
 pub records_go_on : RecordsGoOn
 records_go_on image other s t new before after live live' same ends fits adds =
-    same_stretch t.version (byte_of (other (Chunk 0))) 0 t.end after.records (before.records ++ new)
+    one_lies t.version (layout_of t) other after.records (before.records ++ new) live'.live.fields.horizon
     (good_fit t [] after.records (chunk_good other t live' after))
     (all_join (λ (x : ℕ × Record). Fits t.version x.1) before.records new
     (subst (λ (v : ℕ). AllByRecursion (λ (x : ℕ × Record). Fits v x.1) before.records) (sym same.version) (good_fit s [] before.records (chunk_good image s live before)))
     (recursion_from_All (λ (x : ℕ × Record). Fits t.version x.1) new fits))
     (chunk_lies other t live' after)
-    (lies_on s image other live before.records new t.end (chunk_lies image s live before) ends adds)
+    (lies_on s t image other live.live.fields.none_live.0 same before.records new (chunk_lies image s live before) ends adds)

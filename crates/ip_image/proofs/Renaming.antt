@@ -10,8 +10,7 @@ use Rattle.std.specs.List.{AllZip}
 use Rattle.std.specs.Cmp.Lexicographic.{nat_list_cmp_total}
 use Rattle.std.specs.FinMap.Entries.{length_without}
 use Rattle.std.specs.Ordering.{eq_by_cmp}
-use Rattle.ip_ground.specs.declared.names.FileName.TheVariants.{Chunk}
-use Rattle.ip_ground.specs.Contents.{Content}
+use Rattle.ip_ground.specs.Contents.{Image}
 use Rattle.ip_spec.specs.declared.record.Record.{Record}
 use Rattle.ip_spec.specs.declared.record.CommitRecord.{CommitRecord}
 use Rattle.ip_spec.specs.Map.{Map, empty, get, remove, from_entries, retain_keys, len, get-retain_keys}
@@ -20,12 +19,11 @@ use Rattle.ip_spec.specs.Record.{Names, Fits, spelling, spelling_of}
 use Rattle.ip_spec.specs.TreeAt.{Records}
 use Rattle.ip_spec.specs.Repository.{Repository, next}
 use Rattle.ip_spec.proofs.Subtrees.{step_antisymmetric}
-use Rattle.ip_image.specs.Slot.{Slot, IsSlot}
-use Rattle.ip_image.specs.Virtual.{byte_of}
-use Rattle.ip_image.specs.Standing.{EndToEnd, RecordFits, IsServedKind, commit_of, commits_in, names_after, named, AreRetained, WholeFits, Spells, terms_of}
+use Rattle.ip_image.specs.Slot.{Slot, IsSlot, layout_of}
+use Rattle.ip_image.specs.Standing.{RecordFits, IsServedKind, commit_of, commits_in, names_after, named, AreRetained, WholeFits, Spells, terms_of}
 use Rattle.ip_image.specs.Appending.{SameGeneration, AddsBytes, MayName, renamed, bytes_of_records, StandsRenamed}
-use Rattle.ip_image.proofs.InChunk.{InChunk, in_chunk, stands_by}
-use Rattle.ip_image.proofs.AppendingLaws.{lies_on, good_append, still_good, good_one, still_retained, set_retained}
+use Rattle.ip_image.proofs.InChunk.{LiesIn, lies_on, lies_above, InChunk, in_chunk, stands_by}
+use Rattle.ip_image.proofs.AppendingLaws.{good_append, still_good, good_one, still_retained, set_retained}
 use Rattle.ip_image.proofs.NextCommit.{next_number}
 use Rattle.ip_image.proofs.SpelledCommits.{present_front, each_spelled}
 use Rattle.ip_image.proofs.Tables.{made_again}
@@ -77,7 +75,7 @@ within floor n m is = (low floor n m is, high floor n m is)
     high : (floor n m : ℕ) → (nat_le floor n && nat_lt n m) ≡ true → n < m
     high floor n m is = grind (arith, nat_tests)
 
-module _ (s : Slot) (fields : IsSlot s) (content : Content) (r : Repository) (chunk : InChunk s content r) (x : Record) (may : MayName r x) (fits : Fits s.version x) (served : IsServedKind x) where
+module _ (s : Slot) (fields : IsSlot s) (image : Image) (r : Repository) (chunk : InChunk s image r) (x : Record) (may : MayName r x) (fits : Fits s.version x) (served : IsServedKind x) where
   abbrev old : Records
   old = chunk.records
 
@@ -112,7 +110,7 @@ module _ (s : Slot) (fields : IsSlot s) (content : Content) (r : Repository) (ch
         let (low, high) = within r.floor number (next r) may.0 in
         let f = chunk.floor in
         let g = same.floor in
-        let n = next_number s content r fields chunk in
+        let n = next_number s image r fields chunk in
         set_retained t r.branches name number (omega (arith, low, f, g)) (omega (arith, high, n, same_next)) may.1 was
     retained (Record.BranchRemove name) may = record { each = each; few = (let few = few_without r.branches name in let all = was.few in omega (arith, few, all)) }
       where
@@ -132,11 +130,11 @@ module _ (s : Slot) (fields : IsSlot s) (content : Content) (r : Repository) (ch
       tags = subst (AreRetained t) (sym tags_same) (still (named Names.tags old) chunk.fits.tags);
     }
 
-    renamed_chunk : (after : Content) → EndToEnd (byte_of after) 0 (old ++ new ∷ []) t.end → InChunk t after (renamed r x)
-    renamed_chunk after lies = record {
+    renamed_chunk : (other : Image) → LiesIn (layout_of t) other (old ++ new ∷ []) → InChunk t other (renamed r x)
+    renamed_chunk other lies = record {
       records = old ++ new ∷ [];
       lies = lies;
-      good = still_good s t same [] (old ++ new ∷ []) (good_append s [] old (new ∷ []) chunk.good (good_one s fields old new (fits, served) (fits_anywhere s r old s.end x may), tt));
+      good = still_good s t same [] (old ++ new ∷ []) (good_append s [] old (new ∷ []) chunk.good (good_one s fields old new (lies_above image (layout_of s) fields.horizon old chunk.lies) (fits, served) (fits_anywhere s r old s.end x may), tt));
       fits = fits_after;
       floor = chunk.floor ∙ sym same.floor;
       commits = commits_after;
@@ -153,5 +151,5 @@ stands_renamed image other r s t x stands live may fits served live' same ends n
     let chunk = in_chunk image s live r stands in
     let adds : AddsBytes s (bytes_of_records ((s.end, x) ∷ [])) image other = subst (λ (bytes : Bytes). AddsBytes s bytes image other) (spelled_is s.end x) adds in
     stands_by other t live' (renamed r x)
-    (renamed_chunk s live.live.fields (image (Chunk 0)) r chunk x may fits served t same next (other (Chunk 0))
-    (lies_on s image other live chunk.records ((s.end, x) ∷ []) t.end chunk.lies (refl, sym ends) adds))
+    (renamed_chunk s live.live.fields image r chunk x may fits served t same next other
+    (lies_on s t image other live.live.fields.none_live.0 same chunk.records ((s.end, x) ∷ []) chunk.lies (refl, sym ends) adds))

@@ -1,5 +1,5 @@
 -- The batch of a tree behind the records of a store: each of its records fits behind those before it, and with them they spell the tree.
---     ends_split, ends_join      records end to end, cut and joined
+--     ends_split      records end to end, cut at one of them
 --     ends_apart, found_above, found_below      where records lie tells where they are found
 --     found_together      what is found in a batch, or else before it
 --     TreeBatch terms v from f end old      what the batch has, behind these records
@@ -37,10 +37,6 @@ use Rattle.ip_image.proofs.TreeParts.{all_left, all_right, IsTold, IsTreePart, A
 pub ends_apart : (f : ℕ → Option ℕ) (from : ℕ) (xs : Records) (to : ℕ) → EndToEnd f from xs to → AreEndToEnd from xs to
 ends_apart f from [] to e = e
 ends_apart f from (x ∷ xs) to (at, stands, e) = (at, ends_apart f (from + length (spelling x.1)) xs to e)
-
-ends_join : (from : ℕ) (xs ys : Records) (middle to : ℕ) → AreEndToEnd from xs middle → AreEndToEnd middle ys to → AreEndToEnd from (xs ++ ys) to
-ends_join from [] ys middle to e later = subst (λ (n : ℕ). AreEndToEnd n ys to) (sym e) later
-ends_join from (x ∷ xs) ys middle to e later = (e.0, ends_join (from + length (spelling x.1)) xs ys middle to e.1 later)
 
 -- up to a record that lies behind them
 ends_split : (from : ℕ) (xs : Records) (y : ℕ × Record) (ys : Records) (to : ℕ) → AreEndToEnd from (xs ++ y ∷ ys) to → AreEndToEnd from xs y.0
@@ -146,7 +142,7 @@ pub record TreeBatch (terms : Terms) (v : View) (from : Sources) (f : CommitFiel
   pub root_below : root < commit_at
   pub spelled : TreeAt (present (old ++ parts)) root v.map
 
-module _ (terms : Terms) (v : View) (from : Sources) (f : CommitFields) (end : ℕ) (old : Records) (old_ends : AreEndToEnd 0 old end)
+module _ (terms : Terms) (v : View) (from : Sources) (f : CommitFields) (end : ℕ) (old : Records)
     (known : KnownStand (present old) v end) (stand : SourcesStand (present old) v from) (lawful : IsTree v.map)
     (served : AllByRecursion (λ (x : ℕ × Record). IsServedKind x.1) (batch v from f end)) where
   abbrev parts : Records
@@ -185,7 +181,11 @@ module _ (terms : Terms) (v : View) (from : Sources) (f : CommitFields) (end : �
   root_low : (batch_root v from end).at < commit_at
   root_low =
       let found = part_found all root_spelled_there.1 in
-      found_below 0 (old ++ parts) commit_at (batch_root v from end).at found.0 (ends_join 0 old parts end commit_at old_ends parts_end) found.1
+      by (present old (batch_root v from end).at) refl found.0 found.1
+    where
+      by : (o : Option Record) → present old (batch_root v from end).at ≡ o → (r : Record) → all (batch_root v from end).at ≡ Some r → (batch_root v from end).at < commit_at
+      by None e r is = found_below end parts commit_at (batch_root v from end).at r parts_end (sym (present_behind old parts (batch_root v from end).at e) ∙ is)
+      by (Some q) e r is = let low = known.below (batch_root v from end).at q e in let up = ends_on end parts commit_at parts_end in omega (arith, low, up)
 
   told : AreTold all parts
   told = each_found all end parts commit_at parts_end part_there (all_left (λ (x : ℕ × Record). IsServedKind x.1) parts behind_parts (subst (AllByRecursion (λ (x : ℕ × Record). IsServedKind x.1)) whole served))
