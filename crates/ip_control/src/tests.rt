@@ -2,7 +2,7 @@ ghost use Rattle.std.specs.Prelude.{◌≡◌, ◌≤◌, Some, length};
 ghost use Rattle.ip_ground.specs.Told.{IsBlank};
 ghost use Rattle.ip_control.specs.Live.{live_of, IsSpare, IsNewer};
 
-use crate::{ControlFault, Slot, open_gate, prepare, read_live};
+use crate::{Slot, open_gate, prepare, read_live};
 use ip_ground::{Bench, FileName, Ground, GroundFault};
 use std::test::Fail;
 
@@ -73,6 +73,7 @@ const NEXT_BYTES: [u8; 128] = [
     0, 0, 0, 0, 0, 0, 0, 0, 0, 0, 0, 0, 0, 0, 0, 0,
 ];
 
+// with a generation of a collection
 const NEXT: Slot = Slot {
     version: 1,
     sequence: 2,
@@ -86,23 +87,6 @@ const NEXT: Slot = Slot {
     prefix_len: 0x102,
     rows: 6,
     first_chunk: 2,
-    first_attempt: 3,
-};
-
-// A slot that may be read so far: no generation of a collection is live.
-const PUBLISHED: Slot = Slot {
-    version: 1,
-    sequence: 2,
-    chunk: 0x1000,
-    horizon: 0,
-    end: 0x3000,
-    floor: 0,
-    next: 7,
-    live: 0,
-    next_attempt: 4,
-    prefix_len: 0,
-    rows: 0,
-    first_chunk: 0,
     first_attempt: 3,
 };
 
@@ -188,7 +172,7 @@ fn the_live_slot_is_the_old_one_or_the_new_one(rt: HostRuntime) -> Result<(), Fa
     for (start, stop, ok, kept, synced) in rows {
         for (keep, live) in [(true, kept), (false, synced)] {
             let mut bench = Bench::new(alloc, Vec::new(alloc), Some(stop), Vec::new(alloc));
-            assert_eq!(rt; published_from(&mut bench, start, &PUBLISHED).is_ok(), ok);
+            assert_eq!(rt; published_from(&mut bench, start, &NEXT).is_ok(), ok);
             assert_eq!(rt; live_after(bench, keep)?, live);
         }
     }
@@ -203,8 +187,6 @@ fn a_slot_is_spelled_by_the_format(rt: HostRuntime) {
     let mut bytes = [0; 128];
     assert_eq!(rt; bench.read(FileName::Control, 128, &mut bytes), Ok(128));
     assert_eq!(rt; bytes, NEXT_BYTES);
-    // a generation of a collection is not read so far
-    assert_eq!(rt; read_live(&mut bench), Err(ControlFault::Form(1)));
 }
 
 #[test]
@@ -218,7 +200,7 @@ fn a_published_slot_is_read(rt: HostRuntime) {
         Start::Part,
     ] {
         let mut bench = Bench::new(alloc, Vec::new(alloc), None, Vec::new(alloc));
-        assert!(rt; published_from(&mut bench, start, &PUBLISHED).is_ok());
-        assert_eq!(rt; read_live(&mut bench), Ok(Some((1, PUBLISHED))));
+        assert!(rt; published_from(&mut bench, start, &NEXT).is_ok());
+        assert_eq!(rt; read_live(&mut bench), Ok(Some((1, NEXT))));
     }
 }
