@@ -1,14 +1,16 @@
 -- What the core sees of an image that stands, and of a collection over it.
---     image_ordered, image_rises, records_closed      its records lie in order, and their core is closed.      offsets_reached      what is kept is what the core keeps
---     core_rests      so the records behind the end of a collection rest on it.      staying_is, accepted      what remains is what the core leaves
+--     image_ordered, image_below, image_rises, records_closed      its records lie in order below its end, and their core is closed.      offsets_reached      what is kept is what the core keeps
+--     core_rests, kept_set      so the records behind the end of a collection rest on it, and where they do the core keeps it.      staying_is, accepted      what remains is what the core leaves
 --     valid_on, valid_since      records behind the end of a collection change nothing of its valid pair
 --     some_valid      there is a valid pair
---     reached_present, reached_tree      what a record from the commit on reaches stays
-use Rattle.std.proofs.Common.{◌≡◌, ◌⊎◌, inl, inr, ℕ, zero, suc, ◌+◌, ◌-◌, ◌<◌, ◌≤◌, List, [], ◌∷◌, ◌++◌, refl, sym, ap, subst, ◌∙◌, Some, Bool, true, false, cond, length, arith, append_assoc, map}
+--     collected_present, collected_tree      what a record from the commit on reaches stays
+--     collection_starts, collection_goes_on      what holds while a collection goes on: when it starts, and with more records behind the others
+use Rattle.std.proofs.Common.{◌≡◌, ◌⊎◌, inl, inr, ℕ, zero, suc, ◌+◌, ◌<◌, ◌≤◌, List, [], ◌∷◌, ◌++◌, refl, sym, ap, subst, ◌∙◌, Some, Bool, true, false, cond, length, arith, append_assoc}
 use Rattle.std.proofs.lemmas.Bool.{false≢true}
 use Rattle.std.proofs.lemmas.Bool.Decides.{nat_tests}
+use Rattle.std.proofs.lemmas.List.{map-append}
 use Rattle.std.proofs.lemmas.List.Kept.{AllPairs-from_increasing}
-use Rattle.std.specs.Prelude.{◌↔◌, filter, nat_le, nat_lt, ◌==◌, ◌&&◌, ◌||◌, Contains, slice_index}
+use Rattle.std.specs.Prelude.{◌↔◌, All, filter, nat_le, nat_lt, ◌==◌, ◌&&◌, ◌||◌, Contains, slice_index}
 use Rattle.std.specs.List.{list_any}
 use Rattle.std.specs.List.Sorted.{IsStrictlyIncreasing}
 use Rattle.ip_spec.specs.declared.record.Record.{Record}
@@ -19,30 +21,35 @@ use Rattle.ip_spec.specs.TreeAt.{Records, present, TreeAt}
 use Rattle.ip_spec.specs.Core.{core_record, core_records, core_of, CorePhase, AreReached, IsPresent, IsKeptSet, AreInOrder, IsClosed, stays, Reached, from_above, from_kept, Reaches, itself, by_ref}
 use Rattle.ip_ground.specs.Contents.{Image}
 use Rattle.ip_image.specs.Slot.{Slot, layout_of}
-use Rattle.ip_image.specs.Virtual.{run_of, virtual_byte}
 use Rattle.ip_image.specs.Standing.{AreGood, Standing}
 use Rattle.ip_image.specs.Collection.{IsKept, Pair, IsValid, runs_of, kept_bytes}
 use Rattle.ip_image.specs.Virtual.{mapping_bytes}
-use Rattle.ip_image.specs.Collected.{offsets_of, from, remaining, IsCollectable}
+use Rattle.ip_image.specs.Collected.{offsets_of, from, remaining, HasTable, IsCollectable}
 use Rattle.ip_spec.specs.Repository.{Repository}
+use Rattle.ip_spec.specs.declared.record.CommitRecord.{CommitRecord}
+use Rattle.ip_spec.specs.Core.{FollowOn}
+use Rattle.ip_spec.specs.declared.event.Event.{Event}
+use Rattle.ip_spec.proofs.CoreLaws.{step_keeps}
+use Rattle.ip_image.proofs.SpelledCommits.{present_front}
 use Rattle.ip_image.proofs.PairLaws.{Has, Rises, has_from, contains_from, rises, same_records, one_valid}
-use Rattle.ip_image.proofs.KeptRuns.{Ordered, ordered_append}
-use Rattle.ip_image.proofs.StayingRecords.{RestsOn, or_left, or_right, or_cases, le_test, le_is, any_there, there_any, one_at, good_both, rises_front, In, in_from, in_contains, of_map, in_map, has_in, in_has, has_left, has_right, has_either, ordered_rises, present_has, has_present, filter_has, has_filter, filter_rises, filter_present, staying_part, test, test_stays, refs_of, Leads, good_refers, cut, Stays, stays_closed}
-use Rattle.ip_image.proofs.Stretches.{ends_ordered, runs_ordered, last_run}
+use Rattle.ip_image.proofs.KeptRuns.{Ordered, ordered_has}
+use Rattle.ip_image.proofs.StayingRecords.{above_or_below, RestsOn, or_left, or_right, or_cases, le_test, le_is, any_there, there_any, one_at, good_both, rises_front, In, in_from, in_contains, of_map, in_map, has_in, in_has, has_left, has_right, has_either, ordered_rises, present_has, has_present, filter_has, has_filter, filter_rises, filter_present, staying_part, test, test_stays, refs_of, Leads, good_refers, cut, Stays, stays_closed}
+use Rattle.ip_image.proofs.InChunk.{LiesIn, lies_of_whole, lies_ordered, lies_below}
 
 -- ---- records that stand lie in order
 
 module _ (image : Image) (A : Standing image) where
-  pub image_ordered : Ordered 0 A.records (A.slot.horizon + (A.slot.end - A.slot.horizon))
-  image_ordered =
-      let g = virtual_byte image (layout_of A.slot) (map run_of A.rows) in
-      let l = last_run g (map run_of A.rows) (record { at = A.slot.horizon; length = A.slot.end - A.slot.horizon }) A.records A.whole in
-      subst (λ (xs : Records). Ordered 0 xs (A.slot.horizon + (A.slot.end - A.slot.horizon))) (sym l.is)
-      (ordered_append 0 l.front l.back A.slot.horizon (A.slot.horizon + (A.slot.end - A.slot.horizon)) (runs_ordered g A.slot.horizon 0 0 0 A.rows l.front A.generation.fits (omega arith) (omega arith) l.runs_hold)
-      (ends_ordered g A.slot.horizon l.back (A.slot.horizon + (A.slot.end - A.slot.horizon)) l.ends))
+  image_lies : LiesIn (layout_of A.slot) image A.records
+  image_lies = lies_of_whole image (layout_of A.slot) A.live.fields.horizon A.rows A.records A.generation A.whole
+
+  pub image_ordered : Ordered 0 A.records A.slot.end
+  image_ordered = lies_ordered image (layout_of A.slot) A.live.fields.horizon A.records image_lies
+
+  pub image_below : (at : ℕ) (r : Record) → present A.records at ≡ Some r → at < A.slot.end
+  image_below = lies_below image (layout_of A.slot) A.live.fields.horizon A.records image_lies
 
   pub image_rises : Rises A.records
-  image_rises = ordered_rises 0 A.records (A.slot.horizon + (A.slot.end - A.slot.horizon)) image_ordered
+  image_rises = ordered_rises 0 A.records A.slot.end image_ordered
 
 core_ordered : (from : ℕ) (xs : Records) (to : ℕ) → Ordered from xs to → AreInOrder from (core_records xs)
 core_ordered from [] to o = tt
@@ -103,6 +110,19 @@ module _ (s : Slot) (records : Records) (rise : Rises records) (good : AreGood s
         by : (h ≤ at) ⊎ Contains offsets at → (h ≤ at) ⊎ Contains (offsets_of kept) at
         by (inl over) = inl over
         by (inr there) = inr ((offsets_reached.each at).1 ((reached.each at).0 there))
+
+    -- and where they rest on it, the core keeps that
+    pub kept_set : RestsOn records h e0 kept → IsKeptSet (core_records records) h (offsets_of kept)
+    kept_set rests = record {
+      below = λ at c. (let l = reached_there h e0 at ((offsets_reached.each at).0 c) in (l.below, is_present at l.to l.there));
+      closed = λ r at in_r c ref. (offsets_reached.each at).1 (from_kept r at in_r ((offsets_reached.each r.at).0 c) ref);
+      above = λ r at in_r high ref. by r at in_r high ref (above_or_below h at) (above_or_below e0 r.at);
+    }
+      where
+        by : (r : CoreRecord) (at : ℕ) → Contains (core_records records) r → h ≤ r.at → Contains r.refs at → (h ≤ at) ⊎ (at < h) → (e0 ≤ r.at) ⊎ (r.at < e0) → (h ≤ at) ⊎ Contains (offsets_of kept) at
+        by r at in_r high ref (inl over) _ = inl over
+        by r at in_r high ref (inr under) (inl late) = rests r at in_r late ref
+        by r at in_r high ref (inr under) (inr early) = inr ((offsets_reached.each at).1 (from_above r at in_r high early ref under))
 
     -- ---- records behind the end of the collection
 
@@ -254,16 +274,16 @@ lt_test m n l = grind (arith, nat_tests)
 lt_is : (m n : ℕ) → nat_lt m n ≡ true → m < n
 lt_is m n e = grind (arith, nat_tests)
 
-in_left : (xs ys : List ℕ) (n : ℕ) → In xs n → In (xs ++ ys) n
+in_left : {X : Type 0} (xs ys : List X) (n : X) → In xs n → In (xs ++ ys) n
 in_left [] ys n i = absurd i
 in_left (x ∷ xs) ys n (inl e) = inl e
 in_left (x ∷ xs) ys n (inr i) = inr (in_left xs ys n i)
 
-in_right : (xs ys : List ℕ) (n : ℕ) → In ys n → In (xs ++ ys) n
+in_right : {X : Type 0} (xs ys : List X) (n : X) → In ys n → In (xs ++ ys) n
 in_right [] ys n i = i
 in_right (x ∷ xs) ys n i = inr (in_right xs ys n i)
 
-in_either : (xs ys : List ℕ) (n : ℕ) → In (xs ++ ys) n → In xs n ⊎ In ys n
+in_either : {X : Type 0} (xs ys : List X) (n : X) → In (xs ++ ys) n → In xs n ⊎ In ys n
 in_either [] ys n i = inr i
 in_either (x ∷ xs) ys n (inl e) = inl (inl e)
 in_either (x ∷ xs) ys n (inr i) = by (in_either xs ys n i)
@@ -466,3 +486,88 @@ module _ (image : Image) (A : Standing image) (r : Repository) (horizon c h e0 :
   pub collected_tree : (from root : ℕ) (tree : Tree) → h ≤ from → Reaches (core_records A.records) from root → TreeAt (present A.records) root tree → TreeAt (present (remaining h kept A.records)) root tree
   collected_tree from root tree low reach is =
       subst (λ (xs : Records). TreeAt (present xs) root tree) collected_is (reached_tree A.slot A.records (image_rises image A) A.good h e0 kept is_kept collected_rests from root tree low reach is)
+
+-- ---- a collection starts
+
+-- no record lies at the end or behind it
+rests_at_end : (image : Image) (A : Standing image) (h : ℕ) (kept : Records) → RestsOn A.records h A.slot.end kept
+rests_at_end image A h kept x at in_x late ref =
+    let (y, there, is) = of_map core_record A.records x (in_from (core_records A.records) x in_x) in
+    let (_, under, some) = ordered_has 0 A.records A.slot.end y (image_ordered image A) (in_has A.records y there) in
+    let place : y.0 ≡ x.at = ap (λ (c : CoreRecord). c.at) is in
+    absurd (omega (arith, late, under, some, place))
+
+-- over all records up to the end
+pub collection_starts : (image : Image) (A : Standing image) (r : Repository) (commit : CommitRecord) (h : ℕ) (kept : Records) (ended : Bool) → present A.records h ≡ Some (Record.Commit commit)
+    → All (λ e. commit.number ≤ e.1) r.branches.entries → HasTable h A.records → IsKept A.records h A.slot.end kept → IsCollectable A.records r A.slot.horizon commit.number h A.slot.end (offsets_of kept) ended
+collection_starts image A r commit h kept ended here heads table is_kept =
+    let closed = records_closed A.slot A.records (image_rises image A) A.good A.slot.horizon A.slot.end (image_ordered image A) in
+    record {
+      commit = commit;
+      here = here;
+      number = refl;
+      below = image_below image A h (Record.Commit commit) here;
+      heads = heads;
+      table = table;
+      reached = offsets_reached A.slot A.records (image_rises image A) A.good h A.slot.end kept is_kept;
+      core = record {
+        order = closed.order;
+        below = closed.below;
+        keeps = kept_set A.slot A.records (image_rises image A) A.good h A.slot.end kept is_kept (rests_at_end image A h kept);
+      };
+    }
+
+-- ---- and goes on
+
+-- records behind the end of a collection reach nothing more
+module _ (records new : List CoreRecord) (h e0 : ℕ) (kept : List ℕ) (reached : AreReached records h e0 kept) (set : IsKeptSet records h kept) (order : h ≤ e0) (behind : (q : CoreRecord) → Contains new q → e0 ≤ q.at) where
+  either_of : (q : CoreRecord) → Contains (records ++ new) q → Contains records q ⊎ Contains new q
+  either_of q c = by (in_either records new q (in_from (records ++ new) q c))
+    where
+      by : In records q ⊎ In new q → Contains records q ⊎ Contains new q
+      by (inl i) = inl (in_contains records q i)
+      by (inr i) = inr (in_contains new q i)
+
+  among_all : (q : CoreRecord) → Contains records q → Contains (records ++ new) q
+  among_all q c = in_contains (records ++ new) q (in_left records new q (in_from records q c))
+
+  reached_less : (at : ℕ) → Reached (records ++ new) h e0 at → Reached records h e0 at
+  reached_less at (from_above q b in_q high low ref under) = by (either_of q in_q)
+    where
+      by : Contains records q ⊎ Contains new q → Reached records h e0 b
+      by (inl c) = from_above q b c high low ref under
+      by (inr c) = let late = behind q c in absurd (omega (arith, late, low))
+  reached_less at (from_kept q b in_q deep ref) = by (either_of q in_q) (reached_less q.at deep)
+    where
+      by : Contains records q ⊎ Contains new q → Reached records h e0 q.at → Reached records h e0 b
+      by (inl c) there = from_kept q b c there ref
+      by (inr c) there = let late = behind q c in let under = (set.below q.at ((reached.each q.at).1 there)).0 in absurd (omega (arith, late, under, order))
+
+  reached_more : (at : ℕ) → Reached records h e0 at → Reached (records ++ new) h e0 at
+  reached_more at (from_above q b in_q high low ref under) = from_above q b (among_all q in_q) high low ref under
+  reached_more at (from_kept q b in_q deep ref) = from_kept q b (among_all q in_q) (reached_more q.at deep) ref
+
+  reached_on : AreReached (records ++ new) h e0 kept
+  reached_on = record { ascending = reached.ascending; each = λ at. ((λ c. reached_more at ((reached.each at).0 c)), λ there. (reached.each at).1 (reached_less at there)) }
+
+cores_behind : (e0 : ℕ) (new : Records) → All (λ (x : ℕ × Record). e0 ≤ x.0) new → (q : CoreRecord) → Contains (core_records new) q → e0 ≤ q.at
+cores_behind e0 new behind q c =
+    let (x, there, is) = of_map core_record new q (in_from (core_records new) q c) in
+    let (k, l, e) = in_contains new x there in
+    subst (λ (c : CoreRecord). e0 ≤ c.at) is (subst (λ (z : ℕ × Record). e0 ≤ z.0) e (behind k x l))
+
+-- with more records behind the others, that the core can append, and branches of which none is at a commit that goes
+pub collection_goes_on : (records new : Records) (r q : Repository) (horizon c h e0 : ℕ) (kept : List ℕ) (ended : Bool) → IsCollectable records r horizon c h e0 kept ended
+    → FollowOn (core_records records) (CorePhase.collecting h kept ended) (core_records new) → All (λ (x : ℕ × Record). e0 ≤ x.0) new → All (λ e. c ≤ e.1) q.branches.entries
+    → IsCollectable (records ++ new) q horizon c h e0 kept ended
+collection_goes_on records new r q horizon c h e0 kept ended is follow behind heads = record {
+  commit = is.commit;
+  here = present_front records new h (Record.Commit is.commit) is.here;
+  number = is.number;
+  below = is.below;
+  heads = heads;
+  table = record { at = is.table.at; rows = is.table.rows; above = is.table.above; here = present_front records new is.table.at (Record.BranchTable is.table.rows) is.table.here };
+  reached = subst (λ (cores : List CoreRecord). AreReached cores h e0 kept) (sym (map-append core_record records new))
+      (reached_on (core_records records) (core_records new) h e0 kept is.reached is.core.keeps (let below = is.below in omega (arith, below)) (cores_behind e0 new behind));
+  core = (step_keeps (core_of records horizon (CorePhase.collecting h kept ended)) (core_of (records ++ new) horizon (CorePhase.collecting h kept ended)) (Event.Append (core_records new)) (follow, λ i. record { records = map-append core_record records new i; horizon = horizon; phase = CorePhase.collecting h kept ended }) is.core).0;
+}

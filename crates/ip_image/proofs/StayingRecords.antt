@@ -360,7 +360,7 @@ there_any (k ∷ ks) n e = by (or_cases (k == n) (list_any (λ at. at == n) ks) 
 abbrev pub RestsOn : Records → ℕ → ℕ → Records → Type 0
 RestsOn records h from kept = (x : CoreRecord) (at : ℕ) → Contains (core_records records) x → from ≤ x.at → Contains x.refs at → (h ≤ at) ⊎ Contains (offsets_of kept) at
 
-above_or_below : (h at : ℕ) → (h ≤ at) ⊎ (at < h)
+pub above_or_below : (h at : ℕ) → (h ≤ at) ⊎ (at < h)
 above_or_below h at = by (nat_le h at) refl
   where
     not_le : (m n : ℕ) → nat_le m n ≡ false → n < m

@@ -1,9 +1,8 @@
 use Rattle.ip_image.proofs.CoreTies.{image_ordered, image_rises, records_closed, offsets_reached, kept_rises, kept_among, accepted, collected_present, collected_tree}
 use Rattle.ip_image.proofs.cores.Goals as goal
-use Rattle.std.specs.Prelude.{◌+◌, ◌-◌}
 
 pub returns-clause-closed : goal.returns-clause-closed
-returns-clause-closed c image A = records_closed A.slot A.records (image_rises image A) A.good A.slot.horizon (A.slot.horizon + (A.slot.end - A.slot.horizon)) (image_ordered image A)
+returns-clause-closed c image A = records_closed A.slot A.records (image_rises image A) A.good A.slot.horizon A.slot.end (image_ordered image A)
 
 pub returns-clause-reached : goal.returns-clause-reached
 returns-clause-reached c image A = offsets_reached A.slot A.records (image_rises image A) A.good
