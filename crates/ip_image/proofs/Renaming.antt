@@ -1,9 +1,10 @@
 -- How what an image stands for goes on with a record of a branch.
 --     stands_renamed      with a record that sets a branch, takes one away, or says all of them behind its records
+--     stands_tabled      a record that says all of them as they are changes none, and lies behind the others
 --     few_without, get_without      a map of branches without one of them
-use Rattle.std.proofs.Common.{◌≡◌, ℕ, ◌+◌, ◌<◌, ◌≤◌, List, [], ◌∷◌, ◌++◌, refl, sym, ap, subst, ◌∙◌, Option, None, Bool, true, false, cond, length, arith, append-nil}
+use Rattle.std.proofs.Common.{◌≡◌, ℕ, ◌+◌, ◌<◌, ◌≤◌, List, [], ◌∷◌, ◌++◌, refl, sym, ap, subst, ◌∙◌, Option, None, Bool, true, false, cond, length, arith, append-nil, map}
 use Rattle.std.proofs.lemmas.Bool.Decides.{nat_tests}
-use Rattle.std.proofs.lemmas.List.Elements.{filter_map-append}
+use Rattle.std.proofs.lemmas.List.Elements.{All-from_recursion, filter_map-append}
 use Rattle.std.proofs.lemmas.List.Sums.{fold-append}
 use Rattle.std.specs.Prelude.{IfSome, not, nat_le, nat_lt, ◌&&◌}
 use Rattle.std.specs.List.{AllZip}
@@ -20,8 +21,11 @@ use Rattle.ip_spec.specs.TreeAt.{Records}
 use Rattle.ip_spec.specs.Repository.{Repository, next}
 use Rattle.ip_spec.proofs.Subtrees.{step_antisymmetric}
 use Rattle.ip_image.specs.Slot.{Slot, IsSlot, layout_of}
-use Rattle.ip_image.specs.Standing.{RecordFits, IsServedKind, commit_of, commits_in, names_after, named, AreRetained, WholeFits, Spells, terms_of}
+use Rattle.ip_image.specs.Standing.{RecordFits, IsServedKind, commit_of, commits_in, names_after, named, row_of, AreRetained, WholeFits, Spells, StandsFor, terms_of}
 use Rattle.ip_image.specs.Appending.{SameGeneration, AddsBytes, MayName, renamed, bytes_of_records, StandsRenamed}
+use Rattle.ip_image.specs.Pending.{HasLive}
+use Rattle.ip_image.proofs.RecordsOn.{records_go_on}
+use Rattle.ip_spec.specs.declared.record.Branch.{Branch}
 use Rattle.ip_image.proofs.InChunk.{LiesIn, lies_on, lies_above, InChunk, in_chunk, stands_by}
 use Rattle.ip_image.proofs.AppendingLaws.{good_append, still_good, good_one, still_retained, set_retained}
 use Rattle.ip_image.proofs.NextCommit.{next_number}
@@ -142,7 +146,7 @@ module _ (s : Slot) (fields : IsSlot s) (image : Image) (r : Repository) (chunk 
       tags = chunk.tags ∙ sym tags_same;
     }
 
-spelled_is : (at : ℕ) (x : Record) → spelling x ≡ bytes_of_records ((at, x) ∷ [])
+pub spelled_is : (at : ℕ) (x : Record) → spelling x ≡ bytes_of_records ((at, x) ∷ [])
 unfolding spelling_of
 spelled_is at x = sym (append-nil (spelling x))
 
@@ -153,3 +157,18 @@ stands_renamed image other r s t x stands live may fits served live' same ends n
     stands_by other t live' (renamed r x)
     (renamed_chunk s live.live.fields image r chunk x may fits served t same next other
     (lies_on s t image other live.live.fields.none_live.0 same chunk.records ((s.end, x) ∷ []) chunk.lies (refl, sym ends) adds))
+
+table_renames_none : (r : Repository) (rows : List Branch) → map row_of rows ≡ r.branches.entries → renamed r (Record.BranchTable rows) ≡ r
+table_renames_none r rows is = λ i. record r { branches = (ap from_entries is ∙ made_again r.branches) i }
+
+pub stands_tabled : (image other : Image) (r : Repository) (s t : Slot) (rows : List Branch) (stands : StandsFor image r) → HasLive s image → map row_of rows ≡ r.branches.entries → Fits s.version (Record.BranchTable rows)
+    → HasLive t other → SameGeneration s t → t.end ≡ s.end + length (spelling (Record.BranchTable rows)) → t.next ≡ s.next → AddsBytes s (spelling (Record.BranchTable rows)) image other
+    → (after : StandsFor other r) × (after.standing.records ≡ stands.standing.records ++ (s.end, Record.BranchTable rows) ∷ [])
+stands_tabled image other r s t rows stands live all fits live' same ends next adds =
+    let table = Record.BranchTable rows in
+    let after = subst (StandsFor other) (table_renames_none r rows all) (stands_renamed image other r s t table stands live all fits tt live' same ends next adds) in (
+      after,
+      records_go_on image other s t ((s.end, table) ∷ []) stands.standing after.standing live live' same (refl, sym ends)
+          (All-from_recursion (λ (x : ℕ × Record). Fits t.version x.1) ((s.end, table) ∷ []) (subst (λ (v : ℕ). Fits v table) (sym same.version) fits, tt))
+          (subst (λ (bytes : Bytes). AddsBytes s bytes image other) (spelled_is s.end table) adds),
+    )
