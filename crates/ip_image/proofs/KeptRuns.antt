@@ -3,7 +3,8 @@
 --     rows_in_order, rows_numbers, rows_total, runs_again      the rows of their runs are in order, fit their fields, and add up
 --     kept_stand      in the bytes that the runs give of the prefix each of them stands
 --     runs_filled      records that stand fill their runs
-use Rattle.std.proofs.Common.{◌≡◌, ◌≢◌, ◌⊎◌, inl, inr, ℕ, zero, suc, ◌+◌, ◌-◌, ◌^◌, ◌<◌, ◌≤◌, List, [], ◌∷◌, ◌++◌, refl, sym, ap, subst, ◌∙◌, Option, Some, Bool, true, false, cond, T, length, arith, leb→le, eqb→eq, length-append}
+use Rattle.std.proofs.Common.{◌≡◌, ◌≢◌, ◌⊎◌, inl, inr, ℕ, zero, suc, ◌+◌, ◌-◌, ◌^◌, ◌<◌, ◌≤◌, List, [], ◌∷◌, ◌++◌, refl, sym, ap, subst, ◌∙◌, Option, Some, Bool, true, false, cond, T, length, arith, eqb→eq, length-append}
+use Rattle.std.proofs.lemmas.Bool.{cases_lt}
 use Rattle.std.proofs.lemmas.Bool.Decides.{nat_tests}
 use Rattle.std.proofs.lemmas.List.Sums.{sum_by-cons}
 use Rattle.std.specs.Prelude.{map, slice_get, nat_le, nat_lt, ◌==◌, ◌&&◌}
@@ -49,16 +50,6 @@ test_within at o n low high = grind (arith, nat_tests)
 test_beyond : (at o n : ℕ) → at + n ≤ o → (nat_le at o && nat_lt o (at + n)) ≡ false
 test_beyond at o n high = grind (arith, nat_tests)
 
-compare : (m n : ℕ) → (m ≤ n) ⊎ (n < m)
-compare m n = by (nat_le m n) refl
-  where
-    other : (m n : ℕ) → nat_le m n ≡ false → n < m
-    other m n e = grind arith
-
-    by : (b : Bool) → nat_le m n ≡ b → (m ≤ n) ⊎ (n < m)
-    by true e = inl (leb→le m n (subst T (sym e) tt))
-    by false e = inr (other m n e)
-
 touch : (m n : ℕ) → (m == n) ≡ true → m ≡ n
 touch m n e = eqb→eq m n (subst T (sym e) tt)
 
@@ -94,11 +85,7 @@ later_located place at n (run ∷ runs) o high = by (at + n == run.at) refl
         located_behind place (record { at = at; length = n + run.length }) runs o (omega (arith, e, l)) ∙ ap (λ (p : ℕ). locate_from p runs o) same ∙ sym (located_behind (place + n) run runs o l)
 
     either : (o < run.at + run.length) ⊎ (run.at + run.length ≤ o)
-    either = turn (compare (run.at + run.length) o)
-      where
-        turn : (run.at + run.length ≤ o) ⊎ (o < run.at + run.length) → (o < run.at + run.length) ⊎ (run.at + run.length ≤ o)
-        turn (inl a) = inr a
-        turn (inr b) = inl b
+    either = cases_lt o (run.at + run.length)
 
     by : (b : Bool) → (at + n == run.at) ≡ b → locate_from place (cond b (record { at = at; length = n + run.length } ∷ runs) (record { at = at; length = n } ∷ run ∷ runs)) o ≡ locate_from (place + n) (run ∷ runs) o
     by true e = joined (touch (at + n) run.at e) either
@@ -106,12 +93,13 @@ later_located place at n (run ∷ runs) o high = by (at + n == run.at) refl
 
 -- ---- the bytes of a prefix
 
-pub get_front : (xs ys : Bytes) (k : ℕ) → k < length xs → slice_get (xs ++ ys) k ≡ slice_get xs k
+-- an element of what stands in front, and of what stands behind
+pub get_front : {X : Type 0} (xs ys : List X) (k : ℕ) → k < length xs → slice_get (xs ++ ys) k ≡ slice_get xs k
 get_front [] ys k l = absurd (omega (arith, l))
 get_front (x ∷ xs) ys zero l = refl
 get_front (x ∷ xs) ys (suc k) l = get_front xs ys k (omega (arith, l))
 
-pub get_behind : (xs ys : Bytes) (k : ℕ) → slice_get (xs ++ ys) (length xs + k) ≡ slice_get ys k
+pub get_behind : {X : Type 0} (xs ys : List X) (k : ℕ) → slice_get (xs ++ ys) (length xs + k) ≡ slice_get ys k
 get_behind [] ys k = ap (slice_get ys) (omega arith)
 get_behind (x ∷ xs) ys k =
     let e : suc (length xs) + k ≡ suc (length xs + k) = omega arith in

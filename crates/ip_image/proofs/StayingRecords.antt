@@ -5,7 +5,7 @@
 --     RestsOn records h from kept      the records from an offset on refer to nothing below h but what is kept
 --     Stays at      the record at the offset stays.      stays_closed      so do those that it refers to
 use Rattle.std.proofs.Common.{◌≡◌, ◌⊎◌, inl, inr, ℕ, zero, suc, ◌+◌, ◌<◌, ◌≤◌, List, [], ◌∷◌, ◌++◌, refl, sym, ap, subst, ◌∙◌, Option, Some, None, Bool, true, false, cond, T, length, arith, append_assoc, append-nil, leb→le, eqb→eq}
-use Rattle.std.proofs.lemmas.Bool.{false≢true}
+use Rattle.std.proofs.lemmas.Bool.{false≢true, cases_lt}
 use Rattle.std.proofs.lemmas.Cmp.{nat_cmp_total}
 use Rattle.std.specs.Prelude.{map, filter, is_some, nat_le, ◌==◌, ◌||◌, Contains}
 use Rattle.std.specs.List.{list_any}
@@ -361,14 +361,7 @@ abbrev pub RestsOn : Records → ℕ → ℕ → Records → Type 0
 RestsOn records h from kept = (x : CoreRecord) (at : ℕ) → Contains (core_records records) x → from ≤ x.at → Contains x.refs at → (h ≤ at) ⊎ Contains (offsets_of kept) at
 
 pub above_or_below : (h at : ℕ) → (h ≤ at) ⊎ (at < h)
-above_or_below h at = by (nat_le h at) refl
-  where
-    not_le : (m n : ℕ) → nat_le m n ≡ false → n < m
-    not_le m n e = grind arith
-
-    by : (b : Bool) → nat_le h at ≡ b → (h ≤ at) ⊎ (at < h)
-    by true e = inl (leb→le h at (subst T (sym e) tt))
-    by false e = inr (not_le h at e)
+above_or_below h at = elim (cases_lt at h) [ inl under ↦ inr under | inr over ↦ inl over ]
 
 module _ (s : Slot) (records : Records) (rise : Rises records) (good : AreGood s [] records) (h e0 : ℕ) (kept : Records) (is_kept : IsKept records h e0 kept) (rests : RestsOn records h e0 kept) where
   abbrev pub Stays : ℕ → Type 0

@@ -1,7 +1,7 @@
 -- When a collection is accepted, an image stands for the repository without the commits before the collection's own.
 --     Parted      the records of an image, parted at a commit
 --     stands_collected      the law
-use Rattle.std.proofs.Common.{◌≡◌, ◌≢◌, ◌⊎◌, inl, inr, ℕ, suc, ◌+◌, ◌-◌, ◌<◌, ◌≤◌, List, [], ◌∷◌, ◌++◌, refl, sym, ap, subst, ◌∙◌, Option, Some, None, Bool, true, false, cond, length, drop, arith, append_assoc, append-nil, length-append, map}
+use Rattle.std.proofs.Common.{◌≡◌, ◌≢◌, ◌⊎◌, inl, inr, ℕ, ◌+◌, ◌-◌, ◌<◌, ◌≤◌, List, [], ◌∷◌, ◌++◌, refl, sym, ap, subst, ◌∙◌, Option, Some, None, Bool, true, false, cond, length, drop, arith, append_assoc, append-nil, length-append, map}
 use Rattle.std.proofs.lemmas.List.Elements.{recursion_from_All, All-from_recursion, filter-append, filter_map-append}
 use Rattle.std.proofs.lemmas.List.Sums.{fold-append}
 use Rattle.std.proofs.lemmas.List.Kept.{AllPairs-from_increasing}
@@ -32,9 +32,10 @@ use Rattle.ip_image.proofs.AppendingLaws.{good_append}
 use Rattle.ip_image.proofs.CoreTies.{image_rises, core_rests, kept_rises, kept_among, staying, staying_is}
 use Rattle.ip_image.specs.Collected.{offsets_of, remaining, IsCollectable, IsSwapped, StandsCollected}
 use Rattle.ip_image.proofs.OneRepository.{goes_on}
+use Rattle.ip_image.proofs.TreeParts.{all_right}
 use Rattle.ip_image.proofs.DamageLaws.{slot_is}
 use Rattle.ip_image.proofs.PairLaws.{Has, Rises, has_from, contains_from, rises, same_records}
-use Rattle.ip_image.proofs.KeptRuns.{Ordered, ordered_has, ordered_append, kept_stand, runs_filled, rows_in_order, rows_numbers, rows_total, rows_many, runs_again}
+use Rattle.ip_image.proofs.KeptRuns.{get_behind, Ordered, ordered_has, ordered_append, kept_stand, runs_filled, rows_in_order, rows_numbers, rows_total, rows_many, runs_again}
 use Rattle.ip_image.proofs.Stretches.{ends_ordered, runs_ordered, EndsCut, ends_cut, ends_over, below_byte}
 use Rattle.ip_image.proofs.StayingRecords.{RestsOn, good_both, In, has_left, has_right, has_either, ordered_rises, present_has, has_present, one_at, filter_has, has_filter, filter_rises, filter_ordered, filter_all, filter_last, filter_none, filter_present, refs_of, Leads, staying_part, Cut, cut, good_at, front_there, before_there, front_rises, Stays, reached_leads, reached_kept, stays_closed, test, test_stays, stays_test}
 
@@ -43,16 +44,6 @@ use Rattle.ip_image.proofs.StayingRecords.{RestsOn, good_both, In, has_left, has
 all_onto : {X : Type 0} (P Q : X → Type 0) (xs : List X) → ((x : X) → P x → Q x) → AllByRecursion P xs → AllByRecursion Q xs
 all_onto P Q [] f all = tt
 all_onto P Q (x ∷ xs) f all = (f x all.0, all_onto P Q xs f all.1)
-
-all_behind : {X : Type 0} (P : X → Type 0) (xs ys : List X) → AllByRecursion P (xs ++ ys) → AllByRecursion P ys
-all_behind P [] ys all = all
-all_behind P (x ∷ xs) ys all = all_behind P xs ys all.1
-
-slice_behind : {X : Type 0} (xs ys : List X) (k : ℕ) → slice_get (xs ++ ys) (length xs + k) ≡ slice_get ys k
-slice_behind [] ys k = ap (slice_get ys) (omega arith)
-slice_behind (x ∷ xs) ys k =
-    let e : suc (length xs) + k ≡ suc (length xs + k) = omega arith in
-    ap (slice_get (x ∷ (xs ++ ys))) e ∙ slice_behind xs ys k
 
 zip_behind : {A B : Type 0} (R : A → B → Type 0) (xs us : List A) (ys : List B) → AllZip R (xs ++ us) ys → AllZip R us (drop (length xs) ys)
 zip_behind R [] us ys zip = zip
@@ -272,7 +263,7 @@ module _ (s t : Slot) (records : Records) (good : AreGood s [] records) (version
           (all_onto (Stated s.floor (commits_in k.before)) (Stated t.floor (commits_in (filter p k.before))) d.parents stated (recursion_from_All (Stated s.floor (commits_in k.before)) d.parents fits.parents));
       new_name = subst (λ (cs : List CommitRecord). All (λ e. name_of (Record.Commit e) ≢ name_of (Record.Commit d)) cs) (sym new)
           (All-from_recursion (λ (e : CommitRecord). name_of (Record.Commit e) ≢ name_of (Record.Commit d)) mids
-          (all_behind (λ (e : CommitRecord). name_of (Record.Commit e) ≢ name_of (Record.Commit d)) lows mids
+          (all_right (λ (e : CommitRecord). name_of (Record.Commit e) ≢ name_of (Record.Commit d)) lows mids
           (recursion_from_All (λ (e : CommitRecord). name_of (Record.Commit e) ≢ name_of (Record.Commit d)) (lows ++ mids)
           (subst (λ (cs : List CommitRecord). All (λ e. name_of (Record.Commit e) ≢ name_of (Record.Commit d)) cs) all fits.new_name))));
     }
@@ -284,7 +275,7 @@ module _ (s t : Slot) (records : Records) (good : AreGood s [] records) (version
         stated q was retained inner =
             let place : q.number - s.floor ≡ length lows + (q.number - t.floor) = omega (arith, is, retained) in
             subst (λ (cs : List CommitRecord). IfSome (slice_get cs (q.number - t.floor)) (λ e. name_of (Record.Commit e) ≡ Some q.name)) (sym new)
-            (subst (λ (o : Option CommitRecord). IfSome o (λ e. name_of (Record.Commit e) ≡ Some q.name)) (slice_behind lows mids (q.number - t.floor))
+            (subst (λ (o : Option CommitRecord). IfSome o (λ e. name_of (Record.Commit e) ≡ Some q.name)) (get_behind lows mids (q.number - t.floor))
             (subst (λ (n : ℕ). IfSome (slice_get (lows ++ mids) n) (λ e. name_of (Record.Commit e) ≡ Some q.name)) place
             (subst (λ (cs : List CommitRecord). IfSome (slice_get cs (q.number - s.floor)) (λ e. name_of (Record.Commit e) ≡ Some q.name)) all (was (omega (arith, retained, is)) inner))))
 
