@@ -4,7 +4,7 @@
 --     valid_on, valid_since      records behind the end of a collection change nothing of its valid pair
 --     some_valid      there is a valid pair
 --     collected_present, collected_tree      what a record from the commit on reaches stays
---     collection_starts, collection_goes_on      what holds while a collection goes on: when it starts, and with more records behind the others
+--     collection_starts, collection_goes_on, collection_ends      what holds while a collection goes on: when it starts, with more records behind the others, and when its child has ended
 use Rattle.std.proofs.Common.{◌≡◌, ◌⊎◌, inl, inr, ℕ, zero, suc, ◌+◌, ◌<◌, ◌≤◌, List, [], ◌∷◌, ◌++◌, refl, sym, ap, subst, ◌∙◌, Some, Bool, true, false, cond, length, arith, append_assoc}
 use Rattle.std.proofs.lemmas.Bool.{false≢true}
 use Rattle.std.proofs.lemmas.Bool.Decides.{nat_tests}
@@ -570,4 +570,17 @@ collection_goes_on records new r q horizon c h e0 kept ended is follow behind he
   reached = subst (λ (cores : List CoreRecord). AreReached cores h e0 kept) (sym (map-append core_record records new))
       (reached_on (core_records records) (core_records new) h e0 kept is.reached is.core.keeps (let below = is.below in omega (arith, below)) (cores_behind e0 new behind));
   core = (step_keeps (core_of records horizon (CorePhase.collecting h kept ended)) (core_of (records ++ new) horizon (CorePhase.collecting h kept ended)) (Event.Append (core_records new)) (follow, λ i. record { records = map-append core_record records new i; horizon = horizon; phase = CorePhase.collecting h kept ended }) is.core).0;
+}
+
+-- whether its child has ended or not
+pub collection_ends : (records : Records) (r : Repository) (horizon c h e0 : ℕ) (kept : List ℕ) (ended other : Bool) → IsCollectable records r horizon c h e0 kept ended → IsCollectable records r horizon c h e0 kept other
+collection_ends records r horizon c h e0 kept ended other is = record {
+  commit = is.commit;
+  here = is.here;
+  number = is.number;
+  below = is.below;
+  heads = is.heads;
+  table = is.table;
+  reached = is.reached;
+  core = record { order = is.core.order; below = is.core.below; keeps = is.core.keeps };
 }
