@@ -1,4 +1,4 @@
 mod Gaps
 pub mod Bytes
-mod Writing
+pub mod Writing
 pub mod Behind

@@ -91,14 +91,14 @@ syncs_range size from to some a b r syncs =
 
 -- what a read of the file gives
 module _ (at n : ℕ) (out filled : List ℕ) (here : Content) (count : n ≡ min (length out) (size_of here - at)) (taken : take n filled ≡ take n (drop at (bytes_of here))) where
-  bytes_stand : Stands (byte_of here) at (take n filled)
+  pub bytes_stand : Stands (byte_of here) at (take n filled)
   bytes_stand k lt =
       let inside : k < n = omega (arith, lt, length-take n filled) in
       some_byte here (at + k) (omega (arith, inside, count))
       ∙ ap Some (sym (ap (λ (l : List ℕ). get_or l k 0) taken ∙ get_or-take n (drop at (bytes_of here)) k 0 inside ∙ get_or-drop at (bytes_of here) k 0))
       ∙ sym (slice_get-get_or (take n filled) k 0 lt)
 
-  gap_behind : n < length out → byte_of here (at + n) ≡ None
+  pub gap_behind : n < length out → byte_of here (at + n) ≡ None
   gap_behind short = no_byte here (at + n) (omega (arith, count, short))
 
 module _ (size at : ℕ) (out filled : List ℕ) (a b : Told) where

@@ -3,3 +3,4 @@ pub mod Order
 pub mod Lookup
 pub mod Outcomes
 pub mod Writing
+pub mod Placing

@@ -1,12 +1,13 @@
 //! A mapping in memory.
-ghost use Rattle.std.specs.Prelude.{◌≡◌, ◌*◌, ◌↔◌, ◌++◌, length, map, IsTrue, MatchOption};
-ghost use Rattle.ip_image.specs.Virtual.{run_of, locate, RowFits};
+ghost use Rattle.std.specs.Prelude.{◌≡◌, ◌*◌, ◌↔◌, ◌++◌, [], length, map, IsTrue, IfOk, MatchOption};
+ghost use Rattle.ip_image.specs.Virtual.{run_of, placed, total, locate, RowFits, RowsFit};
 ghost use Rattle.ip_mapping.specs.Parsing.{Parses, head_bytes, IsRowAt};
 
 use crate::head::take_head;
 use crate::reader::take_row;
 use crate::{Head, MappingFault};
-use ip_image::run::Row;
+use ip_base::Memory;
+use ip_image::run::{Row, Run};
 use std::alloc::Global;
 use std::marker::Model;
 
@@ -41,6 +42,47 @@ impl Mapping {
         }
     }
 
+    /// The mapping without runs. It takes no memory.
+    pub fn none(alloc: Global, horizon: u64, end: u64) -> Mapping
+        ensures { result ≡ record { horizon = horizon; end = end; rows = [] } }
+    {
+        Mapping {
+            horizon,
+            end,
+            rows: Vec::new(alloc),
+        }
+    }
+
+    /// The mapping with these runs, in which the prefix has them one behind another. Numbers are in bytes of
+    /// the virtual space.
+    pub fn of_runs(alloc: Global, horizon: u64, end: u64, runs: &[Run]) -> Result<Mapping, Memory>
+        requires { RowsFit horizon (placed 0 runs.now) }
+        ensures { IfOk result (λ m. m ≡ record { horizon = horizon; end = end; rows = placed 0 runs.now }) }
+    {
+        let mut rows = Vec::with_capacity(alloc, runs.len())?;
+        let mut place = 0;
+        for run in runs {
+            rows.push(Row {
+                at: run.at,
+                length: run.length,
+                place,
+            })?;
+            place += run.length;
+        }
+        Ok(Mapping { horizon, end, rows })
+    }
+
+    /// The same mapping once more.
+    pub fn copy(&self, alloc: Global) -> Result<Mapping, Memory>
+        ensures { IfOk result (λ m. m ≡ self.now) }
+    {
+        Ok(Mapping {
+            horizon: self.horizon,
+            end: self.end,
+            rows: self.rows.to_vec(alloc)?,
+        })
+    }
+
     /// The offset from which on nothing is mapped, in bytes of the virtual space.
     pub fn horizon(&self) -> u64
         ensures { result ≡ self.now.horizon }
@@ -60,6 +102,16 @@ impl Mapping {
         ensures { result.now ≡ self.now.rows }
     {
         &self.rows
+    }
+
+    /// Whether the runs have so many bytes together: as many as the prefix file.
+    pub fn fills(&self, length: u64) -> bool
+        ensures { IsTrue result ↔ (total (map run_of self.now.rows) ≡ length) }
+    {
+        match self.rows.last() {
+            Some(row) => row.place <= length && length - row.place == row.length,
+            None => length == 0,
+        }
     }
 
     /// The row whose run has an offset; none where no run has it. A reader takes as many bytes at its place as

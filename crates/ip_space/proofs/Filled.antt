@@ -8,9 +8,7 @@ use Rattle.ip_ground.specs.Told.{Told, NoFile, ChangesOnly}
 use Rattle.ip_ground.proofs.Spans.{only_nowhere, only_on}
 use Rattle.ip_spec.specs.Path.{Bytes}
 use Rattle.ip_image.specs.Virtual.{Stands}
-use Rattle.ip_space.specs.SpaceView.{SpaceView, IsLayout, IsReadable, byte_at}
-use Rattle.ip_space.specs.Viewed.{view_of}
-use Rattle.ip_space.specs.declared.source.Source.{Source}
+use Rattle.ip_space.specs.SpaceView.{SpaceView, IsReadable, byte_at}
 use Rattle.ip_space.specs.Head.{needed}
 use Rattle.ip_space.specs.Ahead.{IsUpTo, IsEnough, ReadsBytes}
 use Rattle.ip_space.specs.Filling.{ShowsIn, GoesOn, Fills}
@@ -81,10 +79,6 @@ goes_by at want room n stop space old new filled told now only behind reads fits
 
 pub shows_later : (told now : Told) (space : SpaceView) (at : ℕ) (bytes : Bytes) → IsReadable told space → ChangesOnly NoFile told now → ShowsIn told space at bytes → ShowsIn now space at bytes
 shows_later told now space at bytes readable only = shows_alike (byte_at told space) (byte_at now space) (byte_stays told now only space readable) space.layout.end at bytes
-
--- so far each space is readable
-pub readable_so_far : (told : Told) (s : Source) → IsLayout s.layout → IsReadable told (view_of s)
-readable_so_far told s is = record { own = λ live. absurd (live is.none_live); none = λ _ i. [] }
 
 module _ (at : ℕ) (space : SpaceView) (old mid new : Bytes) (told then now : Told) (readable : IsReadable told space) where
   -- the head, and then the body

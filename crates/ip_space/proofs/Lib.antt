@@ -2,6 +2,7 @@ pub mod HeldBytes
 pub mod StoodBytes
 pub mod ReadFronts
 pub mod Stayed
+pub mod Kept
 pub mod Filled
 pub mod Answered
 pub mod Passing

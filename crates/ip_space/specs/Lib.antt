@@ -1,5 +1,6 @@
 pub mod SpaceView
 pub mod Viewed
+pub mod Pair
 pub mod Fetching
 pub mod Head
 pub mod Ahead

@@ -1,7 +1,7 @@
 -- What a walk over records answers.
 --     IsCurrent told space scan      what was read ahead is what stands there
 --     Moves old new result      where the walk is then.      Finds records at result      what it found at a place
---     FindsWhole bytes_at end at result      the bytes of the record that it found stand there, below the end
+--     IsWhole bytes_at end at found      the bytes of a record stand there, below the end.      FindsWhole bytes_at end at result      so do those of the record that it found
 --     RunsTo records from to      records lie end to end between the places: with this, no form is wrong
 --     IsWalked records old new result      then a walk goes on to its end
 use Rattle.std.specs.Prelude.{◌≡◌, ℕ, ◌+◌, ◌<◌, ◌≤◌, length, Option, Some, None, Result, Ok, Err}
@@ -45,9 +45,12 @@ Finds records next (Err (Form at fault)) = records next ≡ None
 Finds records next (Err (Name at want got)) = ⊥
 Finds records next (Err Memory) = Unit {0}
 
+abbrev pub IsWhole : (ℕ → Option ℕ) → ℕ → ℕ → Record → Type 0
+IsWhole bytes_at end at found = Stands bytes_at at (spelling found) × (at + length (spelling found) ≤ end)
+
 abbrev pub FindsWhole : (ℕ → Option ℕ) → ℕ → ℕ → Result (Option (ℕ × Record)) FetchFault → Type 0
 FindsWhole bytes_at end next (Ok None) = Unit {0}
-FindsWhole bytes_at end next (Ok (Some (at, found))) = Stands bytes_at next (spelling found) × (next + length (spelling found) ≤ end)
+FindsWhole bytes_at end next (Ok (Some (at, found))) = IsWhole bytes_at end next found
 FindsWhole bytes_at end next (Err fault) = Unit {0}
 
 -- the fault of the form says why

@@ -2,8 +2,8 @@
 --     byte_in image space, byte_at told space      the byte at an offset, if it is there.
 --     read_at told space      what the bytes from an offset on are read as
 --     records_in image space, records_of told space      the record at each offset
---     grown space end      the space up to a later end.      SameBelow space old new      below the end two images have the same bytes
---     IsLayout layout      what a layout is so far
+--     grown space end      the space up to another end.      SameBelow space old new      below the end two images have the same bytes
+--     IsLayout layout      what a layout is
 --     IsReadable told space      what is read stays so: nobody else changes the files
 --     OnlyReads old new space now      a call changed no file at any moment, and the records stay
 use Rattle.std.specs.Prelude.{◌≡◌, ◌≢◌, ℕ, ◌-◌, ◌^◌, ◌<◌, ◌≤◌, List, [], Option, Result}
@@ -36,7 +36,7 @@ byte_in image space = virtual_byte image space.layout space.runs
 abbrev pub byte_at : Told → SpaceView → ℕ → Option ℕ
 byte_at told space = byte_in told.held space
 
--- the space up to a later end
+-- the space up to another end
 abbrev pub grown : SpaceView → ℕ → SpaceView
 grown space end = record space { layout = record space.layout { end = end } }
 
@@ -48,13 +48,12 @@ SameBelow space old new = (at : ℕ) → at < space.layout.end → byte_in new s
 abbrev pub read_at : Told → SpaceView → ℕ → Result (Record × ℕ) RecordFault
 read_at told space at = reading newest_version (bytes_from (byte_at told space) at (space.layout.end - at))
 
--- No generation of a collection is read so far: none is live, and the horizon is then 0, as in the live slot.
+-- Where no generation of a collection is live, nothing lies below the horizon, as in a slot.
 pub record IsLayout (layout : Layout) : Type 0 where
   pub chunk : IsChunkSize layout.chunk
   pub order : layout.horizon ≤ layout.end
   pub ends : layout.end ≤ 2 ^ 62
-  pub none_live : layout.live ≡ 0
-  pub nothing_below : layout.horizon ≡ 0
+  pub nothing_below : layout.live ≡ 0 → layout.horizon ≡ 0
 
 -- the live prefix is no child's, and where none is live there are no runs
 pub record IsReadable (told : Told) (space : SpaceView) : Type 0 where

@@ -1,7 +1,13 @@
 -- What a space knows, by where its bytes lie.
-use Rattle.std.specs.Prelude.{[]}
-use Rattle.ip_space.specs.SpaceView.{SpaceView}
+--     view_of s      the layout, and the runs of the mapping.      IsSource s      the mapping is one of the layout's horizon
+use Rattle.std.specs.Prelude.{◌≡◌, map}
+use Rattle.ip_image.specs.Virtual.{run_of}
+use Rattle.ip_space.specs.SpaceView.{SpaceView, IsLayout}
 use Rattle.ip_space.specs.declared.source.Source.{Source}
 
 abbrev pub view_of : Source → SpaceView
-view_of s = record { layout = s.layout; runs = [] }
+view_of s = record { layout = s.layout; runs = map run_of s.mapping.rows }
+
+pub record IsSource (s : Source) : Type 0 where
+  pub layout : IsLayout s.layout
+  pub horizon : s.mapping.horizon ≡ s.layout.horizon

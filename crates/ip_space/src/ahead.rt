@@ -5,8 +5,8 @@ ghost use Rattle.ip_ground.specs.Told.{NoFile, ChangesOnly};
 ghost use Rattle.ip_spec.specs.Record.{Fits, spelling};
 ghost use Rattle.ip_spec.specs.Reading.{reading};
 ghost use Rattle.ip_image.specs.Slot.{newest_version};
-ghost use Rattle.ip_space.specs.SpaceView.{IsLayout, byte_at, read_at};
-ghost use Rattle.ip_space.specs.Viewed.{view_of};
+ghost use Rattle.ip_space.specs.SpaceView.{IsReadable, byte_at, read_at};
+ghost use Rattle.ip_space.specs.Viewed.{view_of, IsSource};
 ghost use Rattle.ip_space.specs.Fetching.{ReadsOne, BlamesPlace, IsReadFault};
 ghost use Rattle.ip_space.specs.Head.{needed};
 ghost use Rattle.ip_space.specs.Ahead.{held_in, IsAhead, BeginsWith, Shows, ReadsBytes};
@@ -103,15 +103,15 @@ impl Ahead {
         stretch: u64,
         most: u64,
     ) -> Result<(Record, u64), FetchFault>
-        requires layout { IsLayout source.now.layout }
+        requires source { IsSource source.now }
         requires ahead { IsAhead self.old }
         requires room { length (held_in self.old) ≤ source.now.layout.end - at }
         ensures ahead { IsAhead self.new }
         ensures room { length (held_in self.new) ≤ source.now.layout.end - at }
-        ensures shows { IsTrue G.tells →
+        ensures shows { IsTrue G.tells → IsReadable (G.told outside.old) (view_of source.now) →
             Shows (byte_at (G.told outside.old) (view_of source.now)) source.now.layout.end at (held_in self.old) →
             Shows (byte_at (G.told outside.new) (view_of source.now)) source.now.layout.end at (held_in self.new) }
-        ensures reads { IsTrue G.tells →
+        ensures reads { IsTrue G.tells → IsReadable (G.told outside.old) (view_of source.now) →
             Shows (byte_at (G.told outside.old) (view_of source.now)) source.now.layout.end at (held_in self.old) →
             ReadsOne (read_at (G.told outside.old) (view_of source.now) at) result }
         ensures blames { BlamesPlace at result }
@@ -134,12 +134,13 @@ impl Ahead {
         stretch: u64,
         most: u64,
     ) -> Result<(), FetchFault>
-        requires layout { IsLayout source.now.layout }
+        requires source { IsSource source.now }
         requires ahead { IsAhead self.old }
         requires room { length (held_in self.old) ≤ source.now.layout.end - at }
         ensures ahead { IsAhead self.new }
         ensures room { length (held_in self.new) ≤ source.now.layout.end - at }
-        ensures fills { IsTrue G.tells → Fills at (view_of source.now) (held_in self.old) (held_in self.new) result (G.told outside.old) (G.told outside.new) }
+        ensures fills { IsTrue G.tells → IsReadable (G.told outside.old) (view_of source.now) → Fills at (view_of source.now) (held_in self.old) (held_in self.new) result (G.told outside.old) (G.told outside.new) }
+        ensures only { IsTrue G.tells → ChangesOnly NoFile (G.told outside.old) (G.told outside.new) }
         ensures fault { IsReadFault result }
         ensures counts { NoneFalls (G.counts_of outside.old) (G.counts_of outside.new) }
         ensures cause { IsErrOf result FetchFault.Ground → (Rose (G.counts_of outside.old).file_faults (G.counts_of outside.new).file_faults) }
@@ -157,12 +158,13 @@ impl Ahead {
         stretch: u64,
         most: u64,
     ) -> Result<(), FetchFault>
-        requires layout { IsLayout source.now.layout }
+        requires source { IsSource source.now }
         requires ahead { IsAhead self.old }
         requires room { length (held_in self.old) ≤ source.now.layout.end - at }
         ensures ahead { IsAhead self.new }
         ensures room { length (held_in self.new) ≤ source.now.layout.end - at }
-        ensures goes { IsTrue G.tells → GoesOn at 5 (view_of source.now) (held_in self.old) (held_in self.new) result (G.told outside.old) (G.told outside.new) }
+        ensures goes { IsTrue G.tells → IsReadable (G.told outside.old) (view_of source.now) → GoesOn at 5 (view_of source.now) (held_in self.old) (held_in self.new) result (G.told outside.old) (G.told outside.new) }
+        ensures only { IsTrue G.tells → ChangesOnly NoFile (G.told outside.old) (G.told outside.new) }
         ensures fault { IsReadFault result }
         ensures counts { NoneFalls (G.counts_of outside.old) (G.counts_of outside.new) }
         ensures cause { IsErrOf result FetchFault.Ground → (Rose (G.counts_of outside.old).file_faults (G.counts_of outside.new).file_faults) }
@@ -183,12 +185,13 @@ impl Ahead {
         stretch: u64,
         most: u64,
     ) -> Result<(), FetchFault>
-        requires layout { IsLayout source.now.layout }
+        requires source { IsSource source.now }
         requires ahead { IsAhead self.old }
         requires room { length (held_in self.old) ≤ source.now.layout.end - at }
         ensures ahead { IsAhead self.new }
         ensures room { length (held_in self.new) ≤ source.now.layout.end - at }
-        ensures goes { IsTrue G.tells → GoesOn at (needed (held_in self.old)) (view_of source.now) (held_in self.old) (held_in self.new) result (G.told outside.old) (G.told outside.new) }
+        ensures goes { IsTrue G.tells → IsReadable (G.told outside.old) (view_of source.now) → GoesOn at (needed (held_in self.old)) (view_of source.now) (held_in self.old) (held_in self.new) result (G.told outside.old) (G.told outside.new) }
+        ensures only { IsTrue G.tells → ChangesOnly NoFile (G.told outside.old) (G.told outside.new) }
         ensures fault { IsReadFault result }
         ensures counts { NoneFalls (G.counts_of outside.old) (G.counts_of outside.new) }
         ensures cause { IsErrOf result FetchFault.Ground → (Rose (G.counts_of outside.old).file_faults (G.counts_of outside.new).file_faults) }
@@ -218,12 +221,13 @@ impl Ahead {
         at: u64,
         want: u64,
     ) -> Result<(), FetchFault>
-        requires layout { IsLayout source.now.layout }
+        requires source { IsSource source.now }
         requires ahead { IsAhead self.old }
         requires room { length (held_in self.old) ≤ source.now.layout.end - at }
         ensures ahead { IsAhead self.new }
         ensures room { length (held_in self.new) ≤ source.now.layout.end - at }
-        ensures goes { IsTrue G.tells → GoesOn at want (view_of source.now) (held_in self.old) (held_in self.new) result (G.told outside.old) (G.told outside.new) }
+        ensures goes { IsTrue G.tells → IsReadable (G.told outside.old) (view_of source.now) → GoesOn at want (view_of source.now) (held_in self.old) (held_in self.new) result (G.told outside.old) (G.told outside.new) }
+        ensures only { IsTrue G.tells → ChangesOnly NoFile (G.told outside.old) (G.told outside.new) }
         ensures fault { IsReadFault result }
         ensures counts { NoneFalls (G.counts_of outside.old) (G.counts_of outside.new) }
         ensures cause { IsErrOf result FetchFault.Ground → (Rose (G.counts_of outside.old).file_faults (G.counts_of outside.new).file_faults) }
@@ -268,12 +272,12 @@ fn read_into<G: Ground>(
     from: usize,
     room: usize,
 ) -> Result<usize, GroundFault>
-    requires layout { IsLayout source.now.layout }
+    requires source { IsSource source.now }
     requires inside { at + room ≤ source.now.layout.end }
     requires fits { from + room ≤ length buffer.old.items }
     ensures size { length buffer.new.items ≡ length buffer.old.items }
     ensures front { take from buffer.new.items ≡ take from buffer.old.items }
-    ensures reads { IsTrue G.tells → ReadsBytes (byte_at (G.told outside.old) (view_of source.now)) at room (drop from buffer.new.items) result }
+    ensures reads { IsTrue G.tells → IsReadable (G.told outside.old) (view_of source.now) → ReadsBytes (byte_at (G.told outside.old) (view_of source.now)) at room (drop from buffer.new.items) result }
     ensures fits { IfOk result (λ n. n ≤ room) }
     ensures only { IsTrue G.tells → ChangesOnly NoFile (G.told outside.old) (G.told outside.new) }
     ensures counts { NoneFalls (G.counts_of outside.old) (G.counts_of outside.new) }

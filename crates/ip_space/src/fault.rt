@@ -2,7 +2,7 @@
 ghost use Rattle.std.specs.Prelude.{◌≡◌};
 
 use ip_base::{Hash, Memory};
-use ip_ground::GroundFault;
+use ip_ground::{FileName, GroundFault};
 use ip_spec::record::RecordFault;
 
 /// Why a record was not read. `Ground` and `Memory` say nothing of the files, and the call may be made again; the other two say that the
@@ -44,8 +44,28 @@ impl From<Memory> for FetchFault {
 pub enum SpaceFault {
     /// A call on the ground failed, as its counts show.
     Ground,
-    /// The bytes of the live mapping's file are no mapping, and go wrong at this place of it.
-    Form { at: u64 },
+    /// The live mapping and prefix are not those of the layout: the file, and the place in it, of the first test that fails.
+    Damaged { file: FileName, at: u64 },
     /// Want of memory, for the mapping.
     Memory,
+}
+
+impl From<GroundFault> for SpaceFault {
+    ghost use Rattle.ip_space.specs.declared.fault.SpaceFault.TheVariants as SpaceFault;
+
+    ghost from_gives = { λ _ e. e ≡ SpaceFault.Ground };
+
+    fn from(_: GroundFault) -> Self {
+        SpaceFault::Ground
+    }
+}
+
+impl From<Memory> for SpaceFault {
+    ghost use Rattle.ip_space.specs.declared.fault.SpaceFault.TheVariants as SpaceFault;
+
+    ghost from_gives = { λ _ e. e ≡ SpaceFault.Memory };
+
+    fn from(_: Memory) -> Self {
+        SpaceFault::Memory
+    }
 }

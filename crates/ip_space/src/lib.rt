@@ -18,6 +18,7 @@ ghost use Rattle.ip_space.specs.declared.fault.FetchFault.{FetchFault};
 
 mod ahead;
 mod fault;
+mod live;
 mod scan;
 mod source;
 mod space;
@@ -26,6 +27,7 @@ mod tests;
 
 pub use fault::{FetchFault, SpaceFault};
 pub use ip_image::layout::Layout;
+pub use ip_image::run::Run;
 pub use scan::Scan;
 pub use space::Space;
 

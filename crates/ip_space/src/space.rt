@@ -1,22 +1,28 @@
 // The space of a store's records.
-ghost use Rattle.std.specs.Prelude.{◌≡◌, ◌≢◌, ℕ, ◌≤◌, ◌^◌, ◌==◌, [], IsTrue, IfOk, IsOk, IsErrOf, if◌then◌else◌};
+ghost use Rattle.std.specs.Prelude.{◌≡◌, ◌≢◌, ℕ, ◌≤◌, ◌^◌, ◌==◌, [], map, IsTrue, IfOk, IsOk, IsErrOf, if◌then◌else◌};
 ghost use Rattle.ip_ground.specs.Counts.{NoneFalls, Rose};
 ghost use Rattle.ip_ground.specs.Told.{NoFile, ChangesOnly};
 ghost use Rattle.ip_spec.specs.Record.{Fits, kind_of};
 ghost use Rattle.ip_image.specs.Slot.{newest_version, IsChunkSize};
-ghost use Rattle.ip_image.specs.Virtual.{lies_at};
-ghost use Rattle.ip_space.specs.SpaceView.{grown, OnlyReads, IsReadable, records_of, read_at};
-ghost use Rattle.ip_space.specs.Fetching.{Blames, Fetches, IsBecause, Meets, Refers};
+ghost use Rattle.ip_image.specs.Virtual.{run_of, placed, RowsFit, lies_at};
+ghost use Rattle.ip_space.specs.SpaceView.{grown, IsLayout, OnlyReads, IsReadable, records_of, read_at, byte_at};
+ghost use Rattle.ip_space.specs.Fetching.{Blames, BlamesPlace, Fetches, FindsRecord, IsBecause, Meets, ReadsRecord, Refers};
+ghost use Rattle.ip_space.specs.Pair.{IsOwnPair, FindsSpace};
+ghost use Rattle.ip_space.specs.Scanning.{IsWhole};
 ghost use Rattle.ip_space.specs.ScanView.{ScanView};
 ghost use Rattle.ip_space.specs.declared.fault.FetchFault.TheVariants as FetchFault;
 ghost use Rattle.ip_space.specs.declared.fault.SpaceFault.TheVariants as SpaceFault;
 
 use crate::ahead::Ahead;
+use crate::live::read_live;
 use crate::source::Source;
 use crate::{FetchFault, Scan, SpaceFault};
+use ip_base::Memory;
 use ip_chunks::Chunks;
 use ip_ground::{FileName, Ground};
 use ip_image::layout::Layout;
+use ip_image::run::Run;
+use ip_mapping::Mapping;
 use ip_object::name_of_record;
 use ip_spec::record::{Record, RecordFault, Ref};
 use std::alloc::Global;
@@ -34,19 +40,19 @@ pub struct Space {
 }
 
 impl Model for Space {
-    ghost use Rattle.ip_space.specs.SpaceView.{SpaceView, IsLayout};
-    ghost use Rattle.ip_space.specs.Viewed.{view_of};
+    ghost use Rattle.ip_space.specs.SpaceView.{SpaceView};
+    ghost use Rattle.ip_space.specs.Viewed.{view_of, IsSource};
 
     ghost Value = { SpaceView };
 
     ghost view = { λ s. view_of s.source };
 
-    ghost invariant = { λ s. IsLayout s.source.layout };
+    ghost invariant = { λ s. IsSource s.source };
 }
 
 impl Space {
-    /// The space of a layout. Where no generation of a collection is live nothing is read and no memory is taken. For now none may be,
-    /// and the horizon is 0 then, as in a control file.
+    /// The space of a layout. Where a generation of a collection is live its mapping is read, which takes memory for it, and the length of
+    /// its prefix is asked for. Else nothing is read, and no memory is taken.
     pub fn of<G: Ground>(
         alloc: Global,
         outside: &mut G,
@@ -55,23 +61,63 @@ impl Space {
         requires chunk { IsChunkSize layout.chunk }
         requires order { layout.horizon ≤ layout.end }
         requires ends { layout.end ≤ 2 ^ 62 }
-        requires none_live { layout.live ≡ 0 }
-        requires nothing_below { layout.horizon ≡ 0 }
+        requires nothing_below { layout.live ≡ 0 → layout.horizon ≡ 0 }
         ensures view { IfOk result (λ space. space.layout ≡ layout) }
         ensures runs { layout.live ≡ 0 → IfOk result (λ space. space.runs ≡ []) }
         ensures opens { layout.live ≡ 0 → IsOk result }
-        ensures form { (at : ℕ) → IsErrOf result (SpaceFault.Form at) → layout.live ≢ 0 }
+        ensures finds { IsTrue G.tells → layout.live ≢ 0 → IsOwnPair (G.told outside.old) layout → FindsSpace (G.told outside.new).held layout result }
         ensures only { IsTrue G.tells → ChangesOnly NoFile (G.told outside.old) (G.told outside.new) }
-        ensures readable { IsTrue G.tells → IfOk result (λ space. IsReadable (G.told outside.new) space) }
+        ensures readable { IsTrue G.tells → (layout.live ≢ 0 → IsOwnPair (G.told outside.old) layout) → IfOk result (λ space. IsReadable (G.told outside.new) space) }
         ensures unread { layout.live ≡ 0 → outside.new ≡ outside.old }
         ensures counts { NoneFalls (G.counts_of outside.old) (G.counts_of outside.new) }
         ensures cause { IsErrOf result SpaceFault.Ground → Rose (G.counts_of outside.old).file_faults (G.counts_of outside.new).file_faults }
     {
-        Ok(Space {
+        if layout.live == 0 {
+            let mapping = Mapping::none(alloc, layout.horizon, layout.end);
+            return Ok(Space::with(alloc, layout, mapping));
+        }
+        let mapping = read_live(alloc, outside, &layout)?;
+        Ok(Space::with(alloc, layout, mapping))
+    }
+
+    /// The space of a layout over these runs, which fill the live prefix one behind another. It reads nothing.
+    pub fn over(alloc: Global, layout: Layout, runs: &[Run]) -> Result<Space, Memory>
+        requires chunk { IsChunkSize layout.chunk }
+        requires order { layout.horizon ≤ layout.end }
+        requires ends { layout.end ≤ 2 ^ 62 }
+        requires nothing_below { layout.live ≡ 0 → layout.horizon ≡ 0 }
+        requires fits { RowsFit layout.horizon (placed 0 runs.now) }
+        ensures { IfOk result (λ space. space ≡ record { layout = layout; runs = runs.now }) }
+    {
+        ip_mapping::built_is_mapping();
+        let mapping = Mapping::of_runs(alloc, layout.horizon, layout.end, runs)?;
+        Ok(Space::with(alloc, layout, mapping))
+    }
+
+    /// The space up to an earlier end.
+    pub fn copy_up_to(&self, end: u64) -> Result<Space, Memory>
+        requires above { self.now.layout.horizon ≤ end }
+        requires earlier { end ≤ self.now.layout.end }
+        ensures { IfOk result (λ space. space ≡ grown self.now end) }
+    {
+        let mapping = self.source.mapping.copy(self.alloc)?;
+        let layout = Layout {
+            end,
+            ..self.source.layout
+        };
+        Ok(Space::with(self.alloc, layout, mapping))
+    }
+
+    fn with(alloc: Global, layout: Layout, mapping: Mapping) -> Space
+        requires layout { IsLayout layout }
+        requires horizon { mapping.horizon ≡ layout.horizon }
+        ensures { result ≡ record { layout = layout; runs = map run_of mapping.rows } }
+    {
+        Space {
             alloc,
-            source: Source { layout },
+            source: Source { layout, mapping },
             ahead: Ahead::new(alloc),
-        })
+        }
     }
 
     /// The numbers of the slot that tell where records lie.
@@ -85,13 +131,20 @@ impl Space {
     pub fn lies_at(&self, at: u64) -> Option<(FileName, u64)>
         ensures { result ≡ lies_at self.now.layout self.now.runs at }
     {
-        let chunks = Chunks {
-            size: self.source.layout.chunk,
-        };
-        Some(chunks.file_of(at))
+        let Layout {
+            chunk,
+            horizon,
+            live,
+            ..
+        } = self.source.layout;
+        if at >= horizon {
+            return Some(Chunks { size: chunk }.file_of(at));
+        }
+        let place = self.source.mapping.locate(at)?;
+        Some((FileName::Prefix(live), place))
     }
 
-    /// The record at a reference, of its kind and name. It makes two reads at most, into a buffer that is used again, and takes memory for
+    /// The record at a reference, of its kind and name. It reads for two stretches at most, into a buffer that is used again, and takes memory for
     /// what the record holds. The kind is tried before the name.
     pub fn fetch<G: Ground>(
         &mut self,
@@ -111,19 +164,35 @@ impl Space {
         ensures counts { NoneFalls (G.counts_of outside.old) (G.counts_of outside.new) }
         ensures cause { IsErrOf result FetchFault.Ground → Rose (G.counts_of outside.old).file_faults (G.counts_of outside.new).file_faults }
     {
-        self.ahead.clear();
-        let (rec, _) = match self.ahead.read_one(
-            self.alloc,
-            &self.source,
-            outside,
-            reference.at,
-            PAGE,
-            PAGE,
-        ) {
-            Ok(found) => found,
+        let rec = match self.record_at(outside, reference.at) {
+            Ok(rec) => rec,
             Err(fault) => return Err(fault),
         };
         referred(rec, &reference)
+    }
+
+    /// The record at an offset, whatever it is. It makes two reads at most, into a buffer that is used again, and takes memory for what the
+    /// record holds.
+    pub fn record_at<G: Ground>(&mut self, outside: &mut G, at: u64) -> Result<Record, FetchFault>
+        ensures reads { IsTrue G.tells → OnlyReads (G.told outside.old) (G.told outside.new) self.old self.new }
+        ensures found { IsTrue G.tells → IsReadable (G.told outside.old) self.old → FindsRecord (records_of (G.told outside.old) self.old) at result }
+        ensures because { IsTrue G.tells → IsReadable (G.told outside.old) self.old → ReadsRecord (read_at (G.told outside.old) self.old at) result }
+        ensures whole { IsTrue G.tells → IsReadable (G.told outside.old) self.old → IfOk result (IsWhole (byte_at (G.told outside.new) self.old) self.old.layout.end at) }
+        ensures blames { BlamesPlace at result }
+        ensures bounds { IfOk result (λ found. Fits newest_version found) }
+        ensures layout { self.new.layout ≡ self.old.layout }
+        ensures runs { self.new.runs ≡ self.old.runs }
+        ensures counts { NoneFalls (G.counts_of outside.old) (G.counts_of outside.new) }
+        ensures cause { IsErrOf result FetchFault.Ground → Rose (G.counts_of outside.old).file_faults (G.counts_of outside.new).file_faults }
+    {
+        self.ahead.clear();
+        match self
+            .ahead
+            .read_one(self.alloc, &self.source, outside, at, PAGE, PAGE)
+        {
+            Ok((rec, _)) => Ok(rec),
+            Err(fault) => Err(fault),
+        }
     }
 
     /// A walk over the records between two offsets, of which none was read yet. Each is to be the offset of a record, or the end.

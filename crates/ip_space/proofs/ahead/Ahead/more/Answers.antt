@@ -7,7 +7,7 @@ use Rattle.ip_space.proofs.Filled.{goes_by}
 use Rattle.ip_space.proofs.ahead.Ahead.more.Goals as goal
 
 pub returns-clause-goes : goal.returns-clause-goes
-returns-clause-goes g c told =
+returns-clause-goes g c told readable =
     let a : Ahead = c.make_room.new.self in
     let n : ℕ = c.in_ok-self.field-0 in
     let v : Ahead = record { buffer = c.read_into.new.buffer; start = a.start; stop = a.stop + n } in
@@ -23,7 +23,7 @@ returns-clause-goes g c told =
     let wanted = c.min-want.ensures in
     let beyond = c.saturating_sub.ensures in
     let more = c.if-self-want.false in
-    goes_by c.args.at c.args.want _ n a.stop (view_of c.args.source.now) (held_in c.args.self.now) (held_in v) filled _ _ (read.only told) size (read.reads told) fits
+    goes_by c.args.at c.args.want _ n a.stop (view_of c.args.source.now) (held_in c.args.self.now) (held_in v) filled _ _ (read.only told) size (read.reads told readable) fits
     (omega (arith, fits, left, same, room))
     (held_more a v n front front read.front refl ∙ ap (λ (xs : List ℕ). xs ++ take n filled) made.held)
     (omega (arith, size, wanted, beyond, more))

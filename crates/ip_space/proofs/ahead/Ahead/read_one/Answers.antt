@@ -6,22 +6,22 @@ use Rattle.ip_space.specs.Viewed.{view_of}
 use Rattle.ip_space.specs.Ahead.{held_in}
 use Rattle.ip_space.specs.Fetching.{ReadsOne}
 use Rattle.ip_space.proofs.ReadFronts.{read_as}
-use Rattle.ip_space.proofs.Filled.{readable_so_far, shows_later}
+use Rattle.ip_space.proofs.Filled.{shows_later}
 use Rattle.ip_space.proofs.ahead.Ahead.read_one.Goals as goal
 
 pub returns-in_err-fill-clause-shows : goal.returns-in_err-fill-clause-shows
-returns-in_err-fill-clause-shows g c told shows =
-    let fills = c.fill.ensures.fills told in
-    shows_later _ _ (view_of c.args.source.now) c.args.at (held_in c.fill.new.self) (readable_so_far _ c.args.source.now c.requires.layout) fills.only (fills.shows shows)
+returns-in_err-fill-clause-shows g c told readable shows =
+    let fills = c.fill.ensures.fills told readable in
+    shows_later _ _ (view_of c.args.source.now) c.args.at (held_in c.fill.new.self) readable fills.only (fills.shows shows)
 
 pub returns-clause-shows : goal.returns-clause-shows
-returns-clause-shows g c told shows =
-    let fills = c.fill.ensures.fills told in
-    shows_later _ _ (view_of c.args.source.now) c.args.at (held_in c.fill.new.self) (readable_so_far _ c.args.source.now c.requires.layout) fills.only (fills.shows shows)
+returns-clause-shows g c told readable shows =
+    let fills = c.fill.ensures.fills told readable in
+    shows_later _ _ (view_of c.args.source.now) c.args.at (held_in c.fill.new.self) readable fills.only (fills.shows shows)
 
 pub returns-clause-reads : goal.returns-clause-reads
-returns-clause-reads g c told shows =
-    let fills = c.in_ok-fill.ensures.fills told in
+returns-clause-reads g c told readable shows =
+    let fills = c.in_ok-fill.ensures.fills told readable in
     subst (λ r. ReadsOne r c.front_record.result)
     (ap (reading newest_version) c.held.ensures
     ∙ sym (read_as (byte_at (g.G.Ground.told c.args.outside.now) (view_of c.args.source.now)) c.args.source.now.layout.end c.args.at (held_in c.fill.new.self) (fills.shows shows) (fills.enough shows)))
