@@ -1,7 +1,7 @@
 -- What reading one record comes to, for a reference and for a walk.
 --     record_there      the record at an offset is what is read there
 --     whole_there      the record that the bytes begin with stands whole.      some_bytes      it has some
---     found_err, found_ok      for a walk.      fetched_err, fetched_ok      for a reference
+--     found_err, found_ok      for a walk, and found_ok, record_err for an offset.      fetched_err, fetched_ok      for a reference
 use Rattle.std.proofs.Common.{◌≡◌, ℕ, ◌+◌, ◌-◌, ◌<◌, ◌≤◌, refl, sym, ◌∙◌, ap, subst, arith, [], length, drop, length-drop, length-append}
 use Rattle.std.specs.Prelude.{Option, Some, None, Result, Ok, Err}
 use Rattle.ip_ground.specs.Told.{Told}
@@ -12,10 +12,10 @@ use Rattle.ip_spec.specs.Path.{Bytes}
 use Rattle.ip_spec.specs.Record.{reference_kind, name_of, spelling}
 use Rattle.ip_image.specs.Virtual.{Stands}
 use Rattle.ip_image.specs.Stored.{record_at, record_read, stored}
-use Rattle.ip_space.specs.SpaceView.{SpaceView, records_of, read_at, byte_at}
+use Rattle.ip_space.specs.SpaceView.{SpaceView, IsReadable, records_of, read_at, byte_at}
 use Rattle.ip_space.specs.Ahead.{Shows, BeginsWith}
 use Rattle.ip_space.specs.ScanView.{ScanView}
-use Rattle.ip_space.specs.Fetching.{Fetches, Refers, ReadsOne, BlamesPlace, Meets}
+use Rattle.ip_space.specs.Fetching.{Fetches, FindsRecord, Refers, ReadsOne, BlamesPlace, Meets}
 use Rattle.ip_space.specs.Scanning.{Finds, IsCurrent}
 use Rattle.ip_space.specs.declared.fault.FetchFault.{FetchFault}
 use Rattle.ip_space.specs.declared.fault.FetchFault.TheVariants.{Ground, Form, Name, Memory}
@@ -40,6 +40,12 @@ module _ (records : ℕ → Option Record) (at : ℕ) (read : Read) (there : rec
   found_err (Form place fault) is = found_none fault is
   found_err (Name place want got) is = is
   found_err Memory is = tt
+
+  pub record_err : (fault : FetchFault) → ReadsOne read (Err fault) → FindsRecord records at (Err fault)
+  record_err Ground is = tt
+  record_err (Form place fault) is = found_none fault is
+  record_err (Name place want got) is = is
+  record_err Memory is = tt
 
   module _ (r : Ref) (same : r.at ≡ at) where
     pub fetched_err : (fault : FetchFault) → ReadsOne read (Err fault) → BlamesPlace {A = Record × ℕ} at (Err fault) → Fetches records r (Err fault)
@@ -114,3 +120,7 @@ begun told space now same next to ahead scan is current kept room below keeps =
     let shows : Shows (byte_at told space) space.layout.end next ahead =
     subst (λ (s : SpaceView). Shows (byte_at told s) s.layout.end next ahead) (sym same) (subst (λ (v : ScanView). IsCurrent told now v) (sym is) current) in
     shows_same (byte_at told space) space.layout.end next ahead kept (keeps (let i = shows.inside in omega (arith, i, below))) shows
+
+-- a space by what is inside
+pub readable_of : {told : Told} {space now : SpaceView} → space ≡ now → IsReadable told now → IsReadable told space
+readable_of {told} same readable = subst (IsReadable told) (sym same) readable

@@ -3,6 +3,7 @@ pub mod StoodBytes
 pub mod ReadFronts
 pub mod Stayed
 pub mod Kept
+pub mod LivePair
 pub mod Filled
 pub mod Answered
 pub mod Passing

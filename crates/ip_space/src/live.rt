@@ -17,23 +17,28 @@ use std::alloc::Global;
 pub fn read_live<G: Ground>(
     alloc: Global,
     outside: &mut G,
-    layout: &Layout,
+    layout: Layout,
 ) -> Result<Mapping, SpaceFault>
-    requires { layout.now.live ≢ 0 }
-    ensures horizon { IfOk result (λ m. m.horizon ≡ layout.now.horizon) }
-    ensures finds { IsTrue G.tells → IsOwnPair (G.told outside.old) layout.now → FindsPair (G.told outside.new).held layout.now result }
+    requires { layout.live ≢ 0 }
+    ensures horizon { IfOk result (λ m. m.horizon ≡ layout.horizon) }
+    ensures finds { IsTrue G.tells → IsOwnPair (G.told outside.old) layout → FindsPair (G.told outside.new).held layout result }
     ensures only { IsTrue G.tells → ChangesOnly NoFile (G.told outside.old) (G.told outside.new) }
     ensures counts { NoneFalls (G.counts_of outside.old) (G.counts_of outside.new) }
     ensures cause { IsErrOf result SpaceFault.Ground → Rose (G.counts_of outside.old).file_faults (G.counts_of outside.new).file_faults }
 {
-    let mapping = read_mapping(alloc, outside, layout)?;
+    let mapping = match read_mapping(alloc, outside, layout) {
+        Ok(mapping) => mapping,
+        Err(fault) => return Err(fault),
+    };
     if !mapping.fills(layout.prefix_len) {
         return Err(SpaceFault::Damaged {
             file: FileName::Mapping(layout.live),
             at: 0,
         });
     }
-    test_prefix(outside, layout)?;
+    if let Err(fault) = test_prefix(outside, layout) {
+        return Err(fault);
+    }
     Ok(mapping)
 }
 
@@ -41,10 +46,10 @@ pub fn read_live<G: Ground>(
 fn read_mapping<G: Ground>(
     alloc: Global,
     outside: &mut G,
-    layout: &Layout,
+    layout: Layout,
 ) -> Result<Mapping, SpaceFault>
-    ensures horizon { IfOk result (λ m. m.horizon ≡ layout.now.horizon) }
-    ensures finds { IsTrue G.tells → ¬ IsForeign (G.told outside.old) (live_mapping layout.now) → FindsMapping (G.told outside.new).held layout.now result }
+    ensures horizon { IfOk result (λ m. m.horizon ≡ layout.horizon) }
+    ensures finds { IsTrue G.tells → ¬ IsForeign (G.told outside.old) (live_mapping layout) → FindsMapping (G.told outside.new).held layout result }
     ensures only { IsTrue G.tells → ChangesOnly NoFile (G.told outside.old) (G.told outside.new) }
     ensures counts { NoneFalls (G.counts_of outside.old) (G.counts_of outside.new) }
     ensures cause { IsErrOf result SpaceFault.Ground → Rose (G.counts_of outside.old).file_faults (G.counts_of outside.new).file_faults }
@@ -54,7 +59,10 @@ fn read_mapping<G: Ground>(
     if !has_rows(size, layout.rows) {
         return Err(SpaceFault::Damaged { file, at: 0 });
     }
-    let bytes = read_file(alloc, outside, file, size)?;
+    let bytes = match read_file(alloc, outside, file, size) {
+        Ok(bytes) => bytes,
+        Err(fault) => return Err(fault),
+    };
     parse_live(alloc, layout, &bytes)
 }
 
@@ -88,14 +96,14 @@ fn read_file<G: Ground>(
 }
 
 // The mapping that the bytes of its file are. The numbers of the layout are tested before any row is.
-fn parse_live(alloc: Global, layout: &Layout, bytes: &[u8]) -> Result<Mapping, SpaceFault>
-    ensures horizon { IfOk result (λ m. m.horizon ≡ layout.now.horizon) }
-    ensures finds { (image : Image) → bytes_of (image (live_mapping layout.now)) ≡ bytes.now → FindsMapping image layout.now result }
+fn parse_live(alloc: Global, layout: Layout, bytes: &[u8]) -> Result<Mapping, SpaceFault>
+    ensures horizon { IfOk result (λ m. m.horizon ≡ layout.horizon) }
+    ensures finds { (image : Image) → bytes_of (image (live_mapping layout)) ≡ bytes.now → FindsMapping image layout result }
     ensures ground { IsErrOf result SpaceFault.Ground → ⊥ }
 {
     let file = FileName::Mapping(layout.live);
     match Head::of(bytes) {
-        Some(head) if has_numbers(&head, layout) => {}
+        Some(head) if has_numbers(&head, &layout) => {}
         _ => return Err(SpaceFault::Damaged { file, at: 0 }),
     }
     match Mapping::parse(alloc, bytes) {
@@ -116,8 +124,8 @@ fn has_numbers(head: &Head, layout: &Layout) -> bool
 }
 
 // Tests the length of the prefix.
-fn test_prefix<G: Ground>(outside: &mut G, layout: &Layout) -> Result<(), SpaceFault>
-    ensures finds { IsTrue G.tells → ¬ IsForeign (G.told outside.old) (live_prefix layout.now) → FindsPrefix (G.told outside.new).held layout.now result }
+fn test_prefix<G: Ground>(outside: &mut G, layout: Layout) -> Result<(), SpaceFault>
+    ensures finds { IsTrue G.tells → ¬ IsForeign (G.told outside.old) (live_prefix layout) → FindsPrefix (G.told outside.new).held layout result }
     ensures only { IsTrue G.tells → ChangesOnly NoFile (G.told outside.old) (G.told outside.new) }
     ensures counts { NoneFalls (G.counts_of outside.old) (G.counts_of outside.new) }
     ensures cause { IsErrOf result SpaceFault.Ground → Rose (G.counts_of outside.old).file_faults (G.counts_of outside.new).file_faults }

@@ -76,7 +76,10 @@ impl Space {
             let mapping = Mapping::none(alloc, layout.horizon, layout.end);
             return Ok(Space::with(alloc, layout, mapping));
         }
-        let mapping = read_live(alloc, outside, &layout)?;
+        let mapping = match read_live(alloc, outside, layout) {
+            Ok(mapping) => mapping,
+            Err(fault) => return Err(fault),
+        };
         Ok(Space::with(alloc, layout, mapping))
     }
 
@@ -144,8 +147,7 @@ impl Space {
         Some((FileName::Prefix(live), place))
     }
 
-    /// The record at a reference, of its kind and name. It reads for two stretches at most, into a buffer that is used again, and takes memory for
-    /// what the record holds. The kind is tried before the name.
+    /// The record at a reference, of its kind and name. It reads as `record_at` does, and tries the kind before the name.
     pub fn fetch<G: Ground>(
         &mut self,
         outside: &mut G,
@@ -171,8 +173,8 @@ impl Space {
         referred(rec, &reference)
     }
 
-    /// The record at an offset, whatever it is. It makes two reads at most, into a buffer that is used again, and takes memory for what the
-    /// record holds.
+    /// The record at an offset, whatever it is. It makes two reads at most, or three where it reads ahead across the horizon, into a buffer
+    /// that is used again, and takes memory for what the record holds.
     pub fn record_at<G: Ground>(&mut self, outside: &mut G, at: u64) -> Result<Record, FetchFault>
         ensures reads { IsTrue G.tells → OnlyReads (G.told outside.old) (G.told outside.new) self.old self.new }
         ensures found { IsTrue G.tells → IsReadable (G.told outside.old) self.old → FindsRecord (records_of (G.told outside.old) self.old) at result }
@@ -186,13 +188,14 @@ impl Space {
         ensures cause { IsErrOf result FetchFault.Ground → Rose (G.counts_of outside.old).file_faults (G.counts_of outside.new).file_faults }
     {
         self.ahead.clear();
-        match self
+        let (rec, _) = match self
             .ahead
             .read_one(self.alloc, &self.source, outside, at, PAGE, PAGE)
         {
-            Ok((rec, _)) => Ok(rec),
-            Err(fault) => Err(fault),
-        }
+            Ok(found) => found,
+            Err(fault) => return Err(fault),
+        };
+        Ok(rec)
     }
 
     /// A walk over the records between two offsets, of which none was read yet. Each is to be the offset of a record, or the end.

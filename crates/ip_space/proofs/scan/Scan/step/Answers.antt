@@ -6,7 +6,7 @@ use Rattle.ip_space.specs.Viewed.{view_of}
 use Rattle.ip_space.specs.Ahead.{held_in, Shows}
 use Rattle.ip_space.specs.Scanning.{Finds, FindsWhole}
 use Rattle.ip_space.proofs.Stayed.{only_reads}
-use Rattle.ip_space.proofs.Answered.{record_there, whole_there, found_err, found_ok, passed_shows, shows_same, begun}
+use Rattle.ip_space.proofs.Answered.{record_there, whole_there, found_err, found_ok, passed_shows, shows_same, begun, readable_of}
 use Rattle.ip_space.proofs.scan.Scan.step.Goals as goal
 
 pub returns-in-Ok-clause-reads : goal.returns-in-Ok-clause-reads
@@ -24,7 +24,7 @@ returns-in-Ok-clause-found g c told readable current =
     (held_in c.keep_up_to.new.self) c.saturating_sub.result c.saturating_sub.ensures c.keep_up_to.ensures.held in
     subst (λ (v : ScanView). records_of now c.args.space.now v.next ≡ Some c.in-Ok.rec) c.self.view_is
     (subst (λ (s : SpaceView). records_of now s at ≡ Some c.in-Ok.rec) c.space.view_is
-    (found_ok (records_of now space) at (read_at now space at) (record_there now space at) c.in-Ok.rec c.in-Ok.length (c.in-Ok.ensures.reads told shows)))
+    (found_ok (records_of now space) at (read_at now space at) (record_there now space at) c.in-Ok.rec c.in-Ok.length (c.in-Ok.ensures.reads told (readable_of c.space.view_is readable) shows)))
 
 pub returns-in-Err-clause-found : goal.returns-in-Err-clause-found
 returns-in-Err-clause-found g c told readable current =
@@ -35,7 +35,7 @@ returns-in-Err-clause-found g c told readable current =
     (held_in c.keep_up_to.new.self) c.saturating_sub.result c.saturating_sub.ensures c.keep_up_to.ensures.held in
     subst (λ (v : ScanView). Finds (records_of now c.args.space.now) v.next (Err c.in-Err.fault)) c.self.view_is
     (subst (λ (s : SpaceView). Finds (records_of now s) at (Err c.in-Err.fault)) c.space.view_is
-    (found_err (records_of now space) at (read_at now space at) (record_there now space at) c.in-Err.fault (c.in-Err.ensures.reads told shows)))
+    (found_err (records_of now space) at (read_at now space at) (record_there now space at) c.in-Err.fault (c.in-Err.ensures.reads told (readable_of c.space.view_is readable) shows)))
 
 pub returns-in-Ok-clause-current : goal.returns-in-Ok-clause-current
 returns-in-Ok-clause-current g c told readable current =
@@ -47,7 +47,7 @@ returns-in-Ok-clause-current g c told readable current =
     (held_in c.keep_up_to.new.self) c.saturating_sub.result c.saturating_sub.ensures c.keep_up_to.ensures.held in
     subst (λ (s : SpaceView). Shows (byte_at after s) s.layout.end (at + c.in-Ok.length) (held_in c.pass.new.self)) c.space.view_is
     (shows_same (byte_at after space) space.layout.end (at + c.in-Ok.length) _ (held_in c.pass.new.self) c.pass.ensures.held
-    (passed_shows (byte_at after space) space.layout.end at c.in-Ok.length (held_in c.read_one.new.self) (c.in-Ok.ensures.shows told shows)))
+    (passed_shows (byte_at after space) space.layout.end at c.in-Ok.length (held_in c.read_one.new.self) (c.in-Ok.ensures.shows told (readable_of c.space.view_is readable) shows)))
 
 pub returns-in-Ok-clause-whole : goal.returns-in-Ok-clause-whole
 returns-in-Ok-clause-whole g c told readable current =
@@ -59,4 +59,4 @@ returns-in-Ok-clause-whole g c told readable current =
     (held_in c.keep_up_to.new.self) c.saturating_sub.result c.saturating_sub.ensures c.keep_up_to.ensures.held in
     subst (λ (v : ScanView). FindsWhole (byte_at after c.args.space.now) c.args.space.now.layout.end v.next (Ok (Some (at, c.in-Ok.rec)))) c.self.view_is
     (subst (λ (s : SpaceView). FindsWhole (byte_at after s) s.layout.end at (Ok (Some (at, c.in-Ok.rec)))) c.space.view_is
-    (whole_there (byte_at after space) space.layout.end at c.in-Ok.rec (held_in c.read_one.new.self) (c.in-Ok.ensures.shows told shows) c.in-Ok.ensures.spelled))
+    (whole_there (byte_at after space) space.layout.end at c.in-Ok.rec (held_in c.read_one.new.self) (c.in-Ok.ensures.shows told (readable_of c.space.view_is readable) shows) c.in-Ok.ensures.spelled))
