@@ -34,21 +34,21 @@ pub records_stand : (image : Image) (standing : Standing image) (space : SpaceVi
 records_stand image standing space layout runs at r is =
     ap (λ l. stored image l space.runs at) layout ∙ ap (λ rs. stored image (layout_of standing.slot) rs at) runs ∙ standing_stored image standing at r is
 
-abbrev AllFit : Records → Type 0
+abbrev pub AllFit : Records → Type 0
 AllFit records = AllByRecursion (λ (x : ℕ × Record). Fits newest_version x.1) records
 
-front_fit : (xs ys : Records) → AllFit (xs ++ ys) → AllFit xs
+pub front_fit : (xs ys : Records) → AllFit (xs ++ ys) → AllFit xs
 front_fit [] ys all = tt
 front_fit (x ∷ xs) ys all = (all.0, front_fit xs ys all.1)
 
-rest_fit : (xs ys : Records) → AllFit (xs ++ ys) → AllFit ys
+pub rest_fit : (xs ys : Records) → AllFit (xs ++ ys) → AllFit ys
 rest_fit [] ys all = all
 rest_fit (x ∷ xs) ys all = rest_fit xs ys all.1
 
-record Stretch (f : ℕ → Option ℕ) (run : Run) : Type 0 where
-  records : Records
-  lies : EndToEnd f run.at records (run.at + run.length)
-  fit : AllFit records
+pub record Stretch (f : ℕ → Option ℕ) (run : Run) : Type 0 where
+  pub records : Records
+  pub lies : EndToEnd f run.at records (run.at + run.length)
+  pub fit : AllFit records
 
 last_stretch : (f : ℕ → Option ℕ) (runs : List Run) (run : Run) (records : Records) → RunByRun f (runs ++ run ∷ []) records → AllFit records → Stretch f run
 last_stretch f [] run records is fit = record { records = is.0; lies = is.3; fit = front_fit is.0 is.1 (subst AllFit is.2 fit) }
@@ -58,7 +58,7 @@ ends_later : (f : ℕ → Option ℕ) (xs : Records) (from to : ℕ) → EndToEn
 ends_later f [] from to is = omega arith
 ends_later f (x ∷ xs) from to is = let l = ends_later f xs (from + length (spelling x.1)) to is.2 in omega (arith, l)
 
-runs_along : (f : ℕ → Option ℕ) (end : ℕ) (xs : Records) (from to : ℕ) → EndToEnd f from xs to → AllFit xs → to ≤ end → RunsTo (record_at f end) from to
+pub runs_along : (f : ℕ → Option ℕ) (end : ℕ) (xs : Records) (from to : ℕ) → EndToEnd f from xs to → AllFit xs → to ≤ end → RunsTo (record_at f end) from to
 runs_along f end [] from to is fit le = subst (λ (n : ℕ). RunsTo (record_at f end) n to) (sym is) at_the_end
 runs_along f end (x ∷ xs) from to is fit le =
     let l = ends_later f xs (from + length (spelling x.1)) to is.2 in

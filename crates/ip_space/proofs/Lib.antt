@@ -9,3 +9,4 @@ pub mod Answered
 pub mod Passing
 pub mod Lying
 mod Laws
+mod Stretches

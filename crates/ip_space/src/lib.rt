@@ -2,14 +2,22 @@
 //! generation, but of the record at an offset.
 #![tactic(auto)]
 
-ghost use Rattle.std.specs.Prelude.{◌≡◌, ℕ, ◌≤◌, [], map, Option, Some, Result};
+ghost use Rattle.std.specs.Prelude.{◌≡◌, ◌≢◌, ℕ, ◌+◌, ◌≤◌, List, [], map, Contains, Option, Some, Result};
 ghost use Rattle.ip_ground.specs.Contents.{Image};
 ghost use Rattle.ip_spec.specs.declared.record.Record.{Record};
 ghost use Rattle.ip_spec.specs.declared.record.Ref.{Ref};
 ghost use Rattle.ip_spec.specs.TreeAt.{present};
-ghost use Rattle.ip_image.specs.Slot.{layout_of};
+ghost use Rattle.ip_spec.specs.Path.{Bytes};
+ghost use Rattle.ip_ground.specs.declared.names.FileName.{FileName};
+ghost use Rattle.ip_ground.specs.declared.names.FileName.TheVariants.{Control};
+ghost use Rattle.ip_image.specs.declared.layout.Layout.{Layout};
+ghost use Rattle.ip_image.specs.declared.run.Row.{Row};
+ghost use Rattle.ip_image.specs.declared.run.Run.{Run};
+ghost use Rattle.ip_image.specs.declared.slot.Slot.{Slot};
+ghost use Rattle.ip_image.specs.Slot.{IsSlot, IsLive, layout_of};
 ghost use Rattle.ip_image.specs.Virtual.{run_of};
-ghost use Rattle.ip_image.specs.Standing.{Standing};
+ghost use Rattle.ip_image.specs.Standing.{Standing, Generation, DamagedAt, stretches};
+ghost use Rattle.ip_space.specs.Pair.{IsBadPair};
 ghost use Rattle.ip_space.specs.SpaceView.{SpaceView, records_in, grown, SameBelow};
 ghost use Rattle.ip_space.specs.Fetching.{Fetches, Meets, IsFetched};
 ghost use Rattle.ip_space.specs.ScanView.{ScanView};
@@ -32,13 +40,24 @@ pub use scan::Scan;
 pub use space::Space;
 
 /// In an image that stands, the space of the live slot's layout and of the live mapping's runs has each of its records at its offset,
-/// and from the horizon on they lie end to end. Where no generation is live there are no runs.
+/// and within each run, and from the horizon on, they lie end to end. Where no generation is live there are no runs.
 pub fn standing_records()
     ensures records { (image : Image) (standing : Standing image) (space : SpaceView) → space.layout ≡ layout_of standing.slot → space.runs ≡ map run_of standing.rows →
         (at : ℕ) (r : Record) → present standing.records at ≡ Some r → records_in image space at ≡ Some r }
     ensures runs { (image : Image) (standing : Standing image) (space : SpaceView) → space.layout ≡ layout_of standing.slot → space.runs ≡ map run_of standing.rows →
         RunsTo (records_in image space) standing.slot.horizon standing.slot.end }
+    ensures stretches { (image : Image) (standing : Standing image) (space : SpaceView) → space.layout ≡ layout_of standing.slot → space.runs ≡ map run_of standing.rows →
+        (run : Run) → Contains (stretches (layout_of standing.slot) standing.rows) run → RunsTo (records_in image space) run.at (run.at + run.length) }
     ensures none_live { (image : Image) (standing : Standing image) → standing.slot.live ≡ 0 → map run_of standing.rows ≡ [] }
+{}
+
+/// Where the live mapping or prefix is not the layout's, the image is damaged there. It has one list of rows, and none where no generation is
+/// live.
+pub fn live_pair()
+    ensures damaged { (image : Image) (control : Bytes) (index : ℕ) (s : Slot) (file : FileName) (at : ℕ) → image Control ≡ Some control → IsLive control index s →
+        s.live ≢ 0 → IsBadPair image (layout_of s) file at → DamagedAt image file at }
+    ensures one { (image : Image) (s : Layout) (rows others : List Row) → Generation image s rows → Generation image s others → rows ≡ others }
+    ensures none { (image : Image) (s : Slot) → IsSlot s → s.live ≡ 0 → Generation image (layout_of s) [] }
 {}
 
 /// A record that stands somewhere does so while the bytes below the end stay, also where the end is raised.

@@ -1,5 +1,5 @@
 // Records by reference over a ground in memory.
-use crate::{FetchFault, Layout, Space};
+use crate::{FetchFault, Layout, Run, Space, SpaceFault};
 use ip_base::Hash;
 use ip_ground::{Bench, FileName, Ground};
 use ip_object::hash_contents;
@@ -215,5 +215,210 @@ fn a_walk_reads_each_byte_once(rt: HostRuntime) -> Result<(), Fail> {
         assert_eq!(rt; found.map(|found| found.map(|(at, _)| at)), answer);
     }
     assert_eq!(rt; bench.reads(FileName::Chunk(0)), 4);
+    Ok(())
+}
+
+// A mapping's file with these numbers behind the magic.
+fn mapping_of(alloc: Global, numbers: &[u64]) -> Result<Vec<u8>, Fail> {
+    let mut bytes = b"IPMAP001".to_vec(alloc)?;
+    for number in numbers {
+        bytes.extend_from_slice(&number.to_le_bytes())?;
+    }
+    Ok(bytes)
+}
+
+// A ground with a mapping and a prefix of attempt 1, and a chunk that has 59 bytes of no record in front of these. An empty file is absent.
+fn bench_over(alloc: Global, mapping: &[u8], prefix: &[u8], chunk: &[u8]) -> Result<Bench, Fail> {
+    let mut bytes = vec![in alloc; 0xff; 59]?;
+    bytes.extend_from_slice(chunk)?;
+    let mut bench = bench_of(alloc, bytes.as_slice(), 99)?;
+    let mapped = mapping.is_empty() || bench.write(FileName::Mapping(1), 0, mapping).is_ok();
+    let kept = prefix.is_empty() || bench.write(FileName::Prefix(1), 0, prefix).is_ok();
+    if !mapped || !kept {
+        return Err("not written")?;
+    }
+    Ok(bench)
+}
+
+// The space of attempt 1, whose horizon is 59 and whose end is 164.
+fn space_over(
+    alloc: Global,
+    bench: &mut Bench,
+    prefix_len: u64,
+    rows: u64,
+) -> Result<Space, SpaceFault> {
+    let layout = Layout {
+        chunk: 4096,
+        horizon: 59,
+        end: 164,
+        live: 1,
+        prefix_len,
+        rows,
+    };
+    Space::of(alloc, bench, layout)
+}
+
+const PREFIX: FileName = FileName::Prefix(1);
+
+const MAPPING: FileName = FileName::Mapping(1);
+
+const CHUNK: FileName = FileName::Chunk(0);
+
+// Contents `a`, `bc` and `def`, of 6, 7 and 8 bytes; and the branch `main`, of 18.
+const KEPT: &[u8] = b"\x01\x01\0\0\0a\x01\x02\0\0\0bc\x01\x03\0\0\0def";
+
+const BRANCH: &[u8] = b"\x05\x0d\0\0\0\0\0\0\0\0\0\0\0\x04main";
+
+// The format's own mapping, of the offsets below 59 in one run: contents of 54 bytes, and behind them contents `abc`.
+#[test]
+fn a_run_up_to_the_horizon(rt: HostRuntime) -> Result<(), Fail> {
+    let alloc = rt.alloc();
+    let mapping = mapping_of(alloc, &[59, 164, 1, 0, 59, 0])?;
+    let kept = zeros(alloc, 0, 54, 54)?;
+    let below = hash_contents(vec![in alloc; 0; 54]?.as_slice());
+    let rows = [
+        (0, below, Ok(1)),
+        (59, CONTENTS, Ok(1)),
+        (54, below, form(54, RecordFault::Kind(0))),
+    ];
+    let mut bench = bench_over(alloc, mapping.as_slice(), kept.as_slice(), &RECORDS[..8])?;
+    let Ok(mut space) = space_over(alloc, &mut bench, 59, 1) else {
+        return Err("no space")?;
+    };
+    for (at, name, answer) in rows {
+        let found = space.fetch(&mut bench, Ref { at, name, kind: 1 });
+        assert_eq!(rt; found.map(shown), answer, "at {at}");
+    }
+    assert_eq!(rt;
+        (
+            bench.reads(MAPPING),
+            bench.reads(PREFIX),
+            bench.reads(CHUNK)
+        ),
+        (1, 2, 3)
+    );
+    assert_eq!(rt; space.lies_at(58), Some((PREFIX, 58)));
+    assert_eq!(rt; space.lies_at(59), Some((CHUNK, 59)));
+    Ok(())
+}
+
+// Two runs, `a` and `bc` from 10 to 23, and `def` from 51 up to the horizon: what stands at an offset, where it lies, and how often prefix and
+// chunk are read for it.
+#[test]
+fn records_are_found_in_their_runs(rt: HostRuntime) -> Result<(), Fail> {
+    let alloc = rt.alloc();
+    let mapping = mapping_of(alloc, &[59, 164, 2, 10, 13, 0, 51, 8, 13])?;
+    let rows = [
+        (10, Ok(1), Some((PREFIX, 0)), (1, 0)),
+        (16, Ok(1), Some((PREFIX, 6)), (1, 0)),
+        (51, Ok(1), Some((PREFIX, 13)), (1, 1)),
+        (59, Ok(5), Some((CHUNK, 59)), (0, 1)),
+        (9, form(9, RecordFault::Short), None, (0, 0)),
+        (23, form(23, RecordFault::Short), None, (0, 0)),
+        (50, form(50, RecordFault::Short), None, (0, 0)),
+    ];
+    for (at, answer, lies, reads) in rows {
+        let mut bench = bench_over(alloc, mapping.as_slice(), KEPT, BRANCH)?;
+        let Ok(mut space) = space_over(alloc, &mut bench, 21, 2) else {
+            return Err("no space")?;
+        };
+        assert_eq!(rt;
+            space.record_at(&mut bench, at).map(shown),
+            answer,
+            "at {at}"
+        );
+        assert_eq!(rt; space.lies_at(at), lies);
+        assert_eq!(rt; (bench.reads(PREFIX), bench.reads(CHUNK)), reads, "at {at}");
+    }
+    let walks = [(10, 23, [10, 16].as_slice()), (51, 77, [51, 59].as_slice())];
+    for (from, to, places) in walks {
+        let mut bench = bench_over(alloc, mapping.as_slice(), KEPT, BRANCH)?;
+        let Ok(space) = space_over(alloc, &mut bench, 21, 2) else {
+            return Err("no space")?;
+        };
+        let (found, next, fault) = walked(alloc, &mut bench, &space, from, to)?;
+        assert_eq!(rt; found.as_slice(), places);
+        assert_eq!(rt; (next, fault), (to, None));
+        assert_eq!(rt; bench.reads(PREFIX), 1);
+    }
+    Ok(())
+}
+
+// The same runs, not from a file; and up to an end within the last record.
+#[test]
+fn a_space_over_given_runs(rt: HostRuntime) -> Result<(), Fail> {
+    let alloc = rt.alloc();
+    let runs = [Run { at: 10, length: 13 }, Run { at: 51, length: 8 }];
+    let layout = Layout {
+        chunk: 4096,
+        horizon: 59,
+        end: 164,
+        live: 1,
+        prefix_len: 21,
+        rows: 2,
+    };
+    let mut bench = bench_over(alloc, &[], KEPT, BRANCH)?;
+    let mut space = Space::over(alloc, layout, &runs)?;
+    let mut copy = space.copy_up_to(70)?;
+    assert_eq!(rt; copy.layout().end, 70);
+    assert_eq!(rt; copy.record_at(&mut bench, 16).map(shown), Ok(1));
+    assert_eq!(rt;
+        copy.record_at(&mut bench, 59).map(shown),
+        form(59, RecordFault::Short)
+    );
+    assert_eq!(rt; space.record_at(&mut bench, 59).map(shown), Ok(5));
+    assert_eq!(rt; bench.reads(MAPPING), 0);
+    Ok(())
+}
+
+// Numbers of a mapping, how many bytes the prefix has, what the layout says of it and of the rows, and what is bad.
+#[test]
+fn the_first_bad_place_of_a_pair(rt: HostRuntime) -> Result<(), Fail> {
+    let alloc = rt.alloc();
+    let rows: [(&[u64], usize, u64, u64, Option<(FileName, u64)>); 13] = [
+        (&[59, 164, 1, 0, 59, 0], 59, 59, 1, None),
+        (&[59, 60, 1, 0, 59, 0], 59, 59, 1, None),
+        (&[59, 164, 2, 0, 20, 0, 21, 38, 20], 58, 58, 2, None),
+        // the length, and the numbers in front
+        (&[59, 164, 1, 0, 59, 0], 59, 59, 2, Some((MAPPING, 0))),
+        (&[59, 164, 1, 0, 59], 59, 59, 1, Some((MAPPING, 0))),
+        (&[60, 164, 1, 0, 60, 1], 60, 60, 1, Some((MAPPING, 0))),
+        (&[59, 59, 1, 0, 59, 0], 59, 59, 1, Some((MAPPING, 0))),
+        (&[59, 165, 1, 0, 59, 0], 59, 59, 1, Some((MAPPING, 0))),
+        // a row, before the sum
+        (&[59, 164, 1, 0, 60, 0], 59, 59, 1, Some((MAPPING, 32))),
+        (
+            &[59, 164, 2, 0, 20, 0, 20, 39, 20],
+            59,
+            58,
+            2,
+            Some((MAPPING, 56)),
+        ),
+        // the sum, before the prefix
+        (&[59, 164, 1, 0, 59, 0], 58, 58, 1, Some((MAPPING, 0))),
+        (&[59, 164, 1, 0, 59, 0], 60, 59, 1, Some((PREFIX, 0))),
+        (&[59, 164, 1, 0, 59, 0], 0, 59, 1, Some((PREFIX, 0))),
+    ];
+    for (numbers, kept, prefix_len, count, bad) in rows {
+        let mapping = mapping_of(alloc, numbers)?;
+        let prefix = vec![in alloc; 0; kept]?;
+        let mut bench = bench_over(alloc, mapping.as_slice(), prefix.as_slice(), BRANCH)?;
+        let found = space_over(alloc, &mut bench, prefix_len, count).map(|_| ());
+        let wanted = match bad {
+            None => Ok(()),
+            Some((file, at)) => Err(SpaceFault::Damaged { file, at }),
+        };
+        assert_eq!(rt; found, wanted, "{numbers:?}");
+        assert_eq!(rt; bench.reads(PREFIX), 0);
+    }
+    let mut bench = bench_over(alloc, &[], KEPT, BRANCH)?;
+    let found = space_over(alloc, &mut bench, 21, 2).map(|_| ());
+    assert_eq!(rt;
+        found,
+        Err(SpaceFault::Damaged {
+            file: MAPPING,
+            at: 0
+        })
+    );
     Ok(())
 }
