@@ -55,7 +55,6 @@ pub all_placed : (h place i : ℕ) (made : List Row) (runs : List Run) → Place
 all_placed h place i made runs so_far l =
     sym (append-nil made) ∙ ap (λ rs. made ++ placed place rs) (sym (drop_all i runs l)) ∙ so_far.is
 
-
 -- behind the last row the prefix ends
 ends_from : (h from place : ℕ) (rows : List Row) → RowsFitFrom h from place rows → (i : ℕ) (d : Row) → length rows ≡ suc i
     → (get_or rows i d).place + (get_or rows i d).length ≡ place + total (map run_of rows)
