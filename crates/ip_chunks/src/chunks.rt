@@ -29,8 +29,8 @@ impl Chunks {
         (SPACE, at)
     }
 
-    /// Writes the bytes at the place `end` of the list. From the start of its chunk up to `end` there is to be no gap, where the ground
-    /// tells its files. What is written is pending until the chunks are synced, and after a fault any bytes may stand in its place.
+    /// Writes the bytes at the place `end` of the list. What it does is told where there is no gap from the start of its chunk up to `end`.
+    /// What is written is pending until the chunks are synced, and after a fault any bytes may stand in its place.
     pub fn append<G: Ground>(
         &self,
         outside: &mut G,
@@ -39,8 +39,7 @@ impl Chunks {
     ) -> Result<(), GroundFault>
         requires allowed { IsChunkSize self.now.size }
         requires room { end + length bytes.now ≤ 2 ^ 62 }
-        requires no_gap { IsTrue G.tells → NoGap self.now.size (G.told outside.old).held (chunk_start self.now.size end) end }
-        ensures does { IsTrue G.tells → Appends self.now.size end bytes.now result (G.told outside.old) (G.told outside.new) }
+        ensures does { IsTrue G.tells → NoGap self.now.size (G.told outside.old).held (chunk_start self.now.size end) end → Appends self.now.size end bytes.now result (G.told outside.old) (G.told outside.new) }
         ensures empty { length bytes.now ≡ 0 → (result ≡ Ok tt) × (outside.new ≡ outside.old) }
         ensures counts { NoneFalls (G.counts_of outside.old) (G.counts_of outside.new) }
         ensures cause { OnErr result (Rose (G.counts_of outside.old).file_faults (G.counts_of outside.new).file_faults) }

@@ -1,6 +1,5 @@
 // The list of bytes over a ground in memory.
-ghost use Rattle.std.specs.Prelude.{◌+◌, ◌^◌, ◌≤◌, ◌++◌, IsTrue, OnOk, length};
-ghost use Rattle.ip_ground.specs.Told.{IsBlank};
+ghost use Rattle.std.specs.Prelude.{◌+◌, ◌^◌, ◌≤◌, [], ◌∷◌, ◌++◌, IsTrue, OnOk, length};
 ghost use Rattle.ip_image.specs.Slot.{IsChunkSize};
 ghost use Rattle.ip_chunks.specs.Places.{chunk_start};
 ghost use Rattle.ip_chunks.specs.Fronts.{Holds, AppendsKept};
@@ -21,8 +20,7 @@ fn append_kept<G: Ground>(
     requires allowed { IsChunkSize chunks.size }
     requires room { from + length front.now + length bytes.now ≤ 2 ^ 62 }
     requires begins { from ≤ chunk_start chunks.size (from + length front.now) }
-    requires holds { IsTrue G.tells → Holds chunks.size from front.now (G.told outside.old).held }
-    ensures { IsTrue G.tells → AppendsKept chunks.size from (from + length front.now) front.now bytes.now result (G.told outside.old) (G.told outside.new) }
+    ensures { IsTrue G.tells → Holds chunks.size from front.now (G.told outside.old).held → AppendsKept chunks.size from (from + length front.now) front.now bytes.now result (G.told outside.old) (G.told outside.new) }
 {
     let end = from + front.len() as u64;
     chunks.append(outside, end, bytes)?;
@@ -38,15 +36,13 @@ fn small_chunks() -> Chunks
 // The bytes 1 to 4 by calls 0 and 1, and 5 and 6 behind them by calls 2 and 3. It ends at the first call that fails.
 fn six_bytes(chunks: Chunks, bench: &mut Bench) -> Result<(), GroundFault>
     requires allowed { IsChunkSize chunks.size }
-    requires blank { IsBlank (⟦<Bench as Ground>⟧.told bench.old) }
+    ensures { OnOk result (Holds chunks.size 0 (1 ∷ 2 ∷ 3 ∷ 4 ∷ 5 ∷ 6 ∷ []) (⟦<Bench as Ground>⟧.told bench.new).held) }
 {
     append_kept(chunks, bench, 0, &[], &[1, 2, 3, 4])?;
     append_kept(chunks, bench, 0, &[1, 2, 3, 4], &[5, 6])
 }
 
-fn new_bench(alloc: Global, stop: Option<u64>) -> Bench
-    ensures { IsBlank (⟦<Bench as Ground>⟧.told result) }
-{
+fn new_bench(alloc: Global, stop: Option<u64>) -> Bench {
     Bench::new(alloc, Vec::new(alloc), stop, Vec::new(alloc))
 }
 

@@ -1,6 +1,8 @@
-ghost use Rattle.std.specs.Prelude.{◌≡◌, ◌≤◌, Some, length};
+ghost use Rattle.std.specs.Prelude.{◌≡◌, ◌≤◌, Some, OnOk, length};
 ghost use Rattle.ip_ground.specs.Told.{IsBlank};
-ghost use Rattle.ip_control.specs.Live.{live_of, IsSpare, IsNewer};
+ghost use Rattle.ip_image.specs.Slot.{slot_bytes};
+ghost use Rattle.ip_control.specs.Live.{live_of, live_slot, IsSpare, IsNewer};
+ghost use Rattle.ip_control.specs.Changes.{control};
 
 use crate::{Slot, open_gate, prepare, read_live};
 use ip_ground::{Bench, FileName, Ground, GroundFault};
@@ -91,12 +93,9 @@ const NEXT: Slot = Slot {
 };
 
 // Makes the file by calls 0 and 1, makes its slot 1 ready, and opens it by the last two calls. It ends at the first
-// call that fails.
+// call that fails. On a ground where nothing was, the slot is live then.
 fn published(bench: &mut Bench, file: &[u8], fields: &Slot) -> Result<(), GroundFault>
-    requires blank { IsBlank (⟦<Bench as Ground>⟧.told bench.old) }
-    requires reaches { 128 ≤ length file.now }
-    requires spare { IsSpare 1 (live_of (Some file.now)) }
-    requires newer { IsNewer fields.now.sequence (live_of (Some file.now)) }
+    ensures { IsBlank (⟦<Bench as Ground>⟧.told bench.old) → 128 ≤ length file.now → IsSpare 1 (live_of (Some file.now)) → IsNewer fields.now.sequence (live_of (Some file.now)) → OnOk result (live_of (control (⟦<Bench as Ground>⟧.told bench.new)) ≡ live_slot 1 (slot_bytes fields.now)) }
 {
     bench.write(FileName::Control, 0, file)?;
     bench.sync(FileName::Control)?;
@@ -105,8 +104,7 @@ fn published(bench: &mut Bench, file: &[u8], fields: &Slot) -> Result<(), Ground
 }
 
 fn published_from(bench: &mut Bench, start: Start, fields: &Slot) -> Result<(), GroundFault>
-    requires blank { IsBlank (⟦<Bench as Ground>⟧.told bench.old) }
-    requires second { fields.now.sequence ≡ 2 }
+    ensures { IsBlank (⟦<Bench as Ground>⟧.told bench.old) → fields.now.sequence ≡ 2 → OnOk result (live_of (control (⟦<Bench as Ground>⟧.told bench.new)) ≡ live_slot 1 (slot_bytes fields.now)) }
 {
     match start {
         Start::Closed => published(bench, &FRESH, fields),

@@ -3,11 +3,12 @@ use Rattle.ip_chunks.proofs.Bytes.{no_gap_from}
 use Rattle.ip_chunks.proofs.Behind.{no_gap_before, stops_at_append, appends_kept}
 use Rattle.ip_chunks.proofs.tests.append_kept.Goals as goal
 
-pub append-requires-clause-no_gap : goal.append-requires-clause-no_gap
-append-requires-clause-no_gap g c told = no_gap_before c.args.chunks.size c.args.from _ _ c.requires.begins (no_gap_from c.args.chunks.size c.args.from c.args.front.now _ (c.requires.holds told))
-
 pub returns-in_err-append : goal.returns-in_err-append
-returns-in_err-append g c told = stops_at_append c.args.chunks.size c.args.from _ c.args.front.now c.args.bytes.now refl _ _ (c.requires.holds told) _ (c.append.ensures.does told) _ c.from_residual.ensures.0
+returns-in_err-append g c told holds =
+    let no_gap = no_gap_before c.args.chunks.size c.args.from _ _ c.requires.begins (no_gap_from c.args.chunks.size c.args.from c.args.front.now _ holds) in
+    stops_at_append c.args.chunks.size c.args.from _ c.args.front.now c.args.bytes.now refl _ _ holds _ (c.append.ensures.does told no_gap) _ c.from_residual.ensures.0
 
 pub returns : goal.returns
-returns g c told = appends_kept c.args.chunks.size c.args.from _ c.args.front.now c.args.bytes.now refl _ _ _ (c.requires.holds told) (c.in_ok-append.ensures.does told) _ (c.sync_range.ensures.does told) _ (inr refl)
+returns g c told holds =
+    let no_gap = no_gap_before c.args.chunks.size c.args.from _ _ c.requires.begins (no_gap_from c.args.chunks.size c.args.from c.args.front.now _ holds) in
+    appends_kept c.args.chunks.size c.args.from _ c.args.front.now c.args.bytes.now refl _ _ _ holds (c.in_ok-append.ensures.does told no_gap) _ (c.sync_range.ensures.does told) _ (inr refl)

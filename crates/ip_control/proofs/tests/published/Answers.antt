@@ -1,8 +1,12 @@
+use Rattle.std.proofs.Common.{refl, ap, arith, ◌∙◌}
+use Rattle.std.proofs.lemmas.Result.{on_ok_weaker}
+use Rattle.ip_control.specs.Live.{live_of}
 use Rattle.ip_control.proofs.Beginning.{ready, newer}
 use Rattle.ip_control.proofs.tests.published.Goals as goal
 
-pub prepare-requires-clause-ready : goal.prepare-requires-clause-ready
-prepare-requires-clause-ready c told = ready c.args.file.now _ _ _ c.requires.blank (c.in_ok-write.ensures.does told) (c.in_ok-sync.ensures.does told) 1 c.requires.reaches c.requires.spare
-
-pub prepare-requires-clause-newer : goal.prepare-requires-clause-newer
-prepare-requires-clause-newer c told = newer c.args.file.now _ _ _ c.requires.blank (c.in_ok-write.ensures.does told) (c.in_ok-sync.ensures.does told) c.args.fields.now.sequence c.requires.newer
+pub returns : goal.returns
+returns c blank reaches spare newer_than =
+    let writes = c.in_ok-write.ensures.does refl (omega arith) in
+    let syncs = c.in_ok-sync.ensures.does refl in
+    let prepares = c.in_ok-prepare.ensures.does refl (ready c.args.file.now _ _ _ blank writes syncs 1 reaches spare) (newer c.args.file.now _ _ _ blank writes syncs c.args.fields.now.sequence newer_than) in
+    on_ok_weaker c.open_gate.result (λ is. ap live_of is ∙ prepares.next) (c.open_gate.ensures.does refl prepares.ok).opens

@@ -3,42 +3,22 @@ use Rattle.ip_image.specs.Slot.{live_index}
 use Rattle.ip_control.specs.Live.{live_of, sequence_of}
 use Rattle.ip_control.proofs.tests.published_from.Goals as goal
 
-pub published-requires-clause-spare : goal.published-requires-clause-spare
-unfolding live_of live_index
-published-requires-clause-spare c = λ is. omega (arith, is)
-
-pub published-requires-clause-newer : goal.published-requires-clause-newer
+pub returns-in-Closed : goal.returns-in-Closed
 unfolding live_of live_index sequence_of
-published-requires-clause-newer c = omega (arith, c.requires.second)
+returns-in-Closed c blank second = c.published.ensures blank (omega arith) (λ is. omega (arith, is)) (omega (arith, second))
 
-pub published-requires-in-Open-clause-spare : goal.published-requires-in-Open-clause-spare
-unfolding live_of live_index
-published-requires-in-Open-clause-spare c = λ is. omega (arith, is)
-
-pub published-requires-in-Open-clause-newer : goal.published-requires-in-Open-clause-newer
+pub returns-in-Open : goal.returns-in-Open
 unfolding live_of live_index sequence_of
-published-requires-in-Open-clause-newer c = omega (arith, c.requires.second)
+returns-in-Open c blank second = c.published-in-Open.ensures blank (omega arith) (λ is. omega (arith, is)) (omega (arith, second))
 
-pub published-requires-in-Absent-clause-spare : goal.published-requires-in-Absent-clause-spare
-unfolding live_of live_index
-published-requires-in-Absent-clause-spare c = λ is. omega (arith, is)
-
-pub published-requires-in-Absent-clause-newer : goal.published-requires-in-Absent-clause-newer
+pub returns-in-Absent : goal.returns-in-Absent
 unfolding live_of live_index sequence_of
-published-requires-in-Absent-clause-newer c = omega (arith, c.requires.second)
+returns-in-Absent c blank second = c.published-in-Absent.ensures blank (omega arith) (λ is. omega (arith, is)) (omega (arith, second))
 
-pub published-requires-in-Gate-clause-spare : goal.published-requires-in-Gate-clause-spare
-unfolding live_of live_index
-published-requires-in-Gate-clause-spare c = λ is. omega (arith, is)
-
-pub published-requires-in-Gate-clause-newer : goal.published-requires-in-Gate-clause-newer
+pub returns-in-Gate : goal.returns-in-Gate
 unfolding live_of live_index sequence_of
-published-requires-in-Gate-clause-newer c = omega (arith, c.requires.second)
+returns-in-Gate c blank second = c.published-in-Gate.ensures blank (omega arith) (λ is. omega (arith, is)) (omega (arith, second))
 
-pub published-requires-in-Part-clause-spare : goal.published-requires-in-Part-clause-spare
-unfolding live_of live_index
-published-requires-in-Part-clause-spare c = λ is. omega (arith, is)
-
-pub published-requires-in-Part-clause-newer : goal.published-requires-in-Part-clause-newer
+pub returns-in-Part : goal.returns-in-Part
 unfolding live_of live_index sequence_of
-published-requires-in-Part-clause-newer c = omega (arith, c.requires.second)
+returns-in-Part c blank second = c.published-in-Part.ensures blank (omega arith) (λ is. omega (arith, is)) (omega (arith, second))
