@@ -8,7 +8,7 @@ use Rattle.ip_image.specs.Virtual.{run_of, RowsFit, RowsFitFrom, locate, locate_
 use Rattle.ip_mapping.specs.Parsing.{Fields, IsRowAt}
 
 -- every row begins where it may
-begins : (h from place : ℕ) (rows : List Row) → RowsFitFrom h from place rows → (k : ℕ) (d : Row) → k < length rows → from ≤ (get_or rows k d).at
+pub begins : (h from place : ℕ) (rows : List Row) → RowsFitFrom h from place rows → (k : ℕ) (d : Row) → k < length rows → from ≤ (get_or rows k d).at
 begins h from place [] f k d l = absurd (omega (arith, l))
 begins h from place (x ∷ rows) f zero d l = f.0.apart
 begins h from place (x ∷ rows) f (suc k) d l =

@@ -99,7 +99,8 @@ impl Mapping {
 
     /// The runs with their places, ascending.
     pub fn rows(&self) -> &[Row]
-        ensures { result.now ≡ self.now.rows }
+        ensures rows { result.now ≡ self.now.rows }
+        ensures in_order { RowsFit self.now.horizon self.now.rows }
     {
         &self.rows
     }

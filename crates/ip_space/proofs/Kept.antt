@@ -1,20 +1,20 @@
 -- Reading below the horizon.
 --     gone_byte      an offset that no run has is without a byte.      run_read      one read of the prefix gives bytes of one run
 --     read_short, read_to_gap, read_both      what a read of two parts comes to
-use Rattle.std.proofs.Common.{◌≡◌, ◌≢◌, ℕ, ◌+◌, ◌-◌, ◌<◌, ◌≤◌, List, [], ◌++◌, length, take, drop, Bool, false, min, refl, sym, ◌∙◌, ap, subst, arith}
+use Rattle.std.proofs.Common.{◌≡◌, ℕ, ◌+◌, ◌-◌, ◌<◌, ◌≤◌, List, [], ◌++◌, length, take, drop, Bool, false, min, sym, ◌∙◌, ap, subst, arith}
 use Rattle.std.specs.Prelude.{Option, Some, None, Result, Ok, Err, map, nat_le, option_and_then, if◌then◌else◌}
 use Rattle.std.proofs.lemmas.Bool.{lt-leb}
 use Rattle.std.proofs.Math.Seq.{take-append-add}
 use Rattle.std.proofs.lemmas.List.{length-take, take-append-le, take_all}
 use Rattle.ip_ground.specs.declared.names.GroundFault.{GroundFault}
-use Rattle.ip_ground.specs.declared.names.FileName.TheVariants.{Chunk, Prefix}
+use Rattle.ip_ground.specs.declared.names.FileName.TheVariants.{Prefix}
 use Rattle.ip_ground.specs.Contents.{Content, Image, bytes_of, size_of}
 use Rattle.ip_ground.specs.Told.{Told, IsForeign}
 use Rattle.ip_ground.specs.Calls.{Reads}
 use Rattle.ip_image.specs.declared.layout.Layout.{Layout}
 use Rattle.ip_image.specs.declared.run.Run.{Run}
 use Rattle.ip_image.specs.declared.run.Row.{Row}
-use Rattle.ip_image.specs.Virtual.{run_of, locate, virtual_byte, byte_of, chunk_of, place_in_chunk, Stands}
+use Rattle.ip_image.specs.Virtual.{run_of, locate, virtual_byte, byte_of, Stands}
 use Rattle.ip_mapping.specs.Parsing.{IsRowAt}
 use Rattle.ip_chunks.proofs.Writing.{bytes_stand, gap_behind}
 use Rattle.ip_space.specs.SpaceView.{IsReadable, byte_at}

@@ -9,4 +9,5 @@ pub mod Answered
 pub mod Passing
 pub mod Lying
 mod Laws
-mod Stretches
+pub mod Stretches
+mod StretchRows

@@ -2,8 +2,8 @@
 --     no_front, bad_numbers, no_length      bytes that are no mapping of the layout.      parsed, parse_failed      what parsing them gives
 --     whole_read      one read gives the bytes of a file.      measured      its length, where an absent one has none
 --     mapping_later, own_later      over calls that change no file.      not_filled, pair_found, pair_refused      the tests behind the rows
-use Rattle.std.proofs.Common.{◌≡◌, ◌≢◌, ℕ, ◌+◌, ◌-◌, ◌*◌, ◌≤◌, List, [], ◌∷◌, ◌++◌, length, take, drop, min, refl, sym, ◌∙◌, ap, subst, arith, map}
-use Rattle.std.specs.Prelude.{Option, Some, None, Result, Ok, Err, option_map, IsSomeAnd, flat_map}
+use Rattle.std.proofs.Common.{◌≡◌, ◌≢◌, ℕ, ◌+◌, ◌*◌, List, [], ◌∷◌, ◌++◌, length, take, drop, refl, sym, ◌∙◌, ap, subst, arith, map}
+use Rattle.std.specs.Prelude.{Option, Some, None, Ok, Err, option_map, flat_map}
 use Rattle.std.specs.Option.{unwrap_or}
 use Rattle.std.proofs.lemmas.List.{take_all, take-append-le}
 use Rattle.ip_ground.specs.declared.names.FileName.{FileName}
@@ -22,8 +22,7 @@ use Rattle.ip_mapping.specs.Parsing as parsing
 use Rattle.ip_mapping.specs.declared.head.Head.{Head}
 use Rattle.ip_mapping.proofs.Numbers.{length_rows}
 use Rattle.ip_mapping.proofs.Outcomes.{IsSmall, file_begins, its_head}
-use Rattle.ip_space.specs.SpaceView.{SpaceView}
-use Rattle.ip_space.specs.Pair.{IsOwnPair, PrefixFits, IsBadPair, no_mapping, no_row, no_sum, no_prefix, HasNumbers, FindsPrefix, FindsPair, FindsSpace}
+use Rattle.ip_space.specs.Pair.{PrefixFits, IsBadPair, no_mapping, no_row, no_sum, no_prefix, HasNumbers, FindsPrefix, FindsPair, FindsSpace}
 use Rattle.ip_space.specs.declared.fault.SpaceFault.{SpaceFault}
 use Rattle.ip_space.specs.declared.fault.SpaceFault.TheVariants.{Ground, Damaged, Memory}
 

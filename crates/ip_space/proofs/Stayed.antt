@@ -1,10 +1,13 @@
 -- What is read stays over calls that change no file.
---     byte_stays      each byte.      only_reads      so such a call only reads
+--     byte_stays      each byte.      readable_stays, readable_before      what nobody else changes is so before and after.      only_reads      so such a call only reads
 use Rattle.std.proofs.Common.{◌≡◌, ℕ, zero, suc, Bool, true, false, refl, sym, ◌∙◌, ap, subst, Option}
 use Rattle.std.specs.Prelude.{List, nat_le, option_and_then, if◌then◌else◌}
 use Rattle.ip_ground.specs.declared.names.FileName.TheVariants.{Chunk, Prefix}
 use Rattle.ip_ground.specs.Contents.{Content}
+use Rattle.ip_ground.specs.Custody.{Custody}
+use Rattle.ip_ground.specs.Custody as custody
 use Rattle.ip_ground.specs.Told.{Told, IsForeign, NoFile, ChangesOnly}
+use Rattle.ip_ground.proofs.Spans.{lending_now}
 use Rattle.ip_image.specs.declared.run.Run.{Run}
 use Rattle.ip_image.specs.Virtual.{virtual_byte, byte_of, chunk_of, place_in_chunk, locate}
 use Rattle.ip_image.specs.Stored.{record_at, stored}
@@ -47,6 +50,12 @@ module _ (old new : Told) (only : ChangesOnly NoFile old new) where
   pub readable_stays : (space : SpaceView) → IsReadable old space → IsReadable new space
   readable_stays space readable = record {
     own = λ live. (only.others (Prefix space.layout.live) (λ none. none)).own (readable.own live);
+    none = readable.none;
+  }
+
+  pub readable_before : (space : SpaceView) → IsReadable new space → IsReadable old space
+  readable_before space readable = record {
+    own = λ live foreign. readable.own live (subst (λ (c : Custody). custody.IsForeign c) (sym (lending_now old new only.goes space.layout.live (only.lending space.layout.live))) foreign);
     none = readable.none;
   }
 

@@ -1,7 +1,7 @@
 -- The live pair of an image, and the stretches of one that stands.
 --     damaged_by      a bad pair is where the image is damaged.      one_rows, no_rows      its rows
 --     stretches_stand      within each stretch records lie end to end
-use Rattle.std.proofs.Common.{◌≡◌, ◌≢◌, ℕ, zero, suc, ◌+◌, ◌-◌, ◌<◌, ◌≤◌, List, [], ◌∷◌, ◌++◌, length, map, get_or, refl, sym, ◌∙◌, ap, subst, arith}
+use Rattle.std.proofs.Common.{◌≡◌, ◌≢◌, ℕ, zero, suc, ◌+◌, ◌-◌, ◌<◌, ◌≤◌, List, [], ◌∷◌, ◌++◌, length, map, get_or, refl, sym, ◌∙◌, subst, arith}
 use Rattle.std.specs.Prelude.{Contains, Option, Some}
 use Rattle.std.specs.List.{AllByRecursion}
 use Rattle.ip_ground.specs.declared.names.FileName.{FileName}
@@ -19,7 +19,7 @@ use Rattle.ip_image.specs.Slot.{IsSlot, IsLive, newest_version, layout_of}
 use Rattle.ip_image.specs.Virtual.{run_of, mapping_file, RowsFitFrom, virtual_byte}
 use Rattle.ip_image.specs.Standing.{RunByRun, Standing, Generation, MappingIs, DamagedAt, stretches}
 use Rattle.ip_image.specs.Standing as standing
-use Rattle.ip_image.specs.Stored.{record_at, stored}
+use Rattle.ip_image.specs.Stored.{stored}
 use Rattle.ip_image.proofs.OneRepository.{good_fit, same_files}
 use Rattle.ip_space.specs.SpaceView.{SpaceView, records_in}
 use Rattle.ip_space.specs.Scanning.{RunsTo}

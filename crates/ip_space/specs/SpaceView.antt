@@ -2,11 +2,13 @@
 --     byte_in image space, byte_at told space      the byte at an offset, if it is there.
 --     read_at told space      what the bytes from an offset on are read as
 --     records_in image space, records_of told space      the record at each offset
+--     stretches_of space      the runs below the horizon, and the stretch from there to the end.      AreBelow at stretches      they end at or below an offset
 --     grown space end      the space up to another end.      SameBelow space old new      below the end two images have the same bytes
 --     IsLayout layout      what a layout is
 --     IsReadable told space      what is read stays so: nobody else changes the files
 --     OnlyReads old new space now      a call changed no file at any moment, and the records stay
-use Rattle.std.specs.Prelude.{◌≡◌, ◌≢◌, ℕ, ◌-◌, ◌^◌, ◌<◌, ◌≤◌, List, [], Option, Result}
+use Rattle.std.specs.Prelude.{◌≡◌, ◌≢◌, ℕ, ◌+◌, ◌-◌, ◌^◌, ◌<◌, ◌≤◌, List, [], ◌∷◌, ◌++◌, Option, Result}
+use Rattle.std.specs.List.{AllByRecursion}
 use Rattle.ip_ground.specs.declared.names.FileName.TheVariants.{Prefix}
 use Rattle.ip_ground.specs.Contents.{Image}
 use Rattle.ip_ground.specs.Told.{Told, IsForeign, NoFile, ChangesOnly}
@@ -35,6 +37,12 @@ byte_in image space = virtual_byte image space.layout space.runs
 
 abbrev pub byte_at : Told → SpaceView → ℕ → Option ℕ
 byte_at told space = byte_in told.held space
+
+abbrev pub stretches_of : SpaceView → List Run
+stretches_of space = space.runs ++ record { at = space.layout.horizon; length = space.layout.end - space.layout.horizon } ∷ []
+
+abbrev pub AreBelow : ℕ → List Run → Type 0
+AreBelow at stretches = AllByRecursion (λ run. run.at + run.length ≤ at) stretches
 
 -- the space up to another end
 abbrev pub grown : SpaceView → ℕ → SpaceView

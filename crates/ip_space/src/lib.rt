@@ -2,7 +2,7 @@
 //! generation, but of the record at an offset.
 #![tactic(auto)]
 
-ghost use Rattle.std.specs.Prelude.{◌≡◌, ◌≢◌, ℕ, ◌+◌, ◌≤◌, List, [], map, Contains, Option, Some, Result};
+ghost use Rattle.std.specs.Prelude.{◌≡◌, ◌≢◌, ℕ, ◌+◌, ◌<◌, ◌≤◌, List, [], map, slice_get, Contains, Option, Some, IsSome, Result};
 ghost use Rattle.ip_ground.specs.Contents.{Image};
 ghost use Rattle.ip_spec.specs.declared.record.Record.{Record};
 ghost use Rattle.ip_spec.specs.declared.record.Ref.{Ref};
@@ -15,10 +15,10 @@ ghost use Rattle.ip_image.specs.declared.run.Row.{Row};
 ghost use Rattle.ip_image.specs.declared.run.Run.{Run};
 ghost use Rattle.ip_image.specs.declared.slot.Slot.{Slot};
 ghost use Rattle.ip_image.specs.Slot.{IsSlot, IsLive, layout_of};
-ghost use Rattle.ip_image.specs.Virtual.{run_of};
+ghost use Rattle.ip_image.specs.Virtual.{run_of, lies_at};
 ghost use Rattle.ip_image.specs.Standing.{Standing, Generation, DamagedAt, stretches};
 ghost use Rattle.ip_space.specs.Pair.{IsBadPair};
-ghost use Rattle.ip_space.specs.SpaceView.{SpaceView, records_in, grown, SameBelow};
+ghost use Rattle.ip_space.specs.SpaceView.{SpaceView, records_in, stretches_of, grown, SameBelow};
 ghost use Rattle.ip_space.specs.Fetching.{Fetches, Meets, IsFetched};
 ghost use Rattle.ip_space.specs.ScanView.{ScanView};
 ghost use Rattle.ip_space.specs.Scanning.{Finds, Moves, RunsTo, IsWalked};
@@ -58,6 +58,12 @@ pub fn live_pair()
         s.live ≢ 0 → IsBadPair image (layout_of s) file at → DamagedAt image file at }
     ensures one { (image : Image) (s : Layout) (rows others : List Row) → Generation image s rows → Generation image s others → rows ≡ others }
     ensures none { (image : Image) (s : Slot) → IsSlot s → s.live ≡ 0 → Generation image (layout_of s) [] }
+{}
+
+/// Each offset of a stretch lies in some file.
+pub fn stretches_lie()
+    ensures { (space : SpaceView) (number at : ℕ) (run : Run) → slice_get (stretches_of space) number ≡ Some run → run.at ≤ at → at < run.at + run.length →
+        IsSome (lies_at space.layout space.runs at) }
 {}
 
 /// A record that stands somewhere does so while the bytes below the end stay, also where the end is raised.

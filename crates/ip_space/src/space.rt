@@ -1,11 +1,11 @@
 // The space of a store's records.
-ghost use Rattle.std.specs.Prelude.{◌≡◌, ◌≢◌, ℕ, ◌≤◌, ◌^◌, ◌==◌, [], map, IsTrue, IfOk, IsOk, IsErrOf, if◌then◌else◌};
+ghost use Rattle.std.specs.Prelude.{◌≡◌, ◌≢◌, ℕ, ◌+◌, ◌<◌, ◌≤◌, ◌^◌, ◌==◌, [], map, take, slice_get, IfSome, IsTrue, IfOk, IsOk, IsErrOf, if◌then◌else◌};
 ghost use Rattle.ip_ground.specs.Counts.{NoneFalls, Rose};
 ghost use Rattle.ip_ground.specs.Told.{NoFile, ChangesOnly};
 ghost use Rattle.ip_spec.specs.Record.{Fits, kind_of};
 ghost use Rattle.ip_image.specs.Slot.{newest_version, IsChunkSize};
 ghost use Rattle.ip_image.specs.Virtual.{run_of, placed, RowsFit, lies_at};
-ghost use Rattle.ip_space.specs.SpaceView.{grown, IsLayout, OnlyReads, IsReadable, records_of, read_at, byte_at};
+ghost use Rattle.ip_space.specs.SpaceView.{grown, stretches_of, AreBelow, IsLayout, OnlyReads, IsReadable, records_of, read_at, byte_at};
 ghost use Rattle.ip_space.specs.Fetching.{Blames, BlamesPlace, Fetches, FindsRecord, IsBecause, Meets, ReadsRecord, Refers};
 ghost use Rattle.ip_space.specs.Pair.{IsOwnPair, FindsSpace};
 ghost use Rattle.ip_space.specs.Scanning.{IsWhole};
@@ -145,6 +145,32 @@ impl Space {
         }
         let place = self.source.mapping.locate(at)?;
         Some((FileName::Prefix(live), place))
+    }
+
+    /// The stretch of this number, counted from 0, in which records lie end to end: a run below the horizon, or behind all of these what lies
+    /// from the horizon to the end. Nothing where there are no more.
+    pub fn stretch_at(&self, number: usize) -> Option<Run>
+        ensures is { result ≡ slice_get (stretches_of self.now) number }
+        ensures in_order { IfSome result (λ run. AreBelow run.at (take number (stretches_of self.now))) }
+        ensures inside { IfSome result (λ run. run.at + run.length ≤ self.now.layout.end) }
+        ensures countable { IfSome result (λ run. number < 2 ^ 63) }
+    {
+        let rows = self.source.mapping.rows();
+        if number < rows.len() {
+            let row = rows[number];
+            return Some(Run {
+                at: row.at,
+                length: row.length,
+            });
+        }
+        if number > rows.len() {
+            return None;
+        }
+        let Layout { horizon, end, .. } = self.source.layout;
+        Some(Run {
+            at: horizon,
+            length: end - horizon,
+        })
     }
 
     /// The record at a reference, of its kind and name. It reads as `record_at` does, and tries the kind before the name.

@@ -361,6 +361,12 @@ fn a_space_over_given_runs(rt: HostRuntime) -> Result<(), Fail> {
     let mut space = Space::over(alloc, layout, &runs)?;
     let mut copy = space.copy_up_to(70)?;
     assert_eq!(rt; copy.layout().end, 70);
+    assert_eq!(rt; space.stretch_at(1), Some(runs[1]));
+    let last = Run { at: 59, length: 11 };
+    assert_eq!(rt;
+        (copy.stretch_at(2), copy.stretch_at(3)),
+        (Some(last), None)
+    );
     assert_eq!(rt; copy.record_at(&mut bench, 16).map(shown), Ok(1));
     assert_eq!(rt;
         copy.record_at(&mut bench, 59).map(shown),

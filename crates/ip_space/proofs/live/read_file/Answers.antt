@@ -1,4 +1,4 @@
-use Rattle.std.proofs.Common.{rules, ◌≡◌, List, length, take, ◌∙◌, ap}
+use Rattle.std.proofs.Common.{rules, ◌≡◌, length, take, ◌∙◌}
 use Rattle.ip_space.proofs.LivePair.{whole_read, written_whole}
 use Rattle.ip_space.proofs.live.read_file.Goals as goal
 

@@ -1,9 +1,8 @@
-use Rattle.std.proofs.Common.{◌≡◌, refl, map}
+use Rattle.std.proofs.Common.{refl}
 use Rattle.std.proofs.lemmas.Bool.{false≢true}
 use Rattle.ip_ground.specs.declared.names.FileName.TheVariants.{Mapping, Prefix}
 use Rattle.ip_ground.specs.Told.{NoFile}
 use Rattle.ip_ground.proofs.Spans.{only_on}
-use Rattle.ip_image.specs.Virtual.{run_of, total}
 use Rattle.ip_space.proofs.LivePair.{not_filled, mapping_later, own_later, pair_found, pair_refused}
 use Rattle.ip_space.proofs.live.read_live.Goals as goal
 

@@ -1,11 +1,10 @@
-use Rattle.std.proofs.Common.{◌≡◌, ℕ, ◌+◌, ◌*◌, sym, ◌∙◌, ap, Option}
+use Rattle.std.proofs.Common.{◌≡◌, sym, ◌∙◌}
 use Rattle.std.proofs.lemmas.Bool.{false≢true}
-use Rattle.std.specs.Option.{option_map, unwrap_or}
 use Rattle.ip_ground.specs.declared.names.FileName.TheVariants.{Mapping}
 use Rattle.ip_ground.specs.Contents.{size_of}
 use Rattle.ip_ground.specs.Told.{NoFile}
 use Rattle.ip_ground.proofs.Spans.{only_on}
-use Rattle.ip_space.proofs.LivePair.{no_length, measured, held_later, own_later}
+use Rattle.ip_space.proofs.LivePair.{no_length, measured}
 use Rattle.ip_space.proofs.live.read_mapping.Goals as goal
 
 pub returns-then-not-has_rows-clause-finds : goal.returns-then-not-has_rows-clause-finds

@@ -1,4 +1,4 @@
-use Rattle.std.proofs.Common.{◌≡◌, ◌+◌, ◌<◌, ◌∙◌, ap, arith, map, None}
+use Rattle.std.proofs.Common.{map}
 use Rattle.ip_image.specs.Virtual.{run_of, virtual_byte}
 use Rattle.ip_space.proofs.Kept.{gone_byte, read_nothing}
 use Rattle.ip_space.proofs.source.Source.read.Goals as goal

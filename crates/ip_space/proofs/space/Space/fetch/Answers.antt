@@ -1,4 +1,4 @@
-use Rattle.std.proofs.Common.{refl, subst}
+use Rattle.std.proofs.Common.{refl}
 use Rattle.ip_space.specs.SpaceView.{SpaceView, records_of, read_at}
 use Rattle.ip_space.proofs.Answered.{record_there, fetched_err, fetched_ok}
 use Rattle.ip_space.proofs.space.Space.fetch.Goals as goal
