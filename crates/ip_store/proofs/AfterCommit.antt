@@ -1,6 +1,6 @@
 -- What the tables, the work and the files hold after a commit.
 --     after_tables, after_parents      the tables and the parents after it, whatever is told
---     can_step      what the durable step asks.      stands_new      the images that it leaves
+--     can_step      what the durable step asks.      stays_committed      each record stays.      stands_new      the images that it leaves
 --     made, cut      the relation of a commit that was made, and of one that a fault cut short
 --     saved_tree      the tree at the batch's root, over the records of the image after it
 --     answers_refused, answers_made, goes_on_still      what is answered, and how the work goes on
@@ -54,15 +54,16 @@ use Rattle.ip_store.specs.declared.committing.StoreFault.{StoreFault}
 use Rattle.ip_store.specs.declared.store.Store.{Store}
 use Rattle.ip_store.specs.declared.work.Work.{Work}
 use Rattle.ip_store.specs.Commits.{IsNext, IsPlan, IsRefusal, GoesOn, Commits, Answers, Turns, repository_after, fault_reply, met_of, conditions_of, met_nothing, records_of}
-use Rattle.ip_space.specs.SpaceView.{grown}
+use Rattle.ip_space.specs.SpaceView.{SpaceView, grown}
 use Rattle.ip_store.specs.Placed.{IsSpaceOf}
 use Rattle.ip_store.specs.Publishing.{CanStep, MakesStep}
 use Rattle.ip_store.specs.Changes.{next_slot}
 use Rattle.ip_store.specs.Store.{IsOf, Holds, SameTables, image_records}
+use Rattle.ip_store.specs.Trees.{RecordsStay}
 use Rattle.ip_store.specs.Work.{AreParents, IsLawful, IsAt, least_of, session}
 use Rattle.ip_store.proofs.Recovering.{held_has}
 use Rattle.ip_store.proofs.Listed.{within_fits, same_records, leaves_only, records_below}
-use Rattle.ip_store.proofs.Stepping.{same_tables, same_holds, space_same, may_step, changed, list_after, cut_short, same_can_step, same_step}
+use Rattle.ip_store.proofs.Stepping.{same_tables, same_holds, space_same, may_step, changed, list_after, stays_made, cut_short, same_can_step, same_step}
 use Rattle.ip_store.proofs.NextSlot.{next_is, next_generation, next_space}
 use Rattle.ip_store.proofs.Histories.{history_committed}
 use Rattle.ip_store.proofs.Machine.{met_done}
@@ -159,6 +160,13 @@ can_step r branch store plan of is a held =
     same_can_step store.slot.end store.slot.end store.index store.index plan.slot (next_slot store.slot (length plan.batch.bytes.items) 1) a refl refl is.slot
     (may_step r r store 1 plan.batch.bytes.items of is.ends is.sequence (let some = is.some in omega (arith, some)) a held)
 
+-- nor does it that each record stays
+pub stays_committed : (r : Repository) (branch : Bytes) (store : Store) (plan : Plan) (of : IsOf store r) → IsNext r branch store plan → (a : Told) (held : Holds store a r) (b : Told) → MakesStep store.slot.end plan.batch.bytes.items (1 - store.index) plan.slot (Ok tt) a b
+    → (store' : Store) (q : Repository) (now : Holds store' b q) → RecordsStay (image_records held) (image_records now)
+stays_committed r branch store plan of is a held b step store' q now =
+    stays_made r r store 1 plan.batch.bytes.items of is.ends is.sequence (let some = is.some in omega (arith, some)) a held b
+    (same_step store.slot.end store.slot.end store.index store.index plan.batch.bytes.items plan.batch.bytes.items plan.slot (next_slot store.slot (length plan.batch.bytes.items) 1) (Ok tt) a b refl refl refl is.slot step) store' q now
+
 -- ---- the files, where the tree has this view
 
 -- what `Tree::of` says of the tree that it gives
@@ -211,10 +219,10 @@ module _ (r : Repository) (work : Work) (v : View) (branch : Bytes) (info : Info
   to_next b res step = same_step store.slot.end store.slot.end store.index store.index plan.batch.bytes.items plan.batch.bytes.items plan.slot next_live res a b refl refl refl coming.slot step
 
   pub made : (b : Told) (store' : Store) → store'.slot ≡ plan.slot → store'.index ≡ 1 - store.index → IsOf store' made_is
-      → store'.places.items ≡ store.places.items ++ plan.batch.commit_at ∷ [] → (name : Hash) → Step b (Ok tt) → Commits r work v branch info (Ok name) store' a b
-  made b store' slot index tables places name step =
+      → store'.places.items ≡ store.places.items ++ plan.batch.commit_at ∷ [] → store'.space ≡ grown store.space plan.slot.end → (name : Hash) → Step b (Ok tt) → Commits r work v branch info (Ok name) store' a b
+  made b store' slot index tables places space name step =
       changed r (repository_after r work v branch info) store 1 plan.batch.bytes.items of coming.ends coming.sequence few_there a held stands_new b (to_next b (Ok tt) step)
-      all (within_fits store.slot of.slot all is.within) all_lie is.bytes store' (slot ∙ coming.slot) index (subst (IsOf store') (sym after_is) tables) (places ∙ ap (λ (ps : List ℕ). store.places.items ++ ps) (sym is.place)) name
+      all (within_fits store.slot of.slot all is.within) all_lie is.bytes store' (slot ∙ coming.slot) index (ap (λ (view : SpaceView). view.runs) space) (subst (IsOf store') (sym after_is) tables) (places ∙ ap (λ (ps : List ℕ). store.places.items ++ ps) (sym is.place)) name
 
   pub held_after : (b : Told) (store' : Store) (name : Hash) → Commits r work v branch info (Ok name) store' a b → Holds store' b made_is
   held_after b store' name is = subst (Holds store' b) after_is is.ok
@@ -254,6 +262,7 @@ module _ (r : Repository) (work : Work) (v : View) (branch : Bytes) (info : Info
       tree = saved_tree work'.tree read;
       short = at.lawful.short;
       parents = subst (λ (p : Repository). AreParents p work'.parents) (sym same) (after_parents r work.parents branch store plan of coming commit (sym is.name) refl work'.parents (parents ∙ coming.parents));
+      retained = subst (λ (o : Option ℕ). IfSome o (λ n. q.floor ≤ n)) (sym least) (subst (λ (p : Repository). p.floor ≤ plan.number) (sym same) (let number = coming.number in omega (arith, number)));
       least = least ∙ ap Some (coming.number ∙ twice (next r)) ∙ ap (λ (ns : List ℕ). least_of (stored_view (image_records now) (next r) plan.batch.root.at v.map) ns) (sym (parents ∙ coming.parents));
     }
       where
@@ -273,17 +282,17 @@ answers_refused r work v branch info fault store told at is = by_reply (fault_re
     by_reply (Some reply) turns = record { after = r; view = v; turns = turns; is_at = at }
 
 -- the answer of a commit that was made
-pub answers_made : (r : Repository) (work work' : Work) (v v' : View) (branch : Bytes) (info : Info) (store store' : Store) (plan : Plan) (name : Hash) (told : Told) → r.floor ≡ 0 → IsNext r branch store plan → IsPlan r work v branch info store plan
+pub answers_made : (r : Repository) (work work' : Work) (v v' : View) (branch : Bytes) (info : Info) (store store' : Store) (plan : Plan) (name : Hash) (told : Told) → IfSome work.least (λ n. r.floor ≤ n) → IsNext r branch store plan → IsPlan r work v branch info store plan
     → name ≡ plan.batch.name → v'.map ≡ v.map → work'.parents ≡ plan.parents → work'.least ≡ Some plan.number → IsAt told store' (with_commit r (new_commit r v.map work.parents info) branch) work' v'
     → Answers told (session r work v) (Command.Commit branch info) met_nothing (Reply.Committed name) store' work'
-answers_made r work work' v v' branch info store store' plan name told none coming is named same parents least at =
+answers_made r work work' v v' branch info store store' plan name told retained coming is named same parents least at =
     let name_is : name ≡ (new_commit r v.map work.parents info).name = named ∙ is.name in
     let after = with_commit r (new_commit r v.map work.parents info) branch in
     record {
       after = after;
       view = v';
       turns = (
-        subst (λ h. IsMet (session r work v) (Command.Commit branch info) (conditions_of met_nothing) (Reply.Committed h)) (sym name_is) (met_done r work v branch info none),
+        subst (λ h. IsMet (session r work v) (Command.Commit branch info) (conditions_of met_nothing) (Reply.Committed h)) (sym name_is) (met_done r work v branch info retained),
         is.turn ∙ (λ i. (Reply.Committed (sym name_is i), record { repository = after; phase = (session after work' v').phase; work = record { tree = sym same i; parents = sym (parents ∙ coming.parents) i; least = sym (least ∙ ap Some coming.number) i } })),
       );
       is_at = at;

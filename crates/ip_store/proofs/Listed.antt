@@ -1,27 +1,25 @@
--- The records of an image, while no generation is live: those that lie end to end in its chunk.
+-- The records of an image, and what a store holds.
 --     good_newest, within_fits, places_size      good records are within the bounds of the newest version; and have as many places as commits
---     list_lies, one_list      they lie so, and no others do
---     readable_of      a store's space is readable.      holds_on      a store holds on what it held, where the live slot and the bytes of its records are as before
 --     only_leaves      none of the records of an image that stands is an inode
---     record_there      a record is found where it lies.      commits_there      at the store's places stand the records of its commits
+--     same_rows, more_records      the rows of an image that goes on, and its records.      space_stays, pair_stays      what calls keep that change no file
+--     readable_by, readable_of      a store's space is readable.      holds_on      a store holds on what it held, where the live slot and the bytes of its records are as before
+--     commits_there      at the store's places stand the records of its commits
 --     over, leaves_only, records_good, records_below      of the records of the image that a store holds: the space reads them; none is an inode; what each of them is; where it lies
 --     same_list, same_records      of two images of which one reads as the other did; and of one image, whichever proof says that it stands
-use Rattle.std.proofs.Common.{◌≡◌, ℕ, zero, suc, ◌+◌, List, [], ◌∷◌, ◌++◌, map, length, refl, sym, ◌∙◌, ap, subst, arith, append_assoc, append-nil, length-append}
+use Rattle.std.proofs.Common.{◌≡◌, ◌≢◌, ◌⊎◌, inl, inr, ℕ, zero, suc, ◌+◌, ◌≤◌, List, [], ◌∷◌, ◌++◌, map, length, refl, sym, ◌∙◌, ap, subst, arith, append_assoc, append-nil, length-append}
 use Rattle.std.specs.Prelude.{◌<◌, Bool, true, false, cond, Option, Some, None, slice_get}
-use Rattle.std.proofs.lemmas.Cmp.{nat_cmp_total}
-use Rattle.std.specs.Cmp.{tied_itself}
-use Rattle.std.specs.Ordering.{is_eq, nat_cmp, eq_by_cmp}
+use Rattle.std.specs.Ordering.{nat_cmp, eq_by_cmp}
 use Rattle.std.specs.List.{AllByRecursion, AllZip}
 use Rattle.std.proofs.lemmas.List.Elements.{filter_map-append, recursion_from_All}
-use Rattle.ip_ground.specs.declared.names.FileName.TheVariants.{Control, Chunk}
+use Rattle.ip_ground.specs.declared.names.FileName.{FileName}
+use Rattle.ip_ground.specs.declared.names.FileName.TheVariants.{Control, Chunk, Mapping, Prefix}
 use Rattle.ip_ground.specs.Contents.{Content, Image, bytes_of}
-use Rattle.ip_ground.specs.Told.{Told, IsKept}
+use Rattle.ip_ground.specs.Told.{Told, IsForeign, IsKept}
 use Rattle.ip_spec.specs.declared.record.Record.{Record}
 use Rattle.ip_spec.specs.declared.record.CommitRecord.{CommitRecord}
 use Rattle.ip_spec.specs.Record.{Fits, spelling, spelling_of}
 use Rattle.ip_spec.specs.Shape.{root_name}
 use Rattle.ip_spec.specs.TreeAt.{Records, present}
-use Rattle.ip_spec.specs.Batch.{AreEndToEnd}
 use Rattle.ip_spec.specs.Repository.{Repository, Commit}
 use Rattle.ip_spec.proofs.TreeAtLaws.{more_part}
 use Rattle.ip_spec.proofs.Unique.{one_tree}
@@ -30,27 +28,28 @@ use Rattle.ip_image.specs.declared.layout.Layout.{Layout}
 use Rattle.ip_image.specs.declared.run.Run.{Run}
 use Rattle.ip_image.specs.Slot.{IsSlot, IsLive, layout_of, newest_version}
 use Rattle.ip_image.specs.declared.run.Row.{Row}
-use Rattle.ip_image.specs.Virtual.{run_of, byte_of, virtual_byte}
-use Rattle.ip_image.specs.Standing.{EndToEnd, RunByRun, IsServedKind, IsGood, AreGood, commit_of, commits_in, stretches, Spells, Standing, StandsFor}
+use Rattle.ip_image.specs.Virtual.{run_of, byte_of, mapping_file, chunk_of, place_in_chunk, chunk_byte, virtual_byte}
+use Rattle.ip_image.specs.Standing.{EndToEnd, RunByRun, IsServedKind, IsGood, AreGood, Generation, commit_of, commits_in, Spells, Standing, StandsFor}
 use Rattle.ip_image.specs.Stored.{stored}
-use Rattle.ip_image.specs.Appending.{AreWithin}
+use Rattle.ip_image.specs.Appending.{SameGeneration, AreWithin}
 use Rattle.ip_image.specs.Pending.{HasLive, SameSpace}
-use Rattle.ip_image.proofs.OneRepository.{same_stretch, good_fit}
+use Rattle.ip_image.proofs.OneRepository.{same_record, some_bytes, goes_on, fit_front, fit_back, same_runs, good_fit, same_files, same_some, zero_or_not, all_records}
 use Rattle.ip_image.proofs.DamageLaws.{slot_is}
 use Rattle.ip_image.proofs.AppendingLaws.{stands_still}
 use Rattle.ip_image.proofs.RecordsOn.{records_go_on}
 use Rattle.ip_image.proofs.HeadlineLaws.{same_generation_itself}
-use Rattle.ip_image.proofs.SpelledCommits.{present_front, present_behind}
-use Rattle.ip_image.proofs.TreeBatch.{ends_apart, found_below}
-use Rattle.ip_image.proofs.OneRepository.{all_records}
+use Rattle.ip_image.proofs.SpelledCommits.{present_front}
+use Rattle.ip_image.proofs.PairLaws.{Has, Rises}
+use Rattle.ip_image.proofs.KeptRuns.{Ordered}
+use Rattle.ip_image.proofs.InChunk.{ordered_below, LiesIn, lies_ordered, lies_on, chunk_lies, chunk_good}
+use Rattle.ip_image.proofs.StayingRecords.{has_right, has_present, ordered_rises}
 use Rattle.ip_image.proofs.StoredLaws.{standing_stored}
 use Rattle.ip_space.specs.SpaceView.{IsReadable, records_of}
 use Rattle.ip_store.specs.declared.store.Store.{Store}
 use Rattle.ip_store.specs.Placed.{places_in, IsCommitAt, AreCommitsAt}
 use Rattle.ip_tree.specs.Leaves.{HasLeavesOnly}
 use Rattle.ip_tree.specs.Reads.{IsOver}
-use Rattle.ip_store.specs.Store.{IsOf, Holds, image_records}
-use Rattle.ip_store.proofs.OpenedImages.{chunk_bytes}
+use Rattle.ip_store.specs.Store.{IsOf, OwnsPair, Holds, image_records}
 
 pub newest : (s : Slot) → IsSlot s → s.version ≡ newest_version
 newest s is = let low = is.version_low in let high = is.version_high in omega (arith, low, high)
@@ -58,10 +57,6 @@ newest s is = let low = is.version_low in let high = is.version_high in omega (a
 -- within the bounds of the newest version
 abbrev pub AreNewest : Records → Type 0
 AreNewest records = AllByRecursion (λ (x : ℕ × Record). Fits newest_version x.1) records
-
-pub both_fit : (xs ys : Records) → AreNewest xs → AreNewest ys → AreNewest (xs ++ ys)
-both_fit [] ys one other = other
-both_fit (x ∷ xs) ys one other = (one.0, both_fit xs ys one.1 other)
 
 pub good_newest : (s : Slot) → IsSlot s → (records : Records) → AreGood s [] records → AreNewest records
 good_newest s is records good = subst (λ (v : ℕ). AllByRecursion (λ (x : ℕ × Record). Fits v x.1) records) (newest s is) (good_fit s [] records good)
@@ -104,61 +99,21 @@ module _ (image : Image) (s : Slot) (has : HasLive s image) (A : Standing image)
   pub same_slot : A.slot ≡ s
   same_slot = slot_is image A has.control has.index has.held s has.live
 
-  no_horizon : s.horizon ≡ 0
-  no_horizon = has.live.fields.none_live.0 has.live.fields.served
-
-  no_rows : A.rows ≡ []
-  no_rows = A.generation.none A.live.fields.served
-
-  pub list_fits : AreNewest A.records
-  list_fits = good_newest A.slot A.live.fields A.records A.good
-
-  whole : RunByRun (virtual_byte image (layout_of s) []) (stretches (layout_of s) []) A.records
-  whole = subst (λ (rs : List Row). RunByRun (virtual_byte image (layout_of s) (map run_of rs)) (stretches (layout_of s) rs) A.records) no_rows
-      (subst (λ (t : Slot). RunByRun (virtual_byte image (layout_of t) (map run_of A.rows)) (stretches (layout_of t) A.rows) A.records) same_slot A.whole)
-
-  all_here : whole.0 ≡ A.records
-  all_here = sym (append-nil whole.0) ∙ ap (λ later. whole.0 ++ later) (sym whole.4) ∙ sym whole.2
-
-  pub list_fills : EndToEnd (virtual_byte image (layout_of s) []) 0 A.records s.end
-  list_fills =
-      subst (λ (rs : Records). EndToEnd (virtual_byte image (layout_of s) []) 0 rs s.end) all_here
-      (subst (λ (n : ℕ). EndToEnd (virtual_byte image (layout_of s) []) n whole.0 s.end) no_horizon
-      (subst (λ (n : ℕ). EndToEnd (virtual_byte image (layout_of s) []) s.horizon whole.0 n) (let low = has.live.fields.horizon in omega (arith, low)) whole.3))
-
-  pub list_lies : EndToEnd (byte_of (image (Chunk 0))) 0 A.records s.end
-  list_lies = subst (λ (f : ℕ → Option ℕ). EndToEnd f 0 A.records s.end) (chunk_bytes image s no_horizon) list_fills
-
-  pub one_list : (records : Records) → AreNewest records → EndToEnd (byte_of (image (Chunk 0))) 0 records s.end → A.records ≡ records
-  one_list records fit lies = same_stretch newest_version (byte_of (image (Chunk 0))) 0 s.end A.records records list_fits fit list_lies lies
-
 -- ---- where the commits stand
 
--- a record of records that lie end to end is found where it lies
-pub record_there : (from at : ℕ) (pre rest : Records) (x : Record) → AreEndToEnd from pre at → present (pre ++ (at, x) ∷ rest) at ≡ Some x
-record_there from at pre rest x lies = present_behind pre ((at, x) ∷ rest) at (by (present pre at) refl) ∙ ap (λ b. cond b (Some x) (present rest at)) (ap is_eq (tied_itself nat_cmp_total at))
-  where
-    by : (o : Option Record) → present pre at ≡ o → present pre at ≡ None
-    by None e = e
-    by (Some r) e = let below = found_below from pre at at r lies e in absurd (omega (arith, below))
-
-one_more_lies : (from at : ℕ) (pre : Records) (x : Record) → AreEndToEnd from pre at → AreEndToEnd from (pre ++ (at, x) ∷ []) (at + length (spelling x))
-one_more_lies from at [] x is = (sym is, ap (λ (n : ℕ). n + length (spelling x)) is)
-one_more_lies from at (y ∷ pre) x is = (is.0, one_more_lies (from + length (spelling y.1)) at pre x is.1)
-
-module _ (s : Slot) (all : Records) where
+module _ (s : Slot) (all : Records) (rise : Rises all) where
   front_there : (pre rest : Records) → pre ++ rest ≡ all → (at : ℕ) (r : Record) → present pre at ≡ Some r → present all at ≡ Some r
   front_there pre rest is at r there = subst (λ (rs : Records). present rs at ≡ Some r) is (present_front pre rest at r there)
 
-  one_commit : (pre rest : Records) (at : ℕ) (c : CommitRecord) (m : Commit) → pre ++ (at, Record.Commit c) ∷ rest ≡ all → AreEndToEnd 0 pre at → IsGood s pre (at, Record.Commit c) → Spells all c m
+  one_commit : (pre rest : Records) (at : ℕ) (c : CommitRecord) (m : Commit) → pre ++ (at, Record.Commit c) ∷ rest ≡ all → IsGood s pre (at, Record.Commit c) → Spells all c m
       → IsCommitAt (present all) (s.floor + length (commits_in pre)) at m
-  one_commit pre rest at c m is lies good spells =
+  one_commit pre rest at c m is good spells =
       let tree = good.fits.root.0 in
       let there = good.fits.root.1 in
       let same : tree ≡ m.tree = one_tree (present all) c.root_at tree m.tree (there.0, more_part (present pre) (present all) (front_there pre ((at, Record.Commit c) ∷ rest) is) there.1) spells.tree in
       record {
         spelled = c;
-        here = subst (λ (rs : Records). present rs at ≡ Some (Record.Commit c)) is (record_there 0 at pre rest (Record.Commit c) lies);
+        here = has_present all (at, Record.Commit c) rise (subst (λ (rs : Records). Has rs (at, Record.Commit c)) is (has_right pre ((at, Record.Commit c) ∷ rest) (at, Record.Commit c) (inl refl)));
         spells = record {
           number = good.fits.number;
           name = spells.name;
@@ -181,37 +136,28 @@ module _ (s : Slot) (all : Records) where
       let cs = ap length (filter_map-append commit_of pre ((at, Record.Commit c) ∷ [])) ∙ length-append (commits_in pre) (c ∷ []) in
       subst (λ (n : ℕ). CommitsFrom n xs ms) (let e : s.floor + length (commits_in (pre ++ (at, Record.Commit c) ∷ [])) ≡ suc (s.floor + length (commits_in pre)) = omega (arith, cs) in e) are
 
-  -- behind one record more
-  lies_on : (pre : Records) (from at : ℕ) (x : Record) → at ≡ from → AreEndToEnd 0 pre from → AreEndToEnd 0 (pre ++ (at, x) ∷ []) (from + length (spelling x))
-  lies_on pre from at x same before = subst (λ (n : ℕ). AreEndToEnd 0 (pre ++ (n, x) ∷ []) (from + length (spelling x))) (sym same) (one_more_lies 0 from pre x before)
-
-  pub commits_from : (pre xs : Records) (from end : ℕ) (ms : List Commit) → pre ++ xs ≡ all → AreEndToEnd 0 pre from → AreGood s pre xs → AreEndToEnd from xs end → AllZip (Spells all) (commits_in xs) ms
-      → CommitsFrom (s.floor + length (commits_in pre)) xs ms
-  commits_from pre [] from end [] is before good lies zip = tt
-  commits_from pre [] from end (m ∷ ms) is before good lies zip = absurd zip
-  commits_from pre ((at, Record.Commit c) ∷ xs) from end [] is before good lies zip = absurd zip
-  commits_from pre ((at, Record.Commit c) ∷ xs) from end (m ∷ ms) is before good lies zip = (
-    one_commit pre xs at c m is (subst (λ (n : ℕ). AreEndToEnd 0 pre n) (sym lies.0) before) good.0 zip.0,
-    one_more pre xs at c ms (commits_from (pre ++ (at, Record.Commit c) ∷ []) xs (from + length (spelling (Record.Commit c))) end ms (append_assoc pre ((at, Record.Commit c) ∷ []) xs ∙ is)
-        (lies_on pre from at (Record.Commit c) lies.0 before) good.1 lies.1 zip.1),
+  pub commits_from : (pre xs : Records) (ms : List Commit) → pre ++ xs ≡ all → AreGood s pre xs → AllZip (Spells all) (commits_in xs) ms → CommitsFrom (s.floor + length (commits_in pre)) xs ms
+  commits_from pre [] [] is good zip = tt
+  commits_from pre [] (m ∷ ms) is good zip = absurd zip
+  commits_from pre ((at, Record.Commit c) ∷ xs) [] is good zip = absurd zip
+  commits_from pre ((at, Record.Commit c) ∷ xs) (m ∷ ms) is good zip = (
+    one_commit pre xs at c m is good.0 zip.0,
+    one_more pre xs at c ms (commits_from (pre ++ (at, Record.Commit c) ∷ []) xs ms (append_assoc pre ((at, Record.Commit c) ∷ []) xs ∙ is) good.1 zip.1),
   )
-  commits_from pre ((at, Record.Contents bytes) ∷ xs) from end ms is before good lies zip =
-      no_more pre xs (at, Record.Contents bytes) ms refl (commits_from (pre ++ (at, Record.Contents bytes) ∷ []) xs (from + length (spelling (Record.Contents bytes))) end ms (append_assoc pre ((at, Record.Contents bytes) ∷ []) xs ∙ is)
-      (lies_on pre from at (Record.Contents bytes) lies.0 before) good.1 lies.1 zip)
-  commits_from pre ((at, Record.Leaf es) ∷ xs) from end ms is before good lies zip =
-      no_more pre xs (at, Record.Leaf es) ms refl (commits_from (pre ++ (at, Record.Leaf es) ∷ []) xs (from + length (spelling (Record.Leaf es))) end ms (append_assoc pre ((at, Record.Leaf es) ∷ []) xs ∙ is)
-      (lies_on pre from at (Record.Leaf es) lies.0 before) good.1 lies.1 zip)
-  commits_from pre ((at, Record.BranchSet n name) ∷ xs) from end ms is before good lies zip =
-      no_more pre xs (at, Record.BranchSet n name) ms refl (commits_from (pre ++ (at, Record.BranchSet n name) ∷ []) xs (from + length (spelling (Record.BranchSet n name))) end ms (append_assoc pre ((at, Record.BranchSet n name) ∷ []) xs ∙ is)
-      (lies_on pre from at (Record.BranchSet n name) lies.0 before) good.1 lies.1 zip)
-  commits_from pre ((at, Record.BranchRemove name) ∷ xs) from end ms is before good lies zip =
-      no_more pre xs (at, Record.BranchRemove name) ms refl (commits_from (pre ++ (at, Record.BranchRemove name) ∷ []) xs (from + length (spelling (Record.BranchRemove name))) end ms (append_assoc pre ((at, Record.BranchRemove name) ∷ []) xs ∙ is)
-      (lies_on pre from at (Record.BranchRemove name) lies.0 before) good.1 lies.1 zip)
-  commits_from pre ((at, Record.Inode depth cs) ∷ xs) from end ms is before good lies zip = absurd good.0.served
-  commits_from pre ((at, Record.BranchTable rows) ∷ xs) from end ms is before good lies zip = absurd good.0.served
-  commits_from pre ((at, Record.TagSet n name) ∷ xs) from end ms is before good lies zip = absurd good.0.served
-  commits_from pre ((at, Record.TagRemove name) ∷ xs) from end ms is before good lies zip = absurd good.0.served
-  commits_from pre ((at, Record.TagTable rows) ∷ xs) from end ms is before good lies zip = absurd good.0.served
+  commits_from pre ((at, Record.Contents bytes) ∷ xs) ms is good zip =
+      no_more pre xs (at, Record.Contents bytes) ms refl (commits_from (pre ++ (at, Record.Contents bytes) ∷ []) xs ms (append_assoc pre ((at, Record.Contents bytes) ∷ []) xs ∙ is) good.1 zip)
+  commits_from pre ((at, Record.Leaf es) ∷ xs) ms is good zip =
+      no_more pre xs (at, Record.Leaf es) ms refl (commits_from (pre ++ (at, Record.Leaf es) ∷ []) xs ms (append_assoc pre ((at, Record.Leaf es) ∷ []) xs ∙ is) good.1 zip)
+  commits_from pre ((at, Record.BranchSet n name) ∷ xs) ms is good zip =
+      no_more pre xs (at, Record.BranchSet n name) ms refl (commits_from (pre ++ (at, Record.BranchSet n name) ∷ []) xs ms (append_assoc pre ((at, Record.BranchSet n name) ∷ []) xs ∙ is) good.1 zip)
+  commits_from pre ((at, Record.BranchRemove name) ∷ xs) ms is good zip =
+      no_more pre xs (at, Record.BranchRemove name) ms refl (commits_from (pre ++ (at, Record.BranchRemove name) ∷ []) xs ms (append_assoc pre ((at, Record.BranchRemove name) ∷ []) xs ∙ is) good.1 zip)
+  commits_from pre ((at, Record.BranchTable rows) ∷ xs) ms is good zip =
+      no_more pre xs (at, Record.BranchTable rows) ms refl (commits_from (pre ++ (at, Record.BranchTable rows) ∷ []) xs ms (append_assoc pre ((at, Record.BranchTable rows) ∷ []) xs ∙ is) good.1 zip)
+  commits_from pre ((at, Record.Inode depth cs) ∷ xs) ms is good zip = absurd good.0.served
+  commits_from pre ((at, Record.TagSet n name) ∷ xs) ms is good zip = absurd good.0.served
+  commits_from pre ((at, Record.TagRemove name) ∷ xs) ms is good zip = absurd good.0.served
+  commits_from pre ((at, Record.TagTable rows) ∷ xs) ms is good zip = absurd good.0.served
 
 pub nth_commit : (records : ℕ → Option Record) (number : ℕ) (places : List ℕ) (ms : List Commit) → AreCommitsAt records number places ms → (k place : ℕ) (m : Commit) → slice_get places k ≡ Some place → slice_get ms k ≡ Some m → IsCommitAt records (number + k) place m
 nth_commit records number [] [] are k place m p q = absurd (cc (p))
@@ -226,13 +172,100 @@ nth_commit records number (at ∷ places) (x ∷ ms) are (suc k) place m p q =
     let next : suc number + k ≡ number + suc k = omega arith in
     subst (λ (n : ℕ). IsCommitAt records n place m) next (nth_commit records (suc number) places ms are.1 k place m p q)
 
+-- ---- an image that goes on
+
+-- what lies end to end up to one place is the front of what does so up to a later one
+front_of : (v : ℕ) (f : ℕ → Option ℕ) (from middle to : ℕ) (xs ys : Records) → AllByRecursion (λ (x : ℕ × Record). Fits v x.1) xs → AllByRecursion (λ (x : ℕ × Record). Fits v x.1) ys → EndToEnd f from xs middle → EndToEnd f from ys to → middle ≤ to
+    → (rest : Records) × (ys ≡ xs ++ rest)
+front_of v f from middle to [] ys a b p q le = (ys, refl)
+front_of v f from middle to (x ∷ xs) [] a b p q le = let g = goes_on v f (from + length (spelling x.1)) middle xs p.2 in let some = some_bytes v f x.1 in absurd (omega (arith, q, g, some, le))
+front_of v f from middle to (x ∷ xs) (y ∷ ys) a b p q le =
+    let one : y.1 ≡ x.1 = same_record v f from y.1 x.1 b.0 a.0 q.1 p.1 in
+    let at : y.0 ≡ x.0 = q.0 ∙ sym p.0 in
+    let rest = front_of v f (from + length (spelling x.1)) middle to xs ys a.1 b.1 p.2 (subst (λ (z : Record). EndToEnd f (from + length (spelling z)) ys to) one q.2) le in
+    (rest.0, λ i. (at i, one i) ∷ rest.1 i)
+
+-- one list of rows stands in two images with the same mapping
+one_rows : (image other : Image) (l m : Layout) → m.live ≡ l.live → m.horizon ≡ l.horizon → m.rows ≡ l.rows → (l.live ≢ 0 → other (Mapping l.live) ≡ image (Mapping l.live)) → (xs ys : List Row) → Generation image l xs → Generation other m ys → ys ≡ xs
+one_rows image other l m live horizon count kept xs ys first second = by (zero_or_not l.live)
+  where
+    by : (l.live ≡ 0) ⊎ (l.live ≢ 0) → ys ≡ xs
+    by (inl none) = second.none (live ∙ none) ∙ sym (first.none none)
+    by (inr some) =
+        let M = first.file some in
+        let N = second.file (λ none. some (sym live ∙ none)) in
+        let file : other (Mapping l.live) ≡ Some (mapping_file l.horizon N.end ys) =
+        subst (λ (h : ℕ). other (Mapping l.live) ≡ Some (mapping_file h N.end ys)) horizon (subst (λ (n : ℕ). other (Mapping n) ≡ Some (mapping_file m.horizon N.end ys)) live N.file) in
+        same_files l.horizon N.end M.end ys xs N.numbers M.numbers (N.count ∙ count ∙ sym M.count) (same_some (mapping_file l.horizon N.end ys) (mapping_file l.horizon M.end xs) (sym file ∙ kept some ∙ M.file))
+
+module _ (image other : Image) (s t : Slot) (has : HasLive s image) (has' : HasLive t other) (same : SameGeneration s t) (A : Standing image) (B : Standing other) where
+  -- the rows of an image that goes on are those of the other, in whatever way both stand
+  pub same_rows : (s.live ≢ 0 → other (Mapping s.live) ≡ image (Mapping s.live)) → B.rows ≡ A.rows
+  same_rows kept = one_rows image other (layout_of s) (layout_of t) same.live same.horizon same.rows kept A.rows B.rows
+      (subst (λ (u : Slot). Generation image (layout_of u) A.rows) (same_slot image s has A) A.generation)
+      (subst (λ (u : Slot). Generation other (layout_of u) B.rows) (same_slot other t has' B) B.generation)
+
+  -- where the bytes of the records are the same, its records are those of the other and more behind them, whatever these are
+  pub more_records : s.end ≤ t.end → SameSpace s image other → (more : Records) × (B.records ≡ A.records ++ more)
+  unfolding virtual_byte spelling_of
+  more_records longer space = (rest.0, high.is ∙ (λ i. kept i ++ rest.1 i) ∙ sym (append_assoc low.kept low.later rest.0) ∙ ap (λ (rs : Records). rs ++ rest.0) (sym low.is ∙ append-nil A.records))
+    where
+      -- the other's slot, which ends where the first does
+      u : Slot
+      u = record t { end = s.end }
+
+      low : LiesIn (layout_of u) other (A.records ++ [])
+      low = lies_on s u image other has.live.fields.none_live.0 (record { version = same.version; chunk = same.chunk; horizon = same.horizon; floor = same.floor; live = same.live; prefix_len = same.prefix_len; rows = same.rows })
+          A.records [] (chunk_lies image s has A) refl (record { same = space; added = λ k below. absurd (omega (arith, below)) })
+
+      high : LiesIn (layout_of t) other B.records
+      high = chunk_lies other t has' B
+
+      low_fit : AreNewest (low.kept ++ low.later)
+      low_fit = subst AreNewest (sym (append-nil A.records) ∙ low.is) (good_newest s has.live.fields A.records (chunk_good image s has A))
+
+      high_fit : AreNewest (high.kept ++ high.later)
+      high_fit = subst AreNewest high.is (good_newest t has'.live.fields B.records (chunk_good other t has' B))
+
+      rows : high.rows ≡ low.rows
+      rows = one_rows other other (layout_of u) (layout_of t) refl refl refl (λ live. refl) low.rows high.rows low.generation high.generation
+
+      below : ℕ → Option ℕ
+      below = virtual_byte other (layout_of t) (map run_of low.rows)
+
+      kept : high.kept ≡ low.kept
+      kept = same_runs newest_version below (map run_of low.rows) high.kept low.kept (fit_front newest_version below high.kept high.later high_fit) (fit_front newest_version below low.kept low.later low_fit)
+          (subst (λ (rs : List Row). RunByRun (virtual_byte other (layout_of t) (map run_of rs)) (map run_of rs) high.kept) rows high.runs) low.runs
+
+      rest : (rest : Records) × (high.later ≡ low.later ++ rest)
+      rest = front_of newest_version (chunk_byte t.chunk other) t.horizon s.end t.end low.later high.later
+          (fit_back newest_version (chunk_byte t.chunk other) low.kept low.later low_fit) (fit_back newest_version (chunk_byte t.chunk other) high.kept high.later high_fit) low.lies high.lies longer
+
+-- While no file changes but those of children, none of which has a slot's pair, the bytes of the slot's records read as before,
+pub space_stays : (s : Slot) (a b : Told) → ((file : FileName) → ¬ IsForeign a file → b.held file ≡ a.held file) → OwnsPair a s → SameSpace s a.held b.held
+unfolding chunk_byte
+space_stays s a b held owns = record {
+  chunks = λ at low high. ap (λ (c : Content). byte_of c (place_in_chunk s.chunk at)) (held (Chunk (chunk_of s.chunk at)) (λ foreign. foreign));
+  mapping = λ live. held (Mapping s.live) (owns live).mapping;
+  prefix = λ live. held (Prefix s.live) (owns live).prefix;
+}
+
+-- and the pair is no child's.
+pub pair_stays : (s : Slot) (a b : Told) → ((file : FileName) → ¬ IsForeign a file → ¬ IsForeign b file) → OwnsPair a s → OwnsPair b s
+pair_stays s a b own owns live = record { mapping = own (Mapping s.live) (owns live).mapping; prefix = own (Prefix s.live) (owns live).prefix }
+
 -- ---- what a store holds
 
-pub readable_of : (store : Store) (r : Repository) (told : Told) → IsOf store r → IsReadable told store.space
-readable_of store r told of = record {
-  own = λ live. absurd (live (ap (λ (l : Layout). l.live) of.space.layout ∙ of.slot.served));
-  none = λ _. of.space.runs of.slot.served;
-}
+pub readable_by : (store : Store) (r : Repository) (told : Told) → IsOf store r → OwnsPair told store.slot → IsReadable told store.space
+readable_by store r told of owns =
+    let live : store.space.layout.live ≡ store.slot.live = ap (λ (l : Layout). l.live) of.space.layout in
+    record {
+      own = λ some. subst (λ (n : ℕ). ¬ IsForeign told (Prefix n)) (sym live) (owns (λ none. some (live ∙ none))).prefix;
+      none = λ none. of.space.runs (sym live ∙ none);
+    }
+
+pub readable_of : (store : Store) (r : Repository) (told : Told) → Holds store told r → IsReadable told store.space
+readable_of store r told holds = readable_by store r told holds.tables holds.pair
 
 module _ (store : Store) (told : Told) (r : Repository) (holds : Holds store told r) where
   abbrev A : Standing told.held
@@ -249,22 +282,17 @@ module _ (store : Store) (told : Told) (r : Repository) (holds : Holds store tol
   slot_here : A.slot ≡ store.slot
   slot_here = same_slot told.held store.slot has A
 
-  stored_here : (at : ℕ) (x : Record) → present A.records at ≡ Some x → stored told.held (layout_of store.slot) [] at ≡ Some x
-  stored_here at x is =
-      subst (λ (rs : List Run). stored told.held (layout_of store.slot) rs at ≡ Some x) (ap (map run_of) (A.generation.none A.live.fields.served))
-      (subst (λ (t : Slot). stored told.held (layout_of t) (map run_of A.rows) at ≡ Some x) slot_here (standing_stored told.held A at x is))
-
   -- ---- the records of the image
 
   -- each is one of the store's space
   pub records_held : (at : ℕ) (x : Record) → image_records holds at ≡ Some x → records_of told store.space at ≡ Some x
   records_held at x is =
-      let of = holds.tables in
-      subst (λ (l : Layout). stored told.held l store.space.runs at ≡ Some x) (sym of.space.layout)
-      (subst (λ (rs : List Run). stored told.held (layout_of store.slot) rs at ≡ Some x) (sym (of.space.runs of.slot.served)) (stored_here at x is))
+      subst (λ (l : Layout). stored told.held l store.space.runs at ≡ Some x) (sym holds.tables.space.layout)
+      (subst (λ (rs : List Run). stored told.held (layout_of store.slot) rs at ≡ Some x) (sym holds.runs)
+      (subst (λ (t : Slot). stored told.held (layout_of t) (map run_of A.rows) at ≡ Some x) slot_here (standing_stored told.held A at x is)))
 
   pub over : IsOver told store.space (image_records holds)
-  over = record { readable = holds.readable; held = records_held }
+  over = record { readable = readable_of store r told holds; held = records_held }
 
   pub good_here : AreGood store.slot [] A.records
   good_here = subst (λ (t : Slot). AreGood t [] A.records) slot_here A.good
@@ -278,17 +306,19 @@ module _ (store : Store) (told : Told) (r : Repository) (holds : Holds store tol
   pub leaves_only : HasLeavesOnly (image_records holds)
   leaves_only = only_leaves told.held A
 
+  records_ordered : Ordered 0 A.records store.slot.end
+  records_ordered = lies_ordered told.held (layout_of store.slot) has.live.fields.horizon A.records (chunk_lies told.held store.slot has A)
+
   -- and lies below the end
   pub records_below : (at : ℕ) (x : Record) → image_records holds at ≡ Some x → at < store.slot.end
-  records_below at x is = found_below 0 A.records store.slot.end at x (ends_apart (byte_of (told.held (Chunk 0))) 0 A.records store.slot.end (list_lies told.held store.slot has A)) is
+  records_below at x is = ordered_below 0 A.records store.slot.end at x records_ordered is
 
   pub commits_there : AreCommitsAt (image_records holds) r.floor store.places.items r.commits
   commits_there =
       let of = holds.tables in
       subst (λ (ps : List ℕ). AreCommitsAt (present A.records) r.floor ps r.commits) (sym holds.places)
       (subst (λ (n : ℕ). AreCommitsAt (present A.records) n (places_in A.records) r.commits) (let f = of.floor in omega (arith, f))
-      (commits_from store.slot A.records [] A.records 0 store.slot.end r.commits refl refl good_here
-      (ends_apart (byte_of (told.held (Chunk 0))) 0 A.records store.slot.end (list_lies told.held store.slot has A)) holds.stands.commits))
+      (commits_from store.slot A.records (ordered_rises 0 A.records store.slot.end records_ordered) [] A.records r.commits refl good_here holds.stands.commits))
 
   -- while all bytes of the records and the live slot are as before
   module _ (new : Told) (control : new.held Control ≡ told.held Control) (same : SameSpace store.slot told.held new.held) where
@@ -302,15 +332,16 @@ module _ (store : Store) (told : Told) (r : Repository) (holds : Holds store tol
         records_go_on told.held new.held store.slot store.slot [] A B has has_new (same_generation_itself store.slot) refl (λ k d low. absurd (omega (arith, low)))
         (record { same = same; added = λ k low. absurd (omega (arith, low)) }) ∙ append-nil A.records
 
-    pub holds_on : IsKept new Control → Holds store new r
-    holds_on kept =
+    pub holds_on : IsKept new Control → OwnsPair new store.slot → Holds store new r
+    holds_on kept owns =
         let stands : StandsFor new.held r = stands_still told.held new.held r store.slot store.slot holds.stands has has_new (same_generation_itself store.slot) refl refl same in
         record {
           tables = holds.tables;
           stands = stands;
           live = subst (λ (content : Content). IsLive (bytes_of content) store.index store.slot) (sym control) holds.live;
           kept = kept;
-          readable = readable_of store r new holds.tables;
+          pair = owns;
+          runs = holds.runs ∙ ap (map run_of) (sym (same_rows told.held new.held store.slot store.slot has has_new (same_generation_itself store.slot) A stands.standing same.mapping));
           places = holds.places ∙ ap places_in (sym (same_list stands.standing));
         }
 

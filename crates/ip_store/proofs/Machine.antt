@@ -1,6 +1,6 @@
--- What the machine answers to a commit, by its refusals in their order, where nothing is given up.
+-- What the machine answers to a commit, by its refusals in their order, where nothing that the work rests on is given up.
 --     chain      the refusals.      answered, refused      the turn where one of them refuses, and where none does
-use Rattle.std.proofs.Common.{◌≡◌, ℕ, false, length, Option, Some, None, refl, sym, ◌∙◌, ap, subst, arith}
+use Rattle.std.proofs.Common.{◌≡◌, ℕ, ◌≤◌, false, length, Option, Some, None, refl, sym, ◌∙◌, ap, subst, arith}
 use Rattle.std.specs.Prelude.{Result, Ok, Err, nat_lt, if◌then◌else◌, IfSome, IfErr}
 use Rattle.std.proofs.lemmas.Bool.Decides.{nat_tests}
 use Rattle.ip_base.specs.declared.info.Info.{Info}
@@ -24,10 +24,10 @@ use Rattle.ip_store.specs.Work.{session}
 pub if_err_is : {T : Type 0} (result : Result T StoreFault) (fault : StoreFault) (P : StoreFault → Type 0) → result ≡ Err fault → P fault → IfErr result P
 if_err_is result fault P is p = subst (λ x. IfErr x P) (sym is) p
 
-no_less : (n : ℕ) → nat_lt n 0 ≡ false
-no_less n = grind (arith, nat_tests)
+no_less : (floor n : ℕ) → floor ≤ n → nat_lt n floor ≡ false
+no_less floor n low = grind (arith, nat_tests)
 
-module _ (r : Repository) (work : Work) (v : View) (branch : Bytes) (info : Info) (none_below : r.floor ≡ 0) where
+module _ (r : Repository) (work : Work) (v : View) (branch : Bytes) (info : Info) (retained : IfSome work.least (λ n. r.floor ≤ n)) where
   abbrev s : State
   s = session r work v
 
@@ -37,12 +37,12 @@ module _ (r : Repository) (work : Work) (v : View) (branch : Bytes) (info : Info
   abbrev done : Turned
   done = committed r work v branch info
 
-  below_none : (least : Option ℕ) → below r.floor least ≡ None
-  below_none None = refl
-  below_none (Some n) = ap (λ (f : ℕ). if nat_lt n f then Some n else None) none_below ∙ ap (λ b. if b then Some n else None) (no_less n)
+  below_none : (least : Option ℕ) → IfSome least (λ n. r.floor ≤ n) → below r.floor least ≡ None
+  below_none None low = refl
+  below_none (Some n) low = ap (λ b. if b then Some n else None) (no_less r.floor n low)
 
   not_given : not_given_up s ≡ Ok tt
-  not_given = ap (λ o. unless_some o Reply.GivenUp) (below_none work.least)
+  not_given = ap (λ o. unless_some o Reply.GivenUp) (below_none work.least retained)
 
   abbrev chain : Met → Refused Turned
   chain met = head_among_parents s branch >> (room_for_branch r branch >> (not_existing r commit.name >> (enough (conditions_of met) Limit.Space >> (enough (conditions_of met) Limit.Sequence >> Ok done))))

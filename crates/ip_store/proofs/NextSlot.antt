@@ -31,7 +31,6 @@ next_is s length commits is small low few = record {
   first_chunk = is.first_chunk;
   none_live = is.none_live;
   nothing_below = is.nothing_below;
-  served = is.served;
 }
 
 pub next_generation : (s : Slot) (length commits : ℕ) → SameGeneration s (next_slot s length commits)

@@ -1,42 +1,43 @@
--- What an image is, where no generation of a collection is live, by its live slot and by what its chunk holds.
+-- What an image is, by its live slot, its live pair and what fills the stretches of its space.
 --     has_live      the control file is there.      no_store, form_damaged      where no slot is live, or one has no form
---     lies_in_chunk      the records of its space lie in its chunk
---     bad_damaged, misfit_damaged      where a record is no good one, or all together don't fit the slot
---     no_tags, whole_from, whole_parts      the parts of what records must hold together
---     names_spelled, repository_of, stands_for      the repository of records, and that the image stands for it
-use Rattle.std.proofs.Common.{◌≡◌, inl, ℕ, ◌+◌, ◌*◌, List, [], ◌∷◌, ◌++◌, map, length, refl, sym, ◌∙◌, ap, subst, arith, append-nil}
-use Rattle.std.proofs.lemmas.Bool.Decides.{nat_tests}
+--     generation_stays      the live pair is what it was.      pair_damaged      where it is bad
+--     bad_damaged, misfit_damaged      where a record is no good one, or all together don't fit the slot.      standing_of      where they do
+--     no_tags, whole_from      the parts of what records must hold together
+--     repository_of      the repository of records, and what it has
+use Rattle.std.proofs.Common.{◌≡◌, ◌≢◌, ℕ, ◌+◌, ◌*◌, List, [], ◌∷◌, ◌++◌, map, length, refl, sym, ◌∙◌, ap, subst, arith}
 use Rattle.std.proofs.lemmas.List.{length-map}
-use Rattle.std.specs.Prelude.{Option, Some, None, true, nat_le, if◌then◌else◌, fold, filter_map, IfSome}
-use Rattle.std.specs.Option.{option_and_then}
+use Rattle.std.specs.Prelude.{Option, Some, None, fold, filter_map, IfSome, IsSomeAnd}
 use Rattle.std.specs.List.{AllZip, cons_option}
 use Rattle.ip_ground.specs.declared.names.FileName.{FileName}
-use Rattle.ip_ground.specs.declared.names.FileName.TheVariants.{Control, Chunk, Prefix}
+use Rattle.ip_ground.specs.declared.names.FileName.TheVariants.{Control, Prefix}
 use Rattle.ip_ground.specs.Contents.{Content, Image, bytes_of}
-use Rattle.ip_ground.specs.Told.{Told}
+use Rattle.ip_ground.specs.Told.{Told, NoFile, ChangesOnly}
 use Rattle.ip_spec.specs.declared.record.Record.{Record}
 use Rattle.ip_spec.specs.declared.record.CommitRecord.{CommitRecord}
 use Rattle.ip_spec.specs.declared.record.Parent.{Parent}
-use Rattle.ip_spec.specs.Record.{Names}
+use Rattle.ip_spec.specs.Record.{Names, spelling}
 use Rattle.ip_spec.specs.Map.{Map, empty}
 use Rattle.ip_spec.specs.Path.{Bytes, bytes_cmp}
 use Rattle.ip_spec.specs.TreeAt.{Records}
 use Rattle.ip_spec.specs.Repository.{Repository, Commit, CommitParent}
 use Rattle.ip_image.specs.declared.slot.Slot.{Slot}
-use Rattle.ip_image.specs.declared.layout.Layout.{Layout}
 use Rattle.ip_image.specs.declared.run.Run.{Run}
-use Rattle.ip_image.specs.Slot.{IsSlot, IsLive, live_index, layout_of}
-use Rattle.ip_image.specs.Virtual.{locate, byte_of, virtual_byte, lies_at}
-use Rattle.ip_image.specs.Standing.{EndToEnd, RunByRun, FillTo, IsServedKind, AreGood, Generation, stretches, named, names_after, commits_in, AreRetained, WholeFits, Spells, StandsFor, parent_of, NoStore, DamagedAt, no_form, no_record, no_whole}
+use Rattle.ip_image.specs.Slot.{IsLive, live_index, layout_of}
+use Rattle.ip_image.specs.declared.run.Row.{Row}
+use Rattle.ip_image.specs.Virtual.{run_of, virtual_byte, lies_at, Stands}
+use Rattle.ip_image.specs.Standing.{RunByRun, FillTo, IsServedKind, AreGood, Generation, stretches, named, names_after, commits_in, AreRetained, WholeFits, Spells, Standing, parent_of, NoStore, DamagedAt, no_form, no_record, no_whole}
 use Rattle.ip_image.specs.Pending.{HasLive}
-use Rattle.ip_image.proofs.InChunk.{stands_by}
 use Rattle.ip_image.proofs.SpelledCommits.{commits_spelled}
 use Rattle.ip_audit.specs.Audits.{commit_name}
 use Rattle.ip_history.specs.History.{history_of}
-use Rattle.ip_space.specs.SpaceView.{SpaceView, byte_at}
+use Rattle.ip_space.specs.Pair.{IsBadPair}
+use Rattle.ip_space.specs.SpaceView.{SpaceView, byte_at, stretches_of}
+use Rattle.ip_space.proofs.LivePair.{held_later, mapping_later}
+use Rattle.ip_space.proofs.Stretches.{damaged_by}
 use Rattle.ip_store.specs.Control.{control_in}
 use Rattle.ip_store.specs.Placed.{IsSpaceOf}
 use Rattle.ip_store.specs.Histories.{numbers_in, history_in}
+use Rattle.ip_store.specs.Store.{OwnsPair}
 use Rattle.ip_store.specs.Walk.{BadRecord}
 
 -- ---- the control file
@@ -67,80 +68,63 @@ form_damaged image index live none =
     let is = there index (λ control. (live_index control ≡ Some index) × ((s : Slot) → ¬ IsLive control index s)) (image Control) live (live, none) in
     no_form is.0 index is.1 is.2.0 is.2.1
 
--- ---- the chunk, while no generation is live
+-- ---- the live generation
 
-above_zero : (n at : ℕ) → n ≡ 0 → nat_le n at ≡ true
-above_zero n at none = grind (arith, nat_tests)
+-- over calls that change no file, where no child has its pair
+pub generation_stays : (s : Slot) (a b : Told) → ChangesOnly NoFile a b → OwnsPair a s → (rows : List Row) → Generation a.held (layout_of s) rows → Generation b.held (layout_of s) rows
+generation_stays s a b only owns rows is = record {
+  file = λ live. mapping_later a b only (layout_of s) (owns live).mapping rows (is.file live);
+  fits = is.fits;
+  sum = is.sum;
+  prefix = λ live. subst (λ (content : Content). IsSomeAnd content (λ bytes. length bytes ≡ s.prefix_len)) (sym (held_later a b only (layout_of s) (Prefix s.live) (owns live).prefix)) (is.prefix live);
+  none = is.none;
+}
 
-module _ (image : Image) (s : Slot) (none : s.horizon ≡ 0) where
-  pub chunk_bytes : virtual_byte image (layout_of s) [] ≡ byte_of (image (Chunk 0))
-  unfolding virtual_byte
-  chunk_bytes = λ i at. is at i
-    where
-      is : (at : ℕ) → virtual_byte image (layout_of s) [] at ≡ byte_of (image (Chunk 0)) at
-      is at = ap (λ b. if b then byte_of (image (Chunk 0)) at else option_and_then (λ place. byte_of (image (Prefix s.live)) place) (locate [] at)) (above_zero s.horizon at none)
-
-  -- from the horizon on all lies in the chunk
-  to_chunk : (records : Records) → EndToEnd (virtual_byte image (layout_of s) []) s.horizon records s.end → EndToEnd (byte_of (image (Chunk 0))) 0 records s.end
-  to_chunk records lies =
-      subst (λ (n : ℕ). EndToEnd (byte_of (image (Chunk 0))) n records s.end) none
-      (subst (λ (f : ℕ → Option ℕ). EndToEnd f s.horizon records s.end) chunk_bytes lies)
-
-module _ (told : Told) (index : ℕ) (s : Slot) (live : IsLive (control_in told.held) index s) (space : SpaceView) (of : IsSpaceOf s space) where
-  is_slot : IsSlot s
-  is_slot = live.fields
-
-  no_horizon : s.horizon ≡ 0
-  no_horizon = is_slot.none_live.0 is_slot.served
-
-  no_runs : space.runs ≡ []
-  no_runs = of.runs is_slot.served
-
-  bytes_are : byte_at told space ≡ virtual_byte told.held (layout_of s) []
-  bytes_are = ap (λ (l : Layout). virtual_byte told.held l space.runs) of.layout ∙ ap (λ (rs : List Run). virtual_byte told.held (layout_of s) rs) no_runs
-
-  lies_virtual : (records : Records) (to : ℕ) → EndToEnd (byte_at told space) s.horizon records to → EndToEnd (virtual_byte told.held (layout_of s) []) s.horizon records to
-  lies_virtual records to lies = subst (λ (f : ℕ → Option ℕ). EndToEnd f s.horizon records to) bytes_are lies
-
-  pub lies_in_chunk : (records : Records) → EndToEnd (byte_at told space) s.horizon records s.end → EndToEnd (byte_of (told.held (Chunk 0))) 0 records s.end
-  lies_in_chunk records lies = to_chunk told.held s no_horizon records (lies_virtual records s.end lies)
-
-  no_generation : Generation told.held (layout_of s) []
-  no_generation = record {
-    file = λ some. absurd (some is_slot.served);
-    fits = tt;
-    sum = sym (is_slot.nothing_below is_slot.served).1;
-    prefix = λ some. absurd (some is_slot.served);
-    none = λ none. refl;
-  }
-
+module _ (told : Told) (index : ℕ) (s : Slot) (live : IsLive (control_in told.held) index s) where
   abbrev there_is : HasLive s told.held
   there_is = has_live told.held index s live
 
-  pub bad_damaged : (file : FileName) (place : ℕ) → BadRecord s told space file place → DamagedAt told.held file place
+  pub pair_damaged : s.live ≢ 0 → (file : FileName) (at : ℕ) → IsBadPair told.held (layout_of s) file at → DamagedAt told.held file at
   unfolding has_live
-  bad_damaged file place bad =
-      let inside = bad.inside in
-      let h = no_horizon in
-      let fill : FillTo (virtual_byte told.held (layout_of s) []) (stretches (layout_of s) []) bad.before bad.at s.end =
-      inl (lies_virtual bad.before bad.at bad.lies, omega (arith, h, inside), omega (arith, h)) in
-      no_record there_is.control index s [] bad.before bad.at s.end place file there_is.held there_is.live no_generation bad.good fill
-      (λ r below stands. bad.none r below (λ k within. ap (λ (f : ℕ → Option ℕ). f (bad.at + k)) bytes_are ∙ stands k within))
-      (ap (λ (rs : List Run). lies_at (layout_of s) rs bad.at) (sym no_runs) ∙ ap (λ (l : Layout). lies_at l space.runs bad.at) (sym of.layout) ∙ bad.here)
+  pair_damaged some file at bad = damaged_by told.held there_is.control index s file at there_is.held there_is.live some bad
 
-  module _ (records : Records) (good : AreGood s [] records) (lies : EndToEnd (byte_at told space) s.horizon records s.end) where
-    one_stretch : RunByRun (virtual_byte told.held (layout_of s) []) (stretches (layout_of s) []) records
-    one_stretch = (
-      records,
-      [],
-      sym (append-nil records),
-      subst (EndToEnd (virtual_byte told.held (layout_of s) []) s.horizon records) (let h = no_horizon in omega (arith, h)) (lies_virtual records s.end lies),
-      refl,
-    )
+  module _ (rows : List Row) (generation : Generation told.held (layout_of s) rows) (space : SpaceView) (of : IsSpaceOf s space) (runs : space.runs ≡ map run_of rows) where
+    bytes_are : byte_at told space ≡ virtual_byte told.held (layout_of s) (map run_of rows)
+    bytes_are = λ i. virtual_byte told.held (of.layout i) (runs i)
 
-    pub misfit_damaged : ¬ WholeFits s records → DamagedAt told.held Control (128 * index)
+    stretches_are : stretches_of space ≡ stretches (layout_of s) rows
+    stretches_are = λ i. stretches_of (record { layout = of.layout i; runs = runs i })
+
+    pub bad_damaged : (file : FileName) (place : ℕ) → BadRecord s told space file place → DamagedAt told.held file place
     unfolding has_live
-    misfit_damaged none = no_whole there_is.control index s [] records there_is.held there_is.live no_generation good one_stretch none
+    bad_damaged file place bad =
+        no_record there_is.control index s rows bad.before bad.at bad.to place file there_is.held there_is.live generation bad.good
+        (subst (λ (f : ℕ → Option ℕ). FillTo f (stretches (layout_of s) rows) bad.before bad.at bad.to) bytes_are (subst (λ (rs : List Run). FillTo (byte_at told space) rs bad.before bad.at bad.to) stretches_are bad.fill))
+        (λ r inside stands. bad.none r inside (subst (λ (f : ℕ → Option ℕ). Stands f bad.at (spelling r)) (sym bytes_are) stands))
+        ((λ i. lies_at (sym of.layout i) (sym runs i) bad.at) ∙ bad.here)
+
+    module _ (records : Records) (good : AreGood s [] records) (fill : RunByRun (byte_at told space) (stretches_of space) records) where
+      pub all_filled : RunByRun (virtual_byte told.held (layout_of s) (map run_of rows)) (stretches (layout_of s) rows) records
+      all_filled = subst (λ (f : ℕ → Option ℕ). RunByRun f (stretches (layout_of s) rows) records) bytes_are (subst (λ (rs : List Run). RunByRun (byte_at told space) rs records) stretches_are fill)
+
+      pub misfit_damaged : ¬ WholeFits s records → DamagedAt told.held Control (128 * index)
+      unfolding has_live
+      misfit_damaged none = no_whole there_is.control index s rows records there_is.held there_is.live generation good all_filled none
+
+      abbrev pub standing_of : WholeFits s records → Standing told.held
+      standing_of fits = record {
+        control = there_is.control;
+        index = there_is.index;
+        slot = s;
+        rows = rows;
+        records = records;
+        held = there_is.held;
+        live = there_is.live;
+        generation = generation;
+        whole = all_filled;
+        good = good;
+        fits = fits;
+      }
 
 -- ---- what records come to together
 
@@ -221,15 +205,10 @@ module _ (s : Slot) (records : Records) (good : AreGood s [] records) where
   pub repository_size : length (repository_of s records good).commits ≡ length (commits_in records)
   repository_size = sym (length-map (repository_of s records good).commits (λ m. m.name)) ∙ ap length repository_names ∙ length-map (commits_in records) commit_name
 
-  pub stands_for : (image : Image) (index : ℕ) → IsLive (control_in image) index s → EndToEnd (byte_of (image (Chunk 0))) 0 records s.end → WholeFits s records → StandsFor image (repository_of s records good)
+  pub commits_are : AllZip (Spells records) (commits_in records) (repository_of s records good).commits
   unfolding repository_of
-  stands_for image index live lies fits = stands_by image s (has_live image index s live) (repository_of s records good) (record {
-    records = records;
-    lies = lies;
-    good = good;
-    fits = fits;
-    floor = refl;
-    commits = (commits_spelled s records good).1;
-    branches = refl;
-    tags = refl;
-  })
+  commits_are = (commits_spelled s records good).1
+
+  pub repository_tags : (repository_of s records good).tags ≡ named Names.tags records
+  unfolding repository_of
+  repository_tags = refl

@@ -1,19 +1,19 @@
 -- The store that is made of a slot and of what was found, and what opening answers.
 --     whole_of      the test at the end.      tables_of, holds_of      the repository of the store, which it holds
---     sync_only, finds_fault, finds, finds_form      the exits of finding the slot.      opens_bad, opens_at_end      those of opening
-use Rattle.std.proofs.Common.{◌≡◌, ℕ, ◌+◌, ◌*◌, ◌<◌, ◌≤◌, inl, inr, Bool, true, List, [], ◌∷◌, map, length, refl, sym, ◌∙◌, ap, subst, arith}
+--     sync_only, finds_fault, finds, finds_form      the exits of finding the slot.      opens_none, opens_no_space, opens_bad_as, opens_by      those of opening
+use Rattle.std.proofs.Common.{◌≡◌, ◌≢◌, ℕ, ◌+◌, ◌*◌, ◌<◌, ◌≤◌, inl, inr, Bool, true, List, [], ◌∷◌, map, length, refl, sym, ◌∙◌, ap, subst, arith}
 use Rattle.std.specs.Prelude.{Option, Some, None, Result, Ok, Err, IfOk, OnOk, IsErr, IsErrAnd, IsErrOf, IsSome, IfSome, IsTrue, All, is_none, option_map}
 use Rattle.std.specs.List.{AllByRecursion}
 use Rattle.std.proofs.lemmas.Bool.{cases_lt}
 use Rattle.std.proofs.lemmas.List.{length-map}
 use Rattle.std.proofs.lemmas.List.Elements.{All-from_recursion}
 use Rattle.ip_ground.specs.declared.names.FileName.{FileName}
-use Rattle.ip_ground.specs.declared.names.FileName.TheVariants.{Control, Chunk}
+use Rattle.ip_ground.specs.declared.names.FileName.TheVariants.{Control, Prefix, Mapping}
 use Rattle.ip_ground.specs.declared.names.GroundFault.{GroundFault}
 use Rattle.ip_ground.specs.Contents.{Content}
 use Rattle.ip_ground.specs.Told.{Told, NoFile, Only, KeepsFile, ChangesOnly, SyncsOnly, IsKept}
 use Rattle.ip_ground.specs.Calls.{Syncs}
-use Rattle.ip_ground.proofs.Spans.{syncs_none, syncs_on}
+use Rattle.ip_ground.proofs.Spans.{only_nowhere, only_on, syncs_none, syncs_on}
 use Rattle.ip_ground.proofs.Durable.{sync_syncs, kept_passes}
 use Rattle.ip_spec.specs.Map.{Map}
 use Rattle.ip_spec.specs.Path.{Bytes, bytes_cmp}
@@ -22,10 +22,11 @@ use Rattle.ip_spec.specs.Record.{IsHash}
 use Rattle.ip_spec.specs.TreeAt.{Records}
 use Rattle.ip_spec.specs.Repository.{Repository, next}
 use Rattle.ip_image.specs.declared.slot.Slot.{Slot}
-use Rattle.ip_image.specs.Slot.{IsSlot, IsLive, live_index}
-use Rattle.ip_image.specs.Virtual.{byte_of}
-use Rattle.ip_image.specs.Standing.{EndToEnd, AreRetained, WholeFits, DamagedAt, commits_in}
-use Rattle.ip_image.specs.Pending.{NothingPending}
+use Rattle.ip_image.specs.Slot.{IsSlot, IsLive, live_index, layout_of}
+use Rattle.ip_image.specs.declared.run.Row.{Row}
+use Rattle.ip_image.specs.Virtual.{run_of}
+use Rattle.ip_image.specs.Standing.{RunByRun, AreRetained, Generation, WholeFits, DamagedAt, commits_in}
+use Rattle.ip_image.specs.Pending.{HasLive, NothingPending}
 use Rattle.ip_image.proofs.HeadlineLaws.{pending_synced}
 use Rattle.ip_control.specs.declared.fault.ControlFault.{ControlFault}
 use Rattle.ip_control.specs.Finding.{Finds}
@@ -34,18 +35,19 @@ use Rattle.ip_store.specs.declared.opening.OpenFault.{OpenFault}
 use Rattle.ip_store.specs.declared.store.Store.{Store}
 use Rattle.ip_store.specs.declared.walk.Found.{Found}
 use Rattle.ip_store.specs.Control.{control_in}
-use Rattle.ip_space.specs.SpaceView.{SpaceView}
+use Rattle.ip_space.specs.SpaceView.{SpaceView, IsReadable, byte_at, stretches_of}
+use Rattle.ip_space.proofs.Stayed.{readable_stays}
 use Rattle.ip_store.specs.Placed.{places_in, IsSpaceOf}
 use Rattle.ip_store.specs.Walk.{Tells, Covers, BadRecord}
-use Rattle.ip_store.specs.Found.{IsReached, FoundIn, FindsSlot, Finished, Finishes}
-use Rattle.ip_store.specs.Store.{IsOf, Holds}
+use Rattle.ip_store.specs.Found.{IsReached, FoundIn, FindsSlot, FindsGeneration, Finished, Finishes}
+use Rattle.ip_store.specs.Store.{IsOf, OwnsPair, OwnsLive, Holds}
 use Rattle.ip_store.specs.Opening.{RecoversOnceOpen, Opens}
 use Rattle.ip_store.proofs.Recovering.{recovers_from}
 use Rattle.ip_store.proofs.Hashes.{sha_is_hash}
-use Rattle.ip_store.proofs.Listed.{one_list, readable_of, good_newest, places_size}
+use Rattle.ip_store.proofs.Listed.{places_size}
 use Rattle.ip_store.proofs.Stepping.{space_same}
 use Rattle.ip_store.proofs.Reading.{own, control_passes}
-use Rattle.ip_store.proofs.OpenedImages.{has_live, form_damaged, lies_in_chunk, bad_damaged, misfit_damaged, whole_from, repository_of, repository_names, repository_history, repository_floor, repository_branches, repository_size, stands_for}
+use Rattle.ip_store.proofs.OpenedImages.{has_live, form_damaged, generation_stays, pair_damaged, bad_damaged, misfit_damaged, standing_of, whole_from, repository_of, repository_names, repository_history, repository_floor, repository_branches, repository_tags, repository_size, commits_are}
 
 abbrev Branching : Type 0
 Branching = Map bytes_cmp ℕ
@@ -95,18 +97,23 @@ module _ (index : ℕ) (s : Slot) (is : IsSlot s) (below : index < 2) (found : F
         retained = subst (λ (t : Slot). AreRetained t (repository_of s records tells.good).branches) (sym finished.slot) (subst (λ (m : Branching). AreRetained s m) (sym branches) fits.branches);
       }
 
-  pub holds_of : (told : Told) → IsLive (control_in told.held) index s → IsKept told Control → EndToEnd (byte_of (told.held (Chunk 0))) 0 records s.end → Holds store told (repository_of s records tells.good)
-  holds_of told live kept lies = record {
+  pub holds_of : (told : Told) → IsLive (control_in told.held) index s → (rows : List Row) → Generation told.held (layout_of s) rows → (space : SpaceView) → IsSpaceOf s space → space.runs ≡ map run_of rows
+      → RunByRun (byte_at told space) (stretches_of space) records → store.space ≡ space → IsKept told Control → OwnsPair told s → Holds store told (repository_of s records tells.good)
+  holds_of told live rows generation space of runs fill space_is kept owns = record {
     tables = tables_of;
-    stands = stands_for s records tells.good told.held index live lies fits;
-    readable = readable_of store (repository_of s records tells.good) told tables_of;
-    places = sym (finished.places records tells) ∙ ap places_in (sym list);
+    stands = record {
+      standing = standing_of told index s live rows generation space of runs records tells.good fill fits;
+      floor = repository_floor s records tells.good;
+      commits = commits_are s records tells.good;
+      branches = repository_branches s records tells.good;
+      tags = repository_tags s records tells.good;
+    };
     live = subst (λ (n : ℕ). IsLive (control_in told.held) n store.slot) (sym finished.index) (subst (IsLive (control_in told.held) index) (sym finished.slot) live);
     kept = kept;
+    pair = subst (OwnsPair told) (sym finished.slot) owns;
+    runs = ap (λ (v : SpaceView). v.runs) space_is ∙ runs;
+    places = sym (finished.places records tells);
   }
-    where
-      list : (stands_for s records tells.good told.held index live lies fits).standing.records ≡ records
-      list = one_list told.held s (has_live told.held index s live) (stands_for s records tells.good told.held index live lies fits).standing records (good_newest s is records tells.good) lies
 
 -- ---- finding the slot
 
@@ -206,8 +213,8 @@ opens_none fault (Ok store) a b is slot = absurd is.1
 opens_none fault (Err other) a b is slot = record {
   only = slot.only;
   no_store = λ none. subst (λ (f : OpenFault). FoundIn b.held (Err f)) (sym is.1 ∙ same_fault other OpenFault.NoStore none) slot.finds;
-  damaged = λ file at damaged. subst (λ (f : OpenFault). FoundIn b.held (Err f)) (sym is.1 ∙ same_fault other (OpenFault.Damaged file at) damaged) slot.finds;
-  holds = tt;
+  damaged = λ owns file at damaged. subst (λ (f : OpenFault). FoundIn b.held (Err f)) (sym is.1 ∙ same_fault other (OpenFault.Damaged file at) damaged) slot.finds;
+  holds = λ owns. tt;
   opening = record {
     since = slot.since;
     begins = slot.begins;
@@ -223,85 +230,121 @@ opens_none fault (Err other) a b is slot = record {
     by OpenFault.Ground answered = answered
     by OpenFault.Memory answered = tt
 
-module _ (index : ℕ) (s : Slot) (below : index < 2) (is : IsSlot s) (a b c : Told) (slot : FindsSlot (Ok (index, s)) a b) (reads : ChangesOnly NoFile b c)
-    (space : SpaceView) (of : IsSpaceOf s space) where
-  live_now : IsLive (control_in c.held) index s
-  live_now = subst (λ (bytes : Bytes). IsLive bytes index s) (sym (control_passes b c reads)) slot.finds
+module _ (index : ℕ) (s : Slot) (below : index < 2) (is : IsSlot s) (a b : Told) (slot : FindsSlot (Ok (index, s)) a b) where
+  -- at a moment after calls that change no file
+  module _ (c : Told) (reads : ChangesOnly NoFile b c) where
+    live_now : IsLive (control_in c.held) index s
+    live_now = subst (λ (bytes : Bytes). IsLive bytes index s) (sym (control_passes b c reads)) slot.finds
 
-  only_now : SyncsOnly (Only Control) a c
-  only_now = syncs_on a b c (Only Control) slot.only (syncs_none b c (Only Control) reads)
+    only_now : SyncsOnly (Only Control) a c
+    only_now = syncs_on a b c (Only Control) slot.only (syncs_none b c (Only Control) reads)
 
-  reached_now : IsSome (a.held Control) → slot.since ≤ c.moment
-  reached_now some = let was = slot.reached tt some in let later = reads.goes.later in omega (arith, was, later)
+    reached_now : IsSome (a.held Control) → slot.since ≤ c.moment
+    reached_now some = let was = slot.reached tt some in let later = reads.goes.later in omega (arith, was, later)
 
-  stays : KeepsFile b c Control
-  stays = reads.others Control (λ x. absurd x)
+    stays : KeepsFile b c Control
+    stays = reads.others Control (λ x. absurd x)
 
-  left_now : (t : ℕ) → slot.since ≤ t → t ≤ c.moment → (content : Content) → c.may_leave t Control content → content ≡ c.held Control
-  left_now t late le content left = elim (cases_lt b.moment t) [
-    | inl now ↦ slot.kept content (stays.left (λ x. x) t content now le left) ∙ sym (stays.held (λ x. x))
-    | inr was ↦ slot.left t late was content (reads.goes.left t Control content was left) ∙ sym (stays.held (λ x. x))
-  ]
+    left_now : (t : ℕ) → slot.since ≤ t → t ≤ c.moment → (content : Content) → c.may_leave t Control content → content ≡ c.held Control
+    left_now t late le content left = elim (cases_lt b.moment t) [
+      | inl now ↦ slot.kept content (stays.left (λ x. x) t content now le left) ∙ sym (stays.held (λ x. x))
+      | inr was ↦ slot.left t late was content (reads.goes.left t Control content was left) ∙ sym (stays.held (λ x. x))
+    ]
 
-  abbrev opening_now : RecoversOnceOpen a c
-  opening_now = record {
-    since = slot.since;
-    begins = slot.begins;
-    recovers = recovers_from a c slot.since slot.begins only_now left_now;
-    nothing_pending = synced_order a c only_now;
-  }
+    abbrev opening_now : RecoversOnceOpen a c
+    opening_now = record {
+      since = slot.since;
+      begins = slot.begins;
+      recovers = recovers_from a c slot.since slot.begins only_now left_now;
+      nothing_pending = synced_order a c only_now;
+    }
 
-  pub opens_bad : (fault : OpenFault) → (fault ≡ OpenFault.NoStore → ⊥) → ((file : FileName) (at : ℕ) → fault ≡ OpenFault.Damaged file at → BadRecord s c space file at) → Opens (Err fault) a c
-  opens_bad fault there bad = record {
-    only = only_now;
-    no_store = λ none. absurd (there (same_fault fault OpenFault.NoStore none));
-    damaged = λ file at damaged. bad_damaged c index s live_now space of file at (bad file at (same_fault fault (OpenFault.Damaged file at) damaged));
-    holds = tt;
-    opening = opening_now;
-    reached = λ answered some. reached_now some;
-  }
+    -- what no child changed before opening, none changes now
+    pub owns_now : OwnsLive a → OwnsPair c s
+    owns_now owns live =
+        let has : HasLive s c.held = has_live c.held index s live_now in
+        let pair = owns s (record { control = has.control; index = has.index; held = sym ((only_now.files Control).held (λ x. x)) ∙ has.held; live = has.live }) live in
+        record { mapping = (only_now.files (Mapping s.live)).own pair.mapping; prefix = (only_now.files (Prefix s.live)).own pair.prefix }
 
-  pub opens_at_end : (found : Found) (r : Result Store OpenFault) → Covers s true c space found → Finishes index s found r → Opens r a c
-  opens_at_end found (Ok store) covers finished = record {
-    only = only_now;
-    no_store = λ none. absurd (cc (none));
-    damaged = λ file at damaged. absurd (cc (damaged));
-    holds = (
-      repository_of s covers.records covers.true_of.good,
-      holds_of index s is below found store covers.records covers.true_of finished c live_now (kept_passes Control own b c reads slot.kept) (lies_in_chunk c index s live_now space of covers.records (covers.lies refl)),
-    );
-    opening = opening_now;
-    reached = λ answered some. reached_now some;
-  }
-  opens_at_end found (Err fault) covers finished = record {
-    only = only_now;
-    no_store = λ none. absurd (other_fault (sym finished.0 ∙ same_fault fault OpenFault.NoStore none));
-    damaged = λ file at damaged. at_slot file at (sym finished.0 ∙ same_fault fault (OpenFault.Damaged file at) damaged);
-    holds = tt;
-    opening = opening_now;
-    reached = λ answered some. reached_now some;
-  }
-    where
-      other_fault : OpenFault.Damaged Control (128 * index) ≡ OpenFault.NoStore → ⊥
-      other_fault e = cc
+    -- an answer without a store
+    opens_without : (fault : OpenFault) → (fault ≡ OpenFault.NoStore → ⊥) → (OwnsLive a → (file : FileName) (at : ℕ) → fault ≡ OpenFault.Damaged file at → DamagedAt c.held file at) → Opens (Err fault) a c
+    opens_without fault there damaged = record {
+      only = only_now;
+      no_store = λ none. absurd (there (same_fault fault OpenFault.NoStore none));
+      damaged = λ owns file at is. damaged owns file at (same_fault fault (OpenFault.Damaged file at) is);
+      holds = λ owns. tt;
+      opening = opening_now;
+      reached = λ answered some. reached_now some;
+    }
 
-      at_slot : (file : FileName) (at : ℕ) → OpenFault.Damaged Control (128 * index) ≡ OpenFault.Damaged file at → DamagedAt c.held file at
-      at_slot file at e =
-          let f : Control ≡ file = cc in
-          let n : 128 * index ≡ at = cc in
-          subst (λ (m : ℕ). DamagedAt c.held file m) n
-          (subst (λ (g : FileName). DamagedAt c.held g (128 * index)) f
-          (misfit_damaged c index s live_now space of covers.records covers.true_of.good (covers.lies refl) (finished.1 covers.records covers.true_of)))
+    bad_generation : (fault : OpenFault) → FindsGeneration c.held s (Err fault) → (file : FileName) (at : ℕ) → fault ≡ OpenFault.Damaged file at → DamagedAt c.held file at
+    bad_generation fault finds file at is = let bad = subst (λ (f : OpenFault). FindsGeneration c.held s (Err f)) is finds in pair_damaged c index s live_now bad.0 file at bad.1
 
-  -- by the flag that the ground tells
-  pub opens_by : (found : Found) (r : Result Store OpenFault) (tells : Bool) → IsTrue tells → Covers s tells c space found → Finishes index s found r → Opens r a c
-  opens_by found r tells told covers finished = opens_at_end found r (subst (λ (b : Bool). Covers s b c space found) told covers) finished
+  -- no space was found
+  pub opens_no_space : (c : Told) (reads : ChangesOnly NoFile b c) (r : Result Store OpenFault) (fault : OpenFault) → IsErr r × IsErrAnd r (λ e. e ≡ fault) → (IsErrOf {T = SpaceView} (Err fault) OpenFault.NoStore → ⊥)
+      → (OwnsPair b s → FindsGeneration c.held s (Err fault)) → Opens r a c
+  opens_no_space c reads (Ok store) fault is there finds = absurd is.1
+  opens_no_space c reads (Err other) fault is there finds =
+      opens_without c reads other (λ none. there (ap (λ (f : OpenFault). Err f) (sym is.1 ∙ none)))
+      (λ owns file at damaged. bad_generation c reads fault (finds (owns_now b (only_nowhere b NoFile) owns)) file at (sym is.1 ∙ damaged))
 
-  pub opens_bad_as : (r : Result Store OpenFault) (fault : OpenFault) → IsErr r × IsErrAnd r (λ e. e ≡ fault) → (IsErrOf {T = Found} (Err fault) OpenFault.NoStore → ⊥)
-      → ((file : FileName) (at : ℕ) → IsErrOf {T = Found} (Err fault) (OpenFault.Damaged file at) → BadRecord s c space file at) → Opens r a c
-  opens_bad_as (Ok store) fault is there bad = absurd is.1
-  opens_bad_as (Err other) fault is there bad =
-      opens_bad other (λ none. there (ap (λ (f : OpenFault). Err f) (sym is.1 ∙ none))) (λ file at damaged. bad file at (ap (λ (f : OpenFault). Err f) (sym is.1 ∙ damaged)))
+  -- a space was found at one moment, and its records were read up to another
+  module _ (m c : Told) (first : ChangesOnly NoFile b m) (later : ChangesOnly NoFile m c) (space : SpaceView) (of : IsSpaceOf s space) (finds : OwnsPair b s → FindsGeneration m.held s (Ok space))
+      (readable : OwnsPair b s → IsReadable m space) where
+    abbrev reads : ChangesOnly NoFile b c
+    reads = only_on b m c NoFile first later
+
+    owned : OwnsLive a → OwnsPair b s
+    owned owns = owns_now b (only_nowhere b NoFile) owns
+
+    readable_then : OwnsLive a → IsReadable m space
+    readable_then owns = readable (owned owns)
+
+    readable_now : OwnsLive a → IsReadable c space
+    readable_now owns = readable_stays m c later space (readable_then owns)
+
+    generation_now : (owns : OwnsLive a) → Generation c.held (layout_of s) (finds (owned owns)).0
+    generation_now owns = generation_stays s m c later (owns_now m first owns) (finds (owned owns)).0 (finds (owned owns)).1
+
+    pub opens_bad_as : (r : Result Store OpenFault) (fault : OpenFault) → IsErr r × IsErrAnd r (λ e. e ≡ fault) → (IsErrOf {T = Found} (Err fault) OpenFault.NoStore → ⊥)
+        → (IsReadable m space → (file : FileName) (at : ℕ) → IsErrOf {T = Found} (Err fault) (OpenFault.Damaged file at) → BadRecord s c space file at) → Opens r a c
+    opens_bad_as (Ok store) fault is there bad = absurd is.1
+    opens_bad_as (Err other) fault is there bad =
+        opens_without c reads other (λ none. there (ap (λ (f : OpenFault). Err f) (sym is.1 ∙ none))) (λ owns file at damaged.
+        bad_damaged c index s (live_now c reads) (finds (owned owns)).0 (generation_now owns) space of (finds (owned owns)).2 file at
+        (bad (readable_then owns) file at (ap (λ (f : OpenFault). Err f) (sym is.1 ∙ damaged))))
+
+    opens_at_end : (found : Found) (r : Result Store OpenFault) → Covers s true c space found → Finishes index s found r → IfOk r (λ store. store.space ≡ space) → Opens r a c
+    opens_at_end found (Ok store) covers finished space_is = record {
+      only = only_now c reads;
+      no_store = λ none. absurd (cc (none));
+      damaged = λ owns file at damaged. absurd (cc (damaged));
+      holds = λ owns. (
+        repository_of s covers.records covers.true_of.good,
+        holds_of index s is below found store covers.records covers.true_of finished c (live_now c reads) (finds (owned owns)).0 (generation_now owns) space of (finds (owned owns)).2
+            (covers.fill refl (readable_now owns)) space_is (kept_passes Control own b c reads slot.kept) (owns_now c reads owns),
+      );
+      opening = opening_now c reads;
+      reached = λ answered some. reached_now c reads some;
+    }
+    opens_at_end found (Err fault) covers finished space_is =
+        opens_without c reads fault (λ none. absurd (other_fault (sym finished.0 ∙ none))) (λ owns file at damaged. at_slot owns file at (sym finished.0 ∙ damaged))
+      where
+        other_fault : OpenFault.Damaged Control (128 * index) ≡ OpenFault.NoStore → ⊥
+        other_fault e = cc
+
+        at_slot : OwnsLive a → (file : FileName) (at : ℕ) → OpenFault.Damaged Control (128 * index) ≡ OpenFault.Damaged file at → DamagedAt c.held file at
+        at_slot owns file at e =
+            let f : Control ≡ file = cc in
+            let n : 128 * index ≡ at = cc in
+            subst (λ (m : ℕ). DamagedAt c.held file m) n
+            (subst (λ (g : FileName). DamagedAt c.held g (128 * index)) f
+            (misfit_damaged c index s (live_now c reads) (finds (owned owns)).0 (generation_now owns) space of (finds (owned owns)).2 covers.records covers.true_of.good
+            (covers.fill refl (readable_now owns)) (finished.1 covers.records covers.true_of)))
+
+    -- by the flag that the ground tells
+    pub opens_by : (found : Found) (r : Result Store OpenFault) (tells : Bool) → IsTrue tells → Covers s tells c space found → Finishes index s found r → IfOk r (λ store. store.space ≡ space) → Opens r a c
+    opens_by found r tells told covers finished space_is = opens_at_end found r (subst (λ (b : Bool). Covers s b c space found) told covers) finished space_is
 
 pub tables_at_end : (index : ℕ) (s : Slot) → IsSlot s → index < 2 → (tells : Bool) (told : Told) (space : SpaceView) (found : Found) (r : Result Store OpenFault) → Covers s tells told space found → Finishes index s found r
     → IfOk r (λ store. (q : Repository) × IsOf store q)

@@ -1,6 +1,6 @@
 -- A plan is one of the machine's commit.
 use Rattle.std.proofs.Common.{◌≡◌, ℕ, ◌+◌, ◌<◌, ◌≤◌, ◌^◌, Bool, true, false, List, [], ◌∷◌, map, length, Option, Some, None, refl, sym, ◌∙◌, ap, subst, arith}
-use Rattle.std.specs.Prelude.{Ok, Err, IsErrOf, is_some, All, IsTrue, not, ◌&&◌, nat_le, if◌then◌else◌}
+use Rattle.std.specs.Prelude.{Ok, Err, IsErrOf, IfSome, is_some, All, IsTrue, not, ◌&&◌, nat_le, if◌then◌else◌}
 use Rattle.std.proofs.lemmas.Bool.Decides.{nat_tests}
 use Rattle.std.specs.Cmp.Lexicographic.{nat_list_cmp_total}
 use Rattle.std.specs.FinMap.Entries as E
@@ -33,7 +33,7 @@ use Rattle.ip_store.specs.Store.{IsOf}
 use Rattle.ip_store.specs.Work.{IsLawful}
 use Rattle.ip_store.proofs.BatchKinds.{batch_served, batch_places}
 use Rattle.ip_store.proofs.Machine.{Head, refused_name, refused_short, refused_memory, turn_is_done}
-use Rattle.ip_store.proofs.Tables.{none_below, none_named}
+use Rattle.ip_store.proofs.Tables.{none_named}
 
 same_names : (r : Repository) (ns : List ℕ) → map (λ p. p.name) (map (parent_named r) ns) ≡ map (λ p. p.name) (map (as_parent r) ns)
 same_names r [] = refl
@@ -79,14 +79,14 @@ module _ (r : Repository) (v : View) (f : Batches.CommitFields) (end : ℕ) wher
   none_made (StoreFault.Damaged at names) over is = absurd is
 
 -- why there is none, as the machine has it
-module _ (r : Repository) (work : Work) (v : View) (branch : Bytes) (info : Info) (none : r.floor ≡ 0) (head_is : Head r work v branch info none ≡ Ok tt) (room_is : room_for_branch r branch ≡ Ok tt)
+module _ (r : Repository) (work : Work) (v : View) (branch : Bytes) (info : Info) (retained : IfSome work.least (λ n. r.floor ≤ n)) (head_is : Head r work v branch info retained ≡ Ok tt) (room_is : room_for_branch r branch ≡ Ok tt)
     (f : Batches.CommitFields) (told : f ≡ fields_of r work.parents info branch) where
   pub refused_batch : (slot : Slot) (end : ℕ) (fault : StoreFault) → IsNewBatch r v f end (Err fault) → IsRefusal r work v branch info fault
-  refused_batch slot end (StoreFault.Existing name) is = refused_name r work v branch info none head_is room_is (StoreFault.Existing name) (subst (λ h. not_existing r h ≡ Err (Reply.Existing name)) (name_from r v work.parents info branch f told) is)
-  refused_batch slot end (StoreFault.Limit Limit.Space) is = refused_short r work v branch info none head_is room_is (subst (λ h. not_existing r h ≡ Ok tt) (name_from r v work.parents info branch f told) is.0) slot (grown_end v f end)
+  refused_batch slot end (StoreFault.Existing name) is = refused_name r work v branch info retained head_is room_is (StoreFault.Existing name) (subst (λ h. not_existing r h ≡ Err (Reply.Existing name)) (name_from r v work.parents info branch f told) is)
+  refused_batch slot end (StoreFault.Limit Limit.Space) is = refused_short r work v branch info retained head_is room_is (subst (λ h. not_existing r h ≡ Ok tt) (name_from r v work.parents info branch f told) is.0) slot (grown_end v f end)
       (StoreFault.Limit Limit.Space) (let over = is.1 in omega (arith, over))
   refused_batch slot end (StoreFault.Limit _) is = absurd is
-  refused_batch slot end StoreFault.Memory is = refused_memory r work v branch info none
+  refused_batch slot end StoreFault.Memory is = refused_memory r work v branch info retained
   refused_batch slot end (StoreFault.HeadMoved name) is = absurd is
   refused_batch slot end StoreFault.Ground is = absurd is
   refused_batch slot end (StoreFault.Damaged at names) is = absurd is
@@ -154,7 +154,7 @@ module _ (records : ℕ → Option Record) (r : Repository) (work : Work) (v : V
   pub planned : (number : ℕ) (named : Bytes) (fields : CommitFields) (batch : Batch) (slot : Slot) (parents : List ℕ)
       → fields_told fields ≡ fields_of r work.parents info branch
       → IsBatch v (fields_told fields) store.slot.end batch
-      → Head r work v branch info (none_below store r of) ≡ Ok tt → room_for_branch r branch ≡ Ok tt → not_existing r batch.name ≡ Ok tt
+      → Head r work v branch info lawful.retained ≡ Ok tt → room_for_branch r branch ≡ Ok tt → not_existing r batch.name ≡ Ok tt
       → IsPlan r work v branch info store (record { number = number; branch = named; batch = batch; slot = slot; parents = parents })
   planned number named fields batch slot parents told is_batch head_is room_is fresh =
       let name : batch.name ≡ (new_commit r v.map work.parents info).name = is_batch.name ∙ name_from r v work.parents info branch (fields_told fields) told in
@@ -179,5 +179,5 @@ module _ (records : ℕ → Option Record) (r : Repository) (work : Work) (v : V
         within = subst (λ (n : ℕ). AreWithin n (grown_batch v (fields_of r work.parents info branch) store.slot.end)) (sym version_is)
             (batch_served v lawful.tree.narrow (fields_of r work.parents info branch) store.slot.end 1
             (subst (λ f. All (λ (x : ℕ × Record). Fits 1 x.1) (grown_batch v f store.slot.end)) told is_batch.fits));
-        turn = turn_is_done r work v branch info (none_below store r of) head_is room_is new_is;
+        turn = turn_is_done r work v branch info lawful.retained head_is room_is new_is;
       }

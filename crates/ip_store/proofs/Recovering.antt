@@ -3,6 +3,7 @@
 --     recovers_at      whatever a crash leaves at a moment stands for the repository, while no file changes though it may be synced
 --     recovers_now, recovers_since      of what a store holds: now, and while no file changes
 --     recovers_from      from a moment on, when only the control file may be pending before
+--     SamePair, same_pair      the live pair of an image that a crash leaves.      pair_left, pair_now      it is left, at a moment and now, while its files stay
 --     front_left      a crash leaves the bytes of the records.      pending_of      and where it leaves these, nothing is pending
 --     adds_bytes      an image that has them, and others behind them.      flushed_step      of a step from one live slot to the next nothing is pending, whichever it leaves
 use Rattle.std.specs.Prelude.{if◌then◌else◌, slice_get}
@@ -14,8 +15,8 @@ use Rattle.ip_ground.specs.Contents.{Content, Image, Leave, Possible, bytes_of}
 use Rattle.ip_ground.specs.Custody as custody
 use Rattle.ip_ground.specs.Custody.{Custody, own, is_same_file}
 use Rattle.ip_ground.specs.Files.{same_file, file_itself}
-use Rattle.ip_ground.specs.Told.{Told, lending, KeepsFile, SyncsAtMost, KeepsCustody, Only, SyncsOnly}
-use Rattle.ip_ground.proofs.Spans.{at_most}
+use Rattle.ip_ground.specs.Told.{Told, lending, KeepsPast, KeepsFile, SyncsAtMost, KeepsCustody, Only, SyncsOnly}
+use Rattle.ip_ground.proofs.Spans.{at_most, left_now, each_synced, lending_now}
 use Rattle.ip_spec.specs.Repository.{Repository}
 use Rattle.ip_image.specs.declared.slot.Slot.{Slot}
 use Rattle.ip_image.specs.Slot.{IsSlot, IsLive, slot_bytes, live_index}
@@ -52,21 +53,29 @@ in_image i s image fields live = by_content (image Control) refl
 
 -- ---- while no file changes
 
-module _ (a b : Told) (files : (file : FileName) → SyncsAtMost a b file) (stays : (attempt : ℕ) → KeepsCustody a b attempt) (r : Repository) (s : Slot) (stands : StandsFor a.held r) (has : HasLive s a.held) (pending : NothingPending a) where
-  pair_at : (t : ℕ) → a.moment < t → t ≤ b.moment → s.live ≢ 0 → LeavesPair (crash_at b t) s.live a.held
-  pair_at t after le live =
-      let was = pending.pair s has live in
-      record {
-        mapping = λ content left. was.mapping content ((files (Mapping s.live)).left was.firm_mapping t content after le left);
-        prefix = λ content left. was.prefix content ((files (Prefix s.live)).left was.firm_prefix t content after le left);
-        firm_mapping = subst (λ (c : Custody). ¬ custody.IsLoose c (Mapping s.live)) (sym (stays s.live t after le)) was.firm_mapping;
-        firm_prefix = subst (λ (c : Custody). ¬ custody.IsLoose c (Prefix s.live)) (sym (stays s.live t after le)) was.firm_prefix;
-      }
+-- the live pair is left as it was, at a moment and now, while its files and its custody stay
+module _ (a b : Told) (n : ℕ) (mapping : SyncsAtMost a b (Mapping n)) (prefix : SyncsAtMost a b (Prefix n)) (stays : KeepsCustody a b n) (was : LeavesPair (crash_now a) n a.held) where
+  pub pair_left : (t : ℕ) → a.moment < t → t ≤ b.moment → LeavesPair (crash_at b t) n a.held
+  pair_left t after le = record {
+    mapping = λ content left. was.mapping content (mapping.left was.firm_mapping t content after le left);
+    prefix = λ content left. was.prefix content (prefix.left was.firm_prefix t content after le left);
+    firm_mapping = subst (λ (c : Custody). ¬ custody.IsLoose c (Mapping n)) (sym (stays t after le)) was.firm_mapping;
+    firm_prefix = subst (λ (c : Custody). ¬ custody.IsLoose c (Prefix n)) (sym (stays t after le)) was.firm_prefix;
+  }
 
+  pub pair_now : KeepsPast a b → LeavesPair (crash_now b) n a.held
+  pair_now goes = record {
+    mapping = left_now a b (Mapping n) (λ content. content ≡ a.held (Mapping n)) goes was.mapping (each_synced a b (Mapping n) (λ content. content ≡ a.held (Mapping n)) was.firm_mapping mapping was.mapping);
+    prefix = left_now a b (Prefix n) (λ content. content ≡ a.held (Prefix n)) goes was.prefix (each_synced a b (Prefix n) (λ content. content ≡ a.held (Prefix n)) was.firm_prefix prefix was.prefix);
+    firm_mapping = subst (λ (c : Custody). ¬ custody.IsLoose c (Mapping n)) (sym (lending_now a b goes n stays)) was.firm_mapping;
+    firm_prefix = subst (λ (c : Custody). ¬ custody.IsLoose c (Prefix n)) (sym (lending_now a b goes n stays)) was.firm_prefix;
+  }
+
+module _ (a b : Told) (files : (file : FileName) → SyncsAtMost a b file) (stays : (attempt : ℕ) → KeepsCustody a b attempt) (r : Repository) (s : Slot) (stands : StandsFor a.held r) (has : HasLive s a.held) (pending : NothingPending a) where
   pub recovers_at : (t : ℕ) → a.moment < t → t ≤ b.moment → ((content : Content) → b.may_leave t Control content → content ≡ a.held Control) → RecoversTo (crash_at b t) r
   recovers_at t after le control = recovers (crash_at b t) a.held r s stands has control
       (λ at low high content left. pending.chunks s has at low high content ((files (Chunk (chunk_of s.chunk at))).left (λ x. x) t content after le left))
-      (pair_at t after le)
+      (λ live. pair_left a b s.live (files (Mapping s.live)) (files (Prefix s.live)) (stays s.live) (pending.pair s has live) t after le)
       (λ attempt some. pending.drawn s has attempt (λ none. some (stays attempt t after le ∙ none)))
 
 -- an image that stands has a live slot
@@ -99,13 +108,33 @@ module _ (store : Store) (r : Repository) (a : Told) (holds : HoldsStore store a
     recovers_since b files stays t after le = recovers_at a b (λ file. at_most a b file (files file)) stays r store.slot holds.stands held_has pending t after le
         (λ content here. holds.kept content ((files Control).left (λ x. x) t content after le here))
 
--- no generation is live so far
-no_pair : (s : Slot) → IsSlot s → {X : Type 0} → s.live ≢ 0 → X
-no_pair s is live = absurd (live is.served)
+-- ---- the live pair
 
--- where a crash leaves the bytes, nothing is pending
-pub pending_of : (s : Slot) (a : Told) → IsSlot s → HasLive s a.held → LeavesChunks (a.may_leave a.moment) s a.held → ((attempt : ℕ) → lending a attempt ≢ own → attempt < s.next_attempt) → NothingPending a
-pending_of s a is has chunks drawn = flushed_image (crash_now a) a.held a.held s has itself chunks (no_pair s is) drawn
+-- another image has the pair of a slot that an image has
+abbrev pub SamePair : Slot → Image → Image → Type 0
+SamePair s image other = s.live ≢ 0 → (other (Mapping s.live) ≡ image (Mapping s.live)) × (other (Prefix s.live) ≡ image (Prefix s.live))
+
+abbrev pub LeavesPairOf : Crash → Slot → Image → Type 0
+LeavesPairOf crash s image = s.live ≢ 0 → LeavesPair crash s.live image
+
+-- each image that a crash leaves has it
+pub same_pair : (crash : Crash) (s : Slot) (image other : Image) → LeavesPairOf crash s image → Possible crash.leave other → SamePair s image other
+same_pair crash s image other pair possible live = ((pair live).mapping (other (Mapping s.live)) (possible (Mapping s.live)), (pair live).prefix (other (Prefix s.live)) (possible (Prefix s.live)))
+
+pub pair_alike : (crash : Crash) (s : Slot) (image other : Image) → SamePair s image other → LeavesPairOf crash s image → LeavesPairOf crash s other
+pair_alike crash s image other same pair live = record {
+  mapping = λ content left. (pair live).mapping content left ∙ sym (same live).0;
+  prefix = λ content left. (pair live).prefix content left ∙ sym (same live).1;
+  firm_mapping = (pair live).firm_mapping;
+  firm_prefix = (pair live).firm_prefix;
+}
+
+pair_of : (s : Slot) (image other : Image) → SameSpace s image other → SamePair s image other
+pair_of s image other same live = (same.mapping live, same.prefix live)
+
+-- where a crash leaves the bytes and the pair, nothing is pending
+pub pending_of : (s : Slot) (a : Told) → HasLive s a.held → LeavesChunks (a.may_leave a.moment) s a.held → LeavesPairOf (crash_now a) s a.held → ((attempt : ℕ) → lending a attempt ≢ own → attempt < s.next_attempt) → NothingPending a
+pending_of s a has chunks pair drawn = flushed_image (crash_now a) a.held a.held s has itself chunks pair drawn
   where
     itself : SameSpace s a.held a.held
     itself = record { chunks = λ at low high. refl; mapping = λ live. refl; prefix = λ live. refl }
@@ -130,16 +159,16 @@ module _ (s : Slot) (above : s.horizon ≤ s.end) (image : Image) (filled : NoGa
   front_left leave left k lt content here = left (s.horizon + k) (omega arith) (omega (arith, lt, front_end)) content here ∙ front_stands k lt
 
   -- an image that has them has the same space, and one that has more behind them adds these
-  pub same_space : IsSlot s → (other : Image) → Holds s.chunk s.horizon front other → SameSpace s image other
-  same_space is other holds = record {
+  pub same_space : (other : Image) → SamePair s image other → Holds s.chunk s.horizon front other → SameSpace s image other
+  same_space other pair holds = record {
     chunks = subst (λ (n : ℕ). SameChunks s.chunk s.horizon n image other) ends (same_places s.chunk s.horizon (s.end - s.horizon) image other (subst (NoGap s.chunk image s.horizon) (sym ends) filled) holds);
-    mapping = no_pair s is;
-    prefix = no_pair s is;
+    mapping = λ live. (pair live).0;
+    prefix = λ live. (pair live).1;
   }
 
-  pub adds_bytes : IsSlot s → (bytes : List ℕ) (other : Image) → Holds s.chunk s.horizon (front ++ bytes) other → AddsBytes s bytes image other
-  adds_bytes is bytes other holds = record {
-    same = same_space is other (holds_front s.chunk s.horizon front bytes other holds);
+  pub adds_bytes : (bytes : List ℕ) (other : Image) → SamePair s image other → Holds s.chunk s.horizon (front ++ bytes) other → AddsBytes s bytes image other
+  adds_bytes bytes other pair holds = record {
+    same = same_space other pair (holds_front s.chunk s.horizon front bytes other holds);
     added = subst (λ (n : ℕ). Holds s.chunk n bytes other) front_end (stands_behind (chunk_byte s.chunk other) s.horizon front bytes holds);
   }
 
@@ -186,7 +215,7 @@ IsNew j s commits bytes image other = (live_of (other Control) ≡ live_slot j (
 
 -- Each image is one of the two.
 module _ (crash : Crash) (i j : ℕ) (s : Slot) (commits : ℕ) (bytes : List ℕ) (image : Image) (s_is : IsSlot s) (next_is : IsSlot (next_slot s (length bytes) commits)) (apart : i ≢ j)
-    (drawn : (attempt : ℕ) → crash.lending attempt ≢ own → attempt < s.next_attempt) where
+    (pair : LeavesPairOf crash s image) (drawn : (attempt : ℕ) → crash.lending attempt ≢ own → attempt < s.next_attempt) where
   abbrev next : Slot
   next = next_slot s (length bytes) commits
 
@@ -225,8 +254,8 @@ module _ (crash : Crash) (i j : ℕ) (s : Slot) (commits : ℕ) (bytes : List �
 
     pub flushed_step : AllFlushed crash
     flushed_step other possible = elim (each other possible) [
-      | inl old ↦ flushed_image crash image other s (in_image i s other s_is old.0) old.1 (λ at low high content left. old_byte other possible at content left low high) (no_pair s s_is) drawn
+      | inl old ↦ flushed_image crash image other s (in_image i s other s_is old.0) old.1 (λ at low high content left. old_byte other possible at content left low high) pair drawn
       | inr new ↦
           flushed_image crash other other next (in_image j next other next_is new.0) (record { chunks = λ at low high. refl; mapping = λ live. refl; prefix = λ live. refl })
-          (λ at low high content left. new_byte other possible at content left new low high) (no_pair next next_is) drawn
+          (λ at low high content left. new_byte other possible at content left new low high) (pair_alike crash s image other (pair_of s image other new.1.same) pair) drawn
     ]

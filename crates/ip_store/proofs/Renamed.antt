@@ -25,7 +25,7 @@ use Rattle.ip_image.proofs.Tables.{made_again}
 use Rattle.ip_history.specs.History.{HasParentsFirst}
 use Rattle.ip_store.specs.declared.committing.StoreFault.{StoreFault}
 use Rattle.ip_store.specs.declared.store.Store.{Store}
-use Rattle.ip_space.specs.SpaceView.{grown}
+use Rattle.ip_space.specs.SpaceView.{SpaceView, grown}
 use Rattle.ip_store.specs.Changes.{Changes, next_slot, IsNextSlot}
 use Rattle.ip_store.specs.Placed.{places_in, IsSpaceOf}
 use Rattle.ip_store.specs.Publishing.{CanStep, MakesStep}
@@ -34,7 +34,7 @@ use Rattle.ip_image.proofs.SpelledCommits.{present_front}
 use Rattle.ip_store.specs.Store.{IsOf, Holds, image_records}
 use Rattle.ip_store.specs.Trees.{RecordsStay}
 use Rattle.ip_store.proofs.Recovering.{held_has}
-use Rattle.ip_store.proofs.Stepping.{may_step, changed, list_after, cut_short, space_same, same_can_step, same_step}
+use Rattle.ip_store.proofs.Stepping.{may_step, changed, stays_made, cut_short, space_same, same_can_step, same_step}
 use Rattle.ip_store.proofs.NextSlot.{next_is, next_generation, next_space}
 
 abbrev IsAmong : Slot → ℕ → Type 0
@@ -162,14 +162,12 @@ module _ (r : Repository) (store : Store) (of : IsOf store r) where
           → store'.places.items ≡ store.places.items → store'.space ≡ grown store.space slot.end → Step b (Ok tt) → Changes {A = Unit {0}} r after (Ok tt) store' a b
       was_renamed b store' slot' index names branches history places space step =
           changed r after store 0 (spelling x) of small low (omega arith) a held stands_new b (to_next b (Ok tt) step)
-          ((store.slot.end, x) ∷ []) (fits, tt) (refl, refl) (spelled_is store.slot.end x) store' (slot' ∙ slot_is) index (renamed_tables store' slot' index names branches history places space)
+          ((store.slot.end, x) ∷ []) (fits, tt) (refl, refl) (spelled_is store.slot.end x) store' (slot' ∙ slot_is) index (ap (λ (view : SpaceView). view.runs) space) (renamed_tables store' slot' index names branches history places space)
           (places ∙ sym (append-nil store.places.items) ∙ ap (λ (ps : List ℕ). store.places.items ++ ps) (sym (no_place r store.slot.end x may))) tt
 
       -- each record stays
       pub stays_renamed : (b : Told) (store' : Store) (q : Repository) → Step b (Ok tt) → (now : Holds store' b q) → RecordsStay (image_records held) (image_records now)
-      stays_renamed b store' q step now place y there =
-          let list = list_after r after store 0 (spelling x) of small low (omega arith) a held stands_new b (to_next b (Ok tt) step) ((store.slot.end, x) ∷ []) (fits, tt) (refl, refl) (spelled_is store.slot.end x) now.stands.standing in
-          subst (λ (rs : Records). present rs place ≡ Some y) (sym list) (present_front held.stands.standing.records ((store.slot.end, x) ∷ []) place y there)
+      stays_renamed b store' q step now = stays_made r after store 0 (spelling x) of small low (omega arith) a held b (to_next b (Ok tt) step) store' q now
 
       pub rename_cut : (b : Told) (store' : Store) (res : Result (Unit {0}) GroundFault) → Step b res → Changes {A = Unit {0}} r after (Err StoreFault.Ground) store' a b
       rename_cut b store' res step = cut_short r after store 0 (spelling x) of small low (omega arith) a held stands_new b store' res (to_next b res step)

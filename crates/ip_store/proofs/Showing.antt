@@ -60,10 +60,6 @@ module _ (r : Repository) (number : ℕ) (retained : IsTrue (is_retained r numbe
   pub name_is : name_at r number ≡ there_is.0.name
   name_is = ap (λ (o : Option Commit). unwrap_or (option_map (λ (c : Commit). c.name) o) []) commit_is
 
-  -- a place for each
-  pub place_there : (store : Store) → IsOf store r → number - store.slot.floor < length store.places.items
-  place_there store of = let (low, high) = within in let f = of.floor in let p = of.placed in omega (arith, low, high, f, p)
-
   module _ (store : Store) (told : Told) (holds : Holds store told r) where
     pub commit_here : (place : ℕ) → place_of_commit store number ≡ Some place → IsCommitAt (image_records holds) number place there_is.0
     commit_here place is =

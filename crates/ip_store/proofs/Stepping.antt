@@ -1,20 +1,21 @@
 -- A durable step from a repository to the next one, whatever command takes it.
 --     may_step      what the durable step asks.      changed, cut_short      the relation of a call that was made, and of one that a fault cut short
---     list_after      the records of the image after it
+--     list_after, stays_made      the records of the image after it, and that those before it are among them
 --     same_tables, same_holds, same_changes      a store with the same tables.      changes_none      the relation of a call that was refused
 --     same_can_step, same_step      what a step asks and does, of a slot and bytes that are the same
 use Rattle.std.proofs.Common.{◌≡◌, ◌≢◌, ◌⊎◌, inl, inr, ℕ, ◌+◌, ◌-◌, ◌^◌, ◌<◌, ◌≤◌, List, ◌++◌, length, refl, sym, ◌∙◌, ap, subst, arith, length-append}
-use Rattle.std.specs.Prelude.{Option, Some, Result, Ok, Err, All}
+use Rattle.std.specs.Prelude.{Option, Some, None, is_some, IsSome, Result, Ok, Err, All, map}
 use Rattle.std.specs.List.{AllByRecursion}
 use Rattle.std.proofs.lemmas.Bool.{cases_lt}
 use Rattle.std.proofs.lemmas.List.Elements.{filter_map-append, All-from_recursion}
+use Rattle.std.proofs.lemmas.Option.{slice_get-get_or}
 use Rattle.std.proofs.lemmas.Result.{on_ok_weaker}
 use Rattle.ip_ground.specs.declared.names.FileName.{FileName}
-use Rattle.ip_ground.specs.declared.names.FileName.TheVariants.{Control, Chunk}
+use Rattle.ip_ground.specs.declared.names.FileName.TheVariants.{Control, Chunk, Mapping, Prefix}
 use Rattle.ip_ground.specs.declared.names.GroundFault.{GroundFault}
 use Rattle.ip_ground.specs.Contents.{Content, Image, Possible, bytes_of}
 use Rattle.ip_ground.specs.Custody as custody
-use Rattle.ip_ground.specs.Told.{Told, NoFile, ChangesOnly}
+use Rattle.ip_ground.specs.Told.{Told, NoFile, KeepsFile, ChangesOnly}
 use Rattle.ip_ground.proofs.Durable.{kept_passes}
 use Rattle.ip_ground.proofs.Spans.{only_nowhere, only_more, lending_now, at_most}
 use Rattle.ip_spec.specs.declared.met.Met.{Met}
@@ -24,20 +25,21 @@ use Rattle.ip_spec.specs.TreeAt.{Records, present}
 use Rattle.ip_spec.specs.Batch.{AreEndToEnd}
 use Rattle.ip_spec.specs.Repository.{Repository}
 use Rattle.ip_image.specs.declared.slot.Slot.{Slot}
-use Rattle.ip_image.specs.Slot.{IsSlot, IsLive, slot_bytes}
-use Rattle.ip_image.specs.Virtual.{chunk_of, place_in_chunk, byte_of, chunk_byte}
+use Rattle.ip_image.specs.Slot.{IsSlot, IsLive, slot_bytes, layout_of}
+use Rattle.ip_image.specs.Virtual.{chunk_of, place_in_chunk, byte_of, chunk_byte, run_of}
 use Rattle.ip_image.specs.Standing.{Standing, StandsFor, AreRetained}
 use Rattle.ip_image.specs.Pending.{HasLive, crash_at, crash_now, SameSpace, NothingPending, AllFlushed, KeepsSpace}
 use Rattle.ip_image.specs.Appending.{AddsBytes, bytes_of_records}
 use Rattle.ip_image.specs.Headline.{IsAtomic, RecoversTo}
 use Rattle.ip_image.proofs.HeadlineLaws.{one_slot, same_generation_itself, flushed_less}
-use Rattle.ip_image.proofs.InChunk.{space_filled}
+use Rattle.ip_image.proofs.InChunk.{space_filled, lies_above, chunk_lies, byte_is, byte_inside}
+use Rattle.ip_image.proofs.OneRepository.{zero_or_not}
 use Rattle.ip_image.proofs.AppendingLaws.{stands_still}
 use Rattle.ip_image.proofs.RecordsOn.{records_go_on}
-use Rattle.ip_chunks.specs.Places.{NoGap}
+use Rattle.ip_image.proofs.SpelledCommits.{present_front}
+use Rattle.ip_chunks.specs.Places.{chunk_start, NoGap}
 use Rattle.ip_chunks.specs.Fronts.{Leaves}
 use Rattle.ip_chunks.specs.Fronts as fronts
-use Rattle.ip_chunks.proofs.Behind.{byte_stays, no_gap_before}
 use Rattle.ip_history.specs.History.{HasParentsFirst}
 use Rattle.ip_control.specs.Live.{live_slot, live_of}
 use Rattle.ip_control.specs.Changes.{control}
@@ -46,14 +48,14 @@ use Rattle.ip_store.specs.declared.committing.StoreFault.{StoreFault}
 use Rattle.ip_store.specs.declared.store.Store.{Store}
 use Rattle.ip_store.specs.Changes.{HasAnswer, Changes, next_slot}
 use Rattle.ip_store.specs.Publishing.{front_in, CanStep, MakesStep, IsWritten, MayChange, IsOfStore}
-use Rattle.ip_space.specs.SpaceView.{SpaceView, IsReadable, OnlyReads}
+use Rattle.ip_space.specs.SpaceView.{SpaceView, OnlyReads}
 use Rattle.ip_store.specs.Placed.{place_of, places_in, IsSpaceOf}
-use Rattle.ip_store.specs.Store.{IsOf, Holds, SameTables, image_records}
+use Rattle.ip_store.specs.Store.{IsOf, OwnsPair, Holds, SameTables, image_records}
 use Rattle.ip_store.specs.Trees.{RecordsStay, OnlyLooks}
-use Rattle.ip_store.proofs.Listed.{AreNewest, newest, readable_of, same_list, same_records, holds_on}
+use Rattle.ip_store.proofs.Listed.{AreNewest, newest, same_rows, more_records, space_stays, pair_stays, same_list, same_records, holds_on}
 use Rattle.ip_store.proofs.NextSlot.{next_is, next_generation}
 use Rattle.ip_store.proofs.Reading.{own}
-use Rattle.ip_store.proofs.Recovering.{in_image, recovers_now, pending_of, front_left, front_end, same_space, adds_bytes, IsOld, IsNew, flushed_step}
+use Rattle.ip_store.proofs.Recovering.{in_image, recovers_now, pending_of, front_left, front_end, same_space, adds_bytes, IsOld, IsNew, flushed_step, SamePair, LeavesPairOf, same_pair, pair_alike, pair_left, pair_now}
 
 -- ---- tables
 
@@ -66,13 +68,12 @@ in_itself store met = record { index = refl; slot = refl; names = refl; places =
 pub space_same : (s t : Slot) (one other : SpaceView) → t ≡ s → other ≡ one → IsSpaceOf s one → IsSpaceOf t other
 space_same s t one other slot space is = subst (λ (u : Slot). IsSpaceOf u other) (sym slot) (subst (IsSpaceOf s) (sym space) is)
 
--- calls that change no file leave the bytes of all records
-still_space : (s : Slot) → IsSlot s → (a b : Told) → ChangesOnly NoFile a b → SameSpace s a.held b.held
-still_space s is a b only = record {
-  chunks = λ at low high. byte_stays s.chunk at a b (λ number. at_most a b (Chunk number) (only.others (Chunk number) (λ none. none)));
-  mapping = λ live. absurd (live is.served);
-  prefix = λ live. absurd (live is.served);
-}
+-- calls that change no file leave the bytes of all records, and the live pair to nobody else
+still_space : (s : Slot) (a b : Told) → ChangesOnly NoFile a b → OwnsPair a s → SameSpace s a.held b.held
+still_space s a b only owns = space_stays s a b (λ file. (only.others file (λ none. none)).held) owns
+
+still_pair : (s : Slot) (a b : Told) → ChangesOnly NoFile a b → OwnsPair a s → OwnsPair b s
+still_pair s a b only owns = pair_stays s a b (λ file. (only.others file (λ none. none)).own) owns
 
 module _ (store store' : Store) (same : SameTables store store') where
   pub same_tables : (r : Repository) → IsOf store r → IsOf store' r
@@ -97,18 +98,19 @@ module _ (store store' : Store) (same : SameTables store store') where
     stands = held.stands;
     live = subst (λ (i : ℕ). IsLive (bytes_of (a.held Control)) i store'.slot) (sym same.index) (subst (λ (s : Slot). IsLive (bytes_of (a.held Control)) store.index s) (sym same.slot) held.live);
     kept = held.kept;
-    readable = subst (IsReadable a) (sym same.space) held.readable;
+    pair = subst (OwnsPair a) (sym same.slot) held.pair;
+    runs = ap (λ (space : SpaceView). space.runs) same.space ∙ held.runs;
     places = same.places ∙ held.places;
   }
 
   -- and where no file was changed
   pub still_holds : (r : Repository) (a b : Told) → ChangesOnly NoFile a b → Holds store a r → Holds store' b r
-  still_holds r a b only held = same_holds r b (holds_on store a r held b ((only.others Control (λ none. none)).held (λ x. x)) (still_space store.slot held.tables.slot a b only) (kept_passes Control own a b only held.kept))
+  still_holds r a b only held = same_holds r b (holds_on store a r held b ((only.others Control (λ none. none)).held (λ x. x)) (still_space store.slot a b only held.pair) (kept_passes Control own a b only held.kept) (still_pair store.slot a b only held.pair))
 
   -- by the same records
   pub still_records : (q r : Repository) (a b : Told) → ChangesOnly NoFile a b → (held : Holds store a q) (still : Holds store' b r) → image_records still ≡ image_records held
   still_records q r a b only held still =
-      ap (λ (rs : Records). present rs) (same_list store a q held b ((only.others Control (λ none. none)).held (λ x. x)) (still_space store.slot held.tables.slot a b only) still.stands.standing)
+      ap (λ (rs : Records). present rs) (same_list store a q held b ((only.others Control (λ none. none)).held (λ x. x)) (still_space store.slot a b only held.pair) still.stands.standing)
 
   pub looks : (a b : Told) → OnlyReads a b store.space store'.space → OnlyLooks a b store store'
   looks a b reads = record {
@@ -142,6 +144,31 @@ pub carried : (store store' : Store) → SameTables store' store → (told : Tol
 carried store store' back told r P so now = let held = same_holds store' store back r told now in subst P (same_records told store store' r r held now) (so held)
 
 -- ---- the files
+
+no_mapping : (n : ℕ) → ¬ IsOfStore (Mapping n)
+no_mapping n is = elim is [ inl control ↦ cc (control) | inr chunk ↦ cc (chunk.2) ]
+
+no_prefix : (n : ℕ) → ¬ IsOfStore (Prefix n)
+no_prefix n is = elim is [ inl control ↦ cc (control) | inr chunk ↦ cc (chunk.2) ]
+
+-- A file that reaches a place reaches each before it.
+reaches_back : (content : Content) (at last : ℕ) → at ≤ last → IsSome (byte_of content last) → IsSome (byte_of content at)
+reaches_back content at last before there = by (byte_of content last) refl there
+  where
+    by : (o : Option ℕ) → byte_of content last ≡ o → IsSome o → IsSome (byte_of content at)
+    by None is some = absurd (cc (some))
+    by (Some b) is some = let inside = byte_inside content last b is in ap is_some (byte_is content at ∙ slice_get-get_or (bytes_of content) at 0 (omega (arith, before, inside)))
+
+-- one file holds all places for now
+reached : (s : Slot) (image : Image) (A : Standing image) → HasLive s image → NoGap s.chunk image s.horizon s.end → NoGap s.chunk image (chunk_start s.chunk s.end) s.end
+unfolding chunk_byte
+reached s image A has filled at between = by (zero_or_not s.live)
+  where
+    by : (s.live ≡ 0) ⊎ (s.live ≢ 0) → IsSome (chunk_byte s.chunk image at)
+    by (inl none) = let low = has.live.fields.none_live.0 none in filled at (omega (arith, low), between.1)
+    by (inr some) =
+        let above = lies_above image (layout_of s) has.live.fields.horizon A.records (chunk_lies image s has A) some in
+        reaches_back (image (Chunk 0)) at (s.end - 1) (let high = between.1 in omega (arith, high)) (filled (s.end - 1) (omega (arith, above), omega (arith, above)))
 
 -- what a call may change is of the store
 pub of_store : (image : Image) (file : FileName) → MayChange image file → IsOfStore file
@@ -183,13 +210,13 @@ module _ (r after : Repository) (store : Store) (commits : ℕ) (bytes : List �
   other e = let two = of.index in absurd (omega (arith, e))
 
   filled : NoGap store.slot.chunk a.held store.slot.horizon store.slot.end
-  filled at between = space_filled a.held store.slot old_has held.stands.standing at between.1
+  filled at between = space_filled a.held store.slot old_has held.stands.standing at between.0 between.1
 
   pub may_step : CanStep store.slot.end (1 - store.index) next a
   may_step = record {
     above = of.slot.horizon;
     filled = filled;
-    reaches = no_gap_before store.slot.chunk store.slot.horizon store.slot.end a.held (let none = of.slot.none_live.0 of.slot.served in omega (arith, none)) filled;
+    reaches = reached store.slot a.held held.stands.standing old_has filled;
     ready = record {
       kept = held.kept;
       reaches = reaches_from (control a) store.index (1 - store.index) store.slot held.live (omega arith) (λ e. other (sym e));
@@ -203,6 +230,9 @@ module _ (r after : Repository) (store : Store) (commits : ℕ) (bytes : List �
 
   front_leaves : NothingPending a → Leaves store.slot.chunk store.slot.horizon front a
   front_leaves pending = front_left store.slot of.slot.horizon a.held filled (a.may_leave a.moment) (pending.chunks store.slot old_has)
+
+  pending_pair : NothingPending a → LeavesPairOf (crash_now a) store.slot a.held
+  pending_pair pending = pending.pair store.slot old_has
 
   whole_end : store.slot.horizon + length (front ++ bytes) ≡ next.end
   whole_end = omega (arith, front_end store.slot of.slot.horizon a.held filled, length-append front bytes)
@@ -219,20 +249,40 @@ module _ (r after : Repository) (store : Store) (commits : ℕ) (bytes : List �
   abbrev Step : Told → Result (Unit {0}) GroundFault → Type 0
   Step b res = MakesStep store.slot.end bytes (1 - store.index) next res a b
 
+  -- no file of an attempt is written
+  unwritten : (b : Told) (res : Result (Unit {0}) GroundFault) → Step b res → (file : FileName) → ¬ IsOfStore file → KeepsFile a b file
+  unwritten b res step file other = step.only.others file (λ written. other (elim written [ inl control ↦ inl control | inr chunk ↦ inr (store.slot.chunk, chunk.0, chunk.2) ]))
+
+  mapping_stays : (b : Told) (res : Result (Unit {0}) GroundFault) → Step b res → KeepsFile a b (Mapping store.slot.live)
+  mapping_stays b res step = unwritten b res step (Mapping store.slot.live) (no_mapping store.slot.live)
+
+  prefix_stays : (b : Told) (res : Result (Unit {0}) GroundFault) → Step b res → KeepsFile a b (Prefix store.slot.live)
+  prefix_stays b res step = unwritten b res step (Prefix store.slot.live) (no_prefix store.slot.live)
+
+  -- so the live pair is left as it was
+  pair_at : (b : Told) (res : Result (Unit {0}) GroundFault) → Step b res → NothingPending a → (t : ℕ) → a.moment < t → t ≤ b.moment → LeavesPairOf (crash_at b t) store.slot a.held
+  pair_at b res step pending t late le live =
+      pair_left a b store.slot.live (at_most a b (Mapping store.slot.live) (mapping_stays b res step)) (at_most a b (Prefix store.slot.live) (prefix_stays b res step)) (step.only.lending store.slot.live) (pending_pair pending live) t late le
+
+  pair_here : (b : Told) (res : Result (Unit {0}) GroundFault) → Step b res → SamePair store.slot a.held b.held
+  pair_here b res step live = ((mapping_stays b res step).held (held.pair live).mapping, (prefix_stays b res step).held (held.pair live).prefix)
+
   drawn_at : (b : Told) (res : Result (Unit {0}) GroundFault) → Step b res → NothingPending a → (t : ℕ) → a.moment < t → t ≤ b.moment → (attempt : ℕ) → b.lending_at t attempt ≢ custody.own → attempt < store.slot.next_attempt
   drawn_at b res step pending t late le attempt some = pending.drawn store.slot old_has attempt (λ none. some (step.only.lending attempt t late le ∙ none))
 
   -- each image has the old slot live and the same bytes, or the next slot and these behind them
   images_at : (b : Told) (res : Result (Unit {0}) GroundFault) → Step b res → NothingPending a → (t : ℕ) → a.moment < t → t ≤ b.moment → (image : Image) → Possible (b.may_leave t) image
       → IsOld store.index store.slot a.held image ⊎ IsNew (1 - store.index) store.slot commits bytes a.held image
-  images_at b res step pending t late le image possible = elim (step.images (front_leaves pending) t image late le possible) [
-    | inl old ↦ inl (old.0 ∙ old_live, same_space store.slot of.slot.horizon a.held filled of.slot image old.1)
-    | inr new ↦ inr (new.0, adds_bytes store.slot of.slot.horizon a.held filled of.slot bytes image new.1)
-  ]
+  images_at b res step pending t late le image possible =
+      let pair = same_pair (crash_at b t) store.slot a.held image (pair_at b res step pending t late le) possible in
+      elim (step.images (front_leaves pending) t image late le possible) [
+        | inl old ↦ inl (old.0 ∙ old_live, same_space store.slot of.slot.horizon a.held filled image pair old.1)
+        | inr new ↦ inr (new.0, adds_bytes store.slot of.slot.horizon a.held filled bytes image pair new.1)
+      ]
 
   flushed_at : (b : Told) (res : Result (Unit {0}) GroundFault) → Step b res → NothingPending a → (t : ℕ) → a.moment < t → t ≤ b.moment → AllFlushed (crash_at b t)
   flushed_at b res step pending t late le =
-      flushed_step (crash_at b t) store.index (1 - store.index) store.slot commits bytes a.held of.slot next_there other (drawn_at b res step pending t late le) (images_at b res step pending t late le)
+      flushed_step (crash_at b t) store.index (1 - store.index) store.slot commits bytes a.held of.slot next_there other (pair_at b res step pending t late le) (drawn_at b res step pending t late le) (images_at b res step pending t late le)
 
   -- whatever the answer is
   pub flushed_now : (b : Told) (res : Result (Unit {0}) GroundFault) → Step b res → NothingPending a → AllFlushed (crash_now b)
@@ -248,6 +298,19 @@ module _ (r after : Repository) (store : Store) (commits : ℕ) (bytes : List �
   pub only_changes : (b : Told) (res : Result (Unit {0}) GroundFault) → Step b res → ChangesOnly (MayChange a.held) a b
   only_changes b res step = only_more a b (IsWritten store.slot.chunk store.slot.end) (MayChange a.held) (λ file written. elim written [ inl control ↦ inl control | inr chunk ↦ inr (store.slot, old_has, chunk) ]) step.only
 
+  module _ (b : Told) (step : Step b (Ok tt)) where
+    has_now : HasLive next b.held
+    has_now = has_next b.held step.held.0
+
+    adds_now : AddsBytes store.slot bytes a.held b.held
+    adds_now = adds_bytes store.slot of.slot.horizon a.held filled bytes b.held (pair_here b (Ok tt) step) step.held.1
+
+    -- each record stays, whatever stands behind them
+    pub stays_made : (store' : Store) (q : Repository) (now : Holds store' b q) → RecordsStay (image_records held) (image_records now)
+    stays_made store' q now place x there =
+        let list = more_records a.held b.held store.slot next old_has has_now (next_generation store.slot (length bytes) commits) held.stands.standing now.stands.standing (omega arith) adds_now.same in
+        subst (λ (rs : Records). present rs place ≡ Some x) (sym list.1) (present_front held.stands.standing.records list.0 place x there)
+
   module _ (stands_new : NewStands) where
     atomic_of : (b : Told) (res : Result (Unit {0}) GroundFault) → Step b res → NothingPending a → IsAtomic a b r after
     atomic_of b res step pending t late le = record {
@@ -260,23 +323,17 @@ module _ (r after : Repository) (store : Store) (commits : ℕ) (bytes : List �
 
     -- it was made, of these records
     module _ (b : Told) (step : Step b (Ok tt)) where
-      has_now : HasLive next b.held
-      has_now = has_next b.held step.held.0
-
-      adds_now : AddsBytes store.slot bytes a.held b.held
-      adds_now = adds_bytes store.slot of.slot.horizon a.held filled of.slot bytes b.held step.held.1
-
       stands_now : StandsFor b.held after
-      stands_now = stands_new b.held has_now adds_now
+      stands_now = stands_new b.held (has_now b step) (adds_now b step)
 
       module _ (more : Records) (fit : AreNewest more) (lie : AreEndToEnd store.slot.end more next.end) (spelled : bytes ≡ bytes_of_records more) where
         -- whichever proof says that it stands, each record of the image before is one of the image after
         pub list_after : (B : Standing b.held) → B.records ≡ held.stands.standing.records ++ more
-        list_after B = records_go_on a.held b.held store.slot next more held.stands.standing B old_has has_now (next_generation store.slot (length bytes) commits) lie
+        list_after B = records_go_on a.held b.held store.slot next more held.stands.standing B old_has (has_now b step) (next_generation store.slot (length bytes) commits) lie
             (All-from_recursion (λ (x : ℕ × Record). Fits next.version x.1) more (subst (λ (v : ℕ). AllByRecursion (λ (x : ℕ × Record). Fits v x.1) more) (sym (newest store.slot of.slot)) fit))
-            (subst (λ (bs : List ℕ). AddsBytes store.slot bs a.held b.held) spelled adds_now)
+            (subst (λ (bs : List ℕ). AddsBytes store.slot bs a.held b.held) spelled (adds_now b step))
 
-        module _ (store' : Store) (slot : store'.slot ≡ next) (index : store'.index ≡ 1 - store.index) (tables : IsOf store' after) (places : store'.places.items ≡ store.places.items ++ places_in more) where
+        module _ (store' : Store) (slot : store'.slot ≡ next) (index : store'.index ≡ 1 - store.index) (space : store'.space.runs ≡ store.space.runs) (tables : IsOf store' after) (places : store'.places.items ≡ store.places.items ++ places_in more) where
           live_now : IsLive (bytes_of (b.held Control)) store'.index store'.slot
           live_now = subst (λ (i : ℕ). IsLive (bytes_of (b.held Control)) i store'.slot) (sym index)
               (subst (λ (u : Slot). IsLive (bytes_of (b.held Control)) (1 - store.index) u) (sym slot) (is_live (b.held Control) (1 - store.index) next step.held.0 next_there))
@@ -287,13 +344,16 @@ module _ (r after : Repository) (store : Store) (commits : ℕ) (bytes : List �
             stands = stands_now;
             live = live_now;
             kept = step.kept;
-            readable = readable_of store' after b tables;
+            pair = subst (OwnsPair b) (sym slot) (λ live. record { mapping = (mapping_stays b (Ok tt) step).own (held.pair live).mapping; prefix = (prefix_stays b (Ok tt) step).own (held.pair live).prefix });
+            runs = space ∙ held.runs ∙ ap (map run_of) (sym (same_rows a.held b.held store.slot next old_has (has_now b step) (next_generation store.slot (length bytes) commits) held.stands.standing stands_now.standing (adds_now b step).same.mapping));
             places = places ∙ ap (λ (ps : List ℕ). ps ++ places_in more) held.places ∙ sym (filter_map-append place_of held.stands.standing.records more) ∙ ap places_in (sym (list_after stands_now.standing));
           }
 
           pending_now : NothingPending a → NothingPending b
-          pending_now pending = pending_of next b next_there has_now
+          pending_now pending = pending_of next b (has_now b step)
               (chunks_left store.slot.chunk store.slot.horizon next.end (front ++ bytes) b b.held whole_end (step.front (front_leaves pending)) step.held.1)
+              (pair_alike (crash_now b) store.slot a.held b.held (pair_here b (Ok tt) step) (λ live. pair_now a b store.slot.live (at_most a b (Mapping store.slot.live) (mapping_stays b (Ok tt) step)) (at_most a b (Prefix store.slot.live) (prefix_stays b (Ok tt) step))
+              (step.only.lending store.slot.live) (pending_pair pending live) step.only.goes))
               (λ attempt some. pending.drawn store.slot old_has attempt (λ none. some (lending_now a b step.only.goes attempt (step.only.lending attempt) ∙ none)))
 
           pub changed : {A : Type 0} (x : A) → Changes r after (Ok x) store' a b

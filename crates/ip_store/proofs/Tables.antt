@@ -15,7 +15,6 @@ use Rattle.ip_spec.specs.Repository.{Repository, Commit, number_named, is_retain
 use Rattle.ip_spec.specs.Step.{not_existing, refuse_if}
 use Rattle.ip_store.specs.declared.store.Store.{Store}
 use Rattle.ip_store.specs.Store.{IsOf}
-use Rattle.ip_store.specs.Work.{AreParents}
 
 prefix_names : (p : Hash → Bool) (cs : List Commit) → prefix_len p (map (λ c. c.name) cs) ≡ prefix_len (λ c. p c.name) cs
 prefix_names p [] = refl
@@ -88,9 +87,6 @@ module _ (store : Store) (r : Repository) (of : IsOf store r) where
       at_index : (hs : List Hash) (k : ℕ) → k < length hs → unwrap_or (slice_get hs k) [] ≡ get_or hs k []
       at_index hs k l = unwrap_or-slice_get hs k []
 
-  pub none_below : r.floor ≡ 0
-  none_below = of.floor ∙ (of.slot.nothing_below of.slot.served).0
-
   -- a name that no commit has stands at no place
   pub free : (h : Hash) → number_named r h ≡ None → position (λ n. same_bytes n h) store.names ≡ None
   free h none = unmapped (position (λ n. same_bytes n h) store.names) (sym (named h) ∙ none)
@@ -106,15 +102,3 @@ none_named r h is = by (number_named r h) is
     by : (o : Option ℕ) → refuse_if (is_some o) (Reply.Existing h) ≡ Ok tt → o ≡ None
     by None is = refl
     by (Some n) is = absurd (cc (is))
-
--- parents that are so over one repository of the store are so over another
-pub same_parents : (store : Store) (r q : Repository) (parents : List ℕ) → IsOf store r → IsOf store q → AreParents r parents → AreParents q parents
-same_parents store r q parents of other are =
-    let floors : r.floor ≡ q.floor = of.floor ∙ sym other.floor in
-    let nexts : next r ≡ next q = of.next ∙ sym other.next in
-    record {
-      retained = λ k d l. subst (λ (n : ℕ). IsTrue (nat_le q.floor (get_or parents k d) && nat_lt (get_or parents k d) n)) nexts
-          (subst (λ (f : ℕ). IsTrue (nat_le f (get_or parents k d) && nat_lt (get_or parents k d) (next r))) floors (are.retained k d l));
-      distinct = are.distinct;
-      few = are.few;
-    }

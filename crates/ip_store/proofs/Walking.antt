@@ -1,7 +1,7 @@
 -- The walk over records, step by step.
 --     good_push, named_push      one good record behind those before it
---     takes_good      a record that the audit took.      beyond_push      offsets ascend
-use Rattle.std.proofs.Common.{◌≡◌, ℕ, ◌<◌, List, [], ◌∷◌, ◌++◌, sym, ◌∙◌, ap, subst, arith, append_assoc, append-nil}
+--     takes_good      a record that the audit took.      beyond_push, beyond_up      offsets ascend
+use Rattle.std.proofs.Common.{◌≡◌, ℕ, ◌<◌, ◌≤◌, List, [], ◌∷◌, ◌++◌, sym, ◌∙◌, ap, subst, arith, append_assoc, append-nil}
 use Rattle.std.proofs.lemmas.List.Elements.{filter_map-append}
 use Rattle.std.proofs.lemmas.List.Sums.{fold-append}
 use Rattle.ip_spec.specs.declared.record.Record.{Record}
@@ -9,14 +9,13 @@ use Rattle.ip_spec.specs.Record.{Names, Fits}
 use Rattle.ip_spec.specs.TreeAt.{Records}
 use Rattle.ip_image.specs.declared.slot.Slot.{Slot}
 use Rattle.ip_image.specs.declared.terms.Terms.{Terms}
-use Rattle.ip_image.specs.Slot.{IsSlot}
-use Rattle.ip_image.specs.Standing.{terms_of, RecordFits, IsServedKind, IsGood, AreGood, named, names_after}
+use Rattle.ip_image.specs.Standing.{terms_of, RecordFits, IsGood, AreGood, named, names_after}
 use Rattle.ip_audit.specs.Audits.{Audited, IsBeyond}
 use Rattle.ip_store.specs.declared.walk.Found.{Found}
 use Rattle.ip_history.specs.History.{History, HasParentsFirst}
 use Rattle.ip_store.specs.Histories.{history_after, RecordEnters}
 use Rattle.ip_store.specs.Placed.{place_of, places_in}
-use Rattle.ip_store.specs.Walk.{Tells}
+use Rattle.ip_store.specs.Walk.{MayStand, Tells}
 use Rattle.ip_store.proofs.Histories.{after_record, first_after}
 
 -- ---- one record more
@@ -32,24 +31,18 @@ pub beyond_push : (at to : ℕ) (before : Records) (r : Record) → at < to → 
 beyond_push at to [] r later beyond = (later, tt)
 beyond_push at to (x ∷ before) r later beyond = (let b = beyond.0 in omega (arith, b, later), beyond_push at to before r later beyond.1)
 
--- no record of a collection is there
-pub no_horizon : (s : Slot) → IsSlot s → s.horizon ≡ 0
-no_horizon s is = is.none_live.0 is.served
+pub beyond_up : (at to : ℕ) (before : Records) → at ≤ to → IsBeyond at before → IsBeyond to before
+beyond_up at to [] later beyond = tt
+beyond_up at to (x ∷ before) later beyond = (let b = beyond.0 in omega (arith, b, later), beyond_up at to before later beyond.1)
 
-pub is_good : (s : Slot) (before : Records) (at : ℕ) (r : Record) → IsSlot s → Fits s.version r → IsServedKind r → RecordFits (terms_of s) before at r → IsGood s before (at, r)
-is_good s before at r is fits served good = record {
-  bounds = fits;
-  served = served;
-  kept_kind = λ below. let none = no_horizon s is in absurd (omega (arith, below, none));
-  first = λ some. absurd (some is.served);
-  fits = good;
-}
+pub is_good : (s : Slot) (before : Records) (at : ℕ) (r : Record) → Fits s.version r → MayStand s at r → RecordFits (terms_of s) before at r → IsGood s before (at, r)
+is_good s before at r fits may good = record { bounds = fits; served = may.served; kept_kind = may.kept_kind; first = may.first; fits = good }
 
-module _ (s : Slot) (before : Records) (at : ℕ) (r : Record) (old new : Found) (is : IsSlot s) (fits : Fits s.version r) (served : IsServedKind r) (tells : Tells s old before) where
+module _ (s : Slot) (before : Records) (at : ℕ) (r : Record) (old new : Found) (fits : Fits s.version r) (may : MayStand s at r) (tells : Tells s old before) where
   pub takes_good : RecordFits old.audit.terms before at r → Audited new.audit (before ++ (at, r) ∷ []) → new.audit.terms ≡ old.audit.terms
       → new.places.items ≡ old.places.items ++ places_in ((at, r) ∷ []) → new.branches ≡ names_after Names.branches old.branches r → RecordEnters old.history r → new.history ≡ history_after old.history r → IsGood s before (at, r) × Tells s new (before ++ (at, r) ∷ [])
   takes_good good audited terms places branches enters history =
-      let one : IsGood s before (at, r) = is_good s before at r is fits served (subst (λ (t : Terms). RecordFits t before at r) tells.terms good) in (
+      let one : IsGood s before (at, r) = is_good s before at r fits may (subst (λ (t : Terms). RecordFits t before at r) tells.terms good) in (
         one,
         record {
           good = good_push s [] before (at, r) tells.good one;

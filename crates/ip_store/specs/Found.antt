@@ -1,14 +1,19 @@
 -- The beginning and the end of opening a store.
---     FindsSlot result old new      what finding the live slot does.      Finishes index s found result      what makes a store of it, and of what was found
-use Rattle.std.specs.Prelude.{◌≡◌, ℕ, ◌*◌, ◌<◌, ◌≤◌, map, Result, Ok, Err, OnOk, IsSome}
+--     FindsSlot result old new      what finding the live slot does.      FindsGeneration image s result      the space over the live generation, or where that is bad
+--     Finishes index s found result      what makes a store of it, and of what was found
+use Rattle.std.specs.Prelude.{◌≡◌, ◌≢◌, ℕ, ◌*◌, ◌<◌, ◌≤◌, List, map, Result, Ok, Err, OnOk, IsSome}
 use Rattle.ip_ground.specs.declared.names.FileName.TheVariants.{Control}
 use Rattle.ip_ground.specs.Told.{Told, SyncsOnly, Only, IsKept}
 use Rattle.ip_ground.specs.Contents.{Content, Image}
 use Rattle.ip_spec.specs.Record.{Names}
 use Rattle.ip_spec.specs.TreeAt.{Records}
 use Rattle.ip_image.specs.declared.slot.Slot.{Slot}
-use Rattle.ip_image.specs.Slot.{IsLive}
-use Rattle.ip_image.specs.Standing.{NoStore, DamagedAt, WholeFits, commits_in, named}
+use Rattle.ip_image.specs.Slot.{IsLive, layout_of}
+use Rattle.ip_image.specs.declared.run.Row.{Row}
+use Rattle.ip_image.specs.Virtual.{run_of}
+use Rattle.ip_image.specs.Standing.{NoStore, DamagedAt, Generation, WholeFits, commits_in, named}
+use Rattle.ip_space.specs.Pair.{IsBadPair}
+use Rattle.ip_space.specs.SpaceView.{SpaceView}
 use Rattle.ip_audit.specs.Audits.{commit_name}
 use Rattle.ip_history.specs.History.{HasParentsFirst}
 use Rattle.ip_store.specs.declared.opening.OpenFault.{OpenFault}
@@ -41,6 +46,14 @@ pub record FindsSlot (result : Result (ℕ × Slot) OpenFault) (old new : Told) 
   pub begins : old.moment < since
   pub reached : IsReached result → IsSome (old.held Control) → since ≤ new.moment
   pub left : (t : ℕ) → since ≤ t → t ≤ new.moment → (content : Content) → new.may_leave t Control content → content ≡ new.held Control
+
+-- a fault of the ground and want of memory say nothing
+abbrev pub FindsGeneration : Image → Slot → Result SpaceView OpenFault → Type 0
+FindsGeneration image s (Ok space) = (rows : List Row) × Generation image (layout_of s) rows × (space.runs ≡ map run_of rows)
+FindsGeneration image s (Err OpenFault.NoStore) = ⊥
+FindsGeneration image s (Err (OpenFault.Damaged file at)) = (s.live ≢ 0) × IsBadPair image (layout_of s) file at
+FindsGeneration image s (Err OpenFault.Ground) = Unit {0}
+FindsGeneration image s (Err OpenFault.Memory) = Unit {0}
 
 -- whatever the records are of which it is true
 pub record Finished (number : ℕ) (s : Slot) (found : Found) (store : Store) : Type 0 where

@@ -14,7 +14,7 @@ use Rattle.ip_store.specs.declared.opening.OpenFault.{OpenFault}
 use Rattle.ip_store.specs.declared.store.Store.{Store}
 use Rattle.ip_store.specs.Control.{control_in, IsFresh}
 use Rattle.ip_store.specs.Found.{IsReached}
-use Rattle.ip_store.specs.Store.{IsSound}
+use Rattle.ip_store.specs.Store.{OwnsLive, IsSound}
 
 pub record Makes (chunk : ℕ) (result : Result (Unit {0}) InitFault) (old new : Told) : Type 0 where
   -- no other file changes at any moment, nothing is said, none is lent or settled
@@ -41,8 +41,9 @@ pub record Opens (result : Result Store OpenFault) (old new : Told) : Type 0 whe
   -- no file changes at any moment, and none but the control file is synced, nothing is said, none is lent or settled
   pub only : SyncsOnly (Only Control) old new
   pub no_store : IsErrOf result OpenFault.NoStore → NoStore new.held
-  pub damaged : (file : FileName) (at : ℕ) → IsErrOf result (OpenFault.Damaged file at) → DamagedAt new.held file at
-  pub holds : IfOk result (λ store. IsSound store new)
+  -- where no child changes the live pair
+  pub damaged : OwnsLive old → (file : FileName) (at : ℕ) → IsErrOf result (OpenFault.Damaged file at) → DamagedAt new.held file at
+  pub holds : OwnsLive old → IfOk result (λ store. IsSound store new)
   -- every answer but a fault of the ground comes after the sync, where there is a control file
   pub opening : RecoversOnceOpen old new
   pub reached : IsReached result → IsSome (old.held Control) → opening.since ≤ new.moment

@@ -1,19 +1,23 @@
 -- What an open store holds.
 --     IsOf store r      its tables are the repository's, and in its history parents come first
---     Holds store told r      and so is what the ground reads as; its places are those of the commits' records
+--     OwnsPair told s      no child changes the live pair of a slot.      OwnsLive told      nor that of the slot that is live
+--     Holds store told r      so are its tables, and so is what the ground reads as; its places are those of the commits' records
 --     SameTables store other      they differ in what was met alone.      place_of_commit store number      where the record of a commit lies
 --     image_records holds      the records of the image that it holds, which are among those of its space
-use Rattle.std.specs.Prelude.{◌≡◌, ℕ, ◌-◌, ◌<◌, length, map, All, Option, slice_get}
+use Rattle.std.specs.Prelude.{◌≡◌, ◌≢◌, ℕ, ◌-◌, ◌<◌, length, map, All, Option, slice_get}
 use Rattle.ip_ground.specs.declared.names.FileName.TheVariants.{Control}
 use Rattle.ip_ground.specs.Told.{Told, IsKept}
 use Rattle.ip_spec.specs.Record.{IsHash}
 use Rattle.ip_spec.specs.declared.record.Record.{Record}
 use Rattle.ip_spec.specs.Repository.{Repository, next}
 use Rattle.ip_spec.specs.TreeAt.{present}
-use Rattle.ip_image.specs.Slot.{IsSlot, IsLive}
+use Rattle.ip_image.specs.declared.slot.Slot.{Slot}
+use Rattle.ip_image.specs.Pending.{HasLive}
+use Rattle.ip_image.specs.Slot.{IsSlot, IsLive, layout_of}
 use Rattle.ip_image.specs.Standing.{StandsFor, AreRetained}
+use Rattle.ip_image.specs.Virtual.{run_of}
 use Rattle.ip_history.specs.History.{HasParentsFirst, history_of}
-use Rattle.ip_space.specs.SpaceView.{IsReadable}
+use Rattle.ip_space.specs.Pair.{IsOwnPair}
 use Rattle.ip_store.specs.Control.{control_in}
 use Rattle.ip_store.specs.Placed.{places_in, IsSpaceOf}
 use Rattle.ip_store.specs.declared.store.Store.{Store}
@@ -32,12 +36,19 @@ pub record IsOf (store : Store) (r : Repository) : Type 0 where
   pub space : IsSpaceOf store.slot store.space
   pub placed : length store.places.items ≡ length r.commits
 
+abbrev pub OwnsPair : Told → Slot → Type 0
+OwnsPair told s = s.live ≢ 0 → IsOwnPair told (layout_of s)
+
+abbrev pub OwnsLive : Told → Type 0
+OwnsLive told = (s : Slot) → HasLive s told.held → OwnsPair told s
+
 pub record Holds (store : Store) (told : Told) (r : Repository) : Type 0 where
   pub tables : IsOf store r
   pub stands : StandsFor told.held r
   pub live : IsLive (control_in told.held) store.index store.slot
   pub kept : IsKept told Control
-  pub readable : IsReadable told store.space
+  pub pair : OwnsPair told store.slot
+  pub runs : store.space.runs ≡ map run_of stands.standing.rows
   -- the records of the image are those of the space, so that there each commit's record stands at its place, and its tree where that says
   pub places : store.places.items ≡ places_in stands.standing.records
 

@@ -4,7 +4,7 @@
 --     AreParents r parents      distinct retained commits, 16 at most
 --     IsLawful records r work v      the work's tree has this view over the records, and the work goes on from commits of the repository
 --     IsAt told store r work v      the store holds the repository, and so it is over the records of its image
-use Rattle.std.specs.Prelude.{◌≡◌, ◌≢◌, ℕ, ◌≤◌, List, length, fold, All, AllPairs, IsTrue, Option}
+use Rattle.std.specs.Prelude.{◌≡◌, ◌≢◌, ℕ, ◌≤◌, List, length, fold, All, AllPairs, IsTrue, Option, IfSome}
 use Rattle.ip_ground.specs.Told.{Told}
 use Rattle.ip_spec.specs.declared.record.Record.{Record}
 use Rattle.ip_spec.specs.Machine as Machine
@@ -40,6 +40,8 @@ pub record IsLawful (records : ℕ → Option Record) (r : Repository) (work : W
   pub short : HasShortContents v.map
   pub parents : AreParents r work.parents
   pub least : work.least ≡ least_of v work.parents
+  -- no commit that it took from was given up
+  pub retained : IfSome work.least (λ n. r.floor ≤ n)
 
 pub record IsAt (told : Told) (store : Store) (r : Repository) (work : Work) (v : View) : Type 0 where
   pub holds : Holds store told r

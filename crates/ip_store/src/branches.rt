@@ -1,11 +1,13 @@
 // The branches of a store.
-ghost use Rattle.std.specs.Prelude.{◌≡◌, ◌↔◌, ◌≤◌, ◌<◌, ◌&&◌, nat_le, nat_lt, map, All, IsTrue, IfSome, OnOk, OnErr, MatchOption, slice_get, None, Some};
+ghost use Rattle.std.specs.Prelude.{◌≡◌, ◌↔◌, ◌≤◌, ◌<◌, ◌&&◌, nat_le, nat_lt, map, All, IsTrue, IfSome, IfOk, OnOk, OnErr, MatchOption, slice_get, None, Some};
 ghost use Rattle.std.specs.List.{list_all};
 ghost use Rattle.std.specs.BTreeMap.{values};
 ghost use Rattle.ip_spec.specs.Path.{Bytes};
-ghost use Rattle.ip_spec.specs.Map.{empty, get, insert, remove, len};
+ghost use Rattle.ip_spec.specs.Map.{empty, get, insert, remove, len, from_entries};
+ghost use Rattle.ip_image.specs.Standing.{row_of};
 
-use ip_base::{Memory, Number};
+use ip_base::{Items, Memory, Number};
+use ip_spec::record::Branch;
 use std::alloc::Global;
 use std::collections::BTreeMap;
 use std::collections::btree_map::Iter;
@@ -44,6 +46,17 @@ impl Branches {
         Branches {
             entries: BTreeMap::new(alloc),
         }
+    }
+
+    /// Those of the rows of a table; of rows of one name the last one counts.
+    pub fn of_rows(alloc: Global, rows: Items<Branch>) -> Result<Self, Memory>
+        ensures { IfOk result (λ branches. branches ≡ from_entries (map row_of rows)) }
+    {
+        let mut branches = Branches::new(alloc);
+        for row in rows.into_vec() {
+            branches.set(row.name.into_vec(), row.number)?;
+        }
+        Ok(branches)
     }
 
     /// How many there are.

@@ -329,7 +329,6 @@ impl Store {
         requires branch { IsBranchName branch.now }
         requires info { IsInfo info }
         requires tables { (r : Repository) × IsOf self.old r × AreParents r work.old.parents }
-        requires held { IsTrue G.tells → (r : Repository) × (v : View) × IsAt (G.told outside.old) self.old r work.old v }
         ensures tables { (r : Repository) → IsOf self.old r → AreParents r work.old.parents → HasAnswer result → GoesOn self.new work.new }
         ensures answers { IsTrue G.tells → (r : Repository) (v : View) → IsAt (G.told outside.old) self.old r work.old v →
             IfSome (reply_to result) (λ reply. Answers (G.told outside.new) (session r work.old v) (Command.Commit branch.now info) self.new.met reply self.new work.new) }
@@ -469,7 +468,6 @@ impl Store {
         requires branch { IsBranchName branch.now }
         requires info { IsInfo info }
         requires tables { (r : Repository) × IsOf self.old r × AreParents r work.old.parents }
-        requires held { IsTrue G.tells → (r : Repository) × (v : View) × IsAt (G.told outside.old) self.old r work.old v }
         ensures tables { (r : Repository) → IsOf self.old r → AreParents r work.old.parents → HasAnswer result → GoesOn self.new work.new }
         ensures answers { IsTrue G.tells → (r : Repository) (v : View) → IsAt (G.told outside.old) self.old r work.old v →
             IfSome (reply_to result) (λ reply. Answers (G.told outside.new) (session r work.old v) (Command.Commit branch.now info) (met_by result) reply self.new work.new) }

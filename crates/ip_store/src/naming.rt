@@ -64,7 +64,6 @@ impl Store {
         requires tables { (r : Repository) × IsOf self.old r × MayName r rec }
         requires fits { Fits 1 rec }
         requires served { IsServedKind rec }
-        requires held { IsTrue G.tells → IsSound self.old (G.told outside.old) }
         ensures tables { (r : Repository) → IsOf self.old r → MayName r rec → Renames r rec result self.new }
         ensures limits { LimitsSpace (self.old.slot.end + length (spelling rec)) result self.old }
         ensures does { IsTrue G.tells → (r : Repository) → Holds self.old (G.told outside.old) r → MayName r rec →
@@ -78,7 +77,7 @@ impl Store {
         let spelled = spelled(alloc, &rec)?;
         let bytes = spelled.as_slice();
         let slot = self.next_slot(bytes.len(), 0)?;
-        name_branch(&mut self.branches, rec)?;
+        name_branch(alloc, &mut self.branches, rec)?;
         durable_step(outside, self.slot.end, bytes, 1 - self.index, &slot)?;
         self.index = 1 - self.index;
         self.space.grow(slot.end);
@@ -98,7 +97,6 @@ impl Store {
     ) -> Result<(), StoreFault>
         requires name { IsBranchName name.now }
         requires tables { (r : Repository) × IsOf self.old r × IsTrue (is_retained r number) }
-        requires held { IsTrue G.tells → IsSound self.old (G.told outside.old) }
         ensures answers { (r : Repository) → IsOf self.old r → IsTrue (is_retained r number) →
             IfSome (branch_reply result) (AnswersSet r name.now number self.new.met self.new) }
         // Files are only touched where there is room for it.
@@ -126,7 +124,6 @@ impl Store {
     ) -> Result<(), StoreFault>
         requires name { IsBranchName name.now }
         requires tables { (r : Repository) × IsOf self.old r × IsTrue (is_retained r number) }
-        requires held { IsTrue G.tells → IsSound self.old (G.told outside.old) }
         ensures answers { (r : Repository) → IsOf self.old r → IsTrue (is_retained r number) →
             IfSome (branch_reply result) (AnswersSet r name.now number (met_by result) self.new) }
         // Files are only touched where there is room for it.
@@ -155,7 +152,6 @@ impl Store {
     ) -> Result<bool, StoreFault>
         requires name { IsBranchName name.now }
         requires tables { (r : Repository) × IsOf self.old r }
-        requires held { IsTrue G.tells → IsSound self.old (G.told outside.old) }
         ensures answers { (r : Repository) → IsOf self.old r → IfSome (removed_reply name.now result) (AnswersRemove r name.now self.new.met self.new) }
         ensures absent { result ≡ Ok false → outside.new ≡ outside.old }
         // Files are only touched where there is such a branch.
@@ -182,7 +178,6 @@ impl Store {
     ) -> Result<bool, StoreFault>
         requires name { IsBranchName name.now }
         requires tables { (r : Repository) × IsOf self.old r }
-        requires held { IsTrue G.tells → IsSound self.old (G.told outside.old) }
         ensures answers { (r : Repository) → IsOf self.old r → IfSome (removed_reply name.now result) (AnswersRemove r name.now (met_by result) self.new) }
         ensures absent { result ≡ Ok false → outside.new ≡ outside.old }
         // Files are only touched where there is such a branch.

@@ -2,10 +2,8 @@
 ghost use Rattle.std.specs.Prelude.{IfOk, IsTrue};
 ghost use Rattle.ip_spec.specs.Record.{IsInfo};
 ghost use Rattle.ip_spec.specs.Repository.{Repository};
-ghost use Rattle.ip_spec.specs.View.{View};
 ghost use Rattle.ip_store.specs.Commits.{GoesOn};
 ghost use Rattle.ip_store.specs.Store.{IsOf};
-ghost use Rattle.ip_store.specs.Work.{IsAt};
 
 use crate::{OpenFault, Store, StoreFault, Work, chunk_allowed};
 use ip_base::{Blob, Info, Items, Memory, Number, Path, Step};
@@ -158,10 +156,8 @@ fn set<G: Ground>(
     path: &[u8],
     byte: u8,
 ) -> Result<bool, Fail>
-    requires tables { GoesOn store.old work.old }
-    requires held { IsTrue G.tells → (r : Repository) × (v : View) × IsAt (G.told outside.old) store.old r work.old v }
-    ensures tables { IfOk result (λ done. IsTrue done → GoesOn store.new work.new) }
-    ensures held { IfOk result (λ done. IsTrue done → IsTrue G.tells → (r : Repository) × (v : View) × IsAt (G.told outside.new) store.new r work.new v) }
+    requires { GoesOn store.old work.old }
+    ensures { IfOk result (λ done. IsTrue done → GoesOn store.new work.new) }
 {
     let Ok(path) = Path::read(alloc, path) else {
         return Err("no path")?;
@@ -176,10 +172,8 @@ fn remove<G: Ground>(
     work: &mut Work,
     path: &[u8],
 ) -> Result<bool, Fail>
-    requires tables { GoesOn store.old work.old }
-    requires held { IsTrue G.tells → (r : Repository) × (v : View) × IsAt (G.told outside.old) store.old r work.old v }
-    ensures tables { IfOk result (λ done. IsTrue done → GoesOn store.new work.new) }
-    ensures held { IfOk result (λ done. IsTrue done → IsTrue G.tells → (r : Repository) × (v : View) × IsAt (G.told outside.new) store.new r work.new v) }
+    requires { GoesOn store.old work.old }
+    ensures { IfOk result (λ done. IsTrue done → GoesOn store.new work.new) }
 {
     let Ok(path) = Path::read(alloc, path) else {
         return Err("no path")?;
@@ -194,10 +188,8 @@ fn commit<G: Ground>(
     work: &mut Work,
     date: u64,
 ) -> Result<bool, Fail>
-    requires tables { GoesOn store.old work.old }
-    requires held { IsTrue G.tells → (r : Repository) × (v : View) × IsAt (G.told outside.old) store.old r work.old v }
-    ensures tables { IfOk result (λ done. IsTrue done → GoesOn store.new work.new) }
-    ensures held { IfOk result (λ done. IsTrue done → IsTrue G.tells → (r : Repository) × (v : View) × IsAt (G.told outside.new) store.new r work.new v) }
+    requires { GoesOn store.old work.old }
+    ensures { IfOk result (λ done. IsTrue done → GoesOn store.new work.new) }
 {
     let info = info(alloc, date)?;
     match store.commit(alloc, outside, work, b"main", info) {
@@ -215,10 +207,8 @@ fn make<G: Ground>(
     word: &Edit,
     date: u64,
 ) -> Result<bool, Fail>
-    requires tables { GoesOn store.old work.old }
-    requires held { IsTrue G.tells → (r : Repository) × (v : View) × IsAt (G.told outside.old) store.old r work.old v }
-    ensures tables { IfOk result (λ done. IsTrue done → GoesOn store.new work.new) }
-    ensures held { IfOk result (λ done. IsTrue done → IsTrue G.tells → (r : Repository) × (v : View) × IsAt (G.told outside.new) store.new r work.new v) }
+    requires { GoesOn store.old work.old }
+    ensures { IfOk result (λ done. IsTrue done → GoesOn store.new work.new) }
 {
     match word {
         Edit::Set(path, byte) => set(alloc, outside, store, work, path, *byte),

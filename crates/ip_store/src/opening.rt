@@ -5,10 +5,13 @@ ghost use Rattle.ip_spec.specs.Repository.{Repository};
 ghost use Rattle.ip_image.specs.Slot.{IsSlot, layout_of};
 ghost use Rattle.ip_image.specs.Standing.{AreRetained};
 ghost use Rattle.ip_store.specs.Opening.{Opens};
-ghost use Rattle.ip_store.specs.Found.{FindsSlot, Finishes};
+ghost use Rattle.ip_store.specs.Found.{FindsSlot, FindsGeneration, Finishes};
 ghost use Rattle.ip_store.specs.Commits.{met_nothing};
 ghost use Rattle.ip_store.specs.Placed.{IsSpaceOf};
-ghost use Rattle.ip_store.specs.Store.{IsOf, IsSound};
+ghost use Rattle.ip_ground.specs.Told.{NoFile, ChangesOnly};
+ghost use Rattle.ip_space.specs.SpaceView.{IsReadable};
+ghost use Rattle.ip_store.specs.Store.{IsOf, OwnsPair};
+ghost use Rattle.ip_store.specs.declared.opening.OpenFault.TheVariants as OpenFault;
 ghost use Rattle.ip_ground.specs.declared.names.FileName.TheVariants.{Control};
 
 use crate::branches::MOST_BRANCHES;
@@ -18,7 +21,7 @@ use ip_audit::Names;
 use ip_base::Memory;
 use ip_control::{ControlFault, Slot, read_live};
 use ip_ground::{FileName, Ground, GroundFault};
-use ip_space::{Layout, Space};
+use ip_space::{Layout, Space, SpaceFault};
 use ip_spec::met::{Child, Met};
 use std::alloc::Global;
 
@@ -56,8 +59,8 @@ impl From<Memory> for OpenFault {
 }
 
 impl Store {
-    /// Opens the store: it reads each byte of its records once, and keeps the names of the commits, where their records lie, and the
-    /// branches. It reads by the mebibyte, and besides these it takes memory for one record and for a buffer, which has no more than a
+    /// Opens the store: it reads each byte of its records once, and of a live mapping, and keeps the names of the commits, where their records
+    /// lie, the branches and the mapping. It reads by the mebibyte, or run by run below the horizon, and besides these it takes memory for one record and for a buffer, which has no more than a
     /// mebibyte and the bytes of the longest record, as its head tells them. `NoStore` and `Damaged` are final; after the other two it
     /// may be tried again.
     pub fn open_at<G: Ground>(alloc: Global, outside: &mut G) -> Result<Store, OpenFault>
@@ -68,7 +71,7 @@ impl Store {
         ensures cause { IsErrOf result OpenFault.Ground → Rose (G.counts_of outside.old).file_faults (G.counts_of outside.new).file_faults }
     {
         let (index, slot) = find_slot(outside)?;
-        let space = space_of(alloc, outside, &slot);
+        let space = space_of(alloc, outside, &slot)?;
         let found = read_records(alloc, outside, &slot, &space)?;
         finish(index, slot, found, space)
     }
@@ -117,15 +120,22 @@ fn layout_of(slot: &Slot) -> Layout
     }
 }
 
-// The space of a slot's records. While no generation of a collection is live nothing is read for it.
-fn space_of<G: Ground>(alloc: Global, outside: &mut G, slot: &Slot) -> Space
+// The space of a slot's records. Where a generation is live its mapping is read, and the length of its prefix is asked for.
+fn space_of<G: Ground>(alloc: Global, outside: &mut G, slot: &Slot) -> Result<Space, OpenFault>
     requires { IsSlot slot.now }
-    ensures view { IsSpaceOf slot.now result }
-    ensures unread { outside.new ≡ outside.old }
+    ensures view { IfOk result (λ space. IsSpaceOf slot.now space) }
+    ensures finds { IsTrue G.tells → OwnsPair (G.told outside.old) slot.now → FindsGeneration (G.told outside.new).held slot.now result }
+    ensures readable { IsTrue G.tells → OwnsPair (G.told outside.old) slot.now → IfOk result (λ space. IsReadable (G.told outside.new) space) }
+    ensures there { IsErrOf result OpenFault.NoStore → ⊥ }
+    ensures only { IsTrue G.tells → ChangesOnly NoFile (G.told outside.old) (G.told outside.new) }
+    ensures counts { NoneFalls (G.counts_of outside.old) (G.counts_of outside.new) }
+    ensures cause { IsErrOf result OpenFault.Ground → Rose (G.counts_of outside.old).file_faults (G.counts_of outside.new).file_faults }
 {
     match Space::of(alloc, outside, layout_of(slot)) {
-        Ok(space) => space,
-        Err(_) => unreachable!(),
+        Ok(space) => Ok(space),
+        Err(SpaceFault::Ground) => Err(OpenFault::Ground),
+        Err(SpaceFault::Damaged { file, at }) => Err(OpenFault::Damaged { file, at }),
+        Err(SpaceFault::Memory) => Err(OpenFault::Memory),
     }
 }
 
@@ -134,6 +144,7 @@ fn finish(index: u8, slot: Slot, found: Found, space: Space) -> Result<Store, Op
     requires slot { IsSlot slot }
     requires space { IsSpaceOf slot space }
     ensures finishes { Finishes index slot found result }
+    ensures space { IfOk result (λ store. store.space ≡ space) }
     ensures met { IfOk result (λ store. store.met ≡ met_nothing) }
 {
     let Found {
@@ -311,7 +322,7 @@ mod tests {
 
     // Puts `dev` where `main` is, and takes `main` away.
     fn renamed(alloc: Global, ground: &mut Bench, store: &mut Store) -> Result<bool, StoreFault>
-        requires { IsSound store.old (⟦<Bench as Ground>⟧.told ground.old) }
+        requires { (r : Repository) × IsOf store.old r }
     {
         let Some(number) = store.head(b"main") else {
             return Ok(false);

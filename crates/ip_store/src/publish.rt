@@ -20,8 +20,7 @@ pub fn durable_step<G: Ground>(
     requires which { slot < 2 }
     requires chunk { IsChunkSize fields.now.chunk }
     requires room { end + length bytes.now ≤ 2 ^ 62 }
-    requires sound { IsTrue G.tells → CanStep end slot fields.now (G.told outside.old) }
-    ensures does { IsTrue G.tells → MakesStep end bytes.now slot fields.now result (G.told outside.old) (G.told outside.new) }
+    ensures does { IsTrue G.tells → CanStep end slot fields.now (G.told outside.old) → MakesStep end bytes.now slot fields.now result (G.told outside.old) (G.told outside.new) }
     ensures counts { NoneFalls (G.counts_of outside.old) (G.counts_of outside.new) }
     ensures cause { OnErr result (Rose (G.counts_of outside.old).file_faults (G.counts_of outside.new).file_faults) }
 {

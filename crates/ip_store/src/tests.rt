@@ -2,7 +2,7 @@
 ghost use Rattle.std.specs.Prelude.{◌≡◌, ◌<◌, IsTrue, IfOk, OnOk};
 ghost use Rattle.ip_spec.specs.Record.{IsInfo};
 ghost use Rattle.ip_spec.specs.Repository.{Repository};
-ghost use Rattle.ip_store.specs.Store.{IsOf, IsSound};
+ghost use Rattle.ip_store.specs.Store.{IsOf};
 
 use crate::{Shown, Store, StoreFault, Work, chunk_allowed};
 use ip_base::{Blob, Hash, Info, Memory, Number};
@@ -269,8 +269,7 @@ fn info(alloc: Global, message: u8) -> Result<Info, Memory>
 
 // Two commits of the empty tree to `main`, one behind the other.
 fn two_commits<G: Ground>(alloc: Global, outside: &mut G, store: &mut Store) -> Result<(), Fail>
-    requires tables { (r : Repository) × IsOf store.old r }
-    requires held { IsTrue G.tells → IsSound store.old (G.told outside.old) }
+    requires { (r : Repository) × IsOf store.old r }
     ensures { OnOk result ((r : Repository) × IsOf store.new r) }
 {
     let mut work = Work::empty(alloc);

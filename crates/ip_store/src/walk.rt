@@ -1,17 +1,18 @@
 // The walk over a store's records: each is read once, in the order of the offsets, and tested behind those before it.
-ghost use Rattle.std.specs.Prelude.{◌≡◌, ◌↔◌, ℕ, [], ◌∷◌, ◌++◌, ◌<◌, ◌≤◌, map, Option, Err, IsTrue, IsFalse, IfOk, OnOk, OnErr, IsErrOf};
+ghost use Rattle.std.specs.Prelude.{◌≡◌, ◌↔◌, ℕ, [], ◌∷◌, ◌++◌, ◌+◌, ◌^◌, ◌<◌, ◌≤◌, length, map, Option, Err, IsSome, IsTrue, IsFalse, IfOk, OnOk, OnErr, IsErrOf};
 ghost use Rattle.ip_ground.specs.Counts.{NoneFalls, Rose};
 ghost use Rattle.ip_ground.specs.Told.{NoFile, ChangesOnly};
 ghost use Rattle.ip_spec.specs.Record.{Names, Fits};
 ghost use Rattle.ip_spec.specs.declared.record.Record.{Record};
 ghost use Rattle.ip_image.specs.Slot.{newest_version, IsSlot};
 ghost use Rattle.ip_image.specs.Standing.{IsServedKind, names_after};
-ghost use Rattle.ip_space.specs.SpaceView.{IsReadable};
+ghost use Rattle.ip_image.specs.Virtual.{lies_at};
+ghost use Rattle.ip_space.specs.SpaceView.{IsReadable, stretches_of};
 ghost use Rattle.ip_space.specs.Fetching.{BlamesPlace};
 ghost use Rattle.ip_store.specs.Placed.{places_in, IsSpaceOf};
 ghost use Rattle.ip_store.specs.Histories.{RecordEnters, history_after};
 ghost use Rattle.ip_spec.specs.declared.record.Parent.{Parent};
-ghost use Rattle.ip_store.specs.Walk.{Tells, TellsSome, TakesOne, IsPlaced, IsUnread, TakesRead, Walks, Covers, BadRecord};
+ghost use Rattle.ip_store.specs.Walk.{MayStand, Tells, TellsSome, TakesOne, IsPlaced, IsUnread, TakesRead, Filled, Walks, Covers, BadRecord};
 ghost use Rattle.ip_store.specs.declared.opening.OpenFault.TheVariants as OpenFault;
 ghost use Rattle.ip_ground.specs.declared.names.FileName.{FileName};
 
@@ -21,7 +22,7 @@ use ip_base::{Memory, Number, Numbers};
 use ip_control::Slot;
 use ip_ground::Ground;
 use ip_history::Table;
-use ip_space::{FetchFault, Scan, Space};
+use ip_space::{FetchFault, Run, Scan, Space, stretches_lie};
 use ip_spec::record::{Parent, Record};
 use std::alloc::Global;
 
@@ -59,7 +60,6 @@ impl Found {
     fn take(&mut self, alloc: Global, at: u64, rec: Record) -> Result<(), AuditFault>
         requires told { TellsSome at self.old }
         requires bounds { (version : ℕ) × Fits version rec }
-        requires served { IsServedKind rec }
         ensures { TakesOne at rec self.old self.new result }
     {
         self.audit.take(at, &rec)?;
@@ -91,12 +91,11 @@ fn enter(
     rec: Record,
 ) -> Result<(), Memory>
     requires enters { RecordEnters history.old rec }
-    requires served { IsServedKind rec }
     ensures history { OnOk result (history.new ≡ history_after history.old rec) }
     ensures branches { OnOk result (branches.new ≡ names_after Names.branches branches.old rec) }
 {
     enter_parents(alloc, history, &rec)?;
-    name_branch(branches, rec)
+    name_branch(alloc, branches, rec)
 }
 
 // Puts the parents of a commit into the history.
@@ -124,9 +123,8 @@ fn numbers_of(alloc: Global, parents: &[Parent]) -> Result<Numbers, Memory>
     Ok(numbers)
 }
 
-// Puts a branch where the record says, or takes it away.
-pub fn name_branch(branches: &mut Branches, rec: Record) -> Result<(), Memory>
-    requires { IsServedKind rec }
+// Puts a branch where the record says, or takes it away, or makes the branches those of a table.
+pub fn name_branch(alloc: Global, branches: &mut Branches, rec: Record) -> Result<(), Memory>
     ensures ok { OnOk result (branches.new ≡ names_after Names.branches branches.old rec) }
     ensures err { OnErr result (branches.new ≡ branches.old) }
 {
@@ -136,11 +134,15 @@ pub fn name_branch(branches: &mut Branches, rec: Record) -> Result<(), Memory>
             branches.remove(name.as_slice());
             Ok(())
         }
+        Record::BranchTable(rows) => {
+            *branches = Branches::of_rows(alloc, rows)?;
+            Ok(())
+        }
         _ => Ok(()),
     }
 }
 
-/// Whether records of the kind are served, and for a leaf, whether it is a whole directory.
+// Whether records of the kind are served, and for a leaf, whether it is a whole directory.
 fn is_served(rec: &Record) -> bool
     ensures { IsTrue result ↔ IsServedKind rec.now }
 {
@@ -148,15 +150,30 @@ fn is_served(rec: &Record) -> bool
         Record::Contents(_)
         | Record::Commit(_)
         | Record::BranchSet { .. }
-        | Record::BranchRemove { .. } => true,
+        | Record::BranchRemove { .. }
+        | Record::BranchTable(_) => true,
         Record::Leaf(entries) => entries.as_slice().len() <= MOST_ENTRIES,
         _ => false,
     }
 }
 
+// Whether a record of this kind may stand at the offset: below the horizon only parts of trees, and at the horizon of a live generation its
+// commit.
+fn may_stand(slot: &Slot, at: u64, rec: &Record) -> bool
+    ensures { IsTrue result ↔ MayStand slot.now at rec.now }
+{
+    if !is_served(rec) {
+        return false;
+    }
+    if at < slot.horizon {
+        return matches!(rec, Record::Contents(_) | Record::Leaf(_));
+    }
+    slot.live == 0 || at != slot.horizon || matches!(rec, Record::Commit(_))
+}
+
 // What shows that the files are no store's: no good record stands at this offset, which lies in some file.
 fn damaged_at(space: &Space, at: u64) -> OpenFault
-    requires { space.now.layout.horizon ≤ at }
+    requires { IsSome (lies_at space.now.layout space.now.runs at) }
     ensures { IsPlaced space.now at result }
 {
     match space.lies_at(at) {
@@ -167,7 +184,7 @@ fn damaged_at(space: &Space, at: u64) -> OpenFault
 
 // Why the walk found no record at some place.
 fn unread(space: &Space, fault: FetchFault) -> OpenFault
-    requires { (place : ℕ) × (space.now.layout.horizon ≤ place) × BlamesPlace {A = Option (ℕ × Record)} place (Err fault) }
+    requires { (place : ℕ) × IsSome (lies_at space.now.layout space.now.runs place) × BlamesPlace {A = Option (ℕ × Record)} place (Err fault) }
     ensures { IsUnread space.now fault result }
 {
     match fault {
@@ -181,17 +198,19 @@ fn unread(space: &Space, fault: FetchFault) -> OpenFault
 // Takes a record that was read, where it is a good one.
 fn take_read(
     alloc: Global,
+    slot: &Slot,
     space: &Space,
     at: u64,
     rec: Record,
     found: &mut Found,
 ) -> Result<(), OpenFault>
-    requires above { space.now.layout.horizon ≤ at }
+    requires slot { IsSlot slot.now }
+    requires lies { IsSome (lies_at space.now.layout space.now.runs at) }
     requires told { TellsSome at found.old }
     requires bounds { Fits newest_version rec }
-    ensures { TakesRead space.now at rec found.old found.new result }
+    ensures { TakesRead slot.now space.now at rec found.old found.new result }
 {
-    if !is_served(&rec) {
+    if !may_stand(slot, at, &rec) {
         return Err(damaged_at(space, at));
     }
     match found.take(alloc, at, rec) {
@@ -201,38 +220,88 @@ fn take_read(
     }
 }
 
-// Reads and takes the next record; false at the end of the walk.
+/// The walk through one stretch of the space.
+#[derive(Drop)]
+struct Walk {
+    number: usize,
+    stretch: Run,
+    scan: Scan,
+}
+
+// Reads and takes the next record; false at the end of the stretch.
 fn take_next<G: Ground>(
     alloc: Global,
     outside: &mut G,
     slot: &Slot,
     space: &Space,
-    scan: &mut Scan,
+    walk: &mut Walk,
     found: &mut Found,
 ) -> Result<bool, OpenFault>
     requires slot { IsSlot slot.now }
     requires space { IsSpaceOf slot.now space.now }
-    requires walks { Walks slot.now G.tells (G.told outside.old) space.now scan.old found.old }
-    ensures walks { IfOk result (λ more. Walks slot.now G.tells (G.told outside.new) space.now scan.new found.new) }
-    ensures further { IfOk result (λ more. IsTrue more → (scan.old.next < scan.new.next) × (scan.old.next < slot.now.end)) }
-    ensures ends { IfOk result (λ more. IsFalse more → slot.now.end ≤ scan.new.next) }
-    ensures damaged { IsTrue G.tells → (file : FileName) (at : ℕ) → IsErrOf result (OpenFault.Damaged file at) → BadRecord slot.now (G.told outside.new) space.now file at }
+    requires walks { Walks slot.now G.tells (G.told outside.old) space.now walk.old found.old }
+    ensures walks { IfOk result (λ more. Walks slot.now G.tells (G.told outside.new) space.now walk.new found.new) }
+    ensures same { (walk.new.number ≡ walk.old.number) × (walk.new.stretch ≡ walk.old.stretch) }
+    ensures further { IfOk result (λ more. IsTrue more → (walk.old.scan.next < walk.new.scan.next) × (walk.old.scan.next < walk.old.scan.to)) }
+    ensures ends { IfOk result (λ more. IsFalse more → walk.new.scan.next ≡ walk.new.scan.to) }
+    ensures damaged { IsTrue G.tells → IsReadable (G.told outside.old) space.now → (file : FileName) (at : ℕ) → IsErrOf result (OpenFault.Damaged file at) →
+        BadRecord slot.now (G.told outside.new) space.now file at }
     ensures there { IsErrOf result OpenFault.NoStore → ⊥ }
     ensures only { IsTrue G.tells → ChangesOnly NoFile (G.told outside.old) (G.told outside.new) }
     ensures counts { NoneFalls (G.counts_of outside.old) (G.counts_of outside.new) }
     ensures cause { IsErrOf result OpenFault.Ground → Rose (G.counts_of outside.old).file_faults (G.counts_of outside.new).file_faults }
 {
-    match scan.step(outside, space) {
+    stretches_lie();
+    match walk.scan.step(outside, space) {
         Ok(None) => Ok(false),
-        Ok(Some((at, rec))) => match take_read(alloc, space, at, rec, found) {
-            Ok(()) => Ok(true),
-            Err(fault) => Err(fault),
-        },
+        Ok(Some((at, rec))) => {
+            if walk.scan.next() > walk.stretch.at + walk.stretch.length {
+                return Err(damaged_at(space, at));
+            }
+            match take_read(alloc, slot, space, at, rec, found) {
+                Ok(()) => Ok(true),
+                Err(fault) => Err(fault),
+            }
+        }
         Err(fault) => Err(unread(space, fault)),
     }
 }
 
-/// Reads all records of a store with this slot, from the horizon to the end of its space.
+// Reads the records of the stretch of this number; false where there are no more stretches.
+fn read_stretch<G: Ground>(
+    alloc: Global,
+    outside: &mut G,
+    slot: &Slot,
+    space: &Space,
+    number: usize,
+    found: &mut Found,
+) -> Result<bool, OpenFault>
+    requires slot { IsSlot slot.now }
+    requires space { IsSpaceOf slot.now space.now }
+    requires filled { Filled slot.now G.tells (G.told outside.old) space.now number found.old }
+    ensures filled { IfOk result (λ more. IsTrue more → Filled slot.now G.tells (G.told outside.new) space.now (number + 1) found.new) }
+    ensures further { IfOk result (λ more. IsTrue more → (number < length (stretches_of space.now)) × (number < 2 ^ 63)) }
+    ensures ends { IfOk result (λ more. IsFalse more → (length (stretches_of space.now) ≤ number) × (found.new ≡ found.old) × (outside.new ≡ outside.old)) }
+    ensures damaged { IsTrue G.tells → IsReadable (G.told outside.old) space.now → (file : FileName) (at : ℕ) → IsErrOf result (OpenFault.Damaged file at) →
+        BadRecord slot.now (G.told outside.new) space.now file at }
+    ensures there { IsErrOf result OpenFault.NoStore → ⊥ }
+    ensures only { IsTrue G.tells → ChangesOnly NoFile (G.told outside.old) (G.told outside.new) }
+    ensures counts { NoneFalls (G.counts_of outside.old) (G.counts_of outside.new) }
+    ensures cause { IsErrOf result OpenFault.Ground → Rose (G.counts_of outside.old).file_faults (G.counts_of outside.new).file_faults }
+{
+    let Some(stretch) = space.stretch_at(number) else {
+        return Ok(false);
+    };
+    let mut walk = Walk {
+        number,
+        stretch,
+        scan: space.scan(stretch.at, stretch.at + stretch.length),
+    };
+    while take_next(alloc, outside, slot, space, &mut walk, found)? {}
+    Ok(true)
+}
+
+/// Reads all records of a store with this slot: those of each run below the horizon, and from the horizon to the end of its space.
 pub fn read_records<G: Ground>(
     alloc: Global,
     outside: &mut G,
@@ -241,16 +310,18 @@ pub fn read_records<G: Ground>(
 ) -> Result<Found, OpenFault>
     requires slot { IsSlot slot.now }
     requires space { IsSpaceOf slot.now space.now }
-    requires readable { IsTrue G.tells → IsReadable (G.told outside.old) space.now }
     ensures covers { IfOk result (λ found. Covers slot.now G.tells (G.told outside.new) space.now found) }
-    ensures damaged { IsTrue G.tells → (file : FileName) (at : ℕ) → IsErrOf result (OpenFault.Damaged file at) → BadRecord slot.now (G.told outside.new) space.now file at }
+    ensures damaged { IsTrue G.tells → IsReadable (G.told outside.old) space.now → (file : FileName) (at : ℕ) → IsErrOf result (OpenFault.Damaged file at) →
+        BadRecord slot.now (G.told outside.new) space.now file at }
     ensures there { IsErrOf result OpenFault.NoStore → ⊥ }
     ensures only { IsTrue G.tells → ChangesOnly NoFile (G.told outside.old) (G.told outside.new) }
     ensures counts { NoneFalls (G.counts_of outside.old) (G.counts_of outside.new) }
     ensures cause { IsErrOf result OpenFault.Ground → Rose (G.counts_of outside.old).file_faults (G.counts_of outside.new).file_faults }
 {
-    let mut scan = space.scan(slot.horizon, slot.end);
     let mut found = Found::new(alloc, slot);
-    while take_next(alloc, outside, slot, space, &mut scan, &mut found)? {}
+    let mut number = 0;
+    while read_stretch(alloc, outside, slot, space, number, &mut found)? {
+        number += 1;
+    }
     Ok(found)
 }

@@ -1,5 +1,5 @@
 // The work of a session.
-ghost use Rattle.std.specs.Prelude.{◌≡◌, ℕ, Option};
+ghost use Rattle.std.specs.Prelude.{◌≡◌, ◌≤◌, ℕ, Option};
 ghost use Rattle.ip_ground.specs.Contents.{Image};
 ghost use Rattle.ip_spec.specs.Machine.{empty_work};
 ghost use Rattle.ip_spec.specs.Repository.{Repository};
@@ -40,10 +40,10 @@ impl Work {
 }
 
 /// A law, which does nothing when it is called: a lawful work stays lawful under calls that it was not given to, as long as the records stay
-/// and its parents are retained.
+/// its parents are retained, and no more commits are given up.
 pub fn works_stay()
     ensures { (records more : ℕ → Option Record) (r q : Repository) (work : Work) (v : View) → IsLawful records r work v → RecordsStay records more → HasLeavesOnly more
-        → AreParents q work.parents → IsLawful more q work v }
+        → q.floor ≤ r.floor → AreParents q work.parents → IsLawful more q work v }
 {}
 
 /// A law, which does nothing when it is called: in an image that stands each directory is one leaf, so trees may be read over its records.

@@ -1,59 +1,70 @@
-use Rattle.std.proofs.Common.{subst}
+use Rattle.std.proofs.Common.{subst, arith}
 use Rattle.std.specs.Prelude.{Ok, IfSome}
 use Rattle.ip_spec.specs.Record.{Fits}
 use Rattle.ip_image.specs.Slot.{newest_version}
 use Rattle.ip_space.specs.SpaceView.{byte_at}
 use Rattle.ip_space.specs.Scanning.{Moves, FindsWhole}
-use Rattle.ip_store.proofs.RecordSteps.{above, stays_there, goes_on, further, bad_taken_as, bad_unread}
+use Rattle.ip_store.proofs.RecordSteps.{stays_there, goes_on, further, too_long, bad_taken_as, bad_unread}
 use Rattle.ip_store.proofs.walk.take_next.Goals as goal
 
 pub unread-requires : goal.unread-requires
-unread-requires g c = (c.args.scan.now.next, above c.args.slot.now c.requires.slot c.args.space.now c.requires.space c.args.scan.now.next, c.in-Err.ensures.blames)
+unread-requires g c =
+    let walk = c.args.walk.now in
+    let walks = c.requires.walks in
+    (walk.scan.next, c.stretches_lie.ensures c.args.space.now walk.number walk.scan.next walk.stretch walks.here walks.from (let more = c.in-Err.ensures.moves.0 in let to = walks.to in omega (arith, more, to)), c.in-Err.ensures.blames)
 
 pub returns-in-Ok-None-clause-walks : goal.returns-in-Ok-None-clause-walks
 returns-in-Ok-None-clause-walks g c =
     let walks = c.requires.walks in
-    let moves = subst (λ o. Moves c.args.scan.now c.step.new.self (Ok o)) c.in-Ok-None.field-0-is c.in-Ok-None.ensures.moves in
-    stays_there c.args.slot.now c.requires.slot c.args.space.now c.requires.space g.G.Ground.tells _ _ c.args.scan.now c.args.found.now walks (λ t. (c.step.ensures.reads t).only) c.step.new.self
-    moves.1 (λ t. c.step.ensures.current t (walks.readable t) (walks.current t))
+    let moves = subst (λ o. Moves c.args.walk.now.scan c.step.new.self (Ok o)) c.in-Ok-None.field-0-is c.in-Ok-None.ensures.moves in
+    stays_there c.args.slot.now c.requires.slot c.args.space.now g.G.Ground.tells _ _ c.args.walk.now c.args.found.now walks (λ t. (c.step.ensures.reads t).only) c.step.new.self moves.1
+    (λ t readable. c.step.ensures.current t readable (walks.current t readable))
 
 pub returns-in-Ok-clause-walks : goal.returns-in-Ok-clause-walks
 returns-in-Ok-clause-walks g c =
     let walks = c.requires.walks in
     let now = g.G.Ground.told c.step.new.outside in
     let space = c.args.space.now in
-    let at = c.in-Ok-Some.at in
-    let rec = c.in-Ok-Some.rec in
-    let steps = subst (λ o. Moves c.args.scan.now c.step.new.self (Ok o)) c.in-Ok-Some.field-0-is c.in-Ok-Some.ensures.moves in
+    let walk = c.args.walk.now in
+    let steps = subst (λ o. Moves walk.scan c.step.new.self (Ok o)) c.in-Ok-Some.field-0-is c.in-Ok-Some.ensures.moves in
     let fits = subst (λ o. IfSome o (λ f. Fits newest_version f.1)) c.in-Ok-Some.field-0-is c.in-Ok-Some.ensures.bounds in
-    goes_on c.args.slot.now c.requires.slot space c.requires.space g.G.Ground.tells _ now c.args.scan.now c.args.found.now walks (λ t. (c.step.ensures.reads t).only) c.step.new.self at rec fits steps
-    c.take_read.new.found
-    (λ t. subst (λ o. FindsWhole (byte_at now space) space.layout.end c.args.scan.now.next (Ok o)) c.in-Ok-Some.field-0-is (c.in-Ok-Some.ensures.whole t (walks.readable t) (walks.current t)))
-    c.in-Ok.field-0 c.in-Ok.ensures (λ t. c.step.ensures.current t (walks.readable t) (walks.current t))
+    goes_on c.args.slot.now c.requires.slot space g.G.Ground.tells _ now walk c.args.found.now walks (λ t. (c.step.ensures.reads t).only) c.step.new.self c.in-Ok-Some.at c.in-Ok-Some.rec fits steps
+    (λ t readable. subst (λ o. FindsWhole (byte_at now space) space.layout.end walk.scan.next (Ok o)) c.in-Ok-Some.field-0-is (c.in-Ok-Some.ensures.whole t readable (walks.current t readable)))
+    c.take_read.new.found c.in-Ok.field-0 c.in-Ok.ensures (let within = c.if-next-walk.false in let next = c.next.ensures in omega (arith, within, next)) (λ t readable. c.step.ensures.current t readable (walks.current t readable))
 
 pub returns-in-Ok-clause-further : goal.returns-in-Ok-clause-further
 returns-in-Ok-clause-further g c is =
-    let walks = c.requires.walks in
-    let steps = subst (λ o. Moves c.args.scan.now c.step.new.self (Ok o)) c.in-Ok-Some.field-0-is c.in-Ok-Some.ensures.moves in
+    let walk = c.args.walk.now in
+    let steps = subst (λ o. Moves walk.scan c.step.new.self (Ok o)) c.in-Ok-Some.field-0-is c.in-Ok-Some.ensures.moves in
     let fits = subst (λ o. IfSome o (λ f. Fits newest_version f.1)) c.in-Ok-Some.field-0-is c.in-Ok-Some.ensures.bounds in
-    further c.args.slot.now c.requires.slot c.args.space.now c.requires.space g.G.Ground.tells _ _ c.args.scan.now c.args.found.now walks (λ t. (c.step.ensures.reads t).only) c.step.new.self c.in-Ok-Some.at
-    c.in-Ok-Some.rec fits steps
+    further c.args.slot.now c.requires.slot c.args.space.now g.G.Ground.tells _ _ walk c.args.found.now c.requires.walks (λ t. (c.step.ensures.reads t).only) c.step.new.self c.in-Ok-Some.at c.in-Ok-Some.rec fits steps
 
-pub returns-in-Err-take_read-clause-damaged : goal.returns-in-Err-take_read-clause-damaged
-returns-in-Err-take_read-clause-damaged g c told file at damaged =
+pub returns-then-next-walk-clause-damaged : goal.returns-then-next-walk-clause-damaged
+returns-then-next-walk-clause-damaged g c told readable file at damaged =
     let walks = c.requires.walks in
     let now = g.G.Ground.told c.step.new.outside in
     let space = c.args.space.now in
-    let steps = subst (λ o. Moves c.args.scan.now c.step.new.self (Ok o)) c.in-Ok-Some.field-0-is c.in-Ok-Some.ensures.moves in
+    let walk = c.args.walk.now in
+    let steps = subst (λ o. Moves walk.scan c.step.new.self (Ok o)) c.in-Ok-Some.field-0-is c.in-Ok-Some.ensures.moves in
     let fits = subst (λ o. IfSome o (λ f. Fits newest_version f.1)) c.in-Ok-Some.field-0-is c.in-Ok-Some.ensures.bounds in
-    bad_taken_as c.args.slot.now c.requires.slot space c.requires.space g.G.Ground.tells _ now c.args.scan.now c.args.found.now walks (λ t. (c.step.ensures.reads t).only) c.step.new.self c.in-Ok-Some.at
-    c.in-Ok-Some.rec fits steps c.take_read.new.found
-    (λ t. subst (λ o. FindsWhole (byte_at now space) space.layout.end c.args.scan.now.next (Ok o)) c.in-Ok-Some.field-0-is (c.in-Ok-Some.ensures.whole t (walks.readable t) (walks.current t)))
-    told c.in-Err-take_read.fault file at damaged c.in-Err-take_read.ensures
+    too_long c.args.slot.now c.requires.slot space g.G.Ground.tells _ now walk c.args.found.now walks (λ t. (c.step.ensures.reads t).only) c.step.new.self c.in-Ok-Some.at c.in-Ok-Some.rec fits steps
+    (λ t readable. subst (λ o. FindsWhole (byte_at now space) space.layout.end walk.scan.next (Ok o)) c.in-Ok-Some.field-0-is (c.in-Ok-Some.ensures.whole t readable (walks.current t readable)))
+    told readable (let behind = c.if-next-walk.true in let next = c.next.ensures in omega (arith, behind, next)) c.damaged_at.result file at damaged c.damaged_at.ensures
+
+pub returns-in-Err-take_read-clause-damaged : goal.returns-in-Err-take_read-clause-damaged
+returns-in-Err-take_read-clause-damaged g c told readable file at damaged =
+    let walks = c.requires.walks in
+    let now = g.G.Ground.told c.step.new.outside in
+    let space = c.args.space.now in
+    let walk = c.args.walk.now in
+    let steps = subst (λ o. Moves walk.scan c.step.new.self (Ok o)) c.in-Ok-Some.field-0-is c.in-Ok-Some.ensures.moves in
+    let fits = subst (λ o. IfSome o (λ f. Fits newest_version f.1)) c.in-Ok-Some.field-0-is c.in-Ok-Some.ensures.bounds in
+    bad_taken_as c.args.slot.now c.requires.slot space g.G.Ground.tells _ now walk c.args.found.now walks (λ t. (c.step.ensures.reads t).only) c.step.new.self c.in-Ok-Some.at c.in-Ok-Some.rec fits steps
+    (λ t readable. subst (λ o. FindsWhole (byte_at now space) space.layout.end walk.scan.next (Ok o)) c.in-Ok-Some.field-0-is (c.in-Ok-Some.ensures.whole t readable (walks.current t readable)))
+    c.take_read.new.found told readable c.in-Err-take_read.fault file at damaged c.in-Err-take_read.ensures
 
 pub returns-in-Err-clause-damaged : goal.returns-in-Err-clause-damaged
-returns-in-Err-clause-damaged g c told file at damaged =
+returns-in-Err-clause-damaged g c told readable file at damaged =
     let walks = c.requires.walks in
-    bad_unread c.args.slot.now c.requires.slot c.args.space.now c.requires.space g.G.Ground.tells _ _ c.args.scan.now c.args.found.now walks (λ t. (c.step.ensures.reads t).only)
-    told file at c.in-Err.ensures.moves.0 (c.step.ensures.reads told) c.in-Err.fault c.unread.result damaged c.unread.ensures
-    (c.in-Err.ensures.found told (walks.readable told) (walks.current told)) c.in-Err.ensures.blames
+    bad_unread c.args.slot.now c.requires.slot c.args.space.now g.G.Ground.tells _ _ c.args.walk.now c.args.found.now walks (λ t. (c.step.ensures.reads t).only) told readable file at c.in-Err.ensures.moves.0
+    (c.step.ensures.reads told) c.in-Err.fault c.unread.result damaged c.unread.ensures (c.in-Err.ensures.found told readable (walks.current told readable)) c.in-Err.ensures.blames

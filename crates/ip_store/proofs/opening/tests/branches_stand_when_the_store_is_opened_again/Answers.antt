@@ -1,5 +1,4 @@
-use Rattle.std.proofs.Common.{refl}
 use Rattle.ip_store.proofs.opening.tests.branches_stand_when_the_store_is_opened_again.Goals as goal
 
 pub renamed-requires : goal.renamed-requires
-renamed-requires g c = (c.in-Ok.ensures.does refl).holds
+renamed-requires g c = c.in-Ok.ensures.tables

@@ -1,13 +1,11 @@
 use Rattle.std.proofs.Common.{◌≡◌, ◌+◌, ◌-◌, ◌^◌, ◌≤◌, ◌++◌, length, [], ◌∷◌, ℕ, None, rules, refl, sym, ◌∙◌, ap, subst}
-use Rattle.std.specs.Prelude.{Err, IfSome, Some, position}
+use Rattle.std.specs.Prelude.{Err, IfSome, position}
 use Rattle.ip_spec.specs.declared.command.Command.TheVariants as Command
 use Rattle.ip_spec.specs.Path.{same_bytes}
 use Rattle.ip_spec.specs.Map.{insert}
 use Rattle.ip_spec.specs.Step.{new_commit, with_commit}
-use Rattle.ip_spec.specs.TreeAt.{present}
 use Rattle.ip_image.specs.declared.slot.Slot.{Slot}
 use Rattle.ip_image.specs.Slot.{IsChunkSize}
-use Rattle.ip_image.proofs.SpelledCommits.{present_front}
 use Rattle.ip_space.specs.SpaceView.{SpaceView, grown}
 use Rattle.ip_store.specs.declared.committing.StoreFault.TheVariants as StoreFault
 use Rattle.ip_store.specs.Changes.{LimitsSpace}
@@ -18,8 +16,8 @@ use Rattle.ip_store.proofs.Histories.{may_enter}
 use Rattle.ip_store.proofs.Machine.{refused_memory}
 use Rattle.ip_store.proofs.Planning.{err_of}
 use Rattle.ip_store.proofs.Stepping.{itself, same_tables, changes_none, stays_still, same_can_step, same_step}
-use Rattle.ip_store.proofs.AfterCommit.{some_commit, after_tables, after_parents, held_after, read_root, further, inside, can_step, made, cut, list_on, saved_tree, work_after, answers_refused, answers_made, same_at}
-use Rattle.ip_store.proofs.Tables.{none_below, none_named, free}
+use Rattle.ip_store.proofs.AfterCommit.{some_commit, after_tables, after_parents, held_after, read_root, further, inside, can_step, stays_committed, made, cut, saved_tree, work_after, answers_refused, answers_made, same_at}
+use Rattle.ip_store.proofs.Tables.{none_named, free}
 use Rattle.ip_store.proofs.store.Store.commit_work.Goals as goal
 
 pub enter-requires-clause-new : goal.enter-requires-clause-new
@@ -50,14 +48,6 @@ grow-requires-clause-ends g c =
     let of = c.requires.tables.1 in
     let plan = c.in_ok-plan.plan in
     inside r c.args.work.now.parents c.args.branch.now c.args.self.now plan of (c.in_ok-plan.ensures.coming r of) (some_commit r c.args.work.now.parents c.args.info plan) refl refl
-
-pub durable_step-requires-clause-sound : goal.durable_step-requires-clause-sound
-durable_step-requires-clause-sound g c told =
-    let r = (c.requires.held told).0 in
-    let held = (c.requires.held told).2.holds in
-    same_can_step c.enter.new.self.slot.end c.args.self.now.slot.end c.enter.new.self.index c.args.self.now.index c.in_ok-plan.plan.slot c.in_ok-plan.plan.slot (g.G.Ground.told c.args.outside.now)
-    (ap (λ (s : Slot). s.end) c.enter.ensures.rest.1) c.enter.ensures.rest.0 refl
-    (can_step r c.args.branch.now c.args.self.now c.in_ok-plan.plan held.tables (c.in_ok-plan.ensures.coming r held.tables) (g.G.Ground.told c.args.outside.now) held)
 
 pub durable_step-requires-clause-chunk : goal.durable_step-requires-clause-chunk
 durable_step-requires-clause-chunk g c =
@@ -108,7 +98,7 @@ returns-in_err-enter-clause-answers g c told r v at =
     let is : c.from_residual-in_err-enter.result ≡ Err StoreFault.Memory = search rules in
     subst (λ res. IfSome (reply_to res) (λ reply. Answers (g.G.Ground.told c.args.outside.now) (session r c.args.work.now v) (Command.Commit c.args.branch.now c.args.info) (met_by res) reply c.enter.new.self c.args.work.now)) (sym is)
     (answers_refused r c.args.work.now v c.args.branch.now c.args.info StoreFault.Memory c.enter.new.self (g.G.Ground.told c.args.outside.now) (same_at c.args.self.now c.enter.new.self c.in_err-enter.ensures.err (g.G.Ground.told c.args.outside.now) r c.args.work.now v at)
-    (refused_memory r c.args.work.now v c.args.branch.now c.args.info (none_below c.args.self.now r at.holds.tables)))
+    (refused_memory r c.args.work.now v c.args.branch.now c.args.info at.lawful.retained))
 
 pub returns-in_err-enter-clause-does : goal.returns-in_err-enter-clause-does
 returns-in_err-enter-clause-does g c told r v at =
@@ -129,10 +119,17 @@ returns-in_err-durable_step-clause-does g c told r v at =
     let is : c.from_residual-in_err-durable_step.result ≡ Err StoreFault.Ground = search rules in
     let plan = c.in_ok-plan.plan in
     let of = at.holds.tables in
+    let can = same_can_step c.enter.new.self.slot.end c.args.self.now.slot.end c.enter.new.self.index c.args.self.now.index plan.slot plan.slot (g.G.Ground.told c.args.outside.now)
+    (ap (λ (s : Slot). s.end) c.enter.ensures.rest.1) c.enter.ensures.rest.0 refl (can_step r c.args.branch.now c.args.self.now plan of (c.in_ok-plan.ensures.coming r of) (g.G.Ground.told c.args.outside.now) at.holds) in
     let step = same_step c.enter.new.self.slot.end c.args.self.now.slot.end c.enter.new.self.index c.args.self.now.index c.bytes.result.now plan.batch.bytes.items plan.slot plan.slot _ (g.G.Ground.told c.args.outside.now) (g.G.Ground.told c.durable_step.new.outside)
-    (ap (λ (s : Slot). s.end) c.enter.ensures.rest.1) c.enter.ensures.rest.0 c.bytes.ensures refl (c.durable_step.ensures.does told) in
+    (ap (λ (s : Slot). s.end) c.enter.ensures.rest.1) c.enter.ensures.rest.0 c.bytes.ensures refl (c.durable_step.ensures.does told can) in
     subst (λ res. Commits r c.args.work.now v c.args.branch.now c.args.info res c.enter.new.self (g.G.Ground.told c.args.outside.now) (g.G.Ground.told c.durable_step.new.outside)) (sym is)
     (cut r c.args.work.now v c.args.branch.now c.args.info c.args.self.now plan (c.in_ok-plan.ensures.coming r of) (c.in_ok-plan.ensures.planned _ r v of at.lawful) (g.G.Ground.told c.args.outside.now) at (g.G.Ground.told c.durable_step.new.outside) c.enter.new.self _ step)
+
+pub returns-in_err-durable_step-clause-limits : goal.returns-in_err-durable_step-clause-limits
+returns-in_err-durable_step-clause-limits g c told r v at =
+    let is : c.from_residual-in_err-durable_step.result ≡ Err StoreFault.Ground = search rules in
+    subst (λ res. LimitsSpace (end_of r c.args.work.now v c.args.branch.now c.args.info c.args.self.now) res c.args.self.now) (sym is) (record { space = λ e. absurd (cc (e)); sequence = λ e. absurd (cc (e)); enough = tt })
 
 -- ---- made
 
@@ -156,10 +153,12 @@ returns-clause-does g c told r v at =
     let planned = c.in_ok-plan.ensures.planned _ r v of at.lawful in
     let one = new_commit r v.map c.args.work.now.parents c.args.info in
     let placed = c.put_place.ensures ∙ (λ i. c.enter.ensures.places i ++ c.commit_at.ensures i ∷ []) in
+    let can = same_can_step c.enter.new.self.slot.end c.args.self.now.slot.end c.enter.new.self.index c.args.self.now.index plan.slot plan.slot (g.G.Ground.told c.args.outside.now)
+    (ap (λ (s : Slot). s.end) c.enter.ensures.rest.1) c.enter.ensures.rest.0 refl (can_step r c.args.branch.now c.args.self.now plan of (c.in_ok-plan.ensures.coming r of) (g.G.Ground.told c.args.outside.now) at.holds) in
     let step = same_step c.enter.new.self.slot.end c.args.self.now.slot.end c.enter.new.self.index c.args.self.now.index c.bytes.result.now plan.batch.bytes.items plan.slot plan.slot _ (g.G.Ground.told c.args.outside.now) (g.G.Ground.told c.durable_step.new.outside)
-    (ap (λ (s : Slot). s.end) c.enter.ensures.rest.1) c.enter.ensures.rest.0 c.bytes.ensures refl (c.in_ok-durable_step.ensures.does told) in
+    (ap (λ (s : Slot). s.end) c.enter.ensures.rest.1) c.enter.ensures.rest.0 c.bytes.ensures refl (c.in_ok-durable_step.ensures.does told can) in
     made r c.args.work.now v c.args.branch.now c.args.info c.args.self.now plan is planned (g.G.Ground.told c.args.outside.now) at (g.G.Ground.told c.durable_step.new.outside) _ refl (ap (λ (i : ℕ). 1 - i) c.enter.ensures.rest.0)
-    (after_tables r c.args.work.now.parents c.args.branch.now c.args.self.now plan of is one (sym planned.name) refl _ refl (ap (λ (i : ℕ). 1 - i) c.enter.ensures.rest.0) (c.in_ok-enter.ensures.ok.0 ∙ ap (λ h. c.args.self.now.names ++ h ∷ []) c.name-name.ensures) (c.in_ok-enter.ensures.ok.1 ∙ ap (λ b. insert c.args.self.now.branches b plan.number) (sym is.same_branch)) (may_enter c.args.self.now r of c.args.work.now.parents c.args.work.now.parents refl are.retained) (c.in_ok-enter.ensures.history ∙ ap (with_parents c.args.self.now.history) c.as_slice.ensures) (c.put_place.ensures ∙ (λ i. c.enter.ensures.places i ++ c.commit_at.ensures i ∷ [])) (c.grow.ensures ∙ ap (λ (s : SpaceView). grown s plan.slot.end) c.enter.ensures.rest.2)) placed c.name-name.result step
+    (after_tables r c.args.work.now.parents c.args.branch.now c.args.self.now plan of is one (sym planned.name) refl _ refl (ap (λ (i : ℕ). 1 - i) c.enter.ensures.rest.0) (c.in_ok-enter.ensures.ok.0 ∙ ap (λ h. c.args.self.now.names ++ h ∷ []) c.name-name.ensures) (c.in_ok-enter.ensures.ok.1 ∙ ap (λ b. insert c.args.self.now.branches b plan.number) (sym is.same_branch)) (may_enter c.args.self.now r of c.args.work.now.parents c.args.work.now.parents refl are.retained) (c.in_ok-enter.ensures.history ∙ ap (with_parents c.args.self.now.history) c.as_slice.ensures) (c.put_place.ensures ∙ (λ i. c.enter.ensures.places i ++ c.commit_at.ensures i ∷ [])) (c.grow.ensures ∙ ap (λ (s : SpaceView). grown s plan.slot.end) c.enter.ensures.rest.2)) placed (c.grow.ensures ∙ ap (λ (s : SpaceView). grown s plan.slot.end) c.enter.ensures.rest.2) c.name-name.result step
 
 pub returns-clause-limits : goal.returns-clause-limits
 returns-clause-limits g c told r v at =
@@ -178,11 +177,13 @@ returns-clause-answers g c told r v at =
     let of = at.holds.tables in
     let is = c.in_ok-plan.ensures.coming r of in
     let planned = c.in_ok-plan.ensures.planned _ r v of at.lawful in
+    let can = same_can_step c.enter.new.self.slot.end c.args.self.now.slot.end c.enter.new.self.index c.args.self.now.index plan.slot plan.slot (g.G.Ground.told c.args.outside.now)
+    (ap (λ (s : Slot). s.end) c.enter.ensures.rest.1) c.enter.ensures.rest.0 refl (can_step r c.args.branch.now c.args.self.now plan of (c.in_ok-plan.ensures.coming r of) (g.G.Ground.told c.args.outside.now) at.holds) in
     let step = same_step c.enter.new.self.slot.end c.args.self.now.slot.end c.enter.new.self.index c.args.self.now.index c.bytes.result.now plan.batch.bytes.items plan.slot plan.slot _ (g.G.Ground.told c.args.outside.now) (g.G.Ground.told c.durable_step.new.outside)
-    (ap (λ (s : Slot). s.end) c.enter.ensures.rest.1) c.enter.ensures.rest.0 c.bytes.ensures refl (c.in_ok-durable_step.ensures.does told) in
+    (ap (λ (s : Slot). s.end) c.enter.ensures.rest.1) c.enter.ensures.rest.0 c.bytes.ensures refl (c.in_ok-durable_step.ensures.does told can) in
     let done = returns-clause-does g c told r v at in
     let holds = held_after r c.args.work.now v c.args.branch.now c.args.info c.args.self.now plan is planned (g.G.Ground.told c.args.outside.now) at (g.G.Ground.told c.durable_step.new.outside) _ _ done in
-    answers_made r c.args.work.now _ v _ c.args.branch.now c.args.info c.args.self.now _ plan c.name-name.result (g.G.Ground.told c.durable_step.new.outside) (none_below c.args.self.now r of) is planned c.name-name.ensures refl refl refl
+    answers_made r c.args.work.now _ v _ c.args.branch.now c.args.info c.args.self.now _ plan c.name-name.result (g.G.Ground.told c.durable_step.new.outside) at.lawful.retained is planned c.name-name.ensures refl refl refl
     (record {
       holds = holds;
       lawful = work_after r c.args.work.now v c.args.branch.now c.args.info c.args.self.now plan is planned (g.G.Ground.told c.args.outside.now) at (g.G.Ground.told c.durable_step.new.outside) _ step _ holds _ (read_root plan.number c.root.result plan.batch.root c.of.result c.root.ensures c.of.ensures) refl refl refl;
@@ -194,21 +195,19 @@ returns-clause-saved g c told r q v at now =
     let of = at.holds.tables in
     let is = c.in_ok-plan.ensures.coming r of in
     let planned = c.in_ok-plan.ensures.planned _ r v of at.lawful in
+    let can = same_can_step c.enter.new.self.slot.end c.args.self.now.slot.end c.enter.new.self.index c.args.self.now.index plan.slot plan.slot (g.G.Ground.told c.args.outside.now)
+    (ap (λ (s : Slot). s.end) c.enter.ensures.rest.1) c.enter.ensures.rest.0 refl (can_step r c.args.branch.now c.args.self.now plan of (c.in_ok-plan.ensures.coming r of) (g.G.Ground.told c.args.outside.now) at.holds) in
     let step = same_step c.enter.new.self.slot.end c.args.self.now.slot.end c.enter.new.self.index c.args.self.now.index c.bytes.result.now plan.batch.bytes.items plan.slot plan.slot _ (g.G.Ground.told c.args.outside.now) (g.G.Ground.told c.durable_step.new.outside)
-    (ap (λ (s : Slot). s.end) c.enter.ensures.rest.1) c.enter.ensures.rest.0 c.bytes.ensures refl (c.in_ok-durable_step.ensures.does told) in
+    (ap (λ (s : Slot). s.end) c.enter.ensures.rest.1) c.enter.ensures.rest.0 c.bytes.ensures refl (c.in_ok-durable_step.ensures.does told can) in
     (plan.batch.root.at, saved_tree r c.args.work.now v c.args.branch.now c.args.info c.args.self.now plan is planned (g.G.Ground.told c.args.outside.now) at (g.G.Ground.told c.durable_step.new.outside) _ step q now _ (read_root plan.number c.root.result plan.batch.root c.of.result c.root.ensures c.of.ensures))
 
 pub returns-clause-stay : goal.returns-clause-stay
-returns-clause-stay g c told has r q held now place x there =
-    let own = (c.requires.held told).0 in
-    let v = (c.requires.held told).1 in
-    let at = (c.requires.held told).2 in
+returns-clause-stay g c told has r q held now =
     let plan = c.in_ok-plan.plan in
-    let of = at.holds.tables in
-    let is = c.in_ok-plan.ensures.coming own of in
-    let planned = c.in_ok-plan.ensures.planned _ own v of at.lawful in
+    let of = held.tables in
+    let is = c.in_ok-plan.ensures.coming r of in
+    let can = same_can_step c.enter.new.self.slot.end c.args.self.now.slot.end c.enter.new.self.index c.args.self.now.index plan.slot plan.slot (g.G.Ground.told c.args.outside.now)
+    (ap (λ (s : Slot). s.end) c.enter.ensures.rest.1) c.enter.ensures.rest.0 refl (can_step r c.args.branch.now c.args.self.now plan of is (g.G.Ground.told c.args.outside.now) held) in
     let step = same_step c.enter.new.self.slot.end c.args.self.now.slot.end c.enter.new.self.index c.args.self.now.index c.bytes.result.now plan.batch.bytes.items plan.slot plan.slot _ (g.G.Ground.told c.args.outside.now) (g.G.Ground.told c.durable_step.new.outside)
-    (ap (λ (s : Slot). s.end) c.enter.ensures.rest.1) c.enter.ensures.rest.0 c.bytes.ensures refl (c.in_ok-durable_step.ensures.does told) in
-    let list = list_on own c.args.work.now v c.args.branch.now c.args.info c.args.self.now plan is planned (g.G.Ground.told c.args.outside.now) at (g.G.Ground.told c.durable_step.new.outside) _ step q now in
-    let same = stays_still c.args.self.now c.args.self.now (itself c.args.self.now) r own (g.G.Ground.told c.args.outside.now) held at.holds place x there in
-    subst (λ rs. present rs place ≡ Some x) (sym list) (present_front at.holds.stands.standing.records _ place x same)
+    (ap (λ (s : Slot). s.end) c.enter.ensures.rest.1) c.enter.ensures.rest.0 c.bytes.ensures refl (c.in_ok-durable_step.ensures.does told can) in
+    stays_committed r c.args.branch.now c.args.self.now plan of is (g.G.Ground.told c.args.outside.now) held (g.G.Ground.told c.durable_step.new.outside) step _ q now

@@ -31,14 +31,6 @@ returns-in_err-name_branch-clause-does g c told r held may =
     subst (λ res. Changes {A = Unit {0}} r (renamed r c.args.rec) res store (g.G.Ground.told c.args.outside.now) (g.G.Ground.told c.args.outside.now)) (sym is)
     (changes_none r (renamed r c.args.rec) StoreFault.Memory c.args.self.now store (g.G.Ground.told c.args.outside.now) (record { index = refl; slot = refl; names = refl; places = refl; branches = c.in_err-name_branch.ensures.err; history = refl; space = refl }) held)
 
-pub durable_step-requires-clause-sound : goal.durable_step-requires-clause-sound
-durable_step-requires-clause-sound g c told =
-    let r = (c.requires.held told).0 in
-    let held = (c.requires.held told).1 in
-    let slot = slot_from c.args.self.now.slot c.args.rec _ c.in_ok-slot.slot (ap length (c.as_slice-bytes.ensures.value ∙ c.in_ok-spelled.ensures)) c.in_ok-slot.ensures in
-    can_rename r c.args.self.now held.tables c.args.rec (may_same c.args.self.now c.requires.tables.0 r c.args.rec c.requires.tables.1 held.tables c.requires.tables.2) c.requires.fits c.requires.served c.in_ok-slot.slot slot.0 slot.1 slot.2
-    (g.G.Ground.told c.args.outside.now) held
-
 pub durable_step-requires-clause-chunk : goal.durable_step-requires-clause-chunk
 durable_step-requires-clause-chunk g c =
     let of = c.requires.tables.1 in
@@ -62,7 +54,7 @@ returns-in_err-durable_step-clause-does g c told r held may =
     subst (λ res. Changes {A = Unit {0}} r (renamed r c.args.rec) res store (g.G.Ground.told c.args.outside.now) (g.G.Ground.told c.durable_step.new.outside)) (sym is)
     (rename_cut r c.args.self.now held.tables c.args.rec may c.requires.fits c.requires.served c.in_ok-slot.slot slot.0 slot.1 slot.2 (g.G.Ground.told c.args.outside.now) held (g.G.Ground.told c.durable_step.new.outside) store _
     (same_step c.args.self.now.slot.end c.args.self.now.slot.end c.args.self.now.index c.args.self.now.index _ (spelling c.args.rec) c.in_ok-slot.slot c.in_ok-slot.slot _ (g.G.Ground.told c.args.outside.now) (g.G.Ground.told c.durable_step.new.outside)
-    refl refl (c.as_slice-bytes.ensures.value ∙ c.in_ok-spelled.ensures) refl (c.durable_step.ensures.does told)))
+    refl refl (c.as_slice-bytes.ensures.value ∙ c.in_ok-spelled.ensures) refl (c.durable_step.ensures.does told (can_rename r c.args.self.now held.tables c.args.rec may c.requires.fits c.requires.served c.in_ok-slot.slot slot.0 slot.1 slot.2 (g.G.Ground.told c.args.outside.now) held))))
 
 pub returns-clause-tables : goal.returns-clause-tables
 returns-clause-tables g c r of may =
@@ -74,7 +66,7 @@ returns-clause-does g c told r held may =
     let slot = slot_from c.args.self.now.slot c.args.rec _ c.in_ok-slot.slot (ap length (c.as_slice-bytes.ensures.value ∙ c.in_ok-spelled.ensures)) c.in_ok-slot.ensures in
     was_renamed r c.args.self.now held.tables c.args.rec may c.requires.fits c.requires.served c.in_ok-slot.slot slot.0 slot.1 slot.2 (g.G.Ground.told c.args.outside.now) held (g.G.Ground.told c.durable_step.new.outside) _ refl refl refl c.in_ok-name_branch.ensures.ok refl refl c.grow.ensures
     (same_step c.args.self.now.slot.end c.args.self.now.slot.end c.args.self.now.index c.args.self.now.index _ (spelling c.args.rec) c.in_ok-slot.slot c.in_ok-slot.slot _ (g.G.Ground.told c.args.outside.now) (g.G.Ground.told c.durable_step.new.outside)
-    refl refl (c.as_slice-bytes.ensures.value ∙ c.in_ok-spelled.ensures) refl (c.in_ok-durable_step.ensures.does told))
+    refl refl (c.as_slice-bytes.ensures.value ∙ c.in_ok-spelled.ensures) refl (c.in_ok-durable_step.ensures.does told (can_rename r c.args.self.now held.tables c.args.rec may c.requires.fits c.requires.served c.in_ok-slot.slot slot.0 slot.1 slot.2 (g.G.Ground.told c.args.outside.now) held)))
 
 pub returns-in_err-spelled-clause-stay : goal.returns-in_err-spelled-clause-stay
 returns-in_err-spelled-clause-stay g c told has r q held now = stays_still c.args.self.now c.args.self.now (itself c.args.self.now) r q (g.G.Ground.told c.args.outside.now) held now
@@ -92,4 +84,4 @@ returns-clause-stay g c told has r q held now =
     let slot = slot_from c.args.self.now.slot c.args.rec _ c.in_ok-slot.slot (ap length (c.as_slice-bytes.ensures.value ∙ c.in_ok-spelled.ensures)) c.in_ok-slot.ensures in
     stays_renamed r c.args.self.now held.tables c.args.rec may c.requires.fits c.requires.served c.in_ok-slot.slot slot.0 slot.1 slot.2 (g.G.Ground.told c.args.outside.now) held (g.G.Ground.told c.durable_step.new.outside) _ q
     (same_step c.args.self.now.slot.end c.args.self.now.slot.end c.args.self.now.index c.args.self.now.index _ (spelling c.args.rec) c.in_ok-slot.slot c.in_ok-slot.slot _ (g.G.Ground.told c.args.outside.now) (g.G.Ground.told c.durable_step.new.outside)
-    refl refl (c.as_slice-bytes.ensures.value ∙ c.in_ok-spelled.ensures) refl (c.in_ok-durable_step.ensures.does told)) now
+    refl refl (c.as_slice-bytes.ensures.value ∙ c.in_ok-spelled.ensures) refl (c.in_ok-durable_step.ensures.does told (can_rename r c.args.self.now held.tables c.args.rec may c.requires.fits c.requires.served c.in_ok-slot.slot slot.0 slot.1 slot.2 (g.G.Ground.told c.args.outside.now) held))) now

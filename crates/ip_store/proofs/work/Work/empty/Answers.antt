@@ -33,6 +33,7 @@ returns-clause-lawful c records r leaves = record {
   short = none_short;
   parents = no_parents r c.empty-2.result c.empty-2.ensures;
   least = no_least ∙ ap (least_of no_view) (sym c.empty-2.ensures);
+  retained = tt;
 }
 
 pub returns-clause-begins : goal.returns-clause-begins

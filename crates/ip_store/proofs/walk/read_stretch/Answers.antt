@@ -1,0 +1,43 @@
+use Rattle.std.proofs.Common.{refl, sym, ◌∙◌, subst, ℕ, ◌+◌, rules}
+use Rattle.ip_ground.specs.Told.{NoFile}
+use Rattle.ip_ground.proofs.Rising.{none_falls_on}
+use Rattle.ip_ground.proofs.Spans.{only_nowhere, only_on}
+use Rattle.ip_store.specs.Walk.{Filled}
+use Rattle.ip_store.proofs.RecordSteps.{begins_stretch, ends_stretch, within_stretches}
+use Rattle.ip_store.proofs.walk.read_stretch.Goals as goal
+
+pub loop-walk-init : goal.loop-walk-init
+loop-walk-init g c =
+    let found = c.in-Some.ensures in
+    record {
+      walks = begins_stretch c.args.slot.now c.requires.slot c.args.space.now g.G.Ground.tells _ c.args.number c.args.found.now c.requires.filled c.in-Some.stretch (sym found.is) found.in_order found.inside c.scan.result c.scan.ensures;
+      number = refl;
+      only = λ told. only_nowhere _ NoFile;
+      counts = search rules;
+    }
+
+pub loop-walk-preserved : goal.loop-walk-preserved
+loop-walk-preserved g c =
+    let kept = c.loop-walk.invariant in
+    let next = c.in_ok-take_next.ensures in
+    record {
+      walks = next.walks;
+      number = next.same.0 ∙ kept.number;
+      only = λ told. only_on _ _ _ NoFile (kept.only told) (next.only told);
+      counts = none_falls_on _ _ _ kept.counts next.counts;
+    }
+
+pub returns-in_err-take_next-clause-only : goal.returns-in_err-take_next-clause-only
+returns-in_err-take_next-clause-only g c told = only_on _ _ _ NoFile (c.loop-walk.invariant.only told) (c.take_next.ensures.only told)
+
+pub returns-clause-filled : goal.returns-clause-filled
+returns-clause-filled g c more =
+    let next = c.in_ok-take_next.ensures in
+    subst (λ (n : ℕ). Filled c.args.slot.now g.G.Ground.tells (g.G.Ground.told c.take_next.new.outside) c.args.space.now (n + 1) c.take_next.new.found) (next.same.0 ∙ c.loop-walk.invariant.number)
+    (ends_stretch c.args.slot.now c.requires.slot c.args.space.now g.G.Ground.tells _ c.take_next.new.walk c.take_next.new.found next.walks (next.ends c.if-branch.false))
+
+pub returns-clause-further : goal.returns-clause-further
+returns-clause-further g c more = (within_stretches c.args.space.now c.args.number c.in-Some.stretch (sym c.in-Some.ensures.is), c.in-Some.ensures.countable)
+
+pub returns-clause-only : goal.returns-clause-only
+returns-clause-only g c told = only_on _ _ _ NoFile (c.loop-walk.invariant.only told) (c.in_ok-take_next.ensures.only told)
