@@ -2,7 +2,7 @@
 --     set_goes, remove_goes      the store answered it.      set_cut, remove_cut      a fault of the ground cut it short
 --     unnamed_goes      no commit has the name that was given.      serves      the session goes on serving, whatever is told
 --     is_ground_set, is_ground_removed      what has no reply is a fault of the ground
-use Rattle.std.proofs.Common.{◌≡◌, ℕ, Bool, true, false, refl, sym, ap, ◌∙◌, subst, Option, Some, None, Ok, Err}
+use Rattle.std.proofs.Common.{◌≡◌, ℕ, ◌≤◌, Bool, true, false, refl, sym, ap, ◌∙◌, subst, arith, Option, Some, None, Ok, Err}
 use Rattle.std.specs.Prelude.{Result, IfSome, IsErrOf, IsSome}
 use Rattle.std.proofs.lemmas.Option.{IfSome_then}
 use Rattle.ip_ground.specs.Told.{Told, NoFile, ChangesOnly}
@@ -28,7 +28,7 @@ use Rattle.ip_session.specs.declared.session.Session.{Session}
 use Rattle.ip_session.specs.Session.{no_rules, IsServing, IsWorking, state_in, met_only, conditions_of, IsDurable, ChangedBy, Goes, Cut}
 use Rattle.ip_session.proofs.SessionLemmas.{at, plainly, ok_is_short, branch_refused, branch_rm_refused}
 use Rattle.ip_session.proofs.SessionGoes.{still_goes}
-use Rattle.ip_session.proofs.DurableGoes.{IsWhole, IsTurn, stays, refused_so, fault_so, done_so, reply_so, cut_so, Went, unanswered}
+use Rattle.ip_session.proofs.DurableGoes.{IsWhole, IsTurn, stays, refused_so, fault_so, done_so, reply_so, cut_so, Went, floor_stays, unanswered}
 
 abbrev IsAccepted : Reply → Type 0
 IsAccepted Reply.Accepted = Unit {0}
@@ -140,12 +140,17 @@ turn_of : (b : Told) (s : Session) (store : Store) (r : Repository) (v : View) (
     → ((q : Repository) → Holds store b q → AreParents q s.work.parents → IsAt b store q s.work v) → IsTurn b s store s.work r v command reply
 turn_of b s store r v command reply parents A stays = record { next = A.after; view = v; turns = A.turns (work_at s.work v); is_at = λ holds. stays A.after holds (A.parents s.work.parents parents) }
 
+-- none of the commits that the work rests on was given up
+works_on : {A : Type 0} (a b : Told) (s : Session) (store : Store) (r after : Repository) (v : View) (made : Result A StoreFault) → after.floor ≤ r.floor → Changes r after made store a b
+    → (HasAnswer made → (q : Repository) → Holds store b q → q.floor ≤ r.floor → AreParents q s.work.parents → IsAt b store q s.work v) → HasAnswer made → (q : Repository) → Holds store b q → AreParents q s.work.parents → IsAt b store q s.work v
+works_on a b s store r after v made le does works has q now parents = works has q now (floor_stays r after q made store a b le does has now.tables) parents
+
 -- so the session goes on serving
 pub serves : (r : Repository) (command : Command) (met : Met) (reply : Reply) (store : Store) (s : Session) → AreParents r s.work.parents → AnswersBranch r command met reply store → IsServing (record s { store = store })
 serves r command met reply store s parents A = (A.after, (A.tables, A.parents s.work.parents parents))
 
 module _ (a b : Told) (s : Session) (store : Store) (met : Met) (r : Repository) (v : View) (here : IsWorking a s r v) (name : Bytes) (target : Target) (n : ℕ) (named : resolve r target ≡ Ok n) (made : Result (Unit {0}) StoreFault)
-    (does : Changes r (with_branch r name n) made store a b) (stays : HasAnswer made → (q : Repository) → Holds store b q → AreParents q s.work.parents → IsAt b store q s.work v) where
+    (does : Changes r (with_branch r name n) made store a b) (works : HasAnswer made → (q : Repository) → Holds store b q → q.floor ≤ r.floor → AreParents q s.work.parents → IsAt b store q s.work v) where
   abbrev setting : Command
   setting = Command.Branch name target
 
@@ -154,7 +159,7 @@ module _ (a b : Told) (s : Session) (store : Store) (met : Met) (r : Repository)
 
   pub set_goes : (reply : Reply) → met ≡ store.met → branch_reply made ≡ Some reply → IfSome (branch_reply made) (AnswersSet r name n store.met store)
       → Goes a b s (record s { store = store; met = met }) r v (ChangedBy setting) (Step no_rules (state_in s r v) setting) reply
-  set_goes reply m e A = reply_so a b s store s.work r set_to v here setting whole met (branch_reply made) reply m e (by made A stays does)
+  set_goes reply m e A = reply_so a b s store s.work r set_to v here setting whole met (branch_reply made) reply m e (by made A (works_on a b s store r set_to v made (omega arith) does works) does)
     where
       whole : IsWhole r (work_at s.work v) setting set_to
       whole = whole_set r (work_at s.work v) name target n named
@@ -216,7 +221,7 @@ module _ (r : Repository) (w : MachineWork) (name : Bytes) where
   found (Some n) h = refl
 
 module _ (a b : Told) (s : Session) (store : Store) (met : Met) (r : Repository) (v : View) (here : IsWorking a s r v) (name : Bytes) (made : Result Bool StoreFault) (does : Changes r (without_branch r name) made store a b)
-    (stays_so : HasAnswer made → (q : Repository) → Holds store b q → AreParents q s.work.parents → IsAt b store q s.work v) where
+    (works : HasAnswer made → (q : Repository) → Holds store b q → q.floor ≤ r.floor → AreParents q s.work.parents → IsAt b store q s.work v) where
   abbrev removing : Command
   removing = Command.BranchRm name
 
@@ -225,7 +230,7 @@ module _ (a b : Told) (s : Session) (store : Store) (met : Met) (r : Repository)
 
   pub remove_goes : (reply : Reply) → met ≡ store.met → removed_reply name made ≡ Some reply → (made ≡ Ok false → b ≡ a) → IfSome (removed_reply name made) (AnswersRemove r name store.met store)
       → Goes a b s (record s { store = store; met = met }) r v (ChangedBy removing) (Step no_rules (state_in s r v) removing) reply
-  remove_goes reply m e absent A = reply_so a b s store s.work r removed_to v here removing whole met (removed_reply name made) reply m e (by made A absent stays_so does)
+  remove_goes reply m e absent A = reply_so a b s store s.work r removed_to v here removing whole met (removed_reply name made) reply m e (by made A absent (works_on a b s store r removed_to v made (omega arith) does works) does)
     where
       whole : IsWhole r (work_at s.work v) removing removed_to
       whole = whole_removed r (work_at s.work v) name

@@ -4,8 +4,9 @@
 --     IsTurn b s store work r v command reply      what the store answered it is the machine's turn, and the work is lawful where the store holds the repository after it
 --     refused_so, fault_so      the store refused it.      done_so      it did it.      cut_so      a fault of the ground cut it short
 --     reply_so      of an answer that there is
+--     floor_stays      an answered call gives no commits up
 --     answered, unanswered      a fault that has a reply, and one that has none
-use Rattle.std.proofs.Common.{◌≡◌, inl, Bool, true, false, refl, sym, ap, ◌∙◌, subst, Option, Some, None, Ok, Err}
+use Rattle.std.proofs.Common.{◌≡◌, inl, ◌≤◌, Bool, true, false, refl, sym, ap, ◌∙◌, subst, arith, Option, Some, None, Ok, Err}
 use Rattle.std.specs.Prelude.{Result, IfSome, MatchBool, if◌then◌else◌}
 use Rattle.ip_ground.specs.Told.{Told, NoFile, ChangesOnly}
 use Rattle.ip_ground.proofs.Spans.{only_more}
@@ -25,7 +26,7 @@ use Rattle.ip_store.specs.declared.committing.StoreFault.{StoreFault}
 use Rattle.ip_store.specs.Changes.{HasAnswer, IsUndamaged, Changes}
 use Rattle.ip_store.specs.Commits.{fault_reply}
 use Rattle.ip_store.specs.Commits as commits
-use Rattle.ip_store.specs.Store.{Holds}
+use Rattle.ip_store.specs.Store.{IsOf, Holds}
 use Rattle.ip_store.specs.Work.{work_at, session, IsAt}
 use Rattle.ip_store.specs.Publishing.{MayChange, IsOfStore}
 use Rattle.ip_store.proofs.Recovering.{recovers_since}
@@ -149,6 +150,11 @@ module _ (a b : Told) (s : Session) (store : Store) (work : Work) (r after : Rep
         only = only_more a b (MayChange a.held) IsOfStore (of_store a.held) does.only;
         atomic = λ order. subst (λ (q : Repository). IsAtomic a b r q) (sym repository) (does.atomic order);
       }
+
+-- an answered call gives no commits up, if the repository that it leaves does not
+pub floor_stays : {A : Type 0} (r after q : Repository) (made : Result A StoreFault) (store : Store) (a b : Told) → after.floor ≤ r.floor → Changes r after made store a b → HasAnswer made → IsOf store q → q.floor ≤ r.floor
+floor_stays r after q (Ok x) store a b le does has of = let after_is = does.ok.tables.floor in let q_is = of.floor in omega (arith, le, after_is, q_is)
+floor_stays r after q (Err fault) store a b le does has of = let r_is = (does.refused (refl, has)).1.tables.floor in let q_is = of.floor in omega (arith, r_is, q_is)
 
 pub answered : (A : Type 0) (fault : StoreFault) (reply : Reply) → fault_reply fault ≡ Some reply → HasAnswer {A = A} (Err fault)
 answered A (StoreFault.HeadMoved name) reply e = tt

@@ -5,7 +5,7 @@
 --     X_answered      the record IsAnswered, command by command
 --     looks_nowhere, looks_on, same_on      no call of the store, and one behind another
 use Rattle.std.proofs.Common.{◌≡◌, ◌≢◌, ℕ, ◌<◌, ◌≤◌, ◌==◌, Bool, true, false, not, cond, List, [], ◌∷◌, ◌++◌, refl, sym, ap, ◌∙◌, subst, arith, Option, Some, None, Ok, Err, IsTrue, length, get_or, length-append, fold}
-use Rattle.std.specs.Prelude.{Result, IfErr, min, nat_le, if◌then◌else◌}
+use Rattle.std.specs.Prelude.{Result, IfErr, IfSome, min, nat_le, if◌then◌else◌}
 use Rattle.std.specs.List.{list_any}
 use Rattle.std.proofs.lemmas.Bool.Decides.{nat_tests}
 use Rattle.std.proofs.lemmas.List.Elements.{All-nil, All-push}
@@ -53,9 +53,9 @@ use Rattle.ip_store.proofs.Editing.{short_put, short_removed}
 use Rattle.ip_store.proofs.Stepping.{same_tables}
 use Rattle.ip_session.specs.declared.session.Session.{Session}
 use Rattle.ip_session.specs.declared.session.SessionEnd.{SessionEnd}
-use Rattle.ip_session.specs.Session.{no_rules, IsIn, IsWorking, state_in, met_only, conditions_of, IsLong, IsAnswered, HasRead, EndsBy, Fails, tree_fault}
-use Rattle.ip_session.proofs.SessionLemmas.{at, Refusable, floor_zero, stat_of, empty_done, set_done, set_long, set_wide, rm_done, rm_absent, get_done, list_done, stat_done, hash_done, hash_refused, ok_is_short, at_is_short, memory_is_short, stat_is_short}
-use Rattle.ip_session.proofs.Referring.{checkout_done, cat_done, graft_absent, graft_deep, graft_wide, graft_done, parent_done, show_done}
+use Rattle.ip_session.specs.Session.{no_rules, IsIn, IsWorking, state_in, met_only, conditions_of, IsLong, IsAnswered, HasRead, IsHeld, EndsBy, Fails, tree_fault}
+use Rattle.ip_session.proofs.SessionLemmas.{at, NoneGivenUp, Refusable, stat_of, empty_done, set_done, set_long, set_wide, rm_done, rm_absent, get_done, list_done, stat_done, hash_done, hash_refused, ok_is_short, at_is_short, memory_is_short, stat_is_short}
+use Rattle.ip_session.proofs.Referring.{not_below, checkout_done, cat_done, graft_absent, graft_deep, graft_wide, graft_done, parent_done, show_done}
 
 -- ---- what was met, and what stays
 
@@ -144,20 +144,20 @@ unshown_refuses r n s command StoreFault.Ground h = tt
 unshown_refuses r n s command StoreFault.Memory h = tt
 unshown_refuses r n s command _ h = absurd h
 
-pub set_refuses : (r : Repository) (w : Machine.Work) (path : Path) (bytes : Bytes) (fault : TreeFault) → r.floor ≡ 0 → IsSetFault w.tree path bytes fault → Refuses (at r w) (Command.Set path bytes) (tree_fault fault)
-set_refuses r w path bytes (TreeFault.Limit Limit.Contents) zero f = set_long r w zero path bytes f
-set_refuses r w path bytes (TreeFault.Limit Limit.Entries) zero f = set_wide r w zero path bytes f.0 f.1
-set_refuses r w path bytes (TreeFault.Limit _) zero f = absurd f
-set_refuses r w path bytes (TreeFault.Fetch fetch) zero f = free_refuses (at r w) (Command.Set path bytes) (TreeFault.Fetch fetch) f
-set_refuses r w path bytes TreeFault.Memory zero f = tt
+pub set_refuses : (r : Repository) (w : Machine.Work) (path : Path) (bytes : Bytes) (fault : TreeFault) → NoneGivenUp r w → IsSetFault w.tree path bytes fault → Refuses (at r w) (Command.Set path bytes) (tree_fault fault)
+set_refuses r w path bytes (TreeFault.Limit Limit.Contents) kept f = set_long r w kept path bytes f
+set_refuses r w path bytes (TreeFault.Limit Limit.Entries) kept f = set_wide r w kept path bytes f.0 f.1
+set_refuses r w path bytes (TreeFault.Limit _) kept f = absurd f
+set_refuses r w path bytes (TreeFault.Fetch fetch) kept f = free_refuses (at r w) (Command.Set path bytes) (TreeFault.Fetch fetch) f
+set_refuses r w path bytes TreeFault.Memory kept f = tt
 
-pub graft_refuses : (r : Repository) (w : Machine.Work) (target : Target) (from to : Path) (n : ℕ) (fault : TreeFault) → r.floor ≡ 0 → resolve r target ≡ Ok n → IsGraftFault w.tree (tree_at r n) from to fault
+pub graft_refuses : (r : Repository) (w : Machine.Work) (target : Target) (from to : Path) (n : ℕ) (fault : TreeFault) → NoneGivenUp r w → resolve r target ≡ Ok n → IsGraftFault w.tree (tree_at r n) from to fault
     → Refuses (at r w) (Command.Graft target from to) (tree_fault fault)
-graft_refuses r w target from to n (TreeFault.Limit Limit.Depth) zero is f = graft_deep r w target from to n zero is f.0 f.1
-graft_refuses r w target from to n (TreeFault.Limit Limit.Entries) zero is f = graft_wide r w target from to n zero is f.0 f.1 f.2
-graft_refuses r w target from to n (TreeFault.Limit _) zero is f = absurd f
-graft_refuses r w target from to n (TreeFault.Fetch fetch) zero is f = free_refuses (at r w) (Command.Graft target from to) (TreeFault.Fetch fetch) f
-graft_refuses r w target from to n TreeFault.Memory zero is f = tt
+graft_refuses r w target from to n (TreeFault.Limit Limit.Depth) kept is f = graft_deep r w target from to n kept is f.0 f.1
+graft_refuses r w target from to n (TreeFault.Limit Limit.Entries) kept is f = graft_wide r w target from to n kept is f.0 f.1 f.2
+graft_refuses r w target from to n (TreeFault.Limit _) kept is f = absurd f
+graft_refuses r w target from to n (TreeFault.Fetch fetch) kept is f = free_refuses (at r w) (Command.Graft target from to) (TreeFault.Fetch fetch) f
+graft_refuses r w target from to n TreeFault.Memory kept is f = tt
 
 -- a fault of the ground, of a call on a tree
 pub tree_cause : {R : Type 0} (fault : TreeFault) → (fault ≡ TreeFault.Fetch FetchFault.Ground → R) → tree_fault fault ≡ StoreFault.Ground → R
@@ -168,14 +168,14 @@ tree_cause (TreeFault.Fetch (FetchFault.Form at fault)) cause e = absurd (cc e)
 tree_cause (TreeFault.Fetch (FetchFault.Name at want got)) cause e = absurd (cc e)
 tree_cause TreeFault.Memory cause e = absurd (cc e)
 
-pub ends : (fault : StoreFault) (command : Command) (met met' : Met) (result : Result Reply SessionEnd) (tells : Bool) (before after : GroundCounts) → Fails fault met met' result
-    → (fault ≡ StoreFault.Ground → Rose before.file_faults after.file_faults) → (IsTrue tells → (s : State) × Refuses s command fault) → IfErr result (λ (end : SessionEnd). EndsBy end tells before after)
-ends StoreFault.Ground command met met' result tells before after f cause told = subst (λ (x : Result Reply SessionEnd). IfErr x (λ (end : SessionEnd). EndsBy end tells before after)) (sym f.0) (cause refl)
-ends (StoreFault.Damaged at names) command met met' result tells before after f cause told = subst (λ (x : Result Reply SessionEnd). IfErr x (λ (end : SessionEnd). EndsBy end tells before after)) (sym f.0) (λ t. (told t).1)
-ends StoreFault.Memory command met met' result tells before after f cause told = subst (λ (x : Result Reply SessionEnd). IfErr x (λ (end : SessionEnd). EndsBy end tells before after)) (sym f.0) tt
-ends (StoreFault.Limit limit) command met met' result tells before after f cause told = subst (λ (x : Result Reply SessionEnd). IfErr x (λ (end : SessionEnd). EndsBy end tells before after)) (sym f.0) tt
-ends (StoreFault.HeadMoved name) command met met' result tells before after f cause told = subst (λ (x : Result Reply SessionEnd). IfErr x (λ (end : SessionEnd). EndsBy end tells before after)) (sym f.0) tt
-ends (StoreFault.Existing name) command met met' result tells before after f cause told = subst (λ (x : Result Reply SessionEnd). IfErr x (λ (end : SessionEnd). EndsBy end tells before after)) (sym f.0) tt
+pub ends : (fault : StoreFault) (command : Command) (met met' : Met) (result : Result Reply SessionEnd) (held : Type 0) (before after : GroundCounts) → Fails fault met met' result
+    → (fault ≡ StoreFault.Ground → Rose before.file_faults after.file_faults) → (held → (s : State) × Refuses s command fault) → IfErr result (λ (end : SessionEnd). EndsBy end held before after)
+ends StoreFault.Ground command met met' result held before after f cause refuses = subst (λ (x : Result Reply SessionEnd). IfErr x (λ (end : SessionEnd). EndsBy end held before after)) (sym f.0) (cause refl)
+ends (StoreFault.Damaged at names) command met met' result held before after f cause refuses = subst (λ (x : Result Reply SessionEnd). IfErr x (λ (end : SessionEnd). EndsBy end held before after)) (sym f.0) (λ h. (refuses h).1)
+ends StoreFault.Memory command met met' result held before after f cause refuses = subst (λ (x : Result Reply SessionEnd). IfErr x (λ (end : SessionEnd). EndsBy end held before after)) (sym f.0) tt
+ends (StoreFault.Limit limit) command met met' result held before after f cause refuses = subst (λ (x : Result Reply SessionEnd). IfErr x (λ (end : SessionEnd). EndsBy end held before after)) (sym f.0) tt
+ends (StoreFault.HeadMoved name) command met met' result held before after f cause refuses = subst (λ (x : Result Reply SessionEnd). IfErr x (λ (end : SessionEnd). EndsBy end held before after)) (sym f.0) tt
+ends (StoreFault.Existing name) command met met' result held before after f cause refuses = subst (λ (x : Result Reply SessionEnd). IfErr x (λ (end : SessionEnd). EndsBy end held before after)) (sym f.0) tt
 
 -- ---- what a command did that reads
 
@@ -206,9 +206,10 @@ module _ (tells : Bool) (old new : Told) (s s' : Session) (command : Command) (t
 
 -- it looked at nothing, and nothing changed but what was met
 pub unread : (tells : Bool) (a : Told) (s : Session) (met : Met) (command : Command) (reply : Reply) → met ≡ met_only false → Refusable command
-    → ((r : Repository) (v : View) → IsOf s.store r → Step no_rules (state_in s r v) command (conditions_of (met_only false)) reply (state_in s r v)) → HasRead tells a a s (record s { met = met }) command (Ok reply)
+    → ((r : Repository) (v : View) → IsOf s.store r → NoneGivenUp r (work_at s.work v) → Step no_rules (state_in s r v) command (conditions_of (met_only false)) reply (state_in s r v))
+    → HasRead tells a a s (record s { met = met }) command (Ok reply)
 unread tells a s met command reply e refusable gives = answered_read tells a a s (record s { met = met }) command (λ r is. is) (λ told. looks_nowhere a s.store) reply
-    (λ told r v here. still_answered (image_records here.holds) s (record s { met = met }) r v command refl here.lawful reply e (gives r v here.holds.tables) refusable)
+    (λ told r v here. still_answered (image_records here.holds) s (record s { met = met }) r v command refl here.lawful reply e (gives r v here.holds.tables here.lawful.retained) refusable)
 
 -- and it was refused memory
 pub refused_unread : (tells : Bool) (a : Told) (s : Session) (met : Met) (command : Command) (reply : Reply) → met ≡ met_only true → reply ≡ Reply.Memory → Refusable command → HasRead tells a a s (record s { met = met }) command (Ok reply)
@@ -264,6 +265,14 @@ least_last : (o : Option ℕ) (parents : List ℕ) (n : ℕ) → fold least_with
 least_last o [] n = refl
 least_last o (p ∷ parents) n = least_last (least_with o p) parents n
 
+with_kept : (floor : ℕ) (o : Option ℕ) (n : ℕ) → IfSome o (λ m. floor ≤ m) → floor ≤ n → IfSome (least_with o n) (λ m. floor ≤ m)
+with_kept floor None n kept low = low
+with_kept floor (Some m) n kept low = omega (arith, kept, low)
+
+-- with one more retained commit the least number is not below the floor either
+one_less : (r : Repository) (o : Option ℕ) (low n : ℕ) → IfSome o (λ m. r.floor ≤ m) → IsTrue (is_retained r n) → Some low ≡ least_with o n → r.floor ≤ low
+one_less r o low n kept retained less = subst (λ (x : Option ℕ). IfSome x (λ m. r.floor ≤ m)) (sym less) (with_kept r.floor o n kept (not_below r n retained))
+
 -- ---- the work's parents
 
 pub one_parent : (r : Repository) (n : ℕ) → IsTrue (is_retained r n) → AreParents r (n ∷ [])
@@ -277,9 +286,9 @@ one_parent r n retained = record {
 
 -- another tree of the same view, perhaps over other records
 lawful_with : (records : ℕ → Option Record) (r : Repository) (work : Work) (v : View) (tree : lazy.Tree) → IsLawful records r work v → IsView records tree v → IsLawful records r (record work { tree = tree }) v
-lawful_with records r work v tree l view = record { tree = view; short = l.short; parents = l.parents; least = l.least }
+lawful_with records r work v tree l view = record { tree = view; short = l.short; parents = l.parents; least = l.least; retained = l.retained }
 
-module _ (records : ℕ → Option Record) (s : Session) (store : Store) (met : Met) (r : Repository) (v : View) (e : met ≡ met_only false) (zero : r.floor ≡ 0) (l : IsLawful records r s.work v) where
+module _ (records : ℕ → Option Record) (s : Session) (store : Store) (met : Met) (r : Repository) (v : View) (e : met ≡ met_only false) (l : IsLawful records r s.work v) where
   abbrev with_tree : lazy.Tree → Option ℕ → Session
   with_tree tree least = record s { store = store; work = record s.work { tree = tree; least = least }; met = met }
 
@@ -290,8 +299,8 @@ module _ (records : ℕ → Option Record) (s : Session) (store : Store) (met : 
   unfolding put_view
   set_answered tree path bytes is = record {
     view = put_view v path bytes;
-    gives = met_as (state_in s r v) (Command.Set path bytes) met (met_only false) Reply.Accepted _ e (set_done r (work_at s.work v) zero path bytes is.short is.narrow);
-    lawful = record { tree = is.view; short = short_put v.map path bytes l.short is.short; parents = l.parents; least = l.least };
+    gives = met_as (state_in s r v) (Command.Set path bytes) met (met_only false) Reply.Accepted _ e (set_done r (work_at s.work v) l.retained path bytes is.short is.narrow);
+    lawful = record { tree = is.view; short = short_put v.map path bytes l.short is.short; parents = l.parents; least = l.least; retained = l.retained };
     spared = λ long. absurd (ok_is_short long);
   }
 
@@ -299,8 +308,8 @@ module _ (records : ℕ → Option Record) (s : Session) (store : Store) (met : 
   unfolding remove_view
   rm_answered tree path is = record {
     view = remove_view v path;
-    gives = met_as (state_in s r v) (Command.Rm path) met (met_only false) Reply.Accepted _ e (rm_done r (work_at s.work v) zero path (some_there (is_empty (subtree v.map path)) is.found));
-    lawful = record { tree = is.view; short = short_removed v.map path l.short; parents = l.parents; least = l.least };
+    gives = met_as (state_in s r v) (Command.Rm path) met (met_only false) Reply.Accepted _ e (rm_done r (work_at s.work v) l.retained path (some_there (is_empty (subtree v.map path)) is.found));
+    lawful = record { tree = is.view; short = short_removed v.map path l.short; parents = l.parents; least = l.least; retained = l.retained };
     spared = λ long. absurd (ok_is_short long);
   }
     where
@@ -308,19 +317,20 @@ module _ (records : ℕ → Option Record) (s : Session) (store : Store) (met : 
       some_there true e = absurd (cc e)
       some_there false e = refl
 
-  pub graft_answered : (tree : lazy.Tree) (target : Target) (from to : Path) (n at_root low : ℕ) → resolve r target ≡ Ok n → Some low ≡ least_with s.work.least n → HasShortContents (tree_at r n)
+  pub graft_answered : (tree : lazy.Tree) (target : Target) (from to : Path) (n at_root low : ℕ) → resolve r target ≡ Ok n → IsTrue (is_retained r n) → Some low ≡ least_with s.work.least n → HasShortContents (tree_at r n)
       → IsGrafted records from to tree v (stored_view records n at_root (tree_at r n)) true → Answers (Command.Graft target from to) (with_tree tree (Some low)) Reply.Accepted
   unfolding graft_view
-  graft_answered tree target from to n at_root low named less short is = record {
+  graft_answered tree target from to n at_root low named retained less short is = record {
     view = graft_view v (stored_view records n at_root (tree_at r n)) from to;
     gives = met_as (state_in s r v) (Command.Graft target from to) met (met_only false) Reply.Accepted _ e
         (subst (λ (o : Option ℕ). Step no_rules (state_in s r v) (Command.Graft target from to) (conditions_of (met_only false)) Reply.Accepted (at r (record (work_at s.work v) { tree = graft v.map (tree_at r n) from to; least = o }))) (sym less)
-        (graft_done r (work_at s.work v) target from to n zero named (some_grafted (is_empty (subtree (tree_at r n) from)) is.found) (is.shallow refl) (is.narrow refl)));
+        (graft_done r (work_at s.work v) target from to n l.retained named (some_grafted (is_empty (subtree (tree_at r n) from)) is.found) (is.shallow refl) (is.narrow refl)));
     lawful = record {
       tree = is.view;
       short = short_graft v.map (tree_at r n) from to l.short short;
       parents = l.parents;
       least = less ∙ ap (λ (o : Option ℕ). least_with o n) l.least ∙ least_more v.oldest s.work.parents n ∙ ap (λ (o : Option ℕ). fold least_with o s.work.parents) (with_least v.oldest n);
+      retained = one_less r s.work.least low n l.retained retained less;
     };
     spared = λ long. absurd (ok_is_short long);
   }
@@ -342,6 +352,7 @@ module _ (records : ℕ → Option Record) (s : Session) (store : Store) (met : 
       short = t.short;
       parents = subst (AreParents r) (sym one) (one_parent r n retained);
       least = let same : n ≡ min n n = omega arith in ap Some same ∙ sym (ap (λ (ps : List ℕ). fold least_with (Some n) ps) one);
+      retained = not_below r n retained;
     };
     spared = λ long. absurd (at_is_short name long_name long);
   }
@@ -396,12 +407,13 @@ module _ (records : ℕ → Option Record) (s : Session) (r : Repository) (v : V
     gives = met_as (state_in s r v) (Command.Parent target) met (met_only false) Reply.Accepted _ e
         (subst (λ (ps : List ℕ). Step no_rules (state_in s r v) (Command.Parent target) (conditions_of (met_only false)) Reply.Accepted (at r (record (work_at s.work v) { parents = ps; least = Some low }))) (sym added)
         (subst (λ (o : Option ℕ). Step no_rules (state_in s r v) (Command.Parent target) (conditions_of (met_only false)) Reply.Accepted (at r (record (work_at s.work v) { parents = s.work.parents ++ n ∷ []; least = o }))) (sym less)
-        (parent_done r (work_at s.work v) target n (floor_zero s.store r of) named new few)));
+        (parent_done r (work_at s.work v) target n l.retained named new few)));
     lawful = record {
       tree = l.tree;
       short = l.short;
       parents = subst (AreParents r) (sym added) (more_parents r s.work.parents n l.parents retained new few);
       least = less ∙ ap (λ (o : Option ℕ). least_with o n) l.least ∙ sym (ap (λ (ps : List ℕ). fold least_with v.oldest ps) added ∙ least_last v.oldest s.work.parents n);
+      retained = one_less r s.work.least low n l.retained retained less;
     };
     spared = λ long. absurd (ok_is_short long);
   }
@@ -439,12 +451,12 @@ module _ (tells : Bool) (old new : Told) (s : Session) (store : Store) (same : S
   pub set_read : (tree : lazy.Tree) (path : Path) (bytes : Bytes) → (IsTrue tells → (r : Repository) (v : View) (held : Holds s.store old r) → IsView (image_records held) s.work.tree v → IsSet (image_records held) path bytes tree v)
       → HasRead tells old new s (after tree s.met) (Command.Set path bytes) (Ok Reply.Accepted)
   set_read tree path bytes is = answered_read tells old new s (after tree s.met) (Command.Set path bytes) (kept_in s (after tree s.met) same refl) looks Reply.Accepted
-      (λ told r v here. set_answered (image_records here.holds) s store s.met r v e (floor_zero s.store r here.holds.tables) here.lawful tree path bytes (is told r v here.holds here.lawful.tree))
+      (λ told r v here. set_answered (image_records here.holds) s store s.met r v e here.lawful tree path bytes (is told r v here.holds here.lawful.tree))
 
   pub rm_read : (tree : lazy.Tree) (path : Path) → (IsTrue tells → (r : Repository) (v : View) (held : Holds s.store old r) → IsView (image_records held) s.work.tree v → IsRemoved (image_records held) path tree v true)
       → HasRead tells old new s (after tree s.met) (Command.Rm path) (Ok Reply.Accepted)
   rm_read tree path is = answered_read tells old new s (after tree s.met) (Command.Rm path) (kept_in s (after tree s.met) same refl) looks Reply.Accepted
-      (λ told r v here. rm_answered (image_records here.holds) s store s.met r v e (floor_zero s.store r here.holds.tables) here.lawful tree path (is told r v here.holds here.lawful.tree))
+      (λ told r v here. rm_answered (image_records here.holds) s store s.met r v e here.lawful tree path (is told r v here.holds here.lawful.tree))
 
   -- over the same view
   pub same_read : (tree : lazy.Tree) (command : Command) (reply : Reply) → Refusable command
@@ -465,12 +477,12 @@ fails_as fault called met met' result e f = subst (λ (x : StoreFault). Fails x 
 
 -- ---- what was answered is the machine's
 
-pub got_gives : (r : Repository) (w : Machine.Work) (path : Path) (got : Got) (reply : Reply) → r.floor ≡ 0 → reply ≡ got_reply got → got ≡ got_at w.tree path → Step no_rules (at r w) (Command.Get path) (conditions_of (met_only false)) reply (at r w)
-got_gives r w path got reply zero is_reply is_got = subst (λ (x : Reply). Step no_rules (at r w) (Command.Get path) (conditions_of (met_only false)) x (at r w)) (sym (is_reply ∙ ap got_reply is_got)) (get_done r w zero path)
+pub got_gives : (r : Repository) (w : Machine.Work) (path : Path) (got : Got) (reply : Reply) → NoneGivenUp r w → reply ≡ got_reply got → got ≡ got_at w.tree path → Step no_rules (at r w) (Command.Get path) (conditions_of (met_only false)) reply (at r w)
+got_gives r w path got reply kept is_reply is_got = subst (λ (x : Reply). Step no_rules (at r w) (Command.Get path) (conditions_of (met_only false)) x (at r w)) (sym (is_reply ∙ ap got_reply is_got)) (get_done r w kept path)
 
-pub listed_gives : (r : Repository) (w : Machine.Work) (path : Path) (listed : Listed) (reply : Reply) → r.floor ≡ 0 → reply ≡ listed_reply listed → listed ≡ listed_at w.tree path
+pub listed_gives : (r : Repository) (w : Machine.Work) (path : Path) (listed : Listed) (reply : Reply) → NoneGivenUp r w → reply ≡ listed_reply listed → listed ≡ listed_at w.tree path
     → Step no_rules (at r w) (Command.List path) (conditions_of (met_only false)) reply (at r w)
-listed_gives r w path listed reply zero is_reply is_listed = subst (λ (x : Reply). Step no_rules (at r w) (Command.List path) (conditions_of (met_only false)) x (at r w)) (sym (is_reply ∙ ap listed_reply is_listed)) (list_done r w zero path)
+listed_gives r w path listed reply kept is_reply is_listed = subst (λ (x : Reply). Step no_rules (at r w) (Command.List path) (conditions_of (met_only false)) x (at r w)) (sym (is_reply ∙ ap listed_reply is_listed)) (list_done r w kept path)
 
 pub cat_gives : (r : Repository) (w : Machine.Work) (target : Target) (path : Path) (n : ℕ) (got : Got) (reply : Reply) → resolve r target ≡ Ok n → reply ≡ got_reply got → got ≡ got_at (tree_at r n) path
     → Step no_rules (at r w) (Command.Cat target path) (conditions_of (met_only false)) reply (at r w)
@@ -486,8 +498,8 @@ none_there : (b : Bool) → false ≡ not b → b ≡ true
 none_there true e = refl
 none_there false e = absurd (cc e)
 
-pub absent_gives : (r : Repository) (w : Machine.Work) (path : Path) → r.floor ≡ 0 → false ≡ not (is_empty (subtree w.tree path)) → Step no_rules (at r w) (Command.Rm path) (conditions_of (met_only false)) Reply.Absent (at r w)
-absent_gives r w path zero none = rm_absent r w zero path (none_there (is_empty (subtree w.tree path)) none)
+pub absent_gives : (r : Repository) (w : Machine.Work) (path : Path) → NoneGivenUp r w → false ≡ not (is_empty (subtree w.tree path)) → Step no_rules (at r w) (Command.Rm path) (conditions_of (met_only false)) Reply.Absent (at r w)
+absent_gives r w path kept none = rm_absent r w kept path (none_there (is_empty (subtree w.tree path)) none)
 
 -- the reply is known by another name
 pub reply_as : (tells : Bool) (a b : Told) (s s' : Session) (command : Command) (reply reply' : Reply) → reply ≡ reply' → HasRead tells a b s s' command (Ok reply') → HasRead tells a b s s' command (Ok reply)
@@ -508,7 +520,7 @@ module _ (tells : Bool) (old new : Told) (s : Session) (store : Store) (same : S
       answered_read tells old new s s' (Command.Checkout target) (λ r is. (same_tables s.store store same r is.0, subst (AreParents r) (sym one) (one_parent r n (retained r is.0)))) looks (Reply.At name)
       (λ told r v here.
       let of : IsOf s.store r = here.holds.tables in
-      checkout_answered (image_records here.holds) s store s.met r v e (floor_zero s.store r of) here.lawful tree parents target n name one (sym (named r of)) (retained r of)
+      checkout_answered (image_records here.holds) s store s.met r v e here.lawful tree parents target n name one (sym (named r of)) (retained r of)
       (is_name r (same_tables s.store store same r of) (retained r of)) long_name (read told r here.holds (retained r of)))
 
   pub graft_read : (tree source : lazy.Tree) (from to : Path) (low : ℕ) → Some low ≡ least_with s.work.least n
@@ -522,7 +534,7 @@ module _ (tells : Bool) (old new : Told) (s : Session) (store : Store) (same : S
       (λ told r v here.
       let of : IsOf s.store r = here.holds.tables in
       let t : IsReadFor r here.holds source = read told r here.holds (retained r of) in
-      graft_answered (image_records here.holds) s store s.met r v e (floor_zero s.store r of) here.lawful tree target from to n t.at low (sym (named r of)) less t.short (grafted told r v here.holds t here.lawful.tree))
+      graft_answered (image_records here.holds) s store s.met r v e here.lawful tree target from to n t.at low (sym (named r of)) (retained r of) less t.short (grafted told r v here.holds t here.lawful.tree))
 
   -- it could not be read
   pub unfetched_read : (met : Met) (command : Command) (fault : StoreFault) (result : Result Reply SessionEnd) → Refusable command → Fails fault s.met met result
@@ -531,12 +543,11 @@ module _ (tells : Bool) (old new : Told) (s : Session) (store : Store) (same : S
       (λ told r v here. (here.lawful.tree, fetched_refuses (IsReadFor r here.holds) (state_in s r v) command fault (read told r here.holds (retained r here.holds.tables))))
 
 pub unfetched_ends : (s : Session) (old : Told) (n : ℕ) (tells : Bool) (command : Command) (met : Met) (fault : StoreFault) (result : Result Reply SessionEnd) (before after : GroundCounts) → ((r : Repository) → IsOf s.store r → IsTrue (is_retained r n))
-    → Fails fault s.met met result → (fault ≡ StoreFault.Ground → Rose before.file_faults after.file_faults) → (IsTrue tells → (r : Repository) × (v : View) × IsWorking old s r v)
-    → (IsTrue tells → (r : Repository) (held : Holds s.store old r) → IsTrue (is_retained r n) → IsFetchedOr (IsTreeOf (image_records held) r n) (Err fault)) → IfErr result (λ (end : SessionEnd). EndsBy end tells before after)
-unfetched_ends s old n tells command met fault result before after retained f cause held read = ends fault command s.met met result tells before after f cause
-    (λ told. let h = held told in
-    (state_in s h.0 h.1, fetched_refuses (IsTreeOf (image_records h.2.holds) h.0 n) (state_in s h.0 h.1) command fault (read told h.0 h.2.holds (retained h.0 h.2.holds.tables))))
+    → Fails fault s.met met result → (fault ≡ StoreFault.Ground → Rose before.file_faults after.file_faults)
+    → (IsTrue tells → (r : Repository) (held : Holds s.store old r) → IsTrue (is_retained r n) → IsFetchedOr (IsTreeOf (image_records held) r n) (Err fault)) → IfErr result (λ (end : SessionEnd). EndsBy end (IsHeld tells old s) before after)
+unfetched_ends s old n tells command met fault result before after retained f cause read = ends fault command s.met met result (IsHeld tells old s) before after f cause
+    (λ (told, (r, v, here)). (state_in s r v, fetched_refuses (IsTreeOf (image_records here.holds) r n) (state_in s r v) command fault (read told r here.holds (retained r here.holds.tables))))
 
-pub ungrafted_gives : (r : Repository) (w : Machine.Work) (target : Target) (from to : Path) (n : ℕ) → r.floor ≡ 0 → resolve r target ≡ Ok n → false ≡ not (is_empty (subtree (tree_at r n) from))
+pub ungrafted_gives : (r : Repository) (w : Machine.Work) (target : Target) (from to : Path) (n : ℕ) → NoneGivenUp r w → resolve r target ≡ Ok n → false ≡ not (is_empty (subtree (tree_at r n) from))
     → Step no_rules (at r w) (Command.Graft target from to) (conditions_of (met_only false)) Reply.Absent (at r w)
-ungrafted_gives r w target from to n zero named none = graft_absent r w target from to n zero named (none_there (is_empty (subtree (tree_at r n) from)) none)
+ungrafted_gives r w target from to n kept named none = graft_absent r w target from to n kept named (none_there (is_empty (subtree (tree_at r n) from)) none)

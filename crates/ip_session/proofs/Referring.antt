@@ -1,7 +1,7 @@
 -- What the machine gives to the commands that name commits and touch no file.
 --     X_unnamed      a reference names none.      X_done      they do
 --     parent_known, parent_full, parent_done      the commit is a parent already, there are as many as there may be, or it is added
---     head_retained, named_retained      what a reference names is retained
+--     head_retained, named_retained      what a reference names is retained.      not_below      and what is retained is not below the floor
 use Rattle.std.proofs.Common.{◌≡◌, ℕ, ◌+◌, ◌<◌, ◌≤◌, ◌==◌, Bool, true, false, List, [], ◌∷◌, ◌++◌, map, length, refl, sym, ap, ◌∙◌, subst, arith, Option, Some, None, Ok, Err, IsTrue}
 use Rattle.std.specs.Prelude.{◌&&◌, IfSome, nat_le, nat_lt, position, reverse, option_map}
 use Rattle.std.specs.List.{list_any}
@@ -21,12 +21,18 @@ use Rattle.ip_spec.specs.Step.{Refused, ◌>>=◌, ◌>>◌, refuse_if, or_refus
 use Rattle.ip_store.specs.declared.store.Store.{Store}
 use Rattle.ip_store.specs.Store.{IsOf}
 use Rattle.ip_session.specs.Session.{no_rules, met_only, conditions_of}
-use Rattle.ip_session.proofs.SessionLemmas.{at, plainly, still_there, behind, tested as refused_by_test, passes, stays_in}
+use Rattle.ip_session.proofs.SessionLemmas.{at, plainly, NoneGivenUp, still_there, behind, tested as refused_by_test, passes, stays_in}
 
 -- ---- what is retained
 
 within : (low high n : ℕ) → low ≤ n → n < high → IsTrue (nat_le low n && nat_lt n high)
 within low high n a b = grind (arith, nat_tests)
+
+from_floor : (low high n : ℕ) → IsTrue (nat_le low n && nat_lt n high) → low ≤ n
+from_floor low high n h = grind (arith, nat_tests)
+
+pub not_below : (r : Repository) (n : ℕ) → IsTrue (is_retained r n) → r.floor ≤ n
+not_below r n retained = from_floor r.floor (next r) n retained
 
 pub head_retained : (store : Store) (r : Repository) → IsOf store r → (name : Bytes) (n : ℕ) → head r name ≡ Some n → IsTrue (is_retained r n)
 head_retained store r of name n is =
@@ -69,21 +75,21 @@ module _ (r : Repository) (w : Work) where
   abbrev as_parent : ℕ → Refused Turned
   as_parent n = with_parent s n (list_any (λ p. p == n) w.parents)
 
-  parent_turn : (target : Target) (x : Refused ℕ) → r.floor ≡ 0 → resolve r target ≡ x → or_refused s (outcome s (Command.Parent target) (conditions_of (met_only false))) ≡ or_refused s (x >>= as_parent)
+  parent_turn : (target : Target) (x : Refused ℕ) → NoneGivenUp r w → resolve r target ≡ x → or_refused s (outcome s (Command.Parent target) (conditions_of (met_only false))) ≡ or_refused s (x >>= as_parent)
   unfolding outcome
-  parent_turn target x zero is = behind s (not_given_up s) (resolve r target >>= as_parent) (still_there r w zero) ∙ bound s (resolve r target) as_parent x is
+  parent_turn target x kept is = behind s (not_given_up s) (resolve r target >>= as_parent) (still_there r w kept) ∙ bound s (resolve r target) as_parent x is
 
-  parent_gives : (target : Target) (reply : Reply) (s' : State) (x : Refused ℕ) → r.floor ≡ 0 → resolve r target ≡ x → (reply, s') ≡ or_refused s (x >>= as_parent) → Gives (Command.Parent target) reply s'
-  parent_gives target reply s' x zero is gives = (plainly r w (Command.Parent target) false reply (λ h. absurd (cc h)), gives ∙ sym (parent_turn target x zero is))
+  parent_gives : (target : Target) (reply : Reply) (s' : State) (x : Refused ℕ) → NoneGivenUp r w → resolve r target ≡ x → (reply, s') ≡ or_refused s (x >>= as_parent) → Gives (Command.Parent target) reply s'
+  parent_gives target reply s' x kept is gives = (plainly r w (Command.Parent target) false reply (λ h. absurd (cc h)), gives ∙ sym (parent_turn target x kept is))
 
-  pub parent_unnamed : (target : Target) (reply : Reply) → r.floor ≡ 0 → resolve r target ≡ Err reply → Gives (Command.Parent target) reply s
-  parent_unnamed target reply zero is = parent_gives target reply s (Err reply) zero is refl
+  pub parent_unnamed : (target : Target) (reply : Reply) → NoneGivenUp r w → resolve r target ≡ Err reply → Gives (Command.Parent target) reply s
+  parent_unnamed target reply kept is = parent_gives target reply s (Err reply) kept is refl
 
   tested : (n : ℕ) (b : Bool) → list_any (λ p. p == n) w.parents ≡ b → or_refused s (as_parent n) ≡ or_refused s (with_parent s n b)
   tested n b e = ap (λ (x : Bool). or_refused s (with_parent s n x)) e
 
-  pub parent_known : (target : Target) (n : ℕ) → r.floor ≡ 0 → resolve r target ≡ Ok n → list_any (λ p. p == n) w.parents ≡ true → Gives (Command.Parent target) Reply.Accepted s
-  parent_known target n zero is known = parent_gives target Reply.Accepted s (Ok n) zero is (sym (tested n true known))
+  pub parent_known : (target : Target) (n : ℕ) → NoneGivenUp r w → resolve r target ≡ Ok n → list_any (λ p. p == n) w.parents ≡ true → Gives (Command.Parent target) Reply.Accepted s
+  parent_known target n kept is known = parent_gives target Reply.Accepted s (Ok n) kept is (sym (tested n true known))
 
   full : (k : ℕ) → 16 ≤ k → nat_le parents_limit k ≡ true
   full k h = grind (arith, nat_tests)
@@ -97,11 +103,11 @@ module _ (r : Repository) (w : Work) where
   room : (n : ℕ) (b : Bool) → nat_le parents_limit (length w.parents) ≡ b → or_refused s (with_parent s n false) ≡ or_refused s (refuse_if b (Reply.Limit Limit.Parents) >> Ok (Reply.Accepted, with_one n))
   room n b e = ap (λ (x : Bool). or_refused s (refuse_if x (Reply.Limit Limit.Parents) >> Ok (Reply.Accepted, with_one n))) e
 
-  pub parent_full : (target : Target) (n : ℕ) → r.floor ≡ 0 → resolve r target ≡ Ok n → list_any (λ p. p == n) w.parents ≡ false → 16 ≤ length w.parents → Gives (Command.Parent target) (Reply.Limit Limit.Parents) s
-  parent_full target n zero is new many = parent_gives target (Reply.Limit Limit.Parents) s (Ok n) zero is (sym (tested n false new ∙ room n true (full (length w.parents) many)))
+  pub parent_full : (target : Target) (n : ℕ) → NoneGivenUp r w → resolve r target ≡ Ok n → list_any (λ p. p == n) w.parents ≡ false → 16 ≤ length w.parents → Gives (Command.Parent target) (Reply.Limit Limit.Parents) s
+  parent_full target n kept is new many = parent_gives target (Reply.Limit Limit.Parents) s (Ok n) kept is (sym (tested n false new ∙ room n true (full (length w.parents) many)))
 
-  pub parent_done : (target : Target) (n : ℕ) → r.floor ≡ 0 → resolve r target ≡ Ok n → list_any (λ p. p == n) w.parents ≡ false → length w.parents < 16 → Gives (Command.Parent target) Reply.Accepted (with_one n)
-  parent_done target n zero is new few = parent_gives target Reply.Accepted (with_one n) (Ok n) zero is (sym (tested n false new ∙ room n false (not_full (length w.parents) few)))
+  pub parent_done : (target : Target) (n : ℕ) → NoneGivenUp r w → resolve r target ≡ Ok n → list_any (λ p. p == n) w.parents ≡ false → length w.parents < 16 → Gives (Command.Parent target) Reply.Accepted (with_one n)
+  parent_done target n kept is new few = parent_gives target Reply.Accepted (with_one n) (Ok n) kept is (sym (tested n false new ∙ room n false (not_full (length w.parents) few)))
 
   -- ---- trees of commits
 
@@ -134,17 +140,17 @@ module _ (r : Repository) (w : Work) where
   abbrev grafted : Path → Path → ℕ → Refused Turned
   grafted from to n = graft_turn s n (subtree (tree_at r n) from) to
 
-  graft_gives : (target : Target) (from to : Path) (reply : Reply) (s' : State) (x : Refused ℕ) → r.floor ≡ 0 → resolve r target ≡ x → (reply, s') ≡ or_refused s (x >>= grafted from to) → Gives (Command.Graft target from to) reply s'
+  graft_gives : (target : Target) (from to : Path) (reply : Reply) (s' : State) (x : Refused ℕ) → NoneGivenUp r w → resolve r target ≡ x → (reply, s') ≡ or_refused s (x >>= grafted from to) → Gives (Command.Graft target from to) reply s'
   unfolding outcome
-  graft_gives target from to reply s' x zero is gives = (
+  graft_gives target from to reply s' x kept is gives = (
     plainly r w (Command.Graft target from to) false reply (λ h. absurd (cc h)),
-    gives ∙ sym (behind s (not_given_up s) (resolve r target >>= grafted from to) (still_there r w zero) ∙ bound s (resolve r target) (grafted from to) x is),
+    gives ∙ sym (behind s (not_given_up s) (resolve r target >>= grafted from to) (still_there r w kept) ∙ bound s (resolve r target) (grafted from to) x is),
   )
 
-  pub graft_unnamed : (target : Target) (from to : Path) (reply : Reply) → r.floor ≡ 0 → resolve r target ≡ Err reply → Gives (Command.Graft target from to) reply s
-  graft_unnamed target from to reply zero is = graft_gives target from to reply s (Err reply) zero is refl
+  pub graft_unnamed : (target : Target) (from to : Path) (reply : Reply) → NoneGivenUp r w → resolve r target ≡ Err reply → Gives (Command.Graft target from to) reply s
+  graft_unnamed target from to reply kept is = graft_gives target from to reply s (Err reply) kept is refl
 
-  module _ (target : Target) (from to : Path) (n : ℕ) (zero : r.floor ≡ 0) (is : resolve r target ≡ Ok n) where
+  module _ (target : Target) (from to : Path) (n : ℕ) (kept : NoneGivenUp r w) (is : resolve r target ≡ Ok n) where
     abbrev source : Tree
     source = tree_at r n
 
@@ -174,19 +180,19 @@ module _ (r : Repository) (w : Work) where
     narrow_tested wide e = ap (λ (x : Bool). or_refused s (narrow_test x)) e
 
     pub graft_absent : is_empty sub ≡ true → Gives (Command.Graft target from to) Reply.Absent s
-    graft_absent none = graft_gives target from to Reply.Absent s (Ok n) zero is (sym (some_tested true none))
+    graft_absent none = graft_gives target from to Reply.Absent s (Ok n) kept is (sym (some_tested true none))
 
     pub graft_deep : is_empty sub ≡ false → steps_limit < length to + height sub → Gives (Command.Graft target from to) (Reply.Limit Limit.Depth) s
-    graft_deep some deep = graft_gives target from to (Reply.Limit Limit.Depth) s (Ok n) zero is (sym (some_tested false some ∙ depth_tested true (passes steps_limit (length to + height sub) deep)))
+    graft_deep some deep = graft_gives target from to (Reply.Limit Limit.Depth) s (Ok n) kept is (sym (some_tested false some ∙ depth_tested true (passes steps_limit (length to + height sub) deep)))
 
     pub graft_wide : is_empty sub ≡ false → length to + height sub ≤ steps_limit → entries_limit < widest (graft w.tree source from to) → Gives (Command.Graft target from to) (Reply.Limit Limit.Entries) s
     unfolding graft
-    graft_wide some shallow wide = graft_gives target from to (Reply.Limit Limit.Entries) s (Ok n) zero is
+    graft_wide some shallow wide = graft_gives target from to (Reply.Limit Limit.Entries) s (Ok n) kept is
         (sym (some_tested false some ∙ depth_tested false (stays_in steps_limit (length to + height sub) shallow) ∙ narrow_tested true (passes entries_limit (widest (place w.tree to sub)) wide)))
 
     pub graft_done : is_empty sub ≡ false → length to + height sub ≤ steps_limit → widest (graft w.tree source from to) ≤ entries_limit → Gives (Command.Graft target from to) Reply.Accepted (with_graft (graft w.tree source from to))
     unfolding graft
-    graft_done some shallow narrow = graft_gives target from to Reply.Accepted (with_graft (place w.tree to sub)) (Ok n) zero is
+    graft_done some shallow narrow = graft_gives target from to Reply.Accepted (with_graft (place w.tree to sub)) (Ok n) kept is
         (sym (some_tested false some ∙ depth_tested false (stays_in steps_limit (length to + height sub) shallow) ∙ narrow_tested false (stays_in entries_limit (widest (place w.tree to sub)) narrow)))
 
   -- ---- what the store tells

@@ -1,10 +1,11 @@
 -- What the machine gives to the commands that a session runs.
 --     at r w      the machine's state of a session that is idle.      X_done, X_refused      what it gives to the command
+--     NoneGivenUp r w      no commit that the work took from was given up, so that (still_there) the machine goes on
 --     behind, tested      the steps of a chain
 --     X_is_short      the text of a reply takes no memory
 --     line_refused, bad_line      what it gives to a line
 use Rattle.std.proofs.Common.{◌≡◌, ◌≢◌, ◌⊎◌, inl, inr, ℕ, ◌*◌, ◌^◌, ◌<◌, ◌≤◌, ◌==◌, Bool, true, false, [], ◌∷◌, ◌++◌, length, refl, sym, ap, ◌∙◌, arith, Option, Some, None, Ok, Err, IsTrue, length-append}
-use Rattle.std.specs.Prelude.{nat_lt, if◌then◌else◌, codes, Result, IsFalse}
+use Rattle.std.specs.Prelude.{nat_lt, if◌then◌else◌, codes, Result, IfSome, IsFalse}
 use Rattle.std.specs.List.{list_any}
 use Rattle.std.specs.Fmt.{decimal}
 use Rattle.std.proofs.lemmas.Bool.Decides.{nat_tests}
@@ -46,19 +47,22 @@ plainly r w command b reply may = record {
   refused = may;
 }
 
-no_less : (n : ℕ) → nat_lt n 0 ≡ false
-no_less n = grind (arith, nat_tests)
+pub passes : (bound n : ℕ) → bound < n → nat_lt bound n ≡ true
+passes bound n h = grind (arith, nat_tests)
 
-none_given_up : (least : Option ℕ) → unless_some (below 0 least) Reply.GivenUp ≡ Ok tt
-none_given_up None = refl
-none_given_up (Some n) = ap (λ (b : Bool). unless_some (if b then Some n else None) Reply.GivenUp) (no_less n)
+pub stays_in : (bound n : ℕ) → n ≤ bound → nat_lt bound n ≡ false
+stays_in bound n h = grind (arith, nat_tests)
 
-pub still_there : (r : Repository) (w : Work) → r.floor ≡ 0 → not_given_up (at r w) ≡ Ok tt
-still_there r w e = ap (λ (floor : ℕ). unless_some (below floor w.least) Reply.GivenUp) e ∙ none_given_up w.least
+-- no commit that the work took from was given up
+abbrev pub NoneGivenUp : Repository → Work → Type 0
+NoneGivenUp r w = IfSome w.least (λ n. r.floor ≤ n)
 
--- no commit was given up so far
-pub floor_zero : (store : Store) (r : Repository) → IsOf store r → r.floor ≡ 0
-floor_zero store r is = is.floor ∙ (is.slot.nothing_below is.slot.served).0
+none_below : (floor : ℕ) (least : Option ℕ) → IfSome least (λ n. floor ≤ n) → unless_some (below floor least) Reply.GivenUp ≡ Ok tt
+none_below floor None kept = refl
+none_below floor (Some n) kept = ap (λ (b : Bool). unless_some (if b then Some n else None) Reply.GivenUp) (stays_in n floor kept)
+
+pub still_there : (r : Repository) (w : Work) → NoneGivenUp r w → not_given_up (at r w) ≡ Ok tt
+still_there r w kept = none_below r.floor w.least kept
 
 -- ---- the steps of a chain
 
@@ -69,19 +73,13 @@ behind s g y e = ap (λ (x : Refused (Unit {0})). or_refused s (x >> y)) e
 pub tested : (s : State) (reply : Reply) (y : Refused Turned) (b b' : Bool) → b ≡ b' → or_refused s (refuse_if b reply >> y) ≡ or_refused s (refuse_if b' reply >> y)
 tested s reply y b b' e = ap (λ (x : Bool). or_refused s (refuse_if x reply >> y)) e
 
-pub passes : (bound n : ℕ) → bound < n → nat_lt bound n ≡ true
-passes bound n h = grind (arith, nat_tests)
-
-pub stays_in : (bound n : ℕ) → n ≤ bound → nat_lt bound n ≡ false
-stays_in bound n h = grind (arith, nat_tests)
-
 -- ---- what the machine gives to each command
 
 pub empty_done : (r : Repository) (w : Work) → Step no_rules (at r w) Command.Empty (conditions_of (met_only false)) Reply.Accepted (at r empty_work)
 unfolding outcome
 empty_done r w = (plainly r w Command.Empty false Reply.Accepted (λ h. absurd (cc h)), refl)
 
-module _ (r : Repository) (w : Work) (zero : r.floor ≡ 0) where
+module _ (r : Repository) (w : Work) (kept : NoneGivenUp r w) where
   abbrev s : State
   s = at r w
 
@@ -101,7 +99,7 @@ module _ (r : Repository) (w : Work) (zero : r.floor ≡ 0) where
 
   set_turn : (path : Path) (bytes : Bytes) (long : Bool) → nat_lt contents_limit (length bytes) ≡ long → or_refused s (outcome s (Command.Set path bytes) (conditions_of (met_only false))) ≡ or_refused s (set_short path bytes long)
   unfolding outcome
-  set_turn path bytes long e = behind s (not_given_up s) (set_short path bytes (nat_lt contents_limit (length bytes))) (still_there r w zero)
+  set_turn path bytes long e = behind s (not_given_up s) (set_short path bytes (nat_lt contents_limit (length bytes))) (still_there r w kept)
       ∙ tested s (Reply.Limit Limit.Contents) (set_narrow path bytes) (nat_lt contents_limit (length bytes)) long e
 
   set_width : (path : Path) (bytes : Bytes) (wide : Bool) → nat_lt entries_limit (widest (put w.tree path bytes)) ≡ wide
@@ -131,7 +129,7 @@ module _ (r : Repository) (w : Work) (zero : r.floor ≡ 0) where
   rm_turn : (path : Path) (none : Bool) → is_empty (subtree w.tree path) ≡ none
       → or_refused s (outcome s (Command.Rm path) (conditions_of (met_only false))) ≡ or_refused s (refuse_if none Reply.Absent >> Ok (Reply.Accepted, with_map (remove w.tree path)))
   unfolding outcome
-  rm_turn path none e = behind s (not_given_up s) (refuse_if (is_empty (subtree w.tree path)) Reply.Absent >> Ok (Reply.Accepted, with_map (remove w.tree path))) (still_there r w zero)
+  rm_turn path none e = behind s (not_given_up s) (refuse_if (is_empty (subtree w.tree path)) Reply.Absent >> Ok (Reply.Accepted, with_map (remove w.tree path))) (still_there r w kept)
       ∙ tested s Reply.Absent (Ok (Reply.Accepted, with_map (remove w.tree path))) (is_empty (subtree w.tree path)) none e
 
   pub rm_done : (path : Path) → is_empty (subtree w.tree path) ≡ false → Gives (Command.Rm path) Reply.Accepted (with_map (remove w.tree path))
@@ -146,14 +144,14 @@ module _ (r : Repository) (w : Work) (zero : r.floor ≡ 0) where
   unfolding outcome
   get_done path = (
     plainly r w (Command.Get path) false (got_reply (got_at w.tree path)) (λ h. absurd (cc h)),
-    sym (behind s (not_given_up s) (Ok (got_reply (got_at w.tree path), s)) (still_there r w zero)),
+    sym (behind s (not_given_up s) (Ok (got_reply (got_at w.tree path), s)) (still_there r w kept)),
   )
 
   pub list_done : (path : Path) → Gives (Command.List path) (listed_reply (listed_at w.tree path)) s
   unfolding outcome
   list_done path = (
     plainly r w (Command.List path) false (listed_reply (listed_at w.tree path)) (λ h. absurd (cc h)),
-    sym (behind s (not_given_up s) (Ok (listed_reply (listed_at w.tree path), s)) (still_there r w zero)),
+    sym (behind s (not_given_up s) (Ok (listed_reply (listed_at w.tree path), s)) (still_there r w kept)),
   )
 
 pub hash_done : (r : Repository) (w : Work) (bytes : Bytes) → Step no_rules (at r w) (Command.Hash bytes) (conditions_of (met_only false)) (Reply.Hash (sha256 bytes)) (at r w)
@@ -250,7 +248,7 @@ pub stat_is_short : (store : Store) (r : Repository) → IsOf store r → IsLong
 unfolding reply_text
 stat_is_short store r is long =
     let next_high : next r < 10 ^ 20 = omega (arith, is.next, is.slot.next, is.slot.ends) in
-    let floor_high : r.floor < 10 ^ 20 = omega (arith, floor_zero store r is) in
+    let floor_high : r.floor < 10 ^ 20 = omega (arith, is.floor, is.slot.floor, is.slot.next, is.slot.ends) in
     let branches_high : len r.branches < 10 ^ 20 = omega (arith, is.retained.few) in
     let a : length (decimal r.floor) ≤ 20 = length-decimal-le 20 r.floor (omega arith) floor_high (omega (arith, floor_high)) in
     let b : length (decimal (next r)) ≤ 20 = length-decimal-le 20 (next r) (omega arith) next_high (omega (arith, is.next, is.slot.next, is.slot.ends)) in

@@ -10,7 +10,8 @@
 --     HasRead tells old new s s' command result      and it may have read records
 --     Goes old new s s' r v Changed Gives reply      a command or a line was run
 --     Cut old new s s' r v Gives      a fault of the ground or of its files cut it short
---     EndsBy end tells before after      why a session has ended
+--     IsHeld tells told session      the ground tells what the store holds, and the session works over it
+--     EndsBy end held before after      why a session has ended
 --     Fails fault met met' result      what comes of a call of the store that failed
 --     tree_fault fault      a call on a tree fails as one of the store
 --     IsLong reply      the text of such a reply may take memory.      Writes reply met met' text      it was written, or want of it
@@ -150,10 +151,13 @@ pub record Cut (old new : Told) (s s' : Session) (r : Repository) (v : View) (Gi
   pub only : ChangesOnly IsOfStore old new
   pub atomic : NothingPending old → IsAtomic old new r after.repository
 
+abbrev pub IsHeld : Bool → Told → Session → Type 0
+IsHeld tells told s = IsTrue tells × ((r : Repository) × (v : View) × IsWorking told s r v)
+
 -- A fault of the ground, whose count rose; or files that others changed, which never comes where the ground tells what the store holds.
-abbrev pub EndsBy : SessionEnd → (tells : Bool) → GroundCounts → GroundCounts → Type 0
-EndsBy SessionEnd.Ground tells before after = Rose before.file_faults after.file_faults
-EndsBy (SessionEnd.Damaged at names) tells before after = ¬ IsTrue tells
+abbrev pub EndsBy : SessionEnd → (held : Type 0) → GroundCounts → GroundCounts → Type 0
+EndsBy SessionEnd.Ground held before after = Rose before.file_faults after.file_faults
+EndsBy (SessionEnd.Damaged at names) held before after = ¬ held
 
 -- want of memory is met, other refusals are answered, and faults of the ground and of its files end the session
 abbrev pub Fails : StoreFault → Met → Met → Result Reply SessionEnd → Type 0

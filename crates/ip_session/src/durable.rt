@@ -7,7 +7,7 @@ ghost use Rattle.ip_spec.specs.declared.command.Command.TheVariants as Command;
 ghost use Rattle.ip_spec.specs.Record.{IsBranchName, IsInfo};
 ghost use Rattle.ip_spec.specs.Repository.{Repository};
 ghost use Rattle.ip_spec.specs.Step.{Step};
-ghost use Rattle.ip_session.specs.Session.{no_rules, met_only, ChangedBy, EndsBy};
+ghost use Rattle.ip_session.specs.Session.{no_rules, met_only, ChangedBy, IsHeld, EndsBy};
 
 use crate::replies::{branch_reply, removed_reply, reply_to};
 use crate::session::{Session, SessionEnd, resolve};
@@ -30,14 +30,13 @@ impl Session {
         requires info { IsInfo info }
         requires met { self.old.met ≡ met_only false }
         requires tables { IsServing self.old }
-        requires held { IsTrue G.tells → (r : Repository) × (v : View) × IsWorking (G.told ground.old) self.old r v }
         ensures tables { IfOk result (λ reply. IsServing self.new) }
         ensures goes { IsTrue G.tells → (r : Repository) (v : View) → IsWorking (G.told ground.old) self.old r v →
             IfOk result (Goes (G.told ground.old) (G.told ground.new) self.old self.new r v (ChangedBy (Command.Commit branch.now info)) (Step no_rules (state_in self.old r v) (Command.Commit branch.now info))) }
         ensures cut { IsTrue G.tells → (r : Repository) (v : View) → IsWorking (G.told ground.old) self.old r v →
             OnErr result (Cut (G.told ground.old) (G.told ground.new) self.old self.new r v (Step no_rules (state_in self.old r v) (Command.Commit branch.now info))) }
         ensures counts { NoneFalls (G.counts_of ground.old) (G.counts_of ground.new) }
-        ensures cause { IfErr result (λ end. EndsBy end G.tells (G.counts_of ground.old) (G.counts_of ground.new)) }
+        ensures cause { IfErr result (λ end. EndsBy end (IsHeld G.tells (G.told ground.old) self.old) (G.counts_of ground.old) (G.counts_of ground.new)) }
     {
         let made = self
             .store
@@ -61,14 +60,13 @@ impl Session {
         requires name { IsBranchName name.now }
         requires met { self.old.met ≡ met_only false }
         requires tables { IsServing self.old }
-        requires held { IsTrue G.tells → (r : Repository) × (v : View) × IsWorking (G.told ground.old) self.old r v }
         ensures tables { IfOk result (λ reply. IsServing self.new) }
         ensures goes { IsTrue G.tells → (r : Repository) (v : View) → IsWorking (G.told ground.old) self.old r v →
             IfOk result (Goes (G.told ground.old) (G.told ground.new) self.old self.new r v (ChangedBy (Command.Branch name.now target)) (Step no_rules (state_in self.old r v) (Command.Branch name.now target))) }
         ensures cut { IsTrue G.tells → (r : Repository) (v : View) → IsWorking (G.told ground.old) self.old r v →
             OnErr result (Cut (G.told ground.old) (G.told ground.new) self.old self.new r v (Step no_rules (state_in self.old r v) (Command.Branch name.now target))) }
         ensures counts { NoneFalls (G.counts_of ground.old) (G.counts_of ground.new) }
-        ensures cause { IfErr result (λ end. EndsBy end G.tells (G.counts_of ground.old) (G.counts_of ground.new)) }
+        ensures cause { IfErr result (λ end. EndsBy end (IsHeld G.tells (G.told ground.old) self.old) (G.counts_of ground.old) (G.counts_of ground.new)) }
     {
         let number = match resolve(&self.store, target) {
             Ok(number) => number,
@@ -95,14 +93,13 @@ impl Session {
         requires name { IsBranchName name }
         requires met { self.old.met ≡ met_only false }
         requires tables { IsServing self.old }
-        requires held { IsTrue G.tells → (r : Repository) × (v : View) × IsWorking (G.told ground.old) self.old r v }
         ensures tables { IfOk result (λ reply. IsServing self.new) }
         ensures goes { IsTrue G.tells → (r : Repository) (v : View) → IsWorking (G.told ground.old) self.old r v →
             IfOk result (Goes (G.told ground.old) (G.told ground.new) self.old self.new r v (ChangedBy (Command.BranchRm name)) (Step no_rules (state_in self.old r v) (Command.BranchRm name))) }
         ensures cut { IsTrue G.tells → (r : Repository) (v : View) → IsWorking (G.told ground.old) self.old r v →
             OnErr result (Cut (G.told ground.old) (G.told ground.new) self.old self.new r v (Step no_rules (state_in self.old r v) (Command.BranchRm name))) }
         ensures counts { NoneFalls (G.counts_of ground.old) (G.counts_of ground.new) }
-        ensures cause { IfErr result (λ end. EndsBy end G.tells (G.counts_of ground.old) (G.counts_of ground.new)) }
+        ensures cause { IfErr result (λ end. EndsBy end (IsHeld G.tells (G.told ground.old) self.old) (G.counts_of ground.old) (G.counts_of ground.new)) }
     {
         works_stay();
         leaves_only();

@@ -19,7 +19,7 @@ ghost use Rattle.ip_store.specs.Commits.{met_nothing};
 ghost use Rattle.ip_store.specs.Store.{IsOf};
 ghost use Rattle.ip_tree.specs.Leaves.{HasLeavesOnly};
 ghost use Rattle.ip_store.specs.Work.{IsLawful};
-ghost use Rattle.ip_session.specs.Session.{no_rules, met_only, is_durable, asks_ground, ChangedBy, ChangedIn, HasRead, EndsBy};
+ghost use Rattle.ip_session.specs.Session.{no_rules, met_only, is_durable, asks_ground, ChangedBy, ChangedIn, HasRead, IsHeld, EndsBy};
 
 use crate::replies::{met_only, put_reply, refuse};
 use ip_base::{Hash, Items, Limit, Number};
@@ -251,10 +251,9 @@ impl Session {
         requires quiet { is_durable command ≡ false }
         requires met { self.old.met ≡ met_only false }
         requires tables { IsServing self.old }
-        requires held { IsTrue G.tells → (r : Repository) × (v : View) × IsWorking (G.told ground.old) self.old r v }
         ensures reads { HasRead G.tells (G.told ground.old) (G.told ground.new) self.old self.new command result }
         ensures counts { NoneFalls (G.counts_of ground.old) (G.counts_of ground.new) }
-        ensures cause { IfErr result (λ end. EndsBy end G.tells (G.counts_of ground.old) (G.counts_of ground.new)) }
+        ensures cause { IfErr result (λ end. EndsBy end (IsHeld G.tells (G.told ground.old) self.old) (G.counts_of ground.old) (G.counts_of ground.new)) }
     {
         match command {
             Command::Checkout(target) => self.checkout(ground, target),
@@ -274,14 +273,13 @@ impl Session {
         requires words { HasWords command }
         requires met { self.old.met ≡ met_only false }
         requires tables { IsServing self.old }
-        requires held { IsTrue G.tells → (r : Repository) × (v : View) × IsWorking (G.told ground.old) self.old r v }
         ensures tables { IfOk result (λ reply. IsServing self.new) }
         ensures goes { IsTrue G.tells → (r : Repository) (v : View) → IsWorking (G.told ground.old) self.old r v →
             IfOk result (Goes (G.told ground.old) (G.told ground.new) self.old self.new r v (ChangedBy command) (Step no_rules (state_in self.old r v) command)) }
         ensures cut { IsTrue G.tells → (r : Repository) (v : View) → IsWorking (G.told ground.old) self.old r v →
             OnErr result (Cut (G.told ground.old) (G.told ground.new) self.old self.new r v (Step no_rules (state_in self.old r v) command)) }
         ensures counts { NoneFalls (G.counts_of ground.old) (G.counts_of ground.new) }
-        ensures cause { IfErr result (λ end. EndsBy end G.tells (G.counts_of ground.old) (G.counts_of ground.new)) }
+        ensures cause { IfErr result (λ end. EndsBy end (IsHeld G.tells (G.told ground.old) self.old) (G.counts_of ground.old) (G.counts_of ground.new)) }
     {
         match command {
             Command::Commit { branch, info } => self.commit(ground, branch.as_slice(), info),
@@ -294,14 +292,13 @@ impl Session {
     /// Runs a line's command. At `Err` a fault of the ground or of its files cut it short, and the session has ended.
     pub fn step<G: Ground>(&mut self, ground: &mut G, line: &[u8]) -> Result<Reply, SessionEnd>
         requires tables { IsServing self.old }
-        requires held { IsTrue G.tells → (r : Repository) × (v : View) × IsWorking (G.told ground.old) self.old r v }
         ensures tables { IfOk result (λ reply. IsServing self.new) }
         ensures goes { IsTrue G.tells → (r : Repository) (v : View) → IsWorking (G.told ground.old) self.old r v →
             IfOk result (Goes (G.told ground.old) (G.told ground.new) self.old self.new r v (ChangedIn line.now) (LineStep IsServedLine no_rules (state_in self.old r v) line.now)) }
         ensures cut { IsTrue G.tells → (r : Repository) (v : View) → IsWorking (G.told ground.old) self.old r v →
             OnErr result (Cut (G.told ground.old) (G.told ground.new) self.old self.new r v (LineStep IsServedLine no_rules (state_in self.old r v) line.now)) }
         ensures counts { NoneFalls (G.counts_of ground.old) (G.counts_of ground.new) }
-        ensures cause { IfErr result (λ end. EndsBy end G.tells (G.counts_of ground.old) (G.counts_of ground.new)) }
+        ensures cause { IfErr result (λ end. EndsBy end (IsHeld G.tells (G.told ground.old) self.old) (G.counts_of ground.old) (G.counts_of ground.new)) }
     {
         grammar();
         self.met = met_only(false);
@@ -324,7 +321,6 @@ impl Session {
         requires empty { text.old.items ≡ [] }
         requires room { 4096 ≤ vec_capacity text.old }
         requires tables { IsServing self.old }
-        requires held { IsTrue G.tells → (r : Repository) × (v : View) × IsWorking (G.told ground.old) self.old r v }
         ensures room { vec_capacity text.old ≤ vec_capacity text.new }
         ensures tables { OnOk result (IsServing self.new) }
         ensures goes { OnOk result ((reply : Reply) × (text.new.items ≡ reply_text reply) × (IsTrue G.tells → (r : Repository) (v : View) → IsWorking (G.told ground.old) self.old r v →
@@ -332,7 +328,7 @@ impl Session {
         ensures cut { IsTrue G.tells → (r : Repository) (v : View) → IsWorking (G.told ground.old) self.old r v →
             OnErr result (Cut (G.told ground.old) (G.told ground.new) self.old self.new r v (LineStep IsServedLine no_rules (state_in self.old r v) line.now)) }
         ensures counts { NoneFalls (G.counts_of ground.old) (G.counts_of ground.new) }
-        ensures cause { IfErr result (λ end. EndsBy end G.tells (G.counts_of ground.old) (G.counts_of ground.new)) }
+        ensures cause { IfErr result (λ end. EndsBy end (IsHeld G.tells (G.told ground.old) self.old) (G.counts_of ground.old) (G.counts_of ground.new)) }
     {
         match self.step(ground, line) {
             Err(end) => Err(end),

@@ -5,7 +5,7 @@ ghost use Rattle.ip_spec.specs.declared.command.Command.TheVariants as Command;
 ghost use Rattle.ip_spec.specs.Path.{IsPath};
 ghost use Rattle.ip_spec.specs.Repository.{Repository};
 ghost use Rattle.ip_spec.specs.View.{View};
-ghost use Rattle.ip_session.specs.Session.{met_only, HasRead, EndsBy};
+ghost use Rattle.ip_session.specs.Session.{met_only, HasRead, IsHeld, EndsBy};
 
 use crate::replies::{at_reply, failed, got_reply, listed_reply, refuse, shown_reply, tree_fault};
 use crate::session::{Session, SessionEnd, least_with, resolve};
@@ -25,10 +25,9 @@ impl Session {
     ) -> Result<Reply, SessionEnd>
         requires met { self.old.met ≡ met_only false }
         requires tables { IsServing self.old }
-        requires held { IsTrue G.tells → (r : Repository) × (v : View) × IsWorking (G.told ground.old) self.old r v }
         ensures reads { HasRead G.tells (G.told ground.old) (G.told ground.new) self.old self.new (Command.Checkout target) result }
         ensures counts { NoneFalls (G.counts_of ground.old) (G.counts_of ground.new) }
-        ensures cause { IfErr result (λ end. EndsBy end G.tells (G.counts_of ground.old) (G.counts_of ground.new)) }
+        ensures cause { IfErr result (λ end. EndsBy end (IsHeld G.tells (G.told ground.old) self.old) (G.counts_of ground.old) (G.counts_of ground.new)) }
     {
         let number = match resolve(&self.store, target) {
             Ok(number) => number,
@@ -60,10 +59,9 @@ impl Session {
         requires path { IsPath path }
         requires met { self.old.met ≡ met_only false }
         requires tables { IsServing self.old }
-        requires held { IsTrue G.tells → (r : Repository) × (v : View) × IsWorking (G.told ground.old) self.old r v }
         ensures reads { HasRead G.tells (G.told ground.old) (G.told ground.new) self.old self.new (Command.Set path contents) result }
         ensures counts { NoneFalls (G.counts_of ground.old) (G.counts_of ground.new) }
-        ensures cause { IfErr result (λ end. EndsBy end G.tells (G.counts_of ground.old) (G.counts_of ground.new)) }
+        ensures cause { IfErr result (λ end. EndsBy end (IsHeld G.tells (G.told ground.old) self.old) (G.counts_of ground.old) (G.counts_of ground.new)) }
     {
         let tree = &mut self.work.tree;
         match self.store.set(self.alloc, ground, tree, path.steps(), contents.as_slice()) {
@@ -81,10 +79,9 @@ impl Session {
         requires path { IsPath path }
         requires met { self.old.met ≡ met_only false }
         requires tables { IsServing self.old }
-        requires held { IsTrue G.tells → (r : Repository) × (v : View) × IsWorking (G.told ground.old) self.old r v }
         ensures reads { HasRead G.tells (G.told ground.old) (G.told ground.new) self.old self.new (Command.Rm path) result }
         ensures counts { NoneFalls (G.counts_of ground.old) (G.counts_of ground.new) }
-        ensures cause { IfErr result (λ end. EndsBy end G.tells (G.counts_of ground.old) (G.counts_of ground.new)) }
+        ensures cause { IfErr result (λ end. EndsBy end (IsHeld G.tells (G.told ground.old) self.old) (G.counts_of ground.old) (G.counts_of ground.new)) }
     {
         let tree = &mut self.work.tree;
         match self.store.remove(self.alloc, ground, tree, path.steps()) {
@@ -105,10 +102,9 @@ impl Session {
         requires path { IsPath to }
         requires met { self.old.met ≡ met_only false }
         requires tables { IsServing self.old }
-        requires held { IsTrue G.tells → (r : Repository) × (v : View) × IsWorking (G.told ground.old) self.old r v }
         ensures reads { HasRead G.tells (G.told ground.old) (G.told ground.new) self.old self.new (Command.Graft target from to) result }
         ensures counts { NoneFalls (G.counts_of ground.old) (G.counts_of ground.new) }
-        ensures cause { IfErr result (λ end. EndsBy end G.tells (G.counts_of ground.old) (G.counts_of ground.new)) }
+        ensures cause { IfErr result (λ end. EndsBy end (IsHeld G.tells (G.told ground.old) self.old) (G.counts_of ground.old) (G.counts_of ground.new)) }
     {
         let number = match resolve(&self.store, target) {
             Ok(number) => number,
@@ -133,10 +129,9 @@ impl Session {
     pub(crate) fn get<G: Ground>(&mut self, ground: &mut G, path: Path) -> Result<Reply, SessionEnd>
         requires met { self.old.met ≡ met_only false }
         requires tables { IsServing self.old }
-        requires held { IsTrue G.tells → (r : Repository) × (v : View) × IsWorking (G.told ground.old) self.old r v }
         ensures reads { HasRead G.tells (G.told ground.old) (G.told ground.new) self.old self.new (Command.Get path) result }
         ensures counts { NoneFalls (G.counts_of ground.old) (G.counts_of ground.new) }
-        ensures cause { IfErr result (λ end. EndsBy end G.tells (G.counts_of ground.old) (G.counts_of ground.new)) }
+        ensures cause { IfErr result (λ end. EndsBy end (IsHeld G.tells (G.told ground.old) self.old) (G.counts_of ground.old) (G.counts_of ground.new)) }
     {
         match self
             .store
@@ -155,10 +150,9 @@ impl Session {
     ) -> Result<Reply, SessionEnd>
         requires met { self.old.met ≡ met_only false }
         requires tables { IsServing self.old }
-        requires held { IsTrue G.tells → (r : Repository) × (v : View) × IsWorking (G.told ground.old) self.old r v }
         ensures reads { HasRead G.tells (G.told ground.old) (G.told ground.new) self.old self.new (Command.List path) result }
         ensures counts { NoneFalls (G.counts_of ground.old) (G.counts_of ground.new) }
-        ensures cause { IfErr result (λ end. EndsBy end G.tells (G.counts_of ground.old) (G.counts_of ground.new)) }
+        ensures cause { IfErr result (λ end. EndsBy end (IsHeld G.tells (G.told ground.old) self.old) (G.counts_of ground.old) (G.counts_of ground.new)) }
     {
         match self
             .store
@@ -178,10 +172,9 @@ impl Session {
     ) -> Result<Reply, SessionEnd>
         requires met { self.old.met ≡ met_only false }
         requires tables { IsServing self.old }
-        requires held { IsTrue G.tells → (r : Repository) × (v : View) × IsWorking (G.told ground.old) self.old r v }
         ensures reads { HasRead G.tells (G.told ground.old) (G.told ground.new) self.old self.new (Command.Cat target path) result }
         ensures counts { NoneFalls (G.counts_of ground.old) (G.counts_of ground.new) }
-        ensures cause { IfErr result (λ end. EndsBy end G.tells (G.counts_of ground.old) (G.counts_of ground.new)) }
+        ensures cause { IfErr result (λ end. EndsBy end (IsHeld G.tells (G.told ground.old) self.old) (G.counts_of ground.old) (G.counts_of ground.new)) }
     {
         let number = match resolve(&self.store, target) {
             Ok(number) => number,
@@ -205,10 +198,9 @@ impl Session {
     ) -> Result<Reply, SessionEnd>
         requires met { self.old.met ≡ met_only false }
         requires tables { IsServing self.old }
-        requires held { IsTrue G.tells → (r : Repository) × (v : View) × IsWorking (G.told ground.old) self.old r v }
         ensures reads { HasRead G.tells (G.told ground.old) (G.told ground.new) self.old self.new (Command.Show target) result }
         ensures counts { NoneFalls (G.counts_of ground.old) (G.counts_of ground.new) }
-        ensures cause { IfErr result (λ end. EndsBy end G.tells (G.counts_of ground.old) (G.counts_of ground.new)) }
+        ensures cause { IfErr result (λ end. EndsBy end (IsHeld G.tells (G.told ground.old) self.old) (G.counts_of ground.old) (G.counts_of ground.new)) }
     {
         let number = match resolve(&self.store, target) {
             Ok(number) => number,

@@ -7,7 +7,7 @@ use Rattle.ip_spec.specs.Step.{Step}
 use Rattle.ip_store.specs.Work.{work_at, AreParents, IsLawful}
 use Rattle.ip_session.specs.declared.session.Session.{Session}
 use Rattle.ip_session.specs.Session.{no_rules, state_in, IsAnswered}
-use Rattle.ip_session.proofs.SessionLemmas.{floor_zero, parent_refused}
+use Rattle.ip_session.proofs.SessionLemmas.{parent_refused}
 use Rattle.ip_session.proofs.Referring.{parent_known, parent_full}
 use Rattle.ip_session.proofs.Reading.{still_answered, memory_answered, more_parents, parent_answered}
 use Rattle.ip_session.proofs.session.Session.add_parent.Goals as goal
@@ -16,14 +16,14 @@ pub returns-then-contains-clause-answered : goal.returns-then-contains-clause-an
 returns-then-contains-clause-answered c records r v of l retained target named =
     let s = c.args.self.now in
     let known : list_any (λ p. p == c.args.number) s.work.parents ≡ true = search rules in
-    still_answered records s s r v (Command.Parent target) refl l Reply.Accepted c.requires.met (parent_known r (work_at s.work v) target c.args.number (floor_zero s.store r of) named known) (parent_refused target)
+    still_answered records s s r v (Command.Parent target) refl l Reply.Accepted c.requires.met (parent_known r (work_at s.work v) target c.args.number l.retained named known) (parent_refused target)
 
 pub returns-then-parents-ge-MOST_PARENTS-clause-answered : goal.returns-then-parents-ge-MOST_PARENTS-clause-answered
 returns-then-parents-ge-MOST_PARENTS-clause-answered c records r v of l retained target named =
     let s = c.args.self.now in
     let new : list_any (λ p. p == c.args.number) s.work.parents ≡ false = search rules in
     still_answered records s s r v (Command.Parent target) refl l (Reply.Limit Limit.Parents) c.requires.met
-    (parent_full r (work_at s.work v) target c.args.number (floor_zero s.store r of) named new (omega (arith, ap length c.as_slice-parents.ensures))) (parent_refused target)
+    (parent_full r (work_at s.work v) target c.args.number l.retained named new (omega (arith, ap length c.as_slice-parents.ensures))) (parent_refused target)
 
 pub returns-clause-answered : goal.returns-clause-answered
 returns-clause-answered c records r v of l retained target named =

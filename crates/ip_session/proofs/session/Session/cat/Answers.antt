@@ -14,7 +14,7 @@ pub returns-in-Err-clause-reads : goal.returns-in-Err-clause-reads
 returns-in-Err-clause-reads g c =
     let s = c.args.self.now in
     unread _ _ s s.met (Command.Cat c.args.target c.args.path) c.in-Err.reply c.requires.met (cat_refused c.args.target c.args.path)
-    (λ r v of. cat_unnamed r (work_at s.work v) c.args.target c.args.path c.in-Err.reply (sym (c.in-Err.ensures.number r of)))
+    (λ r v of kept. cat_unnamed r (work_at s.work v) c.args.target c.args.path c.in-Err.reply (sym (c.in-Err.ensures.number r of)))
 
 pub tree_of-requires : goal.tree_of-requires
 tree_of-requires g c =
@@ -30,7 +30,7 @@ returns-in-Err-tree_of-clause-reads g c =
 pub returns-in-Err-tree_of-clause-cause : goal.returns-in-Err-tree_of-clause-cause
 returns-in-Err-tree_of-clause-cause g c =
     unfetched_ends c.args.self.now _ c.in-Ok.number _ (Command.Cat c.args.target c.args.path) c.failed.new.met c.in-Err-tree_of.fault c.failed.result _ _ c.in-Ok.ensures.retained c.failed.ensures
-    (λ e. c.in-Err-tree_of.ensures.cause (ap Err e)) c.requires.held c.in-Err-tree_of.ensures.tree
+    (λ e. c.in-Err-tree_of.ensures.cause (ap Err e)) c.in-Err-tree_of.ensures.tree
 
 pub returns-in-Ok-get-clause-reads : goal.returns-in-Ok-get-clause-reads
 returns-in-Ok-get-clause-reads g c =
@@ -78,12 +78,10 @@ returns-clause-cause g c =
     let failed = c.failed-in-Err-get in
     ends (tree_fault fault) command s.met failed.new.met failed.result _ _ _ (fails_as fault c.tree_fault.result s.met failed.new.met failed.result c.tree_fault.ensures failed.ensures)
     (tree_cause fault (λ e. rose_after _ _ _ c.tree_of.ensures.counts.file_faults (c.in-Err-get.ensures.cause (ap Err e))))
-    (λ told.
-    let held = c.requires.held told in
-    let r = held.0 in
-    let holds = held.2.holds in
+    (λ (told, (r, v, here)).
+    let holds = here.holds in
     let read = c.in-Ok-tree_of.ensures.tree told r holds (c.in-Ok.ensures.retained r holds.tables) in (
-      state_in s r held.1,
-      free_refuses (state_in s r held.1) command fault
+      state_in s r v,
+      free_refuses (state_in s r v) command fault
           (got_behind _ _ s.store mid (c.tree_of.ensures.looks told) r holds c.in-Ok-tree_of.tree c.in-Ok.number (λ (m : Tree). IsFree fault) (c.in-Err-get.ensures.got told) read),
     ))

@@ -12,7 +12,7 @@ pub returns-in-Err-clause-reads : goal.returns-in-Err-clause-reads
 returns-in-Err-clause-reads g c =
     let s = c.args.self.now in
     unread _ _ s s.met (Command.Checkout c.args.target) c.in-Err.reply c.requires.met (checkout_refused c.args.target)
-    (λ r v of. checkout_unnamed r (work_at s.work v) c.args.target c.in-Err.reply (sym (c.in-Err.ensures.number r of)))
+    (λ r v of kept. checkout_unnamed r (work_at s.work v) c.args.target c.in-Err.reply (sym (c.in-Err.ensures.number r of)))
 
 pub returns-then-is_err-clause-reads : goal.returns-then-is_err-clause-reads
 returns-then-is_err-clause-reads g c = refused_unread _ _ c.args.self.now c.refuse.new.met (Command.Checkout c.args.target) c.refuse.result c.refuse.ensures.met c.refuse.ensures.reply (checkout_refused c.args.target)
@@ -31,7 +31,7 @@ returns-in-Err-tree_of-clause-reads g c =
 pub returns-in-Err-tree_of-clause-cause : goal.returns-in-Err-tree_of-clause-cause
 returns-in-Err-tree_of-clause-cause g c =
     unfetched_ends c.args.self.now _ c.in-Ok.number _ (Command.Checkout c.args.target) c.failed.new.met c.in-Err-tree_of.fault c.failed.result _ _ c.in-Ok.ensures.retained c.failed.ensures
-    (λ e. c.in-Err-tree_of.ensures.cause (ap Err e)) c.requires.held c.in-Err-tree_of.ensures.tree
+    (λ e. c.in-Err-tree_of.ensures.cause (ap Err e)) c.in-Err-tree_of.ensures.tree
 
 pub retained_name-requires : goal.retained_name-requires
 retained_name-requires g c =

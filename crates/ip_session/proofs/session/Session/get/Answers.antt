@@ -2,7 +2,7 @@ use Rattle.std.proofs.Common.{ap, Err}
 use Rattle.ip_spec.specs.declared.command.Command.TheVariants as Command
 use Rattle.ip_store.specs.Work.{work_at}
 use Rattle.ip_session.specs.Session.{state_in, tree_fault}
-use Rattle.ip_session.proofs.SessionLemmas.{floor_zero, get_refused}
+use Rattle.ip_session.proofs.SessionLemmas.{get_refused}
 use Rattle.ip_session.proofs.Reading.{read_as, same_read, failed_read, fails_as, free_refuses, tree_cause, ends, got_gives}
 use Rattle.ip_session.proofs.session.Session.get.Goals as goal
 
@@ -12,7 +12,7 @@ returns-in-Ok-clause-reads g c =
     let path = c.steps.result.now in
     read_as _ _ _ s _ (Command.Get c.args.path) (Command.Get path) _ (ap Command.Get c.steps.ensures)
     (same_read _ _ _ s c.get.new.self c.get.ensures.same c.get.ensures.looks c.requires.met s.work.tree (Command.Get path) c.got_reply.result (get_refused path)
-    (λ told r v here. (here.lawful.tree, got_gives r (work_at s.work v) path c.in-Ok.got c.got_reply.result (floor_zero s.store r here.holds.tables) c.got_reply.ensures (c.in-Ok.ensures.got told r v here.holds here.lawful.tree))))
+    (λ told r v here. (here.lawful.tree, got_gives r (work_at s.work v) path c.in-Ok.got c.got_reply.result here.lawful.retained c.got_reply.ensures (c.in-Ok.ensures.got told r v here.holds here.lawful.tree))))
 
 pub returns-clause-reads : goal.returns-clause-reads
 returns-clause-reads g c =
@@ -30,4 +30,4 @@ returns-clause-cause g c =
     ends (tree_fault c.in-Err.fault) (Command.Get path) s.met c.failed.new.met c.failed.result _ _ _
     (fails_as c.in-Err.fault c.tree_fault.result s.met c.failed.new.met c.failed.result c.tree_fault.ensures c.failed.ensures)
     (tree_cause c.in-Err.fault (λ e. c.in-Err.ensures.cause (ap Err e)))
-    (λ told. let held = c.requires.held told in (state_in s held.0 held.1, free_refuses (state_in s held.0 held.1) (Command.Get path) c.in-Err.fault (c.in-Err.ensures.got told held.0 held.1 held.2.holds held.2.lawful.tree)))
+    (λ (told, (r, v, here)). (state_in s r v, free_refuses (state_in s r v) (Command.Get path) c.in-Err.fault (c.in-Err.ensures.got told r v here.holds here.lawful.tree)))

@@ -7,7 +7,7 @@ use Rattle.ip_tree.specs.TreeView.{IsGrafted, stored_view}
 use Rattle.ip_store.specs.Store.{image_records}
 use Rattle.ip_store.specs.Work.{work_at}
 use Rattle.ip_session.specs.Session.{state_in, tree_fault}
-use Rattle.ip_session.proofs.SessionLemmas.{floor_zero, graft_refused}
+use Rattle.ip_session.proofs.SessionLemmas.{graft_refused}
 use Rattle.ip_session.proofs.Referring.{graft_unnamed}
 use Rattle.ip_session.proofs.Reading.{read_as, unread, same_read, failed_read, fails_as, graft_refuses, tree_cause, ends, looks_on, same_on, grafts_behind, graft_read, ungrafted_gives, unfetched_read, unfetched_ends}
 use Rattle.ip_session.proofs.session.Session.graft.Goals as goal
@@ -16,7 +16,7 @@ pub returns-in-Err-clause-reads : goal.returns-in-Err-clause-reads
 returns-in-Err-clause-reads g c =
     let s = c.args.self.now in
     unread _ _ s s.met (Command.Graft c.args.target c.args.from c.args.to) c.in-Err.reply c.requires.met (graft_refused c.args.target c.args.from c.args.to)
-    (λ r v of. graft_unnamed r (work_at s.work v) c.args.target c.args.from c.args.to c.in-Err.reply (floor_zero s.store r of) (sym (c.in-Err.ensures.number r of)))
+    (λ r v of kept. graft_unnamed r (work_at s.work v) c.args.target c.args.from c.args.to c.in-Err.reply kept (sym (c.in-Err.ensures.number r of)))
 
 pub tree_of-requires : goal.tree_of-requires
 tree_of-requires g c =
@@ -32,7 +32,7 @@ returns-in-Err-tree_of-clause-reads g c =
 pub returns-in-Err-tree_of-clause-cause : goal.returns-in-Err-tree_of-clause-cause
 returns-in-Err-tree_of-clause-cause g c =
     unfetched_ends c.args.self.now _ c.in-Ok.number _ (Command.Graft c.args.target c.args.from c.args.to) c.failed.new.met c.in-Err-tree_of.fault c.failed.result _ _ c.in-Ok.ensures.retained c.failed.ensures
-    (λ e. c.in-Err-tree_of.ensures.cause (ap Err e)) c.requires.held c.in-Err-tree_of.ensures.tree
+    (λ e. c.in-Err-tree_of.ensures.cause (ap Err e)) c.in-Err-tree_of.ensures.tree
 
 pub returns-in-Ok-true-clause-reads : goal.returns-in-Ok-true-clause-reads
 returns-in-Ok-true-clause-reads g c =
@@ -68,7 +68,7 @@ returns-in-Ok-false-clause-reads g c =
     let t = c.in-Ok-tree_of.ensures.tree told r here.holds (c.in-Ok.ensures.retained r of) in
     let grafted = subst (IsGrafted (image_records here.holds) from to tree v (stored_view (image_records here.holds) n t.at (tree_at r n))) c.in-Ok-false.field-0-test
     (grafts_behind _ _ s.store mid (c.tree_of.ensures.looks told) r here.holds from to s.work.tree source tree (Ok c.in-Ok-false.field-0) n (c.in-Ok-false.ensures.grafts told) v here.lawful.tree t) in
-    (grafted.view, ungrafted_gives r (work_at s.work v) c.args.target from to n (floor_zero s.store r of) (sym (c.in-Ok.ensures.number r of)) grafted.found)))
+    (grafted.view, ungrafted_gives r (work_at s.work v) c.args.target from to n here.lawful.retained (sym (c.in-Ok.ensures.number r of)) grafted.found)))
 
 pub returns-clause-reads : goal.returns-clause-reads
 returns-clause-reads g c =
@@ -90,7 +90,7 @@ returns-clause-reads g c =
     let of = here.holds.tables in
     let t = c.in-Ok-tree_of.ensures.tree told r here.holds (c.in-Ok.ensures.retained r of) in
     let ungrafted = grafts_behind _ _ s.store mid (c.tree_of.ensures.looks told) r here.holds from to s.work.tree source tree (Err fault) n (c.in-Err-graft.ensures.grafts told) v here.lawful.tree t in
-    (ungrafted.view, graft_refuses r (work_at s.work v) c.args.target from to n fault (floor_zero s.store r of) (sym (c.in-Ok.ensures.number r of)) ungrafted.cause)))
+    (ungrafted.view, graft_refuses r (work_at s.work v) c.args.target from to n fault here.lawful.retained (sym (c.in-Ok.ensures.number r of)) ungrafted.cause)))
 
 pub returns-clause-cause : goal.returns-clause-cause
 returns-clause-cause g c =
@@ -106,12 +106,8 @@ returns-clause-cause g c =
     let failed = c.failed-in-Err-graft in
     ends (tree_fault fault) command s.met failed.new.met failed.result _ _ _ (fails_as fault c.tree_fault.result s.met failed.new.met failed.result c.tree_fault.ensures failed.ensures)
     (tree_cause fault (λ e. rose_after _ _ _ c.tree_of.ensures.counts.file_faults (c.in-Err-graft.ensures.cause (ap Err e))))
-    (λ told.
-    let held = c.requires.held told in
-    let r = held.0 in
-    let v = held.1 in
-    let here = held.2 in
+    (λ (told, (r, v, here)).
     let of = here.holds.tables in
     let t = c.in-Ok-tree_of.ensures.tree told r here.holds (c.in-Ok.ensures.retained r of) in
     let ungrafted = grafts_behind _ _ s.store mid (c.tree_of.ensures.looks told) r here.holds from to s.work.tree source tree (Err fault) n (c.in-Err-graft.ensures.grafts told) v here.lawful.tree t in
-    (state_in s r v, graft_refuses r (work_at s.work v) c.args.target from to n fault (floor_zero s.store r of) (sym (c.in-Ok.ensures.number r of)) ungrafted.cause))
+    (state_in s r v, graft_refuses r (work_at s.work v) c.args.target from to n fault here.lawful.retained (sym (c.in-Ok.ensures.number r of)) ungrafted.cause))

@@ -2,7 +2,7 @@ use Rattle.std.proofs.Common.{ap, Err}
 use Rattle.ip_spec.specs.declared.command.Command.TheVariants as Command
 use Rattle.ip_store.specs.Work.{work_at}
 use Rattle.ip_session.specs.Session.{state_in, tree_fault}
-use Rattle.ip_session.proofs.SessionLemmas.{floor_zero, list_refused}
+use Rattle.ip_session.proofs.SessionLemmas.{list_refused}
 use Rattle.ip_session.proofs.Reading.{read_as, same_read, failed_read, fails_as, free_refuses, tree_cause, ends, listed_gives}
 use Rattle.ip_session.proofs.session.Session.list.Goals as goal
 
@@ -12,7 +12,7 @@ returns-in-Ok-clause-reads g c =
     let path = c.steps.result.now in
     read_as _ _ _ s _ (Command.List c.args.path) (Command.List path) _ (ap Command.List c.steps.ensures)
     (same_read _ _ _ s c.list.new.self c.list.ensures.same c.list.ensures.looks c.requires.met s.work.tree (Command.List path) c.listed_reply.result (list_refused path)
-    (λ told r v here. (here.lawful.tree, listed_gives r (work_at s.work v) path c.in-Ok.listed c.listed_reply.result (floor_zero s.store r here.holds.tables) c.listed_reply.ensures (c.in-Ok.ensures.listed told r v here.holds here.lawful.tree))))
+    (λ told r v here. (here.lawful.tree, listed_gives r (work_at s.work v) path c.in-Ok.listed c.listed_reply.result here.lawful.retained c.listed_reply.ensures (c.in-Ok.ensures.listed told r v here.holds here.lawful.tree))))
 
 pub returns-clause-reads : goal.returns-clause-reads
 returns-clause-reads g c =
@@ -30,4 +30,4 @@ returns-clause-cause g c =
     ends (tree_fault c.in-Err.fault) (Command.List path) s.met c.failed.new.met c.failed.result _ _ _
     (fails_as c.in-Err.fault c.tree_fault.result s.met c.failed.new.met c.failed.result c.tree_fault.ensures c.failed.ensures)
     (tree_cause c.in-Err.fault (λ e. c.in-Err.ensures.cause (ap Err e)))
-    (λ told. let held = c.requires.held told in (state_in s held.0 held.1, free_refuses (state_in s held.0 held.1) (Command.List path) c.in-Err.fault (c.in-Err.ensures.listed told held.0 held.1 held.2.holds held.2.lawful.tree)))
+    (λ (told, (r, v, here)). (state_in s r v, free_refuses (state_in s r v) (Command.List path) c.in-Err.fault (c.in-Err.ensures.listed told r v here.holds here.lawful.tree)))

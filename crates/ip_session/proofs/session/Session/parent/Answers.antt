@@ -1,7 +1,7 @@
 use Rattle.std.proofs.Common.{sym, refl}
 use Rattle.ip_spec.specs.declared.command.Command.TheVariants as Command
 use Rattle.ip_store.specs.Work.{work_at}
-use Rattle.ip_session.proofs.SessionLemmas.{floor_zero, parent_refused}
+use Rattle.ip_session.proofs.SessionLemmas.{parent_refused}
 use Rattle.ip_session.proofs.Referring.{parent_unnamed}
 use Rattle.ip_session.proofs.Reading.{still_answered}
 use Rattle.ip_session.proofs.session.Session.parent.Goals as goal
@@ -14,7 +14,7 @@ add_parent-requires-clause-tables c =
 
 pub returns-in-Err-clause-answered : goal.returns-in-Err-clause-answered
 returns-in-Err-clause-answered c records r v of l = still_answered records c.args.self.now c.args.self.now r v (Command.Parent c.args.target) refl l c.in-Err.reply c.requires.met
-    (parent_unnamed r (work_at c.args.self.now.work v) c.args.target c.in-Err.reply (floor_zero c.args.self.now.store r of) (sym (c.in-Err.ensures.number r of))) (parent_refused c.args.target)
+    (parent_unnamed r (work_at c.args.self.now.work v) c.args.target c.in-Err.reply l.retained (sym (c.in-Err.ensures.number r of))) (parent_refused c.args.target)
 
 pub returns-in-Ok-clause-answered : goal.returns-in-Ok-clause-answered
 returns-in-Ok-clause-answered c records r v of l = c.add_parent.ensures.answered records r v of l (c.in-Ok.ensures.retained r of) c.args.target (sym (c.in-Ok.ensures.number r of))

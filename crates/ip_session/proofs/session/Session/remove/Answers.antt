@@ -5,7 +5,7 @@ use Rattle.ip_tree.specs.TreeView.{IsRemoved}
 use Rattle.ip_store.specs.Store.{image_records}
 use Rattle.ip_store.specs.Work.{work_at}
 use Rattle.ip_session.specs.Session.{state_in, tree_fault}
-use Rattle.ip_session.proofs.SessionLemmas.{floor_zero, rm_refused}
+use Rattle.ip_session.proofs.SessionLemmas.{rm_refused}
 use Rattle.ip_session.proofs.Reading.{read_as, rm_read, same_read, failed_read, fails_as, free_refuses, absent_gives, tree_cause, ends}
 use Rattle.ip_session.proofs.session.Session.remove.Goals as goal
 
@@ -24,7 +24,7 @@ returns-in-Ok-false-clause-reads g c =
     read_as _ _ _ s _ (Command.Rm c.args.path) (Command.Rm path) _ (ap Command.Rm c.steps.ensures)
     (same_read _ _ _ s c.remove.new.self c.remove.ensures.same c.remove.ensures.looks c.requires.met c.remove.new.tree (Command.Rm path) Reply.Absent (rm_refused path)
     (λ told r v here. let removed = subst (IsRemoved (image_records here.holds) path c.remove.new.tree v) c.in-Ok-false.field-0-test (c.in-Ok-false.ensures.removes told r v here.holds here.lawful.tree) in
-    (removed.view, absent_gives r (work_at s.work v) path (floor_zero s.store r here.holds.tables) removed.found)))
+    (removed.view, absent_gives r (work_at s.work v) path here.lawful.retained removed.found)))
 
 pub returns-clause-reads : goal.returns-clause-reads
 returns-clause-reads g c =
@@ -42,6 +42,6 @@ returns-clause-cause g c =
     ends (tree_fault c.in-Err.fault) (Command.Rm path) s.met c.failed.new.met c.failed.result _ _ _
     (fails_as c.in-Err.fault c.tree_fault.result s.met c.failed.new.met c.failed.result c.tree_fault.ensures c.failed.ensures)
     (tree_cause c.in-Err.fault (λ e. c.in-Err.ensures.cause (ap Err e)))
-    (λ told. let held = c.requires.held told in
-    let not_removed = c.in-Err.ensures.removes told held.0 held.1 held.2.holds held.2.lawful.tree in
-    (state_in s held.0 held.1, free_refuses (state_in s held.0 held.1) (Command.Rm path) c.in-Err.fault not_removed.cause))
+    (λ (told, (r, v, here)).
+    let not_removed = c.in-Err.ensures.removes told r v here.holds here.lawful.tree in
+    (state_in s r v, free_refuses (state_in s r v) (Command.Rm path) c.in-Err.fault not_removed.cause))

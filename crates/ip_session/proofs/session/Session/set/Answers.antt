@@ -2,7 +2,7 @@ use Rattle.std.proofs.Common.{ap, ap₂, Err}
 use Rattle.ip_spec.specs.declared.command.Command.TheVariants as Command
 use Rattle.ip_store.specs.Work.{work_at}
 use Rattle.ip_session.specs.Session.{state_in, tree_fault}
-use Rattle.ip_session.proofs.SessionLemmas.{floor_zero, set_refused}
+use Rattle.ip_session.proofs.SessionLemmas.{set_refused}
 use Rattle.ip_session.proofs.Reading.{read_as, set_read, failed_read, fails_as, set_refuses, tree_cause, ends}
 use Rattle.ip_session.proofs.session.Session.set.Goals as goal
 
@@ -22,7 +22,7 @@ returns-clause-reads g c =
     read_as _ _ _ s _ (Command.Set c.args.path c.args.contents) (Command.Set path bytes) _ (ap₂ Command.Set c.steps.ensures c.as_slice.ensures)
     (failed_read _ _ _ s c.set.new.self c.set.ensures.same c.set.ensures.looks c.requires.met c.set.new.tree c.failed.new.met (Command.Set path bytes) (tree_fault c.in-Err.fault) c.failed.result (set_refused path bytes)
     (fails_as c.in-Err.fault c.tree_fault.result s.met c.failed.new.met c.failed.result c.tree_fault.ensures c.failed.ensures)
-    (λ told r v here. let not_set = c.in-Err.ensures.sets told r v here.holds here.lawful.tree in (not_set.view, set_refuses r (work_at s.work v) path bytes c.in-Err.fault (floor_zero s.store r here.holds.tables) not_set.cause)))
+    (λ told r v here. let not_set = c.in-Err.ensures.sets told r v here.holds here.lawful.tree in (not_set.view, set_refuses r (work_at s.work v) path bytes c.in-Err.fault here.lawful.retained not_set.cause)))
 
 pub returns-clause-cause : goal.returns-clause-cause
 returns-clause-cause g c =
@@ -32,6 +32,6 @@ returns-clause-cause g c =
     ends (tree_fault c.in-Err.fault) (Command.Set path bytes) s.met c.failed.new.met c.failed.result _ _ _
     (fails_as c.in-Err.fault c.tree_fault.result s.met c.failed.new.met c.failed.result c.tree_fault.ensures c.failed.ensures)
     (tree_cause c.in-Err.fault (λ e. c.in-Err.ensures.cause (ap Err e)))
-    (λ told. let held = c.requires.held told in
-    let not_set = c.in-Err.ensures.sets told held.0 held.1 held.2.holds held.2.lawful.tree in
-    (state_in s held.0 held.1, set_refuses held.0 (work_at s.work held.1) path bytes c.in-Err.fault (floor_zero s.store held.0 held.2.holds.tables) not_set.cause))
+    (λ (told, (r, v, here)).
+    let not_set = c.in-Err.ensures.sets told r v here.holds here.lawful.tree in
+    (state_in s r v, set_refuses r (work_at s.work v) path bytes c.in-Err.fault here.lawful.retained not_set.cause))

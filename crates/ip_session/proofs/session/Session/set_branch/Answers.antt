@@ -14,11 +14,6 @@ set_branch-made-requires-clause-tables g c =
     let (r, is) = c.requires.tables in
     (r, is.0, c.in-Ok.ensures.retained r is.0)
 
-pub set_branch-made-requires-clause-held : goal.set_branch-made-requires-clause-held
-set_branch-made-requires-clause-held g c told =
-    let (r, v, here) = c.requires.held told in
-    (r, here.holds)
-
 pub returns-in-Some-clause-tables : goal.returns-in-Some-clause-tables
 returns-in-Some-clause-tables g c =
     let (r, is) = c.requires.tables in
@@ -31,7 +26,7 @@ returns-in-Some-clause-goes g c told r v here =
     let tables = here.holds.tables in
     let retained = c.in-Ok.ensures.retained r tables in
     set_goes _ _ c.args.self.now c.set_branch-made.new.self _ r v here c.args.name.now c.args.target c.in-Ok.number (sym (c.in-Ok.ensures.number r tables)) c.set_branch-made.result (c.set_branch-made.ensures.does told r here.holds retained)
-    (λ has q now parents. record { holds = now; lawful = c.works_stay.ensures _ _ r q _ v here.lawful (c.set_branch-made.ensures.stay told has r q here.holds now) (c.leaves_only.ensures _ now.stands.standing) parents })
+    (λ has q now kept parents. record { holds = now; lawful = c.works_stay.ensures _ _ r q _ v here.lawful (c.set_branch-made.ensures.stay told has r q here.holds now) (c.leaves_only.ensures _ now.stands.standing) kept parents })
     c.in-Some.reply c.met-self.ensures (sym c.branch_reply.ensures ∙ c.in-Some.is) (c.set_branch-made.ensures.answers r tables retained)
 
 pub returns-in-None-clause-cut : goal.returns-in-None-clause-cut
@@ -39,7 +34,7 @@ returns-in-None-clause-cut g c told r v here =
     let tables = here.holds.tables in
     let retained = c.in-Ok.ensures.retained r tables in
     set_cut _ _ c.args.self.now c.set_branch-made.new.self _ r v here c.args.name.now c.args.target c.in-Ok.number (sym (c.in-Ok.ensures.number r tables)) c.set_branch-made.result (c.set_branch-made.ensures.does told r here.holds retained)
-    (λ has q now parents. record { holds = now; lawful = c.works_stay.ensures _ _ r q _ v here.lawful (c.set_branch-made.ensures.stay told has r q here.holds now) (c.leaves_only.ensures _ now.stands.standing) parents })
+    (λ has q now kept parents. record { holds = now; lawful = c.works_stay.ensures _ _ r q _ v here.lawful (c.set_branch-made.ensures.stay told has r q here.holds now) (c.leaves_only.ensures _ now.stands.standing) kept parents })
     c.requires.met (c.set_branch-made.ensures.begun r tables (is_ground_set c.set_branch-made.result c.set_branch-made.ensures.undamaged (sym c.branch_reply.ensures ∙ c.in-None.is)))
 
 pub returns-in-None-clause-cause : goal.returns-in-None-clause-cause

@@ -11,7 +11,7 @@ pub returns-in-Err-clause-reads : goal.returns-in-Err-clause-reads
 returns-in-Err-clause-reads g c =
     let s = c.args.self.now in
     unread _ _ s s.met (Command.Show c.args.target) c.in-Err.reply c.requires.met (show_refused c.args.target)
-    (λ r v of. show_unnamed r (work_at s.work v) c.args.target c.in-Err.reply (sym (c.in-Err.ensures.number r of)))
+    (λ r v of kept. show_unnamed r (work_at s.work v) c.args.target c.in-Err.reply (sym (c.in-Err.ensures.number r of)))
 
 pub show-requires : goal.show-requires
 show-requires g c =
@@ -40,10 +40,7 @@ pub returns-in-Err-show-clause-cause : goal.returns-in-Err-show-clause-cause
 returns-in-Err-show-clause-cause g c =
     let s = c.args.self.now in
     ends c.in-Err-show.fault (Command.Show c.args.target) s.met c.failed.new.met c.failed.result _ _ _ c.failed.ensures (λ e. c.in-Err-show.ensures.cause (ap Err e))
-    (λ told.
-    let held = c.requires.held told in
-    let here = held.2 in (
-      state_in s held.0 held.1,
-      unshown_refuses held.0 c.in-Ok.number (state_in s held.0 held.1) (Command.Show c.args.target) c.in-Err-show.fault
-          (c.in-Err-show.ensures.shows told held.0 here.holds (c.in-Ok.ensures.retained held.0 here.holds.tables)),
+    (λ (told, (r, v, here)). (
+      state_in s r v,
+      unshown_refuses r c.in-Ok.number (state_in s r v) (Command.Show c.args.target) c.in-Err-show.fault (c.in-Err-show.ensures.shows told r here.holds (c.in-Ok.ensures.retained r here.holds.tables)),
     ))
