@@ -1,4 +1,5 @@
 pub mod LineLemmas
+pub mod LivePair
 pub mod SameFiles
 pub mod Moments
 pub mod RunLemmas

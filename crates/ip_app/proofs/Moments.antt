@@ -26,6 +26,7 @@ use Rattle.ip_store.specs.Opening.{RecoversOnceOpen}
 use Rattle.ip_store.specs.Store.{Holds}
 use Rattle.ip_store.proofs.Recovering.{recovers_now, recovers_since}
 use Rattle.ip_app.specs.Exchanges.{Exchange, answer_of, texts_in, after_all}
+use Rattle.ip_app.proofs.LivePair.{owns_pending}
 use Rattle.ip_app.proofs.SameFiles.{stands_after}
 
 -- the reply is said, or a part of it
@@ -82,7 +83,7 @@ abbrev pub opening_after : (a b c : Told) → ChangesOnly NoFile a b → Recover
 opening_after a b c only opening = record {
   since = opening.since;
   begins = (let later = only.goes.later in let begins = opening.begins in omega (arith, later, begins));
-  recovers = λ r stands order. opening.recovers r (stands_after a b (syncs_none a b (Only Control) only) r stands) (order_on order);
+  recovers = λ r stands order. opening.recovers r (stands_after a b (syncs_none a b (Only Control) only) (owns_pending a order) r stands) (order_on order);
   nothing_pending = λ order. opening.nothing_pending (order_on order);
 }
   where

@@ -14,6 +14,7 @@ use Rattle.ip_ground.proofs.Rising.{none_falls_on, rose_after}
 use Rattle.ip_image.specs.declared.counts.TurnCounts.{TurnCounts}
 use Rattle.ip_image.specs.Slot.{live_index}
 use Rattle.ip_image.specs.Standing.{StandsFor, NoStore}
+use Rattle.ip_image.specs.Pending.{NothingPending}
 use Rattle.ip_image.specs.Headline.{Headline}
 use Rattle.ip_image.proofs.DamageLaws.{not_damaged}
 use Rattle.ip_image.proofs.HeadlineLaws.{headline_later}
@@ -43,9 +44,10 @@ use Rattle.ip_app.specs.Reading.{EndsReading, IsCaused}
 use Rattle.ip_app.specs.Exchanges.{Exchange, conditions, answer_of, Run, after_all, lines_in, turns_in, texts_in}
 use Rattle.ip_session.specs.Session.{no_rules}
 use Rattle.ip_app.specs.Turns.{turn_counts, IsLater, Follow}
-use Rattle.ip_app.specs.Outside.{Outside, GoesOn, KeepsFiles}
+use Rattle.ip_app.specs.Outside.{Outside, Tells, GoesOn, KeepsFiles}
 use Rattle.ip_app.specs.Serving.{SaysPart, TurnedIn, Stopped, Unsaid, Stops, Served}
 use Rattle.ip_app.specs.Run.{CouldNotOpen, IsUntouched, IsOpened, Begins, is_cut_off, Row, Serves, EndsWhereAllIsWell}
+use Rattle.ip_app.proofs.LivePair.{owns_pending}
 use Rattle.ip_app.proofs.SameFiles.{stands_after}
 use Rattle.ip_app.proofs.Moments.{headline_none, headline_turn}
 use Rattle.ip_app.proofs.LineLemmas.{whole_lines-line, whole_lines-rest, last_piece-line, last_piece-rest}
@@ -124,34 +126,37 @@ abbrev IsShort : Bytes → Type 0
 IsShort line = length line ≤ longest_line
 
 -- one line more was served
-pub served_more : (old mid new : Outside) (lines lines' : Lines) (counts counts' : TurnCounts) (s s' : Session) (h : Served old mid lines counts s) → TurnedIn mid new lines lines' counts counts' s s' h.repository h.view → Served old new lines' counts' s'
+pub served_more : (old mid new : Outside) (lines lines' : Lines) (counts counts' : TurnCounts) (s s' : Session) (h : Served old mid lines counts s) → TurnedIn h.known mid new lines lines' counts counts' s s' h.repository h.view → Served old new lines' counts' s'
 served_more old mid new lines lines' counts counts' s s' h turned =
     let x = turned.exchange in
     let t = turned.turned in
     record {
+      known = h.known;
+      known_so = h.known_so;
+      tells = h.tells;
       first = h.first;
       repository = turned.after;
       view = turned.view;
       began = h.began;
       serving = turned.serving;
-      working = λ g. turned.working (told_before _ _ h.goes_on.ground_tells g);
+      working = λ g. turned.working g;
       done = h.done ++ (x.line ++ line_feed ∷ []);
       exchanges = h.exchanges ++ x ∷ [];
       goes_on = goes_on_then old mid new h.goes_on t.goes_on;
-      files = λ g. keeps_on old.told mid.told new.told (h.files g) (t.files (told_before _ _ h.goes_on.ground_tells g));
+      files = λ g. keeps_on old.told mid.told new.told (h.files g) (t.files g);
       bytes = λ b. h.bytes b ∙ (ap (λ (u : Bytes). h.done ++ u) (t.front (told_before _ _ h.goes_on.source_tells b)) ∙ regroup h.done x.line (pending lines' ++ new.left));
       lines_then = λ tail. ap whole_lines (sym (regroup h.done x.line tail)) ∙ (h.lines_then (x.line ++ line_feed ∷ tail) ∙ (ap (λ u. lines_in h.exchanges ++ u) (whole_lines-line x.line tail t.no_line_feed) ∙ (sym (append_assoc (lines_in h.exchanges) (x.line ∷ []) (whole_lines tail)) ∙ ap (λ u. u ++ whole_lines tail) (sym (map-append (λ x. x.line) h.exchanges (x ∷ []))))));
       rest_then = λ tail. ap last_piece (sym (regroup h.done x.line tail)) ∙ (h.rest_then (x.line ++ line_feed ∷ tail) ∙ last_piece-line x.line tail t.no_line_feed);
       short = subst (All IsShort) (sym (map-append (λ x. x.line) h.exchanges (x ∷ []))) (All-append IsShort (lines_in h.exchanges) (x.line ∷ []) h.short (All-cons IsShort x.line [] t.short (All-nil IsShort)));
       count = omega (arith, h.count, t.count, length-append h.done (x.line ++ line_feed ∷ []), length-append x.line (line_feed ∷ []));
-      run = λ g. run_more no_rules (opened h.first) (state_in s h.repository h.view) h.exchanges x (h.now_at g) (h.run g) (t.step (told_before _ _ h.goes_on.ground_tells g));
-      now_at = λ g. sym (turned.now_at (told_before _ _ h.goes_on.ground_tells g)) ∙ sym (after_more (opened h.first) h.exchanges x);
-      said = λ g. turned.said (told_before _ _ h.goes_on.ground_tells g) ∙ (ap (λ (u : Bytes). u ++ reply_text x.reply) (h.said g) ∙ (append_assoc (said old.told) (texts_in h.exchanges) (reply_text x.reply) ∙ ap (λ (u : Bytes). said old.told ++ u) (sym (texts_more h.exchanges x))));
+      run = λ g. run_more no_rules (opened h.first) (state_in s h.repository h.view) h.exchanges x (h.now_at g) (h.run g) (t.step g);
+      now_at = λ g. sym (turned.now_at g) ∙ sym (after_more (opened h.first) h.exchanges x);
+      said = λ g. turned.said g ∙ (ap (λ (u : Bytes). u ++ reply_text x.reply) (h.said g) ∙ (append_assoc (said old.told) (texts_in h.exchanges) (reply_text x.reply) ∙ ap (λ (u : Bytes). said old.told ++ u) (sym (texts_more h.exchanges x))));
       opened_at = h.opened_at;
-      headline = λ g order. headline_turn (h.opened_at g) old.told mid.told new.told (opened h.first) h.exchanges x (h.headline g order) (t.files (told_before _ _ h.goes_on.ground_tells g)).goes (h.over g) (h.said g)
-          h.repository turned.after (ap (λ (state : State). state.repository) (h.now_at g)) (ap (λ (state : State). state.repository) (sym (turned.now_at (told_before _ _ h.goes_on.ground_tells g)))) (turned.turning (told_before _ _ h.goes_on.ground_tells g) (h.nothing_pending g order));
-      over = λ g. let was = h.over g in let later = (t.files (told_before _ _ h.goes_on.ground_tells g)).goes.later in omega (arith, was, later);
-      nothing_pending = λ g order. turned.nothing_pending (told_before _ _ h.goes_on.ground_tells g) (h.nothing_pending g order);
+      headline = λ g order. headline_turn (h.opened_at g) old.told mid.told new.told (opened h.first) h.exchanges x (h.headline g order) (t.files g).goes (h.over g) (h.said g)
+          h.repository turned.after (ap (λ (state : State). state.repository) (h.now_at g)) (ap (λ (state : State). state.repository) (sym (turned.now_at g))) (turned.turning g (h.nothing_pending g order));
+      over = λ g. let was = h.over g in let later = (t.files g).goes.later in omega (arith, was, later);
+      nothing_pending = λ g order. turned.nothing_pending g (h.nothing_pending g order);
       noted = λ l. t.noted l ∙ (ap (λ u. u ++ x.turn ∷ []) (h.noted (t.goes_on.log_tells l)) ∙ (append_assoc old.turns (turns_in h.exchanges) (x.turn ∷ []) ∙ ap (λ u. old.turns ++ u) (sym (map-append (λ x. x.turn) h.exchanges (x ∷ [])))));
       start = h.start;
       since = h.since;
@@ -161,33 +166,36 @@ served_more old mid new lines lines' counts counts' s s' h turned =
     }
 
 -- no line was served yet
-pub served_first : (old now : Outside) (lines : Lines) (counts : TurnCounts) (s : Session) (r : Repository) (v : View) → IsServing s → state_in s r v ≡ opened r → (IsTrue old.ground_tells → IsWorking now.told s r v) → (IsTrue old.ground_tells → StandsFor old.told.held r)
-    → (opening : IsTrue old.ground_tells → RecoversOnceOpen old.told now.told) → ((told : IsTrue old.ground_tells) → (opening told).since ≤ now.told.moment)
+pub served_first : (old now : Outside) (lines : Lines) (counts : TurnCounts) (s : Session) (r : Repository) (v : View) → (known : (b : Bool) × (Tells old → IsTrue b) × (IsTrue b → Tells old)) → IsServing s → state_in s r v ≡ opened r → (Tells old → IsWorking now.told s r v) → (Tells old → StandsFor old.told.held r)
+    → (opening : IsTrue old.ground_tells → RecoversOnceOpen old.told now.told) → ((tells : Tells old) → (opening tells.0).since ≤ now.told.moment)
     → counts ≡ turn_counts now.counts → GoesOn old now → (IsTrue old.ground_tells → SyncsOnly (Only Control) old.told now.told) → now.left ≡ old.left → now.turns ≡ old.turns → pending lines ≡ [] → lines.taken ≡ 0 → Served old now lines counts s
-served_first old now lines counts s r v serving begun working began opening over counted g f left turns none zero =
+served_first old now lines counts s r v known serving begun working began opening over counted g f left turns none zero =
     record {
+      known = known.0;
+      known_so = known.1;
+      tells = λ is. (known.2 is).0;
       done = [];
       exchanges = [];
       first = r;
       repository = r;
       view = v;
       goes_on = g;
-      files = λ b. keeps_unchanged old.told now.told (f b);
+      files = λ is. keeps_unchanged old.told now.told (f (known.2 is).0);
       bytes = λ b. sym left ∙ ap (λ (u : Bytes). u ++ now.left) (sym none);
       lines_then = λ tail. refl;
       rest_then = λ tail. refl;
       short = All-nil IsShort;
       count = omega (arith, zero, ap length none);
-      began = began;
-      run = λ told. tt;
-      now_at = λ told. begun;
+      began = λ is. began (known.2 is);
+      run = λ is. tt;
+      now_at = λ is. begun;
       serving = serving;
-      working = working;
-      said = λ b. said_now old.told now.told (f b).changes.goes (f b).changes.said ∙ sym (append_nil (said old.told));
-      opened_at = λ b. (opening b).since;
-      over = over;
-      headline = λ b order. headline_none old.told now.told (f b) (opening b) r (began b) order;
-      nothing_pending = λ b order. (opening b).nothing_pending order;
+      working = λ is. working (known.2 is);
+      said = λ is. let only = f (known.2 is).0 in said_now old.told now.told only.changes.goes only.changes.said ∙ sym (append_nil (said old.told));
+      opened_at = λ is. (opening (known.2 is).0).since;
+      over = λ is. over (known.2 is);
+      headline = λ is order. let told = (known.2 is).0 in headline_none old.told now.told (f told) (opening told) r (began (known.2 is)) order;
+      nothing_pending = λ is order. (opening (known.2 is).0).nothing_pending order;
       noted = λ b. turns ∙ sym (append_nil old.turns);
       start = turn_counts now.counts;
       since = record { file = g.counts.file_faults; remove = g.counts.remove_faults; spawner = refl };
@@ -207,18 +215,18 @@ serves_none old new s g f opening left turns begins row =
       start = turn_counts new.counts;
       last = turn_counts new.counts;
       goes_on = g;
-      files = λ b. keeps_unchanged old.told new.told (f b);
+      files = λ b. keeps_unchanged old.told new.told (f b.0);
       bytes = λ b. sym left;
       begun = ([], refl, λ c. refl);
       short = All-nil IsShort;
       begins = begins;
       first_is = refl;
       run = λ told. tt;
-      stands = λ b whole h. stands_after old.told new.told (f b) first.repository h;
+      stands = λ b whole h. stands_after old.told new.told (f b.0) b.1 first.repository h;
       headline = λ b r stands order. ((opening b).since, headline_none old.told new.told (f b) (opening b) r stands order);
-      again = λ b may. record { repository = may.repository; stands = stands_after old.told new.told (f b) may.repository may.stands; nothing_pending = (opening b).nothing_pending may.nothing_pending };
-      said_part = λ b. record { whole = []; cut = []; part = []; unsaid = []; all = refl; one = omega arith; text = refl; said_is = quiet b ∙ (sym (append_nil (said old.told)) ∙ sym (append_nil (said old.told ++ []))); silent = λ cut_short. refl };
-      said_all = λ b c. quiet b ∙ sym (append_nil (said old.told));
+      again = λ b may. record { repository = may.repository; stands = stands_after old.told new.told (f b) (owns_pending old.told may.nothing_pending) may.repository may.stands; nothing_pending = (opening b).nothing_pending may.nothing_pending };
+      said_part = λ b. record { whole = []; cut = []; part = []; unsaid = []; all = refl; one = omega arith; text = refl; said_is = quiet b.0 ∙ (sym (append_nil (said old.told)) ∙ sym (append_nil (said old.told ++ []))); silent = λ cut_short. refl };
+      said_all = λ b c. quiet b.0 ∙ sym (append_nil (said old.told));
       noted = λ b. turns ∙ sym (append_nil old.turns);
       since = record { file = g.counts.file_faults; remove = g.counts.remove_faults; spawner = refl };
       follow = refl;
@@ -235,7 +243,7 @@ begins_unopened old new s g f opening left turns could_not = by_status s could_n
 
     by_status : (s : Status) → CouldNotOpen s old.ground_tells old.told old.counts new.counts → Serves old new s
     by_status status.NoStore h = serves_none old new status.NoStore g f opening left turns refl (untouched, h)
-    by_status (status.Damaged file at) h = serves_none old new (status.Damaged file at) g f opening left turns refl (untouched, h)
+    by_status (status.Damaged file at) h = serves_none old new (status.Damaged file at) g f opening left turns refl (untouched, λ tells. h tells.0 tells.1)
     by_status status.GroundFault h = serves_none old new status.GroundFault g f opening left turns (inl refl) h
     by_status status.Done h = absurd h
     by_status status.Usage h = absurd h
@@ -292,15 +300,16 @@ of_opened : (since : ℕ) (old new : Outside) (first : Repository) (xs : List Ex
 of_opened since old new first xs began r stands run = (since, subst (λ (q : Repository). Headline since old.told new.told (opened q) (map answer_of xs)) (one_repository old.told.held first r began stands) run)
 
 -- the source is read no further
-serves_stopped : (s : Status) (old mid new : Outside) (lines lines' : Lines) (counts counts' : TurnCounts) (session : Session) (h : Served old mid lines counts session) → Stopped s mid new lines lines' counts counts' (state_in session h.repository h.view) → Serves old new s
+serves_stopped : (s : Status) (old mid new : Outside) (lines lines' : Lines) (counts counts' : TurnCounts) (session : Session) (h : Served old mid lines counts session) → Stopped s h.known mid new lines lines' counts counts' (state_in session h.repository h.view) → Serves old new s
 serves_stopped s old mid new lines lines' counts counts' session h t =
     let first = opened h.first in
     let taken = h.done ++ t.rest in
     let whole : whole_lines taken ≡ lines_in h.exchanges ++ [] = h.lines_then t.rest ∙ ap (λ u. lines_in h.exchanges ++ u) (whole_lines-rest t.rest t.no_line_feed) in
     let rest : last_piece taken ≡ t.rest = h.rest_then t.rest ∙ last_piece-rest t.rest t.no_line_feed in
     let long : lines'.taken ≡ length taken = omega (arith, h.count, t.count, length-append h.done t.rest) in
-    let end = row_of s old mid new taken first h.exchanges h.began (ends_along s (length t.rest) (length (last_piece taken)) lines'.taken (length taken) _ _ t.ends (ap length (sym rest)) long (λ e b. e (told_before _ _ h.goes_on.source_tells b))) h.goes_on.read_faults t.cause in
-    let quiet : IsTrue old.ground_tells → said new.told ≡ said old.told ++ texts_in h.exchanges = λ b. t.same_said (told_before _ _ h.goes_on.ground_tells b) ∙ h.said b in
+    let end = row_of s old mid new taken first h.exchanges (λ b. h.began (h.known_so b)) (ends_along s (length t.rest) (length (last_piece taken)) lines'.taken (length taken) _ _ t.ends (ap length (sym rest)) long (λ e b. e (told_before _ _ h.goes_on.source_tells b))) h.goes_on.read_faults t.cause in
+    let known : IsTrue old.ground_tells → NothingPending old.told → IsTrue h.known = λ b order. h.known_so (b, owns_pending old.told order) in
+    let quiet : Tells old → said new.told ≡ said old.told ++ texts_in h.exchanges = λ b. t.same_said ∙ h.said (h.known_so b) in
     record {
       taken = taken;
       exchanges = h.exchanges;
@@ -309,17 +318,17 @@ serves_stopped s old mid new lines lines' counts counts' session h t =
       last = counts';
       since = h.since;
       goes_on = goes_on_then old mid new h.goes_on t.goes_on;
-      files = λ g. keeps_on old.told mid.told new.told (h.files g) (t.files (told_before _ _ h.goes_on.ground_tells g));
+      files = λ g. keeps_on old.told mid.told new.told (h.files (h.known_so g)) t.files;
       bytes = λ b. h.bytes b ∙ (ap (λ (u : Bytes). h.done ++ u) (t.front (told_before _ _ h.goes_on.source_tells b)) ∙ sym (append_assoc h.done t.rest new.left));
       begun = ([], whole, λ c. refl);
       short = h.short;
       begins = end.begins;
       first_is = refl;
-      run = h.run;
-      stands = λ b whole began. subst (λ (state : State). StandsFor new.told.held state.repository) (h.now_at b) (t.stands (told_before _ _ h.goes_on.ground_tells b));
-      headline = λ b r stands order. of_opened (h.opened_at b) old new h.first h.exchanges (h.began b) r stands
-          (headline_later (h.opened_at b) old.told mid.told new.told first (map answer_of h.exchanges) (h.headline b order) (t.files (told_before _ _ h.goes_on.ground_tells b)).goes (t.same_moment (told_before _ _ h.goes_on.ground_tells b)));
-      again = λ b may. record { repository = h.repository; stands = t.stands (told_before _ _ h.goes_on.ground_tells b); nothing_pending = t.nothing_pending (told_before _ _ h.goes_on.ground_tells b) (h.nothing_pending b may.nothing_pending) };
+      run = λ b. h.run (h.known_so b);
+      stands = λ b whole began. subst (λ (state : State). StandsFor new.told.held state.repository) (h.now_at (h.known_so b)) (t.stands (h.known_so b));
+      headline = λ b r stands order. let is = known b order in of_opened (h.opened_at is) old new h.first h.exchanges (h.began is) r stands
+          (headline_later (h.opened_at is) old.told mid.told new.told first (map answer_of h.exchanges) (h.headline is order) t.files.goes t.same_moment);
+      again = λ b may. let is = known b may.nothing_pending in record { repository = h.repository; stands = t.stands is; nothing_pending = t.nothing_pending (h.nothing_pending is may.nothing_pending) };
       said_part = λ b. record { whole = h.exchanges; cut = []; part = []; unsaid = []; all = append_nil h.exchanges; one = omega arith; text = refl; said_is = quiet b ∙ sym (append_nil (said old.told ++ texts_in h.exchanges)); silent = λ cut_short. refl };
       said_all = λ b c. quiet b;
       noted = λ l. t.same_turns ∙ h.noted (t.goes_on.log_tells l);
@@ -330,12 +339,13 @@ serves_stopped s old mid new lines lines' counts counts' session h t =
 
 -- a reply could not be said
 serves_unsaid : (s : Status) (old mid new : Outside) (lines lines' : Lines) (counts counts' : TurnCounts) (session : Session) (h : Served old mid lines counts session) → is_cut_off s ≡ true → ((xs : List Exchange) → Begins s old (opened h.first) xs)
-    → Unsaid s mid new lines lines' counts counts' (state_in session h.repository h.view) → ((taken : Bytes) → Row s old new taken) → Serves old new s
+    → Unsaid s h.known mid new lines lines' counts counts' (state_in session h.repository h.view) → ((taken : Bytes) → Row s old new taken) → Serves old new s
 serves_unsaid s old mid new lines lines' counts counts' session h cut opened_so u row =
     let first = opened h.first in
     let x = u.exchange in
     let t = u.turned in
     let xs = h.exchanges ++ x ∷ [] in
+    let known : IsTrue old.ground_tells → NothingPending old.told → IsTrue h.known = λ b order. h.known_so (b, owns_pending old.told order) in
     let done = h.done ++ (x.line ++ line_feed ∷ []) in
     let then_lines : (tail : Bytes) → whole_lines (done ++ tail) ≡ lines_in xs ++ whole_lines tail = λ tail. ap whole_lines (sym (regroup h.done x.line tail)) ∙ (h.lines_then (x.line ++ line_feed ∷ tail) ∙ (ap (λ u. lines_in h.exchanges ++ u) (whole_lines-line x.line tail t.no_line_feed) ∙ (sym (append_assoc (lines_in h.exchanges) (x.line ∷ []) (whole_lines tail)) ∙ ap (λ u. u ++ whole_lines tail) (sym (map-append (λ x. x.line) h.exchanges (x ∷ [])))))) in
     record {
@@ -346,19 +356,19 @@ serves_unsaid s old mid new lines lines' counts counts' session h cut opened_so 
       last = counts';
       since = h.since;
       goes_on = goes_on_then old mid new h.goes_on t.goes_on;
-      files = λ g. keeps_on old.told mid.told new.told (h.files g) (t.files (told_before _ _ h.goes_on.ground_tells g));
+      files = λ g. keeps_on old.told mid.told new.told (h.files (h.known_so g)) (t.files (h.known_so g));
       bytes = λ b. h.bytes b ∙ (ap (λ (u : Bytes). h.done ++ u) (t.front (told_before _ _ h.goes_on.source_tells b)) ∙ (regroup h.done x.line (pending lines' ++ new.left) ∙ sym (append_assoc done (pending lines') new.left)));
       begun = (whole_lines (pending lines'), then_lines (pending lines'), λ c. absurd (cc (c, cut)));
       short = subst (All IsShort) (sym (map-append (λ x. x.line) h.exchanges (x ∷ []))) (All-append IsShort (lines_in h.exchanges) (x.line ∷ []) h.short (All-cons IsShort x.line [] t.short (All-nil IsShort)));
       begins = opened_so xs;
       first_is = refl;
-      run = λ b. run_more no_rules first (state_in session h.repository h.view) h.exchanges x (h.now_at b) (h.run b) (t.step (told_before _ _ h.goes_on.ground_tells b));
-      stands = λ b whole began. subst (λ (state : State). StandsFor new.told.held state.repository) (sym (after_more first h.exchanges x)) (u.stands (told_before _ _ h.goes_on.ground_tells b) whole);
-      headline = λ b r stands order. of_opened (h.opened_at b) old new h.first xs (h.began b) r stands
-          (headline_turn (h.opened_at b) old.told mid.told new.told first h.exchanges x (h.headline b order) (t.files (told_before _ _ h.goes_on.ground_tells b)).goes (h.over b) (h.said b)
-          h.repository x.after.repository (ap (λ (state : State). state.repository) (h.now_at b)) refl (u.turning (told_before _ _ h.goes_on.ground_tells b) (h.nothing_pending b order)));
-      again = λ b may. u.again (told_before _ _ h.goes_on.ground_tells b) (h.nothing_pending b may.nothing_pending);
-      said_part = λ b. let p = u.part (told_before _ _ h.goes_on.ground_tells b) in record { whole = h.exchanges; cut = x ∷ []; part = p.0; unsaid = p.1; all = refl; one = omega arith; text = p.2 ∙ sym (append_nil (reply_text x.reply)); said_is = p.3 ∙ ap (λ (v : Bytes). v ++ p.0) (h.said b); silent = u.silent (told_before _ _ h.goes_on.ground_tells b) };
+      run = λ b. let is = h.known_so b in run_more no_rules first (state_in session h.repository h.view) h.exchanges x (h.now_at is) (h.run is) (t.step is);
+      stands = λ b whole began. subst (λ (state : State). StandsFor new.told.held state.repository) (sym (after_more first h.exchanges x)) (u.stands (h.known_so b) whole);
+      headline = λ b r stands order. let is = known b order in of_opened (h.opened_at is) old new h.first xs (h.began is) r stands
+          (headline_turn (h.opened_at is) old.told mid.told new.told first h.exchanges x (h.headline is order) (t.files is).goes (h.over is) (h.said is)
+          h.repository x.after.repository (ap (λ (state : State). state.repository) (h.now_at is)) refl (u.turning is (h.nothing_pending is order)));
+      again = λ b may. let is = known b may.nothing_pending in u.again is (h.nothing_pending is may.nothing_pending);
+      said_part = λ b. let is = h.known_so b in let p = u.part is in record { whole = h.exchanges; cut = x ∷ []; part = p.0; unsaid = p.1; all = refl; one = omega arith; text = p.2 ∙ sym (append_nil (reply_text x.reply)); said_is = p.3 ∙ ap (λ (v : Bytes). v ++ p.0) (h.said is); silent = u.silent is };
       said_all = λ b c. absurd (cc (c, cut));
       noted = λ l. t.noted l ∙ (ap (λ u. u ++ x.turn ∷ []) (h.noted (t.goes_on.log_tells l)) ∙ (append_assoc old.turns (turns_in h.exchanges) (x.turn ∷ []) ∙ ap (λ u. old.turns ++ u) (sym (map-append (λ x. x.turn) h.exchanges (x ∷ [])))));
       follow = subst (λ (ts : List Turn). Follow h.start ts counts') (sym (map-append (λ x. x.turn) h.exchanges (x ∷ [])))
@@ -368,11 +378,11 @@ serves_unsaid s old mid new lines lines' counts counts' session h cut opened_so 
     }
 
 -- how a run ends
-pub serves_stop : (s : Status) (old mid new : Outside) (lines lines' : Lines) (counts counts' : TurnCounts) (session : Session) (h : Served old mid lines counts session) → Stops s mid new lines lines' counts counts' (state_in session h.repository h.view) → Serves old new s
-serves_stop status.SayFault old mid new lines lines' counts counts' session h u = serves_unsaid status.SayFault old mid new lines lines' counts counts' session h refl (λ xs. h.began) u.0 (λ taken. rose_after old.counts.say_faults mid.counts.say_faults new.counts.say_faults h.goes_on.counts.say_faults u.1)
-serves_stop status.GroundFault old mid new lines lines' counts counts' session h u = serves_unsaid status.GroundFault old mid new lines lines' counts counts' session h refl (λ xs. inr h.began) u.0 (λ taken. rose_after old.counts.file_faults mid.counts.file_faults new.counts.file_faults h.goes_on.counts.file_faults u.1)
-serves_stop (status.DamagedRecord at) old mid new lines lines' counts counts' session h u = serves_unsaid (status.DamagedRecord at) old mid new lines lines' counts counts' session h refl (λ xs. h.began) u.0 (λ taken told. u.1 (told_before _ _ h.goes_on.ground_tells told))
-serves_stop (status.DamagedName at want got) old mid new lines lines' counts counts' session h u = serves_unsaid (status.DamagedName at want got) old mid new lines lines' counts counts' session h refl (λ xs. h.began) u.0 (λ taken told. u.1 (told_before _ _ h.goes_on.ground_tells told))
+pub serves_stop : (s : Status) (old mid new : Outside) (lines lines' : Lines) (counts counts' : TurnCounts) (session : Session) (h : Served old mid lines counts session) → Stops s h.known mid new lines lines' counts counts' (state_in session h.repository h.view) → Serves old new s
+serves_stop status.SayFault old mid new lines lines' counts counts' session h u = serves_unsaid status.SayFault old mid new lines lines' counts counts' session h refl (λ xs b. h.began (h.known_so b)) u.0 (λ taken. rose_after old.counts.say_faults mid.counts.say_faults new.counts.say_faults h.goes_on.counts.say_faults u.1)
+serves_stop status.GroundFault old mid new lines lines' counts counts' session h u = serves_unsaid status.GroundFault old mid new lines lines' counts counts' session h refl (λ xs. inr (λ b. h.began (h.known_so b))) u.0 (λ taken. rose_after old.counts.file_faults mid.counts.file_faults new.counts.file_faults h.goes_on.counts.file_faults u.1)
+serves_stop (status.DamagedRecord at) old mid new lines lines' counts counts' session h u = serves_unsaid (status.DamagedRecord at) old mid new lines lines' counts counts' session h refl (λ xs b. h.began (h.known_so b)) u.0 (λ taken b. u.1 (h.known_so b))
+serves_stop (status.DamagedName at want got) old mid new lines lines' counts counts' session h u = serves_unsaid (status.DamagedName at want got) old mid new lines lines' counts counts' session h refl (λ xs b. h.began (h.known_so b)) u.0 (λ taken b. u.1 (h.known_so b))
 serves_stop status.Done old mid new lines lines' counts counts' session h u = serves_stopped status.Done old mid new lines lines' counts counts' session h u
 serves_stop status.Unfinished old mid new lines lines' counts counts' session h u = serves_stopped status.Unfinished old mid new lines lines' counts counts' session h u
 serves_stop (status.Limit l) old mid new lines lines' counts counts' session h u = serves_stopped (status.Limit l) old mid new lines lines' counts counts' session h u
@@ -400,7 +410,7 @@ ends_by_script (status.Limit b) old new taken r told stands calm = tt
 ends_by_script status.Memory old new taken r told stands calm = tt
 ends_by_script status.Usage old new taken r told stands calm = r
 ends_by_script status.Exists old new taken r told stands calm = r
-ends_by_script status.NoStore old new taken r told stands calm = absurd (stands_open old.told.held stands.0 stands.1 (r.1 told))
+ends_by_script status.NoStore old new taken r told stands calm = absurd (stands_open old.told.held stands.0 stands.1 (r.1 told.0))
 ends_by_script (status.Damaged file at) old new taken r told stands calm = absurd (not_damaged old.told.held stands.1.standing file at (r.1 told))
 ends_by_script (status.DamagedRecord at) old new taken r told stands calm = absurd (r told)
 ends_by_script (status.DamagedName at want got) old new taken r told stands calm = absurd (r told)

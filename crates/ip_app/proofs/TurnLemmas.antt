@@ -1,9 +1,9 @@
 -- One line of a run: its command was run and noted, and its reply said; or it was the last.
 --     turned_of      the record Turned of what was read, run and noted
 --     files_of, said_of, part_of      the files and what was said, once the reply was said, or not
---     went_to, cut_to      what a session did with a line, where the ground tells
+--     settled      what is there in any case, and so where it is known.      went_to, cut_to      what a session did with a line, where it is known to work
 --     stops_reading      why a source is read no further.      ended_short, stops_ended      the session has ended
-use Rattle.std.proofs.Common.{rules, ◌≡◌, ◌+◌, ◌++◌, [], ◌∷◌, length, refl, sym, ◌∙◌, subst, arith, Bool, true, false, None, Some, OnOk, Result, IsTrue}
+use Rattle.std.proofs.Common.{◌≡◌, ◌+◌, ◌++◌, [], ◌∷◌, length, refl, sym, ◌∙◌, subst, arith, Bool, true, false, None, Some, OnOk, Result, IsTrue}
 use Rattle.ip_ground.specs.declared.names.GroundCounts.{GroundCounts}
 use Rattle.ip_ground.specs.declared.names.GroundFault.{GroundFault}
 use Rattle.ip_ground.specs.Counts.{NoneFalls}
@@ -47,20 +47,20 @@ later_on counts a b l n = record { file = omega (arith, l.file, n.file_faults); 
 itself : (a : GroundCounts) → IsLater (turn_counts a) (turn_counts a)
 itself a = record { file = omega arith; remove = omega arith; spawner = refl }
 
-pub turned_of : (old new : Outside) (lines lines' : Lines) (counts counts' : TurnCounts) (state after : State) (line read : Bytes) (met told_met : Met) (reply : Reply) (mid : GroundCounts) → GoesOn old new → (IsTrue old.ground_tells → KeepsFiles old.told new.told)
+pub turned_of : (known : Bool) (old new : Outside) (lines lines' : Lines) (counts counts' : TurnCounts) (state after : State) (line read : Bytes) (met told_met : Met) (reply : Reply) (mid : GroundCounts) → GoesOn old new → (IsTrue known → KeepsFiles old.told new.told)
     → GetsLine line old.source_tells (pending lines ++ old.left) (pending lines' ++ new.left) → lines'.taken + length (pending lines) ≡ lines.taken + (length line + 1) + length (pending lines')
-    → (IsTrue old.ground_tells → LineStep IsServedLine no_rules state read (conditions_of met) reply after) → read ≡ line → told_met ≡ met
+    → (IsTrue known → LineStep IsServedLine no_rules state read (conditions_of met) reply after) → read ≡ line → told_met ≡ met
     → (IsTrue new.log_tells → new.turns ≡ old.turns ++ record { met = told_met; before = counts; after = counts' } ∷ [])
     → counts' ≡ turn_counts mid → IsLater counts (turn_counts old.counts) → NoneFalls old.counts mid → NoneFalls mid new.counts
-    → Turned old new lines lines' counts counts' state (exchange_of line told_met counts counts' reply after)
-turned_of old new lines lines' counts counts' state after line read met told_met reply mid g files gets count step same same_met noted counted before falls still = record {
+    → Turned known old new lines lines' counts counts' state (exchange_of line told_met counts counts' reply after)
+turned_of known old new lines lines' counts counts' state after line read met told_met reply mid g files gets count step same same_met noted counted before falls still = record {
   goes_on = g;
   files = files;
   front = gets.front;
   no_line_feed = gets.no_line_feed;
   short = gets.short;
   count = count;
-  step = λ told. subst (λ (k : Bytes). LineStep IsServedLine no_rules state k (conditions_of told_met) reply after) same (subst (λ (m : Met). LineStep IsServedLine no_rules state read (conditions_of m) reply after) (sym same_met) (step told));
+  step = λ is. subst (λ (k : Bytes). LineStep IsServedLine no_rules state k (conditions_of told_met) reply after) same (subst (λ (m : Met). LineStep IsServedLine no_rules state read (conditions_of m) reply after) (sym same_met) (step is));
   noted = noted;
   begins_at = refl;
   ends_at = refl;
@@ -89,12 +89,12 @@ module _ (old mid new : Told) (line : Bytes) (given : Reply) (only : ChangesOnly
 abbrev pub nothing_said : (old new : Told) (reply : Bytes) → ChangesOnly IsOfStore old new → SaysPart reply (said old) (said new)
 nothing_said old new reply only = ([], reply, refl, said_now old new only.goes only.said ∙ sym (append_nil (said old)))
 
-pub stops_reading : (s : Status) (old new : Outside) (lines lines' : Lines) (counts counts' : TurnCounts) (state : State) → Stopped s old new lines lines' counts counts' state → Stops s old new lines lines' counts counts' state
-stops_reading status.SayFault old new lines lines' counts counts' state t = absurd t.ends
-stops_reading status.GroundFault old new lines lines' counts counts' state t = absurd t.ends
-stops_reading (status.DamagedRecord at) old new lines lines' counts counts' state t = absurd t.ends
-stops_reading (status.DamagedName at want got) old new lines lines' counts counts' state t = absurd t.ends
-stops_reading _ old new lines lines' counts counts' state t = t
+pub stops_reading : (s : Status) (known : Bool) (old new : Outside) (lines lines' : Lines) (counts counts' : TurnCounts) (state : State) → Stopped s known old new lines lines' counts counts' state → Stops s known old new lines lines' counts counts' state
+stops_reading status.SayFault known old new lines lines' counts counts' state t = absurd t.ends
+stops_reading status.GroundFault known old new lines lines' counts counts' state t = absurd t.ends
+stops_reading (status.DamagedRecord at) known old new lines lines' counts counts' state t = absurd t.ends
+stops_reading (status.DamagedName at want got) known old new lines lines' counts counts' state t = absurd t.ends
+stops_reading _ known old new lines lines' counts counts' state t = t
 
 -- a session's end cut the command short
 pub ended_short : (end : SessionEnd) → is_cut_short (ended_status end) ≡ true
@@ -102,21 +102,21 @@ ended_short SessionEnd.Ground = refl
 ended_short (SessionEnd.Damaged at None) = refl
 ended_short (SessionEnd.Damaged at (Some (want, got))) = refl
 
-pub stops_ended : (end : SessionEnd) (s : Status) (old new : Outside) (lines lines' : Lines) (counts counts' : TurnCounts) (state : State) → s ≡ ended_status end → Unsaid (ended_status end) old new lines lines' counts counts' state → EndsBy end old.ground_tells old.counts new.counts
-    → Stops s old new lines lines' counts counts' state
-stops_ended end s old new lines lines' counts counts' state e unsaid ends = subst (λ (t : Status). Stops t old new lines lines' counts counts' state) (sym e) (by_end end unsaid ends)
+pub stops_ended : (end : SessionEnd) (s : Status) (known : Bool) (held : Type 0) (old new : Outside) (lines lines' : Lines) (counts counts' : TurnCounts) (state : State) → s ≡ ended_status end → Unsaid (ended_status end) known old new lines lines' counts counts' state
+    → (IsTrue known → held) → EndsBy end held old.counts new.counts → Stops s known old new lines lines' counts counts' state
+stops_ended end s known held old new lines lines' counts counts' state e unsaid holds ends = subst (λ (t : Status). Stops t known old new lines lines' counts counts' state) (sym e) (by_end end unsaid ends)
   where
-    by_end : (end : SessionEnd) → Unsaid (ended_status end) old new lines lines' counts counts' state → EndsBy end old.ground_tells old.counts new.counts → Stops (ended_status end) old new lines lines' counts counts' state
+    by_end : (end : SessionEnd) → Unsaid (ended_status end) known old new lines lines' counts counts' state → EndsBy end held old.counts new.counts → Stops (ended_status end) known old new lines lines' counts counts' state
     by_end SessionEnd.Ground u h = (u, h)
-    by_end (SessionEnd.Damaged at None) u h = (u, h)
-    by_end (SessionEnd.Damaged at (Some (want, got))) u h = (u, h)
+    by_end (SessionEnd.Damaged at None) u h = (u, λ is. h (holds is))
+    by_end (SessionEnd.Damaged at (Some (want, got))) u h = (u, λ is. h (holds is))
 
--- ---- what a session did is known only where the ground tells its files
+-- ---- what a session did is known only where it works
 
--- something is there on any ground, and so it is where the ground tells
-pub settled : {A : Type 0} (P : A → Type 0) (tells : Bool) → A → (IsTrue tells → (x : A) × P x) → (x : A) × (IsTrue tells → P x)
-settled P true given found = let y = found (search rules) in (y.0, λ told. y.1)
-settled P false given found = (given, λ told. absurd (cc told))
+-- something is there in any case, and where it is known, it is so
+pub settled : {A : Type 0} (P : A → Type 0) (known : Bool) → A → (IsTrue known → (x : A) × P x) → (x : A) × (IsTrue known → P x)
+settled P true given found = let y = found refl in (y.0, λ is. y.1)
+settled P false given found = (given, λ is. absurd (cc is))
 
 -- a session ran a line and is in this repository then, and its work's tree has this view
 pub record GoesTo (old new : Told) (s s' : Session) (r : Repository) (v : View) (line : Bytes) (reply : Reply) (x : Repository × View) : Type 0 where
@@ -126,10 +126,10 @@ pub record GoesTo (old new : Told) (s s' : Session) (r : Repository) (v : View) 
   pub atomic : NothingPending old → IsAtomic old new r x.0
   pub nothing_pending : NothingPending old → NothingPending new
 
-pub went_to : (tells : Bool) (old new : Told) (s s' : Session) (r : Repository) (v : View) (line : Bytes) (reply : Reply) → (IsTrue tells → Goes old new s s' r v (ChangedIn line) (LineStep IsServedLine no_rules (state_in s r v) line) reply)
-    → (x : Repository × View) × (IsTrue tells → GoesTo old new s s' r v line reply x)
-went_to tells old new s s' r v line reply goes = settled (GoesTo old new s s' r v line reply) tells (r, v)
-    (λ told. let h = goes told in ((h.after, h.view), record { gives = h.gives; working = h.is_at; only = h.only; atomic = h.atomic; nothing_pending = h.nothing_pending }))
+pub went_to : (known : Bool) (old new : Told) (s s' : Session) (r : Repository) (v : View) (line : Bytes) (reply : Reply) → (IsTrue known → Goes old new s s' r v (ChangedIn line) (LineStep IsServedLine no_rules (state_in s r v) line) reply)
+    → (x : Repository × View) × (IsTrue known → GoesTo old new s s' r v line reply x)
+went_to known old new s s' r v line reply goes = settled (GoesTo old new s s' r v line reply) known (r, v)
+    (λ is. let h = goes is in ((h.after, h.view), record { gives = h.gives; working = h.is_at; only = h.only; atomic = h.atomic; nothing_pending = h.nothing_pending }))
 
 -- or it was cut short, with this reply and this state of the machine
 pub record CutTo (old new : Told) (s s' : Session) (r : Repository) (v : View) (line : Bytes) (x : Reply × State) : Type 0 where
@@ -137,7 +137,7 @@ pub record CutTo (old new : Told) (s s' : Session) (r : Repository) (v : View) (
   pub only : ChangesOnly IsOfStore old new
   pub atomic : NothingPending old → IsAtomic old new r x.1.repository
 
-pub cut_to : (tells : Bool) (old new : Told) (s s' : Session) (r : Repository) (v : View) (line : Bytes) → (IsTrue tells → Cut old new s s' r v (LineStep IsServedLine no_rules (state_in s r v) line))
-    → (x : Reply × State) × (IsTrue tells → CutTo old new s s' r v line x)
-cut_to tells old new s s' r v line cut = settled (CutTo old new s s' r v line) tells (Reply.Accepted, state_in s r v)
-    (λ told. let h = cut told in ((h.reply, h.after), record { gives = h.gives; only = h.only; atomic = h.atomic }))
+pub cut_to : (known : Bool) (old new : Told) (s s' : Session) (r : Repository) (v : View) (line : Bytes) → (IsTrue known → Cut old new s s' r v (LineStep IsServedLine no_rules (state_in s r v) line))
+    → (x : Reply × State) × (IsTrue known → CutTo old new s s' r v line x)
+cut_to known old new s s' r v line cut = settled (CutTo old new s s' r v line) known (Reply.Accepted, state_in s r v)
+    (λ is. let h = cut is in ((h.reply, h.after), record { gives = h.gives; only = h.only; atomic = h.atomic }))

@@ -1,5 +1,6 @@
 -- What a source, a ground and a log tell at a moment.
 --     Outside, outside      the record, and how the traits' ghost members make it
+--     Tells outside      the ground tells its content, and no child changes the live pair
 --     GoesOn old new      what no call changes: who tells, and that no count falls. A log may tell no more
 --     KeepsFiles old new      at no moment has a file changed but the chunk and the control file, or was synced, and none was lent or settled
 use Rattle.std.specs.Prelude.{ℕ, ◌≤◌, ◌≡◌, Bool, IsTrue, List}
@@ -9,6 +10,7 @@ use Rattle.ip_ground.specs.Counts.{NoneFalls}
 use Rattle.ip_ground.specs.Told.{Told, KeepsPast, KeepsFile, KeepsCustody}
 use Rattle.ip_spec.specs.Path.{Bytes}
 use Rattle.ip_store.specs.Publishing.{IsOfStore}
+use Rattle.ip_store.specs.Store.{OwnsLive}
 use Rattle.ip_app.specs.declared.turn_log.Turn.{Turn}
 
 pub record Outside : Type 1 where
@@ -33,6 +35,9 @@ outside source_tells left read_faults ground_tells told_of counts_of log_tells t
   log_tells = log_tells l;
   turns = turns l;
 }
+
+abbrev pub Tells : Outside → Type 0
+Tells outside = IsTrue outside.ground_tells × OwnsLive outside.told
 
 pub record GoesOn (old new : Outside) : Type 0 where
   pub source_tells : new.source_tells ≡ old.source_tells

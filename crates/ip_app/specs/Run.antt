@@ -22,7 +22,7 @@ use Rattle.ip_store.specs.declared.store.InitFault.{InitFault}
 use Rattle.ip_store.specs.declared.opening.OpenFault.{OpenFault}
 use Rattle.ip_store.specs.declared.store.Store.{Store}
 use Rattle.ip_store.specs.Opening.{RecoversOnceOpen}
-use Rattle.ip_store.specs.Store.{IsOf, Holds}
+use Rattle.ip_store.specs.Store.{IsOf, OwnsLive, Holds}
 use Rattle.ip_app.specs.declared.statuses.Status.{Status}
 use Rattle.ip_app.specs.Lines.{longest_line, last_piece}
 use Rattle.ip_app.specs.Reading.{EndsReading}
@@ -31,7 +31,7 @@ use Rattle.ip_app.specs.Exchanges.{Exchange, answer_of, Run, lines_in, turns_in,
 use Rattle.ip_session.specs.Session.{no_rules}
 use Rattle.ip_app.specs.Serving.{is_cut_short}
 use Rattle.ip_app.specs.Turns.{turn_counts, IsLater, Follow}
-use Rattle.ip_app.specs.Outside.{Outside, GoesOn, KeepsFiles}
+use Rattle.ip_app.specs.Outside.{Outside, Tells, GoesOn, KeepsFiles}
 
 -- ---- opening
 
@@ -44,7 +44,7 @@ opening_status OpenFault.Memory = Status.Memory
 -- why the store could not be opened
 abbrev pub CouldNotOpen : Status → (tells : Bool) → Told → GroundCounts → GroundCounts → Type 0
 CouldNotOpen Status.NoStore tells old before after = IsTrue tells → NoStore old.held
-CouldNotOpen (Status.Damaged file at) tells old before after = IsTrue tells → DamagedAt old.held file at
+CouldNotOpen (Status.Damaged file at) tells old before after = IsTrue tells → OwnsLive old → DamagedAt old.held file at
 CouldNotOpen Status.GroundFault tells old before after = Rose before.file_faults after.file_faults
 CouldNotOpen Status.Memory tells old before after = Unit {0}
 CouldNotOpen status tells old before after = ⊥
@@ -53,14 +53,14 @@ CouldNotOpen status tells old before after = ⊥
 pub record OpensAs (tells : Bool) (old new : Told) (store : Store) : Type 0 where
   pub repository : Repository
   pub tables : IsOf store repository
-  pub holds : IsTrue tells → Holds store new repository
-  pub stands : IsTrue tells → StandsFor old.held repository
+  pub holds : IsTrue tells → OwnsLive old → Holds store new repository
+  pub stands : IsTrue tells → OwnsLive old → StandsFor old.held repository
   pub opening : IsTrue tells → RecoversOnceOpen old new
-  pub over : (told : IsTrue tells) → (opening told).since ≤ new.moment
+  pub over : (told : IsTrue tells) → OwnsLive old → (opening told).since ≤ new.moment
 
 -- what the files read as when the call began stands for the repository with which the run begins
 abbrev pub IsOpened : Outside → State → Type 0
-IsOpened old first = IsTrue old.ground_tells → StandsFor old.told.held first.repository
+IsOpened old first = Tells old → StandsFor old.told.held first.repository
 
 -- the store was opened, or no command was begun
 abbrev pub Begins : Status → Outside → State → List Exchange → Type 0
@@ -112,10 +112,10 @@ Row Status.ReadFault old new taken = ReadingEnds Status.ReadFault old new taken 
 Row Status.SayFault old new taken = Rose old.counts.say_faults new.counts.say_faults
 Row Status.GroundFault old new taken = Rose old.counts.file_faults new.counts.file_faults
 Row Status.NoStore old new taken = IsUntouched old new taken × (IsTrue old.ground_tells → NoStore old.told.held)
-Row (Status.Damaged file at) old new taken = IsUntouched old new taken × (IsTrue old.ground_tells → DamagedAt old.told.held file at)
--- of the files that a call reads: never where the ground tells its content
-Row (Status.DamagedRecord at) old new taken = ¬ IsTrue old.ground_tells
-Row (Status.DamagedName at want got) old new taken = ¬ IsTrue old.ground_tells
+Row (Status.Damaged file at) old new taken = IsUntouched old new taken × (Tells old → DamagedAt old.told.held file at)
+-- of the files that a call reads: never where the ground tells its content, and no child changes the live pair
+Row (Status.DamagedRecord at) old new taken = ¬ Tells old
+Row (Status.DamagedName at want got) old new taken = ¬ Tells old
 Row Status.Memory old new taken = IsUntouched old new taken
 Row Status.Usage old new taken = ⊥
 Row Status.Exists old new taken = ⊥
@@ -128,7 +128,7 @@ pub record Serves (old new : Outside) (status : Status) : Type 0 where
   pub last : TurnCounts
   pub goes_on : GoesOn old new
   -- at no moment does a file change but the chunk and the control file, and nothing is lent
-  pub files : IsTrue old.ground_tells → KeepsFiles old.told new.told
+  pub files : Tells old → KeepsFiles old.told new.told
   -- the bytes taken from the source, in whatever pieces
   pub bytes : IsTrue old.source_tells → old.left ≡ taken ++ new.left
   -- the commands begun are those of their lines, in order, and of all of them unless one cut the call short
@@ -138,17 +138,17 @@ pub record Serves (old new : Outside) (status : Status) : Type 0 where
   pub begins : Begins status old first exchanges
   pub first_is : first ≡ opened first.repository
   -- and are a run of the machine, each with what it met. What is read of records is known only where the ground tells its content
-  pub run : IsTrue old.ground_tells → Run no_rules first exchanges
+  pub run : Tells old → Run no_rules first exchanges
   -- in the end the files stand for the repository after all of them, unless a fault of the ground or of its files cut the last one short
-  pub stands : IsTrue old.ground_tells → is_cut_short status ≡ false → StandsFor old.told.held first.repository → StandsFor new.told.held (after_all first exchanges).repository
+  pub stands : Tells old → is_cut_short status ≡ false → StandsFor old.told.held first.repository → StandsFor new.told.held (after_all first exchanges).repository
   -- At every moment from the first sync of opening on, where the ground was in order: what had been said was a front of the replies' texts, and whatever a crash leaves
   -- stands for the repository after some first commands, all acknowledged ones among them.
   pub headline : IsTrue old.ground_tells → (r : Repository) → StandsFor old.told.held r → NothingPending old.told → (since : ℕ) × Headline since old.told new.told (opened r) (map answer_of exchanges)
   -- and the ground that is left may be served again, however this run ended
   pub again : IsTrue old.ground_tells → MayServe old.told → MayServe new.told
   -- what was said grows by the replies' texts
-  pub said_part : IsTrue old.ground_tells → SaysUpTo status exchanges (said old.told) (said new.told)
-  pub said_all : IsTrue old.ground_tells → is_cut_off status ≡ false → said new.told ≡ said old.told ++ texts_in exchanges
+  pub said_part : Tells old → SaysUpTo status exchanges (said old.told) (said new.told)
+  pub said_all : Tells old → is_cut_off status ≡ false → said new.told ≡ said old.told ++ texts_in exchanges
   -- the log has their turns, each beginning with the counts that the one before it ended with
   pub noted : IsTrue new.log_tells → new.turns ≡ old.turns ++ turns_in exchanges
   pub since : IsLater (turn_counts old.counts) start
@@ -177,7 +177,7 @@ EndsByScript _ = ⊥
 
 -- where no fault was counted and the files stood for some repository, a serving call ends by its script
 abbrev pub EndsWhereAllIsWell : Outside → Outside → Status → Type 0
-EndsWhereAllIsWell old new status = IsTrue old.ground_tells → ((r : Repository) × StandsFor old.told.held r) → NoneRose old new → EndsByScript status
+EndsWhereAllIsWell old new status = Tells old → ((r : Repository) × StandsFor old.told.held r) → NoneRose old new → EndsByScript status
 
 -- ---- making a store
 

@@ -1,10 +1,12 @@
 -- How serving a script goes on, line by line.
+--     Works tells told s r v      the ground tells its content, and the session works over it
 --     Turned      a line was taken, its command run and noted.      TurnedIn      and its reply said, by a session in a repository
 --     ended_status      the status of a session's end.      Stops      why there is no further line
 --     Served      so far: the whole lines that were taken, what came of them, and the repository that the session is in
+-- Of what a session does most is said where it is known to work: where `known` is true. It is for a whole run, from what the ground told at first.
 use Rattle.std.specs.Prelude.{ℕ, ◌+◌, ◌≤◌, ◌≡◌, Bool, true, false, IsTrue, List, [], ◌∷◌, ◌++◌, length, map, All, Some, None}
 use Rattle.ip_ground.specs.Counts.{Rose}
-use Rattle.ip_ground.specs.Told.{said}
+use Rattle.ip_ground.specs.Told.{Told, said}
 use Rattle.ip_image.specs.declared.counts.TurnCounts.{TurnCounts}
 use Rattle.ip_image.specs.Standing.{StandsFor}
 use Rattle.ip_image.specs.Pending.{NothingPending}
@@ -26,53 +28,57 @@ use Rattle.ip_app.specs.Reading.{EndsReading, IsCaused}
 use Rattle.ip_app.specs.Exchanges.{Exchange, conditions, answer_of, Run, lines_in, turns_in, texts_in, after_all}
 use Rattle.ip_session.specs.Session.{no_rules}
 use Rattle.ip_app.specs.Turns.{turn_counts, IsLater, Follow}
-use Rattle.ip_app.specs.Outside.{Outside, GoesOn, KeepsFiles}
+use Rattle.ip_app.specs.Outside.{Outside, Tells, GoesOn, KeepsFiles}
 use Rattle.ip_session.specs.Session.{IsServing, IsWorking, state_in}
 
 -- what was said grew by a part from the front of the bytes
 abbrev pub SaysPart : Bytes → Bytes → Bytes → Type 0
 SaysPart bytes old new = (part : Bytes) × (rest : Bytes) × (part ++ rest ≡ bytes) × (new ≡ old ++ part)
 
-pub record Turned (old new : Outside) (lines lines' : Lines) (counts counts' : TurnCounts) (state : State) (x : Exchange) : Type 0 where
+-- the ground tells its content, and the session works over it in this repository
+abbrev pub Works : Bool → Told → Session → Repository → View → Type 0
+Works tells told s r v = IsTrue tells × IsWorking told s r v
+
+pub record Turned (known : Bool) (old new : Outside) (lines lines' : Lines) (counts counts' : TurnCounts) (state : State) (x : Exchange) : Type 0 where
   pub goes_on : GoesOn old new
-  pub files : IsTrue old.ground_tells → KeepsFiles old.told new.told
+  pub files : IsTrue known → KeepsFiles old.told new.told
   pub front : IsTrue old.source_tells → pending lines ++ old.left ≡ x.line ++ line_feed ∷ (pending lines' ++ new.left)
   pub no_line_feed : HasNoLineFeed x.line
   pub short : length x.line ≤ longest_line
   pub count : lines'.taken + length (pending lines) ≡ lines.taken + (length x.line + 1) + length (pending lines')
-  pub step : IsTrue old.ground_tells → LineStep IsServedLine no_rules state x.line (conditions x) x.reply x.after
+  pub step : IsTrue known → LineStep IsServedLine no_rules state x.line (conditions x) x.reply x.after
   pub noted : IsTrue new.log_tells → new.turns ≡ old.turns ++ x.turn ∷ []
   pub begins_at : x.turn.before ≡ counts
   pub ends_at : x.turn.after ≡ counts'
   pub rises : IsLater x.turn.before x.turn.after
   pub until : IsLater counts' (turn_counts new.counts)
 
-pub record TurnedIn (old new : Outside) (lines lines' : Lines) (counts counts' : TurnCounts) (s s' : Session) (r : Repository) (v : View) : Type 0 where
+pub record TurnedIn (known : Bool) (old new : Outside) (lines lines' : Lines) (counts counts' : TurnCounts) (s s' : Session) (r : Repository) (v : View) : Type 0 where
   pub exchange : Exchange
   pub after : Repository
   pub view : View
-  pub turned : Turned old new lines lines' counts counts' (state_in s r v) exchange
-  pub now_at : IsTrue old.ground_tells → exchange.after ≡ state_in s' after view
+  pub turned : Turned known old new lines lines' counts counts' (state_in s r v) exchange
+  pub now_at : IsTrue known → exchange.after ≡ state_in s' after view
   pub serving : IsServing s'
-  pub working : IsTrue old.ground_tells → IsWorking new.told s' after view
-  pub said : IsTrue old.ground_tells → said new.told ≡ said old.told ++ reply_text exchange.reply
-  pub turning : IsTrue old.ground_tells → NothingPending old.told → Turning old.told new.told (reply_text exchange.reply) r after
-  pub nothing_pending : IsTrue old.ground_tells → NothingPending old.told → NothingPending new.told
+  pub working : IsTrue known → IsWorking new.told s' after view
+  pub said : IsTrue known → said new.told ≡ said old.told ++ reply_text exchange.reply
+  pub turning : IsTrue known → NothingPending old.told → Turning old.told new.told (reply_text exchange.reply) r after
+  pub nothing_pending : IsTrue known → NothingPending old.told → NothingPending new.told
 
 -- `rest` is what stands behind the last line feed
-pub record Stopped (status : Status) (old new : Outside) (lines lines' : Lines) (counts counts' : TurnCounts) (state : State) : Type 0 where
+pub record Stopped (status : Status) (known : Bool) (old new : Outside) (lines lines' : Lines) (counts counts' : TurnCounts) (state : State) : Type 0 where
   pub rest : Bytes
   pub goes_on : GoesOn old new
-  pub files : IsTrue old.ground_tells → KeepsFiles old.told new.told
-  pub stands : IsTrue old.ground_tells → StandsFor new.told.held state.repository
+  pub files : KeepsFiles old.told new.told
+  pub stands : IsTrue known → StandsFor new.told.held state.repository
   pub front : IsTrue old.source_tells → pending lines ++ old.left ≡ rest ++ new.left
   pub no_line_feed : HasNoLineFeed rest
   pub count : lines'.taken + length (pending lines) ≡ lines.taken + length rest
   pub ends : EndsReading status (length rest) lines'.taken (IsTrue old.source_tells → new.left ≡ [])
   pub cause : IsCaused status old.read_faults new.read_faults
-  pub same_said : IsTrue old.ground_tells → said new.told ≡ said old.told
-  pub same_moment : IsTrue old.ground_tells → new.told.moment ≡ old.told.moment
-  pub nothing_pending : IsTrue old.ground_tells → NothingPending old.told → NothingPending new.told
+  pub same_said : said new.told ≡ said old.told
+  pub same_moment : new.told.moment ≡ old.told.moment
+  pub nothing_pending : NothingPending old.told → NothingPending new.told
   pub same_turns : new.turns ≡ old.turns
   pub same_counts : counts' ≡ counts
   pub until : IsLater counts' (turn_counts new.counts)
@@ -92,46 +98,49 @@ is_cut_short _ = false
 
 -- The line was the last: its reply was not said, or only a part of it. Of a command that a fault of the ground or of its
 -- files cuts short, the reply and the state are those that it has where none of its writes fails.
-pub record Unsaid (status : Status) (old new : Outside) (lines lines' : Lines) (counts counts' : TurnCounts) (state : State) : Type 0 where
+pub record Unsaid (status : Status) (known : Bool) (old new : Outside) (lines lines' : Lines) (counts counts' : TurnCounts) (state : State) : Type 0 where
   pub exchange : Exchange
-  pub turned : Turned old new lines lines' counts counts' state exchange
-  pub part : IsTrue old.ground_tells → SaysPart (reply_text exchange.reply) (said old.told) (said new.told)
+  pub turned : Turned known old new lines lines' counts counts' state exchange
+  pub part : IsTrue known → SaysPart (reply_text exchange.reply) (said old.told) (said new.told)
   -- a command that was cut short says nothing
-  pub silent : (told : IsTrue old.ground_tells) → is_cut_short status ≡ true → (part told).0 ≡ []
-  pub stands : IsTrue old.ground_tells → is_cut_short status ≡ false → StandsFor new.told.held exchange.after.repository
-  pub turning : IsTrue old.ground_tells → NothingPending old.told → Turning old.told new.told (reply_text exchange.reply) state.repository exchange.after.repository
-  pub again : IsTrue old.ground_tells → NothingPending old.told → MayServe new.told
+  pub silent : (is : IsTrue known) → is_cut_short status ≡ true → (part is).0 ≡ []
+  pub stands : IsTrue known → is_cut_short status ≡ false → StandsFor new.told.held exchange.after.repository
+  pub turning : IsTrue known → NothingPending old.told → Turning old.told new.told (reply_text exchange.reply) state.repository exchange.after.repository
+  pub again : IsTrue known → NothingPending old.told → MayServe new.told
 
-abbrev pub Stops : Status → Outside → Outside → Lines → Lines → TurnCounts → TurnCounts → State → Type 0
-Stops Status.SayFault old new lines lines' counts counts' state = Unsaid Status.SayFault old new lines lines' counts counts' state × Rose old.counts.say_faults new.counts.say_faults
-Stops Status.GroundFault old new lines lines' counts counts' state = Unsaid Status.GroundFault old new lines lines' counts counts' state × Rose old.counts.file_faults new.counts.file_faults
-Stops (Status.DamagedRecord at) old new lines lines' counts counts' state = Unsaid (Status.DamagedRecord at) old new lines lines' counts counts' state × (¬ IsTrue old.ground_tells)
-Stops (Status.DamagedName at want got) old new lines lines' counts counts' state = Unsaid (Status.DamagedName at want got) old new lines lines' counts counts' state × (¬ IsTrue old.ground_tells)
-Stops status old new lines lines' counts counts' state = Stopped status old new lines lines' counts counts' state
+abbrev pub Stops : Status → (known : Bool) → Outside → Outside → Lines → Lines → TurnCounts → TurnCounts → State → Type 0
+Stops Status.SayFault known old new lines lines' counts counts' state = Unsaid Status.SayFault known old new lines lines' counts counts' state × Rose old.counts.say_faults new.counts.say_faults
+Stops Status.GroundFault known old new lines lines' counts counts' state = Unsaid Status.GroundFault known old new lines lines' counts counts' state × Rose old.counts.file_faults new.counts.file_faults
+Stops (Status.DamagedRecord at) known old new lines lines' counts counts' state = Unsaid (Status.DamagedRecord at) known old new lines lines' counts counts' state × (¬ IsTrue known)
+Stops (Status.DamagedName at want got) known old new lines lines' counts counts' state = Unsaid (Status.DamagedName at want got) known old new lines lines' counts counts' state × (¬ IsTrue known)
+Stops status known old new lines lines' counts counts' state = Stopped status known old new lines lines' counts counts' state
 
 pub record Served (old now : Outside) (lines : Lines) (counts : TurnCounts) (session : Session) : Type 0 where
+  pub known : Bool
+  pub known_so : Tells old → IsTrue known
+  pub tells : IsTrue known → IsTrue old.ground_tells
   pub done : Bytes
   pub exchanges : List Exchange
   pub first : Repository
   pub repository : Repository
   pub view : View
   pub goes_on : GoesOn old now
-  pub files : IsTrue old.ground_tells → KeepsFiles old.told now.told
+  pub files : IsTrue known → KeepsFiles old.told now.told
   pub bytes : IsTrue old.source_tells → old.left ≡ done ++ (pending lines ++ now.left)
   pub lines_then : (tail : Bytes) → whole_lines (done ++ tail) ≡ lines_in exchanges ++ whole_lines tail
   pub rest_then : (tail : Bytes) → last_piece (done ++ tail) ≡ last_piece tail
   pub short : All (λ line. length line ≤ longest_line) (lines_in exchanges)
   pub count : lines.taken ≡ length done + length (pending lines)
-  pub began : IsTrue old.ground_tells → StandsFor old.told.held first
-  pub run : IsTrue old.ground_tells → Run no_rules (opened first) exchanges
-  pub now_at : IsTrue old.ground_tells → state_in session repository view ≡ after_all (opened first) exchanges
+  pub began : IsTrue known → StandsFor old.told.held first
+  pub run : IsTrue known → Run no_rules (opened first) exchanges
+  pub now_at : IsTrue known → state_in session repository view ≡ after_all (opened first) exchanges
   pub serving : IsServing session
-  pub working : IsTrue old.ground_tells → IsWorking now.told session repository view
-  pub said : IsTrue old.ground_tells → said now.told ≡ said old.told ++ texts_in exchanges
-  pub opened_at : IsTrue old.ground_tells → ℕ
-  pub over : (told : IsTrue old.ground_tells) → opened_at told ≤ now.told.moment
-  pub headline : (told : IsTrue old.ground_tells) → NothingPending old.told → Headline (opened_at told) old.told now.told (opened first) (map answer_of exchanges)
-  pub nothing_pending : IsTrue old.ground_tells → NothingPending old.told → NothingPending now.told
+  pub working : IsTrue known → IsWorking now.told session repository view
+  pub said : IsTrue known → said now.told ≡ said old.told ++ texts_in exchanges
+  pub opened_at : IsTrue known → ℕ
+  pub over : (is : IsTrue known) → opened_at is ≤ now.told.moment
+  pub headline : (is : IsTrue known) → NothingPending old.told → Headline (opened_at is) old.told now.told (opened first) (map answer_of exchanges)
+  pub nothing_pending : IsTrue known → NothingPending old.told → NothingPending now.told
   pub noted : IsTrue now.log_tells → now.turns ≡ old.turns ++ turns_in exchanges
   pub start : TurnCounts
   pub since : IsLater (turn_counts old.counts) start

@@ -1,5 +1,5 @@
 // Serving a script: line by line, one reply each.
-ghost use Rattle.std.specs.Prelude.{◌≡◌, [], IsTrue, OnOk, IfOk, IfErr};
+ghost use Rattle.std.specs.Prelude.{◌≡◌, [], Bool, IsTrue, OnOk, IfOk, IfErr};
 ghost use Rattle.ip_ground.specs.Counts.{NoneFalls};
 ghost use Rattle.ip_ground.specs.Told.{SyncsOnly, Only};
 ghost use Rattle.ip_ground.specs.declared.names.FileName.TheVariants.{Control};
@@ -8,9 +8,9 @@ ghost use Rattle.ip_spec.specs.View.{View};
 ghost use Rattle.ip_store.specs.Opening.{RecoversOnceOpen};
 ghost use Rattle.ip_app.specs.Outside.{outside};
 ghost use Rattle.ip_app.specs.Turns.{turn_counts, IsLater};
-ghost use Rattle.ip_app.specs.Serving.{ended_status, TurnedIn, Stops};
+ghost use Rattle.ip_app.specs.Serving.{ended_status, Works, TurnedIn, Stops};
 ghost use Rattle.ip_app.specs.Run.{opening_status, CouldNotOpen, OpensAs, Serves, EndsWhereAllIsWell, EndsAsBytes};
-ghost use Rattle.ip_session.specs.Session.{IsServing, IsWorking, state_in};
+ghost use Rattle.ip_session.specs.Session.{IsServing, state_in};
 
 use crate::lines::{LONGEST_LINE, Lines};
 use crate::statuses::Status;
@@ -64,14 +64,13 @@ impl LineRoom {
         requires roomy { IsRoomy self.old }
         requires counted { IsLater counts.old (turn_counts (G.counts_of ground.old)) }
         requires tables { IsServing session.old }
-        requires held { IsTrue G.tells → (r : Repository) × (v : View) × IsWorking (G.told ground.old) session.old r v }
         ensures roomy { IsRoomy self.new }
         ensures turned { let told = outside S.tells S.left S.read_faults G.tells G.told G.counts_of L.tells L.turns in
-            (r : Repository) (v : View) → (IsTrue G.tells → IsWorking (G.told ground.old) session.old r v) →
-            OnOk result (TurnedIn (told source.old ground.old log.old) (told source.new ground.new log.new) self.old.lines self.new.lines counts.old counts.new session.old session.new r v) }
+            (known : Bool) (r : Repository) (v : View) → (IsTrue known → Works G.tells (G.told ground.old) session.old r v) →
+            OnOk result (TurnedIn known (told source.old ground.old log.old) (told source.new ground.new log.new) self.old.lines self.new.lines counts.old counts.new session.old session.new r v) }
         ensures stops { let told = outside S.tells S.left S.read_faults G.tells G.told G.counts_of L.tells L.turns in
-            (r : Repository) (v : View) → (IsTrue G.tells → IsWorking (G.told ground.old) session.old r v) →
-            IfErr result (λ status. Stops status (told source.old ground.old log.old) (told source.new ground.new log.new) self.old.lines self.new.lines counts.old counts.new (state_in session.old r v)) }
+            (known : Bool) (r : Repository) (v : View) → (IsTrue known → Works G.tells (G.told ground.old) session.old r v) →
+            IfErr result (λ status. Stops status known (told source.old ground.old log.old) (told source.new ground.new log.new) self.old.lines self.new.lines counts.old counts.new (state_in session.old r v)) }
     {
         self.line.clear();
         self.text.clear();

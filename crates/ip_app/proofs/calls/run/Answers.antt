@@ -49,6 +49,12 @@ returns-in-Init-clause-init g c folder chunk asks =
     inits_with _ chunk _ _ c.init.result (same_size words _ _ _ _ read asks)
     (record { goes_on = record { source_tells = refl; ground_tells = refl; log_tells = λ t. t; read_faults = le_refl _; counts = c.init.ensures.counts }; left = refl; turns = refl; only = c.init.ensures.only; row = c.init.ensures.row })
 
+pub returns-in-Init-clause-complete : goal.returns-in-Init-clause-complete
+returns-in-Init-clause-complete g c folder asks =
+    let words = texts_of c.args.words.now in
+    let read = subst (λ (call : Call). Asks words (shown call)) c.in-Init.is (asked_for words _ _ c.in-Ok-Some.field-0-is c.in-Ok-Some.ensures) in
+    absurd (not_both words _ _ _ read asks)
+
 pub returns-in-Serve-clause-init : goal.returns-in-Serve-clause-init
 returns-in-Serve-clause-init g c folder chunk asks =
     let words = texts_of c.args.words.now in

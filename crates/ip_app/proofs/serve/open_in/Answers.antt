@@ -1,20 +1,23 @@
-use Rattle.std.proofs.Common.{refl, ◌≡◌, sym, ap, ◌∙◌, subst, true, false, IsTrue, Bool, Ok, Err, IsErrOf}
+use Rattle.std.proofs.Common.{refl, ◌≡◌, sym, ap, ◌∙◌, subst, IsTrue, Bool, Ok, Err, IsErrOf}
 use Rattle.std.specs.Prelude.{is_some}
 use Rattle.ip_ground.specs.declared.names.FileName.TheVariants.{Control}
 use Rattle.ip_ground.specs.declared.names.GroundCounts.{GroundCounts}
 use Rattle.ip_ground.specs.Counts.{Rose, NoneFalls}
 use Rattle.ip_ground.specs.Told.{Told, ChangesOnly, NoFile, Only, SyncsOnly}
-use Rattle.ip_ground.proofs.Spans.{syncs_none, syncs_on}
+use Rattle.ip_ground.proofs.Spans.{at_most, syncs_none, syncs_on}
 use Rattle.ip_ground.proofs.Rising.{rose_after}
 use Rattle.ip_spec.specs.Repository.{Repository}
+use Rattle.ip_image.specs.Standing.{StandsFor}
 use Rattle.ip_store.specs.Opening.{Opens}
-use Rattle.ip_store.specs.Store.{IsOf}
+use Rattle.ip_store.specs.Store.{IsOf, OwnsLive, Holds, IsSound}
 use Rattle.ip_store.specs.declared.store.Store.{Store}
 use Rattle.ip_store.specs.declared.opening.OpenFault.{OpenFault}
 use Rattle.ip_app.specs.declared.statuses.Status.{Status}
 use Rattle.ip_app.specs.Run.{opening_status, CouldNotOpen, OpensAs}
 use Rattle.ip_app.proofs.Moments.{opening_none, opening_after}
+use Rattle.ip_app.proofs.LivePair.{owns_on, live_in, known_or_not}
 use Rattle.ip_app.proofs.SameFiles.{stands_before, none_before, damaged_before}
+use Rattle.ip_app.proofs.TurnLemmas.{settled}
 use Rattle.ip_app.proofs.serve.open_in.Goals as goal
 
 -- opening behind a call that changes no file
@@ -30,21 +33,35 @@ returns-in-Ok-clause-only g c told = opened_on _ _ _ (c.attach.ensures.does told
 pub returns-in-Err-clause-only : goal.returns-in-Err-clause-only
 returns-in-Err-clause-only g c told = opened_on _ _ _ (c.attach.ensures.does told).only (c.open_at.ensures.does told).only
 
--- a repository that the store's tables are of; where the ground tells, one that it holds
+owns_passed : (old mid : Told) → ChangesOnly NoFile old mid → OwnsLive old → OwnsLive mid
+owns_passed old mid passes owns = owns_on old mid (λ file. at_most old mid file (passes.others file (λ none. none))) owns
+
+-- a repository that the store's tables are of; where the ground tells, and no child changes the live pair, one that it holds
 opens_as : (tells : Bool) (old mid new : Told) (store : Store) → ((r : Repository) × IsOf store r) → (IsTrue tells → ChangesOnly NoFile old mid) → (IsTrue tells → Opens (Ok store) mid new) → OpensAs tells old new store
-opens_as true old mid new store tables passes does =
-    let opens = does refl in
-    let held = opens.holds in
-    let stands = stands_before old new (opened_on old mid new (passes refl) opens.only) held.0 held.1.stands in
-    record {
-      repository = held.0;
-      tables = held.1.tables;
-      holds = λ told. held.1;
-      stands = λ told. stands;
-      opening = λ told. opening_after old mid new (passes refl) opens.opening;
-      over = λ told. opens.reached tt (ap is_some (((passes refl).others Control (λ none. none)).held (λ x. x) ∙ stands.standing.held));
-    }
-opens_as false old mid new store tables passes does = record { repository = tables.0; tables = tables.1; holds = λ told. absurd (cc told); stands = λ told. absurd (cc told); opening = λ told. absurd (cc told); over = λ told. absurd (cc told) }
+opens_as tells old mid new store tables passes does = record {
+  repository = opened.0.0;
+  tables = opened.0.1;
+  holds = λ told owns. (opened.1 (known.1 (told, owns))).0;
+  stands = λ told owns. (opened.1 (known.1 (told, owns))).1;
+  opening = λ told. opening_after old mid new (passes told) (does told).opening;
+  over = λ told owns. (does told).reached tt (ap is_some (((passes told).others Control (λ none. none)).held (λ x. x) ∙ (opened.1 (known.1 (told, owns))).1.standing.held));
+}
+  where
+    only : IsTrue tells → SyncsOnly (Only Control) old new
+    only told = opened_on old mid new (passes told) (does told).only
+
+    sound : IsTrue tells → OwnsLive old → IsSound store new
+    sound told owns = (does told).holds (owns_passed old mid (passes told) owns)
+
+    stood : (told : IsTrue tells) (owns : OwnsLive old) → StandsFor old.held (sound told owns).0
+    stood told owns = stands_before old new (only told) owns (sound told owns).0 (sound told owns).1.stands
+
+    known : (b : Bool) × (IsTrue tells × OwnsLive old → IsTrue b) × (IsTrue b → IsTrue tells × OwnsLive old)
+    known = known_or_not tells old (λ told owns. live_in old.held (sound told owns).0 (stood told owns))
+
+    opened : (x : (r : Repository) × IsOf store r) × (IsTrue known.0 → Holds store new x.0 × StandsFor old.held x.0)
+    opened = settled (λ (x : (r : Repository) × IsOf store r). Holds store new x.0 × StandsFor old.held x.0) known.0 tables
+        (λ is. let both = known.2 is in let held = sound both.0 both.1 in ((held.0, held.1.tables), (held.1, stood both.0 both.1)))
 
 pub returns-in-Ok-clause-opened : goal.returns-in-Ok-clause-opened
 returns-in-Ok-clause-opened g c = opens_as g.G.Ground.tells _ _ _ c.in-Ok.store c.in-Ok.ensures.tables (λ told. (c.attach.ensures.does told).only) c.in-Ok.ensures.does
@@ -59,15 +76,15 @@ pub returns-in-Err-clause-opening : goal.returns-in-Err-clause-opening
 returns-in-Err-clause-opening g c told = opening_after _ _ _ (c.attach.ensures.does told).only (c.open_at.ensures.does told).opening
 
 could_not_open : (f : OpenFault) (s : Status) (tells : Bool) (old mid new : Told) (a b d : GroundCounts) → s ≡ opening_status f
-    → (IsTrue tells → SyncsOnly (Only Control) old new) → (IsTrue tells → Opens (Err f) mid new) → NoneFalls a b → (IsErrOf {T = Store} (Err f) OpenFault.Ground → Rose b.file_faults d.file_faults)
+    → (IsTrue tells → ChangesOnly NoFile old mid) → (IsTrue tells → SyncsOnly (Only Control) old new) → (IsTrue tells → Opens (Err f) mid new) → NoneFalls a b → (IsErrOf {T = Store} (Err f) OpenFault.Ground → Rose b.file_faults d.file_faults)
     → CouldNotOpen s tells old a d
-could_not_open f s tells old mid new a b d e only opens falls cause = subst (λ (t : Status). CouldNotOpen t tells old a d) (sym e) (by_fault f opens cause)
+could_not_open f s tells old mid new a b d e passes only opens falls cause = subst (λ (t : Status). CouldNotOpen t tells old a d) (sym e) (by_fault f opens cause)
   where
     by_fault : (f : OpenFault) → (IsTrue tells → Opens (Err f) mid new) → (IsErrOf {T = Store} (Err f) OpenFault.Ground → Rose b.file_faults d.file_faults) → CouldNotOpen (opening_status f) tells old a d
     by_fault OpenFault.NoStore o h = λ told. none_before old new (only told) ((o told).no_store refl)
-    by_fault (OpenFault.Damaged file at) o h = λ told. damaged_before old new (only told) file at ((o told).damaged file at refl)
+    by_fault (OpenFault.Damaged file at) o h = λ told owns. damaged_before old new (only told) owns file at ((o told).damaged (owns_passed old mid (passes told) owns) file at refl)
     by_fault OpenFault.Ground o h = rose_after a.file_faults b.file_faults d.file_faults falls.file_faults (h refl)
     by_fault OpenFault.Memory o h = tt
 
 pub returns-in-Err-clause-refused : goal.returns-in-Err-clause-refused
-returns-in-Err-clause-refused g c = could_not_open c.in-Err.fault _ _ _ _ _ _ _ _ c.opening_status.ensures (returns-in-Err-clause-only g c) c.in-Err.ensures.does c.attach.ensures.counts c.in-Err.ensures.cause
+returns-in-Err-clause-refused g c = could_not_open c.in-Err.fault _ _ _ _ _ _ _ _ c.opening_status.ensures (λ told. (c.attach.ensures.does told).only) (returns-in-Err-clause-only g c) c.in-Err.ensures.does c.attach.ensures.counts c.in-Err.ensures.cause

@@ -1,8 +1,9 @@
-use Rattle.std.proofs.Common.{refl, ap, ◌∙◌}
+use Rattle.std.proofs.Common.{arith, refl, ap, ◌∙◌}
 use Rattle.std.proofs.Math.Nat.{le_refl}
 use Rattle.ip_app.specs.declared.statuses.Status.TheVariants as status
 use Rattle.ip_app.specs.Turns.{turn_counts}
 use Rattle.ip_app.proofs.EndingLaw.{ends_as_bytes}
+use Rattle.ip_app.proofs.LivePair.{live_in, known_or_not}
 use Rattle.ip_app.proofs.RunLemmas.{serves_stop, served_first, served_more, ends_by_script, begins_unopened}
 use Rattle.ip_spec.specs.View.{no_view}
 use Rattle.ip_session.proofs.Beginning.{begins_working}
@@ -21,8 +22,8 @@ lines-init g c =
     let opened = c.in-Ok.ensures.opened in
     record {
       roomy = c.in-Ok-new.ensures.roomy;
-      served = served_first _ _ c.in-Ok-new.room.lines c.turn_counts-counts.result c.new-session.result opened.repository no_view (opened.repository, c.new-session.ensures.is_in opened.repository opened.tables) (c.new-session.ensures.state opened.repository)
-          (λ told. begins_working _ c.new-session.result _ opened.repository c.new-session.ensures.store c.new-session.ensures.lawful (opened.holds told)) opened.stands opened.opening opened.over (c.turn_counts-counts.ensures ∙ ap turn_counts c.counts.ensures)
+      served = served_first _ _ c.in-Ok-new.room.lines c.turn_counts-counts.result c.new-session.result opened.repository no_view (known_or_not g.G.Ground.tells _ (λ told owns. live_in _ _ (opened.stands told owns))) (opened.repository, c.new-session.ensures.is_in opened.repository opened.tables) (c.new-session.ensures.state opened.repository)
+          (λ tells. begins_working _ c.new-session.result _ opened.repository c.new-session.ensures.store c.new-session.ensures.lawful (opened.holds tells.0 tells.1)) (λ tells. opened.stands tells.0 tells.1) opened.opening (λ tells. opened.over tells.0 tells.1) (c.turn_counts-counts.ensures ∙ ap turn_counts c.counts.ensures)
           (record { source_tells = refl; ground_tells = refl; log_tells = λ t. t; read_faults = le_refl (g.S.Source.read_faults c.args.source.now); counts = c.open_in.ensures.counts })
           c.open_in.ensures.only refl refl c.in-Ok-new.ensures.pending c.in-Ok-new.ensures.taken;
     }
@@ -30,20 +31,26 @@ lines-init g c =
 pub turn-requires : goal.turn-requires
 turn-requires g c =
     let served = c.lines.invariant.served in
-    record { roomy = c.lines.invariant.roomy; counted = served.until; tables = served.serving; held = λ told. (served.repository, served.view, served.working told) }
+    record { roomy = c.lines.invariant.roomy; counted = served.until; tables = served.serving }
 
 pub returns-in-Err-turn-clause-serves : goal.returns-in-Err-turn-clause-serves
 returns-in-Err-turn-clause-serves g c =
     let served = c.lines.invariant.served in
-    serves_stop c.in-Err-turn.status _ _ _ c.lines.room.lines c.turn.new.self.lines c.lines.counts c.turn.new.counts c.lines.session served (c.in-Err-turn.ensures.stops served.repository served.view served.working)
+    serves_stop c.in-Err-turn.status _ _ _ c.lines.room.lines c.turn.new.self.lines c.lines.counts c.turn.new.counts c.lines.session served (c.in-Err-turn.ensures.stops served.known served.repository served.view (λ is. (served.tells is, served.working is)))
 
 pub lines-preserved : goal.lines-preserved
 lines-preserved g c =
     let served = c.lines.invariant.served in
     record {
       roomy = c.turn.ensures.roomy;
-      served = served_more _ _ _ c.lines.room.lines c.turn.new.self.lines c.lines.counts c.turn.new.counts c.lines.session c.turn.new.session served (c.in_default-turn.ensures.turned served.repository served.view served.working);
+      served = served_more _ _ _ c.lines.room.lines c.turn.new.self.lines c.lines.counts c.turn.new.counts c.lines.session c.turn.new.session served (c.in_default-turn.ensures.turned served.known served.repository served.view (λ is. (served.tells is, served.working is)));
     }
+
+pub lines-smaller : goal.lines-smaller
+lines-smaller g c =
+    let served = c.lines.invariant.served in
+    let turned = (c.in_default-turn.ensures.turned served.known served.repository served.view (λ is. (served.tells is, served.working is))).turned in
+    omega (arith, turned.count, c.turn.ensures.roomy.ready.few, served.count)
 
 pub returns-in-Err-clause-complete : goal.returns-in-Err-clause-complete
 returns-in-Err-clause-complete g c = let done = returns-in-Err-clause-serves g c in ends_by_script _ _ _ done.taken done.row

@@ -10,84 +10,84 @@ use Rattle.ip_app.proofs.TurnLemmas.{exchange_of, turned_of, files_of, said_of, 
 use Rattle.ip_app.proofs.serve.LineRoom.turn.Goals as goal
 
 pub returns-in-Err-clause-stops : goal.returns-in-Err-clause-stops
-returns-in-Err-clause-stops g c r v working = stops_reading c.in-Err.status _ _ _ _ _ _ (state_in c.args.session.now r v) (record {
+returns-in-Err-clause-stops g c known r v works = stops_reading c.in-Err.status known _ _ _ _ _ _ (state_in c.args.session.now r v) (record {
   rest = c.next_line.new.line.items;
   goes_on = record { source_tells = refl; ground_tells = refl; log_tells = λ tells. tells; read_faults = c.next_line.ensures.faults; counts = falls_itself (g.G.Ground.counts_of c.args.ground.now) };
-  files = λ told. keeps_itself (g.G.Ground.told c.args.ground.now);
-  stands = λ told. (working told).holds.stands;
+  files = keeps_itself (g.G.Ground.told c.args.ground.now);
+  stands = λ is. (works is).1.holds.stands;
   front = c.in-Err.ensures.bytes;
   no_line_feed = c.in-Err.ensures.rest;
   count = c.in-Err.ensures.count_err;
   ends = c.in-Err.ensures.err.ends;
   cause = c.in-Err.ensures.err.cause;
-  same_said = λ told. refl;
-  same_moment = λ told. refl;
-  nothing_pending = λ told order. order;
+  same_said = refl;
+  same_moment = refl;
+  nothing_pending = λ order. order;
   same_turns = refl;
   same_counts = refl;
   until = c.requires.counted;
 })
 
 pub returns-in-Ok-say-clause-turned : goal.returns-in-Ok-say-clause-turned
-returns-in-Ok-say-clause-turned g c r v working =
+returns-in-Ok-say-clause-turned g c known r v works =
     let answered = c.in-Ok.ensures.goes in
-    let went = went_to g.G.Ground.tells _ _ c.args.session.now c.answer-answered.new.self r v c.deref.result.now answered.0 (λ told. answered.2 told r v (working told)) in
+    let went = went_to known _ _ c.args.session.now c.answer-answered.new.self r v c.deref.result.now answered.0 (λ is. let w = works is in answered.2 w.0 r v w.1) in
     let goes = went.1 in
     let text = c.deref-in-Ok.ensures.value ∙ answered.1 in
     record {
       exchange = exchange_of c.next_line.new.line.items c.met.result c.args.counts.now c.turn_counts.result answered.0 (state_in c.answer-answered.new.self went.0.0 went.0.1);
       after = went.0.0;
       view = went.0.1;
-      turned = turned_of _ _ _ _ _ _ _ _ _ _ _ _ answered.0 (g.G.Ground.counts_of c.answer-answered.new.ground)
+      turned = turned_of known _ _ _ _ _ _ _ _ _ _ _ _ answered.0 (g.G.Ground.counts_of c.answer-answered.new.ground)
           (record { source_tells = refl; ground_tells = refl; log_tells = c.note.ensures.told; read_faults = c.next_line.ensures.faults; counts = none_falls_on _ _ _ c.answer-answered.ensures.counts c.say.ensures.counts })
-          (λ told. files_of _ _ _ c.deref.result.now answered.0 (goes told).only _ _ (c.say.ensures.does told))
-          c.in_default.ensures.ok c.in_default.ensures.count (λ told. (goes told).gives) c.deref.ensures.value c.met.ensures c.note.ensures.noted (c.turn_counts.ensures ∙ ap turn_counts c.counts.ensures) c.requires.counted c.answer-answered.ensures.counts c.say.ensures.counts;
-      now_at = λ told. refl;
+          (λ is. files_of _ _ _ c.deref.result.now answered.0 (goes is).only _ _ (c.say.ensures.does (works is).0))
+          c.in_default.ensures.ok c.in_default.ensures.count (λ is. (goes is).gives) c.deref.ensures.value c.met.ensures c.note.ensures.noted (c.turn_counts.ensures ∙ ap turn_counts c.counts.ensures) c.requires.counted c.answer-answered.ensures.counts c.say.ensures.counts;
+      now_at = λ is. refl;
       serving = c.in-Ok.ensures.tables;
-      working = λ told. working_along _ _ c.answer-answered.new.self went.0.0 went.0.1 (c.say.ensures.does told).goes (c.say.ensures.does told).files (goes told).working;
-      said = λ told. said_of _ _ _ c.deref.result.now answered.0 (goes told).only _ _ (c.in-Ok-say.ensures.does told) _ text;
-      turning = λ told order. turned_moments _ _ _ _ (c.say.ensures.does told) _ (ChangedIn c.deref.result.now answered.0) (goes told).only _ text r went.0.0 ((goes told).atomic order) _ (goes told).working.holds ((goes told).nothing_pending order);
-      nothing_pending = λ told order. order_says _ _ _ _ (c.say.ensures.does told) ((goes told).nothing_pending order);
+      working = λ is. working_along _ _ c.answer-answered.new.self went.0.0 went.0.1 (c.say.ensures.does (works is).0).goes (c.say.ensures.does (works is).0).files (goes is).working;
+      said = λ is. said_of _ _ _ c.deref.result.now answered.0 (goes is).only _ _ (c.in-Ok-say.ensures.does (works is).0) _ text;
+      turning = λ is order. turned_moments _ _ _ _ (c.say.ensures.does (works is).0) _ (ChangedIn c.deref.result.now answered.0) (goes is).only _ text r went.0.0 ((goes is).atomic order) _ (goes is).working.holds ((goes is).nothing_pending order);
+      nothing_pending = λ is order. order_says _ _ _ _ (c.say.ensures.does (works is).0) ((goes is).nothing_pending order);
     }
 
 pub returns-in-Err-say-clause-stops : goal.returns-in-Err-say-clause-stops
-returns-in-Err-say-clause-stops g c r v working =
+returns-in-Err-say-clause-stops g c known r v works =
     let answered = c.in-Ok.ensures.goes in
-    let went = went_to g.G.Ground.tells _ _ c.args.session.now c.answer-answered.new.self r v c.deref.result.now answered.0 (λ told. answered.2 told r v (working told)) in
+    let went = went_to known _ _ c.args.session.now c.answer-answered.new.self r v c.deref.result.now answered.0 (λ is. let w = works is in answered.2 w.0 r v w.1) in
     let goes = went.1 in
     let text = c.deref-in-Ok.ensures.value ∙ answered.1 in (
       record {
         exchange = exchange_of c.next_line.new.line.items c.met.result c.args.counts.now c.turn_counts.result answered.0 (state_in c.answer-answered.new.self went.0.0 went.0.1);
-        turned = turned_of _ _ _ _ _ _ _ _ _ _ _ _ answered.0 (g.G.Ground.counts_of c.answer-answered.new.ground)
+        turned = turned_of known _ _ _ _ _ _ _ _ _ _ _ _ answered.0 (g.G.Ground.counts_of c.answer-answered.new.ground)
             (record { source_tells = refl; ground_tells = refl; log_tells = c.note.ensures.told; read_faults = c.next_line.ensures.faults; counts = none_falls_on _ _ _ c.answer-answered.ensures.counts c.say.ensures.counts })
-            (λ told. files_of _ _ _ c.deref.result.now answered.0 (goes told).only _ _ (c.say.ensures.does told))
-            c.in_default.ensures.ok c.in_default.ensures.count (λ told. (goes told).gives) c.deref.ensures.value c.met.ensures c.note.ensures.noted (c.turn_counts.ensures ∙ ap turn_counts c.counts.ensures) c.requires.counted c.answer-answered.ensures.counts c.say.ensures.counts;
-        part = λ told. part_of _ _ _ c.deref.result.now answered.0 (goes told).only _ _ (c.say.ensures.does told) _ text;
-        silent = λ told cut_short. absurd (cc cut_short);
-        turning = λ told order. turned_moments _ _ _ _ (c.say.ensures.does told) _ (ChangedIn c.deref.result.now answered.0) (goes told).only _ text r went.0.0 ((goes told).atomic order) _ (goes told).working.holds ((goes told).nothing_pending order);
-        again = λ told order. record {
+            (λ is. files_of _ _ _ c.deref.result.now answered.0 (goes is).only _ _ (c.say.ensures.does (works is).0))
+            c.in_default.ensures.ok c.in_default.ensures.count (λ is. (goes is).gives) c.deref.ensures.value c.met.ensures c.note.ensures.noted (c.turn_counts.ensures ∙ ap turn_counts c.counts.ensures) c.requires.counted c.answer-answered.ensures.counts c.say.ensures.counts;
+        part = λ is. part_of _ _ _ c.deref.result.now answered.0 (goes is).only _ _ (c.say.ensures.does (works is).0) _ text;
+        silent = λ is cut_short. absurd (cc cut_short);
+        turning = λ is order. turned_moments _ _ _ _ (c.say.ensures.does (works is).0) _ (ChangedIn c.deref.result.now answered.0) (goes is).only _ text r went.0.0 ((goes is).atomic order) _ (goes is).working.holds ((goes is).nothing_pending order);
+        again = λ is order. record {
           repository = went.0.0;
-          stands = (working_along _ _ c.answer-answered.new.self went.0.0 went.0.1 (c.say.ensures.does told).goes (c.say.ensures.does told).files (goes told).working).holds.stands;
-          nothing_pending = order_says _ _ _ _ (c.say.ensures.does told) ((goes told).nothing_pending order);
+          stands = (working_along _ _ c.answer-answered.new.self went.0.0 went.0.1 (c.say.ensures.does (works is).0).goes (c.say.ensures.does (works is).0).files (goes is).working).holds.stands;
+          nothing_pending = order_says _ _ _ _ (c.say.ensures.does (works is).0) ((goes is).nothing_pending order);
         };
-        stands = λ told whole. (working_along _ _ c.answer-answered.new.self went.0.0 went.0.1 (c.say.ensures.does told).goes (c.say.ensures.does told).files (goes told).working).holds.stands;
+        stands = λ is whole. (working_along _ _ c.answer-answered.new.self went.0.0 went.0.1 (c.say.ensures.does (works is).0).goes (c.say.ensures.does (works is).0).files (goes is).working).holds.stands;
       },
       rose_after _ _ _ c.answer-answered.ensures.counts.say_faults c.in-Err-say.ensures.cause,
     )
 
 pub returns-in-Err-answered-clause-stops : goal.returns-in-Err-answered-clause-stops
-returns-in-Err-answered-clause-stops g c r v working =
-    let ended = cut_to g.G.Ground.tells _ _ c.args.session.now c.answer-answered.new.self r v c.deref.result.now (λ told. c.in-Err-answered.ensures.cut told r v (working told)) in
+returns-in-Err-answered-clause-stops g c known r v works =
+    let ended = cut_to known _ _ c.args.session.now c.answer-answered.new.self r v c.deref.result.now (λ is. let w = works is in c.in-Err-answered.ensures.cut w.0 r v w.1) in
     let cut = ended.1 in
-    stops_ended c.in-Err-answered.end _ _ _ _ _ _ _ (state_in c.args.session.now r v) c.ended_status.ensures (record {
+    stops_ended c.in-Err-answered.end _ known _ _ _ _ _ _ _ (state_in c.args.session.now r v) c.ended_status.ensures (record {
       exchange = exchange_of c.next_line.new.line.items c.met.result c.args.counts.now c.turn_counts.result ended.0.0 ended.0.1;
-      turned = turned_of _ _ _ _ _ _ _ _ _ _ _ _ ended.0.0 (g.G.Ground.counts_of c.answer-answered.new.ground)
+      turned = turned_of known _ _ _ _ _ _ _ _ _ _ _ _ ended.0.0 (g.G.Ground.counts_of c.answer-answered.new.ground)
           (record { source_tells = refl; ground_tells = refl; log_tells = c.note.ensures.told; read_faults = c.next_line.ensures.faults; counts = c.answer-answered.ensures.counts })
-          (λ told. keeps_two _ _ (cut told).only)
-          c.in_default.ensures.ok c.in_default.ensures.count (λ told. (cut told).gives) c.deref.ensures.value c.met.ensures c.note.ensures.noted (c.turn_counts.ensures ∙ ap turn_counts c.counts.ensures) c.requires.counted c.answer-answered.ensures.counts (falls_itself (g.G.Ground.counts_of c.answer-answered.new.ground));
-      part = λ told. nothing_said _ _ _ (cut told).only;
-      silent = λ told cut_short. refl;
-      stands = λ told whole. absurd (cc (whole, ended_short c.in-Err-answered.end));
-      turning = λ told order. turns_quietly (g.G.Ground.told c.args.ground.now) (g.G.Ground.told c.answer-answered.new.ground) _ r ended.0.1.repository (cut told).only.said ((cut told).atomic order);
-      again = λ told order. cut_again _ r ended.0.1.repository _ _ (working told).holds order (cut told).only.goes ((cut told).atomic order) (g.met.G.Ground.possible c.answer-answered.new.ground told);
-    }) c.in-Err-answered.ensures.cause
+          (λ is. keeps_two _ _ (cut is).only)
+          c.in_default.ensures.ok c.in_default.ensures.count (λ is. (cut is).gives) c.deref.ensures.value c.met.ensures c.note.ensures.noted (c.turn_counts.ensures ∙ ap turn_counts c.counts.ensures) c.requires.counted c.answer-answered.ensures.counts (falls_itself (g.G.Ground.counts_of c.answer-answered.new.ground));
+      part = λ is. nothing_said _ _ _ (cut is).only;
+      silent = λ is cut_short. refl;
+      stands = λ is whole. absurd (cc (whole, ended_short c.in-Err-answered.end));
+      turning = λ is order. turns_quietly (g.G.Ground.told c.args.ground.now) (g.G.Ground.told c.answer-answered.new.ground) _ r ended.0.1.repository (cut is).only.said ((cut is).atomic order);
+      again = λ is order. cut_again _ r ended.0.1.repository _ _ (works is).1.holds order (cut is).only.goes ((cut is).atomic order) (g.met.G.Ground.possible c.answer-answered.new.ground (works is).0);
+    }) (λ is. ((works is).0, (r, v, (works is).1))) c.in-Err-answered.ensures.cause
