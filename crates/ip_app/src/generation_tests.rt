@@ -110,7 +110,7 @@ fn chunk_after(alloc: Global, script: &[u8], table: &[u8]) -> Result<Vec<u8>, Fa
     Ok(chunk)
 }
 
-// The bytes of these runs, of which those below an old horizon lie in an old prefix from an old offset on.
+// The bytes of these runs, one behind another.
 fn kept_of(alloc: Global, rows: &[Row], chunk: &[u8]) -> Result<Vec<u8>, AllocError> {
     let mut out = Vec::new(alloc);
     for (at, length, _) in rows {
@@ -234,7 +234,7 @@ fn second_image(alloc: Global) -> Result<Image, Fail> {
     Ok(collected(alloc, &SECOND_SLOT, SECOND_ROWS, chunk)?)
 }
 
-// Of the second image after one more commit: the records below its horizon stand in its prefix, which the new one is made of.
+// Of the second image after one more commit: what is kept from below its horizon stands in its prefix.
 fn third_image(alloc: Global) -> Result<Image, Fail> {
     let mut ground = ground_of(alloc, &second_image(alloc)?, None)?;
     let _ = answers_on(alloc, &mut ground, SECOND_SCRIPT)?;
