@@ -1,8 +1,8 @@
 -- For whoever knows that the bytes up to an end are kept, and writes behind it.
 --     leaves_on, since_on      what a crash leaves goes on over moments.      leaves_stay, byte_stays, holds_stay      over calls that change no chunk
 --     stand_from, leaves_from_kept      what a crash leaves, the files read as, and back.      images_hold, images_with      it is in each image
---     front_holds, front_ends, holds_front      the front, by its places, and of more bytes.      stops_at_append, appends_kept      the exits of an append and a sync behind it
-use Rattle.std.proofs.Common.{◌≡◌, ℕ, ◌+◌, ◌<◌, ◌≤◌, List, ◌++◌, length, Bool, Some, inl, inr, refl, sym, ◌∙◌, ap, subst, arith, length-append}
+--     no_gap_before, reaches_start      an append may follow.      front_holds, front_ends, holds_front      the front, by its places, and of more bytes.      stops_at_append, appends_kept      the exits of an append and a sync behind it
+use Rattle.std.proofs.Common.{◌≡◌, ℕ, ◌+◌, ◌-◌, ◌<◌, ◌≤◌, List, ◌++◌, length, Bool, Some, inl, inr, refl, sym, ◌∙◌, ap, subst, arith, length-append}
 use Rattle.std.specs.Prelude.{is_some, IsSome, IsTrue, slice_get, Result, Ok, IsErr}
 use Rattle.std.proofs.lemmas.Bool.{cases_lt}
 use Rattle.std.proofs.lemmas.List.{get_or_append_left}
@@ -15,10 +15,13 @@ use Rattle.ip_ground.specs.Contents.{Content, Image}
 use Rattle.ip_ground.specs.Told.{Told, said, KeepsPast, SyncsAtMost, KeepsSaid, EachSince, EachImage, EachImageNow, IsAbout, IsPossibleNow, IsKept}
 use Rattle.ip_ground.proofs.Exits.{Exit, exit_ok, exit_holds}
 use Rattle.ip_ground.proofs.Spans.{goes_on, only_on, each_on, each_synced, each_steps, left_now}
-use Rattle.ip_image.specs.Virtual.{chunk_of}
+use Rattle.ip_image.specs.Slot.{IsChunkSize}
+use Rattle.ip_image.specs.Virtual.{byte_of, chunk_of, place_in_chunk}
 use Rattle.ip_chunks.specs.Places.{chunk_file, chunk_start, byte_in, chunk_byte, NoGap, IsChunkBetween}
 use Rattle.ip_chunks.specs.Effects.{TornChunk, Appends, SyncsRange}
 use Rattle.ip_chunks.specs.Fronts.{Holds, Leaves, LeavesSince, AppendsKept, bytes_from}
+use Rattle.ip_chunks.proofs.Borders.{some_size, chunk_from_start, together}
+use Rattle.ip_chunks.proofs.Gaps.{reaches_back}
 use Rattle.ip_chunks.proofs.Bytes.{some_bytes, length-bytes_from, stands_front, stands_both}
 
 module _ (size at : ℕ) (bytes : List ℕ) where
@@ -81,6 +84,25 @@ holds_stay size at bytes a b stays holds k lt = byte_stays size (at + k) a b sta
 -- an append may follow bytes that begin not behind its chunk
 pub no_gap_before : (size from end : ℕ) (image : Image) → from ≤ chunk_start size end → NoGap size image from end → NoGap size image (chunk_start size end) end
 no_gap_before size from end image before no_gap at between = no_gap at (omega (arith, before, between.0), between.1)
+
+-- a file that reaches a place reaches each before it, so there is none from the start of its chunk either
+module _ (size from end : ℕ) (size_is : IsChunkSize size) (image : Image) (some_place : from < end) (no_gap : NoGap size image from end) where
+  in_front : (at : ℕ) → chunk_start size end ≤ at → at < end → (chunk_of size at ≡ chunk_of size end) × (chunk_of size (end - 1) ≡ chunk_of size end)
+  in_front at high low =
+      let some = some_size size size_is in
+      (chunk_from_start size some end at high (omega (arith, low)), chunk_from_start size some end (end - 1) (omega (arith, high, low)) (omega arith))
+
+  from_last : (at : ℕ) → chunk_start size end ≤ at → at < end → IsSome (chunk_byte size image at)
+  unfolding chunk_byte
+  from_last at high low =
+      let some = some_size size size_is in
+      let same = in_front at high low in
+      let apart = together size some at (end - 1) (same.0 ∙ sym same.1) in
+      let last = subst (λ (n : ℕ). IsSome (byte_of (image (Chunk n)) (place_in_chunk size (end - 1)))) (same.1 ∙ sym same.0) (no_gap (end - 1) (omega (arith, some_place), omega (arith, some_place))) in
+      reaches_back (image (Chunk (chunk_of size at))) (place_in_chunk size at) (place_in_chunk size (end - 1)) (omega (arith, apart, low)) last
+
+  pub reaches_start : NoGap size image (chunk_start size end) end
+  reaches_start at between = from_last at between.0 between.1
 
 -- the n bytes up to an end, where there is no gap in front of it
 module _ (size from n end : ℕ) (ends : from + n ≡ end) (image : Image) (no_gap : NoGap size image from end) where

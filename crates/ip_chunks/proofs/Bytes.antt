@@ -9,7 +9,7 @@ use Rattle.std.specs.Option.{option_and_then}
 use Rattle.std.proofs.lemmas.Bool.Decides.{nat_tests}
 use Rattle.ip_ground.specs.declared.names.FileName.TheVariants.{Chunk, Prefix}
 use Rattle.ip_ground.specs.Contents.{Image}
-use Rattle.ip_image.specs.Virtual.{Stands, byte_of, locate, virtual_byte}
+use Rattle.ip_image.specs.Virtual.{Stands, byte_of, chunk_of, place_in_chunk, locate, virtual_byte}
 use Rattle.ip_image.specs.declared.layout.Layout.{Layout}
 use Rattle.ip_image.specs.declared.run.Run.{Run}
 use Rattle.ip_image.specs.Pending.{SameChunks}
@@ -101,11 +101,12 @@ module _ (size at n : ℕ) (image other : Image) (no_gap : NoGap size image at (
   pub places_same : SameChunks size at (at + n) image other → Holds size at (bytes_from size image at n) other
   places_same same k lt = same (at + k) (omega arith) (omega (arith, length-bytes_from size at n image no_gap, lt)) ∙ some_bytes size at n image no_gap k lt
 
--- ---- while one file holds all places
+-- ---- in the words of an image
 
 le_test : (m n : ℕ) → m ≤ n → nat_le m n ≡ true
 le_test m n le = grind (arith, nat_tests)
 
 pub virtual_bytes : (image : Image) (s : Layout) (runs : List Run) (at : ℕ) → s.horizon ≤ at → virtual_byte image s runs at ≡ chunk_byte s.chunk image at
 unfolding virtual_byte chunk_byte
-virtual_bytes image s runs at from = ap (λ (test : Bool). if test then byte_of (image (Chunk 0)) at else option_and_then (λ place. byte_of (image (Prefix s.live)) place) (locate runs at)) (le_test s.horizon at from)
+virtual_bytes image s runs at from =
+    ap (λ (test : Bool). if test then byte_of (image (Chunk (chunk_of s.chunk at))) (place_in_chunk s.chunk at) else option_and_then (λ place. byte_of (image (Prefix s.live)) place) (locate runs at)) (le_test s.horizon at from)

@@ -1,5 +1,5 @@
 -- The byte at a place of one content, or a gap.
-use Rattle.std.proofs.Common.{◌≡◌, ℕ, ◌+◌, ◌<◌, ◌≤◌, List, length, get_or, Some, None, inl, inr, refl, sym, ◌∙◌, ap, arith}
+use Rattle.std.proofs.Common.{◌≡◌, ℕ, ◌+◌, ◌<◌, ◌≤◌, List, length, get_or, Option, Some, None, inl, inr, refl, sym, ◌∙◌, ap, arith}
 use Rattle.std.proofs.lemmas.Bool.{false≢true, cases_lt}
 use Rattle.std.proofs.lemmas.Option.{slice_get-get_or, slice_get_past}
 use Rattle.std.specs.Prelude.{is_some, IsSome, slice_get}
@@ -33,6 +33,10 @@ past_from content at gap = elim (cases_lt at (size_of content)) [
   | inr past ↦ past
 ]
 
+-- a file that reaches a place reaches each before it
+pub reaches_back : (content : Content) (at last : ℕ) → at ≤ last → IsSome (byte_of content last) → IsSome (byte_of content at)
+reaches_back content at last before there = byte_there content at (omega (arith, within_from content last there, before))
+
 -- two contents with the same bytes at a place, as far as they reach it
 pub same_byte : (old new : Content) (at : ℕ) → at < size_of old → at < size_of new → get_or (bytes_of new) at 0 ≡ get_or (bytes_of old) at 0 → byte_of new at ≡ byte_of old at
 same_byte old new at in_old in_new same = some_byte new at in_new ∙ ap Some same ∙ sym (some_byte old at in_old)
@@ -45,6 +49,32 @@ torn_byte end n at old new torn = record {
     | inl here ↦ same_byte old new at here (omega (arith, here, torn.no_shorter)) (torn.behind at here ge)
     | inr past ↦ no_byte new at (omega (arith, torn.no_longer, ge, past)) ∙ sym (no_byte old at past)
   ];
+}
+
+-- over ranges that hold it, and one torn write after another
+pub torn_nothing : (end n at : ℕ) (byte : Option ℕ) → TornByte end n at byte byte
+torn_nothing end n at byte = record { before = λ lt there i. byte; within = λ there. there; behind = λ ge i. byte }
+
+pub torn_wider : (end n at from long : ℕ) (old new : Option ℕ) → from ≤ end → end + n ≤ from + long → TornByte end n at old new → TornByte from long at old new
+torn_wider end n at from long old new low high torn = record {
+  before = λ lt. torn.before (omega (arith, lt, low));
+  within = torn.within;
+  behind = λ ge. torn.behind (omega (arith, ge, high));
+}
+
+pub torn_twice : (end n at : ℕ) (old mid new : Option ℕ) → TornByte end n at old mid → TornByte end n at mid new → TornByte end n at old new
+torn_twice end n at old mid new first next = record {
+  before = λ lt there. next.before lt (first.within there) ∙ first.before lt there;
+  within = λ there. next.within (first.within there);
+  behind = λ ge. next.behind ge ∙ first.behind ge;
+}
+
+-- the same at another place with the same distance from the write
+pub torn_at : (end n at from place : ℕ) (old new : Option ℕ) → at + from ≡ end + place → TornByte from n place old new → TornByte end n at old new
+torn_at end n at from place old new far torn = record {
+  before = λ lt. torn.before (omega (arith, lt, far));
+  within = torn.within;
+  behind = λ ge. torn.behind (omega (arith, ge, far));
 }
 
 -- the bytes that were written stand there

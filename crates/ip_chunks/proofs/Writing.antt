@@ -1,7 +1,7 @@
--- The calls on the one file that holds all places.
-use Rattle.std.proofs.Common.{◌≡◌, ℕ, ◌+◌, ◌-◌, ◌<◌, ◌≤◌, min, List, length, take, drop, get_or, Some, None, inl, inr, zero, suc, refl, sym, ◌∙◌, ap, subst, arith}
+-- The calls on the chunk of one place, which ask for bytes of that chunk alone.
+use Rattle.std.proofs.Common.{◌≡◌, ℕ, ◌+◌, ◌-◌, ◌<◌, ◌≤◌, min, List, length, take, drop, get_or, Some, None, inl, inr, refl, sym, ◌∙◌, ap, subst, arith}
 use Rattle.std.specs.Prelude.{IsSome, OnOk, OnErr, Result, Ok, Err}
-use Rattle.std.proofs.lemmas.Bool.{cases_lt}
+use Rattle.std.proofs.lemmas.Bool.{cases_lt, cases_eq}
 use Rattle.std.proofs.lemmas.Result.{on_ok_weaker}
 use Rattle.std.proofs.lemmas.List.{length-take, get_or-take, get_or-drop}
 use Rattle.std.proofs.lemmas.Option.{slice_get-get_or}
@@ -9,84 +9,112 @@ use Rattle.ip_ground.specs.declared.names.FileName.TheVariants.{Chunk}
 use Rattle.ip_ground.specs.declared.names.GroundFault.{GroundFault}
 use Rattle.ip_ground.specs.Contents.{Content, Image, bytes_of, size_of, written, Torn}
 use Rattle.ip_ground.specs.Writing.{torn_written}
-use Rattle.ip_ground.specs.Told.{Told, ChangesLeft, IsKept, Only}
-use Rattle.ip_ground.specs.Calls.{Reads, Writes, Syncs}
-use Rattle.ip_ground.proofs.Durable.{IsOwn, sync_syncs}
+use Rattle.ip_ground.specs.Told.{Told, ChangesLeft, Only}
+use Rattle.ip_ground.specs.Calls.{Reads, Writes}
 use Rattle.ip_ground.proofs.Spans.{only_more}
-use Rattle.ip_image.specs.Virtual.{Stands, byte_of}
+use Rattle.ip_image.specs.Virtual.{Stands, byte_of, chunk_of, place_in_chunk}
 use Rattle.ip_chunks.specs.Places.{chunk_start, chunk_byte, IsBetween, NoGap, IsChunkBetween}
-use Rattle.ip_chunks.specs.Effects.{TornByte, TornChunk, Appends, ReadsAt, SyncsRange}
-use Rattle.ip_chunks.proofs.Gaps.{some_byte, no_byte, within_from, byte_there, torn_byte, written_byte}
+use Rattle.ip_chunks.specs.Effects.{TornByte, TornChunk, Appends, ReadsAt}
+use Rattle.ip_chunks.proofs.Borders.{below, chunk_on, place_on, chunk_from_start, together}
+use Rattle.ip_chunks.proofs.Gaps.{some_byte, no_byte, within_from, byte_there, torn_byte, torn_nothing, torn_at, written_byte}
 
--- where no place up to the end is a gap, the file reaches so far
-pub reaches : (size end : ℕ) (image : Image) → NoGap size image (chunk_start size end) end → end ≤ size_of (image (Chunk 0))
+-- where no place of its chunk before it is a gap, the file reaches so far
+pub reaches : (size at : ℕ) → 0 < size → (image : Image) → NoGap size image (chunk_start size at) at → place_in_chunk size at ≤ size_of (image (Chunk (chunk_of size at)))
 unfolding chunk_byte
-reaches size end image no_gap = elim (cases_lt 0 end) [
-  | inl some ↦ let there = within_from (image (Chunk 0)) (end - 1) (no_gap (end - 1) (omega arith, omega (arith, some))) in omega (arith, there, some)
-  | inr none ↦ omega (arith, none)
+reaches size at some image no_gap = elim (cases_lt 0 (place_in_chunk size at)) [
+  | inl behind ↦ by behind
+  | inr first ↦ omega (arith, first)
 ]
+  where
+    by : 0 < place_in_chunk size at → place_in_chunk size at ≤ size_of (image (Chunk (chunk_of size at)))
+    by behind =
+        let before : chunk_start size at ≤ at - 1 = omega (arith, behind) in
+        let same : chunk_of size (at - 1) ≡ chunk_of size at = chunk_from_start size some at (at - 1) before (omega arith) in
+        let there = subst (λ (n : ℕ). IsSome (byte_of (image (Chunk n)) (place_in_chunk size (at - 1)))) same (no_gap (at - 1) (before, omega (arith, behind, start_low))) in
+        let within = within_from (image (Chunk (chunk_of size at))) (place_in_chunk size (at - 1)) there in
+        omega (arith, within, together size some (at - 1) at same, start_low, behind)
+      where
+        start_low : place_in_chunk size at ≤ at
+        start_low = omega arith
 
-module _ (size end : ℕ) (bytes : List ℕ) (some : 0 < length bytes) (a b : Told) (within : end ≤ size_of (a.held (Chunk 0))) (r : Result (Unit {0}) GroundFault) (writes : Writes (Chunk 0) end bytes r a b) where
-  -- each byte is one of before after the write, cut short or not
-  torn_so : (s : Result (Unit {0}) GroundFault) → s ≡ r → Torn end (length bytes) (a.held (Chunk 0)) (b.held (Chunk 0))
-  torn_so (Ok u) is = subst (Torn end (length bytes) (a.held (Chunk 0))) (sym (subst (λ q. OnOk q (b.held (Chunk 0) ≡ written (a.held (Chunk 0)) end bytes)) (sym is) (writes.ok (λ x. x)))) (torn_written (a.held (Chunk 0)) end bytes within)
-  torn_so (Err e) is = subst (λ q. OnErr q (Torn end (length bytes) (a.held (Chunk 0)) (b.held (Chunk 0)))) (sym is) (writes.err (λ x. x))
+module _ (size end : ℕ) (some_size : 0 < size) (bytes : List ℕ) (some : 0 < length bytes) (inside : length bytes ≤ size - place_in_chunk size end) (a b : Told) where
+  abbrev number : ℕ
+  number = chunk_of size end
 
-  torn : Torn end (length bytes) (a.held (Chunk 0)) (b.held (Chunk 0))
-  torn = torn_so r refl
+  abbrev place : ℕ
+  place = place_in_chunk size end
 
-  byte_torn : (at : ℕ) → TornByte end (length bytes) at (chunk_byte size a.held at) (chunk_byte size b.held at)
-  unfolding chunk_byte
-  byte_torn at = torn_byte end (length bytes) at (a.held (Chunk 0)) (b.held (Chunk 0)) torn
+  module _ (within : place ≤ size_of (a.held (Chunk number))) (r : Result (Unit {0}) GroundFault) (writes : Writes (Chunk number) place bytes r a b) where
+    -- each byte is one of before after the write, cut short or not
+    torn_so : (s : Result (Unit {0}) GroundFault) → s ≡ r → Torn place (length bytes) (a.held (Chunk number)) (b.held (Chunk number))
+    torn_so (Ok u) is =
+        subst (Torn place (length bytes) (a.held (Chunk number))) (sym (subst (λ q. OnOk q (b.held (Chunk number) ≡ written (a.held (Chunk number)) place bytes)) (sym is) (writes.ok (λ x. x))))
+        (torn_written (a.held (Chunk number)) place bytes within)
+    torn_so (Err e) is = subst (λ q. OnErr q (Torn place (length bytes) (a.held (Chunk number)) (b.held (Chunk number)))) (sym is) (writes.err (λ x. x))
 
-  there : (at : ℕ) → at < end → IsSome (chunk_byte size a.held at)
-  unfolding chunk_byte
-  there at lt = byte_there (a.held (Chunk 0)) at (omega (arith, lt, within))
+    torn : Torn place (length bytes) (a.held (Chunk number)) (b.held (Chunk number))
+    torn = torn_so r refl
 
-  stays : (at : ℕ) → ¬ IsBetween end (end + length bytes) at → chunk_byte size b.held at ≡ chunk_byte size a.held at
-  stays at outside = elim (cases_lt at end) [
-    | inl before ↦ (byte_torn at).before before (there at before)
-    | inr from ↦ elim (cases_lt at (end + length bytes)) [ inl inside ↦ absurd (outside (from, inside)) | inr behind ↦ (byte_torn at).behind behind ]
-  ]
+    -- at a place of the chunk, and at one of another
+    torn_here : (at : ℕ) → chunk_of size at ≡ number → (old new : Content) → Torn place (length bytes) old new → TornByte end (length bytes) at (byte_of old (place_in_chunk size at)) (byte_of new (place_in_chunk size at))
+    torn_here at same old new step =
+        torn_at end (length bytes) at place (place_in_chunk size at) (byte_of old (place_in_chunk size at)) (byte_of new (place_in_chunk size at)) (together size some_size at end same)
+        (torn_byte place (length bytes) (place_in_chunk size at) old new step)
 
-  stand_then : b.held (Chunk 0) ≡ written (a.held (Chunk 0)) end bytes → Stands (chunk_byte size b.held) end bytes
-  unfolding chunk_byte
-  stand_then is k lt = ap (λ content. byte_of content (end + k)) is ∙ written_byte (a.held (Chunk 0)) end bytes within k lt
+    not_it : (other : ℕ) → (other ≡ number → ⊥) → ¬ Only (Chunk number) (Chunk other)
+    not_it other apart is = apart (cc (is))
 
-  left : (number : ℕ) → ChangesLeft (TornChunk size end (length bytes) number) a b (Chunk number)
-  left number = elim (cases_lt 0 number) [
-    | inl other ↦ λ moment content after le may.
-        let same = (writes.only.others (Chunk number) (λ is. absurd (not_first number other is))).left (λ x. x) moment content after le may in
-        (content, same, λ at here. absurd (omega (arith, here, other)))
-    | inr first ↦ λ moment content after le may.
-        let is : Chunk number ≡ Chunk 0 = ap Chunk (omega (arith, first)) in
-        let was = writes.left (λ x. x) moment content after le (subst (λ f. b.may_leave moment f content) is may) in
-        (was.0, subst (λ f. a.may_leave a.moment f was.0) (sym is) was.1, λ at here. torn_byte end (length bytes) at was.0 content was.2)
-  ]
-    where
-      not_first : (number : ℕ) → 0 < number → Chunk number ≡ Chunk 0 → ⊥
-      not_first zero some is = omega (arith, some)
-      not_first (suc n) some is = cc (is)
+    elsewhere : (at : ℕ) → (chunk_of size at ≡ number → ⊥) → chunk_byte size b.held at ≡ chunk_byte size a.held at
+    unfolding chunk_byte
+    elsewhere at apart = ap (λ content. byte_of content (place_in_chunk size at)) ((writes.only.others (Chunk (chunk_of size at)) (not_it (chunk_of size at) apart)).held (λ x. x))
 
-  pub appends : Appends size end bytes r a b
-  appends = record {
-    only = only_more a b (Only (Chunk 0)) (IsChunkBetween size end (end + length bytes)) (λ f is. (end, (omega arith, omega (arith, some)), is)) writes.only;
-    ok = on_ok_weaker r stand_then (writes.ok (λ x. x));
-    others = stays;
-    no_new_gap = λ at. (byte_torn at).within;
-    left = left;
-  }
+    byte_torn : (at : ℕ) → chunk_of size at ≡ number → TornByte end (length bytes) at (chunk_byte size a.held at) (chunk_byte size b.held at)
+    unfolding chunk_byte
+    byte_torn at same = torn_here at same (a.held (Chunk (chunk_of size at))) (b.held (Chunk (chunk_of size at))) (subst (λ (n : ℕ). Torn place (length bytes) (a.held (Chunk n)) (b.held (Chunk n))) (sym same) torn)
 
--- a chunk is no attempt's
-own_chunk : IsOwn (Chunk 0)
-own_chunk = record { own = λ told x. x; firm = λ told x. x; unmarked = λ attempt custody i. custody }
+    there : (at : ℕ) → chunk_of size at ≡ number → at < end → IsSome (chunk_byte size a.held at)
+    unfolding chunk_byte
+    there at same lt =
+        let near : place_in_chunk size at < place = omega (arith, together size some_size at end same, lt) in
+        byte_there (a.held (Chunk (chunk_of size at))) (place_in_chunk size at) (subst (λ (n : ℕ). place_in_chunk size at < size_of (a.held (Chunk n))) (sym same) (omega (arith, near, within)))
 
-pub syncs_range : (size from to : ℕ) → from < to → (a b : Told) (r : Result (Unit {0}) GroundFault) → Syncs (Chunk 0) r a b → SyncsRange size from to r a b
-syncs_range size from to some a b r syncs =
-    let of_it = sync_syncs (Chunk 0) own_chunk r a b syncs in
-    record {
-      only = record { changes = only_more a b (Only (Chunk 0)) (IsChunkBetween size from to) (λ f is. (from, (omega arith, some), is)) of_it.changes; files = of_it.files };
-      ok = on_ok_weaker r (λ kept file is. subst (λ f. IsKept b f) (sym is.2) kept) (syncs.ok (λ x. x));
+    stays_here : (at : ℕ) → ¬ IsBetween end (end + length bytes) at → chunk_of size at ≡ number → chunk_byte size b.held at ≡ chunk_byte size a.held at
+    stays_here at outside same = elim (cases_lt at end) [
+      | inl before ↦ (byte_torn at same).before before (there at same before)
+      | inr from ↦ elim (cases_lt at (end + length bytes)) [ inl inside ↦ absurd (outside (from, inside)) | inr behind ↦ (byte_torn at same).behind behind ]
+    ]
+
+    stays : (at : ℕ) → ¬ IsBetween end (end + length bytes) at → chunk_byte size b.held at ≡ chunk_byte size a.held at
+    stays at outside = elim (cases_eq (chunk_of size at) number) [ inl same ↦ stays_here at outside same | inr apart ↦ elsewhere at apart ]
+
+    no_new_gap : (at : ℕ) → IsSome (chunk_byte size a.held at) → IsSome (chunk_byte size b.held at)
+    no_new_gap at was = elim (cases_eq (chunk_of size at) number) [ inl same ↦ (byte_torn at same).within was | inr apart ↦ subst IsSome (sym (elsewhere at apart)) was ]
+
+    stand_then : b.held (Chunk number) ≡ written (a.held (Chunk number)) place bytes → Stands (chunk_byte size b.held) end bytes
+    unfolding chunk_byte
+    stand_then is k lt =
+        let fits : place + k < size = omega (arith, inside, lt, below size some_size end) in
+        ap (λ (n : ℕ). byte_of (b.held (Chunk n)) (place_in_chunk size (end + k))) (chunk_on size some_size end k fits)
+        ∙ ap (λ (p : ℕ). byte_of (b.held (Chunk number)) p) (place_on size some_size end k fits)
+        ∙ ap (λ content. byte_of content (place + k)) is ∙ written_byte (a.held (Chunk number)) place bytes within k lt
+
+    left_here : ChangesLeft (TornChunk size end (length bytes) number) a b (Chunk number)
+    left_here moment content after le may = let was = writes.left (λ x. x) moment content after le may in (was.0, was.1, λ at same. torn_here at same was.0 content was.2)
+
+    left : (other : ℕ) → ChangesLeft (TornChunk size end (length bytes) other) a b (Chunk other)
+    left other = elim (cases_eq other number) [
+      | inl same ↦ subst (λ (n : ℕ). ChangesLeft (TornChunk size end (length bytes) n) a b (Chunk n)) (sym same) left_here
+      | inr apart ↦ λ moment content after le may.
+          (content, (writes.only.others (Chunk other) (not_it other apart)).left (λ x. x) moment content after le may, λ at here. torn_nothing end (length bytes) at (byte_of content (place_in_chunk size at)))
+    ]
+
+    pub appends : Appends size end bytes r a b
+    appends = record {
+      only = only_more a b (Only (Chunk number)) (IsChunkBetween size end (end + length bytes)) (λ f is. (end, (omega arith, omega (arith, some)), is)) writes.only;
+      ok = on_ok_weaker r stand_then (writes.ok (λ x. x));
+      others = stays;
+      no_new_gap = no_new_gap;
+      left = left;
     }
 
 -- what a read of the file gives
@@ -101,20 +129,34 @@ module _ (at n : ℕ) (out filled : List ℕ) (here : Content) (count : n ≡ mi
   pub gap_behind : n < length out → byte_of here (at + n) ≡ None
   gap_behind short = no_byte here (at + n) (omega (arith, count, short))
 
-module _ (size at : ℕ) (out filled : List ℕ) (a b : Told) where
-  pub reads_at : (r : Result ℕ GroundFault) → Reads (Chunk 0) at out filled r a b → ReadsAt size at out filled r a b
+module _ (size at : ℕ) (some : 0 < size) (out filled : List ℕ) (inside : length out ≤ size - place_in_chunk size at) (a b : Told) where
+  -- the bytes at places behind the first, as they lie in its chunk
+  byte_on : (k : ℕ) → k < length out → chunk_byte size a.held (at + k) ≡ byte_of (a.held (Chunk (chunk_of size at))) (place_in_chunk size at + k)
   unfolding chunk_byte
+  byte_on k lt =
+      let fits : place_in_chunk size at + k < size = omega (arith, inside, lt, below size some at) in
+      ap (λ (n : ℕ). byte_of (a.held (Chunk n)) (place_in_chunk size (at + k))) (chunk_on size some at k fits)
+      ∙ ap (λ (p : ℕ). byte_of (a.held (Chunk (chunk_of size at))) p) (place_on size some at k fits)
+
+  pub reads_at : (r : Result ℕ GroundFault) → Reads (Chunk (chunk_of size at)) (place_in_chunk size at) out filled r a b → ReadsAt size at out filled r a b
   reads_at (Err e) reads = record { only = reads.only; bytes = tt; gap = tt }
-  reads_at (Ok n) reads = record { only = reads.only; bytes = bytes_stand at n out filled here count taken; gap = gap_behind at n out filled here count taken }
+  reads_at (Ok n) reads = record {
+    only = reads.only;
+    bytes = λ k lt. byte_on k (omega (arith, lt, length-take n filled, count)) ∙ bytes_stand place n out filled here count taken k lt;
+    gap = λ short. byte_on n short ∙ gap_behind place n out filled here count taken short;
+  }
     where
+      place : ℕ
+      place = place_in_chunk size at
+
       here : Content
-      here = a.held (Chunk 0)
+      here = a.held (Chunk (chunk_of size at))
 
-      same : b.held (Chunk 0) ≡ here
-      same = (reads.only.others (Chunk 0) (λ none. none)).held (λ x. x)
+      same : b.held (Chunk (chunk_of size at)) ≡ here
+      same = (reads.only.others (Chunk (chunk_of size at)) (λ none. none)).held (λ x. x)
 
-      count : n ≡ min (length out) (size_of here - at)
-      count = subst (λ content. n ≡ min (length out) (size_of content - at)) same reads.count
+      count : n ≡ min (length out) (size_of here - place)
+      count = subst (λ content. n ≡ min (length out) (size_of content - place)) same reads.count
 
-      taken : take n filled ≡ take n (drop at (bytes_of here))
-      taken = subst (λ content. take n filled ≡ take n (drop at (bytes_of content))) same reads.bytes
+      taken : take n filled ≡ take n (drop place (bytes_of here))
+      taken = subst (λ content. take n filled ≡ take n (drop place (bytes_of content))) same reads.bytes

@@ -1,14 +1,14 @@
 -- What each call does to the list of bytes: as a write, a read and a sync do to a file.
 --     TornByte end n at old new      the byte at a place, before and after an append of n bytes at `end` that may have been cut short
---     Appends, ReadsAt, SyncsRange      what the calls do to what is told
-use Rattle.std.specs.Prelude.{◌≡◌, ℕ, ◌+◌, ◌<◌, ◌≤◌, List, length, take, Option, None, IsSome, Result, IfOk, OnOk}
+--     Appends, ReadsAt, SyncsRange, Sweeps      what the calls do to what is told
+use Rattle.std.specs.Prelude.{◌≡◌, ◌⊎◌, ℕ, ◌+◌, ◌<◌, ◌≤◌, List, length, take, Contains, Option, None, IsSome, Result, IfOk, OnOk}
 use Rattle.ip_ground.specs.declared.names.FileName.{FileName}
 use Rattle.ip_ground.specs.declared.names.FileName.TheVariants.{Chunk}
 use Rattle.ip_ground.specs.declared.names.GroundFault.{GroundFault}
 use Rattle.ip_ground.specs.Contents.{Content}
 use Rattle.ip_ground.specs.Told.{Told, ChangesLeft, IsKept, NoFile, ChangesOnly, SyncsOnly}
 use Rattle.ip_image.specs.Virtual.{Stands, chunk_of}
-use Rattle.ip_chunks.specs.Places.{byte_in, chunk_byte, IsBetween, IsChunkBetween}
+use Rattle.ip_chunks.specs.Places.{byte_in, chunk_byte, IsBetween, IsChunkBetween, IsChunkNumbered}
 
 -- A byte in front of `end` stays, one from there on may become any other, and behind the n bytes all is as it was, gaps too. A crash
 -- may leave any byte in the place of a gap in front of `end`.
@@ -41,3 +41,13 @@ pub record ReadsAt (size at : ℕ) (out filled : List ℕ) (result : Result ℕ 
 pub record SyncsRange (size from to : ℕ) (result : Result (Unit {0}) GroundFault) (old new : Told) : Type 0 where
   pub only : SyncsOnly (IsChunkBetween size from to) old new
   pub ok : OnOk result ((file : FileName) → IsChunkBetween size from to file → IsKept new file)
+
+-- A removal that failed may have left its chunk or not, and a crash may leave a chunk of the range as before or none. No other file
+-- changes, nor any byte of a chunk that is left.
+pub record Sweeps (from to left : ℕ) (old new : Told) : Type 0 where
+  pub only : ChangesOnly (IsChunkNumbered from to) old new
+  pub none_left : left ≡ 0 → (number : ℕ) → IsBetween from to number → new.held (Chunk number) ≡ None
+  -- all are absent but so many at most
+  pub all_but : (those : List ℕ) × (length those ≡ left) × ((number : ℕ) → IsBetween from to number → (new.held (Chunk number) ≡ None) ⊎ Contains those number)
+  pub same : (number : ℕ) → IsBetween from to number → (new.held (Chunk number) ≡ old.held (Chunk number)) ⊎ (new.held (Chunk number) ≡ None)
+  pub crash : (number : ℕ) → IsBetween from to number → ChangesLeft (λ before content. (content ≡ before) ⊎ (content ≡ None)) old new (Chunk number)

@@ -1,16 +1,12 @@
 // The list of bytes, and its four calls.
-ghost use Rattle.std.specs.Prelude.{◌≡◌, ◌+◌, ◌^◌, ◌≤◌, Ok, IsTrue, IfOk, OnErr, length};
+ghost use Rattle.std.specs.Prelude.{◌≡◌, ◌+◌, ◌-◌, ◌^◌, ◌<◌, ◌≤◌, min, Ok, IsTrue, IfOk, OnErr, length};
 ghost use Rattle.ip_ground.specs.Counts.{NoneFalls, Rose, RoseBy};
-ghost use Rattle.ip_ground.specs.Told.{ChangesOnly};
 ghost use Rattle.ip_image.specs.Slot.{IsChunkSize};
 ghost use Rattle.ip_image.specs.Virtual.{place_in_chunk};
-ghost use Rattle.ip_chunks.specs.Places.{chunk_start, chunk_file, NoGap, IsChunkNumbered};
-ghost use Rattle.ip_chunks.specs.Effects.{Appends, ReadsAt, SyncsRange};
+ghost use Rattle.ip_chunks.specs.Places.{chunk_start, chunk_file, NoGap};
+ghost use Rattle.ip_chunks.specs.Effects.{Appends, ReadsAt, SyncsRange, Sweeps};
 
 use ip_ground::{FileName, Ground, GroundFault};
-
-// The file of all places, for now.
-const SPACE: FileName = FileName::Chunk(0);
 
 /// The chunk files of a store as one list of bytes. The size of a chunk, in bytes, is a power of two from 4096 to 2^30; each call
 /// asks for such a one.
@@ -26,11 +22,20 @@ impl Chunks {
         requires { IsChunkSize self.now.size }
         ensures { result ≡ (chunk_file self.now.size at, place_in_chunk self.now.size at) }
     {
-        (SPACE, at)
+        (FileName::Chunk(at / self.size), at % self.size)
     }
 
-    /// Writes the bytes at the place `end` of the list. What it does is told where there is no gap from the start of its chunk up to `end`.
-    /// What is written is pending until the chunks are synced, and after a fault any bytes may stand in its place.
+    // How many of so many bytes from a place on lie in the chunk of that place.
+    fn within(&self, at: u64, count: usize) -> usize
+        requires { IsChunkSize self.now.size }
+        ensures { result ≡ min count (self.now.size - place_in_chunk self.now.size at) }
+    {
+        (count as u64).min(self.size - at % self.size) as usize
+    }
+
+    /// Writes the bytes at the place `end` of the list, by one write for each chunk. What it does is told where there is no gap from the
+    /// start of its chunk up to `end`. What is written is pending until the chunks are synced, and after a fault any bytes may stand in
+    /// its place.
     pub fn append<G: Ground>(
         &self,
         outside: &mut G,
@@ -44,14 +49,37 @@ impl Chunks {
         ensures counts { NoneFalls (G.counts_of outside.old) (G.counts_of outside.new) }
         ensures cause { OnErr result (Rose (G.counts_of outside.old).file_faults (G.counts_of outside.new).file_faults) }
     {
-        if bytes.is_empty() {
-            return Ok(());
+        let mut done = 0;
+        while done < bytes.len() {
+            let at = end + done as u64;
+            let count = self.within(at, bytes.len() - done);
+            self.write_piece(outside, at, &bytes[done..done + count])?;
+            done += count;
         }
-        outside.write(SPACE, end, bytes)
+        Ok(())
+    }
+
+    // Appends bytes that lie in one chunk.
+    fn write_piece<G: Ground>(
+        &self,
+        outside: &mut G,
+        at: u64,
+        bytes: &[u8],
+    ) -> Result<(), GroundFault>
+        requires allowed { IsChunkSize self.now.size }
+        requires room { at + length bytes.now ≤ 2 ^ 62 }
+        requires some { 0 < length bytes.now }
+        requires within { length bytes.now ≤ self.now.size - place_in_chunk self.now.size at }
+        ensures does { IsTrue G.tells → NoGap self.now.size (G.told outside.old).held (chunk_start self.now.size at) at → Appends self.now.size at bytes.now result (G.told outside.old) (G.told outside.new) }
+        ensures counts { NoneFalls (G.counts_of outside.old) (G.counts_of outside.new) }
+        ensures cause { OnErr result (Rose (G.counts_of outside.old).file_faults (G.counts_of outside.new).file_faults) }
+    {
+        let (file, place) = self.file_of(at);
+        outside.write(file, place, bytes)
     }
 
     /// Copies the bytes from the place `at` on, up to the first gap, into `out`, and says how many: fewer than `out` takes exactly
-    /// where a gap comes before.
+    /// where a gap comes before. It makes one read for each chunk.
     pub fn read_at<G: Ground>(
         &self,
         outside: &mut G,
@@ -65,11 +93,40 @@ impl Chunks {
         ensures counts { NoneFalls (G.counts_of outside.old) (G.counts_of outside.new) }
         ensures cause { OnErr result (Rose (G.counts_of outside.old).file_faults (G.counts_of outside.new).file_faults) }
     {
-        outside.read(SPACE, at, out)
+        let mut done = 0;
+        while done < out.len() {
+            let from = at + done as u64;
+            let count = self.within(from, out.len() - done);
+            let got = self.read_piece(outside, from, &mut out[done..done + count])?;
+            done += got;
+            if got < count {
+                return Ok(done);
+            }
+        }
+        Ok(done)
     }
 
-    /// Syncs the chunks that hold a place from `from` up to, and without, `to`, and no others; none where there is no such place. After
-    /// a fault some of them may be synced and others not.
+    // Copies bytes of one chunk.
+    fn read_piece<G: Ground>(
+        &self,
+        outside: &mut G,
+        at: u64,
+        out: &mut [u8],
+    ) -> Result<usize, GroundFault>
+        requires allowed { IsChunkSize self.now.size }
+        requires room { at + length out.old ≤ 2 ^ 62 }
+        requires within { length out.old ≤ self.now.size - place_in_chunk self.now.size at }
+        ensures does { IsTrue G.tells → ReadsAt self.now.size at out.old out.new result (G.told outside.old) (G.told outside.new) }
+        ensures fits { IfOk result (λ n. n ≤ length out.old) }
+        ensures counts { NoneFalls (G.counts_of outside.old) (G.counts_of outside.new) }
+        ensures cause { OnErr result (Rose (G.counts_of outside.old).file_faults (G.counts_of outside.new).file_faults) }
+    {
+        let (file, place) = self.file_of(at);
+        outside.read(file, place, out)
+    }
+
+    /// Syncs the chunks that hold a place from `from` up to, and without, `to`, each once, and no others; none where there is no such
+    /// place. After a fault some of them may be synced and others not.
     pub fn sync_range<G: Ground>(
         &self,
         outside: &mut G,
@@ -86,20 +143,26 @@ impl Chunks {
         if from >= to {
             return Ok(());
         }
-        outside.sync(SPACE)
+        let last = (to - 1) / self.size;
+        for number in from / self.size..last + 1 {
+            outside.sync(FileName::Chunk(number))?;
+        }
+        Ok(())
     }
 
-    /// Removes the chunks numbered from `from` up to, and without, `to`, which nobody may need any more, and says how many are left since their
-    /// removal failed. While one file holds all places there is none to remove.
-    pub fn sweep<G: Ground>(&self, outside: &mut G, from: u64, to: u64) -> Result<u64, GroundFault>
-        requires allowed { IsChunkSize self.now.size }
-        ensures only { IsTrue G.tells → ChangesOnly (IsChunkNumbered from to) (G.told outside.old) (G.told outside.new) }
-        ensures left { IfOk result (λ n. RoseBy n (G.counts_of outside.old).remove_faults (G.counts_of outside.new).remove_faults) }
-        // While one file holds all places.
-        ensures nothing { (result ≡ Ok 0) × (outside.new ≡ outside.old) }
+    /// Removes the chunks numbered from `from` up to, and without, `to`, which nobody may need any more, and says how many may be left, since
+    /// their removal failed. A removal is pending until it is synced.
+    pub fn sweep<G: Ground>(&self, outside: &mut G, from: u64, to: u64) -> u64
+        ensures does { IsTrue G.tells → Sweeps from to result (G.told outside.old) (G.told outside.new) }
+        ensures left { RoseBy result (G.counts_of outside.old).remove_faults (G.counts_of outside.new).remove_faults }
         ensures counts { NoneFalls (G.counts_of outside.old) (G.counts_of outside.new) }
-        ensures cause { OnErr result (Rose (G.counts_of outside.old).file_faults (G.counts_of outside.new).file_faults) }
     {
-        Ok(0)
+        let mut left = 0;
+        for number in from..to {
+            if outside.remove(FileName::Chunk(number)).is_err() {
+                left += 1;
+            }
+        }
+        left
     }
 }

@@ -1,6 +1,5 @@
 //! The chunk files seen as one list of bytes with gaps: a place, counted from 0, has a byte where the file of its chunk
 //! reaches it, and is a gap where that file is absent or too short. No call takes memory, and each fault is one of the ground.
-//! For now one file holds all places, whatever the chunk size.
 #![tactic(auto)]
 
 ghost use Rattle.std.specs.Prelude.{◌≡◌, ◌↔◌, ◌+◌, ◌≤◌, ℕ, List, length};

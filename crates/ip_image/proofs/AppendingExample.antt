@@ -1,5 +1,5 @@
 -- The law of the next commit, on the first commit of a fresh store: its premises hold, and it gives the store that was stored.
-use Rattle.std.proofs.Common.{Option, ◌≡◌, ℕ, ◌<◌, [], ◌∷◌, refl, sym, ap, subst, ◌∙◌, Some, None, lit<, lit≤, arith}
+use Rattle.std.proofs.Common.{Option, ◌≡◌, ℕ, ◌<◌, [], ◌∷◌, length, ◌+◌, refl, sym, ap, subst, ◌∙◌, Some, None, lit<, lit≤, arith}
 use Rattle.std.proofs.lemmas.Bool.{false≢true}
 use Rattle.std.proofs.lemmas.List.Elements.{All-from_recursion}
 use Rattle.std.specs.Prelude.{codes, is_some}
@@ -19,10 +19,9 @@ use Rattle.ip_spec.proofs.Subtrees.{get-no_tree, lawful_put}
 use Rattle.ip_image.specs.Slot.{layout_of, fresh, fresh_control}
 use Rattle.ip_image.specs.Standing.{StandsFor, IsServedKind}
 use Rattle.ip_image.specs.Collection.{image_runs}
-use Rattle.ip_image.specs.Virtual.{chunk_byte}
 use Rattle.ip_image.specs.Pending.{HasLive}
 use Rattle.ip_image.specs.Appending.{SameGeneration, AddsBytes, unread, MayGrow, fields_of, grown_batch, grown_end, bytes_of_records, AreWithin}
-use Rattle.ip_image.proofs.InChunk.{chunk_lies, lies_below}
+use Rattle.ip_image.proofs.InChunk.{chunk_lies, lies_below, first_chunk_byte}
 use Rattle.ip_image.proofs.FreshLaws.{fresh_stands, is_live}
 use Rattle.ip_image.proofs.AppendingLaws.{stands_grown}
 use Rattle.ip_image.proofs.KeptRuns.{get_behind}
@@ -103,12 +102,14 @@ within = All-from_recursion (λ (x : ℕ × Record). Fits 1 x.1 × IsServedKind 
   ((good.1.0.bounds, good.1.0.served), ((good.1.1.0.bounds, good.1.1.0.served), ((good.1.1.1.0.bounds, good.1.1.1.0.served), tt))),
 )
 
+small : length chunk0 ≡ 144
+small = refl
+
 -- none stood there before
 adds : AddsBytes (fresh 4096) chunk0 fresh_image image
-unfolding chunk_byte
 adds = record {
   same = record { chunks = λ at low high. absurd (none_below at high); mapping = λ some. absurd (some refl); prefix = λ some. absurd (some refl) };
-  added = λ k l. get_behind [] chunk0 k;
+  added = λ k l. first_chunk_byte image (0 + k) (omega (arith, l, small)) ∙ get_behind [] chunk0 k;
 }
 
 after_live : HasLive slot image

@@ -31,7 +31,7 @@ use Rattle.ip_image.specs.Collection.{image_runs}
 use Rattle.ip_image.specs.Pending.{HasLive}
 use Rattle.ip_image.specs.Appending.{SameGeneration, AddsBytes, unread, MayGrow, fields_of, grown_batch, grown_end, bytes_of_records, AreWithin}
 use Rattle.ip_image.proofs.OneRepository.{good_fit, same_stretch}
-use Rattle.ip_image.proofs.InChunk.{lies_in_chunk, lies_below, chunk_lies, chunk_good}
+use Rattle.ip_image.proofs.InChunk.{lies_in_chunk, lies_below, chunk_lies, chunk_good, first_chunk_byte}
 use Rattle.ip_image.proofs.TreeBatch.{found_below}
 use Rattle.ip_image.proofs.AppendingLaws.{stands_grown}
 use Rattle.ip_image.proofs.KeptRuns.{get_front, get_behind}
@@ -297,11 +297,15 @@ first_known : KnownStand (present starts.standing.records) (unread first_tree) 0
 first_known = nothing_known (present starts.standing.records) first_tree 0
     (λ at r is. lies_below fresh_image (layout_of (fresh 4096)) (lit≤ tt) starts.standing.records (chunk_lies fresh_image (fresh 4096) fresh_live starts.standing) at r is)
 
+first_length : length first_chunk ≡ 197
+unfolding image_runs shape_runs
+first_length = refl
+
 first_adds : AddsBytes (fresh 4096) first_chunk fresh_image first_image
-unfolding chunk_byte first_image
+unfolding first_image
 first_adds = record {
   same = record { chunks = λ at low high. absurd (none_below at high); mapping = λ some. absurd (some refl); prefix = λ some. absurd (some refl) };
-  added = λ k l. get_behind [] first_chunk k;
+  added = λ k l. first_chunk_byte first_image (0 + k) (omega (arith, l, first_length)) ∙ get_behind [] first_chunk k;
 }
 
 the_first : (stands : StandsFor first_image after_first) × (stands.standing.records ≡ starts.standing.records ++ grown_batch (unread first_tree) first_fields 0)
@@ -364,19 +368,20 @@ second_known = record {
     parts p [] at false false x_is y_is known is = absurd (false≢true (ap is_some known))
     parts p (i ∷ indexes) at x y x_is y_is known is = absurd (false≢true (ap is_some known))
 
-first_length : length first_chunk ≡ 197
+second_length : length (bytes_of_records second_records) ≡ 228
 unfolding image_runs shape_runs
-first_length = refl
+second_length = refl
 
 second_adds : AddsBytes first_slot (bytes_of_records second_records) first_image second_image
-unfolding chunk_byte first_image second_image
+unfolding first_image second_image
 second_adds = record {
   same = record {
-    chunks = λ at low high. get_front first_chunk (bytes_of_records second_records) at (subst (λ (n : ℕ). at < n) (sym first_length) high);
+    chunks = λ at low high. first_chunk_byte second_image at (omega (arith, high)) ∙ get_front first_chunk (bytes_of_records second_records) at (subst (λ (n : ℕ). at < n) (sym first_length) high)
+        ∙ sym (first_chunk_byte first_image at (omega (arith, high)));
     mapping = λ some. absurd (some refl);
     prefix = λ some. absurd (some refl);
   };
-  added = λ k l. ap (λ n. slice_get second_chunk (n + k)) (sym first_length) ∙ get_behind first_chunk (bytes_of_records second_records) k;
+  added = λ k l. first_chunk_byte second_image (197 + k) (omega (arith, l, second_length)) ∙ ap (λ n. slice_get second_chunk (n + k)) (sym first_length) ∙ get_behind first_chunk (bytes_of_records second_records) k;
 }
 
 on_from_first : SameGeneration first_slot second_slot

@@ -9,6 +9,7 @@
 --     chunk_lies, chunk_good      the records of an image that stands, there.      space_filled      from the horizon to the end no byte is missing
 --     ends_append, ends_filled      records that lie end to end, behind others; no byte of theirs is missing
 --     ordered_below      records in order are present below their end.      byte_is, byte_inside, all_inside      the bytes of a file, and how far they go
+--     first_chunk_byte      in chunks of 4096 bytes the first places are those of the first chunk
 use Rattle.std.proofs.Common.{◌≡◌, ◌≢◌, ◌⊎◌, inl, inr, ℕ, ◌+◌, ◌-◌, ◌<◌, ◌≤◌, List, [], ◌∷◌, ◌++◌, refl, sym, ap, subst, ◌∙◌, Option, Some, None, Bool, true, false, cond, length, arith, append_assoc, length-append, map}
 use Rattle.std.proofs.lemmas.Bool.{false≢true, cases_lt}
 use Rattle.std.proofs.lemmas.Option.{slice_get-get_or, slice_get_within}
@@ -20,6 +21,7 @@ use Rattle.std.specs.FinMap.{nat_cmp-IsAntisymmetric}
 use Rattle.std.specs.FinMap.Entries.{find}
 use Rattle.std.specs.declared.cmp.Ordering.{Ordering}
 use Rattle.std.specs.declared.cmp.Ordering.TheVariants.{Less, Equal, Greater}
+use Rattle.ip_ground.specs.declared.names.FileName.TheVariants.{Chunk}
 use Rattle.ip_ground.specs.Contents.{Content, Image, bytes_of, size_of}
 use Rattle.ip_spec.specs.declared.record.Record.{Record}
 use Rattle.ip_spec.specs.Path.{Bytes}
@@ -28,7 +30,7 @@ use Rattle.ip_spec.specs.Batch.{AreEndToEnd}
 use Rattle.ip_spec.specs.TreeAt.{Records, present}
 use Rattle.ip_spec.specs.Repository.{Repository}
 use Rattle.ip_image.specs.Slot.{Slot, Layout, layout_of}
-use Rattle.ip_image.specs.Virtual.{Run, Row, Stands, run_of, mapping_file, locate, byte_of, chunk_byte, virtual_byte}
+use Rattle.ip_image.specs.Virtual.{Run, Row, Stands, run_of, mapping_file, locate, byte_of, chunk_of, place_in_chunk, chunk_byte, virtual_byte}
 use Rattle.ip_image.specs.Standing.{EndToEnd, RunByRun, AreGood, WholeFits, Generation, stretches, named, commits_in, Spells, Standing, StandsFor}
 use Rattle.ip_image.specs.Pending.{HasLive, SameSpace}
 use Rattle.ip_image.specs.Appending.{SameGeneration, AddsBytes, bytes_of_records}
@@ -282,3 +284,10 @@ module _ (image : Image) (s : Slot) (live : HasLive s image) where
     pub same_standing : stands_by.standing.records ≡ chunk.records
     unfolding standing_by stands_by
     same_standing = refl
+
+pub first_chunk_byte : (image : Image) (at : ℕ) → at < 4096 → chunk_byte 4096 image at ≡ byte_of (image (Chunk 0)) at
+unfolding chunk_byte
+first_chunk_byte image at small =
+    let chunk : chunk_of 4096 at ≡ 0 = omega (arith, small) in
+    let place : place_in_chunk 4096 at ≡ at = omega (arith, small) in
+    ap (λ (number : ℕ). byte_of (image (Chunk number)) (place_in_chunk 4096 at)) chunk ∙ ap (byte_of (image (Chunk 0))) place

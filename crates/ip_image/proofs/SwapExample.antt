@@ -23,6 +23,7 @@ use Rattle.ip_image.specs.Appending.{SameGeneration, AddsBytes}
 use Rattle.ip_image.specs.Collected.{HasTable, IsCollectable, IsSwapped, remaining}
 use Rattle.ip_image.proofs.DamageLaws.{slot_is}
 use Rattle.ip_image.proofs.PairLaws.{Has}
+use Rattle.ip_image.proofs.InChunk.{first_chunk_byte}
 use Rattle.ip_image.proofs.KeptRuns.{get_front, get_behind}
 use Rattle.ip_image.proofs.StoreExample as Store
 use Rattle.ip_image.proofs.StoreExample.{the_commit, repository, is_main}
@@ -137,10 +138,11 @@ old_live : HasLive Store.slot Store.image
 old_live = record { control = Store.control; index = 1; held = refl; live = Store.live }
 
 first_adds : AddsBytes Store.slot (spelling the_table) Store.image image
-unfolding chunk_byte chunk0
+unfolding chunk0
 first_adds = record {
-  same = record { chunks = λ at low high. get_front Store.chunk0 table_bytes at high; mapping = λ some. absurd (some refl); prefix = λ some. absurd (some refl) };
-  added = subst (λ (bytes : Bytes). (k : ℕ) → k < length bytes → slice_get (Store.chunk0 ++ table_bytes) (144 + k) ≡ slice_get bytes k) (sym table_spelled) (λ k l. get_behind Store.chunk0 table_bytes k);
+  same = record { chunks = λ at low high. first_chunk_byte image at (omega (arith, high)) ∙ get_front Store.chunk0 table_bytes at high ∙ sym (first_chunk_byte Store.image at (omega (arith, high))); mapping = λ some. absurd (some refl); prefix = λ some. absurd (some refl) };
+  added = subst (λ (bytes : Bytes). (k : ℕ) → k < length bytes → chunk_byte 4096 image (144 + k) ≡ slice_get bytes k) (sym table_spelled)
+      (λ k l. first_chunk_byte image (144 + k) (omega (arith, l)) ∙ get_behind Store.chunk0 table_bytes k);
 }
 
 first_generation : SameGeneration Store.slot slot
@@ -222,8 +224,7 @@ first_swap : IsSwapped slot swapped_slot 0 59 1 Valid.kept pair
 first_swap = record { version = refl; chunk = refl; horizon = refl; end = refl; floor = refl; next = refl; live = refl; prefix_len = sym prefix_length; rows = sym kept_runs }
 
 first_chunks : SameChunks 4096 59 164 image swapped_image
-unfolding chunk_byte
-first_chunks = λ at low high. refl
+first_chunks = λ at low high. first_chunk_byte swapped_image at (omega (arith, high)) ∙ sym (first_chunk_byte image at (omega (arith, high)))
 
 -- the only commit stays
 nothing_given_up : collected_at repository 0 ≡ repository
@@ -275,11 +276,11 @@ unfolding chunk0
 chunk_length = refl
 
 second_adds : AddsBytes swapped_slot (spelling the_table) swapped_image longer_image
-unfolding chunk_byte longer_chunk0
+unfolding longer_chunk0
 second_adds = record {
-  same = record { chunks = λ at low high. get_front chunk0 table_bytes at (subst (λ (n : ℕ). at < n) (sym chunk_length) high); mapping = λ some. refl; prefix = λ some. refl };
-  added = subst (λ (bytes : Bytes). (k : ℕ) → k < length bytes → slice_get (chunk0 ++ table_bytes) (164 + k) ≡ slice_get bytes k) (sym table_spelled)
-      (λ k l. ap (λ (n : ℕ). slice_get (chunk0 ++ table_bytes) (n + k)) (sym chunk_length) ∙ get_behind chunk0 table_bytes k);
+  same = record { chunks = λ at low high. first_chunk_byte longer_image at (omega (arith, high)) ∙ get_front chunk0 table_bytes at (subst (λ (n : ℕ). at < n) (sym chunk_length) high) ∙ sym (first_chunk_byte swapped_image at (omega (arith, high))); mapping = λ some. refl; prefix = λ some. refl };
+  added = subst (λ (bytes : Bytes). (k : ℕ) → k < length bytes → chunk_byte 4096 longer_image (164 + k) ≡ slice_get bytes k) (sym table_spelled)
+      (λ k l. first_chunk_byte longer_image (164 + k) (omega (arith, l)) ∙ ap (λ (n : ℕ). slice_get (chunk0 ++ table_bytes) (n + k)) (sym chunk_length) ∙ get_behind chunk0 table_bytes k);
 }
 
 same_generation : SameGeneration swapped_slot longer_slot

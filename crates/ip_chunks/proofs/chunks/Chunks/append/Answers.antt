@@ -1,9 +1,40 @@
-use Rattle.std.proofs.Common.{arith}
-use Rattle.std.proofs.lemmas.Bool.Decides.{nat_tests}
-use Rattle.ip_chunks.proofs.Writing.{reaches, appends}
+use Rattle.std.proofs.Common.{◌+◌, Ok, length, take, arith}
+use Rattle.std.proofs.lemmas.List.{length-take}
+use Rattle.ip_ground.proofs.Rising.{none_falls_on}
+use Rattle.ip_chunks.proofs.Borders.{some_size, border_next}
+use Rattle.ip_chunks.proofs.Pieces.{append_next, appends_stopped, no_gap_here}
 use Rattle.ip_chunks.proofs.chunks.Chunks.append.Goals as goal
 
-pub returns-clause-does : goal.returns-clause-does
-returns-clause-does g c told no_gap =
-    let within = reaches c.args.self.now.size c.args.end _ no_gap in
-    appends c.args.self.now.size c.args.end c.args.bytes.now (grind (arith, nat_tests, c.if-is_empty.ensures)) _ _ within _ (c.write.ensures.does told within)
+pub returns-in_err-write_piece-clause-does : goal.returns-in_err-write_piece-clause-does
+returns-in_err-write_piece-clause-does g c told no_gap =
+    let told_of = g.G.Ground.told in
+    let size = c.args.self.now.size in
+    let bytes = c.args.bytes.now in
+    let done = c.loop-done.done in
+    let count = c.within-count.result in
+    let kept = c.loop-done.invariant in
+    let so_far = kept.does told no_gap in
+    let long = length-take done bytes in
+    let here = no_gap_here size c.args.end (take done bytes) (told_of c.args.outside.now) (told_of c.loop-done.outside) no_gap so_far (c.args.end + done) (omega arith) (λ some. kept.border (omega (arith, some)) c.loop-done-test.true) in
+    let next = append_next size c.args.end bytes done count c.write_piece.result (told_of c.args.outside.now) (told_of c.loop-done.outside) (told_of c.write_piece.new.outside) kept.within so_far (c.write_piece.ensures.does told here) in
+    appends_stopped size c.args.end (take (done + count) bytes) bytes c.write_piece.result c.from_residual.result _ _ (omega (arith, length-take (done + count) bytes)) c.from_residual.ensures.0 next
+
+pub loop-done-preserved : goal.loop-done-preserved
+loop-done-preserved g c =
+    let told_of = g.G.Ground.told in
+    let size = c.args.self.now.size in
+    let bytes = c.args.bytes.now in
+    let done = c.loop-done.done in
+    let count = c.within-count.result in
+    let kept = c.loop-done.invariant in
+    let long = length-take done bytes in
+    record {
+      within = omega (arith, c.within-count.ensures);
+      does = λ told no_gap.
+          let so_far = kept.does told no_gap in
+          let here = no_gap_here size c.args.end (take done bytes) (told_of c.args.outside.now) (told_of c.loop-done.outside) no_gap so_far (c.args.end + done) (omega (arith, long)) (λ some. kept.border (omega (arith, some)) c.loop-done-test.true) in
+          append_next size c.args.end bytes done count (Ok tt) (told_of c.args.outside.now) (told_of c.loop-done.outside) (told_of c.write_piece.new.outside) kept.within so_far (c.in_ok-write_piece.ensures.does told here);
+      border = λ some more. border_next size c.args.end done (length bytes) count (some_size size c.requires.allowed) c.within-count.ensures more;
+      none = λ zero. absurd (omega (arith, zero, c.loop-done-test.true));
+      counts = none_falls_on _ _ _ kept.counts c.in_ok-write_piece.ensures.counts;
+    }
