@@ -92,8 +92,8 @@ impl Ahead {
     }
 
     /// The record at the offset `at`, where the bytes begin, and its length in bytes. Where they do not tell it, more are read: at first
-    /// those of the head, and then those of the record. Each read is of `stretch` bytes or more, as long as no more than `most` are held
-    /// then.
+    /// those of the head, and then those of the record. Each read is of as many as are needed, and of up to `stretch` bytes where these lie in the
+    /// same file and below `to`.
     pub fn read_one<G: Ground>(
         &mut self,
         alloc: Global,
@@ -101,7 +101,7 @@ impl Ahead {
         outside: &mut G,
         at: u64,
         stretch: u64,
-        most: u64,
+        to: u64,
     ) -> Result<(Record, u64), FetchFault>
         requires source { IsSource source.now }
         requires ahead { IsAhead self.old }
@@ -121,7 +121,7 @@ impl Ahead {
         ensures counts { NoneFalls (G.counts_of outside.old) (G.counts_of outside.new) }
         ensures cause { IsErrOf result FetchFault.Ground → (Rose (G.counts_of outside.old).file_faults (G.counts_of outside.new).file_faults) }
     {
-        self.fill(source, outside, at, stretch, most)?;
+        self.fill(source, outside, at, stretch, to)?;
         front_record(alloc, at, self.held())
     }
 
@@ -132,7 +132,7 @@ impl Ahead {
         outside: &mut G,
         at: u64,
         stretch: u64,
-        most: u64,
+        to: u64,
     ) -> Result<(), FetchFault>
         requires source { IsSource source.now }
         requires ahead { IsAhead self.old }
@@ -145,8 +145,8 @@ impl Ahead {
         ensures counts { NoneFalls (G.counts_of outside.old) (G.counts_of outside.new) }
         ensures cause { IsErrOf result FetchFault.Ground → (Rose (G.counts_of outside.old).file_faults (G.counts_of outside.new).file_faults) }
     {
-        self.fill_head(source, outside, at, stretch, most)?;
-        self.fill_body(source, outside, at, stretch, most)
+        self.fill_head(source, outside, at, stretch, to)?;
+        self.fill_body(source, outside, at, stretch, to)
     }
 
     // Reads until the bytes have a head.
@@ -156,7 +156,7 @@ impl Ahead {
         outside: &mut G,
         at: u64,
         stretch: u64,
-        most: u64,
+        to: u64,
     ) -> Result<(), FetchFault>
         requires source { IsSource source.now }
         requires ahead { IsAhead self.old }
@@ -172,7 +172,7 @@ impl Ahead {
         if self.stop - self.start >= HEAD {
             return Ok(());
         }
-        let want = self.wanted(HEAD as u64, stretch, most);
+        let want = self.wanted(source, at, HEAD as u64, stretch, to);
         self.more(source, outside, at, want)
     }
 
@@ -183,7 +183,7 @@ impl Ahead {
         outside: &mut G,
         at: u64,
         stretch: u64,
-        most: u64,
+        to: u64,
     ) -> Result<(), FetchFault>
         requires source { IsSource source.now }
         requires ahead { IsAhead self.old }
@@ -200,16 +200,20 @@ impl Ahead {
         if self.stop - self.start >= need {
             return Ok(());
         }
-        let want = self.wanted(need as u64, stretch, most);
+        let want = self.wanted(source, at, need as u64, stretch, to);
         self.more(source, outside, at, want)
     }
 
-    // How many bytes to read up to: a stretch more, but no more than so many, or as many as are needed.
-    fn wanted(&self, need: u64, stretch: u64, most: u64) -> u64
-        requires { IsAhead self.now }
+    // How many bytes to read up to: as many as are needed, and a stretch more at most as far as that lies in the file in which these end, and
+    // below `to`.
+    fn wanted(&self, source: &Source, at: u64, need: u64, stretch: u64, to: u64) -> u64
+        requires source { IsSource source.now }
+        requires ahead { IsAhead self.now }
         ensures { need ≤ result }
     {
         let held = (self.stop - self.start) as u64;
+        let border = source.border(at.saturating_add(need)).min(to);
+        let most = border.saturating_sub(at);
         need.max(held + stretch.min(most.saturating_sub(held)))
     }
 

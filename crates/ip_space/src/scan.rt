@@ -15,7 +15,7 @@ use ip_spec::record::Record;
 use std::alloc::Global;
 use std::marker::Model;
 
-/// The bytes that are read at once: a mebibyte, or more where a record needs more, or all that is left of the walk.
+/// The bytes that are read at once: a mebibyte, or all that is left of a file or of the walk, or more where a record needs more.
 const STRETCH: u64 = 1048576;
 
 /// A walk over the records from one offset to another.
@@ -57,9 +57,9 @@ impl Scan {
         self.next
     }
 
-    /// The next record and its offset, or nothing at the end of the walk. It reads a mebibyte at once, or all that is left of the walk,
-    /// into a buffer that is used again. That has no more than a mebibyte and the bytes of the longest record, as its head tells them, and
-    /// none beyond the end. After a fault the walk is where it was.
+    /// The next record and its offset, or nothing at the end of the walk. It reads a mebibyte at once, or all that is left of the file in which
+    /// the record ends, or of the walk, into a buffer that is used again. That has no more than a mebibyte and the bytes of the longest record,
+    /// as its head tells them, and none beyond the end. After a fault the walk is where it was.
     pub fn step<G: Ground>(
         &mut self,
         outside: &mut G,
@@ -86,14 +86,10 @@ impl Scan {
         }
         self.ahead
             .keep_up_to(space.source.layout.end.saturating_sub(at));
-        match self.ahead.read_one(
-            self.alloc,
-            &space.source,
-            outside,
-            at,
-            STRETCH,
-            self.to - at,
-        ) {
+        match self
+            .ahead
+            .read_one(self.alloc, &space.source, outside, at, STRETCH, self.to)
+        {
             Ok((rec, length)) => {
                 self.ahead.pass(length as usize);
                 self.next += length;

@@ -21,8 +21,20 @@ pub struct Source {
 }
 
 impl Source {
-    /// Copies the bytes from an offset on into `out`, up to the first that is missing, and says how many. It makes two reads at most: from
-    /// the prefix, and where a run ends at the horizon, from the chunks behind it.
+    /// The first offset from `at` on at which another file begins, the live prefix being one and each chunk one.
+    pub fn border(&self, at: u64) -> u64
+        requires { IsSource self.now }
+    {
+        let Layout { chunk, horizon, .. } = self.layout;
+        if at <= horizon {
+            return horizon;
+        }
+        let above = at.saturating_add(chunk - 1);
+        above - above % chunk
+    }
+
+    /// Copies the bytes from an offset on into `out`, up to the first that is missing, and says how many. It reads a file once: the prefix, and
+    /// where a run ends at the horizon, the chunks behind it.
     pub fn read<G: Ground>(
         &self,
         outside: &mut G,

@@ -199,8 +199,8 @@ impl Space {
         referred(rec, &reference)
     }
 
-    /// The record at an offset, whatever it is. It makes two reads at most, or three where it reads ahead across the horizon, into a buffer
-    /// that is used again, and takes memory for what the record holds.
+    /// The record at an offset, whatever it is. It makes two reads at most of the file in which the record begins, and one of each file into which
+    /// the record goes on. They go into a buffer that is used again, and memory is taken for what the record holds.
     pub fn record_at<G: Ground>(&mut self, outside: &mut G, at: u64) -> Result<Record, FetchFault>
         ensures reads { IsTrue G.tells → OnlyReads (G.told outside.old) (G.told outside.new) self.old self.new }
         ensures found { IsTrue G.tells → IsReadable (G.told outside.old) self.old → FindsRecord (records_of (G.told outside.old) self.old) at result }
@@ -216,7 +216,7 @@ impl Space {
         self.ahead.clear();
         let (rec, _) = match self
             .ahead
-            .read_one(self.alloc, &self.source, outside, at, PAGE, PAGE)
+            .read_one(self.alloc, &self.source, outside, at, PAGE, u64::MAX)
         {
             Ok(found) => found,
             Err(fault) => return Err(fault),

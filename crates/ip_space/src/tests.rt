@@ -1,4 +1,6 @@
 // Records by reference over a ground in memory.
+ghost use Rattle.ip_image.specs.Slot.{IsChunkSize};
+
 use crate::{FetchFault, Layout, Run, Space, SpaceFault};
 use ip_base::Hash;
 use ip_ground::{Bench, FileName, Ground};
@@ -38,9 +40,16 @@ fn bench_of(alloc: Global, bytes: &[u8], fails: u64) -> Result<Bench, Fail> {
     Ok(bench)
 }
 
+// Without a prefix, over chunks of a mebibyte, of which the tests fill the first.
 fn space_to(alloc: Global, bench: &mut Bench, end: u32) -> Result<Space, Fail> {
+    space_in(alloc, bench, 1048576, end)
+}
+
+fn space_in(alloc: Global, bench: &mut Bench, chunk: u64, end: u32) -> Result<Space, Fail>
+    requires { IsChunkSize chunk }
+{
     let layout = Layout {
-        chunk: 4096,
+        chunk,
         horizon: 0,
         end: end as u64,
         live: 0,
@@ -195,26 +204,65 @@ fn a_walk_goes_from_record_to_record(rt: HostRuntime) -> Result<(), Fail> {
     Ok(())
 }
 
-// Three records of 700000 bytes of contents and a half: each mebibyte is read once.
+// Three records of 700000 bytes of contents and a half, in chunks of a size: how often a walk over the three reads each of the first chunks.
+fn walk_reads(alloc: Global, size: u64) -> Result<[u64; 3], Fail>
+    requires { IsChunkSize size }
+{
+    let bytes = zeros(alloc, 3, 700000, 350000)?;
+    let mut bench = Bench::new(alloc, Vec::new(alloc), None, Vec::new(alloc));
+    let mut done = true;
+    for (k, part) in bytes.chunks(size.max(1) as usize).enumerate() {
+        done = done && bench.write(FileName::Chunk(k as u64), 0, part).is_ok();
+    }
+    let space = space_in(alloc, &mut bench, size, 2450020)?;
+    let walk = walked(alloc, &mut bench, &space, 0, 2100015)?;
+    let rare = (0..512).all(|k| bench.reads(FileName::Chunk(k)) < 3);
+    if !done || !rare || walk.0.as_slice() != [0, 700005, 1400010].as_slice() {
+        return Err("another walk")?;
+    }
+    Ok([0, 1, 2].map(|k| bench.reads(FileName::Chunk(k))))
+}
+
+// A chunk is read once, or by the mebibyte where it has more.
 #[test]
 fn a_walk_reads_each_byte_once(rt: HostRuntime) -> Result<(), Fail> {
+    assert_eq!(rt; walk_reads(rt.alloc(), 1048576)?, [1, 1, 1]);
+    assert_eq!(rt; walk_reads(rt.alloc(), 2097152)?, [2, 1, 0]);
+    assert_eq!(rt; walk_reads(rt.alloc(), 4096)?, [1, 1, 1]);
+    Ok(())
+}
+
+// Contents of 4086 bytes, of 9, and of 4082, which fill two chunks of 4096 bytes, and a byte behind them: what each step reads of the three.
+#[test]
+fn a_walk_reads_no_further_than_its_record(rt: HostRuntime) -> Result<(), Fail> {
     let alloc = rt.alloc();
-    let bytes = zeros(alloc, 3, 700000, 350000)?;
-    let mut bench = bench_of(alloc, bytes.as_slice(), 1)?;
-    let space = space_to(alloc, &mut bench, 2450020)?;
-    let mut scan = space.scan(0, 2100015);
-    let answers = [
-        Err(FetchFault::Ground),
-        Ok(Some(0)),
-        Ok(Some(700005)),
-        Ok(Some(1400010)),
-        Ok(None),
+    let mut bytes = zeros(alloc, 0, 4086, 4086)?;
+    bytes.extend_from_slice(zeros(alloc, 0, 9, 9)?.as_slice())?;
+    bytes.extend_from_slice(zeros(alloc, 0, 4082, 4082)?.as_slice())?;
+    let mut bench = Bench::new(alloc, vec![in alloc; 4]?, None, Vec::new(alloc));
+    for (k, part) in bytes.chunks(4096).enumerate() {
+        assert!(rt; bench.write(FileName::Chunk(k as u64), 0, part).is_ok());
+    }
+    assert!(rt; bench.write(FileName::Chunk(2), 0, b"\x06").is_ok());
+    let space = space_in(alloc, &mut bench, 4096, 8193)?;
+    let mut scan = space.scan(0, 8193);
+    let short = Err(FetchFault::Form {
+        at: 8192,
+        fault: RecordFault::Short,
+    });
+    let steps = [
+        (Ok(Some(0)), [1, 0, 0]),
+        (Err(FetchFault::Ground), [1, 1, 0]),
+        (Ok(Some(4091)), [1, 2, 0]),
+        (Ok(Some(4105)), [1, 2, 0]),
+        (short, [1, 2, 1]),
     ];
-    for answer in answers {
+    for (answer, reads) in steps {
         let found = scan.step(&mut bench, &space);
         assert_eq!(rt; found.map(|found| found.map(|(at, _)| at)), answer);
+        let read = [0, 1, 2].map(|k| bench.reads(FileName::Chunk(k)));
+        assert_eq!(rt; read, reads);
     }
-    assert_eq!(rt; bench.reads(FileName::Chunk(0)), 4);
     Ok(())
 }
 
@@ -295,7 +343,7 @@ fn a_run_up_to_the_horizon(rt: HostRuntime) -> Result<(), Fail> {
             bench.reads(PREFIX),
             bench.reads(CHUNK)
         ),
-        (1, 2, 3)
+        (1, 2, 1)
     );
     assert_eq!(rt; space.lies_at(58), Some((PREFIX, 58)));
     assert_eq!(rt; space.lies_at(59), Some((CHUNK, 59)));
@@ -311,7 +359,7 @@ fn records_are_found_in_their_runs(rt: HostRuntime) -> Result<(), Fail> {
     let rows = [
         (10, Ok(1), Some((PREFIX, 0)), (1, 0)),
         (16, Ok(1), Some((PREFIX, 6)), (1, 0)),
-        (51, Ok(1), Some((PREFIX, 13)), (1, 1)),
+        (51, Ok(1), Some((PREFIX, 13)), (1, 0)),
         (59, Ok(5), Some((CHUNK, 59)), (0, 1)),
         (9, form(9, RecordFault::Short), None, (0, 0)),
         (23, form(23, RecordFault::Short), None, (0, 0)),
