@@ -40,6 +40,7 @@ use Rattle.ip_image.proofs.SpelledCommits.{present_front}
 use Rattle.ip_chunks.specs.Places.{chunk_start, NoGap}
 use Rattle.ip_chunks.specs.Fronts.{Leaves}
 use Rattle.ip_chunks.specs.Fronts as fronts
+use Rattle.ip_chunks.proofs.Behind.{reaches_start}
 use Rattle.ip_history.specs.History.{HasParentsFirst}
 use Rattle.ip_control.specs.Live.{live_slot, live_of}
 use Rattle.ip_control.specs.Changes.{control}
@@ -151,24 +152,15 @@ no_mapping n is = elim is [ inl control ↦ cc (control) | inr chunk ↦ cc (chu
 no_prefix : (n : ℕ) → ¬ IsOfStore (Prefix n)
 no_prefix n is = elim is [ inl control ↦ cc (control) | inr chunk ↦ cc (chunk.2) ]
 
--- A file that reaches a place reaches each before it.
-reaches_back : (content : Content) (at last : ℕ) → at ≤ last → IsSome (byte_of content last) → IsSome (byte_of content at)
-reaches_back content at last before there = by (byte_of content last) refl there
-  where
-    by : (o : Option ℕ) → byte_of content last ≡ o → IsSome o → IsSome (byte_of content at)
-    by None is some = absurd (cc (some))
-    by (Some b) is some = let inside = byte_inside content last b is in ap is_some (byte_is content at ∙ slice_get-get_or (bytes_of content) at 0 (omega (arith, before, inside)))
-
--- one file holds all places for now
+-- behind the horizon of a generation lies something; where none is live the horizon is 0
 reached : (s : Slot) (image : Image) (A : Standing image) → HasLive s image → NoGap s.chunk image s.horizon s.end → NoGap s.chunk image (chunk_start s.chunk s.end) s.end
-unfolding chunk_byte
-reached s image A has filled at between = by (zero_or_not s.live)
+reached s image A has filled = by (zero_or_not s.live)
   where
-    by : (s.live ≡ 0) ⊎ (s.live ≢ 0) → IsSome (chunk_byte s.chunk image at)
-    by (inl none) = let low = has.live.fields.none_live.0 none in filled at (omega (arith, low), between.1)
+    by : (s.live ≡ 0) ⊎ (s.live ≢ 0) → NoGap s.chunk image (chunk_start s.chunk s.end) s.end
+    by (inl none) = let low = has.live.fields.none_live.0 none in λ at between. filled at (omega (arith, low), between.1)
     by (inr some) =
         let above = lies_above image (layout_of s) has.live.fields.horizon A.records (chunk_lies image s has A) some in
-        reaches_back (image (Chunk 0)) at (s.end - 1) (let high = between.1 in omega (arith, high)) (filled (s.end - 1) (omega (arith, above), omega (arith, above)))
+        reaches_start s.chunk s.horizon s.end has.live.fields.chunk image above filled
 
 -- what a call may change is of the store
 pub of_store : (image : Image) (file : FileName) → MayChange image file → IsOfStore file

@@ -412,9 +412,10 @@ mod tests {
             chunk.extend_from_slice(&[1, 0, 0, 16, 0])?;
             chunk.extend_from_slice(&vec![in alloc; 7; 1048576]?)?;
         }
-        // Three contents of 1048576 bytes end at 3145743.
+        // Three contents of 1048576 bytes end at 3145743, in a chunk of 4194304.
         let mut whole = control(0x0f, 0, 0);
         whole[170] = 0x30;
+        whole[154] = 0x40;
         let mut ground = Bench::new(alloc, Vec::new(alloc), None, Vec::new(alloc));
         ground
             .write(FileName::Control, 0, &whole)
