@@ -67,10 +67,10 @@ class Bed:
         self.made += 1
         return common.new_folder(self.base, f"folder{self.made}")
 
-    def store(self, *lines):
-        """A new store that was given these lines, each answered."""
+    def store(self, *lines, chunk=1 << 20):
+        """A new store with chunks of this size, that was given these lines, each answered."""
         folder = self.folder()
-        self.call("init", folder).must(DONE)
+        self.call("init", folder, "--chunk", str(chunk)).must(DONE)
         if lines:
             self.serve(folder, script(*lines)).must(DONE, None)
         return folder

@@ -1,11 +1,11 @@
 #!/usr/bin/env python3
 """Stores as a collection leaves them: whether the program serves them as before, and what opening and reading them takes.
 
-    bench/collecting.py [PROGRAM] [--folder DIR] [--seed N] [--rounds N] [--commits N] [--measure N]
+    bench/collecting.py [PROGRAM] [--folder DIR] [--seed N] [--rounds N] [--commits N] [--chunk BYTES] [--measure N]
 
 No command collects yet. Here a plain collector does, by docs/FORMAT.md alone: it appends a table of the branches, copies what a commit
-and all later ones still need into a prefix file, writes the mapping, and swaps the slot; and it overwrites all that is left below the
-horizon, since nobody may read it. A seeded history with directories, older trees grafted and several branches is collected again and
+and all later ones still need into a prefix file, writes the mapping, and swaps the slot; and it removes the chunks below the horizon's and
+overwrites what is left below the horizon, since nobody may read it. A seeded history with directories, older trees grafted and several branches is collected again and
 again, with commits in between: each retained commit must be shown, listed and read as before, and each other one be gone. Exit status 1
 where one is not. With `--measure N` a store of N commits is opened and read before and after its collection.
 """
@@ -64,7 +64,7 @@ def stretches(folder, slot):
         for row in range(slot.rows):
             at, length, place = struct.unpack_from("<3Q", mapping, 32 + 24 * row)
             yield at, prefix[place : place + length]
-    yield slot.horizon, read(folder, "chunk.0")[slot.horizon : slot.end]
+    yield slot.horizon, b"".join(common.pieces(folder, slot.chunk, slot.horizon, slot.end))
 
 
 def records_of(folder, slot):
@@ -148,6 +148,28 @@ def runs_of(records, kept):
     return runs
 
 
+def append(folder, slot, data):
+    """Writes bytes at the slot's end, cut where a chunk ends."""
+    at = slot.end
+    while data:
+        number, place = divmod(at, slot.chunk)
+        count = slot.chunk - place
+        path = os.path.join(folder, f"chunk.{number}")
+        with open(path, "r+b" if place else "wb") as file:
+            file.seek(place)
+            file.write(data[:count])
+        at, data = at + count, data[count:]
+
+
+def forget(folder, slot, horizon):
+    """Removes the chunks below the horizon's, and writes over what that one has below the horizon."""
+    number, place = divmod(horizon, slot.chunk)
+    for old in range(slot.first_chunk, number):
+        os.remove(os.path.join(folder, f"chunk.{old}"))
+    with open(os.path.join(folder, f"chunk.{number}"), "r+b") as file:
+        file.write(b"\xff" * place)
+
+
 def collect(folder, number):
     """Collects the store at the commit of this number, on which no branch lies below. It says how many bytes and runs are kept."""
     index, slot = live_slot(folder)
@@ -166,14 +188,14 @@ def collect(folder, number):
     attempt = slot.attempt
     write(folder, f"prefix.{attempt}", prefix)
     write(folder, f"mapping.{attempt}", b"IPMAP001" + struct.pack("<3Q", horizon, end, len(runs)) + rows)
-    chunk = read(folder, "chunk.0")[: slot.end] + spelled(last)
-    write(folder, "chunk.0", b"\xff" * horizon + chunk[horizon:])
+    append(folder, slot, spelled(last))
+    forget(folder, slot, horizon)
     put_slot(
         folder,
         1 - index,
         slot._replace(
             sequence=slot.sequence + 1, horizon=horizon, end=end, floor=number, live=attempt, attempt=attempt + 1,
-            prefix=len(prefix), rows=len(runs),
+            prefix=len(prefix), rows=len(runs), first_chunk=horizon // slot.chunk,
         ),
     )
     if slot.live:
@@ -188,10 +210,10 @@ def collect(folder, number):
 class History:
     """A store that grows by seeded lines, and what it says of each commit."""
 
-    def __init__(self, program, folder, seed):
+    def __init__(self, program, folder, seed, chunk):
         self.program, self.folder, self.draw = program, folder, random.Random(seed)
         self.names, self.floor, self.heads = [], 0, {}
-        common.init(program, folder)
+        common.init(program, folder, chunk=chunk)
 
     def asked(self, lines):
         """The replies to these lines, given to one run."""
@@ -253,9 +275,9 @@ class History:
         return good
 
 
-def trial(program, folder, seed, rounds, commits):
+def trial(program, folder, seed, rounds, commits, chunk):
     with common.kept_folder(folder) as base:
-        history = History(program, base, seed)
+        history = History(program, base, seed, chunk)
         for _ in range(rounds):
             history.grow(commits)
             if not history.collect():
@@ -283,7 +305,7 @@ def measure(program, folder, commits, rounds=7):
             took = [opening.seconds(lambda: opening.open_store(program, base)) for _ in range(rounds)]
             read_in = [cats(program, base, paths) for _ in range(rounds)]
             held = slot.prefix + slot.end - slot.horizon
-            rows.append(common.Row(f"opening {when} it, {held} bytes in {slot.rows} runs and the chunk", 1e3 * statistics.median(took), "ms"))
+            rows.append(common.Row(f"opening {when} it, {held} bytes in {slot.rows} runs and the chunks", 1e3 * statistics.median(took), "ms"))
             rows.append(common.Row(f"{len(paths)} lines of cat {when} it", 1e3 * (statistics.median(read_in) - statistics.median(took)), "ms"))
             if when == "before":
                 collect(base, commits - 1)
@@ -295,12 +317,13 @@ def main():
     parser.add_argument("--seed", type=int, default=1, help="of the history (default: %(default)s)")
     parser.add_argument("--rounds", type=int, default=8, help="collections (default: %(default)s)")
     parser.add_argument("--commits", type=int, default=12, help="commits before each (default: %(default)s)")
+    parser.add_argument("--chunk", type=int, default=4096, help="bytes of a chunk (default: %(default)s)")
     parser.add_argument("--measure", type=int, metavar="N", help="measure a store of N commits instead")
     given = common.parsed(parser)
     if given.measure:
         measure(given.program, given.folder, given.measure)
     else:
-        trial(given.program, given.folder, given.seed, given.rounds, given.commits)
+        trial(given.program, given.folder, given.seed, given.rounds, given.commits, given.chunk)
 
 
 if __name__ == "__main__":

@@ -1,5 +1,5 @@
 """What the scripts of this folder share: options, fresh folders, calls of the program, a running `serve`, the control
-file, and tables. Nothing is run from here."""
+file, the chunks, and tables. Nothing is run from here."""
 
 import argparse
 import collections
@@ -88,9 +88,10 @@ def file_system(folder):
 # The program
 
 
-def init(program, folder, *words):
-    """Makes a store."""
-    subprocess.run([program, "init", folder, *words], check=True, timeout=PATIENCE)
+def init(program, folder, *words, chunk=None):
+    """Makes a store, with chunks of this size where one is given."""
+    size = [] if chunk is None else ["--chunk", str(chunk)]
+    subprocess.run([program, "init", folder, *size, *words], check=True, timeout=PATIENCE)
 
 
 class Ended(Exception):
@@ -200,6 +201,22 @@ def slot_at(data, index):
     """The fields of a slot, as docs/FORMAT.md places them."""
     sequence, chunk, _, end, _, following = struct.unpack_from("<6Q", data, SLOT * index + 16)
     return Slot(index, sequence, chunk, end, following)
+
+
+# The chunks
+
+
+def pieces(folder, size, start, end):
+    """The bytes of the space from an offset up to another, chunk by chunk; a chunk may be absent or short."""
+    while start < end:
+        number, place = divmod(start, size)
+        with open(os.path.join(folder, f"chunk.{number}"), "rb", buffering=0) as file:
+            file.seek(place)
+            piece = file.read(min(size - place, end - start))
+        if not piece:
+            raise EOFError(f"chunk {number} has no byte at {place}")
+        yield piece
+        start += len(piece)
 
 
 # Tables

@@ -430,6 +430,32 @@ def chunk_that_was_cut(bed):
 
 
 @check
+def chunks_that_were_cut(bed):
+    # The first commit begins at 4058 in chunk 0 and ends at 29 in chunk 1, where its branch ends at 47; the second one's contents go from there to 956 in chunk 2.
+    folder = bed.store(f"set a {'ab' * 4000}", "commit main 0 a m", f"set b {'cd' * 5000}", "commit main 1 a m", chunk=4096)
+    names = sorted(name for name in os.listdir(folder) if name != "control")
+    same(names, ["chunk.0", "chunk.1", "chunk.2"], "the folder")
+    files = {name: content(folder, name) for name in names}
+    for name, length, wanted in (
+        ("chunk.0", None, ("chunk.0", 0)), ("chunk.0", 4095, ("chunk.0", 4058)), ("chunk.1", None, ("chunk.0", 4058)),
+        ("chunk.1", 28, ("chunk.0", 4058)), ("chunk.1", 29, ("chunk.1", 29)), ("chunk.1", 4095, ("chunk.1", 47)),
+        ("chunk.2", None, ("chunk.1", 47)), ("chunk.2", 955, ("chunk.1", 47)), ("chunk.2", 956, ("chunk.2", 956)),
+    ):
+        os.remove(os.path.join(folder, name))
+        if length is not None:
+            put(folder, name, files[name][:length])
+        bed.serve(folder, script("stat")).must(DAMAGED, **damaged(*wanted))
+        put(folder, name, files[name])
+    os.remove(os.path.join(folder, "chunk.1"))
+    os.mkdir(os.path.join(folder, "chunk.1"))
+    bed.serve(folder, script("stat")).must(DISK)
+    os.rmdir(os.path.join(folder, "chunk.1"))
+    put(folder, "chunk.1", files["chunk.1"])
+    bed.serve(folder, script("cat main b")).must(DONE, b"value " + b"cd" * 5000 + b"\n")
+    return "each at its ends, absent, and a folder in its place: status 4 at the record that is not whole, or 7; whole again: as before"
+
+
+@check
 def bytes_behind_the_end(bed):
     folder = bed.store(*SOME)
     put(folder, "chunk.0", content(folder, "chunk.0") + b"\xff" * 1000)

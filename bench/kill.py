@@ -1,7 +1,7 @@
 #!/usr/bin/env python3
 """Kills `ipstore serve` at seeded moments, over one folder, and opens the store again: no acknowledged command is lost.
 
-    bench/kill.py [PROGRAM] [--folder DIR] [--rounds N] [--seed N]
+    bench/kill.py [PROGRAM] [--folder DIR] [--rounds N] [--seed N] [--chunk BYTES]
 
 Each round opens the store, asks it for what it holds, gives it seeded lines (`set`, `rm`, `commit`, `branch`, `branch-rm`
 and more), and kills it (SIGKILL): after some time, behind some number of replies, within one command that writes, or while
@@ -315,9 +315,9 @@ class Test:
         self.must_be(serve.end(), 0)
 
 
-def run(test, rounds):
+def run(test, rounds, chunk):
     """All rounds, and what is asked in the end."""
-    common.init(test.program, test.folder)
+    common.init(test.program, test.folder, chunk=chunk)
     test.measure()
     for turn in range(1, rounds + 1):
         try:
@@ -340,11 +340,12 @@ def main():
     parser = common.options(__doc__)
     parser.add_argument("--rounds", type=int, default=300, help="kills (default: %(default)s)")
     parser.add_argument("--seed", type=int, default=1, help="of lines and moments (default: %(default)s)")
+    parser.add_argument("--chunk", type=int, default=4096, help="bytes of a chunk: a large value goes over many (default: %(default)s)")
     given = common.parsed(parser)
     with common.kept_folder(given.folder) as folder:
         test = Test(given.program, folder, given.seed)
         try:
-            run(test, given.rounds)
+            run(test, given.rounds, given.chunk)
         except (Wrong, common.Ended, OSError) as wrong:
             print(f"FAIL  seed {given.seed}, {wrong}\n  the folder is {folder}")
             sys.exit(1)

@@ -1,17 +1,16 @@
 #!/usr/bin/env python3
 """Opening a store, against reading and hashing the same bytes.
 
-    bench/opening.py [PROGRAM] [--folder DIR] [--commits N] [--sets N] [--value BYTES] [--rounds N] [--no-git]
+    bench/opening.py [PROGRAM] [--folder DIR] [--commits N] [--sets N] [--value BYTES] [--chunk BYTES] [--rounds N] [--no-git]
 
 The store is made by `serve` itself: each commit sets some paths anew. Timed is `ipstore serve DIR` on an empty script,
 from its start to its end: it reads each record once, hashes it and tests it. The limit of the same run is one loop of Python
-that reads the same bytes by the mebibyte and hashes them by SHA-256, in this process; both take turns. The start of the program
+that reads the same chunks, each at once, and hashes them by SHA-256, in this process; both take turns. The start of the program
 alone is told by a store without commits. Beside them stand `git fsck --full` and `git rev-list --objects --all`, on the same
 history as git packs it. All files were read before, so the system has them in memory.
 """
 
 import hashlib
-import os
 import random
 import statistics
 import subprocess
@@ -20,8 +19,6 @@ import time
 import common
 import durable
 from common import Row
-
-PIECE = 1 << 20
 
 # Directories of the tree, and steps of each: a commit sets some of these paths.
 DIRECTORIES = 8
@@ -41,9 +38,9 @@ def history(commits, sets, size):
         yield changes
 
 
-def make_store(program, folder, commits):
+def make_store(program, folder, commits, chunk=None):
     """Makes the store of a history, each reply of a commit being waited for."""
-    common.init(program, folder)
+    common.init(program, folder, chunk=chunk)
     serve = common.Serve(program, folder)
     for at, changes in enumerate(commits):
         for path, value in changes:
@@ -63,17 +60,11 @@ def open_store(program, folder):
     subprocess.run([program, "serve", folder], stdin=subprocess.DEVNULL, check=True)
 
 
-def read_and_hash(folder, size):
-    """Reads so many bytes of the store's records, and hashes them."""
+def read_and_hash(folder, slot):
+    """Reads the bytes of the store's records, and hashes them."""
     state = hashlib.sha256()
-    with open(os.path.join(folder, "chunk.0"), "rb", buffering=0) as file:
-        left = size
-        while left > 0:
-            piece = file.read(min(PIECE, left))
-            if not piece:
-                raise EOFError("the records end early")
-            state.update(piece)
-            left -= len(piece)
+    for piece in common.pieces(folder, slot.chunk, 0, slot.end):
+        state.update(piece)
     return state.hexdigest()
 
 
@@ -115,16 +106,16 @@ def take_turns(acts, rounds):
     return [statistics.median(its[1:]) for its in times]
 
 
-def measure(program, folder=None, commits=2000, sets=8, value=1000, rounds=7, with_git=True):
+def measure(program, folder=None, commits=2000, sets=8, value=1000, rounds=7, with_git=True, chunk=None):
     """The rows of opening, and of git where it is there."""
     with common.fresh_folder(folder) as base:
         store, empty = common.new_folder(base, "store"), common.new_folder(base, "empty")
-        make_store(program, store, history(commits, sets, value))
+        make_store(program, store, history(commits, sets, value), chunk)
         common.init(program, empty)
-        size = common.live_slot(store).end
-        print(f"opening {commits} commits in {size} bytes, {rounds} turns")
+        slot = common.live_slot(store)
+        print(f"opening {commits} commits in {slot.end} bytes, in chunks of {slot.chunk}, {rounds} turns")
         opened, limit, alone = take_turns(
-            [lambda: open_store(program, store), lambda: read_and_hash(store, size), lambda: open_store(program, empty)],
+            [lambda: open_store(program, store), lambda: read_and_hash(store, slot), lambda: open_store(program, empty)],
             rounds,
         )
         rows = [
@@ -145,11 +136,13 @@ def main():
     parser.add_argument("--commits", type=int, default=2000, help="commits of the store (default: %(default)s)")
     parser.add_argument("--sets", type=int, default=8, help="paths that a commit sets, at most 256 (default: %(default)s)")
     parser.add_argument("--value", type=int, default=1000, help="bytes that each of them gets (default: %(default)s)")
+    parser.add_argument("--chunk", type=int, help="bytes of a chunk (default: that of init)")
     parser.add_argument("--rounds", type=int, default=7, help="turns of each (default: %(default)s)")
     parser.add_argument("--no-git", action="store_true", help="without git beside")
     given = common.parsed(parser)
     rows = measure(
-        given.program, given.folder, given.commits, given.sets, given.value, given.rounds, not given.no_git
+        given.program, given.folder, given.commits, given.sets, given.value, given.rounds, not given.no_git,
+        given.chunk,
     )
     common.show("opening a store", rows)
 
