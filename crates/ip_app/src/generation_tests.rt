@@ -1,10 +1,7 @@
 //! Stores with a live generation: images made by hand, as a collection leaves them.
-ghost use Rattle.std.specs.Prelude.{false};
-ghost use Rattle.ip_ground.specs.ReplayLaws.{possible_by};
-
 use crate::tests::{bench, init, source, words};
 use crate::{Silent, Status, run};
-use ip_ground::{Bench, FileName, Ground, GroundCounts, GroundFault, Reaped};
+use ip_ground::{Bench, FileName, Ground, GroundFault};
 use std::alloc::{AllocError, Global};
 use std::test::Fail;
 
@@ -78,7 +75,11 @@ fn mapping_of(alloc: Global, horizon: u64, end: u64, rows: &[Row]) -> Result<Vec
 }
 
 // The bytes of a file.
-fn bytes_of<G: Ground>(alloc: Global, ground: &mut G, file: FileName) -> Result<Vec<u8>, Fail> {
+pub(crate) fn bytes_of<G: Ground>(
+    alloc: Global,
+    ground: &mut G,
+    file: FileName,
+) -> Result<Vec<u8>, Fail> {
     let Ok(Some(length)) = ground.length(file) else {
         return Err("no length")?;
     };
@@ -90,7 +91,7 @@ fn bytes_of<G: Ground>(alloc: Global, ground: &mut G, file: FileName) -> Result<
 }
 
 // What is answered over a ground.
-fn answers_on<G: Ground>(
+pub(crate) fn answers_on<G: Ground>(
     alloc: Global,
     ground: &mut G,
     script: &[u8],
@@ -529,101 +530,36 @@ fn a_commit_over_a_generation_is_there_or_not(rt: HostRuntime) -> Result<(), Fai
 
 // ---- the greatest offsets
 
-// A ground that tells nothing, whose chunk has no bytes below a place: its first byte stands there.
-#[derive(Drop)]
-struct Far {
-    bench: Bench,
-    from: u64,
-}
-
-impl Far {
-    fn place_of(&self, file: FileName, at: u64) -> u64 {
-        if file == CHUNK {
-            at.saturating_sub(self.from)
-        } else {
-            at
-        }
-    }
-}
-
-impl Ground for Far {
-    ghost tells = { false };
-
-    ghost told = { λ g. ⟦<Bench as Ground>⟧.told g.bench };
-
-    ghost counts_of = { λ g. ⟦<Bench as Ground>⟧.counts_of g.bench };
-
-    ghost possible = { λ g _. possible_by g.bench.log.items };
-
-    fn attach(&mut self, dir: &str) -> Result<(), GroundFault> {
-        self.bench.attach(dir)
-    }
-
-    fn length(&mut self, file: FileName) -> Result<Option<u64>, GroundFault> {
-        self.bench.length(file)
-    }
-
-    fn read(&mut self, file: FileName, at: u64, out: &mut [u8]) -> Result<usize, GroundFault> {
-        let place = self.place_of(file, at);
-        self.bench.read(file, place, out)
-    }
-
-    fn write(&mut self, file: FileName, at: u64, bytes: &[u8]) -> Result<(), GroundFault> {
-        let place = self.place_of(file, at);
-        self.bench.write(file, place, bytes)
-    }
-
-    fn sync(&mut self, file: FileName) -> Result<(), GroundFault> {
-        self.bench.sync(file)
-    }
-
-    fn remove(&mut self, file: FileName) -> Result<(), GroundFault> {
-        self.bench.remove(file)
-    }
-
-    fn lend(&mut self, attempt: u64) -> Result<(), GroundFault> {
-        self.bench.lend(attempt)
-    }
-
-    fn settle(&mut self, attempt: u64, reaped: &Reaped) -> Result<(), GroundFault> {
-        self.bench.settle(attempt, reaped)
-    }
-
-    fn say(&mut self, bytes: &[u8]) -> Result<(), GroundFault> {
-        self.bench.say(bytes)
-    }
-
-    fn counts(&self) -> GroundCounts {
-        self.bench.counts()
-    }
-}
-
 // 2^62 less 200 and less 113.
 const FAR_HORIZON: u64 = 4611686018427387704;
 
 const FAR_END: u64 = 4611686018427387791;
 
-const FAR_SLOT: Numbers = [4, 1048576, FAR_HORIZON, FAR_END, 0, 1, 1, 2, 59, 1, 0, 1];
+const FAR_SLOT: Numbers = [4, 4096, FAR_HORIZON, FAR_END, 0, 1, 1, 2, 59, 1, 0, 1];
+
+// The chunk of that size that ends at 2^62.
+const LAST_CHUNK: FileName = FileName::Chunk(1125899906842623);
 
 // The first store, whose commit and table lie close below the greatest offset.
-fn far_ground(alloc: Global) -> Result<Far, Fail> {
+fn far_ground(alloc: Global) -> Result<Bench, Fail> {
     let chunk = chunk_after(alloc, FIRST, TABLES[0])?;
-    let mut end = Vec::new(alloc);
+    let mut last = vec![in alloc; 0xff; 3896]?;
     for byte in chunk.iter().skip(59).take(67) {
-        end.push(*byte)?;
+        last.push(*byte)?;
     }
-    end.extend_from_slice(TABLES[0])?;
+    last.extend_from_slice(TABLES[0])?;
     let image = Image {
         attempt: 1,
         control: Some(control_of(alloc, &FAR_SLOT)?),
         mapping: Some(mapping_of(alloc, FAR_HORIZON, FAR_END, FIRST_ROWS)?),
         prefix: Some(kept_of(alloc, FIRST_ROWS, &chunk)?),
-        chunk: Some(end),
+        chunk: None,
     };
-    Ok(Far {
-        bench: ground_of(alloc, &image, None)?,
-        from: FAR_HORIZON,
-    })
+    let mut ground = ground_of(alloc, &image, None)?;
+    match put_file(&mut ground, LAST_CHUNK, &Some(last)) {
+        Ok(()) => Ok(ground),
+        Err(_) => Err("not written")?,
+    }
 }
 
 const FAR_SCRIPT: &[u8] = b"checkout main\ncat main a\ncommit main 1 a m\nbranch dev main\nstat\n";
@@ -636,7 +572,8 @@ fn no_record_ends_behind_the_greatest_offset(rt: HostRuntime) -> Result<(), Fail
     let alloc = rt.alloc();
     let mut ground = far_ground(alloc)?;
     assert_eq!(rt; answers_on(alloc, &mut ground, FAR_SCRIPT)?, Status::Done);
-    assert_eq!(rt; ground.bench.said(alloc)?.as_slice(), FAR_REPLIES);
+    assert_eq!(rt; ground.said(alloc)?.as_slice(), FAR_REPLIES);
+    assert_eq!(rt; ground.length(LAST_CHUNK), Ok(Some(4000)));
     Ok(())
 }
 

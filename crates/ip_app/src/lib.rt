@@ -16,6 +16,8 @@ pub use turn_log::{Kept, Log, Silent, Turn};
 #[cfg(test)]
 mod branch_tests;
 #[cfg(test)]
+mod chunk_tests;
+#[cfg(test)]
 mod generation_tests;
 #[cfg(test)]
 mod model_tests;

@@ -1,7 +1,10 @@
 //! Scripts drawn at random: each reply is the one that the model's machine gives.
 use crate::Status;
-use crate::tests::answers;
+use crate::chunk_tests::{init_with, put_value};
+use crate::generation_tests::answers_on;
+use crate::tests::{answers, bench};
 use ip_base::Hash;
+use ip_ground::{FileName, Ground};
 use ip_model::Machine;
 use ip_script::{Command, Reply, read_line, reply_text};
 use memchr::memmem;
@@ -293,5 +296,59 @@ fn drawn_scripts_are_answered_as_the_model_answers_them(rt: HostRuntime) -> Resu
     for reply in REPLIES {
         assert!(rt; memmem::find(&met, reply).is_some(), "{reply:?}");
     }
+    Ok(())
+}
+
+// Up to four sessions of a store with chunks of 4096 bytes, each behind a stop. A session begins with `empty`, and with contents of about a chunk.
+fn put_sessions(drawn: &mut Drawn) -> Result<Vec<Vec<u8>>, Fail> {
+    let mut sessions = Vec::new(drawn.alloc);
+    for _ in 0..1 + drawn.draw(4) % 4 {
+        let start = drawn.script.len();
+        drawn.put(&[b"empty"])?;
+        let mut value = Vec::new(drawn.alloc);
+        put_value(&mut value, 4000 + (drawn.draw(300) % 300) as usize)?;
+        drawn.put(&[b"set", b"x", &value])?;
+        let branch = drawn.branch();
+        put_commit(drawn, branch)?;
+        for _ in 0..15 {
+            put_change(drawn)?;
+            put_question(drawn)?;
+        }
+        let session = drawn.script.get(start..).unwrap_or(&[]);
+        sessions.push(Vec::from_slice(drawn.alloc, session)?)?;
+    }
+    Ok(sessions)
+}
+
+// What the sessions are answered, and whether the store has three chunks or more then.
+fn run_sessions(alloc: Global, sessions: &[Vec<u8>]) -> Result<(Vec<u8>, bool), Fail> {
+    let mut ground = bench(alloc, &[])?;
+    init_with(alloc, &mut ground, "4096")?;
+    let mut said = Vec::new(alloc);
+    for (k, session) in sessions.iter().enumerate() {
+        if answers_on(alloc, &mut ground, session)? != Status::Done {
+            return Err("not done")?;
+        }
+        said.extend_from_slice(&ground.said(alloc)?)?;
+        ground = ground.after_stop(k % 2 == 0)?;
+    }
+    let many = ground.length(FileName::Chunk(2)) != Ok(None);
+    Ok((said, many))
+}
+
+#[test]
+fn small_chunks_are_answered_as_the_model_answers_them(rt: HostRuntime) -> Result<(), Fail> {
+    let alloc = rt.alloc();
+    let mut many = Vec::new(alloc);
+    for seed in 0..60 {
+        let mut drawn = Drawn::new(alloc, seed);
+        let sessions = put_sessions(&mut drawn)?;
+        let (said, has_many) = run_sessions(alloc, &sessions)?;
+        assert_eq!(&rt; said, drawn.replies, "{seed}");
+        if has_many {
+            many.push(seed)?;
+        }
+    }
+    assert!(&rt; many.len() > 30);
     Ok(())
 }
