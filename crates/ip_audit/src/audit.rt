@@ -11,7 +11,7 @@ ghost use Rattle.ip_audit.specs.View.{kept_is, look_of, part_of, places_in};
 ghost use Rattle.ip_audit.specs.declared.audit.AuditFault.TheVariants as AuditFault;
 
 use crate::Names;
-use crate::kept::{ENTRIES_LIMIT, Kept, LEAF_LIMIT, Part};
+use crate::kept::{DIRECTORY_ENTRIES, Kept, LEAF_ENTRIES, Part};
 use crate::measures::{counted, inode_height, leaf_height, leaf_places};
 use crate::parents::{all_distinct, all_earlier, all_named};
 use ip_base::{Hash, Memory};
@@ -140,10 +140,10 @@ impl Audit {
             return Err(AuditFault::Fails);
         }
         let part = self.leaf_part(entries, name);
-        if part.count > LEAF_LIMIT && part.agreed < DEEPEST {
+        if part.count > LEAF_ENTRIES && part.agreed < DEEPEST {
             return Err(AuditFault::Fails);
         }
-        if part.count > ENTRIES_LIMIT {
+        if part.count > DIRECTORY_ENTRIES {
             return Err(AuditFault::Fails);
         }
         self.keep(at, Kept::Part(part))
@@ -226,7 +226,7 @@ impl Audit {
         let Some(count) = counted(children) else {
             return Err(AuditFault::Fails);
         };
-        if count <= LEAF_LIMIT {
+        if count <= LEAF_ENTRIES {
             return Err(AuditFault::Fails);
         }
         let part = Part {

@@ -6,7 +6,7 @@ ghost use Rattle.ip_spec.specs.Record.{IsLeafEntry};
 ghost use Rattle.ip_audit.specs.Memory.{common_of, common_with};
 ghost use Rattle.ip_audit.specs.View.{counts_of, places_in};
 
-use crate::kept::{ENTRIES_LIMIT, agreed_with};
+use crate::kept::{DIRECTORY_ENTRIES, agreed_with};
 use ip_base::{Blob, Step};
 use ip_shape::places::{DEEPEST, Places};
 use ip_spec::record::{InodeChild, LeafEntry};
@@ -47,7 +47,7 @@ pub fn counted(children: &[InodeChild]) -> Option<u64>
     let mut total: u64 = 0;
     for child in children {
         total += child.count as u64;
-        if total > ENTRIES_LIMIT {
+        if total > DIRECTORY_ENTRIES {
             return None;
         }
     }

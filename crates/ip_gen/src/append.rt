@@ -6,12 +6,10 @@ ghost use Rattle.ip_gen.specs.Phases.{phase_of};
 
 use crate::phase::Phase;
 use crate::search::{end, find};
+use ip_base::limit::OFFSET_MAX;
 use ip_base::{Items, Memory};
 use ip_spec::event::CoreRecord;
 use std::alloc::Global;
-
-/// The greatest offset at which a record may end.
-const LIMIT: u64 = 1 << 62;
 
 fn refs_allowed(records: &[CoreRecord], phase: &Phase, before: u64, refs: &[u64]) -> bool
     requires { AreInOrder 0 records.now }
@@ -33,7 +31,7 @@ fn follows(records: &[CoreRecord], phase: &Phase, next: &CoreRecord) -> bool
     let end = end(records);
     next.at == end
         && next.length > 0
-        && next.length <= LIMIT - end
+        && next.length <= OFFSET_MAX - end
         && refs_allowed(records, phase, next.at, next.refs.as_slice())
 }
 

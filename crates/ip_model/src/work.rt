@@ -9,22 +9,11 @@ ghost use Rattle.std.specs.List.{list_any};
 ghost use Rattle.ip_model.specs.Working.{IsWork, WorksTo, Answers, parent_after, graft_after};
 
 use crate::trees::Tree;
+use ip_base::limit::{CONTENTS_MAX, ENTRIES_MAX, PARENTS_MAX, STEPS_MAX};
 use ip_base::{Blob, Limit, Memory, Number, Numbers, Step};
 use ip_spec::reply::Reply;
 use ip_spec::tree::{Got, Listed};
 use std::alloc::Global;
-
-/// The most bytes of contents that are set.
-const CONTENTS: usize = 1048576;
-
-/// The most parents of a commit.
-const PARENTS: usize = 16;
-
-/// The most steps of a path.
-const STEPS: usize = 64;
-
-/// The most entries of a directory.
-const ENTRIES: usize = 32;
 
 /// A tree, the commits that it goes on from, and the least number that it took from.
 #[derive(Drop)]
@@ -70,11 +59,11 @@ impl Work {
     pub fn set(&mut self, alloc: Global, path: &[Step], contents: Blob) -> Result<Reply, Memory>
         ensures { (s : State) → s.repository.floor ≡ 0 → IsWork self.old s.work → IfOk result (λ reply. Answers s (Command.Set path.now contents) reply self.new) }
     {
-        if contents.len() > CONTENTS {
+        if contents.len() > CONTENTS_MAX {
             return Ok(Reply::Limit(Limit::Contents));
         }
         let tree = self.tree.put(alloc, path, contents)?;
-        if tree.widest(alloc)? > ENTRIES {
+        if tree.widest(alloc)? > ENTRIES_MAX {
             return Ok(Reply::Limit(Limit::Entries));
         }
         self.tree = tree;
@@ -100,7 +89,7 @@ impl Work {
         if self.goes_on_from(number) {
             return Ok(Reply::Accepted);
         }
-        if self.parents.len() >= PARENTS {
+        if self.parents.len() >= PARENTS_MAX {
             return Ok(Reply::Limit(Limit::Parents));
         }
         self.parents.push(number)?;
@@ -121,11 +110,11 @@ impl Work {
         if sub.is_empty() {
             return Ok(Reply::Absent);
         }
-        if to.len().saturating_add(sub.height()) > STEPS {
+        if to.len().saturating_add(sub.height()) > STEPS_MAX {
             return Ok(Reply::Limit(Limit::Depth));
         }
         let tree = self.tree.place(alloc, to, sub)?;
-        if tree.widest(alloc)? > ENTRIES {
+        if tree.widest(alloc)? > ENTRIES_MAX {
             return Ok(Reply::Limit(Limit::Entries));
         }
         self.tree = tree;

@@ -9,13 +9,11 @@ use crate::fresh::put_all_fresh;
 use crate::lay::put_root;
 use crate::measure::room_for;
 use crate::records::{put_branch, put_commit};
+use ip_base::limit::OFFSET_MAX;
 use ip_base::{Blob, Hash, Info, Limit, Memory, Number};
 use ip_spec::record::{Parents, Ref};
 use ip_tree::Tree;
 use std::alloc::{AllocError, Global};
-
-// Where records may end at most, in bytes.
-const GREATEST_END: u64 = 1 << 62;
 
 /// What a commit record and its branch record are made of, besides the tree.
 #[derive(Drop)]
@@ -89,7 +87,7 @@ impl Batch {
         let name = put_commit(alloc, fields, &root, &mut bytes)?;
         put_branch(alloc, fields, &mut bytes)?;
         let last = end + bytes.len() as u64;
-        if last > GREATEST_END {
+        if last > OFFSET_MAX {
             return Err(SaveFault::Limit(Limit::Space));
         }
         Ok(Batch {

@@ -9,11 +9,9 @@ ghost use Rattle.ip_tree.specs.TreeView.{shown_root};
 
 use crate::SaveFault;
 use ip_base::Limit;
+use ip_base::limit::CONTENTS_MAX;
 use ip_object::put_contents;
 use ip_tree::{Directory, Node, Root};
-
-/// The most bytes that contents may have.
-const CONTENTS_LIMIT: usize = 1048576;
 
 /// Puts the records of the new contents of a tree behind what is there, ascending by path.
 pub fn put_all_fresh(root: &Root, out: &mut Vec<u8>) -> Result<(), SaveFault>
@@ -60,7 +58,7 @@ fn put_one(bytes: &[u8], out: &mut Vec<u8>) -> Result<(), SaveFault>
     ensures short { OnOk result (IsShort bytes.now) }
     ensures cause { IfErr result (IsLongFault (length bytes.now)) }
 {
-    if bytes.len() > CONTENTS_LIMIT {
+    if bytes.len() > CONTENTS_MAX {
         return Err(SaveFault::Limit(Limit::Contents));
     }
     put_contents(bytes, out)?;

@@ -6,12 +6,10 @@ ghost use Rattle.ip_spec.specs.Record.{Fits, IsHash, IsLeafEntry, are_rising};
 ghost use Rattle.ip_spec.specs.declared.record.Record.TheVariants as Record;
 
 use crate::SaveFault;
+use ip_base::limit::ENTRIES_MAX;
 use ip_base::{Hash, Limit};
 use ip_spec::record::LeafEntry;
 use std::cmp::Ordering;
-
-/// The most entries of a directory that is one leaf.
-const ENTRIES_LIMIT: usize = 32;
 
 /// The greatest height of what an entry leads to.
 const HEIGHT_LIMIT: u8 = 63;
@@ -21,7 +19,7 @@ pub fn fault_of(entries: &[LeafEntry]) -> Option<SaveFault>
     ensures none { IfNone result (Fits 1 (Record.Leaf entries.now)) }
     ensures cause { IfSome result (IsLeafFault entries.now) }
 {
-    if entries.len() > ENTRIES_LIMIT {
+    if entries.len() > ENTRIES_MAX {
         return Some(SaveFault::Limit(Limit::Entries));
     }
     if height_above(entries) > HEIGHT_LIMIT + 1 {

@@ -12,13 +12,11 @@ ghost use Rattle.ip_shape.specs.Shape.{AreSteps, AreAlike, AreUnited, IsChainTo,
 ghost use Rattle.ip_shape.specs.Loaded.{IsEdited, IsFresh, IsLessened, IsRead, IsUnchanged};
 
 use crate::places::{DEEPEST, Places};
+use ip_base::limit::LEAF_ENTRIES_MAX;
 use ip_base::{Memory, Step};
 use std::alloc::Global;
 use std::cmp::Ordering;
 use std::mem;
-
-/// The most steps of a leaf above the deepest parts.
-pub(crate) const LEAF_LIMIT: usize = 32;
 
 /// How many children an inode has.
 pub(crate) const CHILDREN: u8 = 32;
@@ -123,7 +121,7 @@ fn part_of<R: Drop>(
     ensures shape { IfOk result (λ part. IsPart (deepest - depth) depth steps.now part) }
     ensures fresh { IfOk result IsFresh }
 {
-    if steps.len() <= LEAF_LIMIT || depth >= DEEPEST {
+    if steps.len() <= LEAF_ENTRIES_MAX || depth >= DEEPEST {
         return Ok(Part::Leaf {
             known: None,
             steps: copies_of(alloc, steps, steps.len())?,
@@ -219,7 +217,7 @@ fn leaf_with<R: Drop>(
     ensures left { IfErr result (IsUnchanged (variant.Leaf known leaf)) }
 {
     let mut steps = leaf;
-    if steps.len() < LEAF_LIMIT || depth >= DEEPEST {
+    if steps.len() < LEAF_ENTRIES_MAX || depth >= DEEPEST {
         return match add_to(alloc, &mut steps, step) {
             Ok(()) => Ok(Part::Leaf { known: None, steps }),
             Err(_) => Err(Part::Leaf { known, steps }),
@@ -366,7 +364,7 @@ fn joined<R>(alloc: Global, part: &Part<R>, depth: u8, step: &Step) -> Result<Ve
     ensures read { OnOk result (IsRead part.now) }
     ensures left { (steps : List TheStep) → AreSteps steps → IsPart (deepest - depth) depth steps part.now → IfOk result (λ left. left.items ≡ take_out step.now steps) }
 {
-    let mut steps = Vec::with_capacity(alloc, LEAF_LIMIT + 1)?;
+    let mut steps = Vec::with_capacity(alloc, LEAF_ENTRIES_MAX + 1)?;
     gather(alloc, &mut steps, part, depth)?;
     take_from(&mut steps, step);
     Ok(steps)
@@ -435,7 +433,7 @@ pub(crate) fn without_step<R: Drop>(
                 });
             };
             // A part that falls to the limit becomes a leaf before anything below it is touched.
-            if count == LEAF_LIMIT + 1 {
+            if count == LEAF_ENTRIES_MAX + 1 {
                 let whole = Part::Inode {
                     known,
                     count,

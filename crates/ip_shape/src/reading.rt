@@ -12,8 +12,9 @@ ghost use Rattle.ip_shape.specs.declared.part.Part.TheVariants as variant;
 ghost use Rattle.std.proofs.Math.ListN.{set};
 
 use crate::dir::{Dir, Entries};
-use crate::part::{CHILDREN, LEAF_LIMIT, Part, no_part};
+use crate::part::{CHILDREN, Part, no_part};
 use crate::places::{DEEPEST, Places};
+use ip_base::limit::LEAF_ENTRIES_MAX;
 use ip_base::{Memory, Step};
 use std::alloc::Global;
 use std::collections::BTreeMap;
@@ -136,7 +137,7 @@ fn unread_to_join<'a, R>(
             if depth >= DEEPEST {
                 return Ok(None);
             }
-            if *count == LEAF_LIMIT + 1 {
+            if *count == LEAF_ENTRIES_MAX + 1 {
                 return first_unread(alloc, part, depth);
             }
             let index = places.at(depth);

@@ -10,6 +10,7 @@ use Rattle.std.specs.Prelude.{◌≡◌, ◌⊎◌, ℕ, suc, ◌+◌, ◌-◌, 
 use Rattle.std.specs.List.{list_any, find}
 use Rattle.std.specs.Bool.{MatchBool}
 use Rattle.sha2.specs.Sha256.{sha256}
+use Rattle.ip_base.specs.declared.limit.TheConstants.{CONTENTS_MAX, ENTRIES_MAX, STEPS_MAX, PARENTS_MAX, BRANCHES_MAX}
 use Rattle.ip_spec.specs.Map.{insert, remove, len}
 use Rattle.ip_spec.specs.Path.{Bytes, Path}
 use Rattle.ip_spec.specs.Record.{Hash, Info}
@@ -60,21 +61,21 @@ or_refused s (Err reply) = (reply, s)
 -- ---- limits
 
 abbrev pub contents_limit : ℕ
-contents_limit = 1048576
+contents_limit = CONTENTS_MAX
 
 -- What a command may make of one directory, which is one leaf for now. The format allows more entries, for directories of many parts:
 -- the limit is raised to the format's own with them.
 abbrev pub entries_limit : ℕ
-entries_limit = 32
+entries_limit = ENTRIES_MAX
 
 abbrev pub steps_limit : ℕ
-steps_limit = 64
+steps_limit = STEPS_MAX
 
 abbrev pub parents_limit : ℕ
-parents_limit = 16
+parents_limit = PARENTS_MAX
 
 abbrev pub branches_limit : ℕ
-branches_limit = 4096
+branches_limit = BRANCHES_MAX
 
 -- ---- refusals
 

@@ -4,5 +4,5 @@ use Rattle.ip_save.proofs.leaf.fault_of.Goals as goal
 
 pub returns-clause-none : goal.returns-clause-none
 returns-clause-none c =
-    let few = c.if-entries-gt-ENTRIES_LIMIT.false in
+    let few = c.if-entries-gt-ENTRIES_MAX.false in
     leaf_fits c.args.entries.now few record { count = omega (arith, few); each = c.are_entries.ensures c.if-not-are_entries.false; rising = c.are_rising.ensures c.if-not-are_rising.false }

@@ -26,8 +26,8 @@ loop-index-preserved g n c =
           (grown_by (λ i child. IsFresh child) old part c.loop-index.invariant.2 c.in_ok-part_of.ensures.fresh),
     )
 
-pub returns-then-steps-le-LEAF_LIMIT-clause-fresh : goal.returns-then-steps-le-LEAF_LIMIT-clause-fresh
-returns-then-steps-le-LEAF_LIMIT-clause-fresh g n c = fresh_leaf None c.in_ok-copies_of.field-0 refl
+pub returns-then-steps-le-LEAF_ENTRIES_MAX-clause-fresh : goal.returns-then-steps-le-LEAF_ENTRIES_MAX-clause-fresh
+returns-then-steps-le-LEAF_ENTRIES_MAX-clause-fresh g n c = fresh_leaf None c.in_ok-copies_of.field-0 refl
 
 pub returns-clause-shape : goal.returns-clause-shape
 returns-clause-shape g n c = inode_from c.args.depth c.args.steps.now None (length c.args.steps.now) c.loop-index.children (omega arith) (omega arith) refl (omega arith) c.loop-index.invariant.1

@@ -13,8 +13,8 @@ returns-in_default-clause-fails c = λ e passes. c.in_default.ensures.none refl 
 pub returns-in_default-counted-clause-fails : goal.returns-in_default-counted-clause-fails
 returns-in_default-counted-clause-fails c = λ e passes. let l = c.in_default-counted.ensures.none refl in let n = counts_sum c.args.children.now in let b = passes.bounded in omega (arith, l, n, b)
 
-pub returns-then-count-le-LEAF_LIMIT-clause-fails : goal.returns-then-count-le-LEAF_LIMIT-clause-fails
-returns-then-count-le-LEAF_LIMIT-clause-fails c = λ e passes. let l = c.if-count-le-LEAF_LIMIT.true in let s = c.in-Some-counted.ensures.some.0 in let n = counts_sum c.args.children.now in let m = passes.many in omega (arith, l, s, n, m)
+pub returns-then-count-le-LEAF_ENTRIES-clause-fails : goal.returns-then-count-le-LEAF_ENTRIES-clause-fails
+returns-then-count-le-LEAF_ENTRIES-clause-fails c = λ e passes. let l = c.if-count-le-LEAF_ENTRIES.true in let s = c.in-Some-counted.ensures.some.0 in let n = counts_sum c.args.children.now in let m = passes.many in omega (arith, l, s, n, m)
 
 pub returns-clause-passes : goal.returns-clause-passes
 returns-clause-passes c =
@@ -22,7 +22,7 @@ returns-clause-passes c =
     let s = c.in-Some-counted.ensures.some.0 in
     on_ok c.keep.result record {
       each = subst (λ v. AllByRecursion (ChildPasses (look_of c.args.self.now.kept) c.args.at c.args.depth v) c.args.children.now) (sym c.in-Some.ensures.some) (each_of (ChildPasses (look_of c.args.self.now.kept) c.args.at c.args.depth (take c.args.depth (places_in c.in-Some.first))) c.args.children.now (c.if-not-children_pass.ensures.yes refl));
-      many = let l = c.if-count-le-LEAF_LIMIT.false in omega (arith, l, s, n);
+      many = let l = c.if-count-le-LEAF_ENTRIES.false in omega (arith, l, s, n);
       bounded = let b = c.in-Some-counted.ensures.some.1 in omega (arith, b, s, n);
     }
 

@@ -7,20 +7,20 @@ use Rattle.ip_model.proofs.work.Work.graft.Goals as goal
 pub returns-then-is_empty : goal.returns-then-is_empty
 returns-then-is_empty c s t same is = (s.work, is, graft_none s c.args.number t c.args.to.now (sym (c.is_empty.ensures t same) ∙ c.if-is_empty.true))
 
-pub returns-then-saturating_add-gt-STEPS : goal.returns-then-saturating_add-gt-STEPS
-returns-then-saturating_add-gt-STEPS c s t same is =
+pub returns-then-saturating_add-gt-STEPS_MAX : goal.returns-then-saturating_add-gt-STEPS_MAX
+returns-then-saturating_add-gt-STEPS_MAX c s t same is =
     let high = c.height.ensures t same in
-    let more : steps_limit < length c.args.to.now + height t = omega (arith, c.if-saturating_add-gt-STEPS.true, c.saturating_add.ensures, high) in
+    let more : steps_limit < length c.args.to.now + height t = omega (arith, c.if-saturating_add-gt-STEPS_MAX.true, c.saturating_add.ensures, high) in
     (s.work, is, graft_deep s c.args.number t c.args.to.now (sym (c.is_empty.ensures t same) ∙ c.if-is_empty.false) more)
 
-pub returns-then-branch-gt-ENTRIES : goal.returns-then-branch-gt-ENTRIES
-returns-then-branch-gt-ENTRIES c s t same is =
+pub returns-then-branch-gt-ENTRIES_MAX : goal.returns-then-branch-gt-ENTRIES_MAX
+returns-then-branch-gt-ENTRIES_MAX c s t same is =
     let to = c.args.to.now in
     let tree = place s.work.tree to t in
     let count = c.in_ok-widest.ensures tree (c.in_ok-tree.ensures s.work.tree t is.tree same) in
     let high = c.height.ensures t same in
-    let few : length to + height t ≤ steps_limit = omega (arith, c.if-saturating_add-gt-STEPS.false, c.saturating_add.ensures, high) in
-    let more : entries_limit < widest tree = omega (arith, c.if-branch-gt-ENTRIES.true, count) in
+    let few : length to + height t ≤ steps_limit = omega (arith, c.if-saturating_add-gt-STEPS_MAX.false, c.saturating_add.ensures, high) in
+    let more : entries_limit < widest tree = omega (arith, c.if-branch-gt-ENTRIES_MAX.true, count) in
     (s.work, is, graft_wide s c.args.number t to (sym (c.is_empty.ensures t same) ∙ c.if-is_empty.false) few more)
 
 pub returns : goal.returns
@@ -31,8 +31,8 @@ returns c s t same is =
     let made = c.in_ok-tree.ensures s.work.tree t is.tree same in
     let count = c.in_ok-widest.ensures tree made in
     let high = c.height.ensures t same in
-    let few : length to + height t ≤ steps_limit = omega (arith, c.if-saturating_add-gt-STEPS.false, c.saturating_add.ensures, high) in
-    let narrow : widest tree ≤ entries_limit = omega (arith, c.if-branch-gt-ENTRIES.false, count) in (
+    let few : length to + height t ≤ steps_limit = omega (arith, c.if-saturating_add-gt-STEPS_MAX.false, c.saturating_add.ensures, high) in
+    let narrow : widest tree ≤ entries_limit = omega (arith, c.if-branch-gt-ENTRIES_MAX.false, count) in (
       record s.work { tree = tree; least = least_with s.work.least n },
       record { tree = made; parents = is.parents; least = c.least_with-self.ensures ∙ ap (λ l. least_with l n) is.least },
       graft_done s n t to (sym (c.is_empty.ensures t same) ∙ c.if-is_empty.false) few narrow,

@@ -24,14 +24,14 @@ returns-in_err-root-clause-made c records v is short =
     passed_on c.from_residual-in_err-root.result c.in_err-root.field-0.0 (IsBatch v f c.args.end) (IsSaveFault v f c.args.end) c.from_residual-in_err-root.ensures.1
     (none_too_wide records c.args.tree.now v is f c.args.end c.in_err-root.field-0.0 c.in_err-root.ensures.laid)
 
-pub returns-then-last-gt-GREATEST_END-clause-made : goal.returns-then-last-gt-GREATEST_END-clause-made
-returns-then-last-gt-GREATEST_END-clause-made c records v is short =
+pub returns-then-last-gt-OFFSET_MAX-clause-made : goal.returns-then-last-gt-OFFSET_MAX-clause-made
+returns-then-last-gt-OFFSET_MAX-clause-made c records v is short =
     let f = fields_told c.args.fields.now in
     let long : c.len-2.result ≡ length c.put_branch.new.out.items = search rules in
     let ends = end_is records c.args.tree.now v is f c.args.end c.in_ok-bytes.bytes.items c.put_all_fresh.new.out.items c.put_root.new.out.items c.put_commit.new.out.items c.put_branch.new.out.items c.in_ok-root.root c.in_ok-name.name
     c.in_ok-bytes.ensures.items c.in_ok-put_all_fresh.ensures.bytes c.in_ok-put_all_fresh.ensures.short c.in_ok-root.ensures.laid c.in_ok-name.ensures.bytes c.in_ok-name.ensures.name c.in_ok-name.ensures.fits
     c.in_ok-put_branch.ensures.bytes c.in_ok-put_branch.ensures.fits in
-    omega (arith, c.if-last-gt-GREATEST_END.true, long, ends)
+    omega (arith, c.if-last-gt-OFFSET_MAX.true, long, ends)
 
 pub returns-clause-made : goal.returns-clause-made
 returns-clause-made c records v is short =
@@ -40,7 +40,7 @@ returns-clause-made c records v is short =
     let at : c.len.result ≡ length c.put_root.new.out.items = search rules in
     saved records c.args.tree.now v is f c.args.end c.in_ok-bytes.bytes.items c.put_all_fresh.new.out.items c.put_root.new.out.items c.put_commit.new.out.items c.put_branch.new.out.items c.in_ok-root.root c.in_ok-name.name
     c.in_ok-bytes.ensures.items c.in_ok-put_all_fresh.ensures.bytes c.in_ok-put_all_fresh.ensures.short c.in_ok-root.ensures.laid c.in_ok-name.ensures.bytes c.in_ok-name.ensures.name c.in_ok-name.ensures.fits
-    c.in_ok-put_branch.ensures.bytes c.in_ok-put_branch.ensures.fits _ refl refl refl (ap (λ (n : ℕ). c.args.end + n) at) (ap (λ (n : ℕ). c.args.end + n) long) (omega (arith, c.if-last-gt-GREATEST_END.false))
+    c.in_ok-put_branch.ensures.bytes c.in_ok-put_branch.ensures.fits _ refl refl refl (ap (λ (n : ℕ). c.args.end + n) at) (ap (λ (n : ℕ). c.args.end + n) long) (omega (arith, c.if-last-gt-OFFSET_MAX.false))
 
 pub returns-clause-some : goal.returns-clause-some
 returns-clause-some c = some_behind _ _ _ c.in_ok-put_branch.ensures.bytes
