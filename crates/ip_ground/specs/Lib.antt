@@ -3,8 +3,10 @@ pub mod Custody
 pub mod Told
 pub mod Calls
 pub mod Counts
+pub mod Failing
 pub mod Writing
 pub mod Files
 pub mod Replay
+pub mod Acting
 pub mod Map
 pub mod ReplayLaws

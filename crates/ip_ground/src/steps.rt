@@ -1,14 +1,16 @@
 // The steps of a ground in memory, over its files and its log.
-ghost use Rattle.std.specs.Prelude.{◌≡◌, ◌≤◌, ◌-◌, ◌++◌, [], ◌∷◌, length, min, take, drop, IfOk, OnOk, OnErr, IsTrue};
-ghost use Rattle.ip_ground.specs.Told.{said, lending, IsLoose, NoFile, ChangesOnly, Reopens, IsSyncedAs};
+ghost use Rattle.std.specs.Prelude.{◌≡◌, ◌≤◌, ◌-◌, ◌⊎◌, ◌↔◌, ◌++◌, [], ◌∷◌, length, min, take, drop, IfOk, OnOk, OnErr, IsTrue};
+ghost use Rattle.ip_ground.specs.Told.{said, lending, IsLoose, MayTear, NoFile, ChangesOnly, Reopens, IsSyncedAs};
+ghost use Rattle.ip_ground.specs.Calls.{Writes};
 ghost use Rattle.ip_ground.specs.Custody.{custody_of, lent};
 ghost use Rattle.ip_ground.specs.Replay.{told_by, durable_by, said_after, lent_after, keeps_files, keeps_durable};
+ghost use Rattle.ip_ground.specs.Acting.{Acts, Plays};
 ghost use Rattle.ip_ground.specs.Map.{content_in, IsTied, IsSynced};
-ghost use Rattle.ip_ground.specs.declared.event.Event.TheVariants.{Wrote, Removed, Synced};
+ghost use Rattle.ip_ground.specs.declared.event.Event.TheVariants.{Wrote, Removed, Synced, Said, Changed};
 
 use crate::contents::{Files, copied, discard, replace, write_over};
 use crate::event::Event;
-use crate::{Act, FileName};
+use crate::{Act, FileName, GroundFault};
 use std::alloc::{AllocError, Global};
 
 // The bytes from a place on, as many as there are and as fit.
@@ -75,7 +77,7 @@ fn say_again(event: &Event, out: &mut Vec<u8>) -> Result<(), AllocError>
 
 // Whether the child may change the files of this attempt.
 fn is_lent(log: &[Event], attempt: u64) -> bool
-    ensures { IsTrue result → lending (told_by log.now) attempt ≡ lent }
+    ensures { IsTrue result ↔ (lending (told_by log.now) attempt ≡ lent) }
 {
     let mut is_lent = false;
     for event in log {
@@ -96,7 +98,7 @@ fn is_lent_after(event: &Event, attempt: u64, before: bool) -> bool
 
 // Whether the child may change this file.
 fn is_foreign(log: &[Event], file: FileName) -> bool
-    ensures { IsTrue result → custody_of (lending (told_by log.now)) file ≡ lent }
+    ensures { IsTrue result ↔ (custody_of (lending (told_by log.now)) file ≡ lent) }
 {
     match file {
         FileName::Control | FileName::Chunk(_) => false,
@@ -116,6 +118,7 @@ fn apply(
 ) -> Result<(), AllocError>
     requires tied { IsTied files.old log.old.items }
     ensures tied { IsTied files.new log.new.items }
+    ensures acts { OnOk result (Acts act.now call log.old.items log.new.items) }
     ensures only { ChangesOnly NoFile (told_by log.old.items) (told_by log.new.items) }
     ensures durable { (file : _) → durable_by log.new.items file ≡ durable_by log.old.items file }
 {
@@ -139,6 +142,7 @@ fn note_made(
     requires tied { IsTied files.old log.old.items }
     requires lent { custody_of (lending (told_by log.old.items)) file ≡ lent }
     ensures tied { IsTied files.new log.new.items }
+    ensures noted { OnOk result ((v : _) × (v.items ≡ bytes.now) × (log.new.items ≡ log.old.items ++ Changed file (Some v) ∷ [])) }
     ensures only { ChangesOnly NoFile (told_by log.old.items) (told_by log.new.items) }
     ensures durable { (file : _) → durable_by log.new.items file ≡ durable_by log.old.items file }
 {
@@ -160,6 +164,7 @@ fn note_gone(files: &mut Files, log: &mut Vec<Event>, file: FileName) -> Result<
     requires tied { IsTied files.old log.old.items }
     requires lent { custody_of (lending (told_by log.old.items)) file ≡ lent }
     ensures tied { IsTied files.new log.new.items }
+    ensures noted { OnOk result (log.new.items ≡ log.old.items ++ Changed file None ∷ []) }
     ensures only { ChangesOnly NoFile (told_by log.old.items) (told_by log.new.items) }
     ensures durable { (file : _) → durable_by log.new.items file ≡ durable_by log.old.items file }
 {
@@ -181,6 +186,35 @@ pub fn note(files: &Files, log: &mut Vec<Event>, event: Event) -> Result<(), All
     let _ = files;
     log.push(event)?;
     Ok(())
+}
+
+// A write that failed. A crash may leave any bytes in its range, unless there was no memory to note it.
+pub fn note_failed(files: &Files, log: &mut Vec<Event>, file: FileName, at: u64, bytes: &[u8])
+    requires tied { IsTied files.now log.old.items }
+    ensures tied { IsTied files.now log.new.items }
+    ensures does { (fault : GroundFault) → Writes file at bytes.now (Err fault) (told_by log.old.items) (told_by log.new.items) }
+    ensures torn { (log.new.items ≡ log.old.items) ⊎ MayTear file at (length bytes.now) (told_by log.old.items) (told_by log.new.items) }
+    ensures durable { (file : _) → durable_by log.new.items file ≡ durable_by log.old.items file }
+{
+    let count = bytes.len() as u64;
+    let _ = note(files, log, Event::Failed { file, at, count });
+}
+
+// Bytes that are said. They are said whole or not at all.
+pub fn note_said(
+    alloc: Global,
+    files: &Files,
+    log: &mut Vec<Event>,
+    bytes: &[u8],
+) -> Result<(), AllocError>
+    requires tied { IsTied files.now log.old.items }
+    ensures tied { IsTied files.now log.new.items }
+    ensures ok { OnOk result ((v : _) × (v.items ≡ bytes.now) × (log.new.items ≡ log.old.items ++ Said v ∷ [])) }
+    ensures err { OnErr result (log.new.items ≡ log.old.items) }
+    ensures durable { (file : _) → durable_by log.new.items file ≡ durable_by log.old.items file }
+{
+    let copy = bytes.to_vec(alloc)?;
+    note(files, log, Event::Said { bytes: copy })
 }
 
 // A sync that is done.
@@ -239,6 +273,7 @@ pub fn play(
 ) -> Result<(), AllocError>
     requires tied { IsTied files.old log.old.items }
     ensures tied { IsTied files.new log.new.items }
+    ensures plays { OnOk result (Plays child.now call log.old.items log.new.items) }
     ensures only { ChangesOnly NoFile (told_by log.old.items) (told_by log.new.items) }
     ensures durable { (file : _) → durable_by log.new.items file ≡ durable_by log.old.items file }
 {

@@ -1,6 +1,6 @@
 // A real folder and standard output.
 ghost use Rattle.std.specs.Prelude.{◌≡◌};
-ghost use Rattle.ip_ground.specs.Counts.{NoneFalls, Rose};
+ghost use Rattle.ip_ground.specs.Counts.{FileFault, RemoveFault, SayFault};
 
 use crate::files::FolderFiles;
 use ip_ground::{FileName, Ground, GroundCounts, GroundFault, Reaped};
@@ -47,8 +47,7 @@ impl<R: Files<File = File> + Print + Drop> Folder<R> {
 
     // Counts a fault of a file call.
     fn file_fault(&mut self) -> GroundFault
-        ensures counts { NoneFalls self.old.counts self.new.counts }
-        ensures rose { Rose self.old.counts.file_faults self.new.counts.file_faults }
+        ensures { FileFault self.old.counts self.new.counts }
     {
         self.counts.file_faults = self.counts.file_faults.saturating_add(1);
         GroundFault
@@ -56,8 +55,7 @@ impl<R: Files<File = File> + Print + Drop> Folder<R> {
 
     // Counts a fault of a removal.
     fn remove_fault(&mut self) -> GroundFault
-        ensures counts { NoneFalls self.old.counts self.new.counts }
-        ensures rose { Rose self.old.counts.remove_faults self.new.counts.remove_faults }
+        ensures { RemoveFault self.old.counts self.new.counts }
     {
         self.counts.remove_faults = self.counts.remove_faults.saturating_add(1);
         GroundFault
@@ -65,8 +63,7 @@ impl<R: Files<File = File> + Print + Drop> Folder<R> {
 
     // Counts a fault of output.
     fn say_fault(&mut self) -> GroundFault
-        ensures counts { NoneFalls self.old.counts self.new.counts }
-        ensures rose { Rose self.old.counts.say_faults self.new.counts.say_faults }
+        ensures { SayFault self.old.counts self.new.counts }
     {
         self.counts.say_faults = self.counts.say_faults.saturating_add(1);
         GroundFault
@@ -91,6 +88,8 @@ impl<R: Files<File = File> + Print + Drop> Ground for Folder<R> {
     ghost told = { λ _. silent };
 
     ghost counts_of = { λ folder. folder.counts };
+
+    ghost refuses = { λ _ _. false };
 
     ghost possible = { λ _ _ file. tt };
 

@@ -1,5 +1,5 @@
 // Where a script's bytes come from.
-ghost use Rattle.std.specs.Prelude.{◌≡◌, ◌<◌, ◌≤◌, ◌++◌, [], List, ℕ, Bool, length, take, IsTrue, IfOk, OnErr, Ok};
+ghost use Rattle.std.specs.Prelude.{◌≡◌, ◌<◌, ◌≤◌, ◌++◌, [], List, ℕ, Bool, length, take, IsTrue, IfOk, OnOk, OnErr, Ok};
 ghost use Rattle.ip_ground.specs.Counts.{Rose};
 
 use ip_base::Blob;
@@ -32,6 +32,7 @@ pub trait Source {
         ensures bytes { IsTrue tells → IfOk result (λ n. left self.old ≡ take n out.new ++ left self.new) }
         ensures ended { IsTrue tells → 0 < length out.old → result ≡ Ok 0 → left self.old ≡ [] }
         ensures failed { IsTrue tells → OnErr result (left self.new ≡ left self.old) }
+        ensures still { OnOk result (read_faults self.new ≡ read_faults self.old) }
         ensures counts { read_faults self.old ≤ read_faults self.new }
         ensures cause { OnErr result (Rose (read_faults self.old) (read_faults self.new)) };
 
