@@ -6,7 +6,8 @@ use Rattle.std.proofs.lemmas.List.Elements.{Contains-append_left, Contains-push}
 use Rattle.ip_ground.specs.declared.names.FileName.TheVariants.{Chunk}
 use Rattle.ip_ground.specs.declared.names.GroundFault.{GroundFault}
 use Rattle.ip_ground.specs.Contents.{Content}
-use Rattle.ip_ground.specs.Counts.{Rose, RoseBy}
+use Rattle.ip_ground.specs.declared.names.GroundCounts.{GroundCounts}
+use Rattle.ip_ground.specs.Counts.{Rose, RoseBy, RemoveFault, CountsAs, CountsLeft}
 use Rattle.ip_ground.specs.Told.{Told, ChangesLeft, KeepsFile, Only, ChangesOnly}
 use Rattle.ip_ground.specs.Calls.{Removes}
 use Rattle.ip_ground.proofs.Spans.{only_more, only_on}
@@ -147,11 +148,13 @@ rose_one n old mid new (inl by) (inr last) = inr last
 rose_one n old mid new (inr last) (inl more) = inr (omega (arith, last, more))
 rose_one n old mid new (inr last) (inr still) = inr still
 
-rose_on : (n old mid new : ℕ) → RoseBy n old mid → mid ≤ new → RoseBy n old new
-rose_on n old mid new (inl by) le = inl (omega (arith, by, le))
-rose_on n old mid new (inr last) le = inr (omega (arith, last, le))
-
-pub rose_next : (r : Result (Unit {0}) GroundFault) (left now old mid new : ℕ) → RoseBy left old mid → mid ≤ new → OnErr r (Rose mid new) → Counted r left now → RoseBy now old new
-rose_next r left now old mid new by le cause (inl gone) = subst (λ (n : ℕ). RoseBy n old new) (sym gone.1) (rose_on left old mid new by le)
-rose_next (Ok u) left now old mid new by le cause (inr lost) = absurd (true≢false (sym lost.0))
-rose_next (Err e) left now old mid new by le cause (inr lost) = subst (λ (n : ℕ). RoseBy n old new) (sym lost.1) (rose_one left old mid new by cause)
+pub counts_next : (r : Result (Unit {0}) GroundFault) (left now : ℕ) (old mid new : GroundCounts) → CountsLeft left old mid → CountsAs RemoveFault r mid new → Counted r left now → CountsLeft now old new
+counts_next (Ok u) left now old mid new by same (inl gone) = subst (λ (n : ℕ). CountsLeft n old new) (sym gone.1) (subst (CountsLeft left old) (sym same) by)
+counts_next (Err e) left now old mid new by counted (inl gone) = absurd (true≢false gone.0)
+counts_next (Ok u) left now old mid new by same (inr lost) = absurd (true≢false (sym lost.0))
+counts_next (Err e) left now old mid new by counted (inr lost) = subst (λ (n : ℕ). CountsLeft n old new) (sym lost.1) (record {
+  rose = rose_one left old.remove_faults mid.remove_faults new.remove_faults by.rose counted.rose;
+  none = λ zero. absurd (omega (arith, zero));
+  file_faults = counted.file_faults ∙ by.file_faults;
+  say_faults = counted.say_faults ∙ by.say_faults;
+})

@@ -1,6 +1,6 @@
 // The list of bytes, and its four calls.
 ghost use Rattle.std.specs.Prelude.{◌≡◌, ◌+◌, ◌-◌, ◌^◌, ◌<◌, ◌≤◌, min, Ok, IsTrue, IfOk, OnErr, length};
-ghost use Rattle.ip_ground.specs.Counts.{NoneFalls, Rose, RoseBy};
+ghost use Rattle.ip_ground.specs.Counts.{CountsAs, CountsLeft, FileFault};
 ghost use Rattle.ip_image.specs.Slot.{IsChunkSize};
 ghost use Rattle.ip_image.specs.Virtual.{place_in_chunk};
 ghost use Rattle.ip_chunks.specs.Places.{chunk_start, chunk_file, NoGap};
@@ -46,8 +46,7 @@ impl Chunks {
         requires room { end + length bytes.now ≤ 2 ^ 62 }
         ensures does { IsTrue G.tells → NoGap self.now.size (G.told outside.old).held (chunk_start self.now.size end) end → Appends self.now.size end bytes.now result (G.told outside.old) (G.told outside.new) }
         ensures empty { length bytes.now ≡ 0 → (result ≡ Ok tt) × (outside.new ≡ outside.old) }
-        ensures counts { NoneFalls (G.counts_of outside.old) (G.counts_of outside.new) }
-        ensures cause { OnErr result (Rose (G.counts_of outside.old).file_faults (G.counts_of outside.new).file_faults) }
+        ensures counts { CountsAs FileFault result (G.counts_of outside.old) (G.counts_of outside.new) }
     {
         let mut done = 0;
         while done < bytes.len() {
@@ -71,8 +70,7 @@ impl Chunks {
         requires some { 0 < length bytes.now }
         requires within { length bytes.now ≤ self.now.size - place_in_chunk self.now.size at }
         ensures does { IsTrue G.tells → NoGap self.now.size (G.told outside.old).held (chunk_start self.now.size at) at → Appends self.now.size at bytes.now result (G.told outside.old) (G.told outside.new) }
-        ensures counts { NoneFalls (G.counts_of outside.old) (G.counts_of outside.new) }
-        ensures cause { OnErr result (Rose (G.counts_of outside.old).file_faults (G.counts_of outside.new).file_faults) }
+        ensures counts { CountsAs FileFault result (G.counts_of outside.old) (G.counts_of outside.new) }
     {
         let (file, place) = self.file_of(at);
         outside.write(file, place, bytes)
@@ -90,8 +88,7 @@ impl Chunks {
         requires room { at + length out.old ≤ 2 ^ 62 }
         ensures does { IsTrue G.tells → ReadsAt self.now.size at out.old out.new result (G.told outside.old) (G.told outside.new) }
         ensures fits { IfOk result (λ n. n ≤ length out.old) }
-        ensures counts { NoneFalls (G.counts_of outside.old) (G.counts_of outside.new) }
-        ensures cause { OnErr result (Rose (G.counts_of outside.old).file_faults (G.counts_of outside.new).file_faults) }
+        ensures counts { CountsAs FileFault result (G.counts_of outside.old) (G.counts_of outside.new) }
     {
         let mut done = 0;
         while done < out.len() {
@@ -118,8 +115,7 @@ impl Chunks {
         requires within { length out.old ≤ self.now.size - place_in_chunk self.now.size at }
         ensures does { IsTrue G.tells → ReadsAt self.now.size at out.old out.new result (G.told outside.old) (G.told outside.new) }
         ensures fits { IfOk result (λ n. n ≤ length out.old) }
-        ensures counts { NoneFalls (G.counts_of outside.old) (G.counts_of outside.new) }
-        ensures cause { OnErr result (Rose (G.counts_of outside.old).file_faults (G.counts_of outside.new).file_faults) }
+        ensures counts { CountsAs FileFault result (G.counts_of outside.old) (G.counts_of outside.new) }
     {
         let (file, place) = self.file_of(at);
         outside.read(file, place, out)
@@ -137,8 +133,7 @@ impl Chunks {
         requires room { to ≤ 2 ^ 62 }
         ensures does { IsTrue G.tells → SyncsRange self.now.size from to result (G.told outside.old) (G.told outside.new) }
         ensures none { to ≤ from → (result ≡ Ok tt) × (outside.new ≡ outside.old) }
-        ensures counts { NoneFalls (G.counts_of outside.old) (G.counts_of outside.new) }
-        ensures cause { OnErr result (Rose (G.counts_of outside.old).file_faults (G.counts_of outside.new).file_faults) }
+        ensures counts { CountsAs FileFault result (G.counts_of outside.old) (G.counts_of outside.new) }
     {
         if from >= to {
             return Ok(());
@@ -154,8 +149,7 @@ impl Chunks {
     /// their removal failed. A removal is pending until it is synced.
     pub fn sweep<G: Ground>(&self, outside: &mut G, from: u64, to: u64) -> u64
         ensures does { IsTrue G.tells → Sweeps from to result (G.told outside.old) (G.told outside.new) }
-        ensures left { RoseBy result (G.counts_of outside.old).remove_faults (G.counts_of outside.new).remove_faults }
-        ensures counts { NoneFalls (G.counts_of outside.old) (G.counts_of outside.new) }
+        ensures counts { CountsLeft result (G.counts_of outside.old) (G.counts_of outside.new) }
     {
         let mut left = 0;
         for number in from..to {

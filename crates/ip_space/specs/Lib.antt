@@ -1,3 +1,4 @@
+pub mod Faults
 pub mod SpaceView
 pub mod Viewed
 pub mod Pair

@@ -1,6 +1,7 @@
 // Bytes that were read ahead, and the record that they begin with.
 ghost use Rattle.std.specs.Prelude.{◌≡◌, ◌+◌, ◌-◌, ◌≤◌, [], length, take, drop, IsTrue, IfOk, OnOk, OnErr, IsErrOf};
-ghost use Rattle.ip_ground.specs.Counts.{NoneFalls, Rose};
+ghost use Rattle.ip_space.specs.Faults.{ground_fetch};
+ghost use Rattle.ip_ground.specs.Counts.{Counts, CountsAs, FileFault};
 ghost use Rattle.ip_ground.specs.Told.{NoFile, ChangesOnly};
 ghost use Rattle.ip_spec.specs.Record.{Fits, spelling};
 ghost use Rattle.ip_spec.specs.Reading.{reading};
@@ -15,6 +16,7 @@ ghost use Rattle.ip_space.specs.declared.fault.FetchFault.TheVariants as FetchFa
 
 use crate::FetchFault;
 use crate::source::Source;
+use ip_base::limit::CONTENTS_MAX;
 use ip_base::{Cursor, Memory};
 use ip_ground::{Ground, GroundFault};
 use ip_object::read_record;
@@ -23,9 +25,6 @@ use std::alloc::Global;
 
 /// The version of the format.
 const VERSION: u32 = 1;
-
-/// The bytes of the longest contents.
-const MOST_CONTENTS: u32 = 1048576;
 
 /// The bytes of a kind and a length.
 const HEAD: usize = 5;
@@ -118,8 +117,7 @@ impl Ahead {
         ensures found { IfOk result (λ found. Fits newest_version found.0 × (found.1 ≡ length (spelling found.0)) × (found.1 ≤ length (held_in self.new))) }
         ensures spelled { IfOk result (λ found. BeginsWith (spelling found.0) (held_in self.new)) }
         ensures only { IsTrue G.tells → ChangesOnly NoFile (G.told outside.old) (G.told outside.new) }
-        ensures counts { NoneFalls (G.counts_of outside.old) (G.counts_of outside.new) }
-        ensures cause { IsErrOf result FetchFault.Ground → (Rose (G.counts_of outside.old).file_faults (G.counts_of outside.new).file_faults) }
+        ensures counts { Counts ground_fetch result (G.counts_of outside.old) (G.counts_of outside.new) }
     {
         self.fill(source, outside, at, stretch, to)?;
         front_record(alloc, at, self.held())
@@ -142,8 +140,7 @@ impl Ahead {
         ensures fills { IsTrue G.tells → IsReadable (G.told outside.old) (view_of source.now) → Fills at (view_of source.now) (held_in self.old) (held_in self.new) result (G.told outside.old) (G.told outside.new) }
         ensures only { IsTrue G.tells → ChangesOnly NoFile (G.told outside.old) (G.told outside.new) }
         ensures fault { IsReadFault result }
-        ensures counts { NoneFalls (G.counts_of outside.old) (G.counts_of outside.new) }
-        ensures cause { IsErrOf result FetchFault.Ground → (Rose (G.counts_of outside.old).file_faults (G.counts_of outside.new).file_faults) }
+        ensures counts { Counts ground_fetch result (G.counts_of outside.old) (G.counts_of outside.new) }
     {
         self.fill_head(source, outside, at, stretch, to)?;
         self.fill_body(source, outside, at, stretch, to)
@@ -166,8 +163,7 @@ impl Ahead {
         ensures goes { IsTrue G.tells → IsReadable (G.told outside.old) (view_of source.now) → GoesOn at 5 (view_of source.now) (held_in self.old) (held_in self.new) result (G.told outside.old) (G.told outside.new) }
         ensures only { IsTrue G.tells → ChangesOnly NoFile (G.told outside.old) (G.told outside.new) }
         ensures fault { IsReadFault result }
-        ensures counts { NoneFalls (G.counts_of outside.old) (G.counts_of outside.new) }
-        ensures cause { IsErrOf result FetchFault.Ground → (Rose (G.counts_of outside.old).file_faults (G.counts_of outside.new).file_faults) }
+        ensures counts { Counts ground_fetch result (G.counts_of outside.old) (G.counts_of outside.new) }
     {
         if self.stop - self.start >= HEAD {
             return Ok(());
@@ -193,8 +189,7 @@ impl Ahead {
         ensures goes { IsTrue G.tells → IsReadable (G.told outside.old) (view_of source.now) → GoesOn at (needed (held_in self.old)) (view_of source.now) (held_in self.old) (held_in self.new) result (G.told outside.old) (G.told outside.new) }
         ensures only { IsTrue G.tells → ChangesOnly NoFile (G.told outside.old) (G.told outside.new) }
         ensures fault { IsReadFault result }
-        ensures counts { NoneFalls (G.counts_of outside.old) (G.counts_of outside.new) }
-        ensures cause { IsErrOf result FetchFault.Ground → (Rose (G.counts_of outside.old).file_faults (G.counts_of outside.new).file_faults) }
+        ensures counts { Counts ground_fetch result (G.counts_of outside.old) (G.counts_of outside.new) }
     {
         let need = needed(self.held());
         if self.stop - self.start >= need {
@@ -233,8 +228,7 @@ impl Ahead {
         ensures goes { IsTrue G.tells → IsReadable (G.told outside.old) (view_of source.now) → GoesOn at want (view_of source.now) (held_in self.old) (held_in self.new) result (G.told outside.old) (G.told outside.new) }
         ensures only { IsTrue G.tells → ChangesOnly NoFile (G.told outside.old) (G.told outside.new) }
         ensures fault { IsReadFault result }
-        ensures counts { NoneFalls (G.counts_of outside.old) (G.counts_of outside.new) }
-        ensures cause { IsErrOf result FetchFault.Ground → (Rose (G.counts_of outside.old).file_faults (G.counts_of outside.new).file_faults) }
+        ensures counts { Counts ground_fetch result (G.counts_of outside.old) (G.counts_of outside.new) }
     {
         let want = want.min(source.layout.end.saturating_sub(at)) as usize;
         self.make_room(want)?;
@@ -284,8 +278,7 @@ fn read_into<G: Ground>(
     ensures reads { IsTrue G.tells → IsReadable (G.told outside.old) (view_of source.now) → ReadsBytes (byte_at (G.told outside.old) (view_of source.now)) at room (drop from buffer.new.items) result }
     ensures fits { IfOk result (λ n. n ≤ room) }
     ensures only { IsTrue G.tells → ChangesOnly NoFile (G.told outside.old) (G.told outside.new) }
-    ensures counts { NoneFalls (G.counts_of outside.old) (G.counts_of outside.new) }
-    ensures cause { OnErr result (Rose (G.counts_of outside.old).file_faults (G.counts_of outside.new).file_faults) }
+    ensures counts { CountsAs FileFault result (G.counts_of outside.old) (G.counts_of outside.new) }
 {
     source.read(outside, at, &mut buffer[from..from + room])
 }
@@ -304,7 +297,7 @@ fn needed(bytes: &[u8]) -> usize
     let Some(length) = Cursor::new(rest).take_u32() else {
         return 0;
     };
-    if *kind == 1 && length > MOST_CONTENTS {
+    if *kind == 1 && length > CONTENTS_MAX as u32 {
         return 0;
     }
     5 + length as usize

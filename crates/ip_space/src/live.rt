@@ -1,6 +1,7 @@
 // The live mapping and prefix.
 ghost use Rattle.std.specs.Prelude.{◌≡◌, ◌≢◌, ◌↔◌, ◌+◌, ◌*◌, ℕ, IsTrue, IfOk, OnOk, IsErrOf};
-ghost use Rattle.ip_ground.specs.Counts.{NoneFalls, Rose};
+ghost use Rattle.ip_space.specs.Faults.{ground_space};
+ghost use Rattle.ip_ground.specs.Counts.{Counts};
 ghost use Rattle.ip_ground.specs.Contents.{Image, bytes_of, size_of};
 ghost use Rattle.ip_ground.specs.Told.{IsForeign, NoFile, ChangesOnly};
 ghost use Rattle.ip_space.specs.Pair.{live_mapping, live_prefix, IsOwnPair, FindsMapping, FindsPrefix, FindsPair, HasNumbers};
@@ -23,8 +24,7 @@ pub fn read_live<G: Ground>(
     ensures horizon { IfOk result (λ m. m.horizon ≡ layout.horizon) }
     ensures finds { IsTrue G.tells → IsOwnPair (G.told outside.old) layout → FindsPair (G.told outside.new).held layout result }
     ensures only { IsTrue G.tells → ChangesOnly NoFile (G.told outside.old) (G.told outside.new) }
-    ensures counts { NoneFalls (G.counts_of outside.old) (G.counts_of outside.new) }
-    ensures cause { IsErrOf result SpaceFault.Ground → Rose (G.counts_of outside.old).file_faults (G.counts_of outside.new).file_faults }
+    ensures counts { Counts ground_space result (G.counts_of outside.old) (G.counts_of outside.new) }
 {
     let mapping = match read_mapping(alloc, outside, layout) {
         Ok(mapping) => mapping,
@@ -51,8 +51,7 @@ fn read_mapping<G: Ground>(
     ensures horizon { IfOk result (λ m. m.horizon ≡ layout.horizon) }
     ensures finds { IsTrue G.tells → ¬ IsForeign (G.told outside.old) (live_mapping layout) → FindsMapping (G.told outside.new).held layout result }
     ensures only { IsTrue G.tells → ChangesOnly NoFile (G.told outside.old) (G.told outside.new) }
-    ensures counts { NoneFalls (G.counts_of outside.old) (G.counts_of outside.new) }
-    ensures cause { IsErrOf result SpaceFault.Ground → Rose (G.counts_of outside.old).file_faults (G.counts_of outside.new).file_faults }
+    ensures counts { Counts ground_space result (G.counts_of outside.old) (G.counts_of outside.new) }
 {
     let file = FileName::Mapping(layout.live);
     let size = outside.length(file)?.unwrap_or(0);
@@ -84,8 +83,7 @@ fn read_file<G: Ground>(
         IfOk result (λ bytes. bytes.items ≡ bytes_of ((G.told outside.new).held file)) }
     ensures damaged { (place : FileName) (at : ℕ) → IsErrOf result (SpaceFault.Damaged place at) → ⊥ }
     ensures only { IsTrue G.tells → ChangesOnly NoFile (G.told outside.old) (G.told outside.new) }
-    ensures counts { NoneFalls (G.counts_of outside.old) (G.counts_of outside.new) }
-    ensures cause { IsErrOf result SpaceFault.Ground → Rose (G.counts_of outside.old).file_faults (G.counts_of outside.new).file_faults }
+    ensures counts { Counts ground_space result (G.counts_of outside.old) (G.counts_of outside.new) }
 {
     let Ok(mut bytes) = vec![in alloc; 0; size as usize] else {
         return Err(SpaceFault::Memory);
@@ -127,8 +125,7 @@ fn has_numbers(head: &Head, layout: &Layout) -> bool
 fn test_prefix<G: Ground>(outside: &mut G, layout: Layout) -> Result<(), SpaceFault>
     ensures finds { IsTrue G.tells → ¬ IsForeign (G.told outside.old) (live_prefix layout) → FindsPrefix (G.told outside.new).held layout result }
     ensures only { IsTrue G.tells → ChangesOnly NoFile (G.told outside.old) (G.told outside.new) }
-    ensures counts { NoneFalls (G.counts_of outside.old) (G.counts_of outside.new) }
-    ensures cause { IsErrOf result SpaceFault.Ground → Rose (G.counts_of outside.old).file_faults (G.counts_of outside.new).file_faults }
+    ensures counts { Counts ground_space result (G.counts_of outside.old) (G.counts_of outside.new) }
 {
     let file = FileName::Prefix(layout.live);
     if outside.length(file)? != Some(layout.prefix_len) {

@@ -1,6 +1,7 @@
 // A walk over the records of a space.
 ghost use Rattle.std.specs.Prelude.{◌≡◌, ◌-◌, ◌≤◌, [], length, IsTrue, IfOk, IfSome, IsErrOf};
-ghost use Rattle.ip_ground.specs.Counts.{NoneFalls, Rose};
+ghost use Rattle.ip_space.specs.Faults.{ground_fetch};
+ghost use Rattle.ip_ground.specs.Counts.{Counts};
 ghost use Rattle.ip_spec.specs.Record.{Fits};
 ghost use Rattle.ip_image.specs.Slot.{newest_version};
 ghost use Rattle.ip_space.specs.SpaceView.{OnlyReads, IsReadable, records_of, read_at, byte_at};
@@ -77,8 +78,7 @@ impl Scan {
         ensures moves { Moves self.old self.new result }
         ensures blames { BlamesPlace self.old.next result }
         ensures bounds { IfOk result (λ found. IfSome found (λ f. Fits newest_version f.1)) }
-        ensures counts { NoneFalls (G.counts_of outside.old) (G.counts_of outside.new) }
-        ensures cause { IsErrOf result FetchFault.Ground → Rose (G.counts_of outside.old).file_faults (G.counts_of outside.new).file_faults }
+        ensures counts { Counts ground_fetch result (G.counts_of outside.old) (G.counts_of outside.new) }
     {
         let at = self.next;
         if at >= self.to {

@@ -1,6 +1,6 @@
 // Where the bytes of a space lie.
 ghost use Rattle.std.specs.Prelude.{◌≡◌, ◌+◌, ◌-◌, ◌<◌, ◌≤◌, ◌≢◌, IsTrue, IfOk, OnErr, Some, length, map};
-ghost use Rattle.ip_ground.specs.Counts.{NoneFalls, Rose};
+ghost use Rattle.ip_ground.specs.Counts.{CountsAs, FileFault};
 ghost use Rattle.ip_ground.specs.Told.{NoFile, ChangesOnly};
 ghost use Rattle.ip_mapping.specs.Parsing.{IsRowAt};
 ghost use Rattle.ip_space.specs.SpaceView.{IsReadable, byte_at};
@@ -47,8 +47,7 @@ impl Source {
             ReadsBytes (byte_at (G.told outside.old) (view_of self.now)) at (length out.old) out.new result }
         ensures fits { IfOk result (λ n. n ≤ length out.old) }
         ensures only { IsTrue G.tells → ChangesOnly NoFile (G.told outside.old) (G.told outside.new) }
-        ensures counts { NoneFalls (G.counts_of outside.old) (G.counts_of outside.new) }
-        ensures cause { OnErr result (Rose (G.counts_of outside.old).file_faults (G.counts_of outside.new).file_faults) }
+        ensures counts { CountsAs FileFault result (G.counts_of outside.old) (G.counts_of outside.new) }
     {
         if at >= self.layout.horizon {
             return self.read_chunks(outside, at, out);
@@ -77,8 +76,7 @@ impl Source {
             ReadsBytes (byte_at (G.told outside.old) (view_of self.now)) at (length out.old) out.new result }
         ensures fits { IfOk result (λ n. n ≤ length out.old) }
         ensures only { IsTrue G.tells → ChangesOnly NoFile (G.told outside.old) (G.told outside.new) }
-        ensures counts { NoneFalls (G.counts_of outside.old) (G.counts_of outside.new) }
-        ensures cause { OnErr result (Rose (G.counts_of outside.old).file_faults (G.counts_of outside.new).file_faults) }
+        ensures counts { CountsAs FileFault result (G.counts_of outside.old) (G.counts_of outside.new) }
     {
         let place = row.place + (at - row.at);
         outside.read(FileName::Prefix(self.layout.live), place, out)
@@ -100,8 +98,7 @@ impl Source {
             ReadsBytes (byte_at (G.told outside.old) (view_of self.now)) at (length out.old) out.new result }
         ensures fits { IfOk result (λ n. n ≤ length out.old) }
         ensures only { IsTrue G.tells → ChangesOnly NoFile (G.told outside.old) (G.told outside.new) }
-        ensures counts { NoneFalls (G.counts_of outside.old) (G.counts_of outside.new) }
-        ensures cause { OnErr result (Rose (G.counts_of outside.old).file_faults (G.counts_of outside.new).file_faults) }
+        ensures counts { CountsAs FileFault result (G.counts_of outside.old) (G.counts_of outside.new) }
     {
         let behind = row.at + row.length;
         let left = (behind - at) as usize;
@@ -127,8 +124,7 @@ impl Source {
         ensures reads { IsTrue G.tells → ReadsBytes (byte_at (G.told outside.old) (view_of self.now)) at (length out.old) out.new result }
         ensures fits { IfOk result (λ n. n ≤ length out.old) }
         ensures only { IsTrue G.tells → ChangesOnly NoFile (G.told outside.old) (G.told outside.new) }
-        ensures counts { NoneFalls (G.counts_of outside.old) (G.counts_of outside.new) }
-        ensures cause { OnErr result (Rose (G.counts_of outside.old).file_faults (G.counts_of outside.new).file_faults) }
+        ensures counts { CountsAs FileFault result (G.counts_of outside.old) (G.counts_of outside.new) }
     {
         ip_chunks::places();
         let chunks = Chunks {

@@ -1,6 +1,7 @@
 // The space of a store's records.
 ghost use Rattle.std.specs.Prelude.{◌≡◌, ◌≢◌, ℕ, ◌+◌, ◌<◌, ◌≤◌, ◌^◌, ◌==◌, [], map, take, slice_get, IfSome, IsTrue, IfOk, IsOk, IsErrOf, if◌then◌else◌};
-ghost use Rattle.ip_ground.specs.Counts.{NoneFalls, Rose};
+ghost use Rattle.ip_space.specs.Faults.{ground_fetch, ground_space};
+ghost use Rattle.ip_ground.specs.Counts.{Counts};
 ghost use Rattle.ip_ground.specs.Told.{NoFile, ChangesOnly};
 ghost use Rattle.ip_spec.specs.Record.{Fits, kind_of};
 ghost use Rattle.ip_image.specs.Slot.{newest_version, IsChunkSize};
@@ -69,8 +70,7 @@ impl Space {
         ensures only { IsTrue G.tells → ChangesOnly NoFile (G.told outside.old) (G.told outside.new) }
         ensures readable { IsTrue G.tells → (layout.live ≢ 0 → IsOwnPair (G.told outside.old) layout) → IfOk result (λ space. IsReadable (G.told outside.new) space) }
         ensures unread { layout.live ≡ 0 → outside.new ≡ outside.old }
-        ensures counts { NoneFalls (G.counts_of outside.old) (G.counts_of outside.new) }
-        ensures cause { IsErrOf result SpaceFault.Ground → Rose (G.counts_of outside.old).file_faults (G.counts_of outside.new).file_faults }
+        ensures counts { Counts ground_space result (G.counts_of outside.old) (G.counts_of outside.new) }
     {
         if layout.live == 0 {
             let mapping = Mapping::none(alloc, layout.horizon, layout.end);
@@ -189,8 +189,7 @@ impl Space {
         ensures bounds { IfOk result (λ found. Fits newest_version found) }
         ensures layout { self.new.layout ≡ self.old.layout }
         ensures runs { self.new.runs ≡ self.old.runs }
-        ensures counts { NoneFalls (G.counts_of outside.old) (G.counts_of outside.new) }
-        ensures cause { IsErrOf result FetchFault.Ground → Rose (G.counts_of outside.old).file_faults (G.counts_of outside.new).file_faults }
+        ensures counts { Counts ground_fetch result (G.counts_of outside.old) (G.counts_of outside.new) }
     {
         let rec = match self.record_at(outside, reference.at) {
             Ok(rec) => rec,
@@ -210,8 +209,7 @@ impl Space {
         ensures bounds { IfOk result (λ found. Fits newest_version found) }
         ensures layout { self.new.layout ≡ self.old.layout }
         ensures runs { self.new.runs ≡ self.old.runs }
-        ensures counts { NoneFalls (G.counts_of outside.old) (G.counts_of outside.new) }
-        ensures cause { IsErrOf result FetchFault.Ground → Rose (G.counts_of outside.old).file_faults (G.counts_of outside.new).file_faults }
+        ensures counts { Counts ground_fetch result (G.counts_of outside.old) (G.counts_of outside.new) }
     {
         self.ahead.clear();
         let (rec, _) = match self

@@ -1,3 +1,4 @@
+pub mod Faults
 pub mod Node
 pub mod Meaning
 pub mod Known

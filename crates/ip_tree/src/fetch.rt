@@ -1,6 +1,7 @@
 // Fetching contents and directories.
 ghost use Rattle.std.specs.Prelude.{◌≡◌, ◌≢◌, ◌<◌, ◌^◌, ℕ, List, length, Option, Some, IsTrue, IsFalse, IfOk, IfErr, IsErrOf, MatchResult};
-ghost use Rattle.ip_ground.specs.Counts.{NoneFalls, Rose};
+ghost use Rattle.ip_tree.specs.Faults.{ground_tree};
+ghost use Rattle.ip_ground.specs.Counts.{Counts};
 ghost use Rattle.ip_space.specs.SpaceView.{OnlyReads};
 ghost use Rattle.ip_space.specs.declared.fault.FetchFault.TheVariants as FetchFault;
 ghost use Rattle.ip_spec.specs.Path.{Bytes};
@@ -31,8 +32,7 @@ pub fn fetch_leaf<G: Ground>(
     ensures count { IfOk result (λ entries. length entries < 2 ^ 32) }
     ensures layout { space.new.layout ≡ space.old.layout }
     ensures runs { space.new.runs ≡ space.old.runs }
-    ensures counts { NoneFalls (G.counts_of outside.old) (G.counts_of outside.new) }
-    ensures cause { IsErrOf result (TreeFault.Fetch FetchFault.Ground) → Rose (G.counts_of outside.old).file_faults (G.counts_of outside.new).file_faults }
+    ensures counts { Counts ground_tree result (G.counts_of outside.old) (G.counts_of outside.new) }
 {
     match space.fetch(outside, reference) {
         Ok(found) => leaf_of(found, &reference),
@@ -51,8 +51,7 @@ pub fn fetch_contents<G: Ground>(
         → MatchResult result (λ bytes. t ≡ contents bytes) IsFree }
     ensures layout { space.new.layout ≡ space.old.layout }
     ensures runs { space.new.runs ≡ space.old.runs }
-    ensures counts { NoneFalls (G.counts_of outside.old) (G.counts_of outside.new) }
-    ensures cause { IsErrOf result (TreeFault.Fetch FetchFault.Ground) → Rose (G.counts_of outside.old).file_faults (G.counts_of outside.new).file_faults }
+    ensures counts { Counts ground_tree result (G.counts_of outside.old) (G.counts_of outside.new) }
 {
     match space.fetch(outside, reference) {
         Ok(found) => contents_of(found, &reference),

@@ -1,6 +1,7 @@
 // Putting what stands in one tree into another.
 ghost use Rattle.std.specs.Prelude.{◌≡◌, ℕ, Option, IsTrue, IsErrOf};
-ghost use Rattle.ip_ground.specs.Counts.{NoneFalls, Rose};
+ghost use Rattle.ip_tree.specs.Faults.{ground_tree};
+ghost use Rattle.ip_ground.specs.Counts.{Counts};
 ghost use Rattle.ip_space.specs.SpaceView.{OnlyReads};
 ghost use Rattle.ip_space.specs.declared.fault.FetchFault.TheVariants as FetchFault;
 ghost use Rattle.ip_spec.specs.declared.record.Record.{Record};
@@ -12,13 +13,11 @@ ghost use Rattle.ip_tree.specs.declared.tree.TreeFault.TheVariants as TreeFault;
 
 use crate::height::height_at;
 use crate::tree::{Tree, TreeFault};
+use ip_base::limit::STEPS_MAX;
 use ip_base::{Limit, Number, Step};
 use ip_ground::Ground;
 use ip_space::Space;
 use std::alloc::Global;
-
-/// The most steps of a path.
-const STEPS: usize = 64;
 
 impl Tree {
     /// Puts what stands in a source at a path and under it to another path, in place of what stands there; no steps are the source's root.
@@ -39,15 +38,14 @@ impl Tree {
             → Grafts records from.now to.now self.new v w result }
         ensures layout { space.new.layout ≡ space.old.layout }
         ensures runs { space.new.runs ≡ space.old.runs }
-        ensures counts { NoneFalls (G.counts_of outside.old) (G.counts_of outside.new) }
-        ensures cause { IsErrOf result (TreeFault.Fetch FetchFault.Ground) → Rose (G.counts_of outside.old).file_faults (G.counts_of outside.new).file_faults }
+        ensures counts { Counts ground_tree result (G.counts_of outside.old) (G.counts_of outside.new) }
     {
         let part = match source.part(alloc, outside, space, from) {
             Ok(Some(part)) => part,
             Ok(None) => return Ok(false),
             Err(fault) => return Err(fault),
         };
-        if to.len() + height_at(&part) as usize > STEPS {
+        if to.len() + height_at(&part) as usize > STEPS_MAX {
             return Err(TreeFault::Limit(Limit::Depth));
         }
         match self.place(alloc, outside, space, to, part) {

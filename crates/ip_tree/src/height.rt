@@ -1,6 +1,7 @@
 // The greatest number of steps in a tree.
 ghost use Rattle.std.specs.Prelude.{◌≡◌, ℕ, Option, IsTrue, IsFalse, IsErrOf, MatchResult};
-ghost use Rattle.ip_ground.specs.Counts.{NoneFalls, Rose};
+ghost use Rattle.ip_tree.specs.Faults.{ground_tree};
+ghost use Rattle.ip_ground.specs.Counts.{Counts};
 ghost use Rattle.ip_space.specs.SpaceView.{OnlyReads};
 ghost use Rattle.ip_space.specs.declared.fault.FetchFault.TheVariants as FetchFault;
 ghost use Rattle.ip_spec.specs.declared.record.Record.{Record};
@@ -30,8 +31,7 @@ impl Tree {
             → MatchResult result (λ n. n ≡ height_of v.map) IsFree }
         ensures layout { space.new.layout ≡ space.old.layout }
         ensures runs { space.new.runs ≡ space.old.runs }
-        ensures counts { NoneFalls (G.counts_of outside.old) (G.counts_of outside.new) }
-        ensures cause { IsErrOf result (TreeFault.Fetch FetchFault.Ground) → Rose (G.counts_of outside.old).file_faults (G.counts_of outside.new).file_faults }
+        ensures counts { Counts ground_tree result (G.counts_of outside.old) (G.counts_of outside.new) }
     {
         match &self.root {
             Root::Stored(reference) => stored_height(outside, space, *reference),
@@ -69,8 +69,7 @@ fn stored_height<G: Ground>(
         → IsTree t → MatchResult result (λ n. n ≡ height_of t) IsFree }
     ensures layout { space.new.layout ≡ space.old.layout }
     ensures runs { space.new.runs ≡ space.old.runs }
-    ensures counts { NoneFalls (G.counts_of outside.old) (G.counts_of outside.new) }
-    ensures cause { IsErrOf result (TreeFault.Fetch FetchFault.Ground) → Rose (G.counts_of outside.old).file_faults (G.counts_of outside.new).file_faults }
+    ensures counts { Counts ground_tree result (G.counts_of outside.old) (G.counts_of outside.new) }
 {
     match fetch_leaf(outside, space, reference) {
         Ok(leaf) => Ok(leaf_height(leaf.as_slice())),

@@ -1,6 +1,7 @@
 // Listing what stands at a path.
 ghost use Rattle.std.specs.Prelude.{◌≡◌, ℕ, [], Option, map, IsTrue, IfErr, IfOk, IsErrOf, MatchResult};
-ghost use Rattle.ip_ground.specs.Counts.{NoneFalls, Rose};
+ghost use Rattle.ip_tree.specs.Faults.{ground_tree};
+ghost use Rattle.ip_ground.specs.Counts.{Counts};
 ghost use Rattle.ip_space.specs.SpaceView.{OnlyReads};
 ghost use Rattle.ip_space.specs.declared.fault.FetchFault.TheVariants as FetchFault;
 ghost use Rattle.ip_spec.specs.declared.record.Record.{Record};
@@ -42,8 +43,7 @@ impl Tree {
             → MatchResult result (λ listed. listed ≡ listed_at v.map path.now) IsFree }
         ensures layout { space.new.layout ≡ space.old.layout }
         ensures runs { space.new.runs ≡ space.old.runs }
-        ensures counts { NoneFalls (G.counts_of outside.old) (G.counts_of outside.new) }
-        ensures cause { IsErrOf result (TreeFault.Fetch FetchFault.Ground) → Rose (G.counts_of outside.old).file_faults (G.counts_of outside.new).file_faults }
+        ensures counts { Counts ground_tree result (G.counts_of outside.old) (G.counts_of outside.new) }
     {
         match &self.root {
             Root::Stored(reference) => list_stored(alloc, outside, space, *reference, path),
@@ -123,8 +123,7 @@ fn list_in<G: Ground>(
         → MatchResult result (λ listed. listed ≡ listed_at t steps.now) IsFree }
     ensures layout { space.new.layout ≡ space.old.layout }
     ensures runs { space.new.runs ≡ space.old.runs }
-    ensures counts { NoneFalls (G.counts_of outside.old) (G.counts_of outside.new) }
-    ensures cause { IsErrOf result (TreeFault.Fetch FetchFault.Ground) → Rose (G.counts_of outside.old).file_faults (G.counts_of outside.new).file_faults }
+    ensures counts { Counts ground_tree result (G.counts_of outside.old) (G.counts_of outside.new) }
 {
     if steps.is_empty() {
         return match items_of(alloc, directory.entries.as_slice()) {
@@ -158,8 +157,7 @@ fn list_at<G: Ground>(
         → MatchResult result (λ listed. listed ≡ listed_at t steps.now) IsFree }
     ensures layout { space.new.layout ≡ space.old.layout }
     ensures runs { space.new.runs ≡ space.old.runs }
-    ensures counts { NoneFalls (G.counts_of outside.old) (G.counts_of outside.new) }
-    ensures cause { IsErrOf result (TreeFault.Fetch FetchFault.Ground) → Rose (G.counts_of outside.old).file_faults (G.counts_of outside.new).file_faults }
+    ensures counts { Counts ground_tree result (G.counts_of outside.old) (G.counts_of outside.new) }
 {
     match node {
         Node::Stored(stored) => list_stored(alloc, outside, space, stored.reference, steps),
@@ -191,8 +189,7 @@ fn list_stored<G: Ground>(
         → MatchResult result (λ listed. listed ≡ listed_at t steps.now) IsFree }
     ensures layout { space.new.layout ≡ space.old.layout }
     ensures runs { space.new.runs ≡ space.old.runs }
-    ensures counts { NoneFalls (G.counts_of outside.old) (G.counts_of outside.new) }
-    ensures cause { IsErrOf result (TreeFault.Fetch FetchFault.Ground) → Rose (G.counts_of outside.old).file_faults (G.counts_of outside.new).file_faults }
+    ensures counts { Counts ground_tree result (G.counts_of outside.old) (G.counts_of outside.new) }
 {
     if reference.kind == 1 {
         return Ok(list_contents(steps));

@@ -1,6 +1,7 @@
 // Loading directories.
 ghost use Rattle.std.specs.Prelude.{◌≡◌, ℕ, Option, IsTrue, IsFalse, IfOk, IfErr, IsErrOf, MatchResult};
-ghost use Rattle.ip_ground.specs.Counts.{NoneFalls, Rose};
+ghost use Rattle.ip_tree.specs.Faults.{ground_tree};
+ghost use Rattle.ip_ground.specs.Counts.{Counts};
 ghost use Rattle.ip_space.specs.SpaceView.{OnlyReads};
 ghost use Rattle.ip_space.specs.declared.fault.FetchFault.TheVariants as FetchFault;
 ghost use Rattle.ip_spec.specs.declared.record.Record.{Record};
@@ -61,8 +62,7 @@ pub fn load<G: Ground>(
         → MatchResult result (λ directory. IsLoaded records reference (shown_directory directory) t) IsFree }
     ensures layout { space.new.layout ≡ space.old.layout }
     ensures runs { space.new.runs ≡ space.old.runs }
-    ensures counts { NoneFalls (G.counts_of outside.old) (G.counts_of outside.new) }
-    ensures cause { IsErrOf result (TreeFault.Fetch FetchFault.Ground) → Rose (G.counts_of outside.old).file_faults (G.counts_of outside.new).file_faults }
+    ensures counts { Counts ground_tree result (G.counts_of outside.old) (G.counts_of outside.new) }
 {
     match fetch_leaf(outside, space, reference) {
         Ok(leaf) => directory_of(alloc, leaf, &reference),
@@ -82,8 +82,7 @@ pub fn open<G: Ground>(
         → MatchResult result (λ _. IsOpened records (shown node.old) (shown node.new) t) (λ fault. (shown node.new ≡ shown node.old) × IsFree fault) }
     ensures layout { space.new.layout ≡ space.old.layout }
     ensures runs { space.new.runs ≡ space.old.runs }
-    ensures counts { NoneFalls (G.counts_of outside.old) (G.counts_of outside.new) }
-    ensures cause { IsErrOf result (TreeFault.Fetch FetchFault.Ground) → Rose (G.counts_of outside.old).file_faults (G.counts_of outside.new).file_faults }
+    ensures counts { Counts ground_tree result (G.counts_of outside.old) (G.counts_of outside.new) }
 {
     match node {
         Node::Stored(stored) => {

@@ -1,6 +1,7 @@
 // Reading below nodes that were loaded.
 ghost use Rattle.std.specs.Prelude.{◌≡◌, ◌<◌, ◌^◌, ℕ, [], Option, IsTrue, IsErrOf, MatchResult};
-ghost use Rattle.ip_ground.specs.Counts.{NoneFalls, Rose};
+ghost use Rattle.ip_tree.specs.Faults.{ground_tree};
+ghost use Rattle.ip_ground.specs.Counts.{Counts};
 ghost use Rattle.ip_space.specs.SpaceView.{OnlyReads};
 ghost use Rattle.ip_space.specs.declared.fault.FetchFault.TheVariants as FetchFault;
 ghost use Rattle.ip_spec.specs.declared.record.Record.{Record};
@@ -40,8 +41,7 @@ impl Tree {
             → MatchResult result (λ got. got ≡ got_at v.map path.now) IsFree }
         ensures layout { space.new.layout ≡ space.old.layout }
         ensures runs { space.new.runs ≡ space.old.runs }
-        ensures counts { NoneFalls (G.counts_of outside.old) (G.counts_of outside.new) }
-        ensures cause { IsErrOf result (TreeFault.Fetch FetchFault.Ground) → Rose (G.counts_of outside.old).file_faults (G.counts_of outside.new).file_faults }
+        ensures counts { Counts ground_tree result (G.counts_of outside.old) (G.counts_of outside.new) }
     {
         match &self.root {
             Root::Stored(reference) => get_stored(outside, space, *reference, path),
@@ -71,8 +71,7 @@ fn get_in<G: Ground>(
         → MatchResult result (λ got. got ≡ got_at t steps.now) IsFree }
     ensures layout { space.new.layout ≡ space.old.layout }
     ensures runs { space.new.runs ≡ space.old.runs }
-    ensures counts { NoneFalls (G.counts_of outside.old) (G.counts_of outside.new) }
-    ensures cause { IsErrOf result (TreeFault.Fetch FetchFault.Ground) → Rose (G.counts_of outside.old).file_faults (G.counts_of outside.new).file_faults }
+    ensures counts { Counts ground_tree result (G.counts_of outside.old) (G.counts_of outside.new) }
 {
     if steps.is_empty() {
         return Ok(Got::Dir(count_of(directory.entries.len())));
@@ -103,8 +102,7 @@ fn get_at<G: Ground>(
         → MatchResult result (λ got. got ≡ got_at t steps.now) IsFree }
     ensures layout { space.new.layout ≡ space.old.layout }
     ensures runs { space.new.runs ≡ space.old.runs }
-    ensures counts { NoneFalls (G.counts_of outside.old) (G.counts_of outside.new) }
-    ensures cause { IsErrOf result (TreeFault.Fetch FetchFault.Ground) → Rose (G.counts_of outside.old).file_faults (G.counts_of outside.new).file_faults }
+    ensures counts { Counts ground_tree result (G.counts_of outside.old) (G.counts_of outside.new) }
 {
     match node {
         Node::Stored(stored) => get_stored(outside, space, stored.reference, steps),

@@ -1,6 +1,7 @@
 // Putting a node at a path.
 ghost use Rattle.std.specs.Prelude.{◌≡◌, ◌<◌, ◌≤◌, ℕ, Option, map, length, insert, IsTrue, IfOk, IfErr, IsErrOf};
-ghost use Rattle.ip_ground.specs.Counts.{NoneFalls, Rose};
+ghost use Rattle.ip_tree.specs.Faults.{ground_tree};
+ghost use Rattle.ip_ground.specs.Counts.{Counts};
 ghost use Rattle.ip_space.specs.SpaceView.{OnlyReads};
 ghost use Rattle.ip_space.specs.declared.fault.FetchFault.TheVariants as FetchFault;
 ghost use Rattle.ip_spec.specs.declared.record.Record.{Record};
@@ -19,13 +20,11 @@ use crate::entries::find;
 use crate::load::open;
 use crate::node::{Directory, Entry, Node};
 use crate::tree::{Root, Tree, TreeFault};
+use ip_base::limit::ENTRIES_MAX;
 use ip_base::{Limit, Step};
 use ip_ground::Ground;
 use ip_space::Space;
 use std::alloc::Global;
-
-/// The most entries of a directory.
-const ENTRIES: usize = 32;
 
 impl Tree {
     /// Puts a node at a path, in place of what stands there, under it, or at a step before its last. Where it fails the tree is what it
@@ -44,8 +43,7 @@ impl Tree {
             → PlacesTree records path.now (shown part) sub self.new v result }
         ensures layout { space.new.layout ≡ space.old.layout }
         ensures runs { space.new.runs ≡ space.old.runs }
-        ensures counts { NoneFalls (G.counts_of outside.old) (G.counts_of outside.new) }
-        ensures cause { IsErrOf result (TreeFault.Fetch FetchFault.Ground) → Rose (G.counts_of outside.old).file_faults (G.counts_of outside.new).file_faults }
+        ensures counts { Counts ground_tree result (G.counts_of outside.old) (G.counts_of outside.new) }
     {
         match self.open_root(alloc, outside, space) {
             Ok(()) => {}
@@ -107,12 +105,11 @@ pub fn place_in<G: Ground>(
         → NodeIs records (shown part) sub → PlacesIn records steps.now (shown part) sub (shown_directory directory.old) (shown_directory directory.new) t result }
     ensures layout { space.new.layout ≡ space.old.layout }
     ensures runs { space.new.runs ≡ space.old.runs }
-    ensures counts { NoneFalls (G.counts_of outside.old) (G.counts_of outside.new) }
-    ensures cause { IsErrOf result (TreeFault.Fetch FetchFault.Ground) → Rose (G.counts_of outside.old).file_faults (G.counts_of outside.new).file_faults }
+    ensures counts { Counts ground_tree result (G.counts_of outside.old) (G.counts_of outside.new) }
 {
     match find(directory.entries.as_slice(), &steps[0]) {
         Err(i) => {
-            if directory.entries.len() >= ENTRIES {
+            if directory.entries.len() >= ENTRIES_MAX {
                 return Err(TreeFault::Limit(Limit::Entries));
             }
             let node = match chain(alloc, &steps[1..], part) {
@@ -163,8 +160,7 @@ fn place_at<G: Ground>(
         → NodeIs records (shown part) sub → PlacesAt records steps.now (shown part) sub (shown node.old) (shown node.new) t result }
     ensures layout { space.new.layout ≡ space.old.layout }
     ensures runs { space.new.runs ≡ space.old.runs }
-    ensures counts { NoneFalls (G.counts_of outside.old) (G.counts_of outside.new) }
-    ensures cause { IsErrOf result (TreeFault.Fetch FetchFault.Ground) → Rose (G.counts_of outside.old).file_faults (G.counts_of outside.new).file_faults }
+    ensures counts { Counts ground_tree result (G.counts_of outside.old) (G.counts_of outside.new) }
 {
     if steps.is_empty() {
         *node = part;

@@ -1,6 +1,7 @@
 // Reading below records of the store.
 ghost use Rattle.std.specs.Prelude.{◌≡◌, ℕ, [], Option, IsTrue, IsErrOf, MatchResult};
-ghost use Rattle.ip_ground.specs.Counts.{NoneFalls, Rose};
+ghost use Rattle.ip_tree.specs.Faults.{ground_tree};
+ghost use Rattle.ip_ground.specs.Counts.{Counts};
 ghost use Rattle.ip_space.specs.SpaceView.{OnlyReads};
 ghost use Rattle.ip_space.specs.declared.fault.FetchFault.TheVariants as FetchFault;
 ghost use Rattle.ip_spec.specs.declared.record.Record.{Record};
@@ -29,8 +30,7 @@ fn whole_stored<G: Ground>(
         → MatchResult result (λ got. got ≡ got_at sub []) IsFree }
     ensures layout { space.new.layout ≡ space.old.layout }
     ensures runs { space.new.runs ≡ space.old.runs }
-    ensures counts { NoneFalls (G.counts_of outside.old) (G.counts_of outside.new) }
-    ensures cause { IsErrOf result (TreeFault.Fetch FetchFault.Ground) → Rose (G.counts_of outside.old).file_faults (G.counts_of outside.new).file_faults }
+    ensures counts { Counts ground_tree result (G.counts_of outside.old) (G.counts_of outside.new) }
 {
     if reference.kind == 1 {
         return match fetch_contents(outside, space, reference) {
@@ -56,8 +56,7 @@ pub fn get_stored<G: Ground>(
         → MatchResult result (λ got. got ≡ got_at sub steps.now) IsFree }
     ensures layout { space.new.layout ≡ space.old.layout }
     ensures runs { space.new.runs ≡ space.old.runs }
-    ensures counts { NoneFalls (G.counts_of outside.old) (G.counts_of outside.new) }
-    ensures cause { IsErrOf result (TreeFault.Fetch FetchFault.Ground) → Rose (G.counts_of outside.old).file_faults (G.counts_of outside.new).file_faults }
+    ensures counts { Counts ground_tree result (G.counts_of outside.old) (G.counts_of outside.new) }
 {
     if steps.is_empty() {
         return whole_stored(outside, space, reference);

@@ -1,7 +1,8 @@
 // Taking away what stands at a path.
 ghost use Rattle.std.specs.Prelude.{◌≡◌, ◌<◌, ℕ, [], Option, None, length, IsTrue, IsErrOf, if◌then◌else◌};
 ghost use Rattle.std.specs.List.{remove as without_index};
-ghost use Rattle.ip_ground.specs.Counts.{NoneFalls, Rose};
+ghost use Rattle.ip_tree.specs.Faults.{ground_tree};
+ghost use Rattle.ip_ground.specs.Counts.{Counts};
 ghost use Rattle.ip_space.specs.SpaceView.{OnlyReads};
 ghost use Rattle.ip_space.specs.declared.fault.FetchFault.TheVariants as FetchFault;
 ghost use Rattle.ip_spec.specs.declared.record.Record.{Record};
@@ -45,8 +46,7 @@ impl Tree {
             → Removes records path.now self.new v result }
         ensures layout { space.new.layout ≡ space.old.layout }
         ensures runs { space.new.runs ≡ space.old.runs }
-        ensures counts { NoneFalls (G.counts_of outside.old) (G.counts_of outside.new) }
-        ensures cause { IsErrOf result (TreeFault.Fetch FetchFault.Ground) → Rose (G.counts_of outside.old).file_faults (G.counts_of outside.new).file_faults }
+        ensures counts { Counts ground_tree result (G.counts_of outside.old) (G.counts_of outside.new) }
     {
         match self.open_root(alloc, outside, space) {
             Ok(()) => {}
@@ -104,8 +104,7 @@ fn remove_in<G: Ground>(
         → RemovesIn records steps.now (shown_directory directory.old) (shown_directory directory.new) t result }
     ensures layout { space.new.layout ≡ space.old.layout }
     ensures runs { space.new.runs ≡ space.old.runs }
-    ensures counts { NoneFalls (G.counts_of outside.old) (G.counts_of outside.new) }
-    ensures cause { IsErrOf result (TreeFault.Fetch FetchFault.Ground) → Rose (G.counts_of outside.old).file_faults (G.counts_of outside.new).file_faults }
+    ensures counts { Counts ground_tree result (G.counts_of outside.old) (G.counts_of outside.new) }
 {
     match find(directory.entries.as_slice(), &steps[0]) {
         Err(_) => Ok(false),
@@ -144,8 +143,7 @@ fn remove_at<G: Ground>(
         → RemovesAt records steps.now (shown node.old) (shown node.new) t result }
     ensures layout { space.new.layout ≡ space.old.layout }
     ensures runs { space.new.runs ≡ space.old.runs }
-    ensures counts { NoneFalls (G.counts_of outside.old) (G.counts_of outside.new) }
-    ensures cause { IsErrOf result (TreeFault.Fetch FetchFault.Ground) → Rose (G.counts_of outside.old).file_faults (G.counts_of outside.new).file_faults }
+    ensures counts { Counts ground_tree result (G.counts_of outside.old) (G.counts_of outside.new) }
 {
     if steps.is_empty() {
         return Ok(Left::Nothing);

@@ -1,6 +1,7 @@
 // Putting contents.
 ghost use Rattle.std.specs.Prelude.{◌≡◌, ℕ, Option, IsTrue, IsErrOf};
-ghost use Rattle.ip_ground.specs.Counts.{NoneFalls, Rose};
+ghost use Rattle.ip_tree.specs.Faults.{ground_tree};
+ghost use Rattle.ip_ground.specs.Counts.{Counts};
 ghost use Rattle.ip_space.specs.SpaceView.{OnlyReads};
 ghost use Rattle.ip_space.specs.declared.fault.FetchFault.TheVariants as FetchFault;
 ghost use Rattle.ip_spec.specs.declared.record.Record.{Record};
@@ -12,13 +13,11 @@ ghost use Rattle.ip_tree.specs.declared.tree.TreeFault.TheVariants as TreeFault;
 
 use crate::node::Node;
 use crate::tree::{Tree, TreeFault};
+use ip_base::limit::CONTENTS_MAX;
 use ip_base::{Blob, Limit, Step};
 use ip_ground::Ground;
 use ip_space::Space;
 use std::alloc::Global;
-
-/// The most bytes of contents.
-const CONTENTS: usize = 1048576;
 
 impl Tree {
     /// Puts contents at a path, in place of what stands there, under it, or at a step before its last. Where it fails the tree is what it
@@ -37,10 +36,9 @@ impl Tree {
             → Sets records path.now value.now self.new v result }
         ensures layout { space.new.layout ≡ space.old.layout }
         ensures runs { space.new.runs ≡ space.old.runs }
-        ensures counts { NoneFalls (G.counts_of outside.old) (G.counts_of outside.new) }
-        ensures cause { IsErrOf result (TreeFault.Fetch FetchFault.Ground) → Rose (G.counts_of outside.old).file_faults (G.counts_of outside.new).file_faults }
+        ensures counts { Counts ground_tree result (G.counts_of outside.old) (G.counts_of outside.new) }
     {
-        if value.len() > CONTENTS {
+        if value.len() > CONTENTS_MAX {
             return Err(TreeFault::Limit(Limit::Contents));
         }
         let contents = match Blob::copy_of(alloc, value) {

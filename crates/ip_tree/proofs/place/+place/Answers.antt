@@ -39,13 +39,13 @@ place_in-returns-in-Err-place_at-clause-place g t c tells records tree sub over 
     let not = c.in-Err-place_at.ensures.place tells records below.sub sub over leaves below.means is_part in
     not_placed_at records d tree is s c.in-Ok.i c.index_mut.result.now place c.index_mut.ensures.value p (by_rest p s (by_first_lt p s c.requires c.index-steps-0.is)) c.place_at.new.node c.in-Err-place_at.fault not
 
-pub place_in-returns-then-len-ge-ENTRIES-clause-place : goal.place_in-returns-then-len-ge-ENTRIES-clause-place
-place_in-returns-then-len-ge-ENTRIES-clause-place g t c tells records tree sub over leaves is is_part =
+pub place_in-returns-then-len-ge-ENTRIES_MAX-clause-place : goal.place_in-returns-then-len-ge-ENTRIES_MAX-clause-place
+place_in-returns-then-len-ge-ENTRIES_MAX-clause-place g t c tells records tree sub over leaves is is_part =
     let d = c.args.directory.now in
     let p = c.args.steps.now in
     let s = c.index-steps-0.result in
     let place = rw c.as_slice.ensures.value at (sym c.in-Err.ensures) in
-    not_placed records (shown_directory d) tree p _ is (is_full_at records d tree is s c.in-Err.i p (by_rest p s (by_first_lt p s c.requires c.index-steps-0.is)) place (whole_test (out-Directory d).entries (rw c.len.ensures at c.if-len-ge-ENTRIES.true)))
+    not_placed records (shown_directory d) tree p _ is (is_full_at records d tree is s c.in-Err.i p (by_rest p s (by_first_lt p s c.requires c.index-steps-0.is)) place (whole_test (out-Directory d).entries (rw c.len.ensures at c.if-len-ge-ENTRIES_MAX.true)))
 
 pub place_in-returns-in-Ok-add-clause-place : goal.place_in-returns-in-Ok-add-clause-place
 place_in-returns-in-Ok-add-clause-place g t c tells records tree sub over leaves is is_part =
@@ -56,7 +56,7 @@ place_in-returns-in-Ok-add-clause-place g t c tells records tree sub over leaves
     let s' = c.index-steps-0-in-Err.result in
     let step : c.in-Ok-copy.step ≡ s' = c.in-Ok-copy.ensures in
     new_at records (shown c.args.part) sub is_part d tree is s c.in-Err.i c.in-Ok-chain.node c.add.new.entries _ p (by_rest p s (by_first_lt p s c.requires c.index-steps-0.is)) place
-    (room_test (out-Directory d).entries (rw c.len.ensures at c.if-len-ge-ENTRIES.false)) c.in-Ok-chain.ensures.made
+    (room_test (out-Directory d).entries (rw c.len.ensures at c.if-len-ge-ENTRIES_MAX.false)) c.in-Ok-chain.ensures.made
     (c.in-Ok-add.ensures.added ∙ ap (λ x. insert (entries_of d) c.in-Err.i (x, shown c.in-Ok-chain.node)) (step ∙ same_first p s' s c.requires c.index-steps-0-in-Err.is c.index-steps-0.is))
 
 pub place_at-returns-then-is_empty-clause-place : goal.place_at-returns-then-is_empty-clause-place

@@ -1,6 +1,5 @@
-use Rattle.std.proofs.Common.{◌+◌, Ok, length, take, arith}
+use Rattle.std.proofs.Common.{◌∙◌, ◌+◌, Ok, length, take, arith}
 use Rattle.std.proofs.lemmas.List.{length-take}
-use Rattle.ip_ground.proofs.Rising.{none_falls_on}
 use Rattle.ip_chunks.proofs.Borders.{some_size, border_next}
 use Rattle.ip_chunks.proofs.Pieces.{append_next, appends_stopped, no_gap_here}
 use Rattle.ip_chunks.proofs.chunks.Chunks.append.Goals as goal
@@ -36,5 +35,5 @@ loop-done-preserved g c =
           append_next size c.args.end bytes done count (Ok tt) (told_of c.args.outside.now) (told_of c.loop-done.outside) (told_of c.write_piece.new.outside) kept.within so_far (c.in_ok-write_piece.ensures.does told here);
       border = λ some more. border_next size c.args.end done (length bytes) count (some_size size c.requires.allowed) c.within-count.ensures more;
       none = λ zero. absurd (omega (arith, zero, c.loop-done-test.true));
-      counts = none_falls_on _ _ _ kept.counts c.in_ok-write_piece.ensures.counts;
+      counts = c.in_ok-write_piece.ensures.counts ∙ kept.counts;
     }

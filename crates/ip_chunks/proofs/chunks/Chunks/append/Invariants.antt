@@ -1,6 +1,5 @@
 use Rattle.std.proofs.Common.{◌≡◌, ◌+◌, ◌-◌, ◌<◌, ◌≤◌, length, take}
 use Rattle.std.specs.Prelude.{IsTrue, Ok}
-use Rattle.ip_ground.specs.Counts.{NoneFalls}
 use Rattle.ip_image.specs.Virtual.{place_in_chunk}
 use Rattle.ip_chunks.specs.Places.{chunk_start, NoGap}
 use Rattle.ip_chunks.specs.Effects.{Appends}
@@ -15,7 +14,7 @@ invariant-loop-done g l =
       does : IsTrue ground.tells → NoGap size (ground.told l.fn.outside).held (chunk_start size l.end) l.end → Appends size l.end (take l.done l.bytes) (Ok tt) (ground.told l.fn.outside) (ground.told l.outside);
       border : 0 < l.done → l.done < length l.bytes → place_in_chunk size (l.end + l.done) ≡ 0;
       none : length l.bytes ≡ 0 → l.outside ≡ l.fn.outside;
-      counts : NoneFalls (ground.counts_of l.fn.outside) (ground.counts_of l.outside);
+      counts : ground.counts_of l.outside ≡ ground.counts_of l.fn.outside;
     }
 
 abbrev pub decreases-loop-done : goal.decreases-loop-done

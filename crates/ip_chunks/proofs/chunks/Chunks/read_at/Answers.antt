@@ -1,6 +1,5 @@
 use Rattle.std.proofs.Common.{◌≡◌, ℕ, ◌+◌, ◌-◌, ◌≤◌, length, take, drop, ◌∙◌, ap, arith}
 use Rattle.std.proofs.lemmas.List.{length-take, length-drop}
-use Rattle.ip_ground.proofs.Rising.{none_falls_on}
 use Rattle.ip_chunks.proofs.Pieces.{length-put_mid, read_next, gap_here, reads_short, reads_stopped}
 use Rattle.ip_chunks.specs.Places.{chunk_byte}
 use Rattle.ip_chunks.proofs.chunks.Chunks.read_at.Goals as goal
@@ -53,5 +52,5 @@ loop-done-preserved g c =
       does = λ told.
           read_next c.args.self.now.size c.args.at out new_out piece done ((done + count) - done) got (told_of c.args.outside.now) (told_of c.loop-done.outside) (told_of c.read_piece.new.outside) within
           (omega (arith, fits, as_long)) (kept.does told) (c.in_ok-got.ensures.does told);
-      counts = none_falls_on _ _ _ kept.counts c.in_ok-got.ensures.counts;
+      counts = c.in_ok-got.ensures.counts ∙ kept.counts;
     }

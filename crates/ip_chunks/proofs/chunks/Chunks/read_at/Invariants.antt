@@ -1,6 +1,5 @@
 use Rattle.std.proofs.Common.{◌≡◌, ◌-◌, ◌≤◌, length, take}
 use Rattle.std.specs.Prelude.{IsTrue}
-use Rattle.ip_ground.specs.Counts.{NoneFalls}
 use Rattle.ip_chunks.proofs.Pieces.{Read}
 use Rattle.ip_chunks.proofs.chunks.Chunks.read_at.Given as goal
 
@@ -11,7 +10,7 @@ invariant-loop-done g l =
       within : l.done ≤ length l.fn.out;
       long : length l.out ≡ length l.fn.out;
       does : IsTrue ground.tells → Read l.self.size l.at (take l.done l.out) (ground.told l.fn.outside) (ground.told l.outside);
-      counts : NoneFalls (ground.counts_of l.fn.outside) (ground.counts_of l.outside);
+      counts : ground.counts_of l.outside ≡ ground.counts_of l.fn.outside;
     }
 
 abbrev pub decreases-loop-done : goal.decreases-loop-done

@@ -1,6 +1,5 @@
 use Rattle.std.proofs.Common.{inl, inr, sym, ◌∙◌, arith}
-use Rattle.ip_ground.proofs.Rising.{none_falls_on}
-use Rattle.ip_chunks.proofs.Sweeping.{Counted, counted_few, sweeps_next, sweeps_all, rose_next}
+use Rattle.ip_chunks.proofs.Sweeping.{Counted, counted_few, sweeps_next, sweeps_all, counts_next}
 use Rattle.ip_chunks.proofs.chunks.Chunks.sweep.Goals.{then-is_err, else-is_err}
 use Rattle.ip_chunks.proofs.chunks.Chunks.sweep.Goals as goal
 
@@ -16,8 +15,7 @@ loop-number-preserved g c =
       none = λ before. absurd (omega (arith, before, kept.none before, c.loop-number-test.true));
       does = λ told.
           sweeps_next c.args.from c.loop-number.number c.loop-number.left c.if-is_err.left (omega arith) _ _ _ (kept.does told) c.remove.result (c.remove.ensures.does told) counted;
-      faults = rose_next c.remove.result c.loop-number.left c.if-is_err.left _ _ _ kept.faults c.remove.ensures.counts.remove_faults c.remove.ensures.cause counted;
-      counts = none_falls_on _ _ _ kept.counts c.remove.ensures.counts;
+      counts = counts_next c.remove.result c.loop-number.left c.if-is_err.left _ _ _ kept.counts c.remove.ensures.counts counted;
     }
 
 pub returns-clause-does : goal.returns-clause-does

@@ -1,6 +1,6 @@
 use Rattle.std.proofs.Common.{◌≡◌, ◌+◌, ◌<◌, ◌≤◌}
 use Rattle.std.specs.Prelude.{IsTrue}
-use Rattle.ip_ground.specs.Counts.{NoneFalls, RoseBy}
+use Rattle.ip_ground.specs.Counts.{CountsLeft}
 use Rattle.ip_chunks.specs.Effects.{Sweeps}
 use Rattle.ip_chunks.proofs.chunks.Chunks.sweep.Given as goal
 
@@ -11,6 +11,5 @@ invariant-loop-number g l =
       few : l.left + l.from ≤ l.number;
       none : l.to < l.from → l.number ≡ l.from;
       does : IsTrue ground.tells → Sweeps l.from l.number l.left (ground.told l.fn.outside) (ground.told l.outside);
-      faults : RoseBy l.left (ground.counts_of l.fn.outside).remove_faults (ground.counts_of l.outside).remove_faults;
-      counts : NoneFalls (ground.counts_of l.fn.outside) (ground.counts_of l.outside);
+      counts : CountsLeft l.left (ground.counts_of l.fn.outside) (ground.counts_of l.outside);
     }

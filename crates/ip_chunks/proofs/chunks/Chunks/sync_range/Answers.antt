@@ -1,5 +1,4 @@
-use Rattle.std.proofs.Common.{arith}
-use Rattle.ip_ground.proofs.Rising.{none_falls_on}
+use Rattle.std.proofs.Common.{◌∙◌, arith}
 use Rattle.ip_chunks.proofs.Borders.{some_size}
 use Rattle.ip_chunks.proofs.Syncing.{one_synced, sync_failed, one_kept, all_synced}
 use Rattle.ip_chunks.proofs.chunks.Chunks.sync_range.Goals as goal
@@ -19,7 +18,7 @@ loop-number-preserved g c =
       from = omega (arith, kept.from);
       only = λ told. one_synced size c.args.from c.args.to (some_size size c.requires.allowed) c.if-from-to.false c.loop-number.number kept.from (omega arith) _ _ _ (kept.only told) c.sync.result (c.sync.ensures.does told);
       kept = λ told. one_kept _ c.loop-number.number _ _ (c.in_ok-sync.ensures.does told) (kept.kept told);
-      counts = none_falls_on _ _ _ kept.counts c.in_ok-sync.ensures.counts;
+      counts = c.in_ok-sync.ensures.counts ∙ kept.counts;
     }
 
 pub returns-clause-does : goal.returns-clause-does

@@ -1,6 +1,5 @@
-use Rattle.std.proofs.Common.{◌≤◌}
+use Rattle.std.proofs.Common.{◌≡◌, ◌≤◌}
 use Rattle.std.specs.Prelude.{IsTrue}
-use Rattle.ip_ground.specs.Counts.{NoneFalls}
 use Rattle.ip_ground.specs.Told.{SyncsOnly}
 use Rattle.ip_image.specs.Virtual.{chunk_of}
 use Rattle.ip_chunks.specs.Places.{IsChunkBetween}
@@ -15,5 +14,5 @@ invariant-loop-number g l =
       from : chunk_of size l.from ≤ l.number;
       only : IsTrue ground.tells → SyncsOnly (IsChunkBetween size l.from l.to) (ground.told l.fn.outside) (ground.told l.outside);
       kept : IsTrue ground.tells → AllKept (ground.told l.outside) (chunk_of size l.from) l.number;
-      counts : NoneFalls (ground.counts_of l.fn.outside) (ground.counts_of l.outside);
+      counts : ground.counts_of l.outside ≡ ground.counts_of l.fn.outside;
     }

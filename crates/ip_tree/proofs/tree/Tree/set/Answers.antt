@@ -13,4 +13,4 @@ returns-clause-sets g c tells records v over is =
     let bytes = c.args.value.now in
     let node : shown (variants.Contents c.in-Ok.contents) ≡ view.contents bytes = contents_shown c.in-Ok.contents ∙ ap view.contents c.in-Ok.ensures in
     let means : NodeIs records (shown (variants.Contents c.in-Ok.contents)) (contents bytes) = subst (λ (n : view.Node). NodeIs records n (contents bytes)) (sym node) refl in
-    sets_placed records c.args.self.now v is c.args.path.now bytes c.requires c.if-value-gt-CONTENTS.false c.place.new.self _ c.place.result node (c.place.ensures.place tells records v (contents bytes) over is means)
+    sets_placed records c.args.self.now v is c.args.path.now bytes c.requires c.if-value-gt-CONTENTS_MAX.false c.place.new.self _ c.place.result node (c.place.ensures.place tells records v (contents bytes) over is means)
