@@ -1,3 +1,4 @@
+pub mod Answering
 pub mod Closures
 pub mod Lines
 pub mod Rules

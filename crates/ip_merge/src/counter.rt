@@ -1,8 +1,9 @@
 // The rule of counters.
-ghost use Rattle.std.specs.Prelude.{◌≡◌, Some, IfOk, IfSome, IsTrue, ◌↔◌, ℤ, ◌+ℤ◌, ◌-ℤ◌};
+ghost use Rattle.std.specs.Prelude.{◌≡◌, Some, IfSome, IsTrue, ◌↔◌, ℤ, ◌+ℤ◌, ◌-ℤ◌};
 ghost use Rattle.std.specs.Option.{option_copied, option_and_then};
 ghost use Rattle.std.specs.Fmt.{signed_decimal};
-ghost use Rattle.ip_spec.specs.Merge.{counter_means, counter_value, ancestor_value, counter_answer, sum_answer, is_i64};
+ghost use Rattle.ip_spec.specs.Merge.{counter_means, counter_merger, counter_value, ancestor_value, counter_answer, sum_answer, is_i64};
+ghost use Rattle.ip_merge.specs.Answering.{Answers};
 
 use crate::Merger;
 use ip_base::{Blob, Memory};
@@ -25,7 +26,9 @@ impl Merger for Counter {
         base: Option<&[u8]>,
         left: Option<&[u8]>,
         right: Option<&[u8]>,
-    ) -> Result<Merged, Memory> {
+    ) -> Result<Merged, Memory>
+        ensures { Answers (counter_merger (option_copied base.entry) (option_copied left.entry) (option_copied right.entry)) result }
+    {
         answered(
             alloc,
             ancestor_number(base),
@@ -44,7 +47,7 @@ fn answered(
     requires base { IfSome base (λ n. IsTrue (is_i64 n)) }
     requires left { IfSome left (λ n. IsTrue (is_i64 n)) }
     requires right { IfSome right (λ n. IsTrue (is_i64 n)) }
-    ensures { IfOk result (λ merged. merged ≡ counter_answer base left right) }
+    ensures { Answers (counter_answer base left right) result }
 {
     match (base, left, right) {
         (Some(o), Some(a), Some(b)) => text_of_sum(alloc, sum(o, a, b)),
@@ -109,11 +112,14 @@ fn is_text_of(bytes: &[u8], number: i64) -> bool
 }
 
 fn text_of_sum(alloc: Global, sum: i128) -> Result<Merged, Memory>
-    ensures { IfOk result (λ merged. merged ≡ sum_answer sum) }
+    ensures { Answers (sum_answer sum) result }
 {
     let Ok(number) = i64::try_from(sum) else {
         return Ok(Merged::Conflict);
     };
     let mut buffer = Buffer::new();
-    Ok(Merged::Keep(Some(Blob::copy_of(alloc, buffer.format(number).as_bytes())?)))
+    match Blob::copy_of(alloc, buffer.format(number).as_bytes()) {
+        Ok(text) => Ok(Merged::Keep(Some(text))),
+        Err(memory) => Err(memory),
+    }
 }

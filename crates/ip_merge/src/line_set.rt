@@ -1,8 +1,9 @@
 // The rule of sets of lines.
 ghost use Rattle.std.specs.Prelude.{◌≡◌, ◌<◌, [], ◌∷◌, ◌++◌, ◌&&◌, ◌||◌, not, length, IfOk, OnOk};
 ghost use Rattle.ip_spec.specs.Path.{line_feed};
-ghost use Rattle.ip_spec.specs.Merge.{line_set_means, merged_lines, lines_of, ancestor_lines, has_line};
+ghost use Rattle.ip_spec.specs.Merge.{line_set_means, line_set_merger, merged_lines, lines_of, ancestor_lines, has_line};
 ghost use Rattle.std.specs.Option.{option_copied};
+ghost use Rattle.ip_merge.specs.Answering.{Answers};
 ghost use Rattle.ip_merge.specs.Lines.{insert_lines, texts};
 
 use crate::Merger;
@@ -27,11 +28,15 @@ impl Merger for LineSet {
         base: Option<&[u8]>,
         left: Option<&[u8]>,
         right: Option<&[u8]>,
-    ) -> Result<Merged, Memory> {
+    ) -> Result<Merged, Memory>
+        ensures { Answers (line_set_merger (option_copied base.entry) (option_copied left.entry) (option_copied right.entry)) result }
+    {
         match (left, right) {
             (Some(left), Some(right)) => {
-                let bytes = merged_lines(alloc, lines_or_none(base), left, right)?;
-                Ok(Merged::Keep(Some(Blob::of(bytes))))
+                match merged_lines(alloc, lines_or_none(base), left, right) {
+                    Ok(bytes) => Ok(Merged::Keep(Some(Blob::of(bytes)))),
+                    Err(memory) => Err(memory),
+                }
             }
             _ => Ok(Merged::Conflict),
         }

@@ -1,5 +1,7 @@
 // The rule of equal sides.
-ghost use Rattle.ip_spec.specs.Merge.{same_means};
+ghost use Rattle.std.specs.Option.{option_copied};
+ghost use Rattle.ip_spec.specs.Merge.{same_means, same_merger};
+ghost use Rattle.ip_merge.specs.Answering.{Answers};
 
 use crate::Merger;
 use crate::values::{copied, is_same};
@@ -20,11 +22,15 @@ impl Merger for Same {
         _base: Option<&[u8]>,
         left: Option<&[u8]>,
         right: Option<&[u8]>,
-    ) -> Result<Merged, Memory> {
-        if is_same(left, right) {
-            Ok(Merged::Keep(copied(alloc, left)?))
-        } else {
-            Ok(Merged::Conflict)
+    ) -> Result<Merged, Memory>
+        ensures { Answers (same_merger (option_copied _base.entry) (option_copied left.entry) (option_copied right.entry)) result }
+    {
+        if !is_same(left, right) {
+            return Ok(Merged::Conflict);
+        }
+        match copied(alloc, left) {
+            Ok(value) => Ok(Merged::Keep(value)),
+            Err(memory) => Err(memory),
         }
     }
 }

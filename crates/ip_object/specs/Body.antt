@@ -3,6 +3,7 @@ use Rattle.std.specs.Prelude.{◌≡◌, ◌⊎◌, ℕ, ◌-◌, ◌≤◌, Boo
 use Rattle.ip_base.specs.Fields.{left_of}
 use Rattle.ip_spec.specs.Path.{Bytes}
 use Rattle.ip_spec.specs.Reading.{Left, is_step, is_name, is_author, is_message}
+use Rattle.ip_spec.specs.declared.record.Record.{Record}
 use Rattle.ip_spec.specs.declared.record.RecordFault.{RecordFault}
 use Rattle.ip_object.specs.declared.body.Body.{Body}
 use Rattle.ip_object.specs.declared.body.Text.{Text}
@@ -37,3 +38,12 @@ is_text Text.Message bytes = is_message bytes
 -- what reading gives, want of memory aside
 abbrev pub IsRead : {A : Type 0} → Result A RecordFault → Result A RecordFault → Type 0
 IsRead result read = (result ≡ Err RecordFault.Memory) ⊎ (result ≡ read)
+
+-- reading has come behind the head: the kind is known, the length is allowed, and all of the body is there
+abbrev pub IsBehindHead : Result (Record × ℕ) RecordFault → Type 0
+IsBehindHead (Ok read) = Unit {0}
+IsBehindHead (Err (RecordFault.Form at)) = Unit {0}
+IsBehindHead (Err RecordFault.Memory) = Unit {0}
+IsBehindHead (Err RecordFault.Short) = ⊥
+IsBehindHead (Err (RecordFault.Kind kind)) = ⊥
+IsBehindHead (Err RecordFault.Length) = ⊥

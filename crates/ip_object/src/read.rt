@@ -1,12 +1,12 @@
 // Records read from the front of bytes.
-ghost use Rattle.std.specs.Prelude.{◌≡◌, ◌<◌, ◌^◌, ◌++◌, Err, IfOk, MatchOption, length, if◌then◌else◌};
+ghost use Rattle.std.specs.Prelude.{◌≡◌, ◌<◌, ◌^◌, ◌++◌, Err, IfOk, IsErrOf, MatchOption, length, if◌then◌else◌};
 ghost use Rattle.ip_spec.specs.declared.record.RecordFault.TheVariants as fault;
 ghost use Rattle.ip_spec.specs.Record.{Fits, spelling, contents_limit};
 ghost use Rattle.ip_spec.specs.Path.{Bytes};
 ghost use Rattle.ip_spec.specs.Record.Names.{branches, tags};
 ghost use Rattle.ip_spec.specs.Reading.{reading, known, body_of, fields_of, leaf_fields, commit_fields, table_fields, set_fields, remove_fields};
 ghost use Rattle.ip_object.specs.Lists.{contents_fields, inode_by_bits, set_field, rows_field};
-ghost use Rattle.ip_object.specs.Body.{left_in, Takes, IsInside, IsRead};
+ghost use Rattle.ip_object.specs.Body.{left_in, Takes, IsInside, IsRead, IsBehindHead};
 
 use crate::body::{
     Body, Text, take, take_hash, take_some_u32, take_table_length, take_u32, take_u64, take_up_to,
@@ -165,7 +165,8 @@ fn contents_limit(version: u32) -> u32
 // The record whose body these bytes are, all of them.
 fn whole_record(alloc: Global, kind: u8, bytes: &[u8]) -> Result<(Record, u64), RecordFault>
     requires { length bytes.now < 2 ^ 32 }
-    ensures { IsRead result (body_of kind bytes.now (fields_of kind)) }
+    ensures read { IsRead result (body_of kind bytes.now (fields_of kind)) }
+    ensures head { IsErrOf result fault.Memory → IsBehindHead (body_of kind bytes.now (fields_of kind)) }
 {
     let mut body = Body {
         left: Cursor::new(bytes),
@@ -181,7 +182,8 @@ fn whole_record(alloc: Global, kind: u8, bytes: &[u8]) -> Result<(Record, u64), 
 // What the bytes begin with.
 #[tactic(auto, unfolding(ip_spec::specs::Reading::reading))]
 fn read_front(alloc: Global, version: u32, bytes: &[u8]) -> Result<(Record, u64), RecordFault>
-    ensures { IsRead result (reading version bytes.now) }
+    ensures read { IsRead result (reading version bytes.now) }
+    ensures head { IsErrOf result fault.Memory → IsBehindHead (reading version bytes.now) }
 {
     let [kind, rest @ ..] = bytes else {
         return Err(RecordFault::Short);
@@ -207,6 +209,8 @@ fn read_front(alloc: Global, version: u32, bytes: &[u8]) -> Result<(Record, u64)
 /// Memory is taken for what the record holds alone, and none for a fault found before.
 pub fn read_record(alloc: Global, version: u32, bytes: &[u8]) -> Result<(Record, u64), RecordFault>
     ensures read { IsRead result (reading version bytes.now) }
+    // Want of memory hides no fault of the head.
+    ensures head { IsErrOf result fault.Memory → IsBehindHead (reading version bytes.now) }
     // What is read fits the version, and is what the bytes begin with.
     ensures fits { IfOk result (λ read. Fits version read.0) }
     ensures spelled { IfOk result (λ read. (rest : Bytes) × (bytes.now ≡ spelling read.0 ++ rest)) }

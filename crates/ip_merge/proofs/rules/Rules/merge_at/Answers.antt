@@ -1,4 +1,6 @@
 use Rattle.std.specs.Option.{option_copied}
+use Rattle.ip_spec.specs.Merge.{same_merger}
+use Rattle.ip_merge.proofs.Answered.{answer_is}
 use Rattle.ip_merge.proofs.RuleLaws.{picked_answers, unpicked_answers}
 use Rattle.ip_merge.proofs.rules.Rules.merge_at.Goals as goal
 
@@ -13,4 +15,5 @@ returns-in-Some g c =
 pub returns-in-None : goal.returns-in-None
 returns-in-None g c =
     unpicked_answers (λ r. r.at) c.args.path.now _ c.merge-in-None.result c.args.self.now.list.items c.in-None.ensures
-    (option_copied c.args.base) (option_copied c.args.left) (option_copied c.args.right) c.merge-in-None.ensures
+    (option_copied c.args.base) (option_copied c.args.left) (option_copied c.args.right)
+    (answer_is (same_merger (option_copied c.args.base) (option_copied c.args.left) (option_copied c.args.right)) c.merge-in-None.result c.merge-in-None.ensures)
