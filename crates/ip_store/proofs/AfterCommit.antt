@@ -40,6 +40,7 @@ use Rattle.ip_image.specs.Standing.{StandsFor, AreRetained}
 use Rattle.ip_image.specs.Appending.{AddsBytes, fields_of}
 use Rattle.ip_image.specs.Pending.{HasLive}
 use Rattle.ip_image.proofs.AppendingLaws.{stands_grown}
+use Rattle.ip_image.proofs.OneRepository.{all_records}
 use Rattle.ip_image.proofs.TreeBatch.{found_together}
 use Rattle.ip_history.specs.History.{History, HasParentsFirst}
 use Rattle.ip_history.proofs.Parents.{first_push}
@@ -268,6 +269,10 @@ module _ (r : Repository) (work : Work) (v : View) (branch : Bytes) (info : Info
       where
         twice : (n : ℕ) → n ≡ min n n
         twice n = omega arith
+
+  -- whichever proofs say that the images stand
+  pub list_committed : (b : Told) (store' : Store) → Step b (Ok tt) → (r' q : Repository) (before : Holds store a r') (now : Holds store' b q) → now.stands.standing.records ≡ before.stands.standing.records ++ all
+  list_committed b store' step r' q before now = list_on b store' step q now ∙ ap (λ (rs : Records). rs ++ all) (all_records a.held held.stands.standing before.stands.standing)
 
 -- ---- answers
 

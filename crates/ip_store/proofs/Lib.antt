@@ -14,7 +14,6 @@ pub mod Recovering
 mod NextSlot
 pub mod Stepping
 pub mod Editing
-mod NestedTests
 mod Renamed
 mod BranchTurns
 mod AfterCommit
@@ -25,6 +24,7 @@ mod Walking
 mod RecordSteps
 mod OpenedImages
 pub mod Listed
+pub mod Works
 mod Showing
 mod OpenedStores
 mod Listing

@@ -34,7 +34,7 @@ use Rattle.ip_image.proofs.SpelledCommits.{present_front}
 use Rattle.ip_store.specs.Store.{IsOf, Holds, image_records}
 use Rattle.ip_store.specs.Trees.{RecordsStay}
 use Rattle.ip_store.proofs.Recovering.{held_has}
-use Rattle.ip_store.proofs.Stepping.{may_step, changed, stays_made, cut_short, space_same, same_can_step, same_step}
+use Rattle.ip_store.proofs.Stepping.{list_after, may_step, changed, stays_made, cut_short, space_same, same_can_step, same_step}
 use Rattle.ip_store.proofs.NextSlot.{next_is, next_generation, next_space}
 
 abbrev IsAmong : Slot → ℕ → Type 0
@@ -70,7 +70,7 @@ no_place r at (Record.BranchRemove name) may = refl
 no_place r at (Record.BranchTable rows) may = refl
 no_place r at _ may = absurd may
 
-spelled_is : (at : ℕ) (x : Record) → spelling x ≡ bytes_of_records ((at, x) ∷ [])
+pub spelled_is : (at : ℕ) (x : Record) → spelling x ≡ bytes_of_records ((at, x) ∷ [])
 unfolding spelling_of
 spelled_is at x = sym (append-nil (spelling x))
 
@@ -168,6 +168,12 @@ module _ (r : Repository) (store : Store) (of : IsOf store r) where
       -- each record stays
       pub stays_renamed : (b : Told) (store' : Store) (q : Repository) → Step b (Ok tt) → (now : Holds store' b q) → RecordsStay (image_records held) (image_records now)
       stays_renamed b store' q step now = stays_made r after store 0 (spelling x) of small low (omega arith) a held b (to_next b (Ok tt) step) store' q now
+
+      -- behind them stands the one
+      pub list_renamed : (b : Told) (store' : Store) (q : Repository) → Step b (Ok tt) → (now : Holds store' b q) → now.stands.standing.records ≡ held.stands.standing.records ++ (store.slot.end, x) ∷ []
+      list_renamed b store' q step now =
+          list_after r after store 0 (spelling x) of small low (omega arith) a held stands_new b (to_next b (Ok tt) step)
+          ((store.slot.end, x) ∷ []) (fits, tt) (refl, refl) (spelled_is store.slot.end x) now.stands.standing
 
       pub rename_cut : (b : Told) (store' : Store) (res : Result (Unit {0}) GroundFault) → Step b res → Changes {A = Unit {0}} r after (Err StoreFault.Ground) store' a b
       rename_cut b store' res step = cut_short r after store 0 (spelling x) of small low (omega arith) a held stands_new b store' res (to_next b res step)

@@ -1,7 +1,7 @@
 -- A durable step from a repository to the next one, whatever command takes it.
 --     may_step      what the durable step asks.      changed, cut_short      the relation of a call that was made, and of one that a fault cut short
 --     list_after, stays_made      the records of the image after it, and that those before it are among them
---     same_tables, same_holds, same_changes      a store with the same tables.      changes_none      the relation of a call that was refused
+--     same_tables, same_holds, same_changes, same_appends      a store with the same tables.      changes_none      the relation of a call that was refused
 --     same_can_step, same_step      what a step asks and does, of a slot and bytes that are the same
 use Rattle.std.proofs.Common.{◌≡◌, ◌≢◌, ◌⊎◌, inl, inr, ℕ, ◌+◌, ◌-◌, ◌^◌, ◌<◌, ◌≤◌, List, ◌++◌, length, refl, sym, ◌∙◌, ap, subst, arith, length-append}
 use Rattle.std.specs.Prelude.{Option, Some, None, is_some, IsSome, Result, Ok, Err, All, map}
@@ -47,7 +47,7 @@ use Rattle.ip_control.specs.Changes.{control}
 use Rattle.ip_control.proofs.LiveLaws.{is_live, live_from, spare_from, newer_from, reaches_from}
 use Rattle.ip_store.specs.declared.committing.StoreFault.{StoreFault}
 use Rattle.ip_store.specs.declared.store.Store.{Store}
-use Rattle.ip_store.specs.Changes.{HasAnswer, Changes, next_slot}
+use Rattle.ip_store.specs.Changes.{HasAnswer, Changes, Appends, next_slot}
 use Rattle.ip_store.specs.Publishing.{front_in, CanStep, MakesStep, IsWritten, MayChange, IsOfStore}
 use Rattle.ip_space.specs.SpaceView.{SpaceView, OnlyReads}
 use Rattle.ip_store.specs.Placed.{place_of, places_in, IsSpaceOf}
@@ -136,6 +136,13 @@ module _ (store store' : Store) (same : SameTables store store') where
     flushed = is.flushed;
     space = is.space;
   }
+
+pub same_appends : (more : Records) (commits : ℕ) (store mid now : Store) (a b : Told) → SameTables mid now → SameTables now mid → Appends more commits store mid a b → Appends more commits store now a b
+unfolding same_holds
+same_appends more commits store mid now a b there back is = record {
+  slot = there.slot ∙ is.slot;
+  records = λ r q before after. is.records r q before (same_holds now mid back q b after);
+}
 
 pub out_of_itself : (store : Store) (met : Met) → SameTables (record store { met = met }) store
 out_of_itself store met = record { index = refl; slot = refl; names = refl; places = refl; branches = refl; history = refl; space = refl }

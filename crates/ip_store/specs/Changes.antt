@@ -4,13 +4,16 @@
 --     Changes r after result store old new      what it does to what a ground tells, and what the store holds then
 --     next_slot s length commits      the slot of a durable step.      IsNextSlot s length commits result      it, or which limit is met
 --     LimitsSpace end result store      which limit is met
-use Rattle.std.specs.Prelude.{◌≡◌, ℕ, ◌+◌, ◌^◌, ◌<◌, ◌≤◌, IsErr, IsErrOf, Result, Ok, Err, OnOk}
+--     Appends more commits store now old new      these records stand behind those that there were, and the slot says so
+use Rattle.std.specs.Prelude.{◌≡◌, ℕ, ◌+◌, ◌^◌, ◌<◌, ◌≤◌, ◌++◌, length, IsErr, IsErrOf, Result, Ok, Err, OnOk}
 use Rattle.ip_base.specs.declared.limit.Limit.{Limit}
 use Rattle.ip_ground.specs.Told.{Told, NoFile, ChangesOnly}
 use Rattle.ip_spec.specs.Repository.{Repository}
+use Rattle.ip_spec.specs.TreeAt.{Records}
 use Rattle.ip_image.specs.declared.slot.Slot.{Slot}
 use Rattle.ip_image.specs.Pending.{HasLive, crash_at, crash_now, NothingPending, AllFlushed, KeepsSpace}
 use Rattle.ip_image.specs.Headline.{IsAtomic, RecoversTo}
+use Rattle.ip_image.specs.Appending.{bytes_of_records}
 use Rattle.ip_store.specs.declared.committing.StoreFault.{StoreFault}
 use Rattle.ip_store.specs.declared.store.Store.{Store}
 use Rattle.ip_store.specs.Publishing.{MayChange}
@@ -59,3 +62,8 @@ pub record LimitsSpace {A : Type 0} (end : ℕ) (result : Result A StoreFault) (
   pub space : IsErrOf result (StoreFault.Limit Limit.Space) → 2 ^ 62 < end
   pub sequence : IsErrOf result (StoreFault.Limit Limit.Sequence) → (end ≤ 2 ^ 62) × (store.slot.sequence ≡ 2 ^ 62)
   pub enough : OnOk result ((end ≤ 2 ^ 62) × (store.slot.sequence < 2 ^ 62))
+
+-- Of a call that is Ok: these records, and none else, and no number of the slot but its sequence, its end and the next commit's has changed.
+pub record Appends (more : Records) (commits : ℕ) (store now : Store) (old new : Told) : Type 0 where
+  pub slot : now.slot ≡ next_slot store.slot (length (bytes_of_records more)) commits
+  pub records : (r q : Repository) (before : Holds store old r) (after : Holds now new q) → after.stands.standing.records ≡ before.stands.standing.records ++ more

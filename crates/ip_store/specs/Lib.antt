@@ -1,3 +1,4 @@
+pub mod Faults
 pub mod Changes
 pub mod Commits
 pub mod Control

@@ -13,9 +13,6 @@ use std::collections::BTreeMap;
 use std::collections::btree_map::Iter;
 use std::marker::Model;
 
-/// Branches of one store.
-pub(crate) const MOST_BRANCHES: usize = 4096;
-
 /// Names of branches and the numbers of their commits, ascending by the bytes of the names, which contracts see as a map.
 #[derive(Drop)]
 pub struct Branches {

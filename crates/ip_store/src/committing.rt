@@ -2,7 +2,8 @@
 ghost use Rattle.std.specs.Prelude.{◌≡◌, ◌≢◌, ◌++◌, [], ◌∷◌, ◌==◌, ◌≤◌, ◌<◌, ◌^◌, ℕ, Option, Ok, Err, None, map, position, All, length, vec_len, IsTrue, IfSome, IfOk, IfErr, OnOk, OnErr, IsErrOf};
 ghost use Rattle.std.specs.Vec.{vec_capacity};
 ghost use Rattle.std.specs.List.{list_any};
-ghost use Rattle.ip_ground.specs.Counts.{NoneFalls, Rose};
+ghost use Rattle.ip_store.specs.Faults.{ground_store};
+ghost use Rattle.ip_ground.specs.Counts.{Counts};
 ghost use Rattle.ip_spec.specs.declared.command.Command.TheVariants as Command;
 ghost use Rattle.ip_spec.specs.declared.reply.Reply.TheVariants as Reply;
 ghost use Rattle.ip_spec.specs.Map.{insert};
@@ -18,17 +19,17 @@ ghost use Rattle.ip_spec.specs.View.{View};
 ghost use Rattle.ip_spec.specs.declared.record.Record.{Record};
 ghost use Rattle.ip_tree.specs.TreeView.{IsView};
 ghost use Rattle.ip_store.specs.declared.committing.StoreFault.TheVariants as StoreFault;
-ghost use Rattle.ip_store.specs.Commits.{parent_named, reply_to, refused_by, met_by, IsRefusal, IsNewBatch, IsNext, IsPlan, IsPastTheEnd, end_of, Answers, Commits, GoesOn, IsSaved};
-ghost use Rattle.ip_store.specs.Changes.{HasAnswer, IsUndamaged, IsNextSlot, LimitsSpace};
+ghost use Rattle.ip_store.specs.Commits.{parent_named, reply_to, refused_by, met_by, IsRefusal, IsNewBatch, IsNext, IsPlan, IsPastTheEnd, records_of, end_of, Answers, Commits, GoesOn, IsSaved};
+ghost use Rattle.ip_store.specs.Changes.{Appends, HasAnswer, IsUndamaged, IsNextSlot, LimitsSpace};
 ghost use Rattle.ip_store.specs.Histories.{with_parents, MayEnter};
 ghost use Rattle.ip_store.specs.Store.{IsOf, Holds, SameTables, image_records};
 ghost use Rattle.ip_store.specs.Trees.{RecordsStay};
 ghost use Rattle.ip_store.specs.Work.{AreParents, IsLawful, IsAt, session};
 
-use crate::branches::MOST_BRANCHES;
 use crate::opening::nothing_met;
 use crate::publish::durable_step;
 use crate::{Branches, Store, Work};
+use ip_base::limit::{BRANCHES_MAX, OFFSET_MAX};
 use ip_base::{Blob, Hash, Info, Limit, Memory, Number, Numbers};
 use ip_control::Slot;
 use ip_ground::{Ground, GroundFault};
@@ -39,9 +40,6 @@ use ip_spec::met::Met;
 use ip_spec::record::{Parent, Parents};
 use ip_tree::Tree;
 use std::alloc::Global;
-
-/// Of offsets and sequences.
-const GREATEST: u64 = 1 << 62;
 
 /// Why a call of the store did nothing.
 #[derive(Clone, Copy, Debug, PartialEq, Eq)]
@@ -216,7 +214,7 @@ impl Store {
         ensures refused { (r : Repository) → IsOf self.now r → room_for_branch r branch.now ≡ refused_by result }
         ensures undamaged { IsUndamaged result }
     {
-        if self.branches.get(branch).is_none() && self.branches.len() >= MOST_BRANCHES {
+        if self.branches.get(branch).is_none() && self.branches.len() >= BRANCHES_MAX {
             return Err(StoreFault::Limit(Limit::Branches));
         }
         Ok(())
@@ -253,10 +251,10 @@ impl Store {
         requires few { commits ≤ 1 }
         ensures { IsNextSlot self.now.slot length commits result }
     {
-        if length as u64 > GREATEST - self.slot.end {
+        if length as u64 > OFFSET_MAX - self.slot.end {
             return Err(StoreFault::Limit(Limit::Space));
         }
-        if self.slot.sequence >= GREATEST {
+        if self.slot.sequence >= OFFSET_MAX {
             return Err(StoreFault::Limit(Limit::Sequence));
         }
         Ok(Slot {
@@ -336,12 +334,13 @@ impl Store {
             OnOk result (IsSaved (image_records now) work.new.tree (next r) v.map) }
         ensures limits { IsTrue G.tells → (r : Repository) (v : View) → IsAt (G.told outside.old) self.old r work.old v →
             LimitsSpace (end_of r work.old v branch.now info self.old) result self.old }
+        ensures appends { IsTrue G.tells → (r : Repository) (v : View) → IsAt (G.told outside.old) self.old r work.old v →
+            OnOk result (Appends (records_of r work.old v branch.now info self.old) 1 self.old self.new (G.told outside.old) (G.told outside.new)) }
         ensures does { IsTrue G.tells → (r : Repository) (v : View) → IsAt (G.told outside.old) self.old r work.old v →
             Commits r work.old v branch.now info result self.new (G.told outside.old) (G.told outside.new) }
         ensures stay { IsTrue G.tells → HasAnswer result → (r q : Repository) (held : Holds self.old (G.told outside.old) r) (now : Holds self.new (G.told outside.new) q) →
             RecordsStay (image_records held) (image_records now) }
-        ensures counts { NoneFalls (G.counts_of outside.old) (G.counts_of outside.new) }
-        ensures cause { IsErrOf result StoreFault.Ground → Rose (G.counts_of outside.old).file_faults (G.counts_of outside.new).file_faults }
+        ensures counts { Counts ground_store result (G.counts_of outside.old) (G.counts_of outside.new) }
         ensures undamaged { IsUndamaged result }
     {
         let answer = self.commit_work(alloc, outside, work, branch, info);
@@ -475,12 +474,13 @@ impl Store {
             OnOk result (IsSaved (image_records now) work.new.tree (next r) v.map) }
         ensures limits { IsTrue G.tells → (r : Repository) (v : View) → IsAt (G.told outside.old) self.old r work.old v →
             LimitsSpace (end_of r work.old v branch.now info self.old) result self.old }
+        ensures appends { IsTrue G.tells → (r : Repository) (v : View) → IsAt (G.told outside.old) self.old r work.old v →
+            OnOk result (Appends (records_of r work.old v branch.now info self.old) 1 self.old self.new (G.told outside.old) (G.told outside.new)) }
         ensures does { IsTrue G.tells → (r : Repository) (v : View) → IsAt (G.told outside.old) self.old r work.old v →
             Commits r work.old v branch.now info result self.new (G.told outside.old) (G.told outside.new) }
         ensures stay { IsTrue G.tells → HasAnswer result → (r q : Repository) (held : Holds self.old (G.told outside.old) r) (now : Holds self.new (G.told outside.new) q) →
             RecordsStay (image_records held) (image_records now) }
-        ensures counts { NoneFalls (G.counts_of outside.old) (G.counts_of outside.new) }
-        ensures cause { IsErrOf result StoreFault.Ground → Rose (G.counts_of outside.old).file_faults (G.counts_of outside.new).file_faults }
+        ensures counts { Counts ground_store result (G.counts_of outside.old) (G.counts_of outside.new) }
         ensures undamaged { IsUndamaged result }
     {
         let plan = self.plan(alloc, work, branch, info)?;

@@ -5,14 +5,10 @@ mod branches;
 mod committing;
 mod history;
 mod naming;
-#[cfg(test)]
-mod nested_tests;
 mod opening;
 mod publish;
 mod show;
 mod store;
-#[cfg(test)]
-mod tests;
 mod trees;
 mod walk;
 mod work;
@@ -22,4 +18,4 @@ pub use committing::StoreFault;
 pub use opening::OpenFault;
 pub use show::Shown;
 pub use store::{InitFault, Store, chunk_allowed};
-pub use work::{Work, leaves_only, works_stay};
+pub use work::Work;

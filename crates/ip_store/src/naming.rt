@@ -1,13 +1,14 @@
 // Setting branches and taking them away: one record behind all others, and the slot that ends there.
-ghost use Rattle.std.specs.Prelude.{◌≡◌, ◌+◌, length, true, false, Ok, IsTrue, IfSome, IfOk, OnOk, OnErr, IsErrOf, IsSome};
-ghost use Rattle.ip_ground.specs.Counts.{NoneFalls, Rose};
+ghost use Rattle.std.specs.Prelude.{◌≡◌, ◌≢◌, ◌+◌, [], ◌∷◌, length, true, false, Ok, IsTrue, IfSome, IfOk, OnOk, OnErr, IsErrOf, IsSome};
+ghost use Rattle.ip_store.specs.Faults.{ground_store};
+ghost use Rattle.ip_ground.specs.Counts.{Counts};
 ghost use Rattle.ip_spec.specs.Record.{Fits, IsBranchName, spelling};
 ghost use Rattle.ip_spec.specs.Repository.{Repository, head, is_retained};
 ghost use Rattle.ip_spec.specs.Step.{with_branch, room_for_branch};
 ghost use Rattle.ip_spec.specs.declared.record.Record.TheVariants as Record;
 ghost use Rattle.ip_image.specs.Standing.{IsServedKind};
 ghost use Rattle.ip_image.specs.Appending.{MayName, renamed};
-ghost use Rattle.ip_store.specs.Changes.{Changes, HasAnswer, IsUndamaged, LimitsSpace};
+ghost use Rattle.ip_store.specs.Changes.{Changes, Appends, HasAnswer, IsUndamaged, LimitsSpace};
 ghost use Rattle.ip_store.specs.Commits.{met_by};
 ghost use Rattle.ip_store.specs.Naming.{branch_reply, removed_reply, AnswersSet, AnswersRemove, without_branch, Renames};
 ghost use Rattle.ip_store.specs.Store.{IsOf, Holds, IsSound, image_records};
@@ -66,12 +67,12 @@ impl Store {
         requires served { IsServedKind rec }
         ensures tables { (r : Repository) → IsOf self.old r → MayName r rec → Renames r rec result self.new }
         ensures limits { LimitsSpace (self.old.slot.end + length (spelling rec)) result self.old }
+        ensures appends { IsTrue G.tells → OnOk result (Appends ((self.old.slot.end, rec) ∷ []) 0 self.old self.new (G.told outside.old) (G.told outside.new)) }
         ensures does { IsTrue G.tells → (r : Repository) → Holds self.old (G.told outside.old) r → MayName r rec →
             Changes r (renamed r rec) result self.new (G.told outside.old) (G.told outside.new) }
         ensures stay { IsTrue G.tells → HasAnswer result → (r q : Repository) (held : Holds self.old (G.told outside.old) r) (now : Holds self.new (G.told outside.new) q) →
             RecordsStay (image_records held) (image_records now) }
-        ensures counts { NoneFalls (G.counts_of outside.old) (G.counts_of outside.new) }
-        ensures cause { IsErrOf result StoreFault.Ground → Rose (G.counts_of outside.old).file_faults (G.counts_of outside.new).file_faults }
+        ensures counts { Counts ground_store result (G.counts_of outside.old) (G.counts_of outside.new) }
         ensures undamaged { IsUndamaged result }
     {
         let spelled = spelled(alloc, &rec)?;
@@ -102,12 +103,12 @@ impl Store {
         // Files are only touched where there is room for it.
         ensures begun { (r : Repository) → IsOf self.old r → IsErrOf result StoreFault.Ground → room_for_branch r name.now ≡ Ok tt }
         ensures limits { LimitsSpace (self.old.slot.end + length (spelling (Record.BranchSet number name.now))) result self.old }
+        ensures appends { IsTrue G.tells → OnOk result (Appends ((self.old.slot.end, Record.BranchSet number name.now) ∷ []) 0 self.old self.new (G.told outside.old) (G.told outside.new)) }
         ensures does { IsTrue G.tells → (r : Repository) → Holds self.old (G.told outside.old) r → IsTrue (is_retained r number) →
             Changes r (with_branch r name.now number) result self.new (G.told outside.old) (G.told outside.new) }
         ensures stay { IsTrue G.tells → HasAnswer result → (r q : Repository) (held : Holds self.old (G.told outside.old) r) (now : Holds self.new (G.told outside.new) q) →
             RecordsStay (image_records held) (image_records now) }
-        ensures counts { NoneFalls (G.counts_of outside.old) (G.counts_of outside.new) }
-        ensures cause { IsErrOf result StoreFault.Ground → Rose (G.counts_of outside.old).file_faults (G.counts_of outside.new).file_faults }
+        ensures counts { Counts ground_store result (G.counts_of outside.old) (G.counts_of outside.new) }
         ensures undamaged { IsUndamaged result }
     {
         let answer = self.put_branch(alloc, outside, name, number);
@@ -129,12 +130,12 @@ impl Store {
         // Files are only touched where there is room for it.
         ensures begun { (r : Repository) → IsOf self.old r → IsErrOf result StoreFault.Ground → room_for_branch r name.now ≡ Ok tt }
         ensures limits { LimitsSpace (self.old.slot.end + length (spelling (Record.BranchSet number name.now))) result self.old }
+        ensures appends { IsTrue G.tells → OnOk result (Appends ((self.old.slot.end, Record.BranchSet number name.now) ∷ []) 0 self.old self.new (G.told outside.old) (G.told outside.new)) }
         ensures does { IsTrue G.tells → (r : Repository) → Holds self.old (G.told outside.old) r → IsTrue (is_retained r number) →
             Changes r (with_branch r name.now number) result self.new (G.told outside.old) (G.told outside.new) }
         ensures stay { IsTrue G.tells → HasAnswer result → (r q : Repository) (held : Holds self.old (G.told outside.old) r) (now : Holds self.new (G.told outside.new) q) →
             RecordsStay (image_records held) (image_records now) }
-        ensures counts { NoneFalls (G.counts_of outside.old) (G.counts_of outside.new) }
-        ensures cause { IsErrOf result StoreFault.Ground → Rose (G.counts_of outside.old).file_faults (G.counts_of outside.new).file_faults }
+        ensures counts { Counts ground_store result (G.counts_of outside.old) (G.counts_of outside.new) }
         ensures undamaged { IsUndamaged result }
     {
         self.room_for(name)?;
@@ -156,13 +157,13 @@ impl Store {
         ensures absent { result ≡ Ok false → outside.new ≡ outside.old }
         // Files are only touched where there is such a branch.
         ensures begun { (r : Repository) → IsOf self.old r → IsErrOf result StoreFault.Ground → IsSome (head r name.now) }
-        ensures limits { (r : Repository) → IsOf self.old r → IsSome (head r name.now) → LimitsSpace (self.old.slot.end + length (spelling (Record.BranchRemove name.now))) result self.old }
+        ensures limits { result ≢ Ok false → LimitsSpace (self.old.slot.end + length (spelling (Record.BranchRemove name.now))) result self.old }
+        ensures appends { IsTrue G.tells → result ≡ Ok true → Appends ((self.old.slot.end, Record.BranchRemove name.now) ∷ []) 0 self.old self.new (G.told outside.old) (G.told outside.new) }
         ensures does { IsTrue G.tells → (r : Repository) → Holds self.old (G.told outside.old) r →
             Changes r (without_branch r name.now) result self.new (G.told outside.old) (G.told outside.new) }
         ensures stay { IsTrue G.tells → HasAnswer result → (r q : Repository) (held : Holds self.old (G.told outside.old) r) (now : Holds self.new (G.told outside.new) q) →
             RecordsStay (image_records held) (image_records now) }
-        ensures counts { NoneFalls (G.counts_of outside.old) (G.counts_of outside.new) }
-        ensures cause { IsErrOf result StoreFault.Ground → Rose (G.counts_of outside.old).file_faults (G.counts_of outside.new).file_faults }
+        ensures counts { Counts ground_store result (G.counts_of outside.old) (G.counts_of outside.new) }
         ensures undamaged { IsUndamaged result }
     {
         let answer = self.take_branch(alloc, outside, name);
@@ -182,13 +183,13 @@ impl Store {
         ensures absent { result ≡ Ok false → outside.new ≡ outside.old }
         // Files are only touched where there is such a branch.
         ensures begun { (r : Repository) → IsOf self.old r → IsErrOf result StoreFault.Ground → IsSome (head r name.now) }
-        ensures limits { (r : Repository) → IsOf self.old r → IsSome (head r name.now) → LimitsSpace (self.old.slot.end + length (spelling (Record.BranchRemove name.now))) result self.old }
+        ensures limits { result ≢ Ok false → LimitsSpace (self.old.slot.end + length (spelling (Record.BranchRemove name.now))) result self.old }
+        ensures appends { IsTrue G.tells → result ≡ Ok true → Appends ((self.old.slot.end, Record.BranchRemove name.now) ∷ []) 0 self.old self.new (G.told outside.old) (G.told outside.new) }
         ensures does { IsTrue G.tells → (r : Repository) → Holds self.old (G.told outside.old) r →
             Changes r (without_branch r name.now) result self.new (G.told outside.old) (G.told outside.new) }
         ensures stay { IsTrue G.tells → HasAnswer result → (r q : Repository) (held : Holds self.old (G.told outside.old) r) (now : Holds self.new (G.told outside.new) q) →
             RecordsStay (image_records held) (image_records now) }
-        ensures counts { NoneFalls (G.counts_of outside.old) (G.counts_of outside.new) }
-        ensures cause { IsErrOf result StoreFault.Ground → Rose (G.counts_of outside.old).file_faults (G.counts_of outside.new).file_faults }
+        ensures counts { Counts ground_store result (G.counts_of outside.old) (G.counts_of outside.new) }
         ensures undamaged { IsUndamaged result }
     {
         if self.head(name).is_none() {

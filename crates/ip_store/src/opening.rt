@@ -1,6 +1,7 @@
 // Opening a store: its control file is read, and then each of its records, once.
 ghost use Rattle.std.specs.Prelude.{◌≡◌, ◌↔◌, ◌+◌, ◌*◌, ◌<◌, length, IsTrue, IfOk, IsErrOf};
-ghost use Rattle.ip_ground.specs.Counts.{NoneFalls, Rose};
+ghost use Rattle.ip_store.specs.Faults.{ground_open};
+ghost use Rattle.ip_ground.specs.Counts.{Counts};
 ghost use Rattle.ip_spec.specs.Repository.{Repository};
 ghost use Rattle.ip_image.specs.Slot.{IsSlot, layout_of};
 ghost use Rattle.ip_image.specs.Standing.{AreRetained};
@@ -14,11 +15,11 @@ ghost use Rattle.ip_store.specs.Store.{IsOf, OwnsPair};
 ghost use Rattle.ip_store.specs.declared.opening.OpenFault.TheVariants as OpenFault;
 ghost use Rattle.ip_ground.specs.declared.names.FileName.TheVariants.{Control};
 
-use crate::branches::MOST_BRANCHES;
 use crate::walk::{Found, read_records};
 use crate::{Branches, Store};
 use ip_audit::Names;
 use ip_base::Memory;
+use ip_base::limit::BRANCHES_MAX;
 use ip_control::{ControlFault, Slot, read_live};
 use ip_ground::{FileName, Ground, GroundFault};
 use ip_space::{Layout, Space, SpaceFault};
@@ -67,8 +68,7 @@ impl Store {
         ensures tables { IfOk result (λ store. (r : Repository) × IsOf store r) }
         ensures met { IfOk result (λ store. store.met ≡ met_nothing) }
         ensures does { IsTrue G.tells → Opens result (G.told outside.old) (G.told outside.new) }
-        ensures counts { NoneFalls (G.counts_of outside.old) (G.counts_of outside.new) }
-        ensures cause { IsErrOf result OpenFault.Ground → Rose (G.counts_of outside.old).file_faults (G.counts_of outside.new).file_faults }
+        ensures counts { Counts ground_open result (G.counts_of outside.old) (G.counts_of outside.new) }
     {
         let (index, slot) = find_slot(outside)?;
         let space = space_of(alloc, outside, &slot)?;
@@ -81,8 +81,7 @@ impl Store {
 fn find_slot<G: Ground>(outside: &mut G) -> Result<(u8, Slot), OpenFault>
     ensures order { IfOk result (λ live. (live.0 < 2) × IsSlot live.1) }
     ensures does { IsTrue G.tells → FindsSlot result (G.told outside.old) (G.told outside.new) }
-    ensures counts { NoneFalls (G.counts_of outside.old) (G.counts_of outside.new) }
-    ensures cause { IsErrOf result OpenFault.Ground → Rose (G.counts_of outside.old).file_faults (G.counts_of outside.new).file_faults }
+    ensures counts { Counts ground_open result (G.counts_of outside.old) (G.counts_of outside.new) }
 {
     if outside.length(FileName::Control)?.is_none() {
         return Err(OpenFault::NoStore);
@@ -128,8 +127,7 @@ fn space_of<G: Ground>(alloc: Global, outside: &mut G, slot: &Slot) -> Result<Sp
     ensures readable { IsTrue G.tells → OwnsPair (G.told outside.old) slot.now → IfOk result (λ space. IsReadable (G.told outside.new) space) }
     ensures there { IsErrOf result OpenFault.NoStore → ⊥ }
     ensures only { IsTrue G.tells → ChangesOnly NoFile (G.told outside.old) (G.told outside.new) }
-    ensures counts { NoneFalls (G.counts_of outside.old) (G.counts_of outside.new) }
-    ensures cause { IsErrOf result OpenFault.Ground → Rose (G.counts_of outside.old).file_faults (G.counts_of outside.new).file_faults }
+    ensures counts { Counts ground_open result (G.counts_of outside.old) (G.counts_of outside.new) }
 {
     match Space::of(alloc, outside, layout_of(slot)) {
         Ok(space) => Ok(space),
@@ -175,7 +173,7 @@ fn is_whole(slot: &Slot, names: &Names, branches: &Branches) -> bool
     ensures { IsTrue result ↔ ((slot.now.next ≡ slot.now.floor + length names.now) × AreRetained slot.now branches.now) }
 {
     slot.next - slot.floor == names.len() as u64
-        && branches.len() <= MOST_BRANCHES
+        && branches.len() <= BRANCHES_MAX
         && branches.are_within(slot.floor, slot.next)
 }
 

@@ -1,6 +1,6 @@
 // A durable step: records behind the end, and then a slot that names their end.
 ghost use Rattle.std.specs.Prelude.{◌+◌, ◌^◌, ◌<◌, ◌≤◌, length, IsTrue, OnErr};
-ghost use Rattle.ip_ground.specs.Counts.{NoneFalls, Rose};
+ghost use Rattle.ip_ground.specs.Counts.{CountsAs, FileFault};
 ghost use Rattle.ip_image.specs.Slot.{IsChunkSize};
 ghost use Rattle.ip_store.specs.Publishing.{CanStep, MakesStep};
 
@@ -21,8 +21,7 @@ pub fn durable_step<G: Ground>(
     requires chunk { IsChunkSize fields.now.chunk }
     requires room { end + length bytes.now ≤ 2 ^ 62 }
     ensures does { IsTrue G.tells → CanStep end slot fields.now (G.told outside.old) → MakesStep end bytes.now slot fields.now result (G.told outside.old) (G.told outside.new) }
-    ensures counts { NoneFalls (G.counts_of outside.old) (G.counts_of outside.new) }
-    ensures cause { OnErr result (Rose (G.counts_of outside.old).file_faults (G.counts_of outside.new).file_faults) }
+    ensures counts { CountsAs FileFault result (G.counts_of outside.old) (G.counts_of outside.new) }
 {
     let chunks = Chunks { size: fields.chunk };
     chunks.append(outside, end, bytes)?;

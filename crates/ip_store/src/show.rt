@@ -1,6 +1,7 @@
 // What the store tells of one commit: its record is fetched from where it lies.
 ghost use Rattle.std.specs.Prelude.{◌≡◌, map, IsTrue, IfOk, IsErrOf};
-ghost use Rattle.ip_ground.specs.Counts.{NoneFalls, Rose};
+ghost use Rattle.ip_store.specs.Faults.{ground_store};
+ghost use Rattle.ip_ground.specs.Counts.{Counts};
 ghost use Rattle.ip_spec.specs.declared.record.Parent.{Parent};
 ghost use Rattle.ip_spec.specs.Record.{reference_kind};
 ghost use Rattle.ip_spec.specs.Repository.{Repository, is_retained, name_at};
@@ -64,8 +65,7 @@ impl Store {
         ensures same { SameTables self.old self.new }
         ensures met { self.new.met ≡ self.old.met }
         ensures looks { IsTrue G.tells → OnlyLooks (G.told outside.old) (G.told outside.new) self.old self.new }
-        ensures counts { NoneFalls (G.counts_of outside.old) (G.counts_of outside.new) }
-        ensures cause { IsErrOf result StoreFault.Ground → Rose (G.counts_of outside.old).file_faults (G.counts_of outside.new).file_faults }
+        ensures counts { Counts ground_store result (G.counts_of outside.old) (G.counts_of outside.new) }
     {
         let name = self.retained_name(number);
         let commit = match self.commit_record(outside, number) {
@@ -90,8 +90,7 @@ impl Store {
         ensures met { self.new.met ≡ self.old.met }
         ensures reads { IsTrue G.tells → OnlyReads (G.told outside.old) (G.told outside.new) self.old.space self.new.space }
         ensures holds { IsTrue G.tells → (r : Repository) → Holds self.old (G.told outside.old) r → Holds self.new (G.told outside.new) r }
-        ensures counts { NoneFalls (G.counts_of outside.old) (G.counts_of outside.new) }
-        ensures cause { IsErrOf result StoreFault.Ground → Rose (G.counts_of outside.old).file_faults (G.counts_of outside.new).file_faults }
+        ensures counts { Counts ground_store result (G.counts_of outside.old) (G.counts_of outside.new) }
     {
         match self.commit_record(outside, number) {
             Ok(commit) => Ok(Ref {
@@ -118,8 +117,7 @@ impl Store {
         ensures met { self.new.met ≡ self.old.met }
         ensures reads { IsTrue G.tells → OnlyReads (G.told outside.old) (G.told outside.new) self.old.space self.new.space }
         ensures holds { IsTrue G.tells → (r : Repository) → Holds self.old (G.told outside.old) r → Holds self.new (G.told outside.new) r }
-        ensures counts { NoneFalls (G.counts_of outside.old) (G.counts_of outside.new) }
-        ensures cause { IsErrOf result StoreFault.Ground → Rose (G.counts_of outside.old).file_faults (G.counts_of outside.new).file_faults }
+        ensures counts { Counts ground_store result (G.counts_of outside.old) (G.counts_of outside.new) }
     {
         ip_space::present_records();
         let reference = self.reference_to(number);

@@ -1,6 +1,7 @@
 // The control file of a store without commits.
 ghost use Rattle.std.specs.Prelude.{◌≡◌, ◌↔◌, IsTrue, OnErr, IfOk, IsErrOf, is_some, take, length, ◌+◌, ◌≤◌, nat_le, ◌&&◌, ◌==◌, slice_index, slice_get, map, option_map, MatchOption, None, Some};
-ghost use Rattle.ip_ground.specs.Counts.{NoneFalls, Rose};
+ghost use Rattle.ip_store.specs.Faults.{ground_init};
+ghost use Rattle.ip_ground.specs.Counts.{Counts};
 ghost use Rattle.ip_ground.specs.Told.{NoFile, ChangesOnly};
 ghost use Rattle.ip_image.specs.Slot.{IsChunkSize, live_index, fresh_control};
 ghost use Rattle.ip_store.specs.Control.{control_in};
@@ -68,8 +69,7 @@ impl Store {
     pub fn init<G: Ground>(outside: &mut G, chunk: u64) -> Result<(), InitFault>
         requires { IsChunkSize chunk }
         ensures does { IsTrue G.tells → Makes chunk result (G.told outside.old) (G.told outside.new) }
-        ensures counts { NoneFalls (G.counts_of outside.old) (G.counts_of outside.new) }
-        ensures cause { IsErrOf result InitFault.Ground → Rose (G.counts_of outside.old).file_faults (G.counts_of outside.new).file_faults }
+        ensures counts { Counts ground_init result (G.counts_of outside.old) (G.counts_of outside.new) }
     {
         let mut room = [0; 256];
         let count = outside.read(FileName::Control, 0, &mut room)?;

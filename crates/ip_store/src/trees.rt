@@ -1,6 +1,8 @@
 // Trees over a store's records.
 ghost use Rattle.std.specs.Prelude.{◌≡◌, IsTrue, IsErrOf, MatchResult};
-ghost use Rattle.ip_ground.specs.Counts.{NoneFalls, Rose};
+ghost use Rattle.ip_store.specs.Faults.{ground_store};
+ghost use Rattle.ip_tree.specs.Faults.{ground_tree};
+ghost use Rattle.ip_ground.specs.Counts.{Counts};
 ghost use Rattle.ip_space.specs.SpaceView.{records_of};
 ghost use Rattle.ip_space.specs.declared.fault.FetchFault.TheVariants as FetchFault;
 ghost use Rattle.ip_spec.specs.Path.{IsPath};
@@ -37,8 +39,7 @@ impl Store {
         ensures same { SameTables self.old self.new }
         ensures met { self.new.met ≡ self.old.met }
         ensures looks { IsTrue G.tells → OnlyLooks (G.told outside.old) (G.told outside.new) self.old self.new }
-        ensures counts { NoneFalls (G.counts_of outside.old) (G.counts_of outside.new) }
-        ensures cause { IsErrOf result (TreeFault.Fetch FetchFault.Ground) → Rose (G.counts_of outside.old).file_faults (G.counts_of outside.new).file_faults }
+        ensures counts { Counts ground_tree result (G.counts_of outside.old) (G.counts_of outside.new) }
     {
         tree.get(alloc, outside, &mut self.space, path)
     }
@@ -56,8 +57,7 @@ impl Store {
         ensures same { SameTables self.old self.new }
         ensures met { self.new.met ≡ self.old.met }
         ensures looks { IsTrue G.tells → OnlyLooks (G.told outside.old) (G.told outside.new) self.old self.new }
-        ensures counts { NoneFalls (G.counts_of outside.old) (G.counts_of outside.new) }
-        ensures cause { IsErrOf result (TreeFault.Fetch FetchFault.Ground) → Rose (G.counts_of outside.old).file_faults (G.counts_of outside.new).file_faults }
+        ensures counts { Counts ground_tree result (G.counts_of outside.old) (G.counts_of outside.new) }
     {
         tree.list(alloc, outside, &mut self.space, path)
     }
@@ -78,8 +78,7 @@ impl Store {
         ensures same { SameTables self.old self.new }
         ensures met { self.new.met ≡ self.old.met }
         ensures looks { IsTrue G.tells → OnlyLooks (G.told outside.old) (G.told outside.new) self.old self.new }
-        ensures counts { NoneFalls (G.counts_of outside.old) (G.counts_of outside.new) }
-        ensures cause { IsErrOf result (TreeFault.Fetch FetchFault.Ground) → Rose (G.counts_of outside.old).file_faults (G.counts_of outside.new).file_faults }
+        ensures counts { Counts ground_tree result (G.counts_of outside.old) (G.counts_of outside.new) }
     {
         tree.set(alloc, outside, &mut self.space, path, value)
     }
@@ -99,8 +98,7 @@ impl Store {
         ensures same { SameTables self.old self.new }
         ensures met { self.new.met ≡ self.old.met }
         ensures looks { IsTrue G.tells → OnlyLooks (G.told outside.old) (G.told outside.new) self.old self.new }
-        ensures counts { NoneFalls (G.counts_of outside.old) (G.counts_of outside.new) }
-        ensures cause { IsErrOf result (TreeFault.Fetch FetchFault.Ground) → Rose (G.counts_of outside.old).file_faults (G.counts_of outside.new).file_faults }
+        ensures counts { Counts ground_tree result (G.counts_of outside.old) (G.counts_of outside.new) }
     {
         tree.remove(alloc, outside, &mut self.space, path)
     }
@@ -122,8 +120,7 @@ impl Store {
         ensures same { SameTables self.old self.new }
         ensures met { self.new.met ≡ self.old.met }
         ensures looks { IsTrue G.tells → OnlyLooks (G.told outside.old) (G.told outside.new) self.old self.new }
-        ensures counts { NoneFalls (G.counts_of outside.old) (G.counts_of outside.new) }
-        ensures cause { IsErrOf result (TreeFault.Fetch FetchFault.Ground) → Rose (G.counts_of outside.old).file_faults (G.counts_of outside.new).file_faults }
+        ensures counts { Counts ground_tree result (G.counts_of outside.old) (G.counts_of outside.new) }
     {
         tree.graft(alloc, outside, &mut self.space, source, from, to)
     }
@@ -142,8 +139,7 @@ impl Store {
         ensures same { SameTables self.old self.new }
         ensures met { self.new.met ≡ self.old.met }
         ensures looks { IsTrue G.tells → OnlyLooks (G.told outside.old) (G.told outside.new) self.old self.new }
-        ensures counts { NoneFalls (G.counts_of outside.old) (G.counts_of outside.new) }
-        ensures cause { IsErrOf result StoreFault.Ground → Rose (G.counts_of outside.old).file_faults (G.counts_of outside.new).file_faults }
+        ensures counts { Counts ground_store result (G.counts_of outside.old) (G.counts_of outside.new) }
     {
         match self.root_of(outside, number) {
             Ok(root) => Ok(Tree::of(number, root)),

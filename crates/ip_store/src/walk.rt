@@ -1,6 +1,7 @@
 // The walk over a store's records: each is read once, in the order of the offsets, and tested behind those before it.
 ghost use Rattle.std.specs.Prelude.{◌≡◌, ◌↔◌, ℕ, [], ◌∷◌, ◌++◌, ◌+◌, ◌^◌, ◌<◌, ◌≤◌, length, map, Option, Err, IsSome, IsTrue, IsFalse, IfOk, OnOk, OnErr, IsErrOf};
-ghost use Rattle.ip_ground.specs.Counts.{NoneFalls, Rose};
+ghost use Rattle.ip_store.specs.Faults.{ground_open};
+ghost use Rattle.ip_ground.specs.Counts.{Counts};
 ghost use Rattle.ip_ground.specs.Told.{NoFile, ChangesOnly};
 ghost use Rattle.ip_spec.specs.Record.{Names, Fits};
 ghost use Rattle.ip_spec.specs.declared.record.Record.{Record};
@@ -18,6 +19,7 @@ ghost use Rattle.ip_ground.specs.declared.names.FileName.{FileName};
 
 use crate::{Branches, OpenFault};
 use ip_audit::{Audit, AuditFault, Terms};
+use ip_base::limit::ENTRIES_MAX;
 use ip_base::{Memory, Number, Numbers};
 use ip_control::Slot;
 use ip_ground::Ground;
@@ -25,9 +27,6 @@ use ip_history::Table;
 use ip_space::{FetchFault, Run, Scan, Space, stretches_lie};
 use ip_spec::record::{Parent, Record};
 use std::alloc::Global;
-
-/// Entries of one directory, which is one leaf.
-const MOST_ENTRIES: usize = 32;
 
 /// What the records so far come to.
 #[derive(Drop)]
@@ -152,7 +151,7 @@ fn is_served(rec: &Record) -> bool
         | Record::BranchSet { .. }
         | Record::BranchRemove { .. }
         | Record::BranchTable(_) => true,
-        Record::Leaf(entries) => entries.as_slice().len() <= MOST_ENTRIES,
+        Record::Leaf(entries) => entries.as_slice().len() <= ENTRIES_MAX,
         _ => false,
     }
 }
@@ -248,8 +247,7 @@ fn take_next<G: Ground>(
         BadRecord slot.now (G.told outside.new) space.now file at }
     ensures there { IsErrOf result OpenFault.NoStore → ⊥ }
     ensures only { IsTrue G.tells → ChangesOnly NoFile (G.told outside.old) (G.told outside.new) }
-    ensures counts { NoneFalls (G.counts_of outside.old) (G.counts_of outside.new) }
-    ensures cause { IsErrOf result OpenFault.Ground → Rose (G.counts_of outside.old).file_faults (G.counts_of outside.new).file_faults }
+    ensures counts { Counts ground_open result (G.counts_of outside.old) (G.counts_of outside.new) }
 {
     stretches_lie();
     match walk.scan.step(outside, space) {
@@ -286,8 +284,7 @@ fn read_stretch<G: Ground>(
         BadRecord slot.now (G.told outside.new) space.now file at }
     ensures there { IsErrOf result OpenFault.NoStore → ⊥ }
     ensures only { IsTrue G.tells → ChangesOnly NoFile (G.told outside.old) (G.told outside.new) }
-    ensures counts { NoneFalls (G.counts_of outside.old) (G.counts_of outside.new) }
-    ensures cause { IsErrOf result OpenFault.Ground → Rose (G.counts_of outside.old).file_faults (G.counts_of outside.new).file_faults }
+    ensures counts { Counts ground_open result (G.counts_of outside.old) (G.counts_of outside.new) }
 {
     let Some(stretch) = space.stretch_at(number) else {
         return Ok(false);
@@ -315,8 +312,7 @@ pub fn read_records<G: Ground>(
         BadRecord slot.now (G.told outside.new) space.now file at }
     ensures there { IsErrOf result OpenFault.NoStore → ⊥ }
     ensures only { IsTrue G.tells → ChangesOnly NoFile (G.told outside.old) (G.told outside.new) }
-    ensures counts { NoneFalls (G.counts_of outside.old) (G.counts_of outside.new) }
-    ensures cause { IsErrOf result OpenFault.Ground → Rose (G.counts_of outside.old).file_faults (G.counts_of outside.new).file_faults }
+    ensures counts { Counts ground_open result (G.counts_of outside.old) (G.counts_of outside.new) }
 {
     let mut found = Found::new(alloc, slot);
     let mut number = 0;

@@ -1,16 +1,11 @@
 // The work of a session.
-ghost use Rattle.std.specs.Prelude.{◌≡◌, ◌≤◌, ℕ, Option};
-ghost use Rattle.ip_ground.specs.Contents.{Image};
+ghost use Rattle.std.specs.Prelude.{◌≡◌, ℕ, Option};
 ghost use Rattle.ip_spec.specs.Machine.{empty_work};
 ghost use Rattle.ip_spec.specs.Repository.{Repository};
-ghost use Rattle.ip_spec.specs.TreeAt.{present};
 ghost use Rattle.ip_spec.specs.View.{View, no_view};
 ghost use Rattle.ip_spec.specs.declared.record.Record.{Record};
-ghost use Rattle.ip_image.specs.Standing.{Standing};
 ghost use Rattle.ip_tree.specs.Leaves.{HasLeavesOnly};
-ghost use Rattle.ip_store.specs.Trees.{RecordsStay};
 ghost use Rattle.ip_store.specs.Work.{work_at, AreParents, IsLawful};
-ghost use Rattle.ip_store.specs.declared.work.Work.{Work};
 
 use ip_base::{Number, Numbers};
 use ip_tree::Tree;
@@ -38,18 +33,6 @@ impl Work {
         }
     }
 }
-
-/// A law, which does nothing when it is called: a lawful work stays lawful under calls that it was not given to, as long as the records stay
-/// its parents are retained, and no more commits are given up.
-pub fn works_stay()
-    ensures { (records more : ℕ → Option Record) (r q : Repository) (work : Work) (v : View) → IsLawful records r work v → RecordsStay records more → HasLeavesOnly more
-        → q.floor ≤ r.floor → AreParents q work.parents → IsLawful more q work v }
-{}
-
-/// A law, which does nothing when it is called: in an image that stands each directory is one leaf, so trees may be read over its records.
-pub fn leaves_only()
-    ensures { (image : Image) (standing : Standing image) → HasLeavesOnly (present standing.records) }
-{}
 
 #[cfg(test)]
 mod tests {

@@ -1,6 +1,5 @@
-use Rattle.std.proofs.Common.{sym, subst, rules}
+use Rattle.std.proofs.Common.{◌∙◌, refl, sym, subst}
 use Rattle.ip_ground.specs.Told.{NoFile}
-use Rattle.ip_ground.proofs.Rising.{none_falls_on}
 use Rattle.ip_ground.proofs.Spans.{only_nowhere, only_on}
 use Rattle.ip_store.specs.Walk.{Filled}
 use Rattle.ip_store.proofs.RecordSteps.{nothing_filled, covers_all}
@@ -10,7 +9,7 @@ pub loop-found-init : goal.loop-found-init
 loop-found-init g c = record {
   filled = nothing_filled c.args.slot.now c.requires.slot c.args.space.now g.G.Ground.tells _ c.new-found.result c.new-found.ensures;
   only = λ told. only_nowhere _ NoFile;
-  counts = search rules;
+  counts = refl;
 }
 
 pub loop-found-preserved : goal.loop-found-preserved
@@ -20,7 +19,7 @@ loop-found-preserved g c =
     record {
       filled = next.filled c.if-branch.true;
       only = λ told. only_on _ _ _ NoFile (kept.only told) (next.only told);
-      counts = none_falls_on _ _ _ kept.counts next.counts;
+      counts = next.counts ∙ kept.counts;
     }
 
 pub returns-in_err-read_stretch-clause-only : goal.returns-in_err-read_stretch-clause-only

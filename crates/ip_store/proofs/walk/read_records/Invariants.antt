@@ -1,6 +1,5 @@
-use Rattle.std.proofs.Common.{◌-◌, length}
+use Rattle.std.proofs.Common.{◌≡◌, ◌-◌, length}
 use Rattle.std.specs.Prelude.{IsTrue}
-use Rattle.ip_ground.specs.Counts.{NoneFalls}
 use Rattle.ip_ground.specs.Told.{NoFile, ChangesOnly}
 use Rattle.ip_space.specs.SpaceView.{stretches_of}
 use Rattle.ip_store.specs.Walk.{Filled}
@@ -12,7 +11,7 @@ invariant-loop-found g l =
     record {
       filled : Filled l.slot ground.tells (ground.told l.outside) l.space l.number l.found;
       only : IsTrue ground.tells → ChangesOnly NoFile (ground.told l.initial.outside) (ground.told l.outside);
-      counts : NoneFalls (ground.counts_of l.initial.outside) (ground.counts_of l.outside);
+      counts : ground.counts_of l.outside ≡ ground.counts_of l.initial.outside;
     }
 
 abbrev pub decreases-loop-found : goal.decreases-loop-found

@@ -1,6 +1,5 @@
-use Rattle.std.proofs.Common.{refl, sym, ◌∙◌, subst, ℕ, ◌+◌, rules}
+use Rattle.std.proofs.Common.{refl, sym, ◌∙◌, subst, ℕ, ◌+◌}
 use Rattle.ip_ground.specs.Told.{NoFile}
-use Rattle.ip_ground.proofs.Rising.{none_falls_on}
 use Rattle.ip_ground.proofs.Spans.{only_nowhere, only_on}
 use Rattle.ip_store.specs.Walk.{Filled}
 use Rattle.ip_store.proofs.RecordSteps.{begins_stretch, ends_stretch, within_stretches}
@@ -13,7 +12,7 @@ loop-walk-init g c =
       walks = begins_stretch c.args.slot.now c.requires.slot c.args.space.now g.G.Ground.tells _ c.args.number c.args.found.now c.requires.filled c.in-Some.stretch (sym found.is) found.in_order found.inside c.scan.result c.scan.ensures;
       number = refl;
       only = λ told. only_nowhere _ NoFile;
-      counts = search rules;
+      counts = refl;
     }
 
 pub loop-walk-preserved : goal.loop-walk-preserved
@@ -24,7 +23,7 @@ loop-walk-preserved g c =
       walks = next.walks;
       number = next.same.0 ∙ kept.number;
       only = λ told. only_on _ _ _ NoFile (kept.only told) (next.only told);
-      counts = none_falls_on _ _ _ kept.counts next.counts;
+      counts = next.counts ∙ kept.counts;
     }
 
 pub returns-in_err-take_next-clause-only : goal.returns-in_err-take_next-clause-only

@@ -1,6 +1,5 @@
 use Rattle.std.proofs.Common.{◌≡◌, ◌-◌}
 use Rattle.std.specs.Prelude.{IsTrue}
-use Rattle.ip_ground.specs.Counts.{NoneFalls}
 use Rattle.ip_ground.specs.Told.{NoFile, ChangesOnly}
 use Rattle.ip_store.specs.Walk.{Walks}
 use Rattle.ip_store.proofs.walk.read_stretch.Given as goal
@@ -12,7 +11,7 @@ invariant-loop-walk g l =
       walks : Walks l.slot ground.tells (ground.told l.outside) l.space l.walk l.found;
       number : l.walk.number ≡ l.number;
       only : IsTrue ground.tells → ChangesOnly NoFile (ground.told l.initial.outside) (ground.told l.outside);
-      counts : NoneFalls (ground.counts_of l.initial.outside) (ground.counts_of l.outside);
+      counts : ground.counts_of l.outside ≡ ground.counts_of l.initial.outside;
     }
 
 abbrev pub decreases-loop-walk : goal.decreases-loop-walk

@@ -1,5 +1,6 @@
 use Rattle.std.proofs.Common.{sym, subst}
 use Rattle.std.specs.Prelude.{IfSome, OnOk}
+use Rattle.std.proofs.lemmas.Result.{on_ok_weaker}
 use Rattle.ip_spec.specs.declared.command.Command.TheVariants as Command
 use Rattle.ip_spec.specs.Repository.{next}
 use Rattle.ip_store.specs.Commits.{Answers, IsSaved, reply_to}
@@ -8,7 +9,7 @@ use Rattle.ip_store.specs.Work.{session}
 use Rattle.ip_store.proofs.AfterCommit.{same_answers, same_goes_on}
 use Rattle.ip_store.specs.Store.{image_records}
 use Rattle.ip_store.specs.Trees.{RecordsStay}
-use Rattle.ip_store.proofs.Stepping.{in_itself, out_of_itself, same_changes, carried}
+use Rattle.ip_store.proofs.Stepping.{in_itself, out_of_itself, same_changes, same_appends, carried}
 use Rattle.ip_store.proofs.store.Store.commit.Goals as goal
 
 pub returns-clause-tables : goal.returns-clause-tables
@@ -32,3 +33,7 @@ pub returns-clause-stay : goal.returns-clause-stay
 returns-clause-stay g c told has r q held now =
     carried c.commit_work-answer.new.self _ (out_of_itself c.commit_work-answer.new.self c.met_by-self.result) (g.G.Ground.told c.commit_work-answer.new.outside) q
     (λ records. RecordsStay (image_records held) records) (λ mid. c.commit_work-answer.ensures.stay told has r q held mid) now
+
+pub returns-clause-appends : goal.returns-clause-appends
+returns-clause-appends g c told r v at =
+    on_ok_weaker c.commit_work-answer.result (same_appends _ 1 c.args.self.now c.commit_work-answer.new.self _ _ _ (in_itself c.commit_work-answer.new.self c.met_by-self.result) (out_of_itself c.commit_work-answer.new.self c.met_by-self.result)) (c.commit_work-answer.ensures.appends told r v at)

@@ -8,7 +8,7 @@ use Rattle.ip_image.specs.declared.slot.Slot.{Slot}
 use Rattle.ip_image.specs.Slot.{IsChunkSize}
 use Rattle.ip_space.specs.SpaceView.{SpaceView, grown}
 use Rattle.ip_store.specs.declared.committing.StoreFault.TheVariants as StoreFault
-use Rattle.ip_store.specs.Changes.{LimitsSpace}
+use Rattle.ip_store.specs.Changes.{LimitsSpace, next_slot}
 use Rattle.ip_store.specs.Commits.{Answers, Commits, end_of, repository_after, reply_to, met_by}
 use Rattle.ip_store.specs.Histories.{with_parents}
 use Rattle.ip_store.specs.Work.{session}
@@ -16,7 +16,7 @@ use Rattle.ip_store.proofs.Histories.{may_enter}
 use Rattle.ip_store.proofs.Machine.{refused_memory}
 use Rattle.ip_store.proofs.Planning.{err_of}
 use Rattle.ip_store.proofs.Stepping.{itself, same_tables, changes_none, stays_still, same_can_step, same_step}
-use Rattle.ip_store.proofs.AfterCommit.{some_commit, after_tables, after_parents, held_after, read_root, further, inside, can_step, stays_committed, made, cut, saved_tree, work_after, answers_refused, answers_made, same_at}
+use Rattle.ip_store.proofs.AfterCommit.{some_commit, after_tables, after_parents, held_after, list_committed, read_root, further, inside, can_step, stays_committed, made, cut, saved_tree, work_after, answers_refused, answers_made, same_at}
 use Rattle.ip_store.proofs.Tables.{none_named, free}
 use Rattle.ip_store.proofs.store.Store.commit_work.Goals as goal
 
@@ -211,3 +211,18 @@ returns-clause-stay g c told has r q held now =
     let step = same_step c.enter.new.self.slot.end c.args.self.now.slot.end c.enter.new.self.index c.args.self.now.index c.bytes.result.now plan.batch.bytes.items plan.slot plan.slot _ (g.G.Ground.told c.args.outside.now) (g.G.Ground.told c.durable_step.new.outside)
     (ap (λ (s : Slot). s.end) c.enter.ensures.rest.1) c.enter.ensures.rest.0 c.bytes.ensures refl (c.in_ok-durable_step.ensures.does told can) in
     stays_committed r c.args.branch.now c.args.self.now plan of is (g.G.Ground.told c.args.outside.now) held (g.G.Ground.told c.durable_step.new.outside) step _ q now
+
+pub returns-clause-appends : goal.returns-clause-appends
+returns-clause-appends g c told r v at =
+    let plan = c.in_ok-plan.plan in
+    let of = at.holds.tables in
+    let is = c.in_ok-plan.ensures.coming r of in
+    let planned = c.in_ok-plan.ensures.planned _ r v of at.lawful in
+    record {
+      slot = is.slot ∙ ap (λ bytes. next_slot c.args.self.now.slot (length bytes) 1) planned.bytes;
+      records = λ r' q before after. list_committed r c.args.work.now v c.args.branch.now c.args.info c.args.self.now plan is planned (g.G.Ground.told c.args.outside.now) at (g.G.Ground.told c.durable_step.new.outside) _
+          (let can = same_can_step c.enter.new.self.slot.end c.args.self.now.slot.end c.enter.new.self.index c.args.self.now.index plan.slot plan.slot (g.G.Ground.told c.args.outside.now)
+          (ap (λ (s : Slot). s.end) c.enter.ensures.rest.1) c.enter.ensures.rest.0 refl (can_step r c.args.branch.now c.args.self.now plan of is (g.G.Ground.told c.args.outside.now) at.holds) in
+          same_step c.enter.new.self.slot.end c.args.self.now.slot.end c.enter.new.self.index c.args.self.now.index c.bytes.result.now plan.batch.bytes.items plan.slot plan.slot _ (g.G.Ground.told c.args.outside.now) (g.G.Ground.told c.durable_step.new.outside)
+          (ap (λ (s : Slot). s.end) c.enter.ensures.rest.1) c.enter.ensures.rest.0 c.bytes.ensures refl (c.in_ok-durable_step.ensures.does told can)) r' q before after;
+    }

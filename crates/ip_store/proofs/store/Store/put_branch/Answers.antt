@@ -1,11 +1,11 @@
 use Rattle.std.proofs.Common.{◌≡◌, rules, sym, subst}
-use Rattle.std.specs.Prelude.{Ok, Err, IfSome}
+use Rattle.std.specs.Prelude.{Ok, Err, [], ◌∷◌, IfSome, OnOk}
 use Rattle.ip_spec.specs.Record.{Fits}
 use Rattle.ip_spec.specs.Step.{room_for_branch, with_branch}
 use Rattle.ip_image.specs.Standing.{IsServedKind}
 use Rattle.ip_image.specs.Appending.{MayName, renamed}
 use Rattle.ip_store.specs.declared.committing.StoreFault.TheVariants as StoreFault
-use Rattle.ip_store.specs.Changes.{Changes}
+use Rattle.ip_store.specs.Changes.{Changes, Appends}
 use Rattle.ip_store.specs.Commits.{met_by, refusal}
 use Rattle.ip_store.specs.Naming.{branch_reply, AnswersSet, Renames}
 use Rattle.ip_store.proofs.Stepping.{itself, changes_none, stays_still}
@@ -71,3 +71,7 @@ returns-in_err-rec-clause-stay g c told has r q held now = stays_still c.args.se
 
 pub returns-clause-stay : goal.returns-clause-stay
 returns-clause-stay g c told has r q held now = c.rename.ensures.stay told has r q held now
+
+pub returns-clause-appends : goal.returns-clause-appends
+returns-clause-appends g c told =
+    subst (λ x. OnOk c.rename.result (Appends ((c.args.self.now.slot.end, x) ∷ []) 0 c.args.self.now c.rename.new.self (g.G.Ground.told c.args.outside.now) (g.G.Ground.told c.rename.new.outside))) c.in_ok-rec.ensures (c.rename.ensures.appends told)

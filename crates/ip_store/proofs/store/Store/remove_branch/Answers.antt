@@ -4,7 +4,7 @@ use Rattle.ip_store.specs.declared.store.Store.{Store}
 use Rattle.ip_store.specs.Naming.{removed_reply, AnswersRemove}
 use Rattle.ip_store.specs.Store.{image_records}
 use Rattle.ip_store.specs.Trees.{RecordsStay}
-use Rattle.ip_store.proofs.Stepping.{in_itself, out_of_itself, same_changes, carried}
+use Rattle.ip_store.proofs.Stepping.{in_itself, out_of_itself, same_changes, same_appends, carried}
 use Rattle.ip_store.proofs.BranchTurns.{same_removed}
 use Rattle.ip_store.proofs.store.Store.remove_branch.Goals as goal
 
@@ -21,3 +21,7 @@ pub returns-clause-stay : goal.returns-clause-stay
 returns-clause-stay g c told has r q held now =
     carried c.take_branch-answer.new.self _ (out_of_itself c.take_branch-answer.new.self c.met_by-self.result) (g.G.Ground.told c.take_branch-answer.new.outside) q
     (λ records. RecordsStay (image_records held) records) (λ mid. c.take_branch-answer.ensures.stay told has r q held mid) now
+
+pub returns-clause-appends : goal.returns-clause-appends
+returns-clause-appends g c told done =
+    same_appends _ 0 c.args.self.now c.take_branch-answer.new.self _ _ _ (in_itself c.take_branch-answer.new.self c.met_by-self.result) (out_of_itself c.take_branch-answer.new.self c.met_by-self.result) (c.take_branch-answer.ensures.appends told done)

@@ -6,9 +6,9 @@ use Rattle.ip_image.specs.Slot.{IsChunkSize}
 use Rattle.ip_image.specs.Appending.{renamed}
 use Rattle.ip_store.specs.declared.committing.StoreFault.TheVariants as StoreFault
 use Rattle.ip_store.specs.declared.store.Store.{Store}
-use Rattle.ip_store.specs.Changes.{Changes}
+use Rattle.ip_store.specs.Changes.{Changes, next_slot}
 use Rattle.ip_store.proofs.Stepping.{itself, changes_none, stays_still, same_step}
-use Rattle.ip_store.proofs.Renamed.{renamed_tables, further, inside, can_rename, was_renamed, rename_cut, stays_renamed, slot_from, may_same}
+use Rattle.ip_store.proofs.Renamed.{renamed_tables, further, inside, can_rename, was_renamed, rename_cut, stays_renamed, list_renamed, spelled_is, slot_from, may_same}
 use Rattle.ip_store.proofs.store.Store.rename.Goals as goal
 
 pub returns-in_err-spelled-clause-does : goal.returns-in_err-spelled-clause-does
@@ -85,3 +85,15 @@ returns-clause-stay g c told has r q held now =
     stays_renamed r c.args.self.now held.tables c.args.rec may c.requires.fits c.requires.served c.in_ok-slot.slot slot.0 slot.1 slot.2 (g.G.Ground.told c.args.outside.now) held (g.G.Ground.told c.durable_step.new.outside) _ q
     (same_step c.args.self.now.slot.end c.args.self.now.slot.end c.args.self.now.index c.args.self.now.index _ (spelling c.args.rec) c.in_ok-slot.slot c.in_ok-slot.slot _ (g.G.Ground.told c.args.outside.now) (g.G.Ground.told c.durable_step.new.outside)
     refl refl (c.as_slice-bytes.ensures.value ∙ c.in_ok-spelled.ensures) refl (c.in_ok-durable_step.ensures.does told (can_rename r c.args.self.now held.tables c.args.rec may c.requires.fits c.requires.served c.in_ok-slot.slot slot.0 slot.1 slot.2 (g.G.Ground.told c.args.outside.now) held))) now
+
+pub returns-clause-appends : goal.returns-clause-appends
+returns-clause-appends g c told =
+    let slot = slot_from c.args.self.now.slot c.args.rec _ c.in_ok-slot.slot (ap length (c.as_slice-bytes.ensures.value ∙ c.in_ok-spelled.ensures)) c.in_ok-slot.ensures in
+    record {
+      slot = slot.0 ∙ ap (λ bytes. next_slot c.args.self.now.slot (length bytes) 0) (spelled_is c.args.self.now.slot.end c.args.rec);
+      records = λ r q held now.
+          let may = may_same c.args.self.now c.requires.tables.0 r c.args.rec c.requires.tables.1 held.tables c.requires.tables.2 in
+          list_renamed r c.args.self.now held.tables c.args.rec may c.requires.fits c.requires.served c.in_ok-slot.slot slot.0 slot.1 slot.2 (g.G.Ground.told c.args.outside.now) held (g.G.Ground.told c.durable_step.new.outside) _ q
+          (same_step c.args.self.now.slot.end c.args.self.now.slot.end c.args.self.now.index c.args.self.now.index _ (spelling c.args.rec) c.in_ok-slot.slot c.in_ok-slot.slot _ (g.G.Ground.told c.args.outside.now) (g.G.Ground.told c.durable_step.new.outside)
+          refl refl (c.as_slice-bytes.ensures.value ∙ c.in_ok-spelled.ensures) refl (c.in_ok-durable_step.ensures.does told (can_rename r c.args.self.now held.tables c.args.rec may c.requires.fits c.requires.served c.in_ok-slot.slot slot.0 slot.1 slot.2 (g.G.Ground.told c.args.outside.now) held))) now;
+    }

@@ -1,10 +1,11 @@
 use Rattle.std.proofs.Common.{sym, subst}
 use Rattle.std.specs.Prelude.{IfSome}
+use Rattle.std.proofs.lemmas.Result.{on_ok_weaker}
 use Rattle.ip_store.specs.declared.store.Store.{Store}
 use Rattle.ip_store.specs.Naming.{branch_reply, AnswersSet}
 use Rattle.ip_store.specs.Store.{image_records}
 use Rattle.ip_store.specs.Trees.{RecordsStay}
-use Rattle.ip_store.proofs.Stepping.{in_itself, out_of_itself, same_changes, carried}
+use Rattle.ip_store.proofs.Stepping.{in_itself, out_of_itself, same_changes, same_appends, carried}
 use Rattle.ip_store.proofs.BranchTurns.{same_set}
 use Rattle.ip_store.proofs.store.Store.set_branch.Goals as goal
 
@@ -21,3 +22,7 @@ pub returns-clause-stay : goal.returns-clause-stay
 returns-clause-stay g c told has r q held now =
     carried c.put_branch-answer.new.self _ (out_of_itself c.put_branch-answer.new.self c.met_by-self.result) (g.G.Ground.told c.put_branch-answer.new.outside) q
     (λ records. RecordsStay (image_records held) records) (λ mid. c.put_branch-answer.ensures.stay told has r q held mid) now
+
+pub returns-clause-appends : goal.returns-clause-appends
+returns-clause-appends g c told =
+    on_ok_weaker c.put_branch-answer.result (same_appends _ 0 c.args.self.now c.put_branch-answer.new.self _ _ _ (in_itself c.put_branch-answer.new.self c.met_by-self.result) (out_of_itself c.put_branch-answer.new.self c.met_by-self.result)) (c.put_branch-answer.ensures.appends told)

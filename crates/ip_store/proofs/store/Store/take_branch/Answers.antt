@@ -1,11 +1,11 @@
 use Rattle.std.proofs.Common.{◌≡◌, rules, true, false, Bool, None, sym, subst, ◌∙◌}
-use Rattle.std.specs.Prelude.{Ok, Err, IfSome}
+use Rattle.std.specs.Prelude.{Ok, Err, [], ◌∷◌, IfSome}
 use Rattle.ip_spec.specs.Repository.{head}
 use Rattle.ip_spec.specs.Record.{Fits}
 use Rattle.ip_image.specs.Standing.{IsServedKind}
 use Rattle.ip_image.specs.Appending.{MayName, renamed}
 use Rattle.ip_store.specs.declared.committing.StoreFault.TheVariants as StoreFault
-use Rattle.ip_store.specs.Changes.{Changes, HasAnswer}
+use Rattle.ip_store.specs.Changes.{Changes, Appends, HasAnswer}
 use Rattle.ip_store.specs.Commits.{met_by}
 use Rattle.ip_store.specs.Naming.{removed_reply, AnswersRemove, Renames, without_branch}
 use Rattle.ip_store.proofs.Stepping.{itself, changes_none, stays_still, changes_still, with_value, with_answer, with_fault}
@@ -84,3 +84,7 @@ returns-in_err-rename-clause-stay g c told has r q held now =
     let fault = c.in_err-rename.field-0.0 in
     let is : c.from_residual-in_err-rename.result ≡ Err fault = search rules in
     c.in_err-rename.ensures.stay told (with_answer (Unit {0}) Bool fault (subst HasAnswer is has)) r q held now
+
+pub returns-clause-appends : goal.returns-clause-appends
+returns-clause-appends g c told done =
+    subst (λ x. Appends ((c.args.self.now.slot.end, x) ∷ []) 0 c.args.self.now c.rename.new.self (g.G.Ground.told c.args.outside.now) (g.G.Ground.told c.rename.new.outside)) c.in_ok-rec.ensures (c.in_ok-rename.ensures.appends told)

@@ -1,0 +1,26 @@
+-- Which faults are the ground's.
+use Rattle.std.specs.Prelude.{Bool, true, false}
+use Rattle.ip_store.specs.declared.store.InitFault.{InitFault}
+use Rattle.ip_store.specs.declared.store.InitFault.TheVariants as init
+use Rattle.ip_store.specs.declared.opening.OpenFault.{OpenFault}
+use Rattle.ip_store.specs.declared.opening.OpenFault.TheVariants as opening
+use Rattle.ip_store.specs.declared.committing.StoreFault.{StoreFault}
+use Rattle.ip_store.specs.declared.committing.StoreFault.TheVariants as store
+
+abbrev pub ground_init : InitFault → Bool
+ground_init init.Ground = true
+ground_init init.Existing = false
+
+abbrev pub ground_open : OpenFault → Bool
+ground_open opening.Ground = true
+ground_open opening.NoStore = false
+ground_open (opening.Damaged file at) = false
+ground_open opening.Memory = false
+
+abbrev pub ground_store : StoreFault → Bool
+ground_store store.Ground = true
+ground_store (store.HeadMoved name) = false
+ground_store (store.Existing name) = false
+ground_store (store.Limit limit) = false
+ground_store (store.Damaged at names) = false
+ground_store store.Memory = false

@@ -1,0 +1,5 @@
+//! Tests of what a store tells of its commits and branches.
+#![tactic(auto)]
+
+#[cfg(test)]
+mod tests;
