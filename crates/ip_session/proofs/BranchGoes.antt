@@ -25,7 +25,7 @@ use Rattle.ip_store.specs.Naming.{branch_reply, removed_reply, AnswersBranch, An
 use Rattle.ip_store.specs.Store.{IsOf, Holds}
 use Rattle.ip_store.specs.Work.{AreParents, IsAt, work_at, session}
 use Rattle.ip_session.specs.declared.session.Session.{Session}
-use Rattle.ip_session.specs.Session.{no_rules, IsServing, IsWorking, state_in, met_only, conditions_of, IsDurable, ChangedBy, Goes, Cut}
+use Rattle.ip_session.specs.Session.{no_rules, IsServing, IsWorking, state_in, met_only, conditions_of, IsDurable, ChangedBy, TouchedBy, Goes, Cut}
 use Rattle.ip_session.proofs.SessionLemmas.{at, plainly, ok_is_short, branch_refused, branch_rm_refused}
 use Rattle.ip_session.proofs.SessionGoes.{still_goes}
 use Rattle.ip_session.proofs.DurableGoes.{IsWhole, IsTurn, stays, refused_so, fault_so, done_so, reply_so, cut_so, Went, floor_stays, unanswered}
@@ -129,8 +129,8 @@ named_or_not r (Target.Commit hash) = by (number_named r hash)
     by (Some n) = tt
 
 pub unnamed_goes : (a : Told) (s : Session) (met : Met) (r : Repository) (v : View) (here : IsWorking a s r v) (name : Bytes) (target : Target) (reply : Reply) → met ≡ met_only false → resolve r target ≡ Err reply
-    → Goes a a s (record s { met = met }) r v (ChangedBy (Command.Branch name target)) (Step no_rules (state_in s r v) (Command.Branch name target)) reply
-unnamed_goes a s met r v here name target reply e none = still_goes a s met r v here (ChangedBy (Command.Branch name target)) (Step no_rules (state_in s r v) (Command.Branch name target)) reply
+    → Goes a a s (record s { met = met }) r v (ChangedBy a.held (Command.Branch name target)) (Step no_rules (state_in s r v) (Command.Branch name target)) reply
+unnamed_goes a s met r v here name target reply e none = still_goes a s met r v here (ChangedBy a.held (Command.Branch name target)) (Step no_rules (state_in s r v) (Command.Branch name target)) reply
     (subst (λ (m : Met). Step no_rules (state_in s r v) (Command.Branch name target) (conditions_of m) reply (state_in s r v)) (sym e) (unnamed r (work_at s.work v) name target reply none))
     (λ long. branch_refused name target r (work_at s.work v))
     (λ file changed. subst NeverOk none (named_or_not r target) (accepted_set name target reply changed.0))
@@ -158,7 +158,7 @@ module _ (a b : Told) (s : Session) (store : Store) (met : Met) (r : Repository)
   set_to = with_branch r name n
 
   pub set_goes : (reply : Reply) → met ≡ store.met → branch_reply made ≡ Some reply → IfSome (branch_reply made) (AnswersSet r name n store.met store)
-      → Goes a b s (record s { store = store; met = met }) r v (ChangedBy setting) (Step no_rules (state_in s r v) setting) reply
+      → Goes a b s (record s { store = store; met = met }) r v (ChangedBy a.held setting) (Step no_rules (state_in s r v) setting) reply
   set_goes reply m e A = reply_so a b s store s.work r set_to v here setting whole met (branch_reply made) reply m e (by made A (works_on a b s store r set_to v made (omega arith) does works) does)
     where
       whole : IsWhole r (work_at s.work v) setting set_to
@@ -169,8 +169,8 @@ module _ (a b : Told) (s : Session) (store : Store) (met : Met) (r : Repository)
       by (Ok u) A stays does = done_so a b s store s.work r set_to v here setting whole u Reply.Accepted tt ok_is_short (turn_of b s store r v setting Reply.Accepted here.lawful.parents (A target named) (stays tt)) does
       by (Err fault) A stays does = fault_so a b s store s.work r set_to v here setting whole fault (IfSome_then (fault_reply fault) A (λ reply x has. turn_of b s store r v setting reply here.lawful.parents (x target named) (stays has))) does
 
-  pub set_cut : met ≡ met_only false → room_for_branch r name ≡ Ok tt → Cut a b s (record s { store = store; met = met }) r v (Step no_rules (state_in s r v) setting)
-  set_cut e room = cut_so a b s store s.work r set_to v here setting (whole_set r (work_at s.work v) name target n named) made met e (roomy r (work_at s.work v) name target n named room) does
+  pub set_cut : met ≡ met_only false → room_for_branch r name ≡ Ok tt → Cut a b s (record s { store = store; met = met }) r v (TouchedBy a.held setting) (Step no_rules (state_in s r v) setting)
+  set_cut e room = cut_so a b s store s.work r set_to v here setting (whole_set r (work_at s.work v) name target n named) made met e refl (roomy r (work_at s.work v) name target n named room) does
 
 pub is_ground_set : (made : Result (Unit {0}) StoreFault) → IsUndamaged made → branch_reply made ≡ None → IsErrOf made StoreFault.Ground
 is_ground_set (Ok done) u e = absurd (cc e)
@@ -229,7 +229,7 @@ module _ (a b : Told) (s : Session) (store : Store) (met : Met) (r : Repository)
   removed_to = without_branch r name
 
   pub remove_goes : (reply : Reply) → met ≡ store.met → removed_reply name made ≡ Some reply → (made ≡ Ok false → b ≡ a) → IfSome (removed_reply name made) (AnswersRemove r name store.met store)
-      → Goes a b s (record s { store = store; met = met }) r v (ChangedBy removing) (Step no_rules (state_in s r v) removing) reply
+      → Goes a b s (record s { store = store; met = met }) r v (ChangedBy a.held removing) (Step no_rules (state_in s r v) removing) reply
   remove_goes reply m e absent A = reply_so a b s store s.work r removed_to v here removing whole met (removed_reply name made) reply m e (by made A absent (works_on a b s store r removed_to v made (omega arith) does works) does)
     where
       whole : IsWhole r (work_at s.work v) removing removed_to
@@ -252,8 +252,8 @@ module _ (a b : Told) (s : Session) (store : Store) (met : Met) (r : Repository)
       by (Ok false) A absent stays_so does = refused_so a b s store s.work r removed_to v here removing whole (Reply.NoBranch name) (λ h. h) (turn_of b s store r v removing (Reply.NoBranch name) here.lawful.parents A (stays_so tt)) (as_before A (absent refl) does)
       by (Err fault) A absent stays_so does = fault_so a b s store s.work r removed_to v here removing whole fault (IfSome_then (fault_reply fault) A (λ reply x has. turn_of b s store r v removing reply here.lawful.parents x (stays_so has))) does
 
-  pub remove_cut : met ≡ met_only false → IsSome (head r name) → Cut a b s (record s { store = store; met = met }) r v (Step no_rules (state_in s r v) removing)
-  remove_cut e there = cut_so a b s store s.work r removed_to v here removing (whole_removed r (work_at s.work v) name) made met e
+  pub remove_cut : met ≡ met_only false → IsSome (head r name) → Cut a b s (record s { store = store; met = met }) r v (TouchedBy a.held removing) (Step no_rules (state_in s r v) removing)
+  remove_cut e there = cut_so a b s store s.work r removed_to v here removing (whole_removed r (work_at s.work v) name) made met e refl
       (ap (λ (t : Turned). t.1.repository) (removed_turn r (work_at s.work v) name (met_only false)) ∙ found r (work_at s.work v) name (head r name) there) does
 
 pub is_ground_removed : (name : Bytes) (made : Result Bool StoreFault) → IsUndamaged made → removed_reply name made ≡ None → IsErrOf made StoreFault.Ground

@@ -1,8 +1,8 @@
 -- What a session does that ran a commit.
 --     commit_goes      the store answered it.      commit_cut      a fault of the ground cut it short
---     has_answer, is_ground      what has a reply is an answer, and what has none a fault of the ground
-use Rattle.std.proofs.Common.{◌≡◌, Bool, true, false, length, refl, sym, ap, ◌∙◌, arith, Some, None, Ok, Err, length-append, ◌++◌, ◌∷◌, [], ◌*◌}
-use Rattle.std.specs.Prelude.{Result, IfSome, IfOk, IsErrOf, codes}
+--     has_answer      what has a reply is an answer
+use Rattle.std.proofs.Common.{◌≡◌, Bool, true, false, length, refl, sym, ap, ◌∙◌, arith, Some, Ok, Err, length-append, ◌++◌, ◌∷◌, [], ◌*◌}
+use Rattle.std.specs.Prelude.{Result, IfSome, IfOk, codes}
 use Rattle.std.proofs.lemmas.Option.{IfSome_then}
 use Rattle.ip_base.specs.declared.info.Info.{Info}
 use Rattle.ip_ground.specs.Told.{Told}
@@ -20,13 +20,13 @@ use Rattle.ip_spec.specs.Text.{reply_text, hex_text}
 use Rattle.ip_store.specs.declared.store.Store.{Store}
 use Rattle.ip_store.specs.declared.work.Work.{Work}
 use Rattle.ip_store.specs.declared.committing.StoreFault.{StoreFault}
-use Rattle.ip_store.specs.Changes.{HasAnswer, IsUndamaged}
+use Rattle.ip_store.specs.Changes.{HasAnswer}
 use Rattle.ip_store.specs.Commits.{fault_reply, met_nothing, reply_to, Answers, repository_after, Commits}
 use Rattle.ip_store.specs.Work.{work_at, session}
 use Rattle.ip_session.specs.declared.session.Session.{Session}
-use Rattle.ip_session.specs.Session.{no_rules, IsWorking, state_in, met_only, conditions_of, IsLong, IsDurable, ChangedBy, Goes, Cut}
+use Rattle.ip_session.specs.Session.{no_rules, IsWorking, state_in, met_only, conditions_of, IsLong, IsDurable, ChangedBy, TouchedBy, Goes, Cut}
 use Rattle.ip_session.proofs.SessionLemmas.{at, commit_refused}
-use Rattle.ip_session.proofs.DurableGoes.{IsWhole, IsTurn, turned_by, fault_so, done_so, reply_so, cut_so, Went, answered, unanswered}
+use Rattle.ip_session.proofs.DurableGoes.{IsWhole, IsTurn, turned_by, fault_so, done_so, reply_so, cut_so, Went, answered}
 
 abbrev IsCommitted : Reply → Type 0
 IsCommitted (Reply.Committed name) = Unit {0}
@@ -128,7 +128,7 @@ module _ (a b : Told) (s : Session) (store : Store) (work : Work) (met : Met) (r
 
   -- the store answered the commit
   pub commit_goes : (reply : Reply) → met ≡ store.met → reply_to made ≡ Some reply → IfOk made (λ name. length name ≡ 32) → IfSome (reply_to made) Machine
-      → Goes a b s (record s { store = store; work = work; met = met }) r v (ChangedBy committing) (Step no_rules (state_in s r v) committing) reply
+      → Goes a b s (record s { store = store; work = work; met = met }) r v (ChangedBy a.held committing) (Step no_rules (state_in s r v) committing) reply
   commit_goes reply m e long A = reply_so a b s store work r committed_to v here committing (whole r (work_at s.work v) branch info) met (reply_to made) reply m e (by made long A does)
     where
       by : (made : Result Hash StoreFault) → IfOk made (λ name. length name ≡ 32) → IfSome (reply_to made) Machine → Commits r s.work v branch info made store a b
@@ -136,13 +136,9 @@ module _ (a b : Told) (s : Session) (store : Store) (work : Work) (met : Met) (r
       by (Ok name) long A does = done_so a b s store work r committed_to v here committing (whole r (work_at s.work v) branch info) name (Reply.Committed name) tt (name_is_short name long) (turn_of (Reply.Committed name) A) does
       by (Err fault) long A does = fault_so a b s store work r committed_to v here committing (whole r (work_at s.work v) branch info) fault (IfSome_then (fault_reply fault) A (λ reply x has. turn_of reply x)) does
 
-  pub commit_cut : met ≡ met_only false → Cut a b s (record s { store = store; work = work; met = met }) r v (Step no_rules (state_in s r v) committing)
-  commit_cut e = cut_so a b s store work r committed_to v here committing (whole r (work_at s.work v) branch info) made met e (after_is r (work_at s.work v) branch info met_nothing refl) does
+  pub commit_cut : met ≡ met_only false → Cut a b s (record s { store = store; work = work; met = met }) r v (TouchedBy a.held committing) (Step no_rules (state_in s r v) committing)
+  commit_cut e = cut_so a b s store work r committed_to v here committing (whole r (work_at s.work v) branch info) made met e refl (after_is r (work_at s.work v) branch info met_nothing refl) does
 
 pub has_answer : (made : Result Hash StoreFault) (reply : Reply) → reply_to made ≡ Some reply → HasAnswer made
 has_answer (Ok name) reply e = tt
 has_answer (Err fault) reply e = answered Hash fault reply e
-
-pub is_ground : (made : Result Hash StoreFault) → IsUndamaged made → reply_to made ≡ None → IsErrOf made StoreFault.Ground
-is_ground (Ok name) u e = absurd (cc e)
-is_ground (Err fault) u e = ap Err (unanswered Hash fault u e)

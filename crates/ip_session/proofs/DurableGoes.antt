@@ -28,11 +28,10 @@ use Rattle.ip_store.specs.Commits.{fault_reply}
 use Rattle.ip_store.specs.Commits as commits
 use Rattle.ip_store.specs.Store.{IsOf, Holds}
 use Rattle.ip_store.specs.Work.{work_at, session, IsAt}
-use Rattle.ip_store.specs.Publishing.{MayChange, IsOfStore}
+use Rattle.ip_store.specs.Publishing.{MayChange}
 use Rattle.ip_store.proofs.Recovering.{recovers_since}
-use Rattle.ip_store.proofs.Stepping.{of_store}
 use Rattle.ip_session.specs.declared.session.Session.{Session}
-use Rattle.ip_session.specs.Session.{no_rules, IsWorking, state_in, met_only, conditions_of, IsLong, IsDurable, ChangedBy, Goes, Cut}
+use Rattle.ip_session.specs.Session.{no_rules, IsWorking, state_in, met_only, conditions_of, IsLong, is_durable, IsDurable, ChangedBy, TouchedBy, Goes, Cut}
 use Rattle.ip_session.proofs.SessionLemmas.{at, plainly, Refusable}
 
 pub keeps_still : (store : Store) (r after : Repository) (a b : Told) → Holds store a r → NothingPending a → ChangesOnly NoFile a b → IsAtomic a b r after
@@ -88,7 +87,7 @@ module _ (a b : Told) (s : Session) (store : Store) (work : Work) (r after : Rep
   after_it = record s { store = store; work = work; met = store.met }
 
   abbrev pub Went : Reply → Type 0
-  Went = Goes a b s after_it r v (ChangedBy command) (Step no_rules (state_in s r v) command)
+  Went = Goes a b s after_it r v (ChangedBy a.held command) (Step no_rules (state_in s r v) command)
 
   abbrev pub Turn : Reply → Type 0
   Turn = IsTurn b s store work r v command
@@ -103,7 +102,7 @@ module _ (a b : Told) (s : Session) (store : Store) (work : Work) (r after : Rep
         view = T.view;
         gives = step_of r (work_at s.work v) command after whole store.met reply (session T.next work T.view) T.turns.1 T.turns.0;
         is_at = T.is_at (subst (Holds store b) (sym repository) does.1);
-        only = only_more a b NoFile (ChangedBy command reply) (λ file none. absurd none) only;
+        only = only_more a b NoFile (ChangedBy a.held command reply) (λ file none. absurd none) only;
         atomic = λ order. keeps_still s.store r T.next a b here.holds order only;
         nothing_pending = λ order. pending_passes a b only.goes (λ file. only.others file (λ none. none)) only.lending order;
         spared = λ long. record { same = state; refused = whole.refusable r (work_at s.work v) };
@@ -126,7 +125,7 @@ module _ (a b : Told) (s : Session) (store : Store) (work : Work) (r after : Rep
         view = T.view;
         gives = step_of r (work_at s.work v) command after whole store.met reply (session T.next work T.view) T.turns.1 T.turns.0;
         is_at = T.is_at (subst (Holds store b) (sym repository) does.ok);
-        only = only_more a b _ (ChangedBy command reply) (λ file changed. (done, of_store a.held file changed)) does.only;
+        only = only_more a b _ (ChangedBy a.held command reply) (λ file changed. (done, changed)) does.only;
         atomic = λ order. subst (λ (q : Repository). IsAtomic a b r q) (sym repository) (does.atomic order);
         nothing_pending = λ order. does.nothing_pending order tt;
         spared = λ long. absurd (short long);
@@ -134,20 +133,20 @@ module _ (a b : Told) (s : Session) (store : Store) (work : Work) (r after : Rep
       }
 
   -- the store tells what was met
-  pub reply_so : (met : Met) (o : Option Reply) (reply : Reply) → met ≡ store.met → o ≡ Some reply → IfSome o Went → Goes a b s (record s { store = store; work = work; met = met }) r v (ChangedBy command) (Step no_rules (state_in s r v) command) reply
+  pub reply_so : (met : Met) (o : Option Reply) (reply : Reply) → met ≡ store.met → o ≡ Some reply → IfSome o Went → Goes a b s (record s { store = store; work = work; met = met }) r v (ChangedBy a.held command) (Step no_rules (state_in s r v) command) reply
   reply_so met o reply m e went =
-      subst (λ (x : Met). Goes a b s (record s { store = store; work = work; met = x }) r v (ChangedBy command) (Step no_rules (state_in s r v) command) reply) (sym m) (subst (λ (x : Option Reply). IfSome x Went) e went)
+      subst (λ (x : Met). Goes a b s (record s { store = store; work = work; met = x }) r v (ChangedBy a.held command) (Step no_rules (state_in s r v) command) reply) (sym m) (subst (λ (x : Option Reply). IfSome x Went) e went)
 
   -- what the machine gives where nothing was met
-  pub cut_so : {A : Type 0} (result : Result A StoreFault) (met : Met) → met ≡ met_only false → (answer (state_in s r v) command (conditions_of (met_only false))).1.repository ≡ after → Changes {A = A} r after result store a b
-      → Cut a b s (record s { store = store; work = work; met = met }) r v (Step no_rules (state_in s r v) command)
-  cut_so result met e repository does =
+  pub cut_so : {A : Type 0} (result : Result A StoreFault) (met : Met) → met ≡ met_only false → is_durable command ≡ true → (answer (state_in s r v) command (conditions_of (met_only false))).1.repository ≡ after → Changes {A = A} r after result store a b
+      → Cut a b s (record s { store = store; work = work; met = met }) r v (TouchedBy a.held command) (Step no_rules (state_in s r v) command)
+  cut_so result met e durable repository does =
       let t = answer (state_in s r v) command (conditions_of (met_only false)) in
       record {
         reply = t.0;
         after = t.1;
         gives = subst (λ (m : Met). Step no_rules (state_in s r v) command (conditions_of m) t.0 t.1) (sym e) (plainly r (work_at s.work v) command false t.0 (λ h. absurd (cc h)), whole.plain (conditions_of (met_only false)) t refl);
-        only = only_more a b (MayChange a.held) IsOfStore (of_store a.held) does.only;
+        only = only_more a b (MayChange a.held) (TouchedBy a.held command) (λ file changed. (durable, changed)) does.only;
         atomic = λ order. subst (λ (q : Repository). IsAtomic a b r q) (sym repository) (does.atomic order);
       }
 

@@ -7,3 +7,4 @@ pub mod Committing
 pub mod BranchGoes
 pub mod ReadGoes
 pub mod Beginning
+pub mod Placing

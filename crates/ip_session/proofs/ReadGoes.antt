@@ -13,17 +13,16 @@ use Rattle.ip_spec.specs.Machine.{State, Conditions}
 use Rattle.ip_spec.specs.Repository.{Repository}
 use Rattle.ip_spec.specs.Step.{Turns, Step, answer}
 use Rattle.ip_spec.specs.View.{View}
-use Rattle.ip_store.specs.Publishing.{IsOfStore}
 use Rattle.ip_store.specs.Store.{Holds, image_records}
 use Rattle.ip_store.specs.Trees.{OnlyLooks}
 use Rattle.ip_store.specs.Work.{IsLawful, work_at}
 use Rattle.ip_session.specs.declared.session.Session.{Session}
 use Rattle.ip_session.specs.declared.session.SessionEnd.{SessionEnd}
-use Rattle.ip_session.specs.Session.{no_rules, IsServing, IsWorking, state_in, met_only, conditions_of, HasWords, is_durable, IsDurable, ChangedBy, IsAnswered, HasRead, Goes, Cut}
+use Rattle.ip_session.specs.Session.{no_rules, IsServing, IsWorking, state_in, met_only, conditions_of, HasWords, is_durable, IsDurable, ChangedBy, TouchedBy, IsAnswered, HasRead, Goes, Cut}
 use Rattle.ip_session.proofs.SessionLemmas.{plainly}
 use Rattle.ip_session.proofs.DurableGoes.{keeps_still}
 
-none_durable : (reply : Reply) (command : Command) → is_durable command ≡ false → ¬ IsDurable reply command
+pub none_durable : (reply : Reply) (command : Command) → is_durable command ≡ false → ¬ IsDurable reply command
 none_durable (Reply.Committed hash) (Command.Commit branch info) e h = absurd (cc e)
 none_durable Reply.Accepted (Command.Branch name target) e h = absurd (cc e)
 none_durable Reply.Accepted (Command.BranchRm name) e h = absurd (cc e)
@@ -36,7 +35,7 @@ plain s _ met words = refl
 
 module _ (a b : Told) (s s' : Session) (r : Repository) (v : View) (here : IsWorking a s r v) (looks : OnlyLooks a b s.store s'.store) (command : Command) (quiet : is_durable command ≡ false) where
   -- the store holds the repository over the same records
-  goes : (reply : Reply) → IsAnswered (image_records here.holds) s s' r v (Step no_rules (state_in s r v) command) reply → Goes a b s s' r v (ChangedBy command) (Step no_rules (state_in s r v) command) reply
+  goes : (reply : Reply) → IsAnswered (image_records here.holds) s s' r v (Step no_rules (state_in s r v) command) reply → Goes a b s s' r v (ChangedBy a.held command) (Step no_rules (state_in s r v) command) reply
   goes reply A =
       let holds : Holds s'.store b r = looks.holds r here.holds in
       record {
@@ -44,7 +43,7 @@ module _ (a b : Told) (s s' : Session) (r : Repository) (v : View) (here : IsWor
         view = A.view;
         gives = A.gives;
         is_at = record { holds = holds; lawful = subst (λ (records : ℕ → Option Record). IsLawful records r s'.work A.view) (sym (looks.records r here.holds holds)) A.lawful };
-        only = only_more a b NoFile (ChangedBy command reply) (λ file none. absurd none) looks.reads.only;
+        only = only_more a b NoFile (ChangedBy a.held command reply) (λ file none. absurd none) looks.reads.only;
         atomic = λ order. keeps_still s.store r r a b here.holds order looks.reads.only;
         nothing_pending = λ order. pending_passes a b looks.reads.only.goes (λ file. looks.reads.only.others file (λ none. none)) looks.reads.only.lending order;
         spared = A.spared;
@@ -52,7 +51,7 @@ module _ (a b : Told) (s s' : Session) (r : Repository) (v : View) (here : IsWor
       }
 
   -- the machine's answer, where nothing was met
-  cut : HasWords command → s'.met ≡ met_only false → Cut a b s s' r v (Step no_rules (state_in s r v) command)
+  cut : HasWords command → s'.met ≡ met_only false → Cut a b s s' r v (TouchedBy a.held command) (Step no_rules (state_in s r v) command)
   cut words e =
       let t = answer (state_in s r v) command (conditions_of (met_only false)) in
       record {
@@ -60,7 +59,7 @@ module _ (a b : Told) (s s' : Session) (r : Repository) (v : View) (here : IsWor
         after = t.1;
         gives = subst (λ (m : Met). Step no_rules (state_in s r v) command (conditions_of m) t.0 t.1) (sym e)
             (plainly r (work_at s.work v) command false t.0 (λ h. absurd (cc h)), plain (state_in s r v) command (conditions_of (met_only false)) words);
-        only = only_more a b NoFile IsOfStore (λ file none. absurd none) looks.reads.only;
+        only = only_more a b NoFile (TouchedBy a.held command) (λ file none. absurd none) looks.reads.only;
         atomic = λ order. keeps_still s.store r t.1.repository a b here.holds order looks.reads.only;
       }
 
@@ -69,10 +68,10 @@ read_serves tells a b s s' command (Ok reply) (r, is) has = (r, has.tables r is)
 read_serves tells a b s s' command (Err end) serving has = tt
 
 module _ (tells : Bool) (a b : Told) (s s' : Session) (command : Command) (told : IsTrue tells) (r : Repository) (v : View) (here : IsWorking a s r v) where
-  pub read_goes : (result : Result Reply SessionEnd) → is_durable command ≡ false → HasRead tells a b s s' command result → IfOk result (Goes a b s s' r v (ChangedBy command) (Step no_rules (state_in s r v) command))
+  pub read_goes : (result : Result Reply SessionEnd) → is_durable command ≡ false → HasRead tells a b s s' command result → IfOk result (Goes a b s s' r v (ChangedBy a.held command) (Step no_rules (state_in s r v) command))
   read_goes (Ok reply) quiet has = goes a b s s' r v here (has.looks told) command quiet reply (has.answered told r v here)
   read_goes (Err end) quiet has = tt
 
-  pub read_cut : (result : Result Reply SessionEnd) → is_durable command ≡ false → HasWords command → s.met ≡ met_only false → HasRead tells a b s s' command result → OnErr result (Cut a b s s' r v (Step no_rules (state_in s r v) command))
+  pub read_cut : (result : Result Reply SessionEnd) → is_durable command ≡ false → HasWords command → s.met ≡ met_only false → HasRead tells a b s s' command result → OnErr result (Cut a b s s' r v (TouchedBy a.held command) (Step no_rules (state_in s r v) command))
   read_cut (Ok reply) quiet words e has = tt
   read_cut (Err end) quiet words e has = cut a b s s' r v here (has.looks told) command quiet words (has.unmet refl ∙ e)

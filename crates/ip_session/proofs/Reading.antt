@@ -13,8 +13,6 @@ use Rattle.std.proofs.lemmas.List.Folds.{list_any_at}
 use Rattle.std.proofs.lemmas.List.Quantifiers.{all_pairs_push}
 use Rattle.sha2.specs.Sha256.{sha256}
 use Rattle.ip_base.specs.declared.limit.Limit.TheVariants as Limit
-use Rattle.ip_ground.specs.declared.names.GroundCounts.{GroundCounts}
-use Rattle.ip_ground.specs.Counts.{Rose}
 use Rattle.ip_ground.specs.Told.{Told}
 use Rattle.ip_spec.specs.declared.command.Command.{Command}
 use Rattle.ip_spec.specs.declared.command.Target.{Target}
@@ -159,23 +157,13 @@ graft_refuses r w target from to n (TreeFault.Limit _) kept is f = absurd f
 graft_refuses r w target from to n (TreeFault.Fetch fetch) kept is f = free_refuses (at r w) (Command.Graft target from to) (TreeFault.Fetch fetch) f
 graft_refuses r w target from to n TreeFault.Memory kept is f = tt
 
--- a fault of the ground, of a call on a tree
-pub tree_cause : {R : Type 0} (fault : TreeFault) → (fault ≡ TreeFault.Fetch FetchFault.Ground → R) → tree_fault fault ≡ StoreFault.Ground → R
-tree_cause (TreeFault.Limit limit) cause e = absurd (cc e)
-tree_cause (TreeFault.Fetch FetchFault.Ground) cause e = cause refl
-tree_cause (TreeFault.Fetch FetchFault.Memory) cause e = absurd (cc e)
-tree_cause (TreeFault.Fetch (FetchFault.Form at fault)) cause e = absurd (cc e)
-tree_cause (TreeFault.Fetch (FetchFault.Name at want got)) cause e = absurd (cc e)
-tree_cause TreeFault.Memory cause e = absurd (cc e)
-
-pub ends : (fault : StoreFault) (command : Command) (met met' : Met) (result : Result Reply SessionEnd) (held : Type 0) (before after : GroundCounts) → Fails fault met met' result
-    → (fault ≡ StoreFault.Ground → Rose before.file_faults after.file_faults) → (held → (s : State) × Refuses s command fault) → IfErr result (λ (end : SessionEnd). EndsBy end held before after)
-ends StoreFault.Ground command met met' result held before after f cause refuses = subst (λ (x : Result Reply SessionEnd). IfErr x (λ (end : SessionEnd). EndsBy end held before after)) (sym f.0) (cause refl)
-ends (StoreFault.Damaged at names) command met met' result held before after f cause refuses = subst (λ (x : Result Reply SessionEnd). IfErr x (λ (end : SessionEnd). EndsBy end held before after)) (sym f.0) (λ h. (refuses h).1)
-ends StoreFault.Memory command met met' result held before after f cause refuses = subst (λ (x : Result Reply SessionEnd). IfErr x (λ (end : SessionEnd). EndsBy end held before after)) (sym f.0) tt
-ends (StoreFault.Limit limit) command met met' result held before after f cause refuses = subst (λ (x : Result Reply SessionEnd). IfErr x (λ (end : SessionEnd). EndsBy end held before after)) (sym f.0) tt
-ends (StoreFault.HeadMoved name) command met met' result held before after f cause refuses = subst (λ (x : Result Reply SessionEnd). IfErr x (λ (end : SessionEnd). EndsBy end held before after)) (sym f.0) tt
-ends (StoreFault.Existing name) command met met' result held before after f cause refuses = subst (λ (x : Result Reply SessionEnd). IfErr x (λ (end : SessionEnd). EndsBy end held before after)) (sym f.0) tt
+pub ends : (fault : StoreFault) (command : Command) (met met' : Met) (result : Result Reply SessionEnd) (held : Type 0) → Fails fault met met' result → (held → (s : State) × Refuses s command fault) → IfErr result (EndsBy held)
+ends StoreFault.Ground command met met' result held f refuses = subst (λ (x : Result Reply SessionEnd). IfErr x (EndsBy held)) (sym f.0) tt
+ends (StoreFault.Damaged at names) command met met' result held f refuses = subst (λ (x : Result Reply SessionEnd). IfErr x (EndsBy held)) (sym f.0) (λ h. (refuses h).1)
+ends StoreFault.Memory command met met' result held f refuses = subst (λ (x : Result Reply SessionEnd). IfErr x (EndsBy held)) (sym f.0) tt
+ends (StoreFault.Limit limit) command met met' result held f refuses = subst (λ (x : Result Reply SessionEnd). IfErr x (EndsBy held)) (sym f.0) tt
+ends (StoreFault.HeadMoved name) command met met' result held f refuses = subst (λ (x : Result Reply SessionEnd). IfErr x (EndsBy held)) (sym f.0) tt
+ends (StoreFault.Existing name) command met met' result held f refuses = subst (λ (x : Result Reply SessionEnd). IfErr x (EndsBy held)) (sym f.0) tt
 
 -- ---- what a command did that reads
 
@@ -542,10 +530,9 @@ module _ (tells : Bool) (old new : Told) (s : Session) (store : Store) (same : S
   unfetched_read met command fault result refusable f read = failed_read tells old new s store same looks e s.work.tree met command fault result refusable f
       (λ told r v here. (here.lawful.tree, fetched_refuses (IsReadFor r here.holds) (state_in s r v) command fault (read told r here.holds (retained r here.holds.tables))))
 
-pub unfetched_ends : (s : Session) (old : Told) (n : ℕ) (tells : Bool) (command : Command) (met : Met) (fault : StoreFault) (result : Result Reply SessionEnd) (before after : GroundCounts) → ((r : Repository) → IsOf s.store r → IsTrue (is_retained r n))
-    → Fails fault s.met met result → (fault ≡ StoreFault.Ground → Rose before.file_faults after.file_faults)
-    → (IsTrue tells → (r : Repository) (held : Holds s.store old r) → IsTrue (is_retained r n) → IsFetchedOr (IsTreeOf (image_records held) r n) (Err fault)) → IfErr result (λ (end : SessionEnd). EndsBy end (IsHeld tells old s) before after)
-unfetched_ends s old n tells command met fault result before after retained f cause read = ends fault command s.met met result (IsHeld tells old s) before after f cause
+pub unfetched_ends : (s : Session) (old : Told) (n : ℕ) (tells : Bool) (command : Command) (met : Met) (fault : StoreFault) (result : Result Reply SessionEnd) → ((r : Repository) → IsOf s.store r → IsTrue (is_retained r n)) → Fails fault s.met met result
+    → (IsTrue tells → (r : Repository) (held : Holds s.store old r) → IsTrue (is_retained r n) → IsFetchedOr (IsTreeOf (image_records held) r n) (Err fault)) → IfErr result (EndsBy (IsHeld tells old s))
+unfetched_ends s old n tells command met fault result retained f read = ends fault command s.met met result (IsHeld tells old s) f
     (λ (told, (r, v, here)). (state_in s r v, fetched_refuses (IsTreeOf (image_records here.holds) r n) (state_in s r v) command fault (read told r here.holds (retained r here.holds.tables))))
 
 pub ungrafted_gives : (r : Repository) (w : Machine.Work) (target : Target) (from to : Path) (n : ℕ) → NoneGivenUp r w → resolve r target ≡ Ok n → false ≡ not (is_empty (subtree (tree_at r n) from))

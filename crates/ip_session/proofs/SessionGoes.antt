@@ -5,6 +5,8 @@
 use Rattle.std.proofs.Common.{◌≡◌, inl, inr, ℕ, ◌^◌, ◌<◌, Bool, true, false, refl, sym, subst, arith, Ok, Err, IsTrue, length}
 use Rattle.std.specs.Prelude.{Result, IfOk, OnErr}
 use Rattle.ip_ground.specs.declared.names.FileName.{FileName}
+use Rattle.ip_ground.specs.declared.names.FileName.TheVariants.{Control}
+use Rattle.ip_ground.specs.Contents.{Image}
 use Rattle.ip_ground.specs.Told.{Told}
 use Rattle.ip_ground.proofs.Spans.{no_moment, only_nowhere, only_more}
 use Rattle.ip_spec.specs.declared.command.Command.{Command}
@@ -21,7 +23,9 @@ use Rattle.ip_spec.specs.View.{View}
 use Rattle.ip_script.specs.Served.{IsServedLine}
 use Rattle.ip_session.specs.declared.session.Session.{Session}
 use Rattle.ip_session.specs.declared.session.SessionEnd.{SessionEnd}
-use Rattle.ip_session.specs.Session.{no_rules, IsWorking, state_in, met_only, conditions_of, IsLong, Writes, IsDurable, ChangedBy, ChangedIn, Goes, Cut}
+use Rattle.ip_session.specs.Session.{no_rules, IsWorking, state_in, met_only, conditions_of, IsLong, Writes, IsDurable, ChangedBy, ChangedIn, TouchedBy, TouchedIn, Goes, Cut}
+use Rattle.ip_session.specs.Placing.{PlacedIn}
+use Rattle.ip_session.proofs.Placing.{memory_placed}
 use Rattle.ip_session.proofs.SessionLemmas.{memory_is_short, bad_is_short, bad_line}
 
 -- nothing changed but what was met
@@ -43,50 +47,50 @@ still_goes a s met r v here Changed Gives reply gives refused none = record {
 
 -- the line that spells the command, and no other one; what was met before does not matter
 lined : (a b : Told) (s s' : Session) (met : Met) (r : Repository) (v : View) (command : Command) (line : Bytes) (reply : Reply) → IsServedLine command line → ((other : Command) → IsServedLine other line → other ≡ command)
-    → Goes a b (record s { met = met }) s' r v (ChangedBy command) (Step no_rules (state_in s r v) command) reply → Goes a b s s' r v (ChangedIn line) (LineStep IsServedLine no_rules (state_in s r v) line) reply
+    → Goes a b (record s { met = met }) s' r v (ChangedBy a.held command) (Step no_rules (state_in s r v) command) reply → Goes a b s s' r v (ChangedIn a.held line) (LineStep IsServedLine no_rules (state_in s r v) line) reply
 lined a b s s' met r v command line reply served one h = record {
   after = h.after;
   view = h.view;
   gives = inl (command, served, h.gives);
   is_at = h.is_at;
-  only = only_more a b (ChangedBy command reply) (ChangedIn line reply) (λ file changed. (command, served, changed)) h.only;
+  only = only_more a b (ChangedBy a.held command reply) (ChangedIn a.held line reply) (λ file changed. (command, served, changed)) h.only;
   atomic = h.atomic;
   nothing_pending = h.nothing_pending;
   spared = λ long. let x = h.spared long in record { same = x.same; refused = inl (command, served, x.refused) };
-  still = λ long file (other, spelled, changed). h.still long file (subst (λ (c : Command). ChangedBy c reply file) (one other spelled) changed);
+  still = λ long file (other, spelled, changed). h.still long file (subst (λ (c : Command). ChangedBy a.held c reply file) (one other spelled) changed);
 }
 
 pub lined_ok : (a b : Told) (s s' : Session) (met : Met) (r : Repository) (v : View) (command : Command) (line : Bytes) (result : Result Reply SessionEnd) → IsServedLine command line → ((other : Command) → IsServedLine other line → other ≡ command)
-    → IfOk result (Goes a b (record s { met = met }) s' r v (ChangedBy command) (Step no_rules (state_in s r v) command)) → IfOk result (Goes a b s s' r v (ChangedIn line) (LineStep IsServedLine no_rules (state_in s r v) line))
+    → IfOk result (Goes a b (record s { met = met }) s' r v (ChangedBy a.held command) (Step no_rules (state_in s r v) command)) → IfOk result (Goes a b s s' r v (ChangedIn a.held line) (LineStep IsServedLine no_rules (state_in s r v) line))
 lined_ok a b s s' met r v command line (Ok reply) served one h = lined a b s s' met r v command line reply served one h
 lined_ok a b s s' met r v command line (Err end) served one h = tt
 
 pub lined_cut : (a b : Told) (s s' : Session) (met : Met) (r : Repository) (v : View) (command : Command) (line : Bytes) (result : Result Reply SessionEnd) → IsServedLine command line
-    → OnErr result (Cut a b (record s { met = met }) s' r v (Step no_rules (state_in s r v) command)) → OnErr result (Cut a b s s' r v (LineStep IsServedLine no_rules (state_in s r v) line))
+    → OnErr result (Cut a b (record s { met = met }) s' r v (TouchedBy a.held command) (Step no_rules (state_in s r v) command)) → OnErr result (Cut a b s s' r v (TouchedIn a.held line) (LineStep IsServedLine no_rules (state_in s r v) line))
 lined_cut a b s s' met r v command line (Ok reply) served h = tt
-lined_cut a b s s' met r v command line (Err end) served h = record { reply = h.reply; after = h.after; gives = inl (command, served, h.gives); only = h.only; atomic = h.atomic }
+lined_cut a b s s' met r v command line (Err end) served h = record { reply = h.reply; after = h.after; gives = inl (command, served, h.gives); only = only_more a b (TouchedBy a.held command) (TouchedIn a.held line) (λ file touched. (command, served, touched)) h.only; atomic = h.atomic }
 
 -- a reply that none of the durable commands has
-none_changed : (line : Bytes) (reply : Reply) → ((command : Command) → ¬ IsDurable reply command) → (file : FileName) → ¬ ChangedIn line reply file
-none_changed line reply none file changed = none changed.0 changed.2.0
+none_changed : (image : Image) (line : Bytes) (reply : Reply) → ((command : Command) → ¬ IsDurable reply command) → (file : FileName) → ¬ ChangedIn image line reply file
+none_changed image line reply none file changed = none changed.0 changed.2.0
 
 -- a line that is no command
 pub bad_goes : (a : Told) (s : Session) (met : Met) (r : Repository) (v : View) (here : IsWorking a s r v) (line : Bytes) (place : ℕ) → met ≡ met_only false → IsBadAt IsServedLine line place → length line < 2 ^ 64
-    → Goes a a s (record s { met = met }) r v (ChangedIn line) (LineStep IsServedLine no_rules (state_in s r v) line) (Reply.Bad place)
-bad_goes a s met r v here line place e bad small = still_goes a s met r v here (ChangedIn line) (LineStep IsServedLine no_rules (state_in s r v) line) (Reply.Bad place)
+    → Goes a a s (record s { met = met }) r v (ChangedIn a.held line) (LineStep IsServedLine no_rules (state_in s r v) line) (Reply.Bad place)
+bad_goes a s met r v here line place e bad small = still_goes a s met r v here (ChangedIn a.held line) (LineStep IsServedLine no_rules (state_in s r v) line) (Reply.Bad place)
     (subst (λ (m : Met). LineStep IsServedLine no_rules (state_in s r v) line (conditions_of m) (Reply.Bad place) (state_in s r v)) (sym e) (bad_line (state_in s r v) line place bad))
     (λ long. absurd (bad_is_short place line bad.in_line small long))
-    (none_changed line (Reply.Bad place) (λ command h. h))
+    (none_changed a.held line (Reply.Bad place) (λ command h. h))
 
 -- a line that was refused memory
 pub refused_goes : (a : Told) (s : Session) (met : Met) (r : Repository) (v : View) (here : IsWorking a s r v) (line : Bytes) (reply : Reply) → met ≡ met_only true → reply ≡ Reply.Memory
     → LineStep IsServedLine no_rules (state_in s r v) line (conditions_of (met_only true)) Reply.Memory (state_in s r v)
-    → Goes a a s (record s { met = met }) r v (ChangedIn line) (LineStep IsServedLine no_rules (state_in s r v) line) reply
-refused_goes a s met r v here line reply e is_memory gives = subst (Goes a a s (record s { met = met }) r v (ChangedIn line) (LineStep IsServedLine no_rules (state_in s r v) line)) (sym is_memory)
-    (still_goes a s met r v here (ChangedIn line) (LineStep IsServedLine no_rules (state_in s r v) line) Reply.Memory
+    → Goes a a s (record s { met = met }) r v (ChangedIn a.held line) (LineStep IsServedLine no_rules (state_in s r v) line) reply
+refused_goes a s met r v here line reply e is_memory gives = subst (Goes a a s (record s { met = met }) r v (ChangedIn a.held line) (LineStep IsServedLine no_rules (state_in s r v) line)) (sym is_memory)
+    (still_goes a s met r v here (ChangedIn a.held line) (LineStep IsServedLine no_rules (state_in s r v) line) Reply.Memory
     (subst (λ (m : Met). LineStep IsServedLine no_rules (state_in s r v) line (conditions_of m) Reply.Memory (state_in s r v)) (sym e) gives)
     (λ long. gives)
-    (none_changed line Reply.Memory (λ command h. h)))
+    (none_changed a.held line Reply.Memory (λ command h. h)))
 
 -- ---- texts
 
@@ -107,14 +111,21 @@ memory_instead a b s s' met r v Changed Gives reply h long e none = record {
 
 -- of what the ground tells
 abbrev Tells : (tells : Bool) (a b : Told) (s s' : Session) (line : Bytes) (reply : Reply) → Type 0
-Tells tells a b s s' line reply = IsTrue tells → (r : Repository) (v : View) → IsWorking a s r v → Goes a b s s' r v (ChangedIn line) (LineStep IsServedLine no_rules (state_in s r v) line) reply
+Tells tells a b s s' line reply = IsTrue tells → (r : Repository) (v : View) → IsWorking a s r v → Goes a b s s' r v (ChangedIn a.held line) (LineStep IsServedLine no_rules (state_in s r v) line) reply
+
+abbrev Places : (tells : Bool) (a : Told) (s s' : Session) (line : Bytes) (reply : Reply) → Type 0
+Places tells a s s' line reply = IsTrue tells → (r : Repository) (v : View) → IsWorking a s r v → PlacedIn s.store.slot s'.store.slot (state_in s r v) v line reply
 
 -- what was written of its reply
 pub written_goes : (tells : Bool) (a b : Told) (s s' : Session) (met : Met) (line : Bytes) (reply : Reply) (text : Bytes) → Tells tells a b s s' line reply → Writes reply s'.met met text
-    → (written : Reply) × (text ≡ reply_text written) × Tells tells a b s (record s' { met = met }) line written
-written_goes tells a b s s' met line reply text goes (inl whole) = (reply, whole.1, subst (λ (m : Met). Tells tells a b s (record s' { met = m }) line reply) (sym whole.0) goes)
-written_goes tells a b s s' met line reply text goes (inr refused) = (
+    → Places tells a s s' line reply → (written : Reply) × (text ≡ reply_text written) × (IsTrue tells → (r : Repository) (v : View) → IsWorking a s r v → Goes a b s (record s' { met = met }) r v (ChangedIn a.held line) (LineStep IsServedLine no_rules (state_in s r v) line) written × PlacedIn s.store.slot s'.store.slot (state_in s r v) v line written)
+written_goes tells a b s s' met line reply text goes (inl whole) placed =
+    (reply, whole.1, λ told r v here. (subst (λ (m : Met). Goes a b s (record s' { met = m }) r v (ChangedIn a.held line) (LineStep IsServedLine no_rules (state_in s r v) line) reply) (sym whole.0) (goes told r v here), placed told r v here))
+written_goes tells a b s s' met line reply text goes (inr refused) placed = (
   Reply.Memory,
   refused.2,
-  λ told r v here. memory_instead a b s s' met r v (ChangedIn line) (LineStep IsServedLine no_rules (state_in s r v) line) reply (goes told r v here) refused.0 refused.1 (none_changed line Reply.Memory (λ command h. h)),
+  λ told r v here. (
+    memory_instead a b s s' met r v (ChangedIn a.held line) (LineStep IsServedLine no_rules (state_in s r v) line) reply (goes told r v here) refused.0 refused.1 (none_changed a.held line Reply.Memory (λ command h. h)),
+    memory_placed s.store.slot s'.store.slot (state_in s r v) v line reply (λ command served done. (goes told r v here).still refused.0 Control (command, served, (done, inl refl))) (placed told r v here),
+  ),
 )

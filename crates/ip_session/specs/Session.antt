@@ -5,20 +5,20 @@
 --     met_only refused      what a command meets that changes no file: nothing but want of memory, if that
 --     is_durable command      it may change files.      IsDurable reply command      and with this reply it did
 --     asks_ground command      it reads records.      HasWords command      it is served, with the words that its line may have
---     ChangedBy command reply, ChangedIn line reply      the files that a command or a line with this reply may have changed
+--     ChangedBy image command reply, ChangedIn image line reply      the files that a command or a line with this reply may have changed
+--     TouchedBy image command, TouchedIn image line      and where it was cut short
 --     IsAnswered records s s' r v Gives reply      a command was run that changes no file, of which Gives says what the machine may give
 --     HasRead tells old new s s' command result      and it may have read records
 --     Goes old new s s' r v Changed Gives reply      a command or a line was run
---     Cut old new s s' r v Gives      a fault of the ground or of its files cut it short
+--     Cut old new s s' r v Touched Gives      a fault of the ground or of its files cut it short
 --     IsHeld tells told session      the ground tells what the store holds, and the session works over it
---     EndsBy end held before after      why a session has ended
+--     EndsBy held end      why a session has ended.      ground_end end      by a fault of the ground
 --     Fails fault met met' result      what comes of a call of the store that failed
 --     tree_fault fault      a call on a tree fails as one of the store
 --     IsLong reply      the text of such a reply may take memory.      Writes reply met met' text      it was written, or want of it
 use Rattle.std.specs.Prelude.{◌≡◌, ◌⊎◌, ◌<◌, ℕ, Bool, true, false, length, Option, IsTrue, IfOk, IsErr, Result, Ok, Err}
 use Rattle.ip_ground.specs.declared.names.FileName.{FileName}
-use Rattle.ip_ground.specs.declared.names.GroundCounts.{GroundCounts}
-use Rattle.ip_ground.specs.Counts.{Rose}
+use Rattle.ip_ground.specs.Contents.{Image}
 use Rattle.ip_ground.specs.Told.{Told, ChangesOnly}
 use Rattle.ip_spec.specs.Repository.{Repository}
 use Rattle.ip_spec.specs.View.{View}
@@ -38,7 +38,7 @@ use Rattle.ip_image.specs.Headline.{IsAtomic}
 use Rattle.ip_store.specs.declared.committing.StoreFault.{StoreFault}
 pub use Rattle.ip_store.specs.Commits.{conditions_of}
 use Rattle.ip_store.specs.Commits.{met_nothing}
-use Rattle.ip_store.specs.Publishing.{IsOfStore}
+use Rattle.ip_store.specs.Publishing.{MayChange}
 use Rattle.ip_store.specs.Showing.{fault_from}
 use Rattle.ip_store.specs.Store.{IsOf, image_records}
 use Rattle.ip_store.specs.Trees.{OnlyLooks}
@@ -106,11 +106,19 @@ IsDurable Reply.Accepted (Command.Branch name target) = Unit {0}
 IsDurable Reply.Accepted (Command.BranchRm name) = Unit {0}
 IsDurable reply command = ⊥
 
-abbrev pub ChangedBy : Command → Reply → FileName → Type 0
-ChangedBy command reply file = IsDurable reply command × IsOfStore file
+-- of the files before it, by those that the store may change
+abbrev pub ChangedBy : Image → Command → Reply → FileName → Type 0
+ChangedBy image command reply file = IsDurable reply command × MayChange image file
 
-abbrev pub ChangedIn : Bytes → Reply → FileName → Type 0
-ChangedIn line reply file = (command : Command) × IsServedLine command line × ChangedBy command reply file
+abbrev pub ChangedIn : Image → Bytes → Reply → FileName → Type 0
+ChangedIn image line reply file = (command : Command) × IsServedLine command line × ChangedBy image command reply file
+
+-- where a fault cut it short, by its words alone
+abbrev pub TouchedBy : Image → Command → FileName → Type 0
+TouchedBy image command file = (is_durable command ≡ true) × MayChange image file
+
+abbrev pub TouchedIn : Image → Bytes → FileName → Type 0
+TouchedIn image line file = (command : Command) × IsServedLine command line × TouchedBy image command file
 
 -- nothing was changed, and memory may be refused instead
 pub record IsSpared (s s' : State) (Gives : Conditions → Reply → State → Type 0) : Type 0 where
@@ -144,20 +152,25 @@ pub record Goes (old new : Told) (s s' : Session) (r : Repository) (v : View) (C
   pub still : IsLong reply → (file : FileName) → ¬ Changed reply file
 
 -- the reply and the next state are those that the machine gives where none of its writes fails
-pub record Cut (old new : Told) (s s' : Session) (r : Repository) (v : View) (Gives : Conditions → Reply → State → Type 0) : Type 0 where
+pub record Cut (old new : Told) (s s' : Session) (r : Repository) (v : View) (Touched : FileName → Type 0) (Gives : Conditions → Reply → State → Type 0) : Type 0 where
   pub reply : Reply
   pub after : State
   pub gives : Gives (conditions_of s'.met) reply after
-  pub only : ChangesOnly IsOfStore old new
+  pub only : ChangesOnly Touched old new
   pub atomic : NothingPending old → IsAtomic old new r after.repository
 
 abbrev pub IsHeld : Bool → Told → Session → Type 0
 IsHeld tells told s = IsTrue tells × ((r : Repository) × (v : View) × IsWorking told s r v)
 
--- A fault of the ground, whose count rose; or files that others changed, which never comes where the ground tells what the store holds.
-abbrev pub EndsBy : SessionEnd → (held : Type 0) → GroundCounts → GroundCounts → Type 0
-EndsBy SessionEnd.Ground held before after = Rose before.file_faults after.file_faults
-EndsBy (SessionEnd.Damaged at names) held before after = ¬ held
+-- A fault of the ground; or files that others changed, which never comes where the ground tells what the store holds.
+abbrev pub EndsBy : (held : Type 0) → SessionEnd → Type 0
+EndsBy held SessionEnd.Ground = Unit {0}
+EndsBy held (SessionEnd.Damaged at names) = ¬ held
+
+-- The one end at which a fault was counted: at each answer, want of memory among them, the counts are as they were.
+abbrev pub ground_end : SessionEnd → Bool
+ground_end SessionEnd.Ground = true
+ground_end (SessionEnd.Damaged at names) = false
 
 -- want of memory is met, other refusals are answered, and faults of the ground and of its files end the session
 abbrev pub Fails : StoreFault → Met → Met → Result Reply SessionEnd → Type 0

@@ -1,20 +1,20 @@
 // The commands that may change files.
 ghost use Rattle.std.specs.Prelude.{◌≡◌, false, IsTrue, IfOk, IfErr, OnErr};
-ghost use Rattle.ip_ground.specs.Counts.{NoneFalls};
+ghost use Rattle.ip_ground.specs.Counts.{Counts};
 ghost use Rattle.ip_spec.specs.View.{View};
 ghost use Rattle.ip_spec.specs.declared.command.Target.{Target};
 ghost use Rattle.ip_spec.specs.declared.command.Command.TheVariants as Command;
 ghost use Rattle.ip_spec.specs.Record.{IsBranchName, IsInfo};
 ghost use Rattle.ip_spec.specs.Repository.{Repository};
 ghost use Rattle.ip_spec.specs.Step.{Step};
-ghost use Rattle.ip_session.specs.Session.{no_rules, met_only, ChangedBy, IsHeld, EndsBy};
+ghost use Rattle.ip_session.specs.Placing.{PlacedBy};
+ghost use Rattle.ip_session.specs.Session.{ground_end, no_rules, met_only, ChangedBy, TouchedBy, IsHeld, EndsBy};
 
 use crate::replies::{branch_reply, removed_reply, reply_to};
 use crate::session::{Session, SessionEnd, resolve};
 use ip_base::{Blob, Info};
 use ip_ground::Ground;
 use ip_script::{Reply, Target};
-use ip_store::{leaves_only, works_stay};
 
 impl Session {
     ghost use Rattle.ip_session.specs.Session.{IsServing, IsWorking, state_in, Goes, Cut};
@@ -32,11 +32,13 @@ impl Session {
         requires tables { IsServing self.old }
         ensures tables { IfOk result (λ reply. IsServing self.new) }
         ensures goes { IsTrue G.tells → (r : Repository) (v : View) → IsWorking (G.told ground.old) self.old r v →
-            IfOk result (Goes (G.told ground.old) (G.told ground.new) self.old self.new r v (ChangedBy (Command.Commit branch.now info)) (Step no_rules (state_in self.old r v) (Command.Commit branch.now info))) }
+            IfOk result (Goes (G.told ground.old) (G.told ground.new) self.old self.new r v (ChangedBy (G.told ground.old).held (Command.Commit branch.now info)) (Step no_rules (state_in self.old r v) (Command.Commit branch.now info))) }
+        ensures placed { IsTrue G.tells → (r : Repository) (v : View) → IsWorking (G.told ground.old) self.old r v →
+            IfOk result (PlacedBy self.old.store.slot self.new.store.slot (state_in self.old r v) v (Command.Commit branch.now info)) }
         ensures cut { IsTrue G.tells → (r : Repository) (v : View) → IsWorking (G.told ground.old) self.old r v →
-            OnErr result (Cut (G.told ground.old) (G.told ground.new) self.old self.new r v (Step no_rules (state_in self.old r v) (Command.Commit branch.now info))) }
-        ensures counts { NoneFalls (G.counts_of ground.old) (G.counts_of ground.new) }
-        ensures cause { IfErr result (λ end. EndsBy end (IsHeld G.tells (G.told ground.old) self.old) (G.counts_of ground.old) (G.counts_of ground.new)) }
+            OnErr result (Cut (G.told ground.old) (G.told ground.new) self.old self.new r v (TouchedBy (G.told ground.old).held (Command.Commit branch.now info)) (Step no_rules (state_in self.old r v) (Command.Commit branch.now info))) }
+        ensures counts { Counts ground_end result (G.counts_of ground.old) (G.counts_of ground.new) }
+        ensures cause { IfErr result (EndsBy (IsHeld G.tells (G.told ground.old) self.old)) }
     {
         let made = self
             .store
@@ -62,18 +64,18 @@ impl Session {
         requires tables { IsServing self.old }
         ensures tables { IfOk result (λ reply. IsServing self.new) }
         ensures goes { IsTrue G.tells → (r : Repository) (v : View) → IsWorking (G.told ground.old) self.old r v →
-            IfOk result (Goes (G.told ground.old) (G.told ground.new) self.old self.new r v (ChangedBy (Command.Branch name.now target)) (Step no_rules (state_in self.old r v) (Command.Branch name.now target))) }
+            IfOk result (Goes (G.told ground.old) (G.told ground.new) self.old self.new r v (ChangedBy (G.told ground.old).held (Command.Branch name.now target)) (Step no_rules (state_in self.old r v) (Command.Branch name.now target))) }
+        ensures placed { IsTrue G.tells → (r : Repository) (v : View) → IsWorking (G.told ground.old) self.old r v →
+            IfOk result (PlacedBy self.old.store.slot self.new.store.slot (state_in self.old r v) v (Command.Branch name.now target)) }
         ensures cut { IsTrue G.tells → (r : Repository) (v : View) → IsWorking (G.told ground.old) self.old r v →
-            OnErr result (Cut (G.told ground.old) (G.told ground.new) self.old self.new r v (Step no_rules (state_in self.old r v) (Command.Branch name.now target))) }
-        ensures counts { NoneFalls (G.counts_of ground.old) (G.counts_of ground.new) }
-        ensures cause { IfErr result (λ end. EndsBy end (IsHeld G.tells (G.told ground.old) self.old) (G.counts_of ground.old) (G.counts_of ground.new)) }
+            OnErr result (Cut (G.told ground.old) (G.told ground.new) self.old self.new r v (TouchedBy (G.told ground.old).held (Command.Branch name.now target)) (Step no_rules (state_in self.old r v) (Command.Branch name.now target))) }
+        ensures counts { Counts ground_end result (G.counts_of ground.old) (G.counts_of ground.new) }
+        ensures cause { IfErr result (EndsBy (IsHeld G.tells (G.told ground.old) self.old)) }
     {
         let number = match resolve(&self.store, target) {
             Ok(number) => number,
             Err(reply) => return Ok(reply),
         };
-        works_stay();
-        leaves_only();
         let made = self.store.set_branch(self.alloc, ground, name, number);
         match branch_reply(&made) {
             Some(reply) => {
@@ -95,14 +97,14 @@ impl Session {
         requires tables { IsServing self.old }
         ensures tables { IfOk result (λ reply. IsServing self.new) }
         ensures goes { IsTrue G.tells → (r : Repository) (v : View) → IsWorking (G.told ground.old) self.old r v →
-            IfOk result (Goes (G.told ground.old) (G.told ground.new) self.old self.new r v (ChangedBy (Command.BranchRm name)) (Step no_rules (state_in self.old r v) (Command.BranchRm name))) }
+            IfOk result (Goes (G.told ground.old) (G.told ground.new) self.old self.new r v (ChangedBy (G.told ground.old).held (Command.BranchRm name)) (Step no_rules (state_in self.old r v) (Command.BranchRm name))) }
+        ensures placed { IsTrue G.tells → (r : Repository) (v : View) → IsWorking (G.told ground.old) self.old r v →
+            IfOk result (PlacedBy self.old.store.slot self.new.store.slot (state_in self.old r v) v (Command.BranchRm name)) }
         ensures cut { IsTrue G.tells → (r : Repository) (v : View) → IsWorking (G.told ground.old) self.old r v →
-            OnErr result (Cut (G.told ground.old) (G.told ground.new) self.old self.new r v (Step no_rules (state_in self.old r v) (Command.BranchRm name))) }
-        ensures counts { NoneFalls (G.counts_of ground.old) (G.counts_of ground.new) }
-        ensures cause { IfErr result (λ end. EndsBy end (IsHeld G.tells (G.told ground.old) self.old) (G.counts_of ground.old) (G.counts_of ground.new)) }
+            OnErr result (Cut (G.told ground.old) (G.told ground.new) self.old self.new r v (TouchedBy (G.told ground.old).held (Command.BranchRm name)) (Step no_rules (state_in self.old r v) (Command.BranchRm name))) }
+        ensures counts { Counts ground_end result (G.counts_of ground.old) (G.counts_of ground.new) }
+        ensures cause { IfErr result (EndsBy (IsHeld G.tells (G.told ground.old) self.old)) }
     {
-        works_stay();
-        leaves_only();
         let made = self
             .store
             .remove_branch(self.alloc, ground, name.as_slice());

@@ -1,7 +1,7 @@
 // A session: one line, one reply.
 ghost use Rattle.std.specs.Prelude.{◌≡◌, ◌≤◌, [], true, false, ℕ, Option, IsTrue, IfOk, IfErr, OnOk, OnErr, None, Ok};
 ghost use Rattle.std.specs.Vec.{vec_capacity};
-ghost use Rattle.ip_ground.specs.Counts.{NoneFalls};
+ghost use Rattle.ip_ground.specs.Counts.{Counts};
 ghost use Rattle.ip_spec.specs.Map.{len};
 ghost use Rattle.ip_spec.specs.View.{View, no_view};
 ghost use Rattle.ip_spec.specs.declared.record.Record.{Record};
@@ -19,9 +19,11 @@ ghost use Rattle.ip_store.specs.Commits.{met_nothing};
 ghost use Rattle.ip_store.specs.Store.{IsOf};
 ghost use Rattle.ip_tree.specs.Leaves.{HasLeavesOnly};
 ghost use Rattle.ip_store.specs.Work.{IsLawful};
-ghost use Rattle.ip_session.specs.Session.{no_rules, met_only, is_durable, asks_ground, ChangedBy, ChangedIn, HasRead, IsHeld, EndsBy};
+ghost use Rattle.ip_session.specs.Placing.{PlacedBy, PlacedIn};
+ghost use Rattle.ip_session.specs.Session.{ground_end, no_rules, met_only, is_durable, asks_ground, ChangedBy, ChangedIn, TouchedBy, TouchedIn, HasRead, IsHeld, EndsBy};
 
 use crate::replies::{met_only, put_reply, refuse};
+use ip_base::limit::PARENTS_MAX;
 use ip_base::{Hash, Items, Limit, Number};
 use ip_ground::Ground;
 use ip_script::{Command, LineFault, Reply, Target, grammar, read_line};
@@ -29,9 +31,6 @@ use ip_spec::met::{Met, Phase};
 use ip_store::{Store, Work};
 use sha2::{Digest, Sha256};
 use std::alloc::Global;
-
-/// A work has so many parents at most.
-const MOST_PARENTS: usize = 16;
 
 /// Why a session has ended. The store is to be opened anew.
 #[derive(Clone, Copy, Debug, PartialEq, Eq)]
@@ -122,7 +121,7 @@ impl Session {
         if parents.contains(&number) {
             return Reply::Accepted;
         }
-        if parents.len() >= MOST_PARENTS {
+        if parents.len() >= PARENTS_MAX {
             return Reply::Limit(Limit::Parents);
         }
         if self.work.parents.push(number).is_err() {
@@ -252,8 +251,8 @@ impl Session {
         requires met { self.old.met ≡ met_only false }
         requires tables { IsServing self.old }
         ensures reads { HasRead G.tells (G.told ground.old) (G.told ground.new) self.old self.new command result }
-        ensures counts { NoneFalls (G.counts_of ground.old) (G.counts_of ground.new) }
-        ensures cause { IfErr result (λ end. EndsBy end (IsHeld G.tells (G.told ground.old) self.old) (G.counts_of ground.old) (G.counts_of ground.new)) }
+        ensures counts { Counts ground_end result (G.counts_of ground.old) (G.counts_of ground.new) }
+        ensures cause { IfErr result (EndsBy (IsHeld G.tells (G.told ground.old) self.old)) }
     {
         match command {
             Command::Checkout(target) => self.checkout(ground, target),
@@ -275,11 +274,13 @@ impl Session {
         requires tables { IsServing self.old }
         ensures tables { IfOk result (λ reply. IsServing self.new) }
         ensures goes { IsTrue G.tells → (r : Repository) (v : View) → IsWorking (G.told ground.old) self.old r v →
-            IfOk result (Goes (G.told ground.old) (G.told ground.new) self.old self.new r v (ChangedBy command) (Step no_rules (state_in self.old r v) command)) }
+            IfOk result (Goes (G.told ground.old) (G.told ground.new) self.old self.new r v (ChangedBy (G.told ground.old).held command) (Step no_rules (state_in self.old r v) command)) }
+        ensures placed { IsTrue G.tells → (r : Repository) (v : View) → IsWorking (G.told ground.old) self.old r v →
+            IfOk result (PlacedBy self.old.store.slot self.new.store.slot (state_in self.old r v) v command) }
         ensures cut { IsTrue G.tells → (r : Repository) (v : View) → IsWorking (G.told ground.old) self.old r v →
-            OnErr result (Cut (G.told ground.old) (G.told ground.new) self.old self.new r v (Step no_rules (state_in self.old r v) command)) }
-        ensures counts { NoneFalls (G.counts_of ground.old) (G.counts_of ground.new) }
-        ensures cause { IfErr result (λ end. EndsBy end (IsHeld G.tells (G.told ground.old) self.old) (G.counts_of ground.old) (G.counts_of ground.new)) }
+            OnErr result (Cut (G.told ground.old) (G.told ground.new) self.old self.new r v (TouchedBy (G.told ground.old).held command) (Step no_rules (state_in self.old r v) command)) }
+        ensures counts { Counts ground_end result (G.counts_of ground.old) (G.counts_of ground.new) }
+        ensures cause { IfErr result (EndsBy (IsHeld G.tells (G.told ground.old) self.old)) }
     {
         match command {
             Command::Commit { branch, info } => self.commit(ground, branch.as_slice(), info),
@@ -294,11 +295,13 @@ impl Session {
         requires tables { IsServing self.old }
         ensures tables { IfOk result (λ reply. IsServing self.new) }
         ensures goes { IsTrue G.tells → (r : Repository) (v : View) → IsWorking (G.told ground.old) self.old r v →
-            IfOk result (Goes (G.told ground.old) (G.told ground.new) self.old self.new r v (ChangedIn line.now) (LineStep IsServedLine no_rules (state_in self.old r v) line.now)) }
+            IfOk result (Goes (G.told ground.old) (G.told ground.new) self.old self.new r v (ChangedIn (G.told ground.old).held line.now) (LineStep IsServedLine no_rules (state_in self.old r v) line.now)) }
+        ensures placed { IsTrue G.tells → (r : Repository) (v : View) → IsWorking (G.told ground.old) self.old r v →
+            IfOk result (PlacedIn self.old.store.slot self.new.store.slot (state_in self.old r v) v line.now) }
         ensures cut { IsTrue G.tells → (r : Repository) (v : View) → IsWorking (G.told ground.old) self.old r v →
-            OnErr result (Cut (G.told ground.old) (G.told ground.new) self.old self.new r v (LineStep IsServedLine no_rules (state_in self.old r v) line.now)) }
-        ensures counts { NoneFalls (G.counts_of ground.old) (G.counts_of ground.new) }
-        ensures cause { IfErr result (λ end. EndsBy end (IsHeld G.tells (G.told ground.old) self.old) (G.counts_of ground.old) (G.counts_of ground.new)) }
+            OnErr result (Cut (G.told ground.old) (G.told ground.new) self.old self.new r v (TouchedIn (G.told ground.old).held line.now) (LineStep IsServedLine no_rules (state_in self.old r v) line.now)) }
+        ensures counts { Counts ground_end result (G.counts_of ground.old) (G.counts_of ground.new) }
+        ensures cause { IfErr result (EndsBy (IsHeld G.tells (G.told ground.old) self.old)) }
     {
         grammar();
         self.met = met_only(false);
@@ -322,13 +325,15 @@ impl Session {
         requires room { 4096 ≤ vec_capacity text.old }
         requires tables { IsServing self.old }
         ensures room { vec_capacity text.old ≤ vec_capacity text.new }
+        ensures silent { OnErr result (text.new.items ≡ []) }
         ensures tables { OnOk result (IsServing self.new) }
         ensures goes { OnOk result ((reply : Reply) × (text.new.items ≡ reply_text reply) × (IsTrue G.tells → (r : Repository) (v : View) → IsWorking (G.told ground.old) self.old r v →
-            Goes (G.told ground.old) (G.told ground.new) self.old self.new r v (ChangedIn line.now) (LineStep IsServedLine no_rules (state_in self.old r v) line.now) reply)) }
+            Goes (G.told ground.old) (G.told ground.new) self.old self.new r v (ChangedIn (G.told ground.old).held line.now) (LineStep IsServedLine no_rules (state_in self.old r v) line.now) reply
+            × PlacedIn self.old.store.slot self.new.store.slot (state_in self.old r v) v line.now reply)) }
         ensures cut { IsTrue G.tells → (r : Repository) (v : View) → IsWorking (G.told ground.old) self.old r v →
-            OnErr result (Cut (G.told ground.old) (G.told ground.new) self.old self.new r v (LineStep IsServedLine no_rules (state_in self.old r v) line.now)) }
-        ensures counts { NoneFalls (G.counts_of ground.old) (G.counts_of ground.new) }
-        ensures cause { IfErr result (λ end. EndsBy end (IsHeld G.tells (G.told ground.old) self.old) (G.counts_of ground.old) (G.counts_of ground.new)) }
+            OnErr result (Cut (G.told ground.old) (G.told ground.new) self.old self.new r v (TouchedIn (G.told ground.old).held line.now) (LineStep IsServedLine no_rules (state_in self.old r v) line.now)) }
+        ensures counts { Counts ground_end result (G.counts_of ground.old) (G.counts_of ground.new) }
+        ensures cause { IfErr result (EndsBy (IsHeld G.tells (G.told ground.old) self.old)) }
     {
         match self.step(ground, line) {
             Err(end) => Err(end),

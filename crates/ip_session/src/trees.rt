@@ -1,11 +1,11 @@
 // The commands that read records, and change no file.
 ghost use Rattle.std.specs.Prelude.{◌≡◌, false, IsTrue, IfErr};
-ghost use Rattle.ip_ground.specs.Counts.{NoneFalls};
+ghost use Rattle.ip_ground.specs.Counts.{Counts};
 ghost use Rattle.ip_spec.specs.declared.command.Command.TheVariants as Command;
 ghost use Rattle.ip_spec.specs.Path.{IsPath};
 ghost use Rattle.ip_spec.specs.Repository.{Repository};
 ghost use Rattle.ip_spec.specs.View.{View};
-ghost use Rattle.ip_session.specs.Session.{met_only, HasRead, IsHeld, EndsBy};
+ghost use Rattle.ip_session.specs.Session.{ground_end, met_only, HasRead, IsHeld, EndsBy};
 
 use crate::replies::{at_reply, failed, got_reply, listed_reply, refuse, shown_reply, tree_fault};
 use crate::session::{Session, SessionEnd, least_with, resolve};
@@ -26,8 +26,8 @@ impl Session {
         requires met { self.old.met ≡ met_only false }
         requires tables { IsServing self.old }
         ensures reads { HasRead G.tells (G.told ground.old) (G.told ground.new) self.old self.new (Command.Checkout target) result }
-        ensures counts { NoneFalls (G.counts_of ground.old) (G.counts_of ground.new) }
-        ensures cause { IfErr result (λ end. EndsBy end (IsHeld G.tells (G.told ground.old) self.old) (G.counts_of ground.old) (G.counts_of ground.new)) }
+        ensures counts { Counts ground_end result (G.counts_of ground.old) (G.counts_of ground.new) }
+        ensures cause { IfErr result (EndsBy (IsHeld G.tells (G.told ground.old) self.old)) }
     {
         let number = match resolve(&self.store, target) {
             Ok(number) => number,
@@ -60,8 +60,8 @@ impl Session {
         requires met { self.old.met ≡ met_only false }
         requires tables { IsServing self.old }
         ensures reads { HasRead G.tells (G.told ground.old) (G.told ground.new) self.old self.new (Command.Set path contents) result }
-        ensures counts { NoneFalls (G.counts_of ground.old) (G.counts_of ground.new) }
-        ensures cause { IfErr result (λ end. EndsBy end (IsHeld G.tells (G.told ground.old) self.old) (G.counts_of ground.old) (G.counts_of ground.new)) }
+        ensures counts { Counts ground_end result (G.counts_of ground.old) (G.counts_of ground.new) }
+        ensures cause { IfErr result (EndsBy (IsHeld G.tells (G.told ground.old) self.old)) }
     {
         let tree = &mut self.work.tree;
         match self.store.set(self.alloc, ground, tree, path.steps(), contents.as_slice()) {
@@ -80,8 +80,8 @@ impl Session {
         requires met { self.old.met ≡ met_only false }
         requires tables { IsServing self.old }
         ensures reads { HasRead G.tells (G.told ground.old) (G.told ground.new) self.old self.new (Command.Rm path) result }
-        ensures counts { NoneFalls (G.counts_of ground.old) (G.counts_of ground.new) }
-        ensures cause { IfErr result (λ end. EndsBy end (IsHeld G.tells (G.told ground.old) self.old) (G.counts_of ground.old) (G.counts_of ground.new)) }
+        ensures counts { Counts ground_end result (G.counts_of ground.old) (G.counts_of ground.new) }
+        ensures cause { IfErr result (EndsBy (IsHeld G.tells (G.told ground.old) self.old)) }
     {
         let tree = &mut self.work.tree;
         match self.store.remove(self.alloc, ground, tree, path.steps()) {
@@ -103,8 +103,8 @@ impl Session {
         requires met { self.old.met ≡ met_only false }
         requires tables { IsServing self.old }
         ensures reads { HasRead G.tells (G.told ground.old) (G.told ground.new) self.old self.new (Command.Graft target from to) result }
-        ensures counts { NoneFalls (G.counts_of ground.old) (G.counts_of ground.new) }
-        ensures cause { IfErr result (λ end. EndsBy end (IsHeld G.tells (G.told ground.old) self.old) (G.counts_of ground.old) (G.counts_of ground.new)) }
+        ensures counts { Counts ground_end result (G.counts_of ground.old) (G.counts_of ground.new) }
+        ensures cause { IfErr result (EndsBy (IsHeld G.tells (G.told ground.old) self.old)) }
     {
         let number = match resolve(&self.store, target) {
             Ok(number) => number,
@@ -130,8 +130,8 @@ impl Session {
         requires met { self.old.met ≡ met_only false }
         requires tables { IsServing self.old }
         ensures reads { HasRead G.tells (G.told ground.old) (G.told ground.new) self.old self.new (Command.Get path) result }
-        ensures counts { NoneFalls (G.counts_of ground.old) (G.counts_of ground.new) }
-        ensures cause { IfErr result (λ end. EndsBy end (IsHeld G.tells (G.told ground.old) self.old) (G.counts_of ground.old) (G.counts_of ground.new)) }
+        ensures counts { Counts ground_end result (G.counts_of ground.old) (G.counts_of ground.new) }
+        ensures cause { IfErr result (EndsBy (IsHeld G.tells (G.told ground.old) self.old)) }
     {
         match self
             .store
@@ -151,8 +151,8 @@ impl Session {
         requires met { self.old.met ≡ met_only false }
         requires tables { IsServing self.old }
         ensures reads { HasRead G.tells (G.told ground.old) (G.told ground.new) self.old self.new (Command.List path) result }
-        ensures counts { NoneFalls (G.counts_of ground.old) (G.counts_of ground.new) }
-        ensures cause { IfErr result (λ end. EndsBy end (IsHeld G.tells (G.told ground.old) self.old) (G.counts_of ground.old) (G.counts_of ground.new)) }
+        ensures counts { Counts ground_end result (G.counts_of ground.old) (G.counts_of ground.new) }
+        ensures cause { IfErr result (EndsBy (IsHeld G.tells (G.told ground.old) self.old)) }
     {
         match self
             .store
@@ -173,8 +173,8 @@ impl Session {
         requires met { self.old.met ≡ met_only false }
         requires tables { IsServing self.old }
         ensures reads { HasRead G.tells (G.told ground.old) (G.told ground.new) self.old self.new (Command.Cat target path) result }
-        ensures counts { NoneFalls (G.counts_of ground.old) (G.counts_of ground.new) }
-        ensures cause { IfErr result (λ end. EndsBy end (IsHeld G.tells (G.told ground.old) self.old) (G.counts_of ground.old) (G.counts_of ground.new)) }
+        ensures counts { Counts ground_end result (G.counts_of ground.old) (G.counts_of ground.new) }
+        ensures cause { IfErr result (EndsBy (IsHeld G.tells (G.told ground.old) self.old)) }
     {
         let number = match resolve(&self.store, target) {
             Ok(number) => number,
@@ -199,8 +199,8 @@ impl Session {
         requires met { self.old.met ≡ met_only false }
         requires tables { IsServing self.old }
         ensures reads { HasRead G.tells (G.told ground.old) (G.told ground.new) self.old self.new (Command.Show target) result }
-        ensures counts { NoneFalls (G.counts_of ground.old) (G.counts_of ground.new) }
-        ensures cause { IfErr result (λ end. EndsBy end (IsHeld G.tells (G.told ground.old) self.old) (G.counts_of ground.old) (G.counts_of ground.new)) }
+        ensures counts { Counts ground_end result (G.counts_of ground.old) (G.counts_of ground.new) }
+        ensures cause { IfErr result (EndsBy (IsHeld G.tells (G.told ground.old) self.old)) }
     {
         let number = match resolve(&self.store, target) {
             Ok(number) => number,

@@ -18,8 +18,8 @@ returns-then-contains-clause-answered c records r v of l retained target named =
     let known : list_any (λ p. p == c.args.number) s.work.parents ≡ true = search rules in
     still_answered records s s r v (Command.Parent target) refl l Reply.Accepted c.requires.met (parent_known r (work_at s.work v) target c.args.number l.retained named known) (parent_refused target)
 
-pub returns-then-parents-ge-MOST_PARENTS-clause-answered : goal.returns-then-parents-ge-MOST_PARENTS-clause-answered
-returns-then-parents-ge-MOST_PARENTS-clause-answered c records r v of l retained target named =
+pub returns-then-parents-ge-PARENTS_MAX-clause-answered : goal.returns-then-parents-ge-PARENTS_MAX-clause-answered
+returns-then-parents-ge-PARENTS_MAX-clause-answered c records r v of l retained target named =
     let s = c.args.self.now in
     let new : list_any (λ p. p == c.args.number) s.work.parents ≡ false = search rules in
     still_answered records s s r v (Command.Parent target) refl l (Reply.Limit Limit.Parents) c.requires.met

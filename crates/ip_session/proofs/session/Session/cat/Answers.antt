@@ -1,5 +1,4 @@
-use Rattle.std.proofs.Common.{◌≡◌, ap, sym, Err}
-use Rattle.ip_ground.proofs.Rising.{rose_after}
+use Rattle.std.proofs.Common.{◌≡◌, ap, sym}
 use Rattle.ip_spec.specs.declared.command.Command.TheVariants as Command
 use Rattle.ip_spec.specs.Tree.{Tree, got_at}
 use Rattle.ip_tree.specs.Reads.{IsFree}
@@ -7,7 +6,7 @@ use Rattle.ip_store.specs.Work.{work_at}
 use Rattle.ip_session.specs.Session.{state_in, tree_fault}
 use Rattle.ip_session.proofs.SessionLemmas.{cat_refused}
 use Rattle.ip_session.proofs.Referring.{cat_unnamed}
-use Rattle.ip_session.proofs.Reading.{read_as, unread, same_read, failed_read, fails_as, free_refuses, tree_cause, ends, looks_on, same_on, got_behind, cat_gives, unfetched_read, unfetched_ends}
+use Rattle.ip_session.proofs.Reading.{read_as, unread, same_read, failed_read, fails_as, free_refuses, ends, looks_on, same_on, got_behind, cat_gives, unfetched_read, unfetched_ends}
 use Rattle.ip_session.proofs.session.Session.cat.Goals as goal
 
 pub returns-in-Err-clause-reads : goal.returns-in-Err-clause-reads
@@ -29,8 +28,8 @@ returns-in-Err-tree_of-clause-reads g c =
 
 pub returns-in-Err-tree_of-clause-cause : goal.returns-in-Err-tree_of-clause-cause
 returns-in-Err-tree_of-clause-cause g c =
-    unfetched_ends c.args.self.now _ c.in-Ok.number _ (Command.Cat c.args.target c.args.path) c.failed.new.met c.in-Err-tree_of.fault c.failed.result _ _ c.in-Ok.ensures.retained c.failed.ensures
-    (λ e. c.in-Err-tree_of.ensures.cause (ap Err e)) c.in-Err-tree_of.ensures.tree
+    unfetched_ends c.args.self.now _ c.in-Ok.number _ (Command.Cat c.args.target c.args.path) c.failed.new.met c.in-Err-tree_of.fault c.failed.result c.in-Ok.ensures.retained c.failed.ensures
+    c.in-Err-tree_of.ensures.tree
 
 pub returns-in-Ok-get-clause-reads : goal.returns-in-Ok-get-clause-reads
 returns-in-Ok-get-clause-reads g c =
@@ -76,8 +75,7 @@ returns-clause-cause g c =
     let command = Command.Cat c.args.target path in
     let fault = c.in-Err-get.fault in
     let failed = c.failed-in-Err-get in
-    ends (tree_fault fault) command s.met failed.new.met failed.result _ _ _ (fails_as fault c.tree_fault.result s.met failed.new.met failed.result c.tree_fault.ensures failed.ensures)
-    (tree_cause fault (λ e. rose_after _ _ _ c.tree_of.ensures.counts.file_faults (c.in-Err-get.ensures.cause (ap Err e))))
+    ends (tree_fault fault) command s.met failed.new.met failed.result _ (fails_as fault c.tree_fault.result s.met failed.new.met failed.result c.tree_fault.ensures failed.ensures)
     (λ (told, (r, v, here)).
     let holds = here.holds in
     let read = c.in-Ok-tree_of.ensures.tree told r holds (c.in-Ok.ensures.retained r holds.tables) in (

@@ -1,4 +1,4 @@
-use Rattle.std.proofs.Common.{rules, ◌≡◌, [], ◌∷◌, ap, sym, Err}
+use Rattle.std.proofs.Common.{rules, ◌≡◌, [], ◌∷◌, sym}
 use Rattle.ip_spec.specs.declared.command.Command.TheVariants as Command
 use Rattle.ip_spec.specs.declared.reply.Reply.TheVariants as Reply
 use Rattle.ip_store.specs.Work.{work_at}
@@ -30,8 +30,8 @@ returns-in-Err-tree_of-clause-reads g c =
 
 pub returns-in-Err-tree_of-clause-cause : goal.returns-in-Err-tree_of-clause-cause
 returns-in-Err-tree_of-clause-cause g c =
-    unfetched_ends c.args.self.now _ c.in-Ok.number _ (Command.Checkout c.args.target) c.failed.new.met c.in-Err-tree_of.fault c.failed.result _ _ c.in-Ok.ensures.retained c.failed.ensures
-    (λ e. c.in-Err-tree_of.ensures.cause (ap Err e)) c.in-Err-tree_of.ensures.tree
+    unfetched_ends c.args.self.now _ c.in-Ok.number _ (Command.Checkout c.args.target) c.failed.new.met c.in-Err-tree_of.fault c.failed.result c.in-Ok.ensures.retained c.failed.ensures
+    c.in-Err-tree_of.ensures.tree
 
 pub retained_name-requires : goal.retained_name-requires
 retained_name-requires g c =

@@ -1,5 +1,6 @@
 use Rattle.std.proofs.Common.{sym, ◌∙◌}
-use Rattle.ip_session.proofs.Committing.{commit_goes, commit_cut, has_answer, is_ground}
+use Rattle.ip_session.proofs.Committing.{commit_goes, commit_cut, has_answer}
+use Rattle.ip_session.proofs.Placing.{commit_placed}
 use Rattle.ip_session.proofs.session.Session.commit.Goals as goal
 
 pub returns-in-Some-clause-tables : goal.returns-in-Some-clause-tables
@@ -15,5 +16,6 @@ returns-in-Some-clause-goes g c told r v here = commit_goes _ _ c.args.self.now 
 pub returns-in-None-clause-cut : goal.returns-in-None-clause-cut
 returns-in-None-clause-cut g c told r v here = commit_cut _ _ c.args.self.now c.commit-made.new.self c.commit-made.new.work _ r v here c.args.branch.now c.args.info c.commit-made.result (c.commit-made.ensures.does told r v here) c.requires.met
 
-pub returns-in-None-clause-cause : goal.returns-in-None-clause-cause
-returns-in-None-clause-cause g c = c.commit-made.ensures.cause (is_ground c.commit-made.result c.commit-made.ensures.undamaged (sym c.reply_to.ensures.reply ∙ c.in-None.is))
+pub returns-in-Some-clause-placed : goal.returns-in-Some-clause-placed
+returns-in-Some-clause-placed g c told r v here = commit_placed _ _ c.args.self.now c.commit-made.new.self r v here c.args.branch.now c.args.info c.commit-made.result c.in-Some.reply (sym c.reply_to.ensures.reply ∙ c.in-Some.is)
+    (c.commit-made.ensures.does told r v here) (c.commit-made.ensures.limits told r v here) (c.commit-made.ensures.appends told r v here)

@@ -1,5 +1,4 @@
-use Rattle.std.proofs.Common.{ap, ap₂, sym, subst, Ok, Err}
-use Rattle.ip_ground.proofs.Rising.{rose_after}
+use Rattle.std.proofs.Common.{ap₂, sym, subst, Ok, Err}
 use Rattle.ip_spec.specs.declared.command.Command.TheVariants as Command
 use Rattle.ip_spec.specs.declared.reply.Reply.TheVariants as Reply
 use Rattle.ip_spec.specs.Repository.{tree_at}
@@ -9,7 +8,7 @@ use Rattle.ip_store.specs.Work.{work_at}
 use Rattle.ip_session.specs.Session.{state_in, tree_fault}
 use Rattle.ip_session.proofs.SessionLemmas.{graft_refused}
 use Rattle.ip_session.proofs.Referring.{graft_unnamed}
-use Rattle.ip_session.proofs.Reading.{read_as, unread, same_read, failed_read, fails_as, graft_refuses, tree_cause, ends, looks_on, same_on, grafts_behind, graft_read, ungrafted_gives, unfetched_read, unfetched_ends}
+use Rattle.ip_session.proofs.Reading.{read_as, unread, same_read, failed_read, fails_as, graft_refuses, ends, looks_on, same_on, grafts_behind, graft_read, ungrafted_gives, unfetched_read, unfetched_ends}
 use Rattle.ip_session.proofs.session.Session.graft.Goals as goal
 
 pub returns-in-Err-clause-reads : goal.returns-in-Err-clause-reads
@@ -31,8 +30,8 @@ returns-in-Err-tree_of-clause-reads g c =
 
 pub returns-in-Err-tree_of-clause-cause : goal.returns-in-Err-tree_of-clause-cause
 returns-in-Err-tree_of-clause-cause g c =
-    unfetched_ends c.args.self.now _ c.in-Ok.number _ (Command.Graft c.args.target c.args.from c.args.to) c.failed.new.met c.in-Err-tree_of.fault c.failed.result _ _ c.in-Ok.ensures.retained c.failed.ensures
-    (λ e. c.in-Err-tree_of.ensures.cause (ap Err e)) c.in-Err-tree_of.ensures.tree
+    unfetched_ends c.args.self.now _ c.in-Ok.number _ (Command.Graft c.args.target c.args.from c.args.to) c.failed.new.met c.in-Err-tree_of.fault c.failed.result c.in-Ok.ensures.retained c.failed.ensures
+    c.in-Err-tree_of.ensures.tree
 
 pub returns-in-Ok-true-clause-reads : goal.returns-in-Ok-true-clause-reads
 returns-in-Ok-true-clause-reads g c =
@@ -104,8 +103,7 @@ returns-clause-cause g c =
     let command = Command.Graft c.args.target from to in
     let fault = c.in-Err-graft.fault in
     let failed = c.failed-in-Err-graft in
-    ends (tree_fault fault) command s.met failed.new.met failed.result _ _ _ (fails_as fault c.tree_fault.result s.met failed.new.met failed.result c.tree_fault.ensures failed.ensures)
-    (tree_cause fault (λ e. rose_after _ _ _ c.tree_of.ensures.counts.file_faults (c.in-Err-graft.ensures.cause (ap Err e))))
+    ends (tree_fault fault) command s.met failed.new.met failed.result _ (fails_as fault c.tree_fault.result s.met failed.new.met failed.result c.tree_fault.ensures failed.ensures)
     (λ (told, (r, v, here)).
     let of = here.holds.tables in
     let t = c.in-Ok-tree_of.ensures.tree told r here.holds (c.in-Ok.ensures.retained r of) in

@@ -1,9 +1,9 @@
-use Rattle.std.proofs.Common.{ap, Err}
+use Rattle.std.proofs.Common.{ap}
 use Rattle.ip_spec.specs.declared.command.Command.TheVariants as Command
 use Rattle.ip_store.specs.Work.{work_at}
 use Rattle.ip_session.specs.Session.{state_in, tree_fault}
 use Rattle.ip_session.proofs.SessionLemmas.{list_refused}
-use Rattle.ip_session.proofs.Reading.{read_as, same_read, failed_read, fails_as, free_refuses, tree_cause, ends, listed_gives}
+use Rattle.ip_session.proofs.Reading.{read_as, same_read, failed_read, fails_as, free_refuses, ends, listed_gives}
 use Rattle.ip_session.proofs.session.Session.list.Goals as goal
 
 pub returns-in-Ok-clause-reads : goal.returns-in-Ok-clause-reads
@@ -27,7 +27,6 @@ pub returns-clause-cause : goal.returns-clause-cause
 returns-clause-cause g c =
     let s = c.args.self.now in
     let path = c.steps.result.now in
-    ends (tree_fault c.in-Err.fault) (Command.List path) s.met c.failed.new.met c.failed.result _ _ _
+    ends (tree_fault c.in-Err.fault) (Command.List path) s.met c.failed.new.met c.failed.result _
     (fails_as c.in-Err.fault c.tree_fault.result s.met c.failed.new.met c.failed.result c.tree_fault.ensures c.failed.ensures)
-    (tree_cause c.in-Err.fault (λ e. c.in-Err.ensures.cause (ap Err e)))
     (λ (told, (r, v, here)). (state_in s r v, free_refuses (state_in s r v) (Command.List path) c.in-Err.fault (c.in-Err.ensures.listed told r v here.holds here.lawful.tree)))

@@ -1,4 +1,4 @@
-use Rattle.std.proofs.Common.{ap, subst, Err}
+use Rattle.std.proofs.Common.{ap, subst}
 use Rattle.ip_spec.specs.declared.command.Command.TheVariants as Command
 use Rattle.ip_spec.specs.declared.reply.Reply.TheVariants as Reply
 use Rattle.ip_tree.specs.TreeView.{IsRemoved}
@@ -6,7 +6,7 @@ use Rattle.ip_store.specs.Store.{image_records}
 use Rattle.ip_store.specs.Work.{work_at}
 use Rattle.ip_session.specs.Session.{state_in, tree_fault}
 use Rattle.ip_session.proofs.SessionLemmas.{rm_refused}
-use Rattle.ip_session.proofs.Reading.{read_as, rm_read, same_read, failed_read, fails_as, free_refuses, absent_gives, tree_cause, ends}
+use Rattle.ip_session.proofs.Reading.{read_as, rm_read, same_read, failed_read, fails_as, free_refuses, absent_gives, ends}
 use Rattle.ip_session.proofs.session.Session.remove.Goals as goal
 
 pub returns-in-Ok-true-clause-reads : goal.returns-in-Ok-true-clause-reads
@@ -39,9 +39,8 @@ pub returns-clause-cause : goal.returns-clause-cause
 returns-clause-cause g c =
     let s = c.args.self.now in
     let path = c.steps.result.now in
-    ends (tree_fault c.in-Err.fault) (Command.Rm path) s.met c.failed.new.met c.failed.result _ _ _
+    ends (tree_fault c.in-Err.fault) (Command.Rm path) s.met c.failed.new.met c.failed.result _
     (fails_as c.in-Err.fault c.tree_fault.result s.met c.failed.new.met c.failed.result c.tree_fault.ensures c.failed.ensures)
-    (tree_cause c.in-Err.fault (λ e. c.in-Err.ensures.cause (ap Err e)))
     (λ (told, (r, v, here)).
     let not_removed = c.in-Err.ensures.removes told r v here.holds here.lawful.tree in
     (state_in s r v, free_refuses (state_in s r v) (Command.Rm path) c.in-Err.fault not_removed.cause))

@@ -1,12 +1,17 @@
-use Rattle.std.proofs.Common.{sym, ap, subst, ◌∙◌, Bool, Option}
+use Rattle.std.proofs.Common.{◌≡◌, ◌≢◌, ◌+◌, length, [], ◌∷◌, sym, ap, subst, ◌∙◌, Bool, true, false, Ok, Option}
 use Rattle.std.specs.Prelude.{IfSome, IsSome}
 use Rattle.ip_spec.specs.declared.command.Command.TheVariants as Command
 use Rattle.ip_spec.specs.declared.reply.Reply.{Reply}
 use Rattle.ip_spec.specs.Path.{Bytes}
 use Rattle.ip_spec.specs.Repository.{head}
-use Rattle.ip_store.specs.Changes.{Changes}
+use Rattle.ip_spec.specs.declared.record.Record.TheVariants as Record
+use Rattle.ip_spec.specs.Record.{spelling}
+use Rattle.ip_store.specs.Changes.{Changes, LimitsSpace, Appends}
 use Rattle.ip_store.specs.Naming.{removed_reply, AnswersRemove, without_branch}
+use Rattle.ip_store.proofs.Listed.{only_leaves}
+use Rattle.ip_store.proofs.Works.{works_stay}
 use Rattle.ip_session.proofs.BranchGoes.{serves, remove_goes, remove_cut, is_ground_removed}
+use Rattle.ip_session.proofs.Placing.{remove_placed}
 use Rattle.ip_session.proofs.session.Session.remove_branch.Goals as goal
 
 pub returns-in-Some-clause-tables : goal.returns-in-Some-clause-tables
@@ -24,7 +29,7 @@ returns-in-Some-clause-goes g c told r v here =
     let store = c.remove_branch-made.new.self in
     remove_goes _ _ c.args.self.now store _ r v here c.args.name made
     (subst (λ (n : Bytes). Changes {A = Bool} r (without_branch r n) made store (g.G.Ground.told c.args.ground.now) (g.G.Ground.told c.remove_branch-made.new.outside)) c.as_slice.ensures (c.remove_branch-made.ensures.does told r here.holds))
-    (λ has q now kept parents. record { holds = now; lawful = c.works_stay.ensures _ _ r q _ v here.lawful (c.remove_branch-made.ensures.stay told has r q here.holds now) (c.leaves_only.ensures _ now.stands.standing) kept parents })
+    (λ has q now kept parents. record { holds = now; lawful = works_stay _ _ r q _ v here.lawful (c.remove_branch-made.ensures.stay told has r q here.holds now) (only_leaves _ now.stands.standing) kept parents })
     c.in-Some.reply c.met-self.ensures (sym c.removed_reply.ensures ∙ c.in-Some.is) (λ absent. ap g.G.Ground.told (c.remove_branch-made.ensures.absent absent))
     (subst (λ (n : Bytes). IfSome (removed_reply n made) (AnswersRemove r n store.met store)) c.as_slice.ensures (c.remove_branch-made.ensures.answers r here.holds.tables))
 
@@ -34,9 +39,17 @@ returns-in-None-clause-cut g c told r v here =
     let store = c.remove_branch-made.new.self in
     remove_cut _ _ c.args.self.now store _ r v here c.args.name made
     (subst (λ (n : Bytes). Changes {A = Bool} r (without_branch r n) made store (g.G.Ground.told c.args.ground.now) (g.G.Ground.told c.remove_branch-made.new.outside)) c.as_slice.ensures (c.remove_branch-made.ensures.does told r here.holds))
-    (λ has q now kept parents. record { holds = now; lawful = c.works_stay.ensures _ _ r q _ v here.lawful (c.remove_branch-made.ensures.stay told has r q here.holds now) (c.leaves_only.ensures _ now.stands.standing) kept parents })
+    (λ has q now kept parents. record { holds = now; lawful = works_stay _ _ r q _ v here.lawful (c.remove_branch-made.ensures.stay told has r q here.holds now) (only_leaves _ now.stands.standing) kept parents })
     c.requires.met
     (subst (λ (n : Bytes). IsSome (head r n)) c.as_slice.ensures (c.remove_branch-made.ensures.begun r here.holds.tables (is_ground_removed c.args.name made c.remove_branch-made.ensures.undamaged (sym c.removed_reply.ensures ∙ c.in-None.is))))
 
-pub returns-in-None-clause-cause : goal.returns-in-None-clause-cause
-returns-in-None-clause-cause g c = c.remove_branch-made.ensures.cause (is_ground_removed c.args.name c.remove_branch-made.result c.remove_branch-made.ensures.undamaged (sym c.removed_reply.ensures ∙ c.in-None.is))
+pub returns-in-Some-clause-placed : goal.returns-in-Some-clause-placed
+returns-in-Some-clause-placed g c told r v here =
+    let made = c.remove_branch-made.result in
+    let store = c.remove_branch-made.new.self in
+    remove_placed _ _ c.args.self.now store r v here c.args.name made c.in-Some.reply (sym c.removed_reply.ensures ∙ c.in-Some.is)
+    (subst (λ (n : Bytes). Changes {A = Bool} r (without_branch r n) made store (g.G.Ground.told c.args.ground.now) (g.G.Ground.told c.remove_branch-made.new.outside)) c.as_slice.ensures (c.remove_branch-made.ensures.does told r here.holds))
+    (subst (λ (n : Bytes). made ≢ Ok false → LimitsSpace (c.args.self.now.store.slot.end + length (spelling (Record.BranchRemove n))) made c.args.self.now.store) c.as_slice.ensures c.remove_branch-made.ensures.limits)
+    (λ absent. ap g.G.Ground.told (c.remove_branch-made.ensures.absent absent))
+    (subst (λ (n : Bytes). made ≡ Ok true → Appends ((c.args.self.now.store.slot.end, Record.BranchRemove n) ∷ []) 0 c.args.self.now.store store (g.G.Ground.told c.args.ground.now) (g.G.Ground.told c.remove_branch-made.new.outside)) c.as_slice.ensures
+    (c.remove_branch-made.ensures.appends told))

@@ -1,9 +1,9 @@
-use Rattle.std.proofs.Common.{ap, ap₂, Err}
+use Rattle.std.proofs.Common.{ap₂}
 use Rattle.ip_spec.specs.declared.command.Command.TheVariants as Command
 use Rattle.ip_store.specs.Work.{work_at}
 use Rattle.ip_session.specs.Session.{state_in, tree_fault}
 use Rattle.ip_session.proofs.SessionLemmas.{set_refused}
-use Rattle.ip_session.proofs.Reading.{read_as, set_read, failed_read, fails_as, set_refuses, tree_cause, ends}
+use Rattle.ip_session.proofs.Reading.{read_as, set_read, failed_read, fails_as, set_refuses, ends}
 use Rattle.ip_session.proofs.session.Session.set.Goals as goal
 
 pub returns-in-Ok-clause-reads : goal.returns-in-Ok-clause-reads
@@ -29,9 +29,8 @@ returns-clause-cause g c =
     let s = c.args.self.now in
     let path = c.steps.result.now in
     let bytes = c.as_slice.result.now in
-    ends (tree_fault c.in-Err.fault) (Command.Set path bytes) s.met c.failed.new.met c.failed.result _ _ _
+    ends (tree_fault c.in-Err.fault) (Command.Set path bytes) s.met c.failed.new.met c.failed.result _
     (fails_as c.in-Err.fault c.tree_fault.result s.met c.failed.new.met c.failed.result c.tree_fault.ensures c.failed.ensures)
-    (tree_cause c.in-Err.fault (λ e. c.in-Err.ensures.cause (ap Err e)))
     (λ (told, (r, v, here)).
     let not_set = c.in-Err.ensures.sets told r v here.holds here.lawful.tree in
     (state_in s r v, set_refuses r (work_at s.work v) path bytes c.in-Err.fault here.lawful.retained not_set.cause))

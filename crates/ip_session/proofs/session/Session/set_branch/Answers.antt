@@ -3,7 +3,10 @@ use Rattle.std.specs.Prelude.{IfSome}
 use Rattle.ip_spec.specs.declared.command.Command.TheVariants as Command
 use Rattle.ip_spec.specs.declared.reply.Reply.{Reply}
 use Rattle.ip_store.specs.Naming.{AnswersSet}
+use Rattle.ip_store.proofs.Listed.{only_leaves}
+use Rattle.ip_store.proofs.Works.{works_stay}
 use Rattle.ip_session.proofs.BranchGoes.{unnamed_goes, serves, set_goes, set_cut, is_ground_set}
+use Rattle.ip_session.proofs.Placing.{unnamed_placed, set_placed}
 use Rattle.ip_session.proofs.session.Session.set_branch.Goals as goal
 
 pub returns-in-Err-clause-goes : goal.returns-in-Err-clause-goes
@@ -26,7 +29,7 @@ returns-in-Some-clause-goes g c told r v here =
     let tables = here.holds.tables in
     let retained = c.in-Ok.ensures.retained r tables in
     set_goes _ _ c.args.self.now c.set_branch-made.new.self _ r v here c.args.name.now c.args.target c.in-Ok.number (sym (c.in-Ok.ensures.number r tables)) c.set_branch-made.result (c.set_branch-made.ensures.does told r here.holds retained)
-    (λ has q now kept parents. record { holds = now; lawful = c.works_stay.ensures _ _ r q _ v here.lawful (c.set_branch-made.ensures.stay told has r q here.holds now) (c.leaves_only.ensures _ now.stands.standing) kept parents })
+    (λ has q now kept parents. record { holds = now; lawful = works_stay _ _ r q _ v here.lawful (c.set_branch-made.ensures.stay told has r q here.holds now) (only_leaves _ now.stands.standing) kept parents })
     c.in-Some.reply c.met-self.ensures (sym c.branch_reply.ensures ∙ c.in-Some.is) (c.set_branch-made.ensures.answers r tables retained)
 
 pub returns-in-None-clause-cut : goal.returns-in-None-clause-cut
@@ -34,8 +37,14 @@ returns-in-None-clause-cut g c told r v here =
     let tables = here.holds.tables in
     let retained = c.in-Ok.ensures.retained r tables in
     set_cut _ _ c.args.self.now c.set_branch-made.new.self _ r v here c.args.name.now c.args.target c.in-Ok.number (sym (c.in-Ok.ensures.number r tables)) c.set_branch-made.result (c.set_branch-made.ensures.does told r here.holds retained)
-    (λ has q now kept parents. record { holds = now; lawful = c.works_stay.ensures _ _ r q _ v here.lawful (c.set_branch-made.ensures.stay told has r q here.holds now) (c.leaves_only.ensures _ now.stands.standing) kept parents })
+    (λ has q now kept parents. record { holds = now; lawful = works_stay _ _ r q _ v here.lawful (c.set_branch-made.ensures.stay told has r q here.holds now) (only_leaves _ now.stands.standing) kept parents })
     c.requires.met (c.set_branch-made.ensures.begun r tables (is_ground_set c.set_branch-made.result c.set_branch-made.ensures.undamaged (sym c.branch_reply.ensures ∙ c.in-None.is)))
 
-pub returns-in-None-clause-cause : goal.returns-in-None-clause-cause
-returns-in-None-clause-cause g c = c.set_branch-made.ensures.cause (is_ground_set c.set_branch-made.result c.set_branch-made.ensures.undamaged (sym c.branch_reply.ensures ∙ c.in-None.is))
+pub returns-in-Err-clause-placed : goal.returns-in-Err-clause-placed
+returns-in-Err-clause-placed g c told r v here = unnamed_placed _ _ v c.args.name.now c.args.target c.in-Err.reply (sym (c.in-Err.ensures.number r here.holds.tables))
+
+pub returns-in-Some-clause-placed : goal.returns-in-Some-clause-placed
+returns-in-Some-clause-placed g c told r v here =
+    let tables = here.holds.tables in
+    set_placed _ _ c.args.self.now c.set_branch-made.new.self r v here c.args.name.now c.args.target c.in-Ok.number (sym (c.in-Ok.ensures.number r tables)) c.set_branch-made.result c.in-Some.reply (sym c.branch_reply.ensures ∙ c.in-Some.is)
+    (c.set_branch-made.ensures.does told r here.holds (c.in-Ok.ensures.retained r tables)) c.set_branch-made.ensures.limits (c.set_branch-made.ensures.appends told)

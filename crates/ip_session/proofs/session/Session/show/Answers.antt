@@ -1,4 +1,4 @@
-use Rattle.std.proofs.Common.{ap, sym, Err}
+use Rattle.std.proofs.Common.{sym}
 use Rattle.ip_spec.specs.declared.command.Command.TheVariants as Command
 use Rattle.ip_store.specs.Work.{work_at}
 use Rattle.ip_session.specs.Session.{state_in}
@@ -39,7 +39,7 @@ returns-in-Err-show-clause-reads g c =
 pub returns-in-Err-show-clause-cause : goal.returns-in-Err-show-clause-cause
 returns-in-Err-show-clause-cause g c =
     let s = c.args.self.now in
-    ends c.in-Err-show.fault (Command.Show c.args.target) s.met c.failed.new.met c.failed.result _ _ _ c.failed.ensures (λ e. c.in-Err-show.ensures.cause (ap Err e))
+    ends c.in-Err-show.fault (Command.Show c.args.target) s.met c.failed.new.met c.failed.result _ c.failed.ensures
     (λ (told, (r, v, here)). (
       state_in s r v,
       unshown_refuses r c.in-Ok.number (state_in s r v) (Command.Show c.args.target) c.in-Err-show.fault (c.in-Err-show.ensures.shows told r here.holds (c.in-Ok.ensures.retained r here.holds.tables)),

@@ -1,10 +1,14 @@
-use Rattle.std.proofs.Common.{rules, subst, Err}
+use Rattle.std.proofs.Common.{rules, sym, subst, Err}
 use Rattle.ip_spec.specs.declared.command.LineFault.{LineFault}
 use Rattle.ip_spec.specs.Line.{Reads}
 use Rattle.ip_script.specs.Served.{IsServedLine}
 use Rattle.ip_store.specs.Work.{work_at}
 use Rattle.ip_session.proofs.SessionLemmas.{line_refused, has_words}
 use Rattle.ip_session.proofs.SessionGoes.{lined_ok, lined_cut, bad_goes, refused_goes}
+use Rattle.ip_session.proofs.Placing.{lined_placed, quiet_placed}
+use Rattle.ip_session.specs.Placing.{PlacedIn}
+use Rattle.ip_session.specs.Session.{state_in}
+use Rattle.ip_spec.specs.declared.reply.Reply.{Reply}
 use Rattle.ip_session.proofs.session.Session.step.Goals as goal
 
 pub returns-in-Ok-clause-goes : goal.returns-in-Ok-clause-goes
@@ -21,3 +25,14 @@ returns-in-Err-Bad-clause-goes g c told r v here = bad_goes _ c.args.self.now c.
 pub returns-in-Err-Memory-clause-goes : goal.returns-in-Err-Memory-clause-goes
 returns-in-Err-Memory-clause-goes g c told r v here = refused_goes _ c.args.self.now c.refuse.new.met r v here c.args.line.now c.refuse.result c.refuse.ensures.met c.refuse.ensures.reply
     (line_refused r (work_at c.args.self.now.work v) c.args.line.now (c.grammar.ensures.each c.args.line.now) (has_words c.args.line.now c.in-Err-Memory.field-0 c.in-Err-Memory.field-0-is c.in-Err-Memory.ensures.one_word))
+
+pub returns-in-Ok-clause-placed : goal.returns-in-Ok-clause-placed
+returns-in-Ok-clause-placed g c told r v here = lined_placed _ _ _ v c.in-Ok.command c.args.line.now c.run.result c.in-Ok.ensures.reads
+    (λ other spelled. c.grammar.ensures.one c.args.line.now other c.in-Ok.command spelled c.in-Ok.ensures.reads) (c.run.ensures.placed told r v here)
+
+pub returns-in-Err-Bad-clause-placed : goal.returns-in-Err-Bad-clause-placed
+returns-in-Err-Bad-clause-placed g c told r v here = quiet_placed _ _ v c.args.line.now (Reply.Bad c.in-Err-Bad.at) (λ command h. h) (λ l is. absurd (cc is))
+
+pub returns-in-Err-Memory-clause-placed : goal.returns-in-Err-Memory-clause-placed
+returns-in-Err-Memory-clause-placed g c told r v here =
+    subst (PlacedIn c.args.self.now.store.slot c.args.self.now.store.slot (state_in c.args.self.now r v) v c.args.line.now) (sym c.refuse.ensures.reply) (quiet_placed _ _ v c.args.line.now Reply.Memory (λ command h. h) (λ l is. absurd (cc is)))

@@ -1,0 +1,243 @@
+-- Where the records of a command come to lie.
+--     same_slot      the live slot of a control file that nothing changed
+--     commit_placed, set_placed, remove_placed      what the store says of its calls.      unnamed_placed      no commit has the name that was given
+--     read_placed      a command that may only read
+--     lined_placed      the line that spells a command.      quiet_placed      a line with a reply of none.      memory_placed      there was no memory for a reply's text
+use Rattle.std.proofs.Common.{◌≡◌, ◌≢◌, inl, ℕ, ◌+◌, ◌^◌, ◌<◌, ◌≤◌, Bool, true, false, List, [], ◌∷◌, refl, sym, ap, ◌∙◌, subst, arith, length, length-append, Ok, Err, Option, Some, None, IsTrue}
+use Rattle.std.specs.Prelude.{Result, OnOk, IfOk}
+use Rattle.ip_base.specs.declared.info.Info.{Info}
+use Rattle.ip_ground.specs.declared.names.FileName.{FileName}
+use Rattle.ip_ground.specs.declared.names.FileName.TheVariants.{Control}
+use Rattle.ip_ground.specs.Told.{Told, NoFile, ChangesOnly}
+use Rattle.ip_spec.specs.declared.command.Command.{Command}
+use Rattle.ip_spec.specs.declared.command.Target.{Target}
+use Rattle.ip_spec.specs.declared.record.Record.TheVariants as Record
+use Rattle.ip_spec.specs.declared.reply.Reply.{Reply}
+use Rattle.ip_spec.specs.Batch.{AreEndToEnd, sources}
+use Rattle.ip_spec.specs.Machine.{State, Limit}
+use Rattle.ip_spec.specs.Path.{Bytes}
+use Rattle.ip_spec.specs.Record.{Hash, spelling, spelling_of}
+use Rattle.ip_spec.specs.Repository.{Repository, head, number_named}
+use Rattle.ip_spec.specs.Step.{Refused, present, resolve, with_branch}
+use Rattle.ip_spec.specs.TreeAt.{Records}
+use Rattle.ip_spec.specs.View.{View}
+use Rattle.ip_spec.proofs.BatchLaws.{batch_lies}
+use Rattle.ip_script.specs.Served.{IsServedLine}
+use Rattle.ip_image.specs.declared.slot.Slot.{Slot}
+use Rattle.ip_image.specs.Appending.{fields_of, grown_batch, grown_end, bytes_of_records}
+use Rattle.ip_image.proofs.HeadlineLaws.{one_slot}
+use Rattle.ip_image.proofs.Renaming.{spelled_is}
+use Rattle.ip_store.specs.declared.committing.StoreFault.{StoreFault}
+use Rattle.ip_store.specs.declared.store.Store.{Store}
+use Rattle.ip_store.specs.Changes.{HasAnswer, Changes, LimitsSpace, Appends, next_slot}
+use Rattle.ip_store.specs.Commits.{fault_reply, reply_to, records_of, end_of, Commits}
+use Rattle.ip_store.specs.Naming.{branch_reply, removed_reply, without_branch}
+use Rattle.ip_store.specs.Store.{Holds}
+use Rattle.ip_store.specs.Trees.{OnlyLooks}
+use Rattle.ip_store.proofs.Recovering.{held_has}
+use Rattle.ip_session.specs.declared.session.Session.{Session}
+use Rattle.ip_session.specs.declared.session.SessionEnd.{SessionEnd}
+use Rattle.ip_session.specs.Session.{IsWorking, state_in, is_durable, IsDurable, HasRead}
+use Rattle.ip_session.specs.Placing.{named_record, length_of, commits_in, PlacedBy, PlacedIn}
+use Rattle.ip_session.proofs.DurableGoes.{answered}
+use Rattle.ip_session.proofs.ReadGoes.{none_durable}
+
+pub same_slot : (store store' : Store) (r q : Repository) (a b : Told) → Holds store a r → Holds store' b q → b.held Control ≡ a.held Control → store'.slot ≡ store.slot
+same_slot store store' r q a b before after same =
+    let live = held_has store' q b after in
+    one_slot store'.slot store.slot a.held (record { control = live.control; index = live.index; held = sym same ∙ live.held; live = live.live }) (held_has store r a before)
+
+-- no call changed a file
+still_slot : (store store' : Store) (r q : Repository) (a b : Told) → Holds store a r → Holds store' b q → ChangesOnly NoFile a b → store'.slot ≡ store.slot
+still_slot store store' r q a b before after only = same_slot store store' r q a b before after ((only.others Control (λ none. none)).held (λ x. x))
+
+-- a batch is as long as from its begin to its end
+lie_long : (from : ℕ) (xs : Records) (to : ℕ) → AreEndToEnd from xs to → to ≡ from + length (bytes_of_records xs)
+unfolding spelling_of
+lie_long from [] to lies = (let e : to ≡ from + 0 = omega (arith, lies) in e)
+lie_long from (x ∷ xs) to (at, lies) =
+    let rest = lie_long (from + length (spelling x.1)) xs to lies in
+    omega (arith, rest, length-append (spelling x.1) (bytes_of_records xs))
+
+module _ (slot slot' : Slot) (s : State) (v : View) (command : Command) (reply : Reply) where
+  -- the store did it
+  did : IsDurable reply command → ((l : Limit) → reply ≢ Reply.Limit l) → slot' ≡ next_slot slot (length_of slot s v command) (commits_in command)
+      → (slot.end + length_of slot s v command ≤ 2 ^ 62) × (slot.sequence < 2 ^ 62) → PlacedBy slot slot' s v command reply
+  did done none slot_is enough = record {
+    done = λ _. slot_is;
+    enough = λ _. enough;
+    quiet = λ quiet. absurd (quiet done);
+    space = λ _ limit. absurd (none Limit.Space limit);
+    sequence = λ _ limit. absurd (none Limit.Sequence limit);
+  }
+
+  -- nothing was done, and no limit was met
+  unmoved : ¬ IsDurable reply command → ((l : Limit) → reply ≢ Reply.Limit l) → slot' ≡ slot → PlacedBy slot slot' s v command reply
+  unmoved not none same = record {
+    done = λ done. absurd (not done);
+    enough = λ done. absurd (not done);
+    quiet = λ quiet. same;
+    space = λ _ limit. absurd (none Limit.Space limit);
+    sequence = λ _ limit. absurd (none Limit.Sequence limit);
+  }
+
+-- the store refused it
+refused : {A : Type 0} (slot slot' : Slot) (s : State) (v : View) (command : Command) (fault : StoreFault) (reply : Reply) (store : Store) → fault_reply fault ≡ Some reply → store.slot ≡ slot → LimitsSpace {A = A} (slot.end + length_of slot s v command) (Err fault) store
+    → slot' ≡ slot → PlacedBy slot slot' s v command reply
+refused slot slot' s v command (StoreFault.HeadMoved name) reply store e at limits same = let is : Reply.HeadMoved name ≡ reply = cc e in subst (PlacedBy slot slot' s v command) is (unmoved slot slot' s v command (Reply.HeadMoved name) (λ h. h) (λ l is. absurd (cc is)) same)
+refused slot slot' s v command (StoreFault.Existing name) reply store e at limits same = let is : Reply.Existing name ≡ reply = cc e in subst (PlacedBy slot slot' s v command) is (unmoved slot slot' s v command (Reply.Existing name) (λ h. h) (λ l is. absurd (cc is)) same)
+refused slot slot' s v command (StoreFault.Limit limit) reply store e at limits same =
+    let is : Reply.Limit limit ≡ reply = cc e in
+    subst (PlacedBy slot slot' s v command) is (record {
+      done = λ done. absurd done;
+      enough = λ done. absurd done;
+      quiet = λ quiet. same;
+      space = λ _ is. limits.space (cc is);
+      sequence = λ _ is. let both = limits.sequence (cc is) in (both.0, ap (λ (t : Slot). t.sequence) (sym at) ∙ both.1);
+    })
+refused slot slot' s v command StoreFault.Memory reply store e at limits same = let is : Reply.Memory ≡ reply = cc e in subst (PlacedBy slot slot' s v command) is (unmoved slot slot' s v command Reply.Memory (λ h. h) (λ l is. absurd (cc is)) same)
+refused slot slot' s v command StoreFault.Ground reply store e at limits same = absurd (cc e)
+refused slot slot' s v command (StoreFault.Damaged at_ names) reply store e at limits same = absurd (cc e)
+
+-- ---- the durable commands
+
+module _ (a b : Told) (s : Session) (store : Store) (r : Repository) (v : View) (here : IsWorking a s r v) where
+  abbrev At : Command → Reply → Type 0
+  At command reply = PlacedBy s.store.slot store.slot (state_in s r v) v command reply
+
+  module _ (branch : Bytes) (info : Info) where
+    abbrev committing : Command
+    committing = Command.Commit branch info
+
+    length_is : end_of r s.work v branch info s.store ≡ s.store.slot.end + length_of s.store.slot (state_in s r v) v committing
+    length_is = lie_long s.store.slot.end (records_of r s.work v branch info s.store) (end_of r s.work v branch info s.store) (batch_lies v (sources v) (fields_of r s.work.parents info branch) s.store.slot.end)
+
+    pub commit_placed : (made : Result Hash StoreFault) (reply : Reply) → reply_to made ≡ Some reply → Commits r s.work v branch info made store a b → LimitsSpace (end_of r s.work v branch info s.store) made s.store
+        → OnOk made (Appends (records_of r s.work v branch info s.store) 1 s.store store a b) → At committing reply
+    commit_placed (Ok name) reply e does limits appends =
+        let is : Reply.Committed name ≡ reply = cc e in
+        subst (At committing) is (did s.store.slot store.slot (state_in s r v) v committing (Reply.Committed name) tt (λ l is. absurd (cc is)) appends.slot
+        (subst (λ (n : ℕ). n ≤ 2 ^ 62) length_is limits.enough.0, limits.enough.1))
+    commit_placed (Err fault) reply e does limits appends =
+        let still = does.refused (refl, answered Hash fault reply e) in
+        refused {A = Hash} s.store.slot store.slot (state_in s r v) v committing fault reply s.store e refl
+        (subst (λ (n : ℕ). LimitsSpace {A = Hash} n (Err fault) s.store) length_is limits)
+        (still_slot s.store store r r a b here.holds still.1 still.0)
+
+  module _ (name : Bytes) (target : Target) (n : ℕ) (named : resolve r target ≡ Ok n) where
+    abbrev setting : Command
+    setting = Command.Branch name target
+
+    set_length : length (spelling (Record.BranchSet n name)) ≡ length_of s.store.slot (state_in s r v) v setting
+    set_length = ap length (spelled_is s.store.slot.end (Record.BranchSet n name)) ∙ ap (λ (x : Result ℕ Reply). length (bytes_of_records (named_record s.store.slot.end name x))) (sym named)
+
+    set_end : s.store.slot.end + length (spelling (Record.BranchSet n name)) ≡ s.store.slot.end + length_of s.store.slot (state_in s r v) v setting
+    set_end = ap (λ (k : ℕ). s.store.slot.end + k) set_length
+
+    pub set_placed : (made : Result (Unit {0}) StoreFault) (reply : Reply) → branch_reply made ≡ Some reply → Changes r (with_branch r name n) made store a b → LimitsSpace (s.store.slot.end + length (spelling (Record.BranchSet n name))) made s.store
+        → OnOk made (Appends ((s.store.slot.end, Record.BranchSet n name) ∷ []) 0 s.store store a b) → At setting reply
+    set_placed (Ok u) reply e does limits appends =
+        let is : Reply.Accepted ≡ reply = cc e in
+        subst (At setting) is (did s.store.slot store.slot (state_in s r v) v setting Reply.Accepted tt (λ l is. absurd (cc is))
+        (appends.slot ∙ ap (λ (k : ℕ). next_slot s.store.slot k 0) (sym (ap length (spelled_is s.store.slot.end (Record.BranchSet n name))) ∙ set_length))
+        (subst (λ (k : ℕ). k ≤ 2 ^ 62) set_end limits.enough.0, limits.enough.1))
+    set_placed (Err fault) reply e does limits appends =
+        let still = does.refused (refl, answered (Unit {0}) fault reply e) in
+        refused {A = Unit {0}} s.store.slot store.slot (state_in s r v) v setting fault reply s.store e refl
+        (subst (λ (k : ℕ). LimitsSpace {A = Unit {0}} k (Err fault) s.store) set_end limits)
+        (still_slot s.store store r r a b here.holds still.1 still.0)
+
+  module _ (name : Bytes) where
+    abbrev removing : Command
+    removing = Command.BranchRm name
+
+    remove_length : length (spelling (Record.BranchRemove name)) ≡ length_of s.store.slot (state_in s r v) v removing
+    remove_length = ap length (spelled_is s.store.slot.end (Record.BranchRemove name))
+
+    remove_end : s.store.slot.end + length (spelling (Record.BranchRemove name)) ≡ s.store.slot.end + length_of s.store.slot (state_in s r v) v removing
+    remove_end = ap (λ (k : ℕ). s.store.slot.end + k) remove_length
+
+    pub remove_placed : (made : Result Bool StoreFault) (reply : Reply) → removed_reply name made ≡ Some reply → Changes r (without_branch r name) made store a b
+        → (made ≢ Ok false → LimitsSpace (s.store.slot.end + length (spelling (Record.BranchRemove name))) made s.store) → (made ≡ Ok false → b ≡ a)
+        → (made ≡ Ok true → Appends ((s.store.slot.end, Record.BranchRemove name) ∷ []) 0 s.store store a b) → At removing reply
+    remove_placed (Ok true) reply e does limits absent appends =
+        let limits = limits (λ is. absurd (cc is)) in
+        let is : Reply.Accepted ≡ reply = cc e in
+        subst (At removing) is (did s.store.slot store.slot (state_in s r v) v removing Reply.Accepted tt (λ l is. absurd (cc is)) (appends refl).slot
+        (subst (λ (k : ℕ). k ≤ 2 ^ 62) remove_end limits.enough.0, limits.enough.1))
+    remove_placed (Ok false) reply e does limits absent appends =
+        let is : Reply.NoBranch name ≡ reply = cc e in
+        subst (At removing) is (unmoved s.store.slot store.slot (state_in s r v) v removing (Reply.NoBranch name) (λ h. h) (λ l is. absurd (cc is))
+        (same_slot s.store store r (without_branch r name) a b here.holds does.ok (ap (λ (told : Told). told.held Control) (absent refl))))
+    remove_placed (Err fault) reply e does limits absent appends =
+        let still = does.refused (refl, answered Bool fault reply e) in
+        refused {A = Bool} s.store.slot store.slot (state_in s r v) v removing fault reply s.store e refl
+        (subst (λ (k : ℕ). LimitsSpace {A = Bool} k (Err fault) s.store) remove_end (limits (λ is. absurd (cc is))))
+        (still_slot s.store store r r a b here.holds still.1 still.0)
+
+-- no commit has the name
+abbrev IsUnnamed : Reply → Type 0
+IsUnnamed (Reply.NoBranch name) = Unit {0}
+IsUnnamed (Reply.NoCommit hash) = Unit {0}
+IsUnnamed reply = ⊥
+
+abbrev NamesNone : Refused ℕ → Type 0
+NamesNone (Ok n) = Unit {0}
+NamesNone (Err reply) = IsUnnamed reply
+
+names_none : (r : Repository) (target : Target) → NamesNone (resolve r target)
+names_none r (Target.Branch name) = by (head r name)
+  where
+    by : (o : Option ℕ) → NamesNone (present o (Reply.NoBranch name))
+    by None = tt
+    by (Some n) = tt
+names_none r (Target.Commit hash) = by (number_named r hash)
+  where
+    by : (o : Option ℕ) → NamesNone (present o (Reply.NoCommit hash))
+    by None = tt
+    by (Some n) = tt
+
+pub unnamed_placed : (slot : Slot) (s : State) (v : View) (name : Bytes) (target : Target) (reply : Reply) → resolve s.repository target ≡ Err reply → PlacedBy slot slot s v (Command.Branch name target) reply
+unnamed_placed slot s v name target reply is = by reply (subst NamesNone is (names_none s.repository target))
+  where
+    by : (reply : Reply) → IsUnnamed reply → PlacedBy slot slot s v (Command.Branch name target) reply
+    by (Reply.NoBranch other) un = unmoved slot slot s v (Command.Branch name target) (Reply.NoBranch other) (λ h. h) (λ l e. absurd (cc e)) refl
+    by (Reply.NoCommit hash) un = unmoved slot slot s v (Command.Branch name target) (Reply.NoCommit hash) (λ h. h) (λ l e. absurd (cc e)) refl
+    by _ un = absurd un
+
+-- ---- the others
+
+pub read_placed : (tells : Bool) (a b : Told) (s s' : Session) (command : Command) → IsTrue tells → (r : Repository) (v : View) → IsWorking a s r v → (result : Result Reply SessionEnd) → is_durable command ≡ false → HasRead tells a b s s' command result
+    → IfOk result (PlacedBy s.store.slot s'.store.slot (state_in s r v) v command)
+read_placed tells a b s s' command told r v here (Ok reply) quiet has =
+    let looks = has.looks told in
+    record {
+      done = λ done. absurd (none_durable reply command quiet done);
+      enough = λ done. absurd (none_durable reply command quiet done);
+      quiet = λ not. still_slot s.store s'.store r r a b here.holds (looks.holds r here.holds) looks.reads.only;
+      space = λ durable. absurd (cc (sym durable ∙ quiet));
+      sequence = λ durable. absurd (cc (sym durable ∙ quiet));
+    }
+read_placed tells a b s s' command told r v here (Err end) quiet has = tt
+
+-- ---- lines
+
+pub lined_placed : (slot slot' : Slot) (s : State) (v : View) (command : Command) (line : Bytes) (result : Result Reply SessionEnd) → IsServedLine command line → ((other : Command) → IsServedLine other line → other ≡ command)
+    → IfOk result (PlacedBy slot slot' s v command) → IfOk result (PlacedIn slot slot' s v line)
+lined_placed slot slot' s v command line (Ok reply) served one placed = record {
+  command = λ other spelled. subst (λ (c : Command). PlacedBy slot slot' s v c reply) (sym (one other spelled)) placed;
+  none = λ none. absurd (none command served);
+}
+lined_placed slot slot' s v command line (Err end) served one placed = tt
+
+pub quiet_placed : (slot : Slot) (s : State) (v : View) (line : Bytes) (reply : Reply) → ((command : Command) → ¬ IsDurable reply command) → ((l : Limit) → reply ≢ Reply.Limit l) → PlacedIn slot slot s v line reply
+quiet_placed slot s v line reply not none = record {
+  command = λ command served. unmoved slot slot s v command reply (not command) none refl;
+  none = λ _. refl;
+}
+
+pub memory_placed : (slot slot' : Slot) (s : State) (v : View) (line : Bytes) (reply : Reply) → ((command : Command) → IsServedLine command line → ¬ IsDurable reply command) → PlacedIn slot slot' s v line reply → PlacedIn slot slot' s v line Reply.Memory
+memory_placed slot slot' s v line reply not placed = record {
+  command = λ command served. unmoved slot slot' s v command Reply.Memory (λ h. h) (λ l is. absurd (cc is)) ((placed.command command served).quiet (not command served));
+  none = placed.none;
+}
