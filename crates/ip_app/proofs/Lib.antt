@@ -2,6 +2,7 @@ pub mod LineLemmas
 pub mod LivePair
 pub mod SameFiles
 pub mod Moments
+pub mod Counting
 pub mod RunLemmas
 pub mod TurnLemmas
 pub mod EndingLaw

@@ -1,28 +1,31 @@
 -- A run that goes on by a line, and how it ends.
-use Rattle.std.specs.Prelude.{IfSome}
+use Rattle.std.specs.Prelude.{◌≢◌, IfSome}
 use Rattle.std.proofs.Common.{true, ◌≡◌, inl, inr, ℕ, ◌≤◌, Bool, false, List, [], ◌∷◌, ◌++◌, length, refl, sym, ap, ◌∙◌, subst, arith, append_assoc, length-append, map, IsTrue, All, take, drop, Some, None, Result}
 use Rattle.std.proofs.lemmas.Bool.{cases_lt}
 use Rattle.std.proofs.lemmas.List.{map-append, take-append-drop}
 use Rattle.std.proofs.lemmas.List.Elements.{All-append, All-cons, All-nil}
 use Rattle.ip_ground.specs.declared.names.FileName.TheVariants.{Control}
+use Rattle.ip_ground.specs.declared.names.GroundCounts.{GroundCounts}
 use Rattle.ip_ground.specs.declared.names.GroundFault.{GroundFault}
+use Rattle.ip_ground.specs.Counts.{Rose}
 use Rattle.ip_ground.specs.Told.{Told, said, ChangesOnly, SyncsOnly, Only, NoFile}
 use Rattle.ip_ground.specs.Calls.{Says}
 use Rattle.ip_ground.proofs.Spans.{goes_nowhere, only_nowhere, goes_on, stays_on, custody_on, said_now, only_more}
 use Rattle.ip_ground.proofs.Passing.{stays_itself}
-use Rattle.ip_ground.proofs.Rising.{none_falls_on, rose_after}
+use Rattle.ip_ground.proofs.Rising.{none_falls_on}
 use Rattle.ip_image.specs.declared.counts.TurnCounts.{TurnCounts}
+use Rattle.ip_image.specs.declared.slot.Slot.{Slot}
 use Rattle.ip_image.specs.Slot.{live_index}
 use Rattle.ip_image.specs.Standing.{StandsFor, NoStore}
-use Rattle.ip_image.specs.Pending.{NothingPending}
+use Rattle.ip_image.specs.Pending.{HasLive, NothingPending}
 use Rattle.ip_image.specs.Headline.{Headline}
 use Rattle.ip_image.proofs.DamageLaws.{not_damaged}
-use Rattle.ip_image.proofs.HeadlineLaws.{headline_later}
+use Rattle.ip_image.proofs.HeadlineLaws.{headline_later, one_slot}
 use Rattle.ip_image.proofs.OneRepository.{one_repository}
 use Rattle.ip_spec.specs.Path.{Bytes, line_feed}
 use Rattle.ip_spec.specs.Merge.{Rule}
 use Rattle.ip_ground.specs.Contents.{Image, Content, bytes_of}
-use Rattle.ip_spec.specs.View.{View}
+use Rattle.ip_spec.specs.View.{View, no_view}
 use Rattle.ip_spec.specs.Repository.{Repository, no_repository}
 use Rattle.ip_spec.specs.Machine.{State, opened}
 use Rattle.ip_script.specs.Served.{IsServedLine}
@@ -31,6 +34,7 @@ use Rattle.ip_spec.specs.Text.{reply_text}
 use Rattle.ip_store.specs.Control.{control_in}
 use Rattle.ip_store.specs.Publishing.{IsOfStore}
 use Rattle.ip_store.specs.Opening.{RecoversOnceOpen}
+use Rattle.ip_store.proofs.Recovering.{held_has}
 use Rattle.ip_session.specs.declared.session.Session.{Session}
 use Rattle.ip_session.specs.Session.{IsServing, IsWorking, state_in}
 use Rattle.ip_app.specs.declared.turn_log.Turn.{Turn}
@@ -42,12 +46,15 @@ use Rattle.ip_app.specs.Lines.{longest_line, last_piece}
 use Rattle.ip_app.specs.Pending.{pending}
 use Rattle.ip_app.specs.Reading.{EndsReading, IsCaused}
 use Rattle.ip_app.specs.Exchanges.{Exchange, conditions, answer_of, Run, after_all, lines_in, turns_in, texts_in}
+use Rattle.ip_session.specs.Placing.{PlacedIn}
 use Rattle.ip_session.specs.Session.{no_rules}
+use Rattle.ip_app.specs.Places.{Places}
 use Rattle.ip_app.specs.Turns.{turn_counts, IsLater, Follow}
 use Rattle.ip_app.specs.Outside.{Outside, Tells, GoesOn, KeepsFiles}
-use Rattle.ip_app.specs.Serving.{SaysPart, TurnedIn, Stopped, Unsaid, Stops, Served}
-use Rattle.ip_app.specs.Run.{CouldNotOpen, IsUntouched, IsOpened, Begins, is_cut_off, Row, Serves, EndsWhereAllIsWell}
-use Rattle.ip_app.proofs.LivePair.{owns_pending}
+use Rattle.ip_app.specs.Serving.{SaysPart, TurnedIn, Stopped, Unsaid, CountsOf, Stops, Served}
+use Rattle.ip_app.specs.Run.{CouldNotOpen, IsUntouched, IsOpened, Begins, is_cut_off, Row, IsBehindOpening, Serves, EndsWhereAllIsWell}
+use Rattle.ip_app.proofs.Counting.{still_at, follow_more}
+use Rattle.ip_app.proofs.LivePair.{owns_pending, live_before}
 use Rattle.ip_app.proofs.SameFiles.{stands_after}
 use Rattle.ip_app.proofs.Moments.{headline_none, headline_turn}
 use Rattle.ip_app.proofs.LineLemmas.{whole_lines-line, whole_lines-rest, last_piece-line, last_piece-rest}
@@ -59,10 +66,6 @@ after_more first (y ∷ xs) x = after_more y.after xs x
 run_more : (rule : Rule) (first mid : State) (xs : List Exchange) (x : Exchange) → mid ≡ after_all first xs → Run rule first xs → LineStep IsServedLine rule mid x.line (conditions x) x.reply x.after → Run rule first (xs ++ x ∷ [])
 run_more rule first mid [] x e h s = (subst (λ (t : State). LineStep IsServedLine rule t x.line (conditions x) x.reply x.after) e s, tt)
 run_more rule first mid (y ∷ xs) x e h s = (h.0, run_more rule y.after mid xs x e h.1 s)
-
-follow_more : (start last : TurnCounts) (ts : List Turn) (t : Turn) → Follow start ts last → t.before ≡ last → IsLater t.before t.after → Follow start (ts ++ t ∷ []) t.after
-follow_more start last [] t h e l = (e ∙ h, l, refl)
-follow_more start last (u ∷ ts) t h e l = (h.0, h.1, follow_more u.after last ts t h.2 e l)
 
 pub append_nil : {A : Type 0} (t : List A) → t ++ [] ≡ t
 append_nil [] = refl
@@ -125,6 +128,20 @@ says_part bytes r a b says = elim (cases_lt a.moment b.moment) [
 abbrev IsShort : Bytes → Type 0
 IsShort line = length line ≤ longest_line
 
+-- one turn more
+follow_turn : (old mid : Outside) (lines : Lines) (counts counts' : TurnCounts) (s : Session) (h : Served old mid lines counts s) (x : Exchange) → x.turn.before ≡ counts → x.turn.after ≡ counts' → IsLater x.turn.before x.turn.after
+    → Follow (turn_counts old.counts) (turns_in (h.exchanges ++ x ∷ [])) counts'
+follow_turn old mid lines counts counts' s h x begins ends rises =
+    let first = turn_counts old.counts in
+    subst (λ (ts : List Turn). Follow first ts counts') (sym (map-append (λ x. x.turn) h.exchanges (x ∷ [])))
+    (subst (λ (e : TurnCounts). Follow first (turns_in h.exchanges ++ x.turn ∷ []) e) ends
+    (follow_more first counts (turns_in h.exchanges) x.turn (still_at old.counts mid.counts counts h.counts_now h.no_fault) h.follow begins rises))
+
+-- one exchange more
+places_more : (slot : Slot) (s : State) (v : View) (xs : List Exchange) (mid : Slot) (w : View) (x : Exchange) (last : Slot) (view : View) → Places slot s v xs mid w → x.after.work.tree ≡ view.map → PlacedIn mid last (after_all s xs) w x.line x.reply → Places slot s v (xs ++ x ∷ []) last view
+places_more slot s v [] mid w x last view h tree placed = (last, view, tree, subst (λ (a : Slot). PlacedIn a last s v x.line x.reply) h.0 (subst (λ (u : View). PlacedIn mid last s u x.line x.reply) h.1 placed), (refl, refl))
+places_more slot s v (y ∷ xs) mid w x last view h tree placed = (h.0, h.1, h.2, h.3, places_more h.0 y.after h.1 xs mid w x last view h.4 tree placed)
+
 -- one line more was served
 pub served_more : (old mid new : Outside) (lines lines' : Lines) (counts counts' : TurnCounts) (s s' : Session) (h : Served old mid lines counts s) → TurnedIn h.known mid new lines lines' counts counts' s s' h.repository h.view → Served old new lines' counts' s'
 served_more old mid new lines lines' counts counts' s s' h turned =
@@ -151,6 +168,10 @@ served_more old mid new lines lines' counts counts' s s' h turned =
       count = omega (arith, h.count, t.count, length-append h.done (x.line ++ line_feed ∷ []), length-append x.line (line_feed ∷ []));
       run = λ g. run_more no_rules (opened h.first) (state_in s h.repository h.view) h.exchanges x (h.now_at g) (h.run g) (t.step g);
       now_at = λ g. sym (turned.now_at g) ∙ sym (after_more (opened h.first) h.exchanges x);
+      slot = h.slot;
+      live = h.live;
+      places = λ g. places_more h.slot (opened h.first) no_view h.exchanges s.store.slot h.view x s'.store.slot turned.view (h.places g) (ap (λ (state : State). state.work.tree) (turned.now_at g))
+          (subst (λ (state : State). PlacedIn s.store.slot s'.store.slot state h.view x.line x.reply) (h.now_at g) (turned.placed g));
       said = λ g. turned.said g ∙ (ap (λ (u : Bytes). u ++ reply_text x.reply) (h.said g) ∙ (append_assoc (said old.told) (texts_in h.exchanges) (reply_text x.reply) ∙ ap (λ (u : Bytes). said old.told ++ u) (sym (texts_more h.exchanges x))));
       opened_at = h.opened_at;
       headline = λ g order. headline_turn (h.opened_at g) old.told mid.told new.told (opened h.first) h.exchanges x (h.headline g order) (t.files g).goes (h.over g) (h.said g)
@@ -158,18 +179,17 @@ served_more old mid new lines lines' counts counts' s s' h turned =
       over = λ g. let was = h.over g in let later = (t.files g).goes.later in omega (arith, was, later);
       nothing_pending = λ g order. turned.nothing_pending g (h.nothing_pending g order);
       noted = λ l. t.noted l ∙ (ap (λ u. u ++ x.turn ∷ []) (h.noted (t.goes_on.log_tells l)) ∙ (append_assoc old.turns (turns_in h.exchanges) (x.turn ∷ []) ∙ ap (λ u. old.turns ++ u) (sym (map-append (λ x. x.turn) h.exchanges (x ∷ [])))));
-      start = h.start;
-      since = h.since;
-      follow = subst (λ (ts : List Turn). Follow h.start ts counts') (sym (map-append (λ x. x.turn) h.exchanges (x ∷ [])))
-          (subst (λ (e : TurnCounts). Follow h.start (turns_in h.exchanges ++ x.turn ∷ []) e) t.ends_at (follow_more h.start counts (turns_in h.exchanges) x.turn h.follow t.begins_at t.rises));
-      until = t.until;
+      no_fault = turned.no_fault ∙ h.no_fault;
+      counts_now = t.until;
+      follow = follow_turn old mid lines counts counts' s h x t.begins_at t.ends_at t.rises;
+      reads = t.reads ∙ h.reads;
     }
 
 -- no line was served yet
-pub served_first : (old now : Outside) (lines : Lines) (counts : TurnCounts) (s : Session) (r : Repository) (v : View) → (known : (b : Bool) × (Tells old → IsTrue b) × (IsTrue b → Tells old)) → IsServing s → state_in s r v ≡ opened r → (Tells old → IsWorking now.told s r v) → (Tells old → StandsFor old.told.held r)
+pub served_first : (old now : Outside) (lines : Lines) (counts : TurnCounts) (s : Session) (r : Repository) (v : View) → v ≡ no_view → (known : (b : Bool) × (Tells old → IsTrue b) × (IsTrue b → Tells old)) → IsServing s → state_in s r v ≡ opened r → (Tells old → IsWorking now.told s r v) → (Tells old → StandsFor old.told.held r)
     → (opening : IsTrue old.ground_tells → RecoversOnceOpen old.told now.told) → ((tells : Tells old) → (opening tells.0).since ≤ now.told.moment)
-    → counts ≡ turn_counts now.counts → GoesOn old now → (IsTrue old.ground_tells → SyncsOnly (Only Control) old.told now.told) → now.left ≡ old.left → now.turns ≡ old.turns → pending lines ≡ [] → lines.taken ≡ 0 → Served old now lines counts s
-served_first old now lines counts s r v known serving begun working began opening over counted g f left turns none zero =
+    → counts ≡ turn_counts old.counts → now.counts ≡ old.counts → now.read_faults ≡ old.read_faults → GoesOn old now → (IsTrue old.ground_tells → SyncsOnly (Only Control) old.told now.told) → now.left ≡ old.left → now.turns ≡ old.turns → pending lines ≡ [] → lines.taken ≡ 0 → Served old now lines counts s
+served_first old now lines counts s r v none_known known serving begun working began opening over counted no_fault reads g f left turns none zero =
     record {
       known = known.0;
       known_so = known.1;
@@ -189,6 +209,9 @@ served_first old now lines counts s r v known serving begun working began openin
       began = λ is. began (known.2 is);
       run = λ is. tt;
       now_at = λ is. begun;
+      slot = s.store.slot;
+      live = λ is. live_before old.told now.told (f (known.2 is).0).files s.store.slot (held_has s.store r now.told (working (known.2 is)).holds);
+      places = λ is. (refl, none_known);
       serving = serving;
       working = λ is. working (known.2 is);
       said = λ is. let only = f (known.2 is).0 in said_now old.told now.told only.changes.goes only.changes.said ∙ sym (append_nil (said old.told));
@@ -197,23 +220,22 @@ served_first old now lines counts s r v known serving begun working began openin
       headline = λ is order. let told = (known.2 is).0 in headline_none old.told now.told (f told) (opening told) r (began (known.2 is)) order;
       nothing_pending = λ is order. (opening (known.2 is).0).nothing_pending order;
       noted = λ b. turns ∙ sym (append_nil old.turns);
-      start = turn_counts now.counts;
-      since = record { file = g.counts.file_faults; remove = g.counts.remove_faults; spawner = refl };
+      no_fault = no_fault;
+      counts_now = counted ∙ ap turn_counts (sym no_fault);
       follow = counted;
-      until = subst (λ (c : TurnCounts). IsLater c (turn_counts now.counts)) (sym counted) (record { file = omega arith; remove = omega arith; spawner = refl });
+      reads = reads;
     }
 
 -- no line was served at all
-pub serves_none : (old new : Outside) (s : Status) → GoesOn old new → (IsTrue old.ground_tells → SyncsOnly (Only Control) old.told new.told) → (IsTrue old.ground_tells → RecoversOnceOpen old.told new.told) → new.left ≡ old.left → new.turns ≡ old.turns → Begins s old (opened no_repository) [] → Row s old new [] → Serves old new s
-serves_none old new s g f opening left turns begins row =
+pub serves_none : (old new : Outside) (s : Status) → GoesOn old new → (IsTrue old.ground_tells → SyncsOnly (Only Control) old.told new.told) → (IsTrue old.ground_tells → RecoversOnceOpen old.told new.told) → new.left ≡ old.left → new.turns ≡ old.turns → new.read_faults ≡ old.read_faults
+    → (IsBehindOpening s [] → ⊥) → Begins s old (opened no_repository) [] → CountsOf s old.counts new.counts → Row s old new [] → Serves old new s
+serves_none old new s g f opening left turns reads unopened begins counted row =
     let first = opened no_repository in
     let quiet : IsTrue old.ground_tells → said new.told ≡ said old.told = λ b. said_now old.told new.told (f b).changes.goes (f b).changes.said in
     record {
       taken = [];
       exchanges = [];
       first = first;
-      start = turn_counts new.counts;
-      last = turn_counts new.counts;
       goes_on = g;
       files = λ b. keeps_unchanged old.told new.told (f b.0);
       bytes = λ b. sym left;
@@ -222,39 +244,41 @@ serves_none old new s g f opening left turns begins row =
       begins = begins;
       first_is = refl;
       run = λ told. tt;
+      placed = λ told slot live. record { whole = []; cut = []; all = refl; one = omega arith; none = λ _. refl; last = slot; view = no_view; places = (refl, refl) };
       stands = λ b whole h. stands_after old.told new.told (f b.0) b.1 first.repository h;
-      headline = λ b r stands order. ((opening b).since, headline_none old.told new.told (f b) (opening b) r stands order);
+      headline = λ b r stands order. ((opening b).since, λ behind. absurd (unopened behind), headline_none old.told new.told (f b) (opening b) r stands order);
       again = λ b may. record { repository = may.repository; stands = stands_after old.told new.told (f b) (owns_pending old.told may.nothing_pending) may.repository may.stands; nothing_pending = (opening b).nothing_pending may.nothing_pending };
       said_part = λ b. record { whole = []; cut = []; part = []; unsaid = []; all = refl; one = omega arith; text = refl; said_is = quiet b.0 ∙ (sym (append_nil (said old.told)) ∙ sym (append_nil (said old.told ++ []))); silent = λ cut_short. refl };
       said_all = λ b c. quiet b.0 ∙ sym (append_nil (said old.told));
       noted = λ b. turns ∙ sym (append_nil old.turns);
-      since = record { file = g.counts.file_faults; remove = g.counts.remove_faults; spawner = refl };
-      follow = refl;
-      until = record { file = omega arith; remove = omega arith; spawner = refl };
+      follow = λ behind. absurd (unopened behind);
+      counted = counted;
+      reads = λ other. reads;
       row = row;
     }
 
 -- the store could not be opened
-pub begins_unopened : (old new : Outside) (s : Status) → GoesOn old new → (IsTrue old.ground_tells → SyncsOnly (Only Control) old.told new.told) → (IsTrue old.ground_tells → RecoversOnceOpen old.told new.told) → new.left ≡ old.left → new.turns ≡ old.turns → CouldNotOpen s old.ground_tells old.told old.counts new.counts → Serves old new s
-begins_unopened old new s g f opening left turns could_not = by_status s could_not
+pub begins_unopened : (old new : Outside) (s : Status) → GoesOn old new → (IsTrue old.ground_tells → SyncsOnly (Only Control) old.told new.told) → (IsTrue old.ground_tells → RecoversOnceOpen old.told new.told) → new.left ≡ old.left → new.turns ≡ old.turns → new.read_faults ≡ old.read_faults
+    → CouldNotOpen s old.ground_tells old.told → CountsOf s old.counts new.counts → Serves old new s
+begins_unopened old new s g f opening left turns reads could_not counted = by_status s could_not counted
   where
     untouched : IsUntouched old new []
     untouched = record { none_taken = refl; left = left; said_nothing = λ told. said_now old.told new.told (f told).changes.goes (f told).changes.said; only = f; turns = turns }
 
-    by_status : (s : Status) → CouldNotOpen s old.ground_tells old.told old.counts new.counts → Serves old new s
-    by_status status.NoStore h = serves_none old new status.NoStore g f opening left turns refl (untouched, h)
-    by_status (status.Damaged file at) h = serves_none old new (status.Damaged file at) g f opening left turns refl (untouched, λ tells. h tells.0 tells.1)
-    by_status status.GroundFault h = serves_none old new status.GroundFault g f opening left turns (inl refl) h
-    by_status status.Done h = absurd h
-    by_status status.Usage h = absurd h
-    by_status (status.DamagedRecord at) h = absurd h
-    by_status (status.DamagedName at want got) h = absurd h
-    by_status status.ReadFault h = absurd h
-    by_status status.SayFault h = absurd h
-    by_status status.Memory h = serves_none old new status.Memory g f opening left turns refl untouched
-    by_status (status.Limit bound) h = absurd h
-    by_status status.Unfinished h = absurd h
-    by_status status.Exists h = absurd h
+    by_status : (s : Status) → CouldNotOpen s old.ground_tells old.told → CountsOf s old.counts new.counts → Serves old new s
+    by_status status.NoStore h n = serves_none old new status.NoStore g f opening left turns reads (λ b. b) refl n (untouched, h)
+    by_status (status.Damaged file at) h n = serves_none old new (status.Damaged file at) g f opening left turns reads (λ b. b) refl n (untouched, λ tells. h tells.0 tells.1)
+    by_status status.GroundFault h n = serves_none old new status.GroundFault g f opening left turns reads (λ some. some refl) (inl refl) n tt
+    by_status status.Done h n = absurd h
+    by_status status.Usage h n = absurd h
+    by_status (status.DamagedRecord at) h n = absurd h
+    by_status (status.DamagedName at want got) h n = absurd h
+    by_status status.ReadFault h n = absurd h
+    by_status status.SayFault h n = absurd h
+    by_status status.Memory h n = serves_none old new status.Memory g f opening left turns reads (λ b. b) refl n untouched
+    by_status (status.Limit bound) h n = absurd h
+    by_status status.Unfinished h n = absurd h
+    by_status status.Exists h n = absurd h
 
 pub ends_along : (s : Status) (r r' t t' : ℕ) (A B : Type 0) → EndsReading s r t A → r ≡ r' → t ≡ t' → (A → B) → EndsReading s r' t' B
 ends_along status.Done r r' t t' A B h e f k = (k h.0, sym e ∙ h.1, omega arith)
@@ -277,27 +301,36 @@ record Ended (s : Status) (old new : Outside) (taken : Bytes) (first : State) (x
   row : Row s old new taken
   whole : is_cut_off s ≡ false
   begins : Begins s old first xs
+  counted : CountsOf s old.counts new.counts
+  reads : s ≢ status.ReadFault → new.read_faults ≡ old.read_faults
 
 -- the row of a status with which reading ended
-row_of : (s : Status) (old mid new : Outside) (taken : Bytes) (first : State) (xs : List Exchange) → IsOpened old first → EndsReading s (length (last_piece taken)) (length taken) (IsTrue old.source_tells → new.left ≡ []) → old.read_faults ≤ mid.read_faults → IsCaused s mid.read_faults new.read_faults → Ended s old new taken first xs
-row_of status.Done old mid new taken first xs o e f c = record { row = e; whole = refl; begins = o }
-row_of status.Unfinished old mid new taken first xs o e f c = record { row = e; whole = refl; begins = o }
-row_of (status.Limit b) old mid new taken first xs o e f c = record { row = e; whole = refl; begins = o }
-row_of status.ReadFault old mid new taken first xs o e f c = record { row = (e, rose_after old.read_faults mid.read_faults new.read_faults f c); whole = refl; begins = o }
-row_of status.Usage old mid new taken first xs o e f c = absurd e
-row_of status.NoStore old mid new taken first xs o e f c = absurd e
-row_of (status.Damaged file at) old mid new taken first xs o e f c = absurd e
-row_of (status.DamagedRecord at) old mid new taken first xs o e f c = absurd e
-row_of (status.DamagedName at want got) old mid new taken first xs o e f c = absurd e
-row_of status.SayFault old mid new taken first xs o e f c = absurd e
-row_of status.GroundFault old mid new taken first xs o e f c = absurd e
-row_of status.Memory old mid new taken first xs o e f c = absurd e
-row_of status.Exists old mid new taken first xs o e f c = absurd e
+row_of : (s : Status) (old mid new : Outside) (taken : Bytes) (first : State) (xs : List Exchange) → IsOpened old first → EndsReading s (length (last_piece taken)) (length taken) (IsTrue old.source_tells → new.left ≡ []) → new.counts ≡ old.counts → mid.read_faults ≡ old.read_faults
+    → IsCaused s mid.read_faults new.read_faults → Ended s old new taken first xs
+row_of status.Done old mid new taken first xs o e n f c = record { row = e; whole = refl; begins = o; counted = n; reads = λ other. c ∙ f }
+row_of status.Unfinished old mid new taken first xs o e n f c = record { row = e; whole = refl; begins = o; counted = n; reads = λ other. c ∙ f }
+row_of (status.Limit b) old mid new taken first xs o e n f c = record { row = e; whole = refl; begins = o; counted = n; reads = λ other. c ∙ f }
+row_of status.ReadFault old mid new taken first xs o e n f c = record { row = (e, subst (λ (before : ℕ). Rose before new.read_faults) f c); whole = refl; begins = o; counted = n; reads = λ other. absurd (other refl) }
+row_of status.Usage old mid new taken first xs o e n f c = absurd e
+row_of status.NoStore old mid new taken first xs o e n f c = absurd e
+row_of (status.Damaged file at) old mid new taken first xs o e n f c = absurd e
+row_of (status.DamagedRecord at) old mid new taken first xs o e n f c = absurd e
+row_of (status.DamagedName at want got) old mid new taken first xs o e n f c = absurd e
+row_of status.SayFault old mid new taken first xs o e n f c = absurd e
+row_of status.GroundFault old mid new taken first xs o e n f c = absurd e
+row_of status.Memory old mid new taken first xs o e n f c = absurd e
+row_of status.Exists old mid new taken first xs o e n f c = absurd e
 
 -- the files stood for one repository at most when the run began
-of_opened : (since : ℕ) (old new : Outside) (first : Repository) (xs : List Exchange) → StandsFor old.told.held first → (r : Repository) → StandsFor old.told.held r → Headline since old.told new.told (opened first) (map answer_of xs)
-    → (since : ℕ) × Headline since old.told new.told (opened r) (map answer_of xs)
-of_opened since old new first xs began r stands run = (since, subst (λ (q : Repository). Headline since old.told new.told (opened q) (map answer_of xs)) (one_repository old.told.held first r began stands) run)
+of_opened : (behind : Type 0) (since : ℕ) (old new : Outside) (first : Repository) (xs : List Exchange) → StandsFor old.told.held first → (r : Repository) → StandsFor old.told.held r → since ≤ new.told.moment → Headline since old.told new.told (opened first) (map answer_of xs)
+    → (since : ℕ) × (behind → since ≤ new.told.moment) × Headline since old.told new.told (opened r) (map answer_of xs)
+of_opened behind since old new first xs began r stands reached run = (since, λ b. reached, subst (λ (q : Repository). Headline since old.told new.told (opened q) (map answer_of xs)) (one_repository old.told.held first r began stands) run)
+
+-- one slot was live when the run began
+placed_from : (old mid : Outside) (lines : Lines) (counts : TurnCounts) (session : Session) (h : Served old mid lines counts session) → Tells old → (slot : Slot) → HasLive slot old.told.held → Places slot (opened h.first) no_view h.exchanges session.store.slot h.view
+placed_from old mid lines counts session h b slot live =
+    let is = h.known_so b in
+    subst (λ (t : Slot). Places t (opened h.first) no_view h.exchanges session.store.slot h.view) (one_slot h.slot slot old.told.held (h.live is) live) (h.places is)
 
 -- the source is read no further
 serves_stopped : (s : Status) (old mid new : Outside) (lines lines' : Lines) (counts counts' : TurnCounts) (session : Session) (h : Served old mid lines counts session) → Stopped s h.known mid new lines lines' counts counts' (state_in session h.repository h.view) → Serves old new s
@@ -307,16 +340,13 @@ serves_stopped s old mid new lines lines' counts counts' session h t =
     let whole : whole_lines taken ≡ lines_in h.exchanges ++ [] = h.lines_then t.rest ∙ ap (λ u. lines_in h.exchanges ++ u) (whole_lines-rest t.rest t.no_line_feed) in
     let rest : last_piece taken ≡ t.rest = h.rest_then t.rest ∙ last_piece-rest t.rest t.no_line_feed in
     let long : lines'.taken ≡ length taken = omega (arith, h.count, t.count, length-append h.done t.rest) in
-    let end = row_of s old mid new taken first h.exchanges (λ b. h.began (h.known_so b)) (ends_along s (length t.rest) (length (last_piece taken)) lines'.taken (length taken) _ _ t.ends (ap length (sym rest)) long (λ e b. e (told_before _ _ h.goes_on.source_tells b))) h.goes_on.read_faults t.cause in
+    let end = row_of s old mid new taken first h.exchanges (λ b. h.began (h.known_so b)) (ends_along s (length t.rest) (length (last_piece taken)) lines'.taken (length taken) _ _ t.ends (ap length (sym rest)) long (λ e b. e (told_before _ _ h.goes_on.source_tells b))) (t.no_fault ∙ h.no_fault) h.reads t.cause in
     let known : IsTrue old.ground_tells → NothingPending old.told → IsTrue h.known = λ b order. h.known_so (b, owns_pending old.told order) in
     let quiet : Tells old → said new.told ≡ said old.told ++ texts_in h.exchanges = λ b. t.same_said ∙ h.said (h.known_so b) in
     record {
       taken = taken;
       exchanges = h.exchanges;
       first = first;
-      start = h.start;
-      last = counts';
-      since = h.since;
       goes_on = goes_on_then old mid new h.goes_on t.goes_on;
       files = λ g. keeps_on old.told mid.told new.told (h.files (h.known_so g)) t.files;
       bytes = λ b. h.bytes b ∙ (ap (λ (u : Bytes). h.done ++ u) (t.front (told_before _ _ h.goes_on.source_tells b)) ∙ sym (append_assoc h.done t.rest new.left));
@@ -325,15 +355,18 @@ serves_stopped s old mid new lines lines' counts counts' session h t =
       begins = end.begins;
       first_is = refl;
       run = λ b. h.run (h.known_so b);
+      placed = λ b slot live. record { whole = h.exchanges; cut = []; all = append_nil h.exchanges; one = omega arith; none = λ _. refl; last = session.store.slot; view = h.view; places = placed_from old mid lines counts session h b slot live };
       stands = λ b whole began. subst (λ (state : State). StandsFor new.told.held state.repository) (h.now_at (h.known_so b)) (t.stands (h.known_so b));
-      headline = λ b r stands order. let is = known b order in of_opened (h.opened_at is) old new h.first h.exchanges (h.began is) r stands
+      headline = λ b r stands order. let is = known b order in of_opened (IsBehindOpening s h.exchanges) (h.opened_at is) old new h.first h.exchanges (h.began is) r stands
+          (let was = h.over is in let later = t.files.goes.later in omega (arith, was, later))
           (headline_later (h.opened_at is) old.told mid.told new.told first (map answer_of h.exchanges) (h.headline is order) t.files.goes t.same_moment);
       again = λ b may. let is = known b may.nothing_pending in record { repository = h.repository; stands = t.stands is; nothing_pending = t.nothing_pending (h.nothing_pending is may.nothing_pending) };
       said_part = λ b. record { whole = h.exchanges; cut = []; part = []; unsaid = []; all = append_nil h.exchanges; one = omega arith; text = refl; said_is = quiet b ∙ sym (append_nil (said old.told ++ texts_in h.exchanges)); silent = λ cut_short. refl };
       said_all = λ b c. quiet b;
       noted = λ l. t.same_turns ∙ h.noted (t.goes_on.log_tells l);
-      follow = subst (λ (e : TurnCounts). Follow h.start (turns_in h.exchanges) e) (sym t.same_counts) h.follow;
-      until = t.until;
+      follow = λ behind. subst (λ (e : TurnCounts). Follow (turn_counts old.counts) (turns_in h.exchanges) e) (h.counts_now ∙ ap turn_counts (sym t.no_fault)) h.follow;
+      counted = end.counted;
+      reads = end.reads;
       row = end.row;
     }
 
@@ -352,9 +385,6 @@ serves_unsaid s old mid new lines lines' counts counts' session h cut opened_so 
       taken = done ++ pending lines';
       exchanges = xs;
       first = first;
-      start = h.start;
-      last = counts';
-      since = h.since;
       goes_on = goes_on_then old mid new h.goes_on t.goes_on;
       files = λ g. keeps_on old.told mid.told new.told (h.files (h.known_so g)) (t.files (h.known_so g));
       bytes = λ b. h.bytes b ∙ (ap (λ (u : Bytes). h.done ++ u) (t.front (told_before _ _ h.goes_on.source_tells b)) ∙ (regroup h.done x.line (pending lines' ++ new.left) ∙ sym (append_assoc done (pending lines') new.left)));
@@ -362,25 +392,27 @@ serves_unsaid s old mid new lines lines' counts counts' session h cut opened_so 
       short = subst (All IsShort) (sym (map-append (λ x. x.line) h.exchanges (x ∷ []))) (All-append IsShort (lines_in h.exchanges) (x.line ∷ []) h.short (All-cons IsShort x.line [] t.short (All-nil IsShort)));
       begins = opened_so xs;
       first_is = refl;
+      placed = λ b slot live. record { whole = h.exchanges; cut = x ∷ []; all = refl; one = omega arith; none = λ c. absurd (cc (c, cut)); last = session.store.slot; view = h.view; places = placed_from old mid lines counts session h b slot live };
       run = λ b. let is = h.known_so b in run_more no_rules first (state_in session h.repository h.view) h.exchanges x (h.now_at is) (h.run is) (t.step is);
       stands = λ b whole began. subst (λ (state : State). StandsFor new.told.held state.repository) (sym (after_more first h.exchanges x)) (u.stands (h.known_so b) whole);
-      headline = λ b r stands order. let is = known b order in of_opened (h.opened_at is) old new h.first xs (h.began is) r stands
+      headline = λ b r stands order. let is = known b order in of_opened (IsBehindOpening s xs) (h.opened_at is) old new h.first xs (h.began is) r stands
+          (let was = h.over is in let later = (t.files is).goes.later in omega (arith, was, later))
           (headline_turn (h.opened_at is) old.told mid.told new.told first h.exchanges x (h.headline is order) (t.files is).goes (h.over is) (h.said is)
           h.repository x.after.repository (ap (λ (state : State). state.repository) (h.now_at is)) refl (u.turning is (h.nothing_pending is order)));
       again = λ b may. let is = known b may.nothing_pending in u.again is (h.nothing_pending is may.nothing_pending);
       said_part = λ b. let is = h.known_so b in let p = u.part is in record { whole = h.exchanges; cut = x ∷ []; part = p.0; unsaid = p.1; all = refl; one = omega arith; text = p.2 ∙ sym (append_nil (reply_text x.reply)); said_is = p.3 ∙ ap (λ (v : Bytes). v ++ p.0) (h.said is); silent = u.silent is };
       said_all = λ b c. absurd (cc (c, cut));
       noted = λ l. t.noted l ∙ (ap (λ u. u ++ x.turn ∷ []) (h.noted (t.goes_on.log_tells l)) ∙ (append_assoc old.turns (turns_in h.exchanges) (x.turn ∷ []) ∙ ap (λ u. old.turns ++ u) (sym (map-append (λ x. x.turn) h.exchanges (x ∷ [])))));
-      follow = subst (λ (ts : List Turn). Follow h.start ts counts') (sym (map-append (λ x. x.turn) h.exchanges (x ∷ [])))
-          (subst (λ (e : TurnCounts). Follow h.start (turns_in h.exchanges ++ x.turn ∷ []) e) t.ends_at (follow_more h.start counts (turns_in h.exchanges) x.turn h.follow t.begins_at t.rises));
-      until = t.until;
+      follow = λ behind. subst (λ (e : TurnCounts). Follow (turn_counts old.counts) (turns_in xs) e) t.until (follow_turn old mid lines counts counts' session h x t.begins_at t.ends_at t.rises);
+      counted = subst (λ (c : GroundCounts). CountsOf s c new.counts) h.no_fault u.counted;
+      reads = λ other. t.reads ∙ h.reads;
       row = row (done ++ pending lines');
     }
 
 -- how a run ends
 pub serves_stop : (s : Status) (old mid new : Outside) (lines lines' : Lines) (counts counts' : TurnCounts) (session : Session) (h : Served old mid lines counts session) → Stops s h.known mid new lines lines' counts counts' (state_in session h.repository h.view) → Serves old new s
-serves_stop status.SayFault old mid new lines lines' counts counts' session h u = serves_unsaid status.SayFault old mid new lines lines' counts counts' session h refl (λ xs b. h.began (h.known_so b)) u.0 (λ taken. rose_after old.counts.say_faults mid.counts.say_faults new.counts.say_faults h.goes_on.counts.say_faults u.1)
-serves_stop status.GroundFault old mid new lines lines' counts counts' session h u = serves_unsaid status.GroundFault old mid new lines lines' counts counts' session h refl (λ xs. inr (λ b. h.began (h.known_so b))) u.0 (λ taken. rose_after old.counts.file_faults mid.counts.file_faults new.counts.file_faults h.goes_on.counts.file_faults u.1)
+serves_stop status.SayFault old mid new lines lines' counts counts' session h u = serves_unsaid status.SayFault old mid new lines lines' counts counts' session h refl (λ xs b. h.began (h.known_so b)) u (λ taken. tt)
+serves_stop status.GroundFault old mid new lines lines' counts counts' session h u = serves_unsaid status.GroundFault old mid new lines lines' counts counts' session h refl (λ xs. inr (λ b. h.began (h.known_so b))) u (λ taken. tt)
 serves_stop (status.DamagedRecord at) old mid new lines lines' counts counts' session h u = serves_unsaid (status.DamagedRecord at) old mid new lines lines' counts counts' session h refl (λ xs b. h.began (h.known_so b)) u.0 (λ taken b. u.1 (h.known_so b))
 serves_stop (status.DamagedName at want got) old mid new lines lines' counts counts' session h u = serves_unsaid (status.DamagedName at want got) old mid new lines lines' counts counts' session h refl (λ xs b. h.began (h.known_so b)) u.0 (λ taken b. u.1 (h.known_so b))
 serves_stop status.Done old mid new lines lines' counts counts' session h u = serves_stopped status.Done old mid new lines lines' counts counts' session h u
@@ -402,18 +434,18 @@ stands_open image r stands none =
     let is : live_index s.control ≡ Some s.index = s.live.index in
     absurd (cc (is_none, is))
 
--- its row excludes each status but those of its script
-pub ends_by_script : (s : Status) (old new : Outside) (taken : Bytes) → Row s old new taken → EndsWhereAllIsWell old new s
-ends_by_script status.Done old new taken r told stands calm = tt
-ends_by_script status.Unfinished old new taken r told stands calm = tt
-ends_by_script (status.Limit b) old new taken r told stands calm = tt
-ends_by_script status.Memory old new taken r told stands calm = tt
-ends_by_script status.Usage old new taken r told stands calm = r
-ends_by_script status.Exists old new taken r told stands calm = r
-ends_by_script status.NoStore old new taken r told stands calm = absurd (stands_open old.told.held stands.0 stands.1 (r.1 told.0))
-ends_by_script (status.Damaged file at) old new taken r told stands calm = absurd (not_damaged old.told.held stands.1.standing file at (r.1 told))
-ends_by_script (status.DamagedRecord at) old new taken r told stands calm = absurd (r told)
-ends_by_script (status.DamagedName at want got) old new taken r told stands calm = absurd (r told)
-ends_by_script status.ReadFault old new taken r told stands calm = absurd (calm.read r.1)
-ends_by_script status.SayFault old new taken r told stands calm = absurd (calm.say r)
-ends_by_script status.GroundFault old new taken r told stands calm = absurd (calm.file r)
+-- its row, or what was counted, excludes each status but those of its script
+pub ends_by_script : (s : Status) (old new : Outside) (taken : Bytes) → Row s old new taken → CountsOf s old.counts new.counts → EndsWhereAllIsWell old new s
+ends_by_script status.Done old new taken r n told stands calm = tt
+ends_by_script status.Unfinished old new taken r n told stands calm = tt
+ends_by_script (status.Limit b) old new taken r n told stands calm = tt
+ends_by_script status.Memory old new taken r n told stands calm = tt
+ends_by_script status.Usage old new taken r n told stands calm = r
+ends_by_script status.Exists old new taken r n told stands calm = r
+ends_by_script status.NoStore old new taken r n told stands calm = absurd (stands_open old.told.held stands.0 stands.1 (r.1 told.0))
+ends_by_script (status.Damaged file at) old new taken r n told stands calm = absurd (not_damaged old.told.held stands.1.standing file at (r.1 told))
+ends_by_script (status.DamagedRecord at) old new taken r n told stands calm = absurd (r told)
+ends_by_script (status.DamagedName at want got) old new taken r n told stands calm = absurd (r told)
+ends_by_script status.ReadFault old new taken r n told stands calm = absurd (calm.read r.1)
+ends_by_script status.SayFault old new taken r n told stands calm = absurd (calm.say n.rose)
+ends_by_script status.GroundFault old new taken r n told stands calm = absurd (calm.file n.rose)

@@ -18,6 +18,7 @@ use Rattle.ip_spec.specs.Machine.{State}
 use Rattle.ip_script.specs.Served.{IsServedLine}
 use Rattle.ip_spec.specs.Script.{LineStep}
 use Rattle.ip_store.specs.Publishing.{IsOfStore}
+use Rattle.ip_store.proofs.Stepping.{of_store}
 use Rattle.ip_app.specs.declared.lines.Lines.{Lines}
 use Rattle.ip_session.specs.declared.session.SessionEnd.{SessionEnd}
 use Rattle.ip_app.specs.declared.statuses.Status.{Status}
@@ -28,32 +29,27 @@ use Rattle.ip_app.specs.Exchanges.{Exchange}
 use Rattle.ip_session.specs.Session.{no_rules}
 use Rattle.ip_app.specs.Outside.{Outside, GoesOn, KeepsFiles}
 use Rattle.ip_session.specs.declared.session.Session.{Session}
-use Rattle.ip_session.specs.Session.{state_in, IsWorking, conditions_of, ChangedIn, EndsBy, Goes, Cut}
+use Rattle.ip_session.specs.Session.{state_in, IsWorking, conditions_of, ChangedIn, TouchedIn, EndsBy, Goes, Cut}
 use Rattle.ip_image.specs.Pending.{NothingPending}
 use Rattle.ip_image.specs.Headline.{IsAtomic}
 use Rattle.ip_spec.specs.Repository.{Repository}
 use Rattle.ip_spec.specs.View.{View}
 use Rattle.ip_app.specs.Serving.{SaysPart, Turned, Stopped, Unsaid, Stops, is_cut_short, ended_status}
 use Rattle.ip_app.specs.Turns.{turn_counts, IsLater}
+use Rattle.ip_app.proofs.Counting.{later_of}
 use Rattle.ip_app.proofs.RunLemmas.{append_nil, keeps_on, keeps_two, keeps_said, says_part}
 
 -- a line's exchange
 abbrev pub exchange_of : Bytes → Met → TurnCounts → TurnCounts → Reply → State → Exchange
 exchange_of line met before later reply after = record { line = line; turn = record { met = met; before = before; after = later }; difference = None; reply = reply; after = after }
 
-later_on : (counts : TurnCounts) (a b : GroundCounts) → IsLater counts (turn_counts a) → NoneFalls a b → IsLater counts (turn_counts b)
-later_on counts a b l n = record { file = omega (arith, l.file, n.file_faults); remove = omega (arith, l.remove, n.remove_faults); spawner = refl }
-
-itself : (a : GroundCounts) → IsLater (turn_counts a) (turn_counts a)
-itself a = record { file = omega arith; remove = omega arith; spawner = refl }
-
 pub turned_of : (known : Bool) (old new : Outside) (lines lines' : Lines) (counts counts' : TurnCounts) (state after : State) (line read : Bytes) (met told_met : Met) (reply : Reply) (mid : GroundCounts) → GoesOn old new → (IsTrue known → KeepsFiles old.told new.told)
-    → GetsLine line old.source_tells (pending lines ++ old.left) (pending lines' ++ new.left) → lines'.taken + length (pending lines) ≡ lines.taken + (length line + 1) + length (pending lines')
+    → GetsLine line old.source_tells (pending lines ++ old.left) (pending lines' ++ new.left) → lines'.taken + length (pending lines) ≡ lines.taken + (length line + 1) + length (pending lines') → new.read_faults ≡ old.read_faults
     → (IsTrue known → LineStep IsServedLine no_rules state read (conditions_of met) reply after) → read ≡ line → told_met ≡ met
     → (IsTrue new.log_tells → new.turns ≡ old.turns ++ record { met = told_met; before = counts; after = counts' } ∷ [])
-    → counts' ≡ turn_counts mid → IsLater counts (turn_counts old.counts) → NoneFalls old.counts mid → NoneFalls mid new.counts
+    → counts' ≡ turn_counts mid → counts ≡ turn_counts old.counts → NoneFalls old.counts mid → turn_counts mid ≡ turn_counts new.counts
     → Turned known old new lines lines' counts counts' state (exchange_of line told_met counts counts' reply after)
-turned_of known old new lines lines' counts counts' state after line read met told_met reply mid g files gets count step same same_met noted counted before falls still = record {
+turned_of known old new lines lines' counts counts' state after line read met told_met reply mid g files gets count reads step same same_met noted counted before falls still = record {
   goes_on = g;
   files = files;
   front = gets.front;
@@ -64,15 +60,16 @@ turned_of known old new lines lines' counts counts' state after line read met to
   noted = noted;
   begins_at = refl;
   ends_at = refl;
-  rises = subst (λ (t : TurnCounts). IsLater counts t) (sym counted) (later_on counts old.counts mid before falls);
-  until = subst (λ (t : TurnCounts). IsLater t (turn_counts new.counts)) (sym counted) (later_on (turn_counts mid) mid new.counts (itself mid) still);
+  rises = subst (λ (t : TurnCounts). IsLater counts t) (sym counted) (subst (λ (t : TurnCounts). IsLater t (turn_counts mid)) (sym before) (later_of old.counts mid falls));
+  until = counted ∙ still;
+  reads = reads;
 }
 
 -- whatever the line and the reply, no files are changed but two
-pub two_of : (line : Bytes) (given : Reply) (a b : Told) → ChangesOnly (ChangedIn line given) a b → ChangesOnly IsOfStore a b
-two_of line given a b only = only_more a b (ChangedIn line given) IsOfStore (λ file changed. changed.2.1) only
+pub two_of : (line : Bytes) (given : Reply) (a b : Told) → ChangesOnly (ChangedIn a.held line given) a b → ChangesOnly IsOfStore a b
+two_of line given a b only = only_more a b (ChangedIn a.held line given) IsOfStore (λ file changed. of_store a.held file changed.2.1) only
 
-module _ (old mid new : Told) (line : Bytes) (given : Reply) (only : ChangesOnly (ChangedIn line given) old mid) (text : Bytes) (r : Result (Unit {0}) GroundFault) (says : Says text r mid new) where
+module _ (old mid new : Told) (line : Bytes) (given : Reply) (only : ChangesOnly (ChangedIn old.held line given) old mid) (text : Bytes) (r : Result (Unit {0}) GroundFault) (says : Says text r mid new) where
   quiet : said mid ≡ said old
   quiet = said_now old mid only.goes only.said
 
@@ -103,11 +100,11 @@ ended_short (SessionEnd.Damaged at None) = refl
 ended_short (SessionEnd.Damaged at (Some (want, got))) = refl
 
 pub stops_ended : (end : SessionEnd) (s : Status) (known : Bool) (held : Type 0) (old new : Outside) (lines lines' : Lines) (counts counts' : TurnCounts) (state : State) → s ≡ ended_status end → Unsaid (ended_status end) known old new lines lines' counts counts' state
-    → (IsTrue known → held) → EndsBy end held old.counts new.counts → Stops s known old new lines lines' counts counts' state
+    → (IsTrue known → held) → EndsBy held end → Stops s known old new lines lines' counts counts' state
 stops_ended end s known held old new lines lines' counts counts' state e unsaid holds ends = subst (λ (t : Status). Stops t known old new lines lines' counts counts' state) (sym e) (by_end end unsaid ends)
   where
-    by_end : (end : SessionEnd) → Unsaid (ended_status end) known old new lines lines' counts counts' state → EndsBy end held old.counts new.counts → Stops (ended_status end) known old new lines lines' counts counts' state
-    by_end SessionEnd.Ground u h = (u, h)
+    by_end : (end : SessionEnd) → Unsaid (ended_status end) known old new lines lines' counts counts' state → EndsBy held end → Stops (ended_status end) known old new lines lines' counts counts' state
+    by_end SessionEnd.Ground u h = u
     by_end (SessionEnd.Damaged at None) u h = (u, λ is. h (holds is))
     by_end (SessionEnd.Damaged at (Some (want, got))) u h = (u, λ is. h (holds is))
 
@@ -122,11 +119,11 @@ settled P false given found = (given, λ is. absurd (cc is))
 pub record GoesTo (old new : Told) (s s' : Session) (r : Repository) (v : View) (line : Bytes) (reply : Reply) (x : Repository × View) : Type 0 where
   pub gives : LineStep IsServedLine no_rules (state_in s r v) line (conditions_of s'.met) reply (state_in s' x.0 x.1)
   pub working : IsWorking new s' x.0 x.1
-  pub only : ChangesOnly (ChangedIn line reply) old new
+  pub only : ChangesOnly (ChangedIn old.held line reply) old new
   pub atomic : NothingPending old → IsAtomic old new r x.0
   pub nothing_pending : NothingPending old → NothingPending new
 
-pub went_to : (known : Bool) (old new : Told) (s s' : Session) (r : Repository) (v : View) (line : Bytes) (reply : Reply) → (IsTrue known → Goes old new s s' r v (ChangedIn line) (LineStep IsServedLine no_rules (state_in s r v) line) reply)
+pub went_to : (known : Bool) (old new : Told) (s s' : Session) (r : Repository) (v : View) (line : Bytes) (reply : Reply) → (IsTrue known → Goes old new s s' r v (ChangedIn old.held line) (LineStep IsServedLine no_rules (state_in s r v) line) reply)
     → (x : Repository × View) × (IsTrue known → GoesTo old new s s' r v line reply x)
 went_to known old new s s' r v line reply goes = settled (GoesTo old new s s' r v line reply) known (r, v)
     (λ is. let h = goes is in ((h.after, h.view), record { gives = h.gives; working = h.is_at; only = h.only; atomic = h.atomic; nothing_pending = h.nothing_pending }))
@@ -137,7 +134,7 @@ pub record CutTo (old new : Told) (s s' : Session) (r : Repository) (v : View) (
   pub only : ChangesOnly IsOfStore old new
   pub atomic : NothingPending old → IsAtomic old new r x.1.repository
 
-pub cut_to : (known : Bool) (old new : Told) (s s' : Session) (r : Repository) (v : View) (line : Bytes) → (IsTrue known → Cut old new s s' r v (LineStep IsServedLine no_rules (state_in s r v) line))
+pub cut_to : (known : Bool) (old new : Told) (s s' : Session) (r : Repository) (v : View) (line : Bytes) → (IsTrue known → Cut old new s s' r v (TouchedIn old.held line) (LineStep IsServedLine no_rules (state_in s r v) line))
     → (x : Reply × State) × (IsTrue known → CutTo old new s s' r v line x)
 cut_to known old new s s' r v line cut = settled (CutTo old new s s' r v line) known (Reply.Accepted, state_in s r v)
-    (λ is. let h = cut is in ((h.reply, h.after), record { gives = h.gives; only = h.only; atomic = h.atomic }))
+    (λ is. let h = cut is in ((h.reply, h.after), record { gives = h.gives; only = only_more old new (TouchedIn old.held line) IsOfStore (λ file touched. of_store old.held file touched.2.1) h.only; atomic = h.atomic }))

@@ -3,6 +3,7 @@ pub mod Exchanges
 pub mod Lines
 pub mod Outside
 pub mod Pending
+pub mod Places
 pub mod Reading
 pub mod Rooms
 pub mod Run

@@ -35,10 +35,10 @@ EndsReading (Status.Limit Bound.Input) rest taken at_end = (rest ≤ longest_lin
 EndsReading Status.ReadFault rest taken at_end = (rest ≤ longest_line) × (taken < most_taken)
 EndsReading _ rest taken at_end = ⊥
 
--- a fault of the source is told only where its count rose
+-- the source has counted a fault exactly where one is told
 abbrev pub IsCaused : Status → (faults faults' : ℕ) → Type 0
 IsCaused Status.ReadFault faults faults' = Rose faults faults'
-IsCaused _ faults faults' = Unit {0}
+IsCaused _ faults faults' = faults' ≡ faults
 
 -- no more bytes are taken
 pub record EndsAt (status : Status) (rest : ℕ) (tells : Bool) (left left' : Bytes) (faults faults' taken taken' : ℕ) (pending' : Bytes) : Type 0 where

@@ -2,16 +2,15 @@
 --     Inits, Serves      one record for each call; its last field is the row of the status
 --     EndsAsBytes, EndsWhereAllIsWell      of a serving call: the source's bytes give the status; and which statuses need a fault
 --     LeavesAll      of a call that is refused: nothing changes
-use Rattle.std.specs.Prelude.{ℕ, ◌≤◌, ◌≡◌, ◌⊎◌, Bool, true, false, IsTrue, List, [], ◌++◌, length, map, All, None, IsSome, Result, Ok, Err}
+use Rattle.std.specs.Prelude.{ℕ, ◌≤◌, ◌≡◌, ◌≢◌, ◌⊎◌, Bool, true, false, IsTrue, List, [], ◌++◌, length, map, All, None, IsSome, Result, Ok, Err}
 use Rattle.ip_ground.specs.declared.names.FileName.TheVariants.{Control}
-use Rattle.ip_ground.specs.declared.names.GroundCounts.{GroundCounts}
 use Rattle.ip_ground.specs.Counts.{Rose}
 use Rattle.ip_ground.specs.Custody.{own}
 use Rattle.ip_ground.specs.Told.{Told, said, lending, ChangesOnly, SyncsOnly, Only, NoFile, IsKept, EachImageNow}
-use Rattle.ip_image.specs.declared.counts.TurnCounts.{TurnCounts}
+use Rattle.ip_image.specs.declared.slot.Slot.{Slot}
 use Rattle.ip_image.specs.Slot.{live_index}
 use Rattle.ip_image.specs.Standing.{StandsFor, NoStore, DamagedAt}
-use Rattle.ip_image.specs.Pending.{NothingPending}
+use Rattle.ip_image.specs.Pending.{HasLive, NothingPending}
 use Rattle.ip_image.specs.Headline.{MayServe, Headline}
 use Rattle.ip_spec.specs.Path.{Bytes}
 use Rattle.ip_spec.specs.Repository.{Repository, no_repository}
@@ -29,8 +28,9 @@ use Rattle.ip_app.specs.Reading.{EndsReading}
 use Rattle.ip_app.specs.Ending.{ending_of, IsOfBytes}
 use Rattle.ip_app.specs.Exchanges.{Exchange, answer_of, Run, lines_in, turns_in, texts_in, after_all}
 use Rattle.ip_session.specs.Session.{no_rules}
-use Rattle.ip_app.specs.Serving.{is_cut_short}
-use Rattle.ip_app.specs.Turns.{turn_counts, IsLater, Follow}
+use Rattle.ip_app.specs.Serving.{is_cut_short, CountsOf}
+use Rattle.ip_app.specs.Places.{PlacesIn}
+use Rattle.ip_app.specs.Turns.{turn_counts, Follow}
 use Rattle.ip_app.specs.Outside.{Outside, Tells, GoesOn, KeepsFiles}
 
 -- ---- opening
@@ -42,12 +42,12 @@ opening_status OpenFault.Ground = Status.GroundFault
 opening_status OpenFault.Memory = Status.Memory
 
 -- why the store could not be opened
-abbrev pub CouldNotOpen : Status → (tells : Bool) → Told → GroundCounts → GroundCounts → Type 0
-CouldNotOpen Status.NoStore tells old before after = IsTrue tells → NoStore old.held
-CouldNotOpen (Status.Damaged file at) tells old before after = IsTrue tells → OwnsLive old → DamagedAt old.held file at
-CouldNotOpen Status.GroundFault tells old before after = Rose before.file_faults after.file_faults
-CouldNotOpen Status.Memory tells old before after = Unit {0}
-CouldNotOpen status tells old before after = ⊥
+abbrev pub CouldNotOpen : Status → (tells : Bool) → Told → Type 0
+CouldNotOpen Status.NoStore tells old = IsTrue tells → NoStore old.held
+CouldNotOpen (Status.Damaged file at) tells old = IsTrue tells → OwnsLive old → DamagedAt old.held file at
+CouldNotOpen Status.GroundFault tells old = Unit {0}
+CouldNotOpen Status.Memory tells old = Unit {0}
+CouldNotOpen status tells old = ⊥
 
 -- the store is open, and holds a repository for which the files stood when the call began
 pub record OpensAs (tells : Bool) (old new : Told) (store : Store) : Type 0 where
@@ -103,14 +103,14 @@ pub record IsUntouched (old new : Outside) (taken : Bytes) : Type 0 where
 abbrev pub ReadingEnds : Status → Outside → Outside → Bytes → Type 0
 ReadingEnds status old new taken = EndsReading status (length (last_piece taken)) (length taken) (IsTrue old.source_tells → new.left ≡ [])
 
--- the row of each status: what it says of the bytes taken, the files and the counts
+-- the row of each status: what it says of the bytes taken and the files
 abbrev pub Row : Status → Outside → Outside → Bytes → Type 0
 Row Status.Done old new taken = ReadingEnds Status.Done old new taken
 Row Status.Unfinished old new taken = ReadingEnds Status.Unfinished old new taken
 Row (Status.Limit bound) old new taken = ReadingEnds (Status.Limit bound) old new taken
 Row Status.ReadFault old new taken = ReadingEnds Status.ReadFault old new taken × Rose old.read_faults new.read_faults
-Row Status.SayFault old new taken = Rose old.counts.say_faults new.counts.say_faults
-Row Status.GroundFault old new taken = Rose old.counts.file_faults new.counts.file_faults
+Row Status.SayFault old new taken = Unit {0}
+Row Status.GroundFault old new taken = Unit {0}
 Row Status.NoStore old new taken = IsUntouched old new taken × (IsTrue old.ground_tells → NoStore old.told.held)
 Row (Status.Damaged file at) old new taken = IsUntouched old new taken × (Tells old → DamagedAt old.told.held file at)
 -- of the files that a call reads: never where the ground tells its content, and no child changes the live pair
@@ -120,12 +120,18 @@ Row Status.Memory old new taken = IsUntouched old new taken
 Row Status.Usage old new taken = ⊥
 Row Status.Exists old new taken = ⊥
 
+-- the store was opened
+abbrev pub IsBehindOpening : Status → List Exchange → Type 0
+IsBehindOpening Status.NoStore exchanges = ⊥
+IsBehindOpening (Status.Damaged file at) exchanges = ⊥
+IsBehindOpening Status.Memory exchanges = ⊥
+IsBehindOpening Status.GroundFault exchanges = exchanges ≢ []
+IsBehindOpening status exchanges = Unit {0}
+
 pub record Serves (old new : Outside) (status : Status) : Type 0 where
   pub taken : Bytes
   pub exchanges : List Exchange
   pub first : State
-  pub start : TurnCounts
-  pub last : TurnCounts
   pub goes_on : GoesOn old new
   -- at no moment does a file change but the chunk and the control file, and nothing is lent
   pub files : Tells old → KeepsFiles old.told new.told
@@ -139,21 +145,24 @@ pub record Serves (old new : Outside) (status : Status) : Type 0 where
   pub first_is : first ≡ opened first.repository
   -- and are a run of the machine, each with what it met. What is read of records is known only where the ground tells its content
   pub run : Tells old → Run no_rules first exchanges
+  -- What each of them appends comes to lie behind what the live slot says, and a limit of space or of the sequence is met by that alone.
+  pub placed : Tells old → (slot : Slot) → HasLive slot old.told.held → PlacesIn (is_cut_off status) slot first exchanges
   -- in the end the files stand for the repository after all of them, unless a fault of the ground or of its files cut the last one short
   pub stands : Tells old → is_cut_short status ≡ false → StandsFor old.told.held first.repository → StandsFor new.told.held (after_all first exchanges).repository
   -- At every moment from the first sync of opening on, where the ground was in order: what had been said was a front of the replies' texts, and whatever a crash leaves
   -- stands for the repository after some first commands, all acknowledged ones among them.
-  pub headline : IsTrue old.ground_tells → (r : Repository) → StandsFor old.told.held r → NothingPending old.told → (since : ℕ) × Headline since old.told new.told (opened r) (map answer_of exchanges)
+  pub headline : IsTrue old.ground_tells → (r : Repository) → StandsFor old.told.held r → NothingPending old.told → (since : ℕ) × (IsBehindOpening status exchanges → since ≤ new.told.moment) × Headline since old.told new.told (opened r) (map answer_of exchanges)
   -- and the ground that is left may be served again, however this run ended
   pub again : IsTrue old.ground_tells → MayServe old.told → MayServe new.told
   -- what was said grows by the replies' texts
   pub said_part : Tells old → SaysUpTo status exchanges (said old.told) (said new.told)
   pub said_all : Tells old → is_cut_off status ≡ false → said new.told ≡ said old.told ++ texts_in exchanges
-  -- the log has their turns, each beginning with the counts that the one before it ended with
+  -- the log has their turns, each beginning with the counts that the one before it ended with, from those of the call's begin to those of its end
   pub noted : IsTrue new.log_tells → new.turns ≡ old.turns ++ turns_in exchanges
-  pub since : IsLater (turn_counts old.counts) start
-  pub follow : Follow start (turns_in exchanges) last
-  pub until : IsLater last (turn_counts new.counts)
+  pub follow : IsBehindOpening status exchanges → Follow (turn_counts old.counts) (turns_in exchanges) (turn_counts new.counts)
+  -- a fault of the ground or of output ends the call: it was counted, and no other was
+  pub counted : CountsOf status old.counts new.counts
+  pub reads : status ≢ Status.ReadFault → new.read_faults ≡ old.read_faults
   -- why it ends so
   pub row : Row status old new taken
 
@@ -199,13 +208,13 @@ pub record IsThere (old new : Told) : Type 0 where
   pub gate_open : IsSome (live_index (control_in old.held))
   pub only : ChangesOnly NoFile old new
 
-abbrev pub InitRow : (chunk : ℕ) → Status → (tells : Bool) → Told → Told → GroundCounts → GroundCounts → Type 0
-InitRow chunk Status.Done tells old new before after = IsTrue tells → IsMade chunk old new
-InitRow chunk Status.Exists tells old new before after = IsTrue tells → IsThere old new
-InitRow chunk Status.GroundFault tells old new before after = Rose before.file_faults after.file_faults
+abbrev pub InitRow : (chunk : ℕ) → Status → (tells : Bool) → Told → Told → Type 0
+InitRow chunk Status.Done tells old new = IsTrue tells → IsMade chunk old new
+InitRow chunk Status.Exists tells old new = IsTrue tells → IsThere old new
+InitRow chunk Status.GroundFault tells old new = Unit {0}
 -- before the files are touched
-InitRow chunk Status.Memory tells old new before after = IsTrue tells → ChangesOnly NoFile old new
-InitRow chunk _ tells old new before after = ⊥
+InitRow chunk Status.Memory tells old new = IsTrue tells → ChangesOnly NoFile old new
+InitRow chunk _ tells old new = ⊥
 
 pub record Inits (chunk : ℕ) (old new : Outside) (status : Status) : Type 0 where
   pub goes_on : GoesOn old new
@@ -213,7 +222,9 @@ pub record Inits (chunk : ℕ) (old new : Outside) (status : Status) : Type 0 wh
   pub turns : new.turns ≡ old.turns
   -- at no moment does another file change, and nothing is said
   pub only : IsTrue old.ground_tells → ChangesOnly (Only Control) old.told new.told
-  pub row : InitRow chunk status old.ground_tells old.told new.told old.counts new.counts
+  -- one fault of the ground was counted, where the status says so, and none else
+  pub counted : CountsOf status old.counts new.counts
+  pub row : InitRow chunk status old.ground_tells old.told new.told
 
 -- ---- a call that is refused
 

@@ -1,20 +1,22 @@
 -- How serving a script goes on, line by line.
 --     Works tells told s r v      the ground tells its content, and the session works over it
 --     Turned      a line was taken, its command run and noted.      TurnedIn      and its reply said, by a session in a repository
---     ended_status      the status of a session's end.      Stops      why there is no further line
+--     ended_status      the status of a session's end.      CountsOf      the faults that were counted then.      Stops      why there is no further line
 --     Served      so far: the whole lines that were taken, what came of them, and the repository that the session is in
 -- Of what a session does most is said where it is known to work: where `known` is true. It is for a whole run, from what the ground told at first.
 use Rattle.std.specs.Prelude.{ℕ, ◌+◌, ◌≤◌, ◌≡◌, Bool, true, false, IsTrue, List, [], ◌∷◌, ◌++◌, length, map, All, Some, None}
-use Rattle.ip_ground.specs.Counts.{Rose}
+use Rattle.ip_ground.specs.declared.names.GroundCounts.{GroundCounts}
+use Rattle.ip_ground.specs.Counts.{FileFault, SayFault}
 use Rattle.ip_ground.specs.Told.{Told, said}
 use Rattle.ip_image.specs.declared.counts.TurnCounts.{TurnCounts}
 use Rattle.ip_image.specs.Standing.{StandsFor}
-use Rattle.ip_image.specs.Pending.{NothingPending}
+use Rattle.ip_image.specs.declared.slot.Slot.{Slot}
+use Rattle.ip_image.specs.Pending.{HasLive, NothingPending}
 use Rattle.ip_image.specs.Headline.{MayServe, Turning, Headline}
 use Rattle.ip_spec.specs.Path.{Bytes, line_feed}
 use Rattle.ip_spec.specs.Machine.{State, opened}
 use Rattle.ip_spec.specs.Repository.{Repository}
-use Rattle.ip_spec.specs.View.{View}
+use Rattle.ip_spec.specs.View.{View, no_view}
 use Rattle.ip_script.specs.Served.{IsServedLine}
 use Rattle.ip_spec.specs.Script.{whole_lines, LineStep}
 use Rattle.ip_spec.specs.Text.{reply_text}
@@ -26,7 +28,9 @@ use Rattle.ip_app.specs.Lines.{longest_line, HasNoLineFeed, last_piece}
 use Rattle.ip_app.specs.Pending.{pending}
 use Rattle.ip_app.specs.Reading.{EndsReading, IsCaused}
 use Rattle.ip_app.specs.Exchanges.{Exchange, conditions, answer_of, Run, lines_in, turns_in, texts_in, after_all}
+use Rattle.ip_session.specs.Placing.{PlacedIn}
 use Rattle.ip_session.specs.Session.{no_rules}
+use Rattle.ip_app.specs.Places.{Places}
 use Rattle.ip_app.specs.Turns.{turn_counts, IsLater, Follow}
 use Rattle.ip_app.specs.Outside.{Outside, Tells, GoesOn, KeepsFiles}
 use Rattle.ip_session.specs.Session.{IsServing, IsWorking, state_in}
@@ -51,7 +55,8 @@ pub record Turned (known : Bool) (old new : Outside) (lines lines' : Lines) (cou
   pub begins_at : x.turn.before ≡ counts
   pub ends_at : x.turn.after ≡ counts'
   pub rises : IsLater x.turn.before x.turn.after
-  pub until : IsLater counts' (turn_counts new.counts)
+  pub until : counts' ≡ turn_counts new.counts
+  pub reads : new.read_faults ≡ old.read_faults
 
 pub record TurnedIn (known : Bool) (old new : Outside) (lines lines' : Lines) (counts counts' : TurnCounts) (s s' : Session) (r : Repository) (v : View) : Type 0 where
   pub exchange : Exchange
@@ -59,6 +64,8 @@ pub record TurnedIn (known : Bool) (old new : Outside) (lines lines' : Lines) (c
   pub view : View
   pub turned : Turned known old new lines lines' counts counts' (state_in s r v) exchange
   pub now_at : IsTrue known → exchange.after ≡ state_in s' after view
+  pub placed : IsTrue known → PlacedIn s.store.slot s'.store.slot (state_in s r v) v exchange.line exchange.reply
+  pub no_fault : new.counts ≡ old.counts
   pub serving : IsServing s'
   pub working : IsTrue known → IsWorking new.told s' after view
   pub said : IsTrue known → said new.told ≡ said old.told ++ reply_text exchange.reply
@@ -81,7 +88,7 @@ pub record Stopped (status : Status) (known : Bool) (old new : Outside) (lines l
   pub nothing_pending : NothingPending old.told → NothingPending new.told
   pub same_turns : new.turns ≡ old.turns
   pub same_counts : counts' ≡ counts
-  pub until : IsLater counts' (turn_counts new.counts)
+  pub no_fault : new.counts ≡ old.counts
 
 -- how a call ends whose session has ended
 abbrev pub ended_status : SessionEnd → Status
@@ -96,11 +103,19 @@ is_cut_short (Status.DamagedRecord at) = true
 is_cut_short (Status.DamagedName at want got) = true
 is_cut_short _ = false
 
+-- what a call that ends so has counted of the ground's faults
+abbrev pub CountsOf : Status → GroundCounts → GroundCounts → Type 0
+CountsOf Status.GroundFault old new = FileFault old new
+CountsOf Status.SayFault old new = SayFault old new
+CountsOf _ old new = new ≡ old
+
 -- The line was the last: its reply was not said, or only a part of it. Of a command that a fault of the ground or of its
 -- files cuts short, the reply and the state are those that it has where none of its writes fails.
 pub record Unsaid (status : Status) (known : Bool) (old new : Outside) (lines lines' : Lines) (counts counts' : TurnCounts) (state : State) : Type 0 where
   pub exchange : Exchange
   pub turned : Turned known old new lines lines' counts counts' state exchange
+  -- of the ground one fault was counted, where the status says so, and none else
+  pub counted : CountsOf status old.counts new.counts
   pub part : IsTrue known → SaysPart (reply_text exchange.reply) (said old.told) (said new.told)
   -- a command that was cut short says nothing
   pub silent : (is : IsTrue known) → is_cut_short status ≡ true → (part is).0 ≡ []
@@ -109,8 +124,8 @@ pub record Unsaid (status : Status) (known : Bool) (old new : Outside) (lines li
   pub again : IsTrue known → NothingPending old.told → MayServe new.told
 
 abbrev pub Stops : Status → (known : Bool) → Outside → Outside → Lines → Lines → TurnCounts → TurnCounts → State → Type 0
-Stops Status.SayFault known old new lines lines' counts counts' state = Unsaid Status.SayFault known old new lines lines' counts counts' state × Rose old.counts.say_faults new.counts.say_faults
-Stops Status.GroundFault known old new lines lines' counts counts' state = Unsaid Status.GroundFault known old new lines lines' counts counts' state × Rose old.counts.file_faults new.counts.file_faults
+Stops Status.SayFault known old new lines lines' counts counts' state = Unsaid Status.SayFault known old new lines lines' counts counts' state
+Stops Status.GroundFault known old new lines lines' counts counts' state = Unsaid Status.GroundFault known old new lines lines' counts counts' state
 Stops (Status.DamagedRecord at) known old new lines lines' counts counts' state = Unsaid (Status.DamagedRecord at) known old new lines lines' counts counts' state × (¬ IsTrue known)
 Stops (Status.DamagedName at want got) known old new lines lines' counts counts' state = Unsaid (Status.DamagedName at want got) known old new lines lines' counts counts' state × (¬ IsTrue known)
 Stops status known old new lines lines' counts counts' state = Stopped status known old new lines lines' counts counts' state
@@ -134,6 +149,9 @@ pub record Served (old now : Outside) (lines : Lines) (counts : TurnCounts) (ses
   pub began : IsTrue known → StandsFor old.told.held first
   pub run : IsTrue known → Run no_rules (opened first) exchanges
   pub now_at : IsTrue known → state_in session repository view ≡ after_all (opened first) exchanges
+  pub slot : Slot
+  pub live : IsTrue known → HasLive slot old.told.held
+  pub places : IsTrue known → Places slot (opened first) no_view exchanges session.store.slot view
   pub serving : IsServing session
   pub working : IsTrue known → IsWorking now.told session repository view
   pub said : IsTrue known → said now.told ≡ said old.told ++ texts_in exchanges
@@ -142,7 +160,7 @@ pub record Served (old now : Outside) (lines : Lines) (counts : TurnCounts) (ses
   pub headline : (is : IsTrue known) → NothingPending old.told → Headline (opened_at is) old.told now.told (opened first) (map answer_of exchanges)
   pub nothing_pending : IsTrue known → NothingPending old.told → NothingPending now.told
   pub noted : IsTrue now.log_tells → now.turns ≡ old.turns ++ turns_in exchanges
-  pub start : TurnCounts
-  pub since : IsLater (turn_counts old.counts) start
-  pub follow : Follow start (turns_in exchanges) counts
-  pub until : IsLater counts (turn_counts now.counts)
+  pub no_fault : now.counts ≡ old.counts
+  pub counts_now : counts ≡ turn_counts now.counts
+  pub follow : Follow (turn_counts old.counts) (turns_in exchanges) counts
+  pub reads : now.read_faults ≡ old.read_faults

@@ -1,8 +1,8 @@
 -- The counts of turns.
 --     turn_counts counts      what a turn tells of a ground's counts; there is no spawner yet
 --     IsLater earlier later      no count fell
---     Follow first turns last      each turn begins with the counts that the one before it ended with
-use Rattle.std.specs.Prelude.{◌≡◌, ◌≤◌, List, [], ◌∷◌}
+--     Follow first turns last      each turn begins with the counts that the one before it ended with; no fault of the ground was counted in any but the last
+use Rattle.std.specs.Prelude.{◌≡◌, ◌≢◌, ◌≤◌, List, [], ◌∷◌}
 use Rattle.ip_ground.specs.declared.names.GroundCounts.{GroundCounts}
 use Rattle.ip_image.specs.declared.counts.SpawnCounts.{SpawnCounts}
 use Rattle.ip_image.specs.declared.counts.TurnCounts.{TurnCounts}
@@ -21,4 +21,4 @@ pub record IsLater (earlier later : TurnCounts) : Type 0 where
 
 abbrev pub Follow : TurnCounts → List Turn → TurnCounts → Type 0
 Follow first [] last = last ≡ first
-Follow first (turn ∷ turns) last = (turn.before ≡ first) × IsLater turn.before turn.after × Follow turn.after turns last
+Follow first (turn ∷ turns) last = (turn.before ≡ first) × IsLater turn.before turn.after × (turns ≢ [] → turn.after.file_faults ≡ turn.before.file_faults) × Follow turn.after turns last

@@ -7,6 +7,7 @@ ghost use Rattle.ip_spec.specs.Path.{Bytes};
 ghost use Rattle.ip_image.specs.Slot.{IsChunkSize};
 ghost use Rattle.ip_words.specs.Words.{Asked, making, serving, Asks, AsksNothing, texts_of};
 ghost use Rattle.ip_app.specs.Outside.{outside};
+ghost use Rattle.ip_app.specs.Serving.{CountsOf};
 ghost use Rattle.ip_app.specs.Run.{init_status, InitRow, Inits, Serves, EndsAsBytes, EndsWhereAllIsWell, LeavesAll};
 
 use crate::serve::serve;
@@ -33,9 +34,12 @@ fn init_status(made: Result<(), InitFault>) -> Status
 fn init<G: Ground>(folder: &str, chunk: u64, ground: &mut G) -> Status
     requires { IsChunkSize chunk }
     ensures only { IsTrue G.tells → ChangesOnly (Only Control) (G.told ground.old) (G.told ground.new) }
-    ensures row { InitRow chunk result G.tells (G.told ground.old) (G.told ground.new) (G.counts_of ground.old) (G.counts_of ground.new) }
+    ensures row { InitRow chunk result G.tells (G.told ground.old) (G.told ground.new) }
+    ensures counted { CountsOf result (G.counts_of ground.old) (G.counts_of ground.new) }
     ensures counts { NoneFalls (G.counts_of ground.old) (G.counts_of ground.new) }
 {
+    // A count's range is that of its type, so one that stands at its last value has not fallen.
+    let _counts = ground.counts();
     if ground.attach(folder).is_err() {
         return Status::GroundFault;
     }

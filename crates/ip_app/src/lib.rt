@@ -12,18 +12,3 @@ pub use calls::run;
 pub use program::run_program;
 pub use statuses::{Bound, Status};
 pub use turn_log::{Kept, Log, Silent, Turn};
-
-#[cfg(test)]
-mod branch_tests;
-#[cfg(test)]
-mod chunk_tests;
-#[cfg(test)]
-mod generation_tests;
-#[cfg(test)]
-mod model_tests;
-#[cfg(test)]
-mod show_tests;
-#[cfg(test)]
-mod tests;
-#[cfg(test)]
-mod tree_tests;

@@ -76,6 +76,7 @@ impl Lines {
         ensures ready { IsReady self.new }
         ensures ok { OnOk result (Refills length S.tells (S.left source.old) (S.left source.new) self.old.taken self.new.taken (pending self.new)) }
         ensures err { IfErr result (λ status. EndsAt status length S.tells (S.left source.old) (S.left source.new) (S.read_faults source.old) (S.read_faults source.new) self.old.taken self.new.taken (pending self.new)) }
+        ensures still { OnOk result (S.read_faults source.new ≡ S.read_faults source.old) }
         ensures faults { S.read_faults source.old ≤ S.read_faults source.new }
     {
         if length > LONGEST_LINE {
@@ -117,6 +118,7 @@ impl Lines {
         ensures rest { OnErr result (HasNoLineFeed line.new.items) }
         ensures bytes { OnErr result (IsTrue S.tells → pending self.old ++ S.left source.old ≡ line.new.items ++ S.left source.new) }
         ensures count_err { OnErr result (self.new.taken + length (pending self.old) ≡ self.old.taken + length line.new.items) }
+        ensures still { OnOk result (S.read_faults source.new ≡ S.read_faults source.old) }
         ensures faults { S.read_faults source.old ≤ S.read_faults source.new }
         ensures capacity { vec_capacity line.old ≤ vec_capacity line.new }
     {

@@ -1,14 +1,13 @@
 // Serving a script: line by line, one reply each.
-ghost use Rattle.std.specs.Prelude.{◌≡◌, [], Bool, IsTrue, OnOk, IfOk, IfErr};
-ghost use Rattle.ip_ground.specs.Counts.{NoneFalls};
+ghost use Rattle.std.specs.Prelude.{◌≡◌, ◌-◌, ◌^◌, ◌≤◌, [], Bool, IsTrue, OnOk, IfOk, IfErr};
 ghost use Rattle.ip_ground.specs.Told.{SyncsOnly, Only};
 ghost use Rattle.ip_ground.specs.declared.names.FileName.TheVariants.{Control};
 ghost use Rattle.ip_spec.specs.Repository.{Repository};
 ghost use Rattle.ip_spec.specs.View.{View};
 ghost use Rattle.ip_store.specs.Opening.{RecoversOnceOpen};
 ghost use Rattle.ip_app.specs.Outside.{outside};
-ghost use Rattle.ip_app.specs.Turns.{turn_counts, IsLater};
-ghost use Rattle.ip_app.specs.Serving.{ended_status, Works, TurnedIn, Stops};
+ghost use Rattle.ip_app.specs.Turns.{turn_counts};
+ghost use Rattle.ip_app.specs.Serving.{ended_status, CountsOf, Works, TurnedIn, Stops};
 ghost use Rattle.ip_app.specs.Run.{opening_status, CouldNotOpen, OpensAs, Serves, EndsWhereAllIsWell, EndsAsBytes};
 ghost use Rattle.ip_session.specs.Session.{IsServing, state_in};
 
@@ -62,7 +61,8 @@ impl LineRoom {
         log: &mut L,
     ) -> Result<(), Status>
         requires roomy { IsRoomy self.old }
-        requires counted { IsLater counts.old (turn_counts (G.counts_of ground.old)) }
+        requires counted { counts.old ≡ turn_counts (G.counts_of ground.old) }
+        requires small { counts.old.file_faults ≤ 2 ^ 64 - 1 }
         requires tables { IsServing session.old }
         ensures roomy { IsRoomy self.new }
         ensures turned { let told = outside S.tells S.left S.read_faults G.tells G.told G.counts_of L.tells L.turns in
@@ -126,8 +126,9 @@ fn open_in<G: Ground>(alloc: Global, folder: &str, ground: &mut G) -> Result<Sto
     ensures only { IsTrue G.tells → SyncsOnly (Only Control) (G.told ground.old) (G.told ground.new) }
     ensures opening { IsTrue G.tells → RecoversOnceOpen (G.told ground.old) (G.told ground.new) }
     ensures opened { IfOk result (OpensAs G.tells (G.told ground.old) (G.told ground.new)) }
-    ensures refused { IfErr result (λ status. CouldNotOpen status G.tells (G.told ground.old) (G.counts_of ground.old) (G.counts_of ground.new)) }
-    ensures counts { NoneFalls (G.counts_of ground.old) (G.counts_of ground.new) }
+    ensures refused { IfErr result (λ status. CouldNotOpen status G.tells (G.told ground.old)) }
+    ensures counted { IfErr result (λ status. CountsOf status (G.counts_of ground.old) (G.counts_of ground.new)) }
+    ensures no_fault { OnOk result (G.counts_of ground.new ≡ G.counts_of ground.old) }
 {
     if ground.attach(folder).is_err() {
         return Err(Status::GroundFault);
@@ -155,6 +156,7 @@ pub fn serve<S: Source, G: Ground, L: Log>(
     ensures complete { let told = outside S.tells S.left S.read_faults G.tells G.told G.counts_of L.tells L.turns in
         EndsWhereAllIsWell (told source.old ground.old log.old) (told source.new ground.new log.new) result }
 {
+    let mut counts = turn_counts(ground.counts());
     let store = match open_in(alloc, folder, ground) {
         Ok(store) => store,
         Err(status) => return status,
@@ -163,7 +165,6 @@ pub fn serve<S: Source, G: Ground, L: Log>(
         return Status::Memory;
     };
     let mut session = Session::new(alloc, store);
-    let mut counts = turn_counts(ground.counts());
     'lines: loop {
         if let Err(status) = room.turn(&mut session, &mut counts, source, ground, log) {
             return status;

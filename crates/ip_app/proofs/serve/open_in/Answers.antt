@@ -1,11 +1,10 @@
-use Rattle.std.proofs.Common.{refl, ◌≡◌, sym, ap, ◌∙◌, subst, IsTrue, Bool, Ok, Err, IsErrOf}
+use Rattle.std.proofs.Common.{refl, ◌≡◌, sym, ap, ◌∙◌, subst, IsTrue, Bool, Ok, Err}
 use Rattle.std.specs.Prelude.{is_some}
 use Rattle.ip_ground.specs.declared.names.FileName.TheVariants.{Control}
 use Rattle.ip_ground.specs.declared.names.GroundCounts.{GroundCounts}
-use Rattle.ip_ground.specs.Counts.{Rose, NoneFalls}
+use Rattle.ip_ground.specs.Counts.{FileFault, CountsIf}
 use Rattle.ip_ground.specs.Told.{Told, ChangesOnly, NoFile, Only, SyncsOnly}
 use Rattle.ip_ground.proofs.Spans.{at_most, syncs_none, syncs_on}
-use Rattle.ip_ground.proofs.Rising.{rose_after}
 use Rattle.ip_spec.specs.Repository.{Repository}
 use Rattle.ip_image.specs.Standing.{StandsFor}
 use Rattle.ip_store.specs.Opening.{Opens}
@@ -13,7 +12,10 @@ use Rattle.ip_store.specs.Store.{IsOf, OwnsLive, Holds, IsSound}
 use Rattle.ip_store.specs.declared.store.Store.{Store}
 use Rattle.ip_store.specs.declared.opening.OpenFault.{OpenFault}
 use Rattle.ip_app.specs.declared.statuses.Status.{Status}
+use Rattle.ip_store.specs.Faults.{ground_open}
+use Rattle.ip_app.specs.Serving.{CountsOf}
 use Rattle.ip_app.specs.Run.{opening_status, CouldNotOpen, OpensAs}
+use Rattle.ip_app.proofs.Counting.{attach_counts, attached_same}
 use Rattle.ip_app.proofs.Moments.{opening_none, opening_after}
 use Rattle.ip_app.proofs.LivePair.{owns_on, live_in, known_or_not}
 use Rattle.ip_app.proofs.SameFiles.{stands_before, none_before, damaged_before}
@@ -75,16 +77,34 @@ returns-in-Ok-clause-opening g c told = opening_after _ _ _ (c.attach.ensures.do
 pub returns-in-Err-clause-opening : goal.returns-in-Err-clause-opening
 returns-in-Err-clause-opening g c told = opening_after _ _ _ (c.attach.ensures.does told).only (c.open_at.ensures.does told).opening
 
-could_not_open : (f : OpenFault) (s : Status) (tells : Bool) (old mid new : Told) (a b d : GroundCounts) → s ≡ opening_status f
-    → (IsTrue tells → ChangesOnly NoFile old mid) → (IsTrue tells → SyncsOnly (Only Control) old new) → (IsTrue tells → Opens (Err f) mid new) → NoneFalls a b → (IsErrOf {T = Store} (Err f) OpenFault.Ground → Rose b.file_faults d.file_faults)
-    → CouldNotOpen s tells old a d
-could_not_open f s tells old mid new a b d e passes only opens falls cause = subst (λ (t : Status). CouldNotOpen t tells old a d) (sym e) (by_fault f opens cause)
+could_not_open : (f : OpenFault) (s : Status) (tells : Bool) (old mid new : Told) → s ≡ opening_status f → (IsTrue tells → ChangesOnly NoFile old mid) → (IsTrue tells → SyncsOnly (Only Control) old new) → (IsTrue tells → Opens (Err f) mid new) → CouldNotOpen s tells old
+could_not_open f s tells old mid new e passes only opens = subst (λ (t : Status). CouldNotOpen t tells old) (sym e) (by_fault f opens)
   where
-    by_fault : (f : OpenFault) → (IsTrue tells → Opens (Err f) mid new) → (IsErrOf {T = Store} (Err f) OpenFault.Ground → Rose b.file_faults d.file_faults) → CouldNotOpen (opening_status f) tells old a d
-    by_fault OpenFault.NoStore o h = λ told. none_before old new (only told) ((o told).no_store refl)
-    by_fault (OpenFault.Damaged file at) o h = λ told owns. damaged_before old new (only told) owns file at ((o told).damaged (owns_passed old mid (passes told) owns) file at refl)
-    by_fault OpenFault.Ground o h = rose_after a.file_faults b.file_faults d.file_faults falls.file_faults (h refl)
-    by_fault OpenFault.Memory o h = tt
+    by_fault : (f : OpenFault) → (IsTrue tells → Opens (Err f) mid new) → CouldNotOpen (opening_status f) tells old
+    by_fault OpenFault.NoStore o = λ told. none_before old new (only told) ((o told).no_store refl)
+    by_fault (OpenFault.Damaged file at) o = λ told owns. damaged_before old new (only told) owns file at ((o told).damaged (owns_passed old mid (passes told) owns) file at refl)
+    by_fault OpenFault.Ground o = tt
+    by_fault OpenFault.Memory o = tt
 
 pub returns-in-Err-clause-refused : goal.returns-in-Err-clause-refused
-returns-in-Err-clause-refused g c = could_not_open c.in-Err.fault _ _ _ _ _ _ _ _ c.opening_status.ensures (λ told. (c.attach.ensures.does told).only) (returns-in-Err-clause-only g c) c.in-Err.ensures.does c.attach.ensures.counts c.in-Err.ensures.cause
+returns-in-Err-clause-refused g c = could_not_open c.in-Err.fault _ _ _ _ _ c.opening_status.ensures (λ told. (c.attach.ensures.does told).only) (returns-in-Err-clause-only g c) c.in-Err.ensures.does
+
+-- ---- what was counted
+
+open_counts : (f : OpenFault) (s : Status) (a mid b : GroundCounts) → s ≡ opening_status f → mid ≡ a → CountsIf FileFault (ground_open f) mid b → CountsOf s a b
+open_counts f s a mid b e same counted = subst (λ (t : Status). CountsOf t a b) (sym e) (by_fault f (subst (λ (n : GroundCounts). CountsIf FileFault (ground_open f) n b) same counted))
+  where
+    by_fault : (f : OpenFault) → CountsIf FileFault (ground_open f) a b → CountsOf (opening_status f) a b
+    by_fault OpenFault.NoStore h = h
+    by_fault (OpenFault.Damaged file at) h = h
+    by_fault OpenFault.Ground h = h
+    by_fault OpenFault.Memory h = h
+
+pub returns-then-is_err-clause-counted : goal.returns-then-is_err-clause-counted
+returns-then-is_err-clause-counted g c = attach_counts c.attach.result _ _ (sym c.is_err.ensures.value ∙ c.if-is_err.true) c.attach.ensures.counts
+
+pub returns-in-Err-clause-counted : goal.returns-in-Err-clause-counted
+returns-in-Err-clause-counted g c = open_counts c.in-Err.fault _ _ _ _ c.opening_status.ensures (attached_same c.attach.result _ _ (sym c.is_err.ensures.value ∙ c.if-is_err.false) c.attach.ensures.counts) c.in-Err.ensures.counts
+
+pub returns-in-Ok-clause-no_fault : goal.returns-in-Ok-clause-no_fault
+returns-in-Ok-clause-no_fault g c = c.in-Ok.ensures.counts ∙ attached_same c.attach.result _ _ (sym c.is_err.ensures.value ∙ c.if-is_err.false) c.attach.ensures.counts

@@ -13,7 +13,7 @@ invariant-loop-self g l =
       room : vec_len l.line + length (pending l.self) ≤ 4194305;
       capacity : 4194305 ≤ vec_capacity l.line;
       grown : vec_capacity l.fn.line ≤ vec_capacity l.line;
-      faults : g.S.Source.read_faults l.fn.source ≤ g.S.Source.read_faults l.source;
+      still : g.S.Source.read_faults l.source ≡ g.S.Source.read_faults l.fn.source;
       bytes : IsTrue g.S.Source.tells → pending l.fn.self ++ left l.fn.source ≡ l.line.items ++ pending l.self ++ left l.source;
       count : l.self.taken + length (pending l.fn.self) ≡ l.fn.self.taken + vec_len l.line + length (pending l.self);
     }

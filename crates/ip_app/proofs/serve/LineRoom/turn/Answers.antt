@@ -1,7 +1,14 @@
-use Rattle.std.proofs.Common.{refl, ap, ◌∙◌}
-use Rattle.ip_ground.proofs.Rising.{none_falls_on, falls_itself, rose_after}
-use Rattle.ip_session.specs.Session.{state_in, ChangedIn}
+use Rattle.std.proofs.Common.{rules, ◌-◌, ◌^◌, ◌≤◌, refl, sym, ap, ◌∙◌, subst}
+use Rattle.ip_ground.specs.declared.names.GroundCounts.{GroundCounts}
+use Rattle.ip_ground.proofs.Rising.{none_falls_on, falls_itself}
+use Rattle.ip_image.specs.declared.counts.TurnCounts.{TurnCounts}
+use Rattle.ip_spec.specs.Path.{Bytes}
+use Rattle.ip_session.specs.Placing.{PlacedIn}
+use Rattle.ip_session.specs.Session.{ground_end, state_in, ChangedIn}
+use Rattle.ip_app.specs.declared.statuses.Status.TheVariants as status
+use Rattle.ip_app.specs.Serving.{CountsOf}
 use Rattle.ip_app.specs.Turns.{turn_counts}
+use Rattle.ip_app.proofs.Counting.{falls_same, say_falls, falls_if, counts_same, ended_counts}
 use Rattle.ip_app.proofs.RunLemmas.{keeps_itself, keeps_two}
 use Rattle.ip_image.proofs.HeadlineLaws.{turns_quietly}
 use Rattle.ip_app.proofs.SameFiles.{working_along}
@@ -25,66 +32,74 @@ returns-in-Err-clause-stops g c known r v works = stops_reading c.in-Err.status 
   nothing_pending = λ order. order;
   same_turns = refl;
   same_counts = refl;
-  until = c.requires.counted;
+  no_fault = refl;
 })
 
 pub returns-in-Ok-say-clause-turned : goal.returns-in-Ok-say-clause-turned
 returns-in-Ok-say-clause-turned g c known r v works =
     let answered = c.in-Ok.ensures.goes in
-    let went = went_to known _ _ c.args.session.now c.answer-answered.new.self r v c.deref.result.now answered.0 (λ is. let w = works is in answered.2 w.0 r v w.1) in
+    let went = went_to known _ _ c.args.session.now c.answer-answered.new.self r v c.deref.result.now answered.0 (λ is. let w = works is in (answered.2 w.0 r v w.1).0) in
     let goes = went.1 in
     let text = c.deref-in-Ok.ensures.value ∙ answered.1 in
+    let same = c.in-Ok-say.ensures.counts ∙ c.in-Ok.ensures.counts in
     record {
       exchange = exchange_of c.next_line.new.line.items c.met.result c.args.counts.now c.turn_counts.result answered.0 (state_in c.answer-answered.new.self went.0.0 went.0.1);
       after = went.0.0;
       view = went.0.1;
       turned = turned_of known _ _ _ _ _ _ _ _ _ _ _ _ answered.0 (g.G.Ground.counts_of c.answer-answered.new.ground)
-          (record { source_tells = refl; ground_tells = refl; log_tells = c.note.ensures.told; read_faults = c.next_line.ensures.faults; counts = none_falls_on _ _ _ c.answer-answered.ensures.counts c.say.ensures.counts })
+          (record { source_tells = refl; ground_tells = refl; log_tells = c.note.ensures.told; read_faults = c.next_line.ensures.faults; counts = falls_same _ _ same })
           (λ is. files_of _ _ _ c.deref.result.now answered.0 (goes is).only _ _ (c.say.ensures.does (works is).0))
-          c.in_default.ensures.ok c.in_default.ensures.count (λ is. (goes is).gives) c.deref.ensures.value c.met.ensures c.note.ensures.noted (c.turn_counts.ensures ∙ ap turn_counts c.counts.ensures) c.requires.counted c.answer-answered.ensures.counts c.say.ensures.counts;
+          c.in_default.ensures.ok c.in_default.ensures.count c.in_default.ensures.still (λ is. (goes is).gives) c.deref.ensures.value c.met.ensures c.note.ensures.noted (c.turn_counts.ensures ∙ ap turn_counts c.counts.ensures) c.requires.counted (falls_same _ _ c.in-Ok.ensures.counts) (ap turn_counts (sym c.in-Ok-say.ensures.counts));
       now_at = λ is. refl;
+      placed = λ is. let w = works is in subst (λ (line : Bytes). PlacedIn c.args.session.now.store.slot c.answer-answered.new.self.store.slot (state_in c.args.session.now r v) v line answered.0) c.deref.ensures.value (answered.2 w.0 r v w.1).1;
+      no_fault = same;
       serving = c.in-Ok.ensures.tables;
       working = λ is. working_along _ _ c.answer-answered.new.self went.0.0 went.0.1 (c.say.ensures.does (works is).0).goes (c.say.ensures.does (works is).0).files (goes is).working;
       said = λ is. said_of _ _ _ c.deref.result.now answered.0 (goes is).only _ _ (c.in-Ok-say.ensures.does (works is).0) _ text;
-      turning = λ is order. turned_moments _ _ _ _ (c.say.ensures.does (works is).0) _ (ChangedIn c.deref.result.now answered.0) (goes is).only _ text r went.0.0 ((goes is).atomic order) _ (goes is).working.holds ((goes is).nothing_pending order);
+      turning = λ is order. turned_moments _ _ _ _ (c.say.ensures.does (works is).0) _ (ChangedIn (g.G.Ground.told c.args.ground.now).held c.deref.result.now answered.0) (goes is).only _ text r went.0.0 ((goes is).atomic order) _ (goes is).working.holds ((goes is).nothing_pending order);
       nothing_pending = λ is order. order_says _ _ _ _ (c.say.ensures.does (works is).0) ((goes is).nothing_pending order);
     }
 
 pub returns-in-Err-say-clause-stops : goal.returns-in-Err-say-clause-stops
 returns-in-Err-say-clause-stops g c known r v works =
     let answered = c.in-Ok.ensures.goes in
-    let went = went_to known _ _ c.args.session.now c.answer-answered.new.self r v c.deref.result.now answered.0 (λ is. let w = works is in answered.2 w.0 r v w.1) in
+    let went = went_to known _ _ c.args.session.now c.answer-answered.new.self r v c.deref.result.now answered.0 (λ is. let w = works is in (answered.2 w.0 r v w.1).0) in
     let goes = went.1 in
-    let text = c.deref-in-Ok.ensures.value ∙ answered.1 in (
-      record {
-        exchange = exchange_of c.next_line.new.line.items c.met.result c.args.counts.now c.turn_counts.result answered.0 (state_in c.answer-answered.new.self went.0.0 went.0.1);
-        turned = turned_of known _ _ _ _ _ _ _ _ _ _ _ _ answered.0 (g.G.Ground.counts_of c.answer-answered.new.ground)
-            (record { source_tells = refl; ground_tells = refl; log_tells = c.note.ensures.told; read_faults = c.next_line.ensures.faults; counts = none_falls_on _ _ _ c.answer-answered.ensures.counts c.say.ensures.counts })
-            (λ is. files_of _ _ _ c.deref.result.now answered.0 (goes is).only _ _ (c.say.ensures.does (works is).0))
-            c.in_default.ensures.ok c.in_default.ensures.count (λ is. (goes is).gives) c.deref.ensures.value c.met.ensures c.note.ensures.noted (c.turn_counts.ensures ∙ ap turn_counts c.counts.ensures) c.requires.counted c.answer-answered.ensures.counts c.say.ensures.counts;
-        part = λ is. part_of _ _ _ c.deref.result.now answered.0 (goes is).only _ _ (c.say.ensures.does (works is).0) _ text;
-        silent = λ is cut_short. absurd (cc cut_short);
-        turning = λ is order. turned_moments _ _ _ _ (c.say.ensures.does (works is).0) _ (ChangedIn c.deref.result.now answered.0) (goes is).only _ text r went.0.0 ((goes is).atomic order) _ (goes is).working.holds ((goes is).nothing_pending order);
-        again = λ is order. record {
-          repository = went.0.0;
-          stands = (working_along _ _ c.answer-answered.new.self went.0.0 went.0.1 (c.say.ensures.does (works is).0).goes (c.say.ensures.does (works is).0).files (goes is).working).holds.stands;
-          nothing_pending = order_says _ _ _ _ (c.say.ensures.does (works is).0) ((goes is).nothing_pending order);
-        };
-        stands = λ is whole. (working_along _ _ c.answer-answered.new.self went.0.0 went.0.1 (c.say.ensures.does (works is).0).goes (c.say.ensures.does (works is).0).files (goes is).working).holds.stands;
-      },
-      rose_after _ _ _ c.answer-answered.ensures.counts.say_faults c.in-Err-say.ensures.cause,
-    )
+    let text = c.deref-in-Ok.ensures.value ∙ answered.1 in
+    let same = c.in-Ok.ensures.counts in
+    let fault = c.in-Err-say.ensures.counts in
+    let told : c.counts.result.say_faults ≤ 2 ^ 64 - 1 = search rules in
+    let small = subst (λ (n : GroundCounts). n.say_faults ≤ 2 ^ 64 - 1) c.counts.ensures told in
+    record {
+      exchange = exchange_of c.next_line.new.line.items c.met.result c.args.counts.now c.turn_counts.result answered.0 (state_in c.answer-answered.new.self went.0.0 went.0.1);
+      turned = turned_of known _ _ _ _ _ _ _ _ _ _ _ _ answered.0 (g.G.Ground.counts_of c.answer-answered.new.ground)
+          (record { source_tells = refl; ground_tells = refl; log_tells = c.note.ensures.told; read_faults = c.next_line.ensures.faults; counts = none_falls_on _ _ _ (falls_same _ _ same) (say_falls _ _ small fault) })
+          (λ is. files_of _ _ _ c.deref.result.now answered.0 (goes is).only _ _ (c.say.ensures.does (works is).0))
+          c.in_default.ensures.ok c.in_default.ensures.count c.in_default.ensures.still (λ is. (goes is).gives) c.deref.ensures.value c.met.ensures c.note.ensures.noted (c.turn_counts.ensures ∙ ap turn_counts c.counts.ensures) c.requires.counted (falls_same _ _ c.in-Ok.ensures.counts) (counts_same (g.G.Ground.counts_of c.answer-answered.new.ground) (g.G.Ground.counts_of c.say.new.self) fault.file_faults fault.remove_faults);
+      counted = subst (λ (n : GroundCounts). CountsOf status.SayFault n (g.G.Ground.counts_of c.say.new.self)) same fault;
+      part = λ is. part_of _ _ _ c.deref.result.now answered.0 (goes is).only _ _ (c.say.ensures.does (works is).0) _ text;
+      silent = λ is cut_short. absurd (cc cut_short);
+      turning = λ is order. turned_moments _ _ _ _ (c.say.ensures.does (works is).0) _ (ChangedIn (g.G.Ground.told c.args.ground.now).held c.deref.result.now answered.0) (goes is).only _ text r went.0.0 ((goes is).atomic order) _ (goes is).working.holds ((goes is).nothing_pending order);
+      again = λ is order. record {
+        repository = went.0.0;
+        stands = (working_along _ _ c.answer-answered.new.self went.0.0 went.0.1 (c.say.ensures.does (works is).0).goes (c.say.ensures.does (works is).0).files (goes is).working).holds.stands;
+        nothing_pending = order_says _ _ _ _ (c.say.ensures.does (works is).0) ((goes is).nothing_pending order);
+      };
+      stands = λ is whole. (working_along _ _ c.answer-answered.new.self went.0.0 went.0.1 (c.say.ensures.does (works is).0).goes (c.say.ensures.does (works is).0).files (goes is).working).holds.stands;
+    }
 
 pub returns-in-Err-answered-clause-stops : goal.returns-in-Err-answered-clause-stops
 returns-in-Err-answered-clause-stops g c known r v works =
     let ended = cut_to known _ _ c.args.session.now c.answer-answered.new.self r v c.deref.result.now (λ is. let w = works is in c.in-Err-answered.ensures.cut w.0 r v w.1) in
     let cut = ended.1 in
+    let falls = falls_if (ground_end c.in-Err-answered.end) _ _ (subst (λ (n : TurnCounts). n.file_faults ≤ 2 ^ 64 - 1) c.requires.counted c.requires.small) c.in-Err-answered.ensures.counts in
     stops_ended c.in-Err-answered.end _ known _ _ _ _ _ _ _ (state_in c.args.session.now r v) c.ended_status.ensures (record {
       exchange = exchange_of c.next_line.new.line.items c.met.result c.args.counts.now c.turn_counts.result ended.0.0 ended.0.1;
       turned = turned_of known _ _ _ _ _ _ _ _ _ _ _ _ ended.0.0 (g.G.Ground.counts_of c.answer-answered.new.ground)
-          (record { source_tells = refl; ground_tells = refl; log_tells = c.note.ensures.told; read_faults = c.next_line.ensures.faults; counts = c.answer-answered.ensures.counts })
+          (record { source_tells = refl; ground_tells = refl; log_tells = c.note.ensures.told; read_faults = c.next_line.ensures.faults; counts = falls })
           (λ is. keeps_two _ _ (cut is).only)
-          c.in_default.ensures.ok c.in_default.ensures.count (λ is. (cut is).gives) c.deref.ensures.value c.met.ensures c.note.ensures.noted (c.turn_counts.ensures ∙ ap turn_counts c.counts.ensures) c.requires.counted c.answer-answered.ensures.counts (falls_itself (g.G.Ground.counts_of c.answer-answered.new.ground));
+          c.in_default.ensures.ok c.in_default.ensures.count c.in_default.ensures.still (λ is. (cut is).gives) c.deref.ensures.value c.met.ensures c.note.ensures.noted (c.turn_counts.ensures ∙ ap turn_counts c.counts.ensures) c.requires.counted falls refl;
+      counted = ended_counts c.in-Err-answered.end _ _ c.in-Err-answered.ensures.counts;
       part = λ is. nothing_said _ _ _ (cut is).only;
       silent = λ is cut_short. refl;
       stands = λ is whole. absurd (cc (whole, ended_short c.in-Err-answered.end));

@@ -1,58 +1,231 @@
-//! Scripts over trees, by tables of what goes in and what comes out.
-
-use crate::tests::{answers, bench, init, serve, source};
-use crate::{Silent, Status};
-use ip_ground::{Bench, FileName};
+//! Trees: lines and their replies, limits, how often records are read, and calls that fail.
+use ip_app::Status;
+use ip_bench::{answers, answers_on, bench, init, play, replies_of, script_of, told_after};
+use ip_ground::FileName;
 use std::alloc::{AllocError, Global};
 use std::test::Fail;
 
-// Contents and directories take each other's place.
-const PLACES: &[u8] =
-    b"set a 01\nget a\nset a/b 02\nget a\nlist a\nlist /\nset a 03\nget a\nget a/b\nlist a\nset e -\nget e\nget a/b/c\nlist q\n";
+const NONE: &str = "\
+> stat
+stat 0 0 0 idle
+> branches
+branches 0
+> list /
+list 0
+";
 
-const PLACES_REPLIES: &[u8] =
-    b"ok\nvalue 01\nok\ndir 1\nlist 1 c:b\nlist 1 d:a\nok\nvalue 03\nabsent\ncontents\nok\nvalue -\nabsent\nabsent\n";
+// Contents and directories take each other's place.
+const PLACES: &str = "\
+> set a 01
+ok
+> get a
+value 01
+> set a/b 02
+ok
+> get a
+dir 1
+> list a
+list 1 c:b
+> list /
+list 1 d:a
+> set a 03
+ok
+> get a
+value 03
+> get a/b
+absent
+> list a
+contents
+> set e -
+ok
+> get e
+value -
+> get a/b/c
+absent
+> list q
+absent
+";
 
 // The last edit empties a directory, which is gone then, and the one above it.
-const REMOVALS: &[u8] =
-    b"rm a\nset a/b/c 01\nset a/d 02\nrm a/b/c\nlist a\nrm a/d\nget a\nlist /\nrm a\nset x 01\nrm x/y\nrm x\nget x\n";
-
-const REMOVALS_REPLIES: &[u8] =
-    b"absent\nok\nok\nok\nlist 1 c:d\nok\nabsent\nlist 0\nabsent\nok\nabsent\nok\nabsent\n";
+const REMOVALS: &str = "\
+> rm a
+absent
+> set a/b/c 01
+ok
+> set a/d 02
+ok
+> rm a/b/c
+ok
+> list a
+list 1 c:d
+> rm a/d
+ok
+> get a
+absent
+> list /
+list 0
+> rm a
+absent
+> set x 01
+ok
+> rm x/y
+absent
+> rm x
+ok
+> get x
+absent
+";
 
 // What a refused graft leaves, and one onto a path below another one's source.
-const GRAFTS: &[u8] =
-    b"set a/b 01\nset a/c/d 02\ncommit main 0 a m\nempty\nset q/z 05\ngraft main a q/a\nlist q\nget q/a/c/d\ngraft main a/b q\n\
-    get q\ngraft main / r\nlist r\ncat main a/c/d\ngraft main nothing r\nlist r\ngraft dev a r\ncat main a/x\ncat main a\ncheckout dev\nlist r/a\n";
-
-const GRAFTS_REPLIES: &[u8] = b"ok\nok\n\
-    committed 18fc1b8a3fee0aaf1b1ba1542fe9b452034a83cf32d2cadad65d261d0441c8ce\nok\nok\nok\nlist 2 d:a c:z\nvalue 02\nok\n\
-    value 01\nok\nlist 1 d:a\nvalue 02\nabsent\nlist 1 d:a\nno-branch dev\nabsent\ndir 2\nno-branch dev\nlist 2 c:b d:c\n";
+const GRAFTS: &str = "\
+> set a/b 01
+ok
+> set a/c/d 02
+ok
+> commit main 0 a m
+committed 18fc1b8a3fee0aaf1b1ba1542fe9b452034a83cf32d2cadad65d261d0441c8ce
+> empty
+ok
+> set q/z 05
+ok
+> graft main a q/a
+ok
+> list q
+list 2 d:a c:z
+> get q/a/c/d
+value 02
+> graft main a/b q
+ok
+> get q
+value 01
+> graft main / r
+ok
+> list r
+list 1 d:a
+> cat main a/c/d
+value 02
+> graft main nothing r
+absent
+> list r
+list 1 d:a
+> graft dev a r
+no-branch dev
+> cat main a/x
+absent
+> cat main a
+dir 2
+> checkout dev
+no-branch dev
+> list r/a
+list 2 c:b d:c
+";
 
 // Lines that are none, at the first byte that no line has there.
-const BAD: &[u8] =
-    b"comit\n\nset a 0\nget a//b\ncommit main 007 a m\ncheckout x\nget \nget a b\nget a/\nget /\nlist a/\nset / 01\nrm /\ngraft main a /\ncat main /\ngraft main / a b\nlist\n";
+const OUTSIDE_THE_GRAMMAR: &str = "\
+> comit
+bad 3
+> 
+bad 0
+> set a 0
+bad 7
+> get a//b
+bad 6
+> commit main 007 a m
+bad 13
+> checkout x
+no-branch x
+> get 
+bad 4
+> get a b
+bad 5
+> get a/
+bad 6
+> get /
+bad 4
+> list a/
+bad 7
+> set / 01
+bad 4
+> rm /
+bad 3
+> graft main a /
+bad 13
+> cat main /
+bad 9
+> graft main / a b
+bad 14
+> list
+bad 4
+";
 
-const BAD_REPLIES: &[u8] =
-    b"bad 3\nbad 0\nbad 7\nbad 6\nbad 13\nno-branch x\nbad 4\nbad 5\nbad 6\nbad 4\nbad 7\nbad 4\nbad 3\nbad 13\nbad 9\nbad 14\nbad 4\n";
+// Two heads, of which each has merged the other's parent.
+const CRISS_CROSS: &str = "\
+> empty
+ok
+> commit main 0 a m
+committed 363243354106fe784e750f162f5147ec8fd3d66a3f3b58508b264639b524e93c
+> branch dev main
+ok
+> commit main 1 a m
+committed 1366c1c03c34a972b7854fdefc37f0b5f58ccaa59aed457f2a1142af22b8b1d3
+> checkout dev
+at 363243354106fe784e750f162f5147ec8fd3d66a3f3b58508b264639b524e93c
+> commit dev 2 a m
+committed 57fc0f76b63811f161cb6af0226934757190fee9aa296e1f0d492b2a8a30030b
+> parent main
+ok
+> commit dev 3 a m
+committed ed84de8377a813c8fe11d6d53a81fd3a69413e9a75726f4f9a980733d339bb16
+> checkout main
+at 1366c1c03c34a972b7854fdefc37f0b5f58ccaa59aed457f2a1142af22b8b1d3
+> parent @57fc0f76b63811f161cb6af0226934757190fee9aa296e1f0d492b2a8a30030b
+ok
+> commit main 4 a m
+committed 91dd77e7a60aefa9e45a12f0e5a7570fe390adf054b0658b84da997729c332cd
+> lcas main dev
+lcas 2 1366c1c03c34a972b7854fdefc37f0b5f58ccaa59aed457f2a1142af22b8b1d3 57fc0f76b63811f161cb6af0226934757190fee9aa296e1f0d492b2a8a30030b
+> log main
+log 4 91dd77e7a60aefa9e45a12f0e5a7570fe390adf054b0658b84da997729c332cd 57fc0f76b63811f161cb6af0226934757190fee9aa296e1f0d492b2a8a30030b 1366c1c03c34a972b7854fdefc37f0b5f58ccaa59aed457f2a1142af22b8b1d3 363243354106fe784e750f162f5147ec8fd3d66a3f3b58508b264639b524e93c
+";
+
+// The same tree by two ways has one root.
+const ONE_ROOT: &str = "\
+> set x 01
+ok
+> set a/b 02
+ok
+> rm a/b
+ok
+> get a
+absent
+> rm a
+absent
+> commit main 0 a m
+committed 30a019c15217b4e7c90d95409453ba11f3eb97a878987bf7cf78f80332d4bd92
+> empty
+ok
+> set x 01
+ok
+> commit dev 1 a m
+committed 68b479651d8cdb5f55600bcc46874a87a6dffa30aadfd20900b134ec1c9a5917
+> show main
+commit 30a019c15217b4e7c90d95409453ba11f3eb97a878987bf7cf78f80332d4bd92 0 a20f85f9757b33af301358f5d1d266ac0dec6104a8ea4e066802ecca45c60010 0 a 0 m
+> show dev
+commit 68b479651d8cdb5f55600bcc46874a87a6dffa30aadfd20900b134ec1c9a5917 1 a20f85f9757b33af301358f5d1d266ac0dec6104a8ea4e066802ecca45c60010 1 a 0 m
+";
 
 #[test]
-fn trees_are_edited_and_read(rt: HostRuntime) -> Result<(), Fail> {
-    let alloc = rt.alloc();
-    let rows: [(&[u8], &[u8]); 5] = [
-        (
-            b"stat\nbranches\nlist /\n",
-            b"stat 0 0 0 idle\nbranches 0\nlist 0\n",
-        ),
-        (PLACES, PLACES_REPLIES),
-        (REMOVALS, REMOVALS_REPLIES),
-        (GRAFTS, GRAFTS_REPLIES),
-        (BAD, BAD_REPLIES),
-    ];
-    for (script, replies) in rows {
-        let (status, said) = answers(alloc, script, &[], &[])?;
-        assert_eq!(rt; status, Status::Done);
-        assert_eq!(rt; said.as_slice(), replies);
+fn trees_are_edited_read_and_committed(rt: HostRuntime) -> Result<(), Fail> {
+    for transcript in [
+        NONE,
+        PLACES,
+        REMOVALS,
+        GRAFTS,
+        OUTSIDE_THE_GRAMMAR,
+        CRISS_CROSS,
+        ONE_ROOT,
+    ] {
+        play(rt.alloc(), transcript)?;
     }
     Ok(())
 }
@@ -129,48 +302,6 @@ fn contents_have_1048576_bytes(rt: HostRuntime) -> Result<(), Fail> {
     Ok(())
 }
 
-// Two heads, of which each has merged the other's parent.
-const CRISS_CROSS: &[u8] =
-    b"empty\ncommit main 0 a m\nbranch dev main\ncommit main 1 a m\ncheckout dev\ncommit dev 2 a m\nparent main\n\
-    commit dev 3 a m\ncheckout main\nparent @57fc0f76b63811f161cb6af0226934757190fee9aa296e1f0d492b2a8a30030b\n\
-    commit main 4 a m\nlcas main dev\nlog main\n";
-
-const CRISS_CROSS_REPLIES: &[u8] =
-    b"ok\ncommitted 363243354106fe784e750f162f5147ec8fd3d66a3f3b58508b264639b524e93c\n\
-    ok\ncommitted 1366c1c03c34a972b7854fdefc37f0b5f58ccaa59aed457f2a1142af22b8b1d3\n\
-    at 363243354106fe784e750f162f5147ec8fd3d66a3f3b58508b264639b524e93c\n\
-    committed 57fc0f76b63811f161cb6af0226934757190fee9aa296e1f0d492b2a8a30030b\n\
-    ok\ncommitted ed84de8377a813c8fe11d6d53a81fd3a69413e9a75726f4f9a980733d339bb16\n\
-    at 1366c1c03c34a972b7854fdefc37f0b5f58ccaa59aed457f2a1142af22b8b1d3\n\
-    ok\ncommitted 91dd77e7a60aefa9e45a12f0e5a7570fe390adf054b0658b84da997729c332cd\n\
-    lcas 2 1366c1c03c34a972b7854fdefc37f0b5f58ccaa59aed457f2a1142af22b8b1d3 57fc0f76b63811f161cb6af0226934757190fee9aa296e1f0d492b2a8a30030b\n\
-    log 4 91dd77e7a60aefa9e45a12f0e5a7570fe390adf054b0658b84da997729c332cd 57fc0f76b63811f161cb6af0226934757190fee9aa296e1f0d492b2a8a30030b 1366c1c03c34a972b7854fdefc37f0b5f58ccaa59aed457f2a1142af22b8b1d3 363243354106fe784e750f162f5147ec8fd3d66a3f3b58508b264639b524e93c\n";
-
-// The same tree by two ways has one root.
-const ONE_ROOT: &[u8] =
-    b"set x 01\nset a/b 02\nrm a/b\nget a\nrm a\ncommit main 0 a m\nempty\nset x 01\ncommit dev 1 a m\nshow main\nshow dev\n";
-
-const ONE_ROOT_REPLIES: &[u8] =
-    b"ok\nok\nok\nabsent\nabsent\ncommitted 30a019c15217b4e7c90d95409453ba11f3eb97a878987bf7cf78f80332d4bd92\n\
-    ok\nok\ncommitted 68b479651d8cdb5f55600bcc46874a87a6dffa30aadfd20900b134ec1c9a5917\n\
-    commit 30a019c15217b4e7c90d95409453ba11f3eb97a878987bf7cf78f80332d4bd92 0 a20f85f9757b33af301358f5d1d266ac0dec6104a8ea4e066802ecca45c60010 0 a 0 m\n\
-    commit 68b479651d8cdb5f55600bcc46874a87a6dffa30aadfd20900b134ec1c9a5917 1 a20f85f9757b33af301358f5d1d266ac0dec6104a8ea4e066802ecca45c60010 1 a 0 m\n";
-
-#[test]
-fn commits_of_trees_are_told(rt: HostRuntime) -> Result<(), Fail> {
-    let alloc = rt.alloc();
-    let rows: [(&[u8], &[u8]); 2] = [
-        (CRISS_CROSS, CRISS_CROSS_REPLIES),
-        (ONE_ROOT, ONE_ROOT_REPLIES),
-    ];
-    for (script, replies) in rows {
-        let (status, said) = answers(alloc, script, &[], &[])?;
-        assert_eq!(rt; status, Status::Done);
-        assert_eq!(rt; said.as_slice(), replies);
-    }
-    Ok(())
-}
-
 // How often the chunk was read for the lines behind a first script, in a session that goes on with them.
 fn reads_of(alloc: Global, first: &[u8], then: &[u8]) -> Result<u64, AllocError> {
     let mut script = Vec::from_slice(alloc, first)?;
@@ -183,11 +314,9 @@ fn reads_of(alloc: Global, first: &[u8], then: &[u8]) -> Result<u64, AllocError>
 fn reads_in(alloc: Global, script: &[u8]) -> Result<u64, AllocError> {
     let mut bench = bench(alloc, &[])?;
     let _ = init(alloc, &mut bench)?;
-    let mut made = source(alloc, DEEP, &[])?;
-    let _ = serve(alloc, &mut made, &mut bench, &mut Silent)?;
+    let _ = answers_on(alloc, &mut bench, DEEP)?;
     let before = bench.reads(FileName::Chunk(0));
-    let mut script = source(alloc, script, &[])?;
-    let _ = serve(alloc, &mut script, &mut bench, &mut Silent)?;
+    let _ = answers_on(alloc, &mut bench, script)?;
     Ok(bench.reads(FileName::Chunk(0)).wrapping_sub(before))
 }
 
@@ -231,22 +360,26 @@ fn nested_with_fault(
 ) -> Result<(Status, Vec<u8>, Vec<u8>), AllocError> {
     let mut bench = bench(alloc, &[fault])?;
     let _ = init(alloc, &mut bench)?;
-    let mut script = source(alloc, NESTED, &[])?;
-    let status = serve(alloc, &mut script, &mut bench, &mut Silent)?;
+    let status = answers_on(alloc, &mut bench, &script_of(alloc, NESTED)?)?;
     let said = bench.said(alloc)?;
-    let mut bench: Bench = bench.after_stop(keep)?;
-    let mut script = source(alloc, ASKED, &[])?;
-    let _ = serve(alloc, &mut script, &mut bench, &mut Silent)?;
-    let stands = bench.said(alloc)?;
+    let (_, stands) = told_after(alloc, bench, keep, ASKED)?;
     Ok((status, said, stands))
 }
 
-const NESTED: &[u8] =
-    b"set a/b/c 01\nset z 02\ncommit main 0 a m\nset a/d 03\nrm z\ncommit main 1 a m\n";
-
-const NESTED_REPLIES: &[u8] = b"ok\nok\n\
-    committed 697dad8f7af586483a97514cbfe6afaa982421afa8904f003b4db1629ab9657a\nok\nok\n\
-    committed 07b3ac9bcfceadcf1cc26cb22fee7a9ddb12a826c3f6103060dde8f8cbb5db5c\n";
+const NESTED: &str = "\
+> set a/b/c 01
+ok
+> set z 02
+ok
+> commit main 0 a m
+committed 697dad8f7af586483a97514cbfe6afaa982421afa8904f003b4db1629ab9657a
+> set a/d 03
+ok
+> rm z
+ok
+> commit main 1 a m
+committed 07b3ac9bcfceadcf1cc26cb22fee7a9ddb12a826c3f6103060dde8f8cbb5db5c
+";
 
 const STANDS_NONE: &[u8] = b"no-branch main\nno-branch main\nlist 0\nabsent\nabsent\nabsent\n";
 
@@ -264,11 +397,12 @@ const STANDS_BOTH: &[u8] =
 #[test]
 fn each_call_fails_once_where_nested_trees_are_committed(rt: HostRuntime) -> Result<(), Fail> {
     let alloc = rt.alloc();
+    let replies = replies_of(alloc, NESTED)?;
     let mut cut_short = false;
     for fault in 4..60 {
         for keep in [false, true] {
             let (status, said, stands) = nested_with_fault(alloc, fault, keep)?;
-            assert!(rt; NESTED_REPLIES.starts_with(&said));
+            assert!(rt; replies.starts_with(&said));
             // So much is said at most before the next commit is answered.
             let most = if stands.as_slice() == STANDS_NONE {
                 6
@@ -283,7 +417,7 @@ fn each_call_fails_once_where_nested_trees_are_committed(rt: HostRuntime) -> Res
                 Status::GroundFault => cut_short = cut_short || said.len() == 87,
                 Status::SayFault => (),
                 _ => {
-                    assert_eq!(rt; said.as_slice(), NESTED_REPLIES);
+                    assert_eq!(rt; said, replies);
                     assert_eq!(rt; most, 162);
                 }
             }

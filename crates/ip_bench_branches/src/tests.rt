@@ -1,7 +1,10 @@
-//! Scripts that name branches and commits, by tables of what goes in and what comes out.
-use crate::tests::{answers, count_lines, fresh_control, serve, slot_after_one_commit, source};
-use crate::{Silent, Status};
+//! Branches, and what is told of history.
+use ip_app::Status;
 use ip_base::{put_u8, put_u32, put_u64};
+use ip_bench::{
+    answers, answers_on, count_lines, fresh_control, play, play_on, replies_of, script_of,
+    slot_after_one_commit, told_after,
+};
 use ip_ground::{Bench, FileName, Ground};
 use std::alloc::{AllocError, Global};
 use std::test::Fail;
@@ -9,80 +12,207 @@ use std::test::Fail;
 // Commits of the empty tree by `a`, with the message `m`. A has no parents and the date 0; B and C have the parent A, D has C and B, E has B and
 // C, and their dates are 1 to 4. F has the date 99 and 16 parents, which have none and the dates 0 to 15; G has no parents and the date 1. Each
 // name is the SHA-256 of 04, the root's name, how many parents, their names, the date, 01 61 and 0100 6d.
-const NAMES: [&[u8]; 7] = [
-    b"363243354106fe784e750f162f5147ec8fd3d66a3f3b58508b264639b524e93c",
-    b"1366c1c03c34a972b7854fdefc37f0b5f58ccaa59aed457f2a1142af22b8b1d3",
-    b"57fc0f76b63811f161cb6af0226934757190fee9aa296e1f0d492b2a8a30030b",
-    b"ed84de8377a813c8fe11d6d53a81fd3a69413e9a75726f4f9a980733d339bb16",
-    b"91dd77e7a60aefa9e45a12f0e5a7570fe390adf054b0658b84da997729c332cd",
-    b"4fbe2bbad30fa17f17e9eaa3a851cef740fb96c77128f4f2ef8ae61471d5298a",
-    b"aaf4693d1fd27f222dca0de7a762546962e555cdde761f44d66811de9582f29a",
+const NAMES: [&str; 7] = [
+    "363243354106fe784e750f162f5147ec8fd3d66a3f3b58508b264639b524e93c",
+    "1366c1c03c34a972b7854fdefc37f0b5f58ccaa59aed457f2a1142af22b8b1d3",
+    "57fc0f76b63811f161cb6af0226934757190fee9aa296e1f0d492b2a8a30030b",
+    "ed84de8377a813c8fe11d6d53a81fd3a69413e9a75726f4f9a980733d339bb16",
+    "91dd77e7a60aefa9e45a12f0e5a7570fe390adf054b0658b84da997729c332cd",
+    "4fbe2bbad30fa17f17e9eaa3a851cef740fb96c77128f4f2ef8ae61471d5298a",
+    "aaf4693d1fd27f222dca0de7a762546962e555cdde761f44d66811de9582f29a",
 ];
 
 // Each of the letters A to G stands for a commit's name.
-fn with_names(alloc: Global, text: &[u8]) -> Result<Vec<u8>, AllocError> {
-    let mut out = Vec::new(alloc);
-    for byte in text {
-        if *byte >= b'A' && *byte <= b'G' {
-            out.extend_from_slice(NAMES[(*byte - b'A') as usize])?;
-        } else {
-            out.push(*byte)?;
+fn with_names(alloc: Global, text: &str) -> Result<String, AllocError> {
+    let mut out = String::new(alloc);
+    for letter in text.chars() {
+        match letter {
+            'A'..='G' => out.push_str(NAMES[letter as usize - 'A' as usize])?,
+            _ => out.push(letter)?,
         }
     }
     Ok(out)
 }
 
-const CRISS_CROSS: &[u8] = b"empty\ncommit main 0 a m\nbranch dev main\n\
-    empty\nparent main\ncommit main 1 a m\nempty\nparent dev\ncommit dev 2 a m\nparent @B\ncommit dev 3 a m\n\
-    empty\nparent @B\nparent @C\ncommit main 4 a m\n";
+const NONE: &str = "\
+> branches
+branches 0
+";
 
-const CRISS_CROSS_REPLIES: &[u8] = b"ok\ncommitted A\nok\n\
-    ok\nok\ncommitted B\nok\nok\ncommitted C\nok\ncommitted D\n\
-    ok\nok\nok\ncommitted E\n";
+const NOTHING_NAMED: &str = "\
+> parent x
+no-branch x
+> parent @A
+no-commit A
+> branch x y
+no-branch y
+> branch-rm x
+no-branch x
+> log @A
+no-commit A
+> lcas x y
+no-branch x
+";
 
-const HISTORY: &[u8] =
-    b"branches\nlog main\nlog dev\nlog @A\nlcas main dev\nlcas @D @E\nlcas @A dev\nlcas @C @C\n";
+const SET_AND_REMOVED: &str = "\
+> empty
+ok
+> commit main 0 a m
+committed A
+> branches
+branches 1 main A
+> branch old @A
+ok
+> branches
+branches 2 main A old A
+> branch-rm old
+ok
+> branch-rm old
+no-branch old
+> branches
+branches 1 main A
+";
 
-const HISTORY_REPLIES: &[u8] =
-    b"branches 2 dev D main E\nlog 4 E C B A\nlog 4 D C B A\nlog 1 A\nlcas 2 B C\nlcas 2 B C\nlcas 1 A\nlcas 1 C\n";
+const NAMES_OF_NONE: &str = "\
+> empty
+ok
+> commit main 0 a m
+committed A
+> lcas main x
+no-branch x
+> lcas @A @B
+no-commit B
+> lcas @B main
+no-commit B
+> branch dev @B
+no-commit B
+> branch-rm dev
+no-branch dev
+";
+
+// A parent is added once, and `empty` takes the parents away.
+const PARENTS: &str = "\
+> empty
+ok
+> commit main 0 a m
+committed A
+> empty
+ok
+> parent main
+ok
+> parent @A
+ok
+> commit main 1 a m
+committed B
+> log main
+log 2 B A
+> empty
+ok
+> commit dev 1 a m
+committed G
+> log dev
+log 1 G
+";
+
+// A branch that is set elsewhere is no head of the work's parents.
+const MOVED: &str = "\
+> empty
+ok
+> commit main 0 a m
+committed A
+> empty
+ok
+> parent main
+ok
+> commit dev 1 a m
+committed B
+> branch main dev
+ok
+> log main
+log 2 B A
+> empty
+ok
+> parent @A
+ok
+> commit main 2 a m
+head-moved B
+";
+
+const OUTSIDE_THE_GRAMMAR: &str = "\
+> branch dev
+bad 10
+> branch-rm @x
+bad 10
+> log
+bad 3
+";
+
+const CRISS_CROSS: &str = "\
+> empty
+ok
+> commit main 0 a m
+committed A
+> branch dev main
+ok
+> empty
+ok
+> parent main
+ok
+> commit main 1 a m
+committed B
+> empty
+ok
+> parent dev
+ok
+> commit dev 2 a m
+committed C
+> parent @B
+ok
+> commit dev 3 a m
+committed D
+> empty
+ok
+> parent @B
+ok
+> parent @C
+ok
+> commit main 4 a m
+committed E
+";
+
+const HISTORY: &str = "\
+> branches
+branches 2 dev D main E
+> log main
+log 4 E C B A
+> log dev
+log 4 D C B A
+> log @A
+log 1 A
+> lcas main dev
+lcas 2 B C
+> lcas @D @E
+lcas 2 B C
+> lcas @A dev
+lcas 1 A
+> lcas @C @C
+lcas 1 C
+";
 
 #[test]
 fn branches_and_history_are_answered(rt: HostRuntime) -> Result<(), Fail> {
     let alloc = rt.alloc();
-    let rows: [(&[u8], &[u8]); 8] = [
-        (b"branches\n", b"branches 0\n"),
-        (
-            b"parent x\nparent @A\nbranch x y\nbranch-rm x\nlog @A\nlcas x y\n",
-            b"no-branch x\nno-commit A\nno-branch y\nno-branch x\nno-commit A\nno-branch x\n",
-        ),
-        (
-            b"empty\ncommit main 0 a m\nbranches\nbranch old @A\nbranches\nbranch-rm old\nbranch-rm old\nbranches\n",
-            b"ok\ncommitted A\nbranches 1 main A\nok\nbranches 2 main A old A\nok\nno-branch old\nbranches 1 main A\n",
-        ),
-        (
-            b"empty\ncommit main 0 a m\nlcas main x\nlcas @A @B\nlcas @B main\nbranch dev @B\nbranch-rm dev\n",
-            b"ok\ncommitted A\nno-branch x\nno-commit B\nno-commit B\nno-commit B\nno-branch dev\n",
-        ),
-        (CRISS_CROSS, CRISS_CROSS_REPLIES),
-        // A parent is added once, and `empty` takes the parents away.
-        (
-            b"empty\ncommit main 0 a m\nempty\nparent main\nparent @A\ncommit main 1 a m\nlog main\nempty\ncommit dev 1 a m\nlog dev\n",
-            b"ok\ncommitted A\nok\nok\nok\ncommitted B\nlog 2 B A\nok\ncommitted G\nlog 1 G\n",
-        ),
-        // A branch that is set elsewhere is no head of the work's parents.
-        (
-            b"empty\ncommit main 0 a m\nempty\nparent main\ncommit dev 1 a m\nbranch main dev\nlog main\nempty\nparent @A\ncommit main 2 a m\n",
-            b"ok\ncommitted A\nok\nok\ncommitted B\nok\nlog 2 B A\nok\nok\nhead-moved B\n",
-        ),
-        (
-            b"branch dev\nbranch-rm @x\nlog\n",
-            b"bad 10\nbad 10\nbad 3\n",
-        ),
-    ];
-    for (script, said) in rows {
-        let (ended, replies) = answers(alloc, &with_names(alloc, script)?, &[], &[])?;
-        assert_eq!(rt; ended, Status::Done);
-        assert_eq!(rt; replies, with_names(alloc, said)?);
+    for transcript in [
+        NONE,
+        NOTHING_NAMED,
+        SET_AND_REMOVED,
+        NAMES_OF_NONE,
+        CRISS_CROSS,
+        PARENTS,
+        MOVED,
+        OUTSIDE_THE_GRAMMAR,
+    ] {
+        play(alloc, &with_names(alloc, transcript)?)?;
     }
     Ok(())
 }
@@ -90,13 +220,12 @@ fn branches_and_history_are_answered(rt: HostRuntime) -> Result<(), Fail> {
 #[test]
 fn branches_and_history_stand_when_the_store_is_opened_again(rt: HostRuntime) -> Result<(), Fail> {
     let alloc = rt.alloc();
-    let script = with_names(alloc, CRISS_CROSS)?;
-    let query = with_names(alloc, HISTORY)?;
+    let made = with_names(alloc, CRISS_CROSS)?;
     for keep in [false, true] {
-        let (_, replies, bench) = cut_off(alloc, &script, &[], None)?;
-        assert_eq!(rt; replies, with_names(alloc, CRISS_CROSS_REPLIES)?);
-        let told = told_after(alloc, bench, keep, &query)?;
-        assert_eq!(rt; told, with_names(alloc, HISTORY_REPLIES)?);
+        let (_, replies, bench) = cut_off(alloc, &script_of(alloc, &made)?, &[], None)?;
+        assert_eq!(rt; replies, replies_of(alloc, &made)?);
+        let mut bench = bench.after_stop(keep)?;
+        play_on(alloc, &mut bench, &with_names(alloc, HISTORY)?)?;
     }
     Ok(())
 }
@@ -133,9 +262,9 @@ fn a_work_has_16_parents(rt: HostRuntime) -> Result<(), Fail> {
     assert_eq!(rt; count_lines(&said), 34 + 18 + 4);
     let last = with_names(
         alloc,
-        b"ok\nlimit parents\nok\ncommitted F\nlcas 1 A\nlcas 0\n",
+        "ok\nlimit parents\nok\ncommitted F\nlcas 1 A\nlcas 0\n",
     )?;
-    assert!(rt; said.ends_with(&last));
+    assert!(rt; said.ends_with(last.as_bytes()));
     Ok(())
 }
 
@@ -189,22 +318,28 @@ fn assert_read(read: Option<usize>, wanted: usize) -> Result<(), Fail> {
     }
 }
 
+const FULL: &str = "\
+> stat
+stat 0 1 4096 idle
+> branch x main
+limit branches
+> branch b7 main
+ok
+> branch-rm b7
+ok
+> branch x main
+ok
+> branch b7 main
+limit branches
+> stat
+stat 0 1 4096 idle
+";
+
 // Lines that make as many branches would take too long: the ground in memory keeps what a crash may leave.
 #[test]
 fn a_store_has_4096_branches(rt: HostRuntime) -> Result<(), Fail> {
-    let alloc = rt.alloc();
-    let mut full = full_of_branches(alloc)?;
-    let script =
-        b"stat\nbranch x main\nbranch b7 main\nbranch-rm b7\nbranch x main\nbranch b7 main\nstat\n";
-    let mut script = source(alloc, script, &[])?;
-    assert_eq!(rt;
-        serve(alloc, &mut script, &mut full, &mut Silent)?,
-        Status::Done
-    );
-    let replies =
-        b"stat 0 1 4096 idle\nlimit branches\nok\nok\nok\nlimit branches\nstat 0 1 4096 idle\n";
-    assert_eq!(rt; full.said(alloc)?.as_slice(), replies.as_slice());
-    Ok(())
+    let mut full = full_of_branches(rt.alloc())?;
+    play_on(rt.alloc(), &mut full, FULL)
 }
 
 // How serving a script ends over a store that was just made, what was said, and the ground then. The calls of these numbers fail, and the ground
@@ -219,45 +354,31 @@ fn cut_off(
     let mut bench = Bench::new(alloc, fails, stop, Vec::new(alloc));
     let _ = bench.write(FileName::Control, 0, &fresh_control());
     let _ = bench.sync(FileName::Control);
-    let mut script = source(alloc, script, &[])?;
-    let status = serve(alloc, &mut script, &mut bench, &mut Silent)?;
+    let status = answers_on(alloc, &mut bench, script)?;
     let said = bench.said(alloc)?;
     Ok((status, said, bench))
 }
 
-// What is told over a ground that was stopped: with the files as they were, or as they were synced last.
-fn told_after(
-    alloc: Global,
-    bench: Bench,
-    keep: bool,
-    query: &[u8],
-) -> Result<Vec<u8>, AllocError> {
-    let mut bench = bench.after_stop(keep)?;
-    let mut query = source(alloc, query, &[])?;
-    let _ = serve(alloc, &mut query, &mut bench, &mut Silent)?;
-    bench.said(alloc)
-}
-
-const LINES: [&[u8]; 10] = [
-    b"empty\n",
-    b"commit main 0 a m\n",
-    b"branch old main\n",
-    b"branch dev @A\n",
-    b"set a 01\n",
-    b"commit main 1 a m\n",
-    b"branch old main\n",
-    b"branch-rm dev\n",
-    b"branch-rm dev\n",
-    b"branch-rm old\n",
+const LINES: [&str; 10] = [
+    "empty\n",
+    "commit main 0 a m\n",
+    "branch old main\n",
+    "branch dev @A\n",
+    "set a 01\n",
+    "commit main 1 a m\n",
+    "branch old main\n",
+    "branch-rm dev\n",
+    "branch-rm dev\n",
+    "branch-rm old\n",
 ];
 
 // The first lines.
 fn first_lines(alloc: Global, count: usize) -> Result<Vec<u8>, AllocError> {
     let mut script = Vec::new(alloc);
     for line in LINES.iter().take(count) {
-        script.extend_from_slice(line)?;
+        script.extend_from_slice(with_names(alloc, line)?.as_bytes())?;
     }
-    with_names(alloc, &script)
+    Ok(script)
 }
 
 // The branches after each number of lines, none of which was cut off.
@@ -266,7 +387,8 @@ fn all_branches(alloc: Global) -> Result<Vec<Vec<u8>>, AllocError> {
     for count in 0..=LINES.len() {
         let script = first_lines(alloc, count)?;
         let (_, _, bench) = cut_off(alloc, &script, &[], None)?;
-        all.push(told_after(alloc, bench, true, b"branches\n")?)?;
+        let (_, told) = told_after(alloc, bench, true, b"branches\n")?;
+        all.push(told)?;
     }
     Ok(all)
 }
@@ -288,7 +410,7 @@ fn branches_are_stopped_at_each_call(rt: HostRuntime) -> Result<(), Fail> {
             let (status, said, bench) = cut_off(alloc, &script, &[], Some(stop))?;
             if status != Status::Done {
                 last = stop;
-                let told = told_after(alloc, bench, keep, b"branches\n")?;
+                let (_, told) = told_after(alloc, bench, keep, b"branches\n")?;
                 assert!(rt; is_kept(&all, &said, &told), "{stop}");
             }
         }
@@ -310,7 +432,7 @@ fn each_call_of_a_branch_fails_once(rt: HostRuntime) -> Result<(), Fail> {
             let (status, said, bench) = cut_off(alloc, &script, &[fault], None)?;
             assert_eq!(rt; count_lines(&said), 2, "{fault}");
             assert_eq!(rt; status, Status::GroundFault, "{fault}");
-            let told = told_after(alloc, bench, keep, b"branches\n")?;
+            let (_, told) = told_after(alloc, bench, keep, b"branches\n")?;
             assert!(rt; is_kept(&all, &said, &told), "{fault}");
         }
     }

@@ -1,30 +1,9 @@
 //! Stores with chunks of 4096 bytes.
-use crate::generation_tests::{answers_on, bytes_of};
-use crate::tests::{bench, source, words};
-use crate::{Silent, Status, run};
+use ip_app::Status;
+use ip_bench::{answers_on, bytes_of, init_with, put_value, store_after, told_after};
 use ip_ground::{Bench, FileName, Ground};
 use std::alloc::Global;
 use std::test::Fail;
-
-// Makes a store with chunks of a size, by calls 0 to 3.
-pub(crate) fn init_with(alloc: Global, ground: &mut Bench, size: &str) -> Result<(), Fail> {
-    let words = words(alloc, &["ipstore", "init", "mem", "--chunk", size])?;
-    let mut none = source(alloc, b"", &[])?;
-    match run(alloc, &words, &mut none, ground, &mut Silent) {
-        Status::Done => Ok(()),
-        _ => Err("not made")?,
-    }
-}
-
-// So many bytes as lines have them: 0, 1 and so on, from 0 again behind 255.
-pub(crate) fn put_value(out: &mut Vec<u8>, count: usize) -> Result<(), Fail> {
-    const DIGITS: &[u8; 16] = b"0123456789abcdef";
-    for k in 0..count {
-        out.push(DIGITS[k / 16 % 16])?;
-        out.push(DIGITS[k % 16])?;
-    }
-    Ok(())
-}
 
 fn put_set(script: &mut Vec<u8>, count: usize) -> Result<(), Fail> {
     script.extend_from_slice(b"set a ")?;
@@ -38,16 +17,6 @@ fn one_commit(alloc: Global, count: usize) -> Result<Vec<u8>, Fail> {
     put_set(&mut script, count)?;
     script.extend_from_slice(b"commit main 0 a m\n")?;
     Ok(script)
-}
-
-// A new store with chunks of a size, after a script.
-fn store_after(alloc: Global, size: &str, script: &[u8]) -> Result<Bench, Fail> {
-    let mut ground = bench(alloc, &[])?;
-    init_with(alloc, &mut ground, size)?;
-    match answers_on(alloc, &mut ground, script)? {
-        Status::Done => Ok(ground),
-        _ => Err("not done")?,
-    }
 }
 
 // The chunks are the pieces of the one chunk that holds the same records elsewhere.
@@ -85,9 +54,7 @@ fn a_batch_lies_in_chunks_of_the_size(rt: HostRuntime) -> Result<(), Fail> {
             let found = ground.length(FileName::Chunk(number as u64));
             assert_eq!(&rt; found, Ok(*length));
         }
-        let mut ground = ground.after_stop(false)?;
-        let _ = answers_on(alloc, &mut ground, b"checkout main\nget a\n")?;
-        let said = ground.said(alloc)?;
+        let (_, said) = told_after(alloc, ground, false, b"checkout main\nget a\n")?;
         let mut value = b"value ".to_vec(alloc)?;
         put_value(&mut value, count)?;
         value.push(b'\n')?;
@@ -101,9 +68,7 @@ const STANDS: &[u8] = b"stat\ncat main a\n";
 
 // What stands when a store is opened again: by how many commits, and whether `a` is of two bytes and not of one.
 fn commits_after(alloc: Global, ground: Bench, keep: bool) -> Result<Option<u64>, Fail> {
-    let mut ground = ground.after_stop(keep)?;
-    let _ = answers_on(alloc, &mut ground, STANDS)?;
-    let said = ground.said(alloc)?;
+    let (_, said) = told_after(alloc, ground, keep, STANDS)?;
     Ok(match said.as_slice() {
         b"stat 0 0 0 idle\nno-branch main\n" => Some(0),
         b"stat 0 1 1 idle\nvalue 00\n" => Some(1),

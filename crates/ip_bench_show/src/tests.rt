@@ -1,69 +1,81 @@
-//! Scripts that show commits, by tables of what goes in and what comes out.
+//! Commits that are shown, also from a ground that others changed.
 ghost use Rattle.std.specs.Prelude.{false};
 ghost use Rattle.ip_ground.specs.ReplayLaws.{possible_by};
 
-use crate::tests::{answers, bench, count_lines, init, serve, source, words};
-use crate::{Silent, Status, run};
+use ip_app::Status;
+use ip_bench::{answers, answers_on, bench, count_lines, init, play, replies_of, script_of};
 use ip_ground::{Bench, FileName, Ground, GroundCounts, GroundFault, Reaped};
-use std::alloc::{AllocError, Global};
+use std::alloc::Global;
 use std::test::Fail;
 
 // The empty tree, committed. Its root's name is the SHA-256 of 02 00000000, and the commit's that of 04, the root's name, 00, 8 zeros, 01 61
 // and 0100 6d.
-const ONE: &[u8] = b"empty\ncommit main 0 a m\nshow main\n\
-    show @363243354106fe784e750f162f5147ec8fd3d66a3f3b58508b264639b524e93c\nshow dev\n\
-    show @0000000000000000000000000000000000000000000000000000000000000000\nshow\nshow main \n";
-
-const ONE_REPLIES: &[u8] = b"ok\n\
-    committed 363243354106fe784e750f162f5147ec8fd3d66a3f3b58508b264639b524e93c\n\
-    commit 363243354106fe784e750f162f5147ec8fd3d66a3f3b58508b264639b524e93c 0 395c2f5598a1643a205154c6f4c46ce36895b28e6c35660a95e5c6fd5ef9aeab 0 a 0 m\n\
-    commit 363243354106fe784e750f162f5147ec8fd3d66a3f3b58508b264639b524e93c 0 395c2f5598a1643a205154c6f4c46ce36895b28e6c35660a95e5c6fd5ef9aeab 0 a 0 m\n\
-    no-branch dev\n\
-    no-commit 0000000000000000000000000000000000000000000000000000000000000000\n\
-    bad 4\n\
-    bad 9\n";
+const ONE: &str = "\
+> empty
+ok
+> commit main 0 a m
+committed 363243354106fe784e750f162f5147ec8fd3d66a3f3b58508b264639b524e93c
+> show main
+commit 363243354106fe784e750f162f5147ec8fd3d66a3f3b58508b264639b524e93c 0 395c2f5598a1643a205154c6f4c46ce36895b28e6c35660a95e5c6fd5ef9aeab 0 a 0 m
+> show @363243354106fe784e750f162f5147ec8fd3d66a3f3b58508b264639b524e93c
+commit 363243354106fe784e750f162f5147ec8fd3d66a3f3b58508b264639b524e93c 0 395c2f5598a1643a205154c6f4c46ce36895b28e6c35660a95e5c6fd5ef9aeab 0 a 0 m
+> show dev
+no-branch dev
+> show @0000000000000000000000000000000000000000000000000000000000000000
+no-commit 0000000000000000000000000000000000000000000000000000000000000000
+> show
+bad 4
+> show main 
+bad 9
+";
 
 // A commit with two parents, whose message begins with a space, and the first of them.
-const TWO_PARENTS: &[u8] =
-    b"empty\ncommit main 0 a m\nempty\nset k 01\ncommit dev 7 bob two words\n\
-    parent main\nset b 02\ncommit main 8 al  both\nshow main\nshow dev\n";
-
-const TWO_PARENTS_REPLIES: &[u8] = b"ok\n\
-    committed 363243354106fe784e750f162f5147ec8fd3d66a3f3b58508b264639b524e93c\n\
-    ok\nok\n\
-    committed 7ef07ae693bbb45abb370780eec81f3f74588b07834eb0ed695a6d8ef632b5ca\n\
-    ok\nok\n\
-    committed c30ac29a69bbbbf685ed19e862a638a9c3cb509d83262de6e7d16e0fc45a8b31\n\
-    commit c30ac29a69bbbbf685ed19e862a638a9c3cb509d83262de6e7d16e0fc45a8b31 2 01f28f5de49806141e8547598e52c1690756911f4ae2b5dad6070ac18699ec30 8 al 2 7ef07ae693bbb45abb370780eec81f3f74588b07834eb0ed695a6d8ef632b5ca 363243354106fe784e750f162f5147ec8fd3d66a3f3b58508b264639b524e93c  both\n\
-    commit 7ef07ae693bbb45abb370780eec81f3f74588b07834eb0ed695a6d8ef632b5ca 1 3b0a8a781e3bf3aba7a7ae7b2f06387049a919f002a8b80f56e93e1a37464ce5 7 bob 0 two words\n";
+const TWO_PARENTS: &str = "\
+> empty
+ok
+> commit main 0 a m
+committed 363243354106fe784e750f162f5147ec8fd3d66a3f3b58508b264639b524e93c
+> empty
+ok
+> set k 01
+ok
+> commit dev 7 bob two words
+committed 7ef07ae693bbb45abb370780eec81f3f74588b07834eb0ed695a6d8ef632b5ca
+> parent main
+ok
+> set b 02
+ok
+> commit main 8 al  both
+committed c30ac29a69bbbbf685ed19e862a638a9c3cb509d83262de6e7d16e0fc45a8b31
+> show main
+commit c30ac29a69bbbbf685ed19e862a638a9c3cb509d83262de6e7d16e0fc45a8b31 2 01f28f5de49806141e8547598e52c1690756911f4ae2b5dad6070ac18699ec30 8 al 2 7ef07ae693bbb45abb370780eec81f3f74588b07834eb0ed695a6d8ef632b5ca 363243354106fe784e750f162f5147ec8fd3d66a3f3b58508b264639b524e93c  both
+> show dev
+commit 7ef07ae693bbb45abb370780eec81f3f74588b07834eb0ed695a6d8ef632b5ca 1 3b0a8a781e3bf3aba7a7ae7b2f06387049a919f002a8b80f56e93e1a37464ce5 7 bob 0 two words
+";
 
 #[test]
 fn commits_are_shown(rt: HostRuntime) -> Result<(), Fail> {
-    let alloc = rt.alloc();
-    let rows: [(&[u8], &[u8]); 2] = [(ONE, ONE_REPLIES), (TWO_PARENTS, TWO_PARENTS_REPLIES)];
-    for (script, replies) in rows {
-        let (status, said) = answers(alloc, script, &[], &[])?;
-        assert_eq!(rt; status, Status::Done);
-        assert_eq!(rt; said.as_slice(), replies);
-    }
-    Ok(())
+    play(rt.alloc(), ONE)?;
+    play(rt.alloc(), TWO_PARENTS)
 }
 
 // Wherever a call of the ground fails, what was said is a front of the replies. A commit that could not be read has none.
 #[test]
 fn each_call_fails_once_where_commits_are_shown(rt: HostRuntime) -> Result<(), Fail> {
     let alloc = rt.alloc();
+    let script = script_of(alloc, TWO_PARENTS)?;
+    let replies = replies_of(alloc, TWO_PARENTS)?;
     let mut unread = false;
     for fault in 4..60 {
-        let (status, said) = answers(alloc, TWO_PARENTS, &[], &[fault])?;
-        assert!(rt; TWO_PARENTS_REPLIES.starts_with(&said));
+        let (status, said) = answers(alloc, &script, &[], &[fault])?;
+        assert!(rt; replies.starts_with(&said));
         match status {
             Status::GroundFault => {
                 assert!(rt; said.is_empty() || said.ends_with(b"\n"));
                 unread = unread || count_lines(&said) == 8;
             }
             Status::SayFault => (),
-            _ => assert_eq!(rt; said.as_slice(), TWO_PARENTS_REPLIES),
+            _ => assert_eq!(rt; said, replies),
         }
     }
     assert!(rt; unread);
@@ -85,6 +97,8 @@ impl Ground for Changed {
     ghost told = { λ g. ⟦<Bench as Ground>⟧.told g.bench };
 
     ghost counts_of = { λ g. ⟦<Bench as Ground>⟧.counts_of g.bench };
+
+    ghost refuses = { λ _ _. false };
 
     ghost possible = { λ g _. possible_by g.bench.log.items };
 
@@ -136,7 +150,7 @@ impl Ground for Changed {
 }
 
 // A script is served after others changed this byte of the open store that another one made: the status and its line, and what was said.
-fn told_after(
+fn served_over(
     alloc: Global,
     made: &[u8],
     asked: &[u8],
@@ -145,16 +159,13 @@ fn told_after(
 ) -> Result<(u8, Vec<u8>, Vec<u8>), Fail> {
     let mut store = bench(alloc, &[])?;
     let _ = init(alloc, &mut store)?;
-    let mut script = source(alloc, made, &[])?;
-    let _ = serve(alloc, &mut script, &mut store, &mut Silent)?;
+    let _ = answers_on(alloc, &mut store, made)?;
     let mut changed = Changed {
         bench: store.after_stop(true)?,
         place,
         byte,
     };
-    let mut script = source(alloc, asked, &[])?;
-    let words = words(alloc, &["ipstore", "serve", "mem"])?;
-    let status = run(alloc, &words, &mut script, &mut changed, &mut Silent);
+    let status = answers_on(alloc, &mut changed, asked)?;
     let mut line = Vec::new(alloc);
     status.put_line(&mut line).ok().ok_or("memory")?;
     let said = changed.bench.said(alloc)?;
@@ -188,7 +199,7 @@ fn a_record_that_was_changed_ends_the_session(rt: HostRuntime) -> Result<(), Fai
         (76, 0, 0, b"", STAT_AND_COMMIT),
     ];
     for (place, byte, code, line, said) in rows {
-        let (ended, printed, replies) = told_after(alloc, EMPTY_MADE, SHOWN, place, byte)?;
+        let (ended, printed, replies) = served_over(alloc, EMPTY_MADE, SHOWN, place, byte)?;
         assert_eq!(rt; ended, code);
         assert_eq!(rt; printed.as_slice(), line);
         assert_eq!(rt; replies.as_slice(), said);
@@ -220,7 +231,7 @@ fn a_record_of_a_tree_that_was_changed_ends_the_session(rt: HostRuntime) -> Resu
         (b"checkout main\ncommit main 1 a m\n", 1, 0, b""),
     ];
     for (asked, byte, code, line) in rows {
-        let (ended, printed, said) = told_after(alloc, LEAF_MADE, asked, 6, byte)?;
+        let (ended, printed, said) = served_over(alloc, LEAF_MADE, asked, 6, byte)?;
         assert_eq!(rt; ended, code);
         assert_eq!(rt; printed.as_slice(), line);
         if code == 4 {

@@ -1,6 +1,6 @@
 //! Stores with a live generation: images made by hand, as a collection leaves them.
-use crate::tests::{bench, init, source, words};
-use crate::{Silent, Status, run};
+use ip_app::Status;
+use ip_bench::{answers_on, bench, bytes_of, init, play_on, told_after};
 use ip_ground::{Bench, FileName, Ground, GroundFault};
 use std::alloc::{AllocError, Global};
 use std::test::Fail;
@@ -72,33 +72,6 @@ fn mapping_of(alloc: Global, horizon: u64, end: u64, rows: &[Row]) -> Result<Vec
         put_numbers(&mut out, &[*at, *length, *place])?;
     }
     Ok(out)
-}
-
-// The bytes of a file.
-pub(crate) fn bytes_of<G: Ground>(
-    alloc: Global,
-    ground: &mut G,
-    file: FileName,
-) -> Result<Vec<u8>, Fail> {
-    let Ok(Some(length)) = ground.length(file) else {
-        return Err("no length")?;
-    };
-    let mut out = vec![in alloc; 0; length as usize]?;
-    match ground.read(file, 0, &mut out) {
-        Ok(_) => Ok(out),
-        Err(_) => Err("not read")?,
-    }
-}
-
-// What is answered over a ground.
-pub(crate) fn answers_on<G: Ground>(
-    alloc: Global,
-    ground: &mut G,
-    script: &[u8],
-) -> Result<Status, AllocError> {
-    let mut source = source(alloc, script, &[])?;
-    let words = words(alloc, &["ipstore", "serve", "mem"])?;
-    Ok(run(alloc, &words, &mut source, ground, &mut Silent))
 }
 
 // The chunk of a new store after a script, and behind it a table.
@@ -179,51 +152,82 @@ fn ground_of(alloc: Global, image: &Image, stop: Option<u64>) -> Result<Bench, F
 }
 
 // The names of the three commits that the scripts make, by another program.
-const FIRST_REPLIES: &[u8] = b"stat 0 1 1 idle\n\
-    log 1 da267306044e5f45350fe52ae5ff610a2ea2c11cca90ab7a85cb3685893e192b\n\
-    value 01\n\
-    commit da267306044e5f45350fe52ae5ff610a2ea2c11cca90ab7a85cb3685893e192b 0 b7e4259175130c72ed16071f4de9a1e9311bad6c9e54dda424dbc0ad31af6362 0 a 0 m\n";
+const FIRST_SERVED: &str = "\
+> stat
+stat 0 1 1 idle
+> log main
+log 1 da267306044e5f45350fe52ae5ff610a2ea2c11cca90ab7a85cb3685893e192b
+> cat main a
+value 01
+> show main
+commit da267306044e5f45350fe52ae5ff610a2ea2c11cca90ab7a85cb3685893e192b 0 b7e4259175130c72ed16071f4de9a1e9311bad6c9e54dda424dbc0ad31af6362 0 a 0 m
+";
 
-const FIRST_SCRIPT: &[u8] = b"stat\nlog main\ncat main a\nshow main\n";
+// The parent of the second commit is gone, and nobody's ancestor, though its child names it.
+const SECOND_SERVED: &str = "\
+> stat
+stat 1 2 1 idle
+> log main
+log 1 a1bae207649021af62d8af58d3c0df1395dc1c65b0e8b6a8aa2a580410745e90
+> cat main a
+value 02
+> show main
+commit a1bae207649021af62d8af58d3c0df1395dc1c65b0e8b6a8aa2a580410745e90 1 b3832bc33919ab331db2ea32bb44e597feebdec914e34fbd7bfcfd6be4bf7d5e 1 a 1 da267306044e5f45350fe52ae5ff610a2ea2c11cca90ab7a85cb3685893e192b m
+> show @da267306044e5f45350fe52ae5ff610a2ea2c11cca90ab7a85cb3685893e192b
+no-commit da267306044e5f45350fe52ae5ff610a2ea2c11cca90ab7a85cb3685893e192b
+> parent @da267306044e5f45350fe52ae5ff610a2ea2c11cca90ab7a85cb3685893e192b
+no-commit da267306044e5f45350fe52ae5ff610a2ea2c11cca90ab7a85cb3685893e192b
+> lcas main main
+lcas 1 a1bae207649021af62d8af58d3c0df1395dc1c65b0e8b6a8aa2a580410745e90
+> checkout main
+at a1bae207649021af62d8af58d3c0df1395dc1c65b0e8b6a8aa2a580410745e90
+> list /
+list 1 c:a
+> set b 03
+ok
+> commit main 2 a m
+committed 57563556eaa132c6443573edfcc5d486443a6a1269a20f96917f9b66f4e8c5db
+> log main
+log 2 57563556eaa132c6443573edfcc5d486443a6a1269a20f96917f9b66f4e8c5db a1bae207649021af62d8af58d3c0df1395dc1c65b0e8b6a8aa2a580410745e90
+> get a
+value 02
+> get b
+value 03
+";
 
-// The parent of the second commit is shown, though it is gone, and nobody's ancestor.
-const SECOND_SCRIPT: &[u8] = b"stat\nlog main\ncat main a\nshow main\n\
-    show @da267306044e5f45350fe52ae5ff610a2ea2c11cca90ab7a85cb3685893e192b\n\
-    parent @da267306044e5f45350fe52ae5ff610a2ea2c11cca90ab7a85cb3685893e192b\n\
-    lcas main main\ncheckout main\nlist /\nset b 03\ncommit main 2 a m\nlog main\nget a\nget b\n";
+const SECOND_AGAIN: &str = "\
+> stat
+stat 1 3 1 idle
+> cat main a
+value 02
+> cat main b
+value 03
+> branch dev main
+ok
+> branch-rm main
+ok
+> branches
+branches 1 dev 57563556eaa132c6443573edfcc5d486443a6a1269a20f96917f9b66f4e8c5db
+";
 
-const SECOND_REPLIES: &[u8] = b"stat 1 2 1 idle\n\
-    log 1 a1bae207649021af62d8af58d3c0df1395dc1c65b0e8b6a8aa2a580410745e90\n\
-    value 02\n\
-    commit a1bae207649021af62d8af58d3c0df1395dc1c65b0e8b6a8aa2a580410745e90 1 b3832bc33919ab331db2ea32bb44e597feebdec914e34fbd7bfcfd6be4bf7d5e 1 a 1 da267306044e5f45350fe52ae5ff610a2ea2c11cca90ab7a85cb3685893e192b m\n\
-    no-commit da267306044e5f45350fe52ae5ff610a2ea2c11cca90ab7a85cb3685893e192b\n\
-    no-commit da267306044e5f45350fe52ae5ff610a2ea2c11cca90ab7a85cb3685893e192b\n\
-    lcas 1 a1bae207649021af62d8af58d3c0df1395dc1c65b0e8b6a8aa2a580410745e90\n\
-    at a1bae207649021af62d8af58d3c0df1395dc1c65b0e8b6a8aa2a580410745e90\n\
-    list 1 c:a\n\
-    ok\n\
-    committed 57563556eaa132c6443573edfcc5d486443a6a1269a20f96917f9b66f4e8c5db\n\
-    log 2 57563556eaa132c6443573edfcc5d486443a6a1269a20f96917f9b66f4e8c5db a1bae207649021af62d8af58d3c0df1395dc1c65b0e8b6a8aa2a580410745e90\n\
-    value 02\n\
-    value 03\n";
-
-const AGAIN_SCRIPT: &[u8] =
-    b"stat\ncat main a\ncat main b\nbranch dev main\nbranch-rm main\nbranches\n";
-
-const AGAIN_REPLIES: &[u8] = b"stat 1 3 1 idle\nvalue 02\nvalue 03\nok\nok\n\
-    branches 1 dev 57563556eaa132c6443573edfcc5d486443a6a1269a20f96917f9b66f4e8c5db\n";
-
-const THIRD_SCRIPT: &[u8] =
-    b"stat\nlog main\ncat main a\ncat main b\ncheckout main\nset c 04\ncommit main 3 a m\nshow main\n";
-
-const THIRD_REPLIES: &[u8] = b"stat 2 3 1 idle\n\
-    log 1 57563556eaa132c6443573edfcc5d486443a6a1269a20f96917f9b66f4e8c5db\n\
-    value 02\n\
-    value 03\n\
-    at 57563556eaa132c6443573edfcc5d486443a6a1269a20f96917f9b66f4e8c5db\n\
-    ok\n\
-    committed 22446c2add5dfa519d0f330118a77cf8723e1b58a6f29637d2dcb4260142864d\n\
-    commit 22446c2add5dfa519d0f330118a77cf8723e1b58a6f29637d2dcb4260142864d 3 a68fa26e3bce84786d539464030897aba6b1f98701feac4b2fc042c32617684e 3 a 1 57563556eaa132c6443573edfcc5d486443a6a1269a20f96917f9b66f4e8c5db m\n";
+const THIRD_SERVED: &str = "\
+> stat
+stat 2 3 1 idle
+> log main
+log 1 57563556eaa132c6443573edfcc5d486443a6a1269a20f96917f9b66f4e8c5db
+> cat main a
+value 02
+> cat main b
+value 03
+> checkout main
+at 57563556eaa132c6443573edfcc5d486443a6a1269a20f96917f9b66f4e8c5db
+> set c 04
+ok
+> commit main 3 a m
+committed 22446c2add5dfa519d0f330118a77cf8723e1b58a6f29637d2dcb4260142864d
+> show main
+commit 22446c2add5dfa519d0f330118a77cf8723e1b58a6f29637d2dcb4260142864d 3 a68fa26e3bce84786d539464030897aba6b1f98701feac4b2fc042c32617684e 3 a 1 57563556eaa132c6443573edfcc5d486443a6a1269a20f96917f9b66f4e8c5db m
+";
 
 fn first_image(alloc: Global) -> Result<Image, Fail> {
     let chunk = chunk_after(alloc, FIRST, TABLES[0])?;
@@ -238,7 +242,7 @@ fn second_image(alloc: Global) -> Result<Image, Fail> {
 // Of the second image after one more commit: what is kept from below its horizon stands in its prefix.
 fn third_image(alloc: Global) -> Result<Image, Fail> {
     let mut ground = ground_of(alloc, &second_image(alloc)?, None)?;
-    let _ = answers_on(alloc, &mut ground, SECOND_SCRIPT)?;
+    play_on(alloc, &mut ground, SECOND_SERVED)?;
     let prefix = bytes_of(alloc, &mut ground, FileName::Prefix(1))?;
     let later = bytes_of(alloc, &mut ground, CHUNK)?;
     let mut chunk = vec![in alloc; 0xff; 144]?;
@@ -264,15 +268,14 @@ fn mappings_are_as_they_are_told(rt: HostRuntime) -> Result<(), Fail> {
 #[test]
 fn a_store_is_served_over_a_generation(rt: HostRuntime) -> Result<(), Fail> {
     let alloc = rt.alloc();
-    let rows: [(Image, &[u8], &[u8]); 3] = [
-        (first_image(alloc)?, FIRST_SCRIPT, FIRST_REPLIES),
-        (second_image(alloc)?, SECOND_SCRIPT, SECOND_REPLIES),
-        (third_image(alloc)?, THIRD_SCRIPT, THIRD_REPLIES),
+    let rows: [(Image, &str); 3] = [
+        (first_image(alloc)?, FIRST_SERVED),
+        (second_image(alloc)?, SECOND_SERVED),
+        (third_image(alloc)?, THIRD_SERVED),
     ];
-    for (image, script, replies) in &rows {
+    for (image, transcript) in &rows {
         let mut ground = ground_of(alloc, image, None)?;
-        assert_eq!(&rt; answers_on(alloc, &mut ground, script)?, Status::Done);
-        assert_eq!(&rt; ground.said(alloc)?.as_slice(), *replies);
+        play_on(alloc, &mut ground, transcript)?;
     }
     Ok(())
 }
@@ -281,11 +284,9 @@ fn a_store_is_served_over_a_generation(rt: HostRuntime) -> Result<(), Fail> {
 fn what_was_committed_over_a_generation_stands_again(rt: HostRuntime) -> Result<(), Fail> {
     let alloc = rt.alloc();
     let mut ground = ground_of(alloc, &second_image(alloc)?, None)?;
-    let _ = answers_on(alloc, &mut ground, SECOND_SCRIPT)?;
+    play_on(alloc, &mut ground, SECOND_SERVED)?;
     let mut ground = ground.after_stop(false)?;
-    assert_eq!(rt; answers_on(alloc, &mut ground, AGAIN_SCRIPT)?, Status::Done);
-    assert_eq!(rt; ground.said(alloc)?.as_slice(), AGAIN_REPLIES);
-    Ok(())
+    play_on(alloc, &mut ground, SECOND_AGAIN)
 }
 
 // Opening reads the mapping, the one run of the prefix and the chunk once each; an object below the horizon takes one read.
@@ -512,12 +513,8 @@ fn a_commit_over_a_generation_is_there_or_not(rt: HostRuntime) -> Result<(), Fai
             let mut ground = ground_of(alloc, &second_image(alloc)?, Some(stop))?;
             let status = answers_on(alloc, &mut ground, COMMIT_SCRIPT)?;
             let is_acknowledged = status == Status::Done;
-            let mut ground = ground.after_stop(keep)?;
-            assert_eq!(&rt;
-                answers_on(alloc, &mut ground, b"stat\ncat main a\n")?,
-                Status::Done
-            );
-            let said = ground.said(alloc)?;
+            let (ended, said) = told_after(alloc, ground, keep, b"stat\ncat main a\n")?;
+            assert_eq!(&rt; ended, Status::Done);
             let with = said.as_slice() == b"stat 1 3 1 idle\nvalue 02\n".as_slice();
             let without = said.as_slice() == b"stat 1 2 1 idle\nvalue 02\n".as_slice();
             assert!(&rt; with || without && !is_acknowledged);
@@ -562,20 +559,34 @@ fn far_ground(alloc: Global) -> Result<Bench, Fail> {
     }
 }
 
-const FAR_SCRIPT: &[u8] = b"checkout main\ncat main a\ncommit main 1 a m\nbranch dev main\nstat\n";
-
-const FAR_REPLIES: &[u8] = b"at da267306044e5f45350fe52ae5ff610a2ea2c11cca90ab7a85cb3685893e192b\n\
-    value 01\nlimit space\nok\nstat 0 1 2 idle\n";
+const FAR_SERVED: &str = "\
+> checkout main
+at da267306044e5f45350fe52ae5ff610a2ea2c11cca90ab7a85cb3685893e192b
+> cat main a
+value 01
+> commit main 1 a m
+limit space
+> branch dev main
+ok
+> stat
+stat 0 1 2 idle
+";
 
 #[test]
 fn no_record_ends_behind_the_greatest_offset(rt: HostRuntime) -> Result<(), Fail> {
     let alloc = rt.alloc();
     let mut ground = far_ground(alloc)?;
-    assert_eq!(rt; answers_on(alloc, &mut ground, FAR_SCRIPT)?, Status::Done);
-    assert_eq!(rt; ground.said(alloc)?.as_slice(), FAR_REPLIES);
+    play_on(alloc, &mut ground, FAR_SERVED)?;
     assert_eq!(rt; ground.length(LAST_CHUNK), Ok(Some(4000)));
     Ok(())
 }
+
+const NO_SEQUENCE_LEFT: &str = "\
+> branch dev main
+limit sequence
+> stat
+stat 0 1 1 idle
+";
 
 #[test]
 fn no_sequence_is_above_the_greatest(rt: HostRuntime) -> Result<(), Fail> {
@@ -585,13 +596,5 @@ fn no_sequence_is_above_the_greatest(rt: HostRuntime) -> Result<(), Fail> {
     slot[0] = 1 << 62;
     let image = collected(alloc, &slot, FIRST_ROWS, chunk)?;
     let mut ground = ground_of(alloc, &image, None)?;
-    assert_eq!(rt;
-        answers_on(alloc, &mut ground, b"branch dev main\nstat\n")?,
-        Status::Done
-    );
-    assert_eq!(rt;
-        ground.said(alloc)?.as_slice(),
-        b"limit sequence\nstat 0 1 1 idle\n".as_slice()
-    );
-    Ok(())
+    play_on(alloc, &mut ground, NO_SEQUENCE_LEFT)
 }

@@ -1,9 +1,7 @@
 //! Scripts drawn at random: each reply is the one that the model's machine gives.
-use crate::Status;
-use crate::chunk_tests::{init_with, put_value};
-use crate::generation_tests::answers_on;
-use crate::tests::{answers, bench};
+use ip_app::Status;
 use ip_base::Hash;
+use ip_bench::{answers, answers_on, bench, init_with, put_value};
 use ip_ground::{FileName, Ground};
 use ip_model::Machine;
 use ip_script::{Command, Reply, read_line, reply_text};

@@ -1,0 +1,5 @@
+//! Tests of single lines, calls and statuses: transcripts, words of a call, lengths and limits.
+#![tactic(auto)]
+
+#[cfg(test)]
+mod tests;

@@ -1,0 +1,5 @@
+//! Tests of commits that are stopped, cut and opened again.
+#![tactic(auto)]
+
+#[cfg(test)]
+mod tests;
