@@ -243,6 +243,6 @@ no_others (x ∷ xs) = ap (λ (u : List (List ℕ)). x ∷ u) (no_others xs)
 pub ends_as_bytes : (old new : Outside) (s : Status) → Serves old new s → EndsAsBytes old s
 ends_as_bytes old new s v told o =
     let r = row_reading s old new v.taken o v.row in
-    let lines : whole_lines v.taken ≡ lines_in v.exchanges = v.begun.1 ∙ (ap (λ (u : List (List ℕ)). lines_in v.exchanges ++ u) (v.begun.2 r.1) ∙ no_others (lines_in v.exchanges)) in
-    ending_is s old.left v.taken new.left o (v.bytes told) (subst (All (λ line. length line ≤ 4194304)) (sym lines) v.short)
+    let lines : whole_lines v.taken ≡ lines_in v.exchanges = v.replies.begun.1 ∙ (ap (λ (u : List (List ℕ)). lines_in v.exchanges ++ u) (v.replies.begun.2 r.1) ∙ no_others (lines_in v.exchanges)) in
+    ending_is s old.left v.taken new.left o (v.replies.bytes told) (subst (All (λ line. length line ≤ 4194304)) (sym lines) v.replies.short)
     (ends_along s _ _ _ _ _ _ r.0 refl refl (λ e. e told))

@@ -237,23 +237,29 @@ serves_none old new s g f opening left turns reads unopened begins counted row =
       exchanges = [];
       first = first;
       goes_on = g;
-      files = λ b. keeps_unchanged old.told new.told (f b.0);
-      bytes = λ b. sym left;
-      begun = ([], refl, λ c. refl);
-      short = All-nil IsShort;
       begins = begins;
       first_is = refl;
-      run = λ told. tt;
-      placed = λ told slot live. record { whole = []; cut = []; all = refl; one = omega arith; none = λ _. refl; last = slot; view = no_view; places = (refl, refl) };
-      stands = λ b whole h. stands_after old.told new.told (f b.0) b.1 first.repository h;
-      headline = λ b r stands order. ((opening b).since, λ behind. absurd (unopened behind), headline_none old.told new.told (f b) (opening b) r stands order);
-      again = λ b may. record { repository = may.repository; stands = stands_after old.told new.told (f b) (owns_pending old.told may.nothing_pending) may.repository may.stands; nothing_pending = (opening b).nothing_pending may.nothing_pending };
-      said_part = λ b. record { whole = []; cut = []; part = []; unsaid = []; all = refl; one = omega arith; text = refl; said_is = quiet b.0 ∙ (sym (append_nil (said old.told)) ∙ sym (append_nil (said old.told ++ []))); silent = λ cut_short. refl };
-      said_all = λ b c. quiet b.0 ∙ sym (append_nil (said old.told));
-      noted = λ b. turns ∙ sym (append_nil old.turns);
-      follow = λ behind. absurd (unopened behind);
-      counted = counted;
-      reads = λ other. reads;
+      replies = record {
+        bytes = λ b. sym left;
+        begun = ([], refl, λ c. refl);
+        short = All-nil IsShort;
+        run = λ told. tt;
+        placed = λ told slot live. record { whole = []; cut = []; all = refl; one = omega arith; none = λ _. refl; last = slot; view = no_view; places = (refl, refl) };
+        said_part = λ b. record { whole = []; cut = []; part = []; unsaid = []; all = refl; one = omega arith; some = λ _ begun. absurd (begun refl); text = refl; said_is = quiet b.0 ∙ (sym (append_nil (said old.told)) ∙ sym (append_nil (said old.told ++ []))); silent = λ cut_short. refl };
+        said_all = λ b c. quiet b.0 ∙ sym (append_nil (said old.told));
+      };
+      reopens = record {
+        any_moment = λ b r stands order. ((opening b).since, λ behind. absurd (unopened behind), headline_none old.told new.told (f b) (opening b) r stands order);
+        again = λ b may. record { repository = may.repository; stands = stands_after old.told new.told (f b) (owns_pending old.told may.nothing_pending) may.repository may.stands; nothing_pending = (opening b).nothing_pending may.nothing_pending };
+        stands = λ b whole h. stands_after old.told new.told (f b.0) b.1 first.repository h;
+        files = λ b. keeps_unchanged old.told new.told (f b.0);
+      };
+      notes = record {
+        noted = λ b. turns ∙ sym (append_nil old.turns);
+        follow = λ behind. absurd (unopened behind);
+        counted = counted;
+        reads = λ other. reads;
+      };
       row = row;
     }
 
@@ -348,25 +354,31 @@ serves_stopped s old mid new lines lines' counts counts' session h t =
       exchanges = h.exchanges;
       first = first;
       goes_on = goes_on_then old mid new h.goes_on t.goes_on;
-      files = λ g. keeps_on old.told mid.told new.told (h.files (h.known_so g)) t.files;
-      bytes = λ b. h.bytes b ∙ (ap (λ (u : Bytes). h.done ++ u) (t.front (told_before _ _ h.goes_on.source_tells b)) ∙ sym (append_assoc h.done t.rest new.left));
-      begun = ([], whole, λ c. refl);
-      short = h.short;
       begins = end.begins;
       first_is = refl;
-      run = λ b. h.run (h.known_so b);
-      placed = λ b slot live. record { whole = h.exchanges; cut = []; all = append_nil h.exchanges; one = omega arith; none = λ _. refl; last = session.store.slot; view = h.view; places = placed_from old mid lines counts session h b slot live };
-      stands = λ b whole began. subst (λ (state : State). StandsFor new.told.held state.repository) (h.now_at (h.known_so b)) (t.stands (h.known_so b));
-      headline = λ b r stands order. let is = known b order in of_opened (IsBehindOpening s h.exchanges) (h.opened_at is) old new h.first h.exchanges (h.began is) r stands
-          (let was = h.over is in let later = t.files.goes.later in omega (arith, was, later))
-          (headline_later (h.opened_at is) old.told mid.told new.told first (map answer_of h.exchanges) (h.headline is order) t.files.goes t.same_moment);
-      again = λ b may. let is = known b may.nothing_pending in record { repository = h.repository; stands = t.stands is; nothing_pending = t.nothing_pending (h.nothing_pending is may.nothing_pending) };
-      said_part = λ b. record { whole = h.exchanges; cut = []; part = []; unsaid = []; all = append_nil h.exchanges; one = omega arith; text = refl; said_is = quiet b ∙ sym (append_nil (said old.told ++ texts_in h.exchanges)); silent = λ cut_short. refl };
-      said_all = λ b c. quiet b;
-      noted = λ l. t.same_turns ∙ h.noted (t.goes_on.log_tells l);
-      follow = λ behind. subst (λ (e : TurnCounts). Follow (turn_counts old.counts) (turns_in h.exchanges) e) (h.counts_now ∙ ap turn_counts (sym t.no_fault)) h.follow;
-      counted = end.counted;
-      reads = end.reads;
+      replies = record {
+        bytes = λ b. h.bytes b ∙ (ap (λ (u : Bytes). h.done ++ u) (t.front (told_before _ _ h.goes_on.source_tells b)) ∙ sym (append_assoc h.done t.rest new.left));
+        begun = ([], whole, λ c. refl);
+        short = h.short;
+        run = λ b. h.run (h.known_so b);
+        placed = λ b slot live. record { whole = h.exchanges; cut = []; all = append_nil h.exchanges; one = omega arith; none = λ _. refl; last = session.store.slot; view = h.view; places = placed_from old mid lines counts session h b slot live };
+        said_part = λ b. record { whole = h.exchanges; cut = []; part = []; unsaid = []; all = append_nil h.exchanges; one = omega arith; some = λ c _. absurd (cc (c, end.whole)); text = refl; said_is = quiet b ∙ sym (append_nil (said old.told ++ texts_in h.exchanges)); silent = λ cut_short. refl };
+        said_all = λ b c. quiet b;
+      };
+      reopens = record {
+        any_moment = λ b r stands order. let is = known b order in of_opened (IsBehindOpening s h.exchanges) (h.opened_at is) old new h.first h.exchanges (h.began is) r stands
+            (let was = h.over is in let later = t.files.goes.later in omega (arith, was, later))
+            (headline_later (h.opened_at is) old.told mid.told new.told first (map answer_of h.exchanges) (h.headline is order) t.files.goes t.same_moment);
+        again = λ b may. let is = known b may.nothing_pending in record { repository = h.repository; stands = t.stands is; nothing_pending = t.nothing_pending (h.nothing_pending is may.nothing_pending) };
+        stands = λ b whole began. subst (λ (state : State). StandsFor new.told.held state.repository) (h.now_at (h.known_so b)) (t.stands (h.known_so b));
+        files = λ g. keeps_on old.told mid.told new.told (h.files (h.known_so g)) t.files;
+      };
+      notes = record {
+        noted = λ l. t.same_turns ∙ h.noted (t.goes_on.log_tells l);
+        follow = λ behind. subst (λ (e : TurnCounts). Follow (turn_counts old.counts) (turns_in h.exchanges) e) (h.counts_now ∙ ap turn_counts (sym t.no_fault)) h.follow;
+        counted = end.counted;
+        reads = end.reads;
+      };
       row = end.row;
     }
 
@@ -386,26 +398,32 @@ serves_unsaid s old mid new lines lines' counts counts' session h cut opened_so 
       exchanges = xs;
       first = first;
       goes_on = goes_on_then old mid new h.goes_on t.goes_on;
-      files = λ g. keeps_on old.told mid.told new.told (h.files (h.known_so g)) (t.files (h.known_so g));
-      bytes = λ b. h.bytes b ∙ (ap (λ (u : Bytes). h.done ++ u) (t.front (told_before _ _ h.goes_on.source_tells b)) ∙ (regroup h.done x.line (pending lines' ++ new.left) ∙ sym (append_assoc done (pending lines') new.left)));
-      begun = (whole_lines (pending lines'), then_lines (pending lines'), λ c. absurd (cc (c, cut)));
-      short = subst (All IsShort) (sym (map-append (λ x. x.line) h.exchanges (x ∷ []))) (All-append IsShort (lines_in h.exchanges) (x.line ∷ []) h.short (All-cons IsShort x.line [] t.short (All-nil IsShort)));
       begins = opened_so xs;
       first_is = refl;
-      placed = λ b slot live. record { whole = h.exchanges; cut = x ∷ []; all = refl; one = omega arith; none = λ c. absurd (cc (c, cut)); last = session.store.slot; view = h.view; places = placed_from old mid lines counts session h b slot live };
-      run = λ b. let is = h.known_so b in run_more no_rules first (state_in session h.repository h.view) h.exchanges x (h.now_at is) (h.run is) (t.step is);
-      stands = λ b whole began. subst (λ (state : State). StandsFor new.told.held state.repository) (sym (after_more first h.exchanges x)) (u.stands (h.known_so b) whole);
-      headline = λ b r stands order. let is = known b order in of_opened (IsBehindOpening s xs) (h.opened_at is) old new h.first xs (h.began is) r stands
-          (let was = h.over is in let later = (t.files is).goes.later in omega (arith, was, later))
-          (headline_turn (h.opened_at is) old.told mid.told new.told first h.exchanges x (h.headline is order) (t.files is).goes (h.over is) (h.said is)
-          h.repository x.after.repository (ap (λ (state : State). state.repository) (h.now_at is)) refl (u.turning is (h.nothing_pending is order)));
-      again = λ b may. let is = known b may.nothing_pending in u.again is (h.nothing_pending is may.nothing_pending);
-      said_part = λ b. let is = h.known_so b in let p = u.part is in record { whole = h.exchanges; cut = x ∷ []; part = p.0; unsaid = p.1; all = refl; one = omega arith; text = p.2 ∙ sym (append_nil (reply_text x.reply)); said_is = p.3 ∙ ap (λ (v : Bytes). v ++ p.0) (h.said is); silent = u.silent is };
-      said_all = λ b c. absurd (cc (c, cut));
-      noted = λ l. t.noted l ∙ (ap (λ u. u ++ x.turn ∷ []) (h.noted (t.goes_on.log_tells l)) ∙ (append_assoc old.turns (turns_in h.exchanges) (x.turn ∷ []) ∙ ap (λ u. old.turns ++ u) (sym (map-append (λ x. x.turn) h.exchanges (x ∷ [])))));
-      follow = λ behind. subst (λ (e : TurnCounts). Follow (turn_counts old.counts) (turns_in xs) e) t.until (follow_turn old mid lines counts counts' session h x t.begins_at t.ends_at t.rises);
-      counted = subst (λ (c : GroundCounts). CountsOf s c new.counts) h.no_fault u.counted;
-      reads = λ other. t.reads ∙ h.reads;
+      replies = record {
+        bytes = λ b. h.bytes b ∙ (ap (λ (u : Bytes). h.done ++ u) (t.front (told_before _ _ h.goes_on.source_tells b)) ∙ (regroup h.done x.line (pending lines' ++ new.left) ∙ sym (append_assoc done (pending lines') new.left)));
+        begun = (whole_lines (pending lines'), then_lines (pending lines'), λ c. absurd (cc (c, cut)));
+        short = subst (All IsShort) (sym (map-append (λ x. x.line) h.exchanges (x ∷ []))) (All-append IsShort (lines_in h.exchanges) (x.line ∷ []) h.short (All-cons IsShort x.line [] t.short (All-nil IsShort)));
+        run = λ b. let is = h.known_so b in run_more no_rules first (state_in session h.repository h.view) h.exchanges x (h.now_at is) (h.run is) (t.step is);
+        placed = λ b slot live. record { whole = h.exchanges; cut = x ∷ []; all = refl; one = omega arith; none = λ c. absurd (cc (c, cut)); last = session.store.slot; view = h.view; places = placed_from old mid lines counts session h b slot live };
+        said_part = λ b. let is = h.known_so b in let p = u.part is in record { whole = h.exchanges; cut = x ∷ []; part = p.0; unsaid = p.1; all = refl; one = omega arith; some = λ _ _ none. absurd (cc none); text = p.2 ∙ sym (append_nil (reply_text x.reply)); said_is = p.3 ∙ ap (λ (v : Bytes). v ++ p.0) (h.said is); silent = u.silent is };
+        said_all = λ b c. absurd (cc (c, cut));
+      };
+      reopens = record {
+        any_moment = λ b r stands order. let is = known b order in of_opened (IsBehindOpening s xs) (h.opened_at is) old new h.first xs (h.began is) r stands
+            (let was = h.over is in let later = (t.files is).goes.later in omega (arith, was, later))
+            (headline_turn (h.opened_at is) old.told mid.told new.told first h.exchanges x (h.headline is order) (t.files is).goes (h.over is) (h.said is)
+            h.repository x.after.repository (ap (λ (state : State). state.repository) (h.now_at is)) refl (u.turning is (h.nothing_pending is order)));
+        again = λ b may. let is = known b may.nothing_pending in u.again is (h.nothing_pending is may.nothing_pending);
+        stands = λ b whole began. subst (λ (state : State). StandsFor new.told.held state.repository) (sym (after_more first h.exchanges x)) (u.stands (h.known_so b) whole);
+        files = λ g. keeps_on old.told mid.told new.told (h.files (h.known_so g)) (t.files (h.known_so g));
+      };
+      notes = record {
+        noted = λ l. t.noted l ∙ (ap (λ u. u ++ x.turn ∷ []) (h.noted (t.goes_on.log_tells l)) ∙ (append_assoc old.turns (turns_in h.exchanges) (x.turn ∷ []) ∙ ap (λ u. old.turns ++ u) (sym (map-append (λ x. x.turn) h.exchanges (x ∷ [])))));
+        follow = λ behind. subst (λ (e : TurnCounts). Follow (turn_counts old.counts) (turns_in xs) e) t.until (follow_turn old mid lines counts counts' session h x t.begins_at t.ends_at t.rises);
+        counted = subst (λ (c : GroundCounts). CountsOf s c new.counts) h.no_fault u.counted;
+        reads = λ other. t.reads ∙ h.reads;
+      };
       row = row (done ++ pending lines');
     }
 

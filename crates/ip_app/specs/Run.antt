@@ -1,5 +1,6 @@
 -- What a call of the program does, from what is told when it begins to what is told when it returns.
 --     Inits, Serves      one record for each call; its last field is the row of the status
+--     Replies, Reopens, Notes      of a serving call: its replies, what its files stand for, and its log and counts
 --     EndsAsBytes, EndsWhereAllIsWell      of a serving call: the source's bytes give the status; and which statuses need a fault
 --     LeavesAll      of a call that is refused: nothing changes
 use Rattle.std.specs.Prelude.{ℕ, ◌≤◌, ◌≡◌, ◌≢◌, ◌⊎◌, Bool, true, false, IsTrue, List, [], ◌++◌, length, map, All, None, IsSome, Result, Ok, Err}
@@ -81,13 +82,15 @@ is_cut_off (Status.DamagedName at want got) = true
 is_cut_off _ = false
 
 -- what was said of the replies: all, or all but the last and a part of that; nothing of one whose command was cut short
-pub record SaysUpTo (status : Status) (exchanges : List Exchange) (old new : Bytes) : Type 0 where
+pub record SaysUpTo (status : Status) (begun : Type 0) (exchanges : List Exchange) (old new : Bytes) : Type 0 where
   pub whole : List Exchange
   pub cut : List Exchange
   pub part : Bytes
   pub unsaid : Bytes
   pub all : whole ++ cut ≡ exchanges
   pub one : length cut ≤ 1
+  -- the command in whose middle it ended is one of them
+  pub some : is_cut_off status ≡ true → begun → cut ≢ []
   pub text : part ++ unsaid ≡ texts_in cut
   pub said_is : new ≡ old ++ texts_in whole ++ part
   pub silent : is_cut_short status ≡ true → part ≡ []
@@ -128,41 +131,54 @@ IsBehindOpening Status.Memory exchanges = ⊥
 IsBehindOpening Status.GroundFault exchanges = exchanges ≢ []
 IsBehindOpening status exchanges = Unit {0}
 
-pub record Serves (old new : Outside) (status : Status) : Type 0 where
-  pub taken : Bytes
-  pub exchanges : List Exchange
-  pub first : State
-  pub goes_on : GoesOn old new
-  -- at no moment does a file change but the chunk and the control file, and nothing is lent
-  pub files : Tells old → KeepsFiles old.told new.told
+-- What was read, and what was replied.
+pub record Replies (old new : Outside) (status : Status) (taken : Bytes) (exchanges : List Exchange) (first : State) : Type 0 where
   -- the bytes taken from the source, in whatever pieces
   pub bytes : IsTrue old.source_tells → old.left ≡ taken ++ new.left
   -- the commands begun are those of their lines, in order, and of all of them unless one cut the call short
   pub begun : (more : List Bytes) × (whole_lines taken ≡ lines_in exchanges ++ more) × (is_cut_off status ≡ false → more ≡ [])
   pub short : All (λ line. length line ≤ longest_line) (lines_in exchanges)
-  -- they begin with the repository that was opened
-  pub begins : Begins status old first exchanges
-  pub first_is : first ≡ opened first.repository
   -- and are a run of the machine, each with what it met. What is read of records is known only where the ground tells its content
   pub run : Tells old → Run no_rules first exchanges
   -- What each of them appends comes to lie behind what the live slot says, and a limit of space or of the sequence is met by that alone.
   pub placed : Tells old → (slot : Slot) → HasLive slot old.told.held → PlacesIn (is_cut_off status) slot first exchanges
-  -- in the end the files stand for the repository after all of them, unless a fault of the ground or of its files cut the last one short
-  pub stands : Tells old → is_cut_short status ≡ false → StandsFor old.told.held first.repository → StandsFor new.told.held (after_all first exchanges).repository
+  -- what was said grows by the replies' texts
+  pub said_part : Tells old → SaysUpTo status (taken ≢ []) exchanges (said old.told) (said new.told)
+  pub said_all : Tells old → is_cut_off status ≡ false → said new.told ≡ said old.told ++ texts_in exchanges
+
+-- What the files stand for.
+pub record Reopens (old new : Outside) (status : Status) (exchanges : List Exchange) (first : State) : Type 0 where
   -- At every moment from the first sync of opening on, where the ground was in order: what had been said was a front of the replies' texts, and whatever a crash leaves
   -- stands for the repository after some first commands, all acknowledged ones among them.
-  pub headline : IsTrue old.ground_tells → (r : Repository) → StandsFor old.told.held r → NothingPending old.told → (since : ℕ) × (IsBehindOpening status exchanges → since ≤ new.told.moment) × Headline since old.told new.told (opened r) (map answer_of exchanges)
+  pub any_moment : IsTrue old.ground_tells → (r : Repository) → StandsFor old.told.held r → NothingPending old.told → (since : ℕ) × (IsBehindOpening status exchanges → since ≤ new.told.moment) × Headline since old.told new.told (opened r) (map answer_of exchanges)
   -- and the ground that is left may be served again, however this run ended
   pub again : IsTrue old.ground_tells → MayServe old.told → MayServe new.told
-  -- what was said grows by the replies' texts
-  pub said_part : Tells old → SaysUpTo status exchanges (said old.told) (said new.told)
-  pub said_all : Tells old → is_cut_off status ≡ false → said new.told ≡ said old.told ++ texts_in exchanges
+  -- in the end the files stand for the repository after all of them, unless a fault of the ground or of its files cut the last one short
+  pub stands : Tells old → is_cut_short status ≡ false → StandsFor old.told.held first.repository → StandsFor new.told.held (after_all first exchanges).repository
+  -- at no moment does a file change but the chunk and the control file, and nothing is lent
+  pub files : Tells old → KeepsFiles old.told new.told
+
+-- What was noted in the log, and what was counted.
+pub record Notes (old new : Outside) (status : Status) (exchanges : List Exchange) : Type 0 where
   -- the log has their turns, each beginning with the counts that the one before it ended with, from those of the call's begin to those of its end
   pub noted : IsTrue new.log_tells → new.turns ≡ old.turns ++ turns_in exchanges
   pub follow : IsBehindOpening status exchanges → Follow (turn_counts old.counts) (turns_in exchanges) (turn_counts new.counts)
   -- a fault of the ground or of output ends the call: it was counted, and no other was
   pub counted : CountsOf status old.counts new.counts
   pub reads : status ≢ Status.ReadFault → new.read_faults ≡ old.read_faults
+
+-- Of these bytes taken, and these exchanges from this state on.
+pub record Serves (old new : Outside) (status : Status) : Type 0 where
+  pub taken : Bytes
+  pub exchanges : List Exchange
+  pub first : State
+  pub goes_on : GoesOn old new
+  -- they begin with the repository that was opened
+  pub begins : Begins status old first exchanges
+  pub first_is : first ≡ opened first.repository
+  pub replies : Replies old new status taken exchanges first
+  pub reopens : Reopens old new status exchanges first
+  pub notes : Notes old new status exchanges
   -- why it ends so
   pub row : Row status old new taken
 

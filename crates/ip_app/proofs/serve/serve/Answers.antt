@@ -66,13 +66,13 @@ lines-smaller g c =
     omega (arith, turned.count, c.turn.ensures.roomy.ready.few, served.count)
 
 pub returns-in-Err-clause-complete : goal.returns-in-Err-clause-complete
-returns-in-Err-clause-complete g c = let done = returns-in-Err-clause-serves g c in ends_by_script _ _ _ done.taken done.row done.counted
+returns-in-Err-clause-complete g c = let done = returns-in-Err-clause-serves g c in ends_by_script _ _ _ done.taken done.row done.notes.counted
 
 pub returns-in_default-clause-complete : goal.returns-in_default-clause-complete
-returns-in_default-clause-complete g c = let done = returns-in_default-clause-serves g c in ends_by_script status.Memory _ _ done.taken done.row done.counted
+returns-in_default-clause-complete g c = let done = returns-in_default-clause-serves g c in ends_by_script status.Memory _ _ done.taken done.row done.notes.counted
 
 pub returns-in-Err-turn-clause-complete : goal.returns-in-Err-turn-clause-complete
-returns-in-Err-turn-clause-complete g c = let done = returns-in-Err-turn-clause-serves g c in ends_by_script _ _ _ done.taken done.row done.counted
+returns-in-Err-turn-clause-complete g c = let done = returns-in-Err-turn-clause-serves g c in ends_by_script _ _ _ done.taken done.row done.notes.counted
 
 pub returns-in-Err-clause-bytes : goal.returns-in-Err-clause-bytes
 returns-in-Err-clause-bytes g c = ends_as_bytes _ _ _ (returns-in-Err-clause-serves g c)
