@@ -1,6 +1,6 @@
 -- What a failed write may have left.
-use Rattle.std.proofs.Common.{◌≡◌, ◌⊎◌, inl, inr, ℕ, List, [], ◌∷◌, ◌++◌, length, take, sym, subst, ap, ◌∙◌, arith}
-use Rattle.std.specs.Prelude.{OnOk, OnErr, Result, Ok, Err, MatchBool}
+use Rattle.std.proofs.Common.{◌≡◌, ℕ, List, [], ◌∷◌, ◌++◌, length, take, sym, subst, ap, ◌∙◌, arith}
+use Rattle.std.specs.Prelude.{OnOk, Result, Ok, Err, MatchBool}
 use Rattle.std.proofs.lemmas.List.{take_all}
 use Rattle.ip_ground.specs.declared.names.FileName.{FileName}
 use Rattle.ip_ground.specs.declared.event.Event.{Event}
@@ -25,6 +25,6 @@ module _ (log : List Event) (file : FileName) (at n : ℕ) where
       subst (λ b. MatchBool b ((x : Content) × (replayed blank log).may_leave file x × Torn at n x content) ((replayed blank log).may_leave file content)) (sym (file_itself file)) (before, was, torn) in
       subst (λ (s : State). s.may_leave file content) (sym noted) now
 
-pub torn_either : {T : Type 0} (r : Result (Unit {0}) T) (old new : List Event) (file : FileName) (at n : ℕ) → OnOk r (new ≡ old ++ Failed file at n ∷ []) → OnErr r (new ≡ old) → (new ≡ old) ⊎ MayTear file at n (told_by old) (told_by new)
-torn_either (Ok u) old new file at n is same = inr (subst (λ l. MayTear file at n (told_by old) (told_by l)) (sym is) (failed_tears old file at n))
-torn_either (Err x) old new file at n is same = inl same
+pub tears_noted : {T : Type 0} (r : Result (Unit {0}) T) (old new : List Event) (file : FileName) (at n : ℕ) → OnOk r (new ≡ old ++ Failed file at n ∷ []) → OnOk r (MayTear file at n (told_by old) (told_by new))
+tears_noted (Ok u) old new file at n is = subst (λ l. MayTear file at n (told_by old) (told_by l)) (sym is) (failed_tears old file at n)
+tears_noted (Err x) old new file at n is = tt

@@ -1,5 +1,5 @@
 // The steps of a ground in memory, over its files and its log.
-ghost use Rattle.std.specs.Prelude.{◌≡◌, ◌≤◌, ◌-◌, ◌⊎◌, ◌↔◌, ◌++◌, [], ◌∷◌, length, min, take, drop, IfOk, OnOk, OnErr, IsTrue};
+ghost use Rattle.std.specs.Prelude.{◌≡◌, ◌≤◌, ◌-◌, ◌↔◌, ◌++◌, [], ◌∷◌, length, min, take, drop, IfOk, OnOk, OnErr, IsTrue};
 ghost use Rattle.ip_ground.specs.Told.{said, lending, IsLoose, MayTear, NoFile, ChangesOnly, Reopens, IsSyncedAs};
 ghost use Rattle.ip_ground.specs.Calls.{Writes};
 ghost use Rattle.ip_ground.specs.Custody.{custody_of, lent};
@@ -188,16 +188,23 @@ pub fn note(files: &Files, log: &mut Vec<Event>, event: Event) -> Result<(), All
     Ok(())
 }
 
-// A write that failed. A crash may leave any bytes in its range, unless there was no memory to note it.
-pub fn note_failed(files: &Files, log: &mut Vec<Event>, file: FileName, at: u64, bytes: &[u8])
+// A write that failed: a crash may leave any bytes in its range.
+pub fn note_failed(
+    files: &Files,
+    log: &mut Vec<Event>,
+    file: FileName,
+    at: u64,
+    bytes: &[u8],
+) -> Result<(), AllocError>
     requires tied { IsTied files.now log.old.items }
     ensures tied { IsTied files.now log.new.items }
     ensures does { (fault : GroundFault) → Writes file at bytes.now (Err fault) (told_by log.old.items) (told_by log.new.items) }
-    ensures torn { (log.new.items ≡ log.old.items) ⊎ MayTear file at (length bytes.now) (told_by log.old.items) (told_by log.new.items) }
+    ensures ok { OnOk result (MayTear file at (length bytes.now) (told_by log.old.items) (told_by log.new.items)) }
+    ensures err { OnErr result (log.new.items ≡ log.old.items) }
     ensures durable { (file : _) → durable_by log.new.items file ≡ durable_by log.old.items file }
 {
     let count = bytes.len() as u64;
-    let _ = note(files, log, Event::Failed { file, at, count });
+    note(files, log, Event::Failed { file, at, count })
 }
 
 // Bytes that are said. They are said whole or not at all.
