@@ -68,6 +68,8 @@ impl Audit {
         ensures fits { (taken : Records) → Audited self.old taken → IsBeyond at taken → OnOk result (RecordFits self.old.terms taken at rec.now) }
         ensures goes_on { (taken : Records) → Audited self.old taken → IsBeyond at taken → OnOk result (Audited self.new (taken ++ (at, rec.now) ∷ [])) }
         ensures fails { IsErrOf result AuditFault.Fails → (taken : Records) → Audited self.old taken → IsBeyond at taken → RecordFits self.old.terms taken at rec.now → ⊥ }
+        // Want of memory hides no fault of the record.
+        ensures memory { IsErrOf result AuditFault.Memory → (taken : Records) → Audited self.old taken → IsBeyond at taken → RecordFits self.old.terms taken at rec.now }
         ensures same { (taken : Records) → Audited self.old taken → OnErr result (Audited self.new taken) }
         ensures terms { self.new.terms ≡ self.old.terms }
     {
@@ -91,6 +93,7 @@ impl Audit {
         ensures passes { OnOk result (Passes self.old.terms (memory_of self.old) at rec.now) }
         ensures more { look_of self.old.kept at ≡ None → OnOk result (IsMore (memory_of self.old) at rec.now (memory_of self.new)) }
         ensures fails { IsErrOf result AuditFault.Fails → Passes self.old.terms (memory_of self.old) at rec.now → ⊥ }
+        ensures memory { IsErrOf result AuditFault.Memory → Passes self.old.terms (memory_of self.old) at rec.now }
         ensures same { OnErr result (RemembersSame self.old self.new) }
         ensures terms { self.new.terms ≡ self.old.terms }
     {
@@ -133,6 +136,7 @@ impl Audit {
         ensures passes { OnOk result (LeafPasses (look_of self.old.kept) at entries.now) }
         ensures kept { OnOk result (KeepsBesides self.old self.new at (kept_part (leaf_part entries.now))) }
         ensures fails { IsErrOf result AuditFault.Fails → LeafPasses (look_of self.old.kept) at entries.now → ⊥ }
+        ensures memory { IsErrOf result AuditFault.Memory → LeafPasses (look_of self.old.kept) at entries.now }
         ensures same { OnErr result (RemembersSame self.old self.new) }
         ensures terms { self.new.terms ≡ self.old.terms }
     {
@@ -214,6 +218,7 @@ impl Audit {
         ensures passes { OnOk result (InodePasses (look_of self.old.kept) at depth children.now) }
         ensures kept { OnOk result (KeepsBesides self.old self.new at (kept_part (inode_part (look_of self.old.kept) depth children.now))) }
         ensures fails { IsErrOf result AuditFault.Fails → InodePasses (look_of self.old.kept) at depth children.now → ⊥ }
+        ensures memory { IsErrOf result AuditFault.Memory → InodePasses (look_of self.old.kept) at depth children.now }
         ensures same { OnErr result (RemembersSame self.old self.new) }
         ensures terms { self.new.terms ≡ self.old.terms }
     {
@@ -312,6 +317,7 @@ impl Audit {
         ensures new { OnOk result (IsNew self.old name) }
         ensures kept { OnOk result (AddsName self.old self.new name) }
         ensures fails { IsErrOf result AuditFault.Fails → CommitHolds self.old at c.now → IsNew self.old name → ⊥ }
+        ensures memory { IsErrOf result AuditFault.Memory → CommitHolds self.old at c.now × IsNew self.old name }
         ensures same { OnErr result (RemembersSame self.old self.new) }
         ensures terms { self.new.terms ≡ self.old.terms }
     {

@@ -151,6 +151,12 @@ module _ (head : Head) (bytes : Bytes) (small : IsSmall head) where
         numbers = numbers;
       }
 
+  -- bytes of the right length are some rows
+  pub some_form : HasBytes bytes → length bytes ≡ 24 * head.rows → (m : Fields) × IsForm (head_bytes head ++ bytes) m
+  some_form each long =
+      let all = rows_of head.rows bytes each long in
+      (record { horizon = head.horizon; end = head.end; rows = all.rows }, rows_form all.rows all.is all.count all.numbers)
+
   module _ (from place : ℕ) (rows : List Row) (left : Bytes) (read : bytes ≡ flat_map row_bytes rows ++ left) (numbers : AreNumbers rows) (known : SoFar head.horizon from place rows) (long : length bytes ≡ 24 * head.rows) where
     pub lengths : length bytes ≡ 24 * length rows + length left
     lengths = ap length read ∙ length-append (flat_map row_bytes rows) left ∙ ap (λ n. n + length left) (length_rows rows)

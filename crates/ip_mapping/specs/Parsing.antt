@@ -43,11 +43,11 @@ pub data IsBadAt (bytes : Bytes) : ℕ → Type 0 where
   no_row : (m : Fields) (before after : List Row) (row : Row) → IsForm bytes m → m.rows ≡ before ++ row ∷ after
       → RowsFit m.horizon before → ¬ (RowsFit m.horizon (before ++ row ∷ [])) → IsBadAt bytes (32 + 24 * length before)
 
--- want of memory says nothing
+-- Memory is taken for rows alone, so want of it is answered only where the length, the magic and the numbers are right. Of the rows' order it says nothing.
 abbrev pub Parses : Bytes → Result Fields MappingFault → Type 0
 Parses bytes (Ok m) = IsMapping bytes m
 Parses bytes (Err (MappingFault.Form at)) = IsBadAt bytes at
-Parses bytes (Err MappingFault.Memory) = Unit {0}
+Parses bytes (Err MappingFault.Memory) = (m : Fields) × IsForm bytes m
 
 -- the bytes in front of the rows
 abbrev pub head_bytes : Head → Bytes

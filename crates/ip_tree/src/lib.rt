@@ -1,5 +1,5 @@
-//! Trees that are read lazily: an edit loads the directories on its path and no others, and a read loads none. Above this crate nobody
-//! speaks of a record of a tree, but of its view: the map, the least number, and the parts that records are known to spell.
+//! Trees that are read lazily: an edit loads the directories on its path and no others, and a read loads none. What is said of
+//! a tree is its view: the map, the least number, and the parts that records are known to spell.
 #![tactic(auto)]
 
 ghost use Rattle.std.specs.Prelude.{◌≡◌, ◌<◌, ℕ, Option, Some};

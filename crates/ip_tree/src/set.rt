@@ -1,11 +1,13 @@
 // Putting contents.
-ghost use Rattle.std.specs.Prelude.{◌≡◌, ℕ, Option, IsTrue, IsErrOf};
+ghost use Rattle.std.specs.Prelude.{◌≡◌, ◌<◌, ℕ, Option, Err, IsTrue, IsErrOf, length};
+ghost use Rattle.ip_base.specs.declared.limit.Limit.TheVariants as Limit;
 ghost use Rattle.ip_tree.specs.Faults.{ground_tree};
 ghost use Rattle.ip_ground.specs.Counts.{Counts};
 ghost use Rattle.ip_space.specs.SpaceView.{OnlyReads};
 ghost use Rattle.ip_space.specs.declared.fault.FetchFault.TheVariants as FetchFault;
 ghost use Rattle.ip_spec.specs.declared.record.Record.{Record};
 ghost use Rattle.ip_spec.specs.Path.{IsPath};
+ghost use Rattle.ip_spec.specs.Step.{contents_limit};
 ghost use Rattle.ip_spec.specs.View.{View};
 ghost use Rattle.ip_tree.specs.Reads.{IsOver};
 ghost use Rattle.ip_tree.specs.TreeView.{IsView, Sets};
@@ -34,6 +36,8 @@ impl Tree {
         ensures reads { IsTrue G.tells → OnlyReads (G.told outside.old) (G.told outside.new) space.old space.new }
         ensures sets { IsTrue G.tells → (records : ℕ → Option Record) (v : View) → IsOver (G.told outside.old) space.old records → IsView records self.old v
             → Sets records path.now value.now self.new v result }
+        // Contents that are too long are refused before anything is read or held.
+        ensures long { contents_limit < length value.now → result ≡ Err (TreeFault.Limit Limit.Contents) }
         ensures layout { space.new.layout ≡ space.old.layout }
         ensures runs { space.new.runs ≡ space.old.runs }
         ensures counts { Counts ground_tree result (G.counts_of outside.old) (G.counts_of outside.new) }

@@ -4,7 +4,7 @@ use Rattle.ip_spec.specs.Record.{IsU64}
 use Rattle.ip_image.specs.Virtual.{RowFits}
 use Rattle.ip_mapping.specs.Parsing.{AreNumbers, IsBadAt, head_bytes}
 use Rattle.ip_mapping.proofs.Order.{SoFar, one_more, greatest, numbers_push}
-use Rattle.ip_mapping.proofs.Outcomes.{IsSmall, all_read, bad_row, place_fits, read_more}
+use Rattle.ip_mapping.proofs.Outcomes.{IsSmall, all_read, bad_row, place_fits, read_more, some_form}
 use Rattle.ip_mapping.proofs.mapping.read_rows.Goals as goal
 use Rattle.ip_mapping.proofs.mapping.read_rows.Goals.{After-len}
 
@@ -23,6 +23,16 @@ overflow_mul-result c = let p = place_small c in search rules
 
 pub overflow_add-result : goal.overflow_add-result
 overflow_add-result c = let p = place_small c in search rules
+
+pub returns-in_default : goal.returns-in_default
+returns-in_default c =
+    let small : IsSmall c.args.head.now = search rules in
+    some_form c.args.head.now c.args.bytes.now small (λ i. let fits = c.type_inv.bytes i in search rules) c.requires
+
+pub returns-then-is_err : goal.returns-then-is_err
+returns-then-is_err c =
+    let small : IsSmall c.args.head.now = search rules in
+    some_form c.args.head.now c.args.bytes.now small (λ i. let fits = c.type_inv.bytes i in search rules) c.requires
 
 pub returns-then-not-fits : goal.returns-then-not-fits
 returns-then-not-fits c =

@@ -17,6 +17,9 @@ returns-in-Some-clause-goes_on c = λ taken audited beyond.
 pub returns-in-Some-clause-fails : goal.returns-in-Some-clause-fails
 returns-in-Some-clause-fails c = λ e taken audited beyond fits. c.take_named.ensures.fails e (fits_passes c.args.self.now.terms (memory_of c.args.self.now) taken audited c.args.at beyond c.args.rec.now fits)
 
+pub returns-in-Some-clause-memory : goal.returns-in-Some-clause-memory
+returns-in-Some-clause-memory c = λ e taken audited beyond. passes_fits c.args.self.now.terms (memory_of c.args.self.now) taken audited c.args.at beyond c.requires.bounds.0 c.args.rec.now c.requires.bounds.1 (c.take_named.ensures.memory e)
+
 pub returns-in-Some-clause-same : goal.returns-in-Some-clause-same
 returns-in-Some-clause-same c = λ taken audited. then_err c.take_named.result c.take_named.ensures.same (λ same. same_audited c.args.self.now c.take_named.new.self taken same audited)
 

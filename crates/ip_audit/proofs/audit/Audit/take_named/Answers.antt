@@ -13,3 +13,8 @@ pub returns-in-Commit-clause-fails : goal.returns-in-Commit-clause-fails
 returns-in-Commit-clause-fails c = λ e p.
     let q = subst (Passes c.args.self.now.terms (memory_of c.args.self.now) c.args.at) c.in-Commit.is p in
     c.take_commit.ensures.fails e (passes_holds c.args.self.now c.args.at c.in-Commit.c q) (passes_new c.args.self.now c.args.at c.in-Commit.c c.args.name (sym (ap name_of c.in-Commit.is) ∙ c.requires.name) q)
+
+pub returns-in-Commit-clause-memory : goal.returns-in-Commit-clause-memory
+returns-in-Commit-clause-memory c = λ e.
+    let holds = c.take_commit.ensures.memory e in
+    subst (Passes c.args.self.now.terms (memory_of c.args.self.now) c.args.at) (sym c.in-Commit.is) (holds_passes c.args.self.now c.args.at c.in-Commit.c c.args.name (sym (ap name_of c.in-Commit.is) ∙ c.requires.name) holds.0 holds.1)
