@@ -10,8 +10,8 @@ mod HexField
 mod ReferenceLaw
 mod DateLaw
 mod FormLaw
-mod LineLaw
-mod ReadLaw
+pub mod LineLaw
+pub mod ReadLaw
 mod Handing
 mod HexDigits
 mod PutLemmas

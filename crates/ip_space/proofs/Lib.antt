@@ -10,4 +10,4 @@ pub mod Passing
 pub mod Lying
 mod Laws
 pub mod Stretches
-mod StretchRows
+pub mod StretchRows

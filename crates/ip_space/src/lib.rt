@@ -1,5 +1,4 @@
-//! Records by reference, in a store's chunk files and its live prefix. Above this crate nobody speaks of a byte, a file, a chunk or a
-//! generation, but of the record at an offset.
+//! Records by reference, in a store's chunk files and its live prefix: whoever reads a record asks for the one at an offset.
 #![tactic(auto)]
 
 ghost use Rattle.std.specs.Prelude.{◌≡◌, ◌≢◌, ℕ, ◌+◌, ◌<◌, ◌≤◌, List, [], map, slice_get, Contains, Option, Some, IsSome, Result};
