@@ -4,7 +4,6 @@
 --     Merging rule s target branch info met turned      what `merge` may give
 --     IsMet s command met reply      what a command may meet
 --     Step rule s command met reply s'      the machine may give this reply to the command, for what it meets, and go on to s'
---     Run rule s turns replies s'      a whole run
 --     turned s command met      with want of memory, for all commands but `merge`.      quiet      nothing met
 use Rattle.std.specs.Prelude.{◌≡◌, ◌⊎◌, ℕ, suc, ◌+◌, ◌-◌, ◌<◌, min, pos, Bool, true, false, not, ◌&&◌, ◌==◌, List, [], ◌∷◌, ◌++◌, length, map, drop, reverse, Option, Some, None, is_some, option_map as mapped, Result, Ok, Err, IfSome, IsTrue, nat_le, nat_lt, if◌then◌else◌, MatchResult, max, fold}
 use Rattle.std.specs.List.{list_any, find}
@@ -476,13 +475,6 @@ MayAnswer rule s command met turned =
 
 abbrev pub Step : Rule → State → Command → Conditions → Reply → State → Type 0
 Step rule s command met reply s' = IsMet s command met reply × MayAnswer rule s command met (reply, s')
-
--- the machine may give these replies to these commands, one after another, for what each meets
-abbrev pub Run : Rule → State → List (Command × Conditions) → List Reply → State → Type 0
-Run rule s [] [] s' = s' ≡ s
-Run rule s (turn ∷ turns) (reply ∷ replies) s' = (mid : State) × Step rule s turn.0 turn.1 reply mid × Run rule mid turns replies s'
-Run rule s [] (reply ∷ replies) s' = ⊥
-Run rule s (turn ∷ turns) [] s' = ⊥
 
 -- nothing met
 abbrev pub quiet : Conditions
