@@ -4,3 +4,4 @@ mod PutLemmas
 mod Patched
 mod Hashed
 mod Spelled
+pub mod Sizes

@@ -4,7 +4,10 @@ use Rattle.std.specs.List.{range_with_len}
 use Rattle.ip_spec.specs.declared.record.InodeChild.{InodeChild}
 use Rattle.ip_spec.specs.Path.{Bytes}
 use Rattle.ip_spec.specs.Record.{short_text, u8, u32}
+use Rattle.ip_base.specs.declared.info.Info.{Info}
+use Rattle.ip_spec.specs.declared.record.CommitRecord.{CommitRecord}
 use Rattle.ip_spec.specs.declared.record.Record.{Record}
+use Rattle.ip_spec.specs.declared.record.Ref.{Ref}
 use Rattle.ip_spec.specs.declared.record.LeafEntry.{LeafEntry}
 use Rattle.ip_spec.specs.declared.record.Parent.{Parent}
 use Rattle.ip_spec.specs.declared.record.Branch.{Branch}
@@ -72,6 +75,10 @@ set_field = do
 -- the rows of a table, behind their number
 abbrev pub rows_field : Fields (List Branch)
 rows_field = number_where w16 (λ n. nat_le n 4096) >>= λ count. row_fields count None
+
+-- the record of a commit whose root is at the reference
+abbrev pub commit_of : ℕ → Ref → List Parent → Info → CommitRecord
+commit_of number root parents info = record { number = number; root_name = root.name; root_at = root.at; parents = parents; info = info }
 
 -- something may stand behind what was there
 abbrev pub Extends : Bytes → Bytes → Type 0

@@ -1,11 +1,11 @@
 // Records as bytes.
 ghost use Rattle.std.specs.Prelude.{◌≡◌, ◌++◌, ◌+◌, ◌*◌, ◌≤◌, ◌<◌, ◌^◌, ℕ, length, flat_map, All, OnOk, OnErr};
-ghost use Rattle.ip_object.specs.Lists.{Extends};
+ghost use Rattle.ip_object.specs.Lists.{Extends, commit_of};
 ghost use Rattle.ip_spec.specs.declared.record.Record.TheVariants as Record;
 ghost use Rattle.ip_spec.specs.Record.{IsCommitRecord, kind_of, IsLeafEntry, IsBranchName, IsU64, Fits, spelling, body, short_text, long_text, info_spelling, entry_spelling, child_spelling, u64, bitmap};
 
-use ip_base::{Hash, Info, Memory, put_bytes, put_u8, put_u16, put_u32, put_u64};
-use ip_spec::record::{Branch, CommitRecord, InodeChild, LeafEntry, Parent, Record};
+use ip_base::{Hash, Info, Memory, Number, put_bytes, put_u8, put_u16, put_u32, put_u64};
+use ip_spec::record::{Branch, InodeChild, LeafEntry, Parent, Record, Ref};
 
 #[tactic(auto, using(crate::proofs::PutLemmas::extends_same, crate::proofs::PutLemmas::extends_on))]
 fn put_short(text: &[u8], out: &mut Vec<u8>) -> Result<(), Memory>
@@ -125,17 +125,23 @@ pub fn bitmap_of(children: &[InodeChild]) -> u32
 }
 
 #[tactic(auto, unfolding(ip_spec::specs::Record::body), using(crate::proofs::PutLemmas::extends_same, crate::proofs::PutLemmas::extends_on))]
-fn put_commit(c: &CommitRecord, out: &mut Vec<u8>) -> Result<(), Memory>
-    requires { IsCommitRecord c.now }
-    ensures ok { OnOk result (out.new.items ≡ out.old.items ++ body (Record.Commit c.now)) }
+fn put_commit(
+    number: Number,
+    root: &Ref,
+    parents: &[Parent],
+    info: &Info,
+    out: &mut Vec<u8>,
+) -> Result<(), Memory>
+    requires { IsCommitRecord (commit_of number root.now parents.now info.now) }
+    ensures ok { OnOk result (out.new.items ≡ out.old.items ++ body (Record.Commit (commit_of number root.now parents.now info.now))) }
     ensures err { OnErr result (Extends out.old.items out.new.items) }
 {
-    put_u64(out, c.number.0)?;
-    put_bytes(out, c.root_name.as_slice())?;
-    put_u64(out, c.root_at)?;
-    put_u8(out, c.parents.len() as u8)?;
-    put_parents(c.parents.as_slice(), out)?;
-    put_info(&c.info, out)
+    put_u64(out, number.0)?;
+    put_bytes(out, root.name.as_slice())?;
+    put_u64(out, root.at)?;
+    put_u8(out, parents.len() as u8)?;
+    put_parents(parents, out)?;
+    put_info(info, out)
 }
 
 #[tactic(auto, unfolding(ip_spec::specs::Record::body), using(crate::proofs::PutLemmas::extends_same, crate::proofs::PutLemmas::extends_on))]
@@ -156,7 +162,14 @@ fn put_body(rec: &Record, out: &mut Vec<u8>) -> Result<(), Memory>
             put_u32(out, bitmap_of(children.as_slice()))?;
             put_children(children.as_slice(), out)
         }
-        Record::Commit(c) => put_commit(c, out),
+        Record::Commit(c) => {
+            let root = Ref {
+                at: c.root_at,
+                name: c.root_name,
+                kind: 2,
+            };
+            put_commit(c.number, &root, c.parents.as_slice(), &c.info, out)
+        }
         Record::BranchSet { number, name } | Record::TagSet { number, name } => {
             put_u64(out, number.0)?;
             put_short(name.as_slice(), out)
@@ -256,4 +269,40 @@ pub fn put_contents(bytes: &[u8], out: &mut Vec<u8>) -> Result<(), Memory>
     put_u8(out, 1)?;
     put_u32(out, bytes.len() as u32)?;
     put_bytes(out, bytes)
+}
+
+/// Puts the spelling of a commit's record behind what is there, as `encode_into` does, from parents and an info that stay where they are.
+/// Where memory is refused, a part of the spelling may stand there.
+#[tactic(auto, unfolding(ip_spec::specs::Record::spelling), using(crate::proofs::PutLemmas::extends_same, crate::proofs::PutLemmas::extends_on))]
+pub fn encode_commit(
+    number: Number,
+    root: &Ref,
+    parents: &[Parent],
+    info: &Info,
+    out: &mut Vec<u8>,
+) -> Result<(), Memory>
+    requires { IsCommitRecord (commit_of number root.now parents.now info.now) }
+    ensures ok { OnOk result (out.new.items ≡ out.old.items ++ spelling (Record.Commit (commit_of number root.now parents.now info.now))) }
+    ensures err { OnErr result (Extends out.old.items out.new.items) }
+{
+    let length = 60 + 40 * parents.len() + info.author.len() + info.message.len();
+    out.reserve(length + 5)?;
+    put_u8(out, 4)?;
+    put_u32(out, length as u32)?;
+    put_commit(number, root, parents, info, out)
+}
+
+/// Puts the spelling of the record that sets a branch to a commit behind what is there, as `encode_into` does, from a name that stays where it
+/// is. Where memory is refused, a part of the spelling may stand there.
+#[tactic(auto, unfolding(ip_spec::specs::Record::body, ip_spec::specs::Record::spelling), using(crate::proofs::PutLemmas::extends_same, crate::proofs::PutLemmas::extends_on))]
+pub fn encode_branch(number: Number, name: &[u8], out: &mut Vec<u8>) -> Result<(), Memory>
+    requires { length name.now ≤ 255 }
+    ensures ok { OnOk result (out.new.items ≡ out.old.items ++ spelling (Record.BranchSet number name.now)) }
+    ensures err { OnErr result (Extends out.old.items out.new.items) }
+{
+    out.reserve(name.len() + 14)?;
+    put_u8(out, 5)?;
+    put_u32(out, name.len() as u32 + 9)?;
+    put_u64(out, number.0)?;
+    put_short(name, out)
 }

@@ -9,12 +9,12 @@ mod name;
 mod read;
 mod referring;
 
-pub use encode::{encode_into, put_contents};
+pub use encode::{encode_branch, encode_commit, encode_into, put_contents};
 pub use ip_spec::record::{
     Branch, Branches, CommitRecord, InodeChild, InodeChildren, LeafEntries, LeafEntry, Parent,
     Parents, Record, RecordFault, Ref,
 };
-pub use name::{hash_contents, name_of_record};
+pub use name::{commit_name, hash_contents, name_of_record};
 pub use read::read_record;
 pub use referring::{RecordReferences, references};
 

@@ -3,11 +3,11 @@ ghost use Rattle.std.specs.Prelude.{◌≡◌, ◌++◌, ◌∷◌, ◌≤◌, �
 ghost use Rattle.sha2.specs.Sha256.{sha256};
 ghost use Rattle.ip_spec.specs.declared.record.Record.TheVariants as Record;
 ghost use Rattle.ip_spec.specs.Record.{Fits, IsLeafEntry, IsCommitRecord, name_of, short_text, info_spelling, u8, u32, bitmap};
-ghost use Rattle.ip_object.specs.Lists.{hashed_entry, hashed_child};
+ghost use Rattle.ip_object.specs.Lists.{commit_of, hashed_entry, hashed_child};
 
 use crate::encode::bitmap_of;
 use ip_base::{Hash, Info};
-use ip_spec::record::{CommitRecord, InodeChild, LeafEntry, Parent, Record};
+use ip_spec::record::{InodeChild, LeafEntry, Parent, Record, Ref};
 use sha2::{Digest, Sha256};
 
 /// The name of contents. It takes no memory.
@@ -101,16 +101,19 @@ fn inode_name(depth: u8, children: &[InodeChild]) -> Hash
     Hash(hasher.finalize())
 }
 
-fn commit_name(c: &CommitRecord) -> Hash
-    requires { IsCommitRecord c.now }
-    ensures { result ≡ sha256 (4 ∷ c.now.root_name ++ u8 (length c.now.parents) ++ flat_map (λ p. p.name) c.now.parents ++ info_spelling c.now.info) }
+/// The name of a commit, whatever its number and the place of its root. It takes no memory.
+pub fn commit_name(root: &Ref, parents: &[Parent], info: &Info) -> Hash
+    requires few { length parents.now ≤ 16 }
+    requires author { length info.now.author ≤ 255 }
+    requires message { length info.now.message ≤ 4096 }
+    ensures { (number : ℕ) → name_of (Record.Commit (commit_of number root.now parents.now info.now)) ≡ Some result }
 {
     let mut hasher = Sha256::new();
     hasher.update(&[4]);
-    hasher.update(c.root_name.as_slice());
-    hasher.update(&[c.parents.len() as u8]);
-    hash_parents(&mut hasher, c.parents.as_slice());
-    hash_info(&mut hasher, &c.info);
+    hasher.update(root.name.as_slice());
+    hasher.update(&[parents.len() as u8]);
+    hash_parents(&mut hasher, parents);
+    hash_info(&mut hasher, info);
     Hash(hasher.finalize())
 }
 
@@ -124,7 +127,14 @@ pub fn name_of_record(rec: &Record) -> Option<Hash>
         Record::Contents(bytes) => Some(hash_contents(bytes.as_slice())),
         Record::Leaf(entries) => Some(leaf_name(entries.as_slice())),
         Record::Inode { depth, children } => Some(inode_name(*depth, children.as_slice())),
-        Record::Commit(c) => Some(commit_name(c)),
+        Record::Commit(c) => {
+            let root = Ref {
+                at: c.root_at,
+                name: c.root_name,
+                kind: 2,
+            };
+            Some(commit_name(&root, c.parents.as_slice(), &c.info))
+        }
         _ => None,
     }
 }

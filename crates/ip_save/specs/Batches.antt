@@ -14,6 +14,7 @@ use Rattle.ip_spec.specs.Step.{contents_limit}
 use Rattle.ip_spec.specs.Tree.{Tree}
 use Rattle.ip_spec.specs.declared.record.Record.{Record}
 use Rattle.ip_spec.specs.declared.record.Ref.{Ref}
+use Rattle.ip_object.specs.Lists.{commit_of}
 use Rattle.ip_save.specs.Laid.{bytes_of}
 use Rattle.ip_spec.specs.View.{View}
 use Rattle.ip_spec.specs.Batch as Batches
@@ -40,7 +41,7 @@ abbrev pub greatest_end : ℕ
 greatest_end = 2 ^ 62
 
 abbrev pub commit_record : Batches.CommitFields → Ref → Record
-commit_record f root = Record.Commit (record { number = f.number; root_name = root.name; root_at = root.at; parents = f.parents; info = f.info })
+commit_record f root = Record.Commit (commit_of f.number root f.parents f.info)
 
 abbrev pub commit_place : View → ℕ → ℕ
 commit_place v end = (root_spelled v (sources v) end).next

@@ -84,8 +84,8 @@ impl Batch {
         put_all_fresh(&tree.root, &mut bytes)?;
         let root = put_root(alloc, &tree.root, end, &mut bytes)?;
         let commit_at = end + bytes.len() as u64;
-        let name = put_commit(alloc, fields, &root, &mut bytes)?;
-        put_branch(alloc, fields, &mut bytes)?;
+        let name = put_commit(fields, &root, &mut bytes)?;
+        put_branch(fields, &mut bytes)?;
         let last = end + bytes.len() as u64;
         if last > OFFSET_MAX {
             return Err(SaveFault::Limit(Limit::Space));
