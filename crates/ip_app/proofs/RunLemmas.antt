@@ -47,7 +47,7 @@ use Rattle.ip_app.specs.Pending.{pending}
 use Rattle.ip_app.specs.Reading.{EndsReading, IsCaused}
 use Rattle.ip_app.specs.Exchanges.{Exchange, conditions, answer_of, Run, after_all, lines_in, turns_in, texts_in}
 use Rattle.ip_session.specs.Placing.{PlacedIn}
-use Rattle.ip_session.specs.Session.{no_rules}
+use Rattle.ip_session.specs.Session.{no_rules, IsViewIn}
 use Rattle.ip_app.specs.Places.{Places}
 use Rattle.ip_app.specs.Turns.{turn_counts, IsLater, Follow}
 use Rattle.ip_app.specs.Outside.{Outside, Tells, GoesOn, KeepsFiles}
@@ -138,9 +138,9 @@ follow_turn old mid lines counts counts' s h x begins ends rises =
     (follow_more first counts (turns_in h.exchanges) x.turn (still_at old.counts mid.counts counts h.counts_now h.no_fault) h.follow begins rises))
 
 -- one exchange more
-places_more : (slot : Slot) (s : State) (v : View) (xs : List Exchange) (mid : Slot) (w : View) (x : Exchange) (last : Slot) (view : View) → Places slot s v xs mid w → x.after.work.tree ≡ view.map → PlacedIn mid last (after_all s xs) w x.line x.reply → Places slot s v (xs ++ x ∷ []) last view
-places_more slot s v [] mid w x last view h tree placed = (last, view, tree, subst (λ (a : Slot). PlacedIn a last s v x.line x.reply) h.0 (subst (λ (u : View). PlacedIn mid last s u x.line x.reply) h.1 placed), (refl, refl))
-places_more slot s v (y ∷ xs) mid w x last view h tree placed = (h.0, h.1, h.2, h.3, places_more h.0 y.after h.1 xs mid w x last view h.4 tree placed)
+places_more : (slot : Slot) (s : State) (v : View) (xs : List Exchange) (mid : Slot) (w : View) (x : Exchange) (last : Slot) (view : View) → Places slot s v xs mid w → x.after.work.tree ≡ view.map → IsViewIn (after_all s xs).repository w x.line x.reply view → PlacedIn mid last (after_all s xs) w x.line x.reply → Places slot s v (xs ++ x ∷ []) last view
+places_more slot s v [] mid w x last view h tree seen placed = (last, view, tree, subst (λ (u : View). IsViewIn s.repository u x.line x.reply view) h.1 seen, subst (λ (a : Slot). PlacedIn a last s v x.line x.reply) h.0 (subst (λ (u : View). PlacedIn mid last s u x.line x.reply) h.1 placed), (refl, refl))
+places_more slot s v (y ∷ xs) mid w x last view h tree seen placed = (h.0, h.1, h.2, h.3, h.4, places_more h.0 y.after h.1 xs mid w x last view h.5 tree seen placed)
 
 -- one line more was served
 pub served_more : (old mid new : Outside) (lines lines' : Lines) (counts counts' : TurnCounts) (s s' : Session) (h : Served old mid lines counts s) → TurnedIn h.known mid new lines lines' counts counts' s s' h.repository h.view → Served old new lines' counts' s'
@@ -171,6 +171,7 @@ served_more old mid new lines lines' counts counts' s s' h turned =
       slot = h.slot;
       live = h.live;
       places = λ g. places_more h.slot (opened h.first) no_view h.exchanges s.store.slot h.view x s'.store.slot turned.view (h.places g) (ap (λ (state : State). state.work.tree) (turned.now_at g))
+          (subst (λ (state : State). IsViewIn state.repository h.view x.line x.reply turned.view) (h.now_at g) (turned.seen g))
           (subst (λ (state : State). PlacedIn s.store.slot s'.store.slot state h.view x.line x.reply) (h.now_at g) (turned.placed g));
       said = λ g. turned.said g ∙ (ap (λ (u : Bytes). u ++ reply_text x.reply) (h.said g) ∙ (append_assoc (said old.told) (texts_in h.exchanges) (reply_text x.reply) ∙ ap (λ (u : Bytes). said old.told ++ u) (sym (texts_more h.exchanges x))));
       opened_at = h.opened_at;

@@ -29,7 +29,7 @@ use Rattle.ip_app.specs.Exchanges.{Exchange}
 use Rattle.ip_session.specs.Session.{no_rules}
 use Rattle.ip_app.specs.Outside.{Outside, GoesOn, KeepsFiles}
 use Rattle.ip_session.specs.declared.session.Session.{Session}
-use Rattle.ip_session.specs.Session.{state_in, IsWorking, conditions_of, ChangedIn, TouchedIn, EndsBy, Goes, Cut}
+use Rattle.ip_session.specs.Session.{state_in, IsWorking, conditions_of, ChangedIn, TouchedIn, EndsBy, IsViewIn, GoesIn, CutIn}
 use Rattle.ip_image.specs.Pending.{NothingPending}
 use Rattle.ip_image.specs.Headline.{IsAtomic}
 use Rattle.ip_spec.specs.Repository.{Repository}
@@ -119,14 +119,15 @@ settled P false given found = (given, λ is. absurd (cc is))
 pub record GoesTo (old new : Told) (s s' : Session) (r : Repository) (v : View) (line : Bytes) (reply : Reply) (x : Repository × View) : Type 0 where
   pub gives : LineStep IsServedLine no_rules (state_in s r v) line (conditions_of s'.met) reply (state_in s' x.0 x.1)
   pub working : IsWorking new s' x.0 x.1
+  pub seen : IsViewIn r v line reply x.1
   pub only : ChangesOnly (ChangedIn old.held line reply) old new
   pub atomic : NothingPending old → IsAtomic old new r x.0
   pub nothing_pending : NothingPending old → NothingPending new
 
-pub went_to : (known : Bool) (old new : Told) (s s' : Session) (r : Repository) (v : View) (line : Bytes) (reply : Reply) → (IsTrue known → Goes old new s s' r v (ChangedIn old.held line) (LineStep IsServedLine no_rules (state_in s r v) line) reply)
+pub went_to : (known : Bool) (old new : Told) (s s' : Session) (r : Repository) (v : View) (line : Bytes) (reply : Reply) → (IsTrue known → GoesIn old new s s' r v line reply)
     → (x : Repository × View) × (IsTrue known → GoesTo old new s s' r v line reply x)
 went_to known old new s s' r v line reply goes = settled (GoesTo old new s s' r v line reply) known (r, v)
-    (λ is. let h = goes is in ((h.after, h.view), record { gives = h.gives; working = h.is_at; only = h.only; atomic = h.atomic; nothing_pending = h.nothing_pending }))
+    (λ is. let h = goes is in ((h.after, h.view), record { gives = h.gives; working = h.is_at; seen = h.seen; only = h.only; atomic = h.atomic; nothing_pending = h.nothing_pending }))
 
 -- or it was cut short, with this reply and this state of the machine
 pub record CutTo (old new : Told) (s s' : Session) (r : Repository) (v : View) (line : Bytes) (x : Reply × State) : Type 0 where
@@ -134,7 +135,7 @@ pub record CutTo (old new : Told) (s s' : Session) (r : Repository) (v : View) (
   pub only : ChangesOnly IsOfStore old new
   pub atomic : NothingPending old → IsAtomic old new r x.1.repository
 
-pub cut_to : (known : Bool) (old new : Told) (s s' : Session) (r : Repository) (v : View) (line : Bytes) → (IsTrue known → Cut old new s s' r v (TouchedIn old.held line) (LineStep IsServedLine no_rules (state_in s r v) line))
+pub cut_to : (known : Bool) (old new : Told) (s s' : Session) (r : Repository) (v : View) (line : Bytes) → (IsTrue known → CutIn old new s s' r v line)
     → (x : Reply × State) × (IsTrue known → CutTo old new s s' r v line x)
 cut_to known old new s s' r v line cut = settled (CutTo old new s s' r v line) known (Reply.Accepted, state_in s r v)
     (λ is. let h = cut is in ((h.reply, h.after), record { gives = h.gives; only = only_more old new (TouchedIn old.held line) IsOfStore (λ file touched. of_store old.held file touched.2.1) h.only; atomic = h.atomic }))

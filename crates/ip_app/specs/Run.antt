@@ -238,7 +238,7 @@ pub record Inits (chunk : ℕ) (old new : Outside) (status : Status) : Type 0 wh
   pub turns : new.turns ≡ old.turns
   -- at no moment does another file change, and nothing is said
   pub only : IsTrue old.ground_tells → ChangesOnly (Only Control) old.told new.told
-  -- one fault of the ground was counted, where the status says so, and none else
+  -- a fault of the ground was counted, where the status says so, and of no other kind
   pub counted : CountsOf status old.counts new.counts
   pub row : InitRow chunk status old.ground_tells old.told new.told
 

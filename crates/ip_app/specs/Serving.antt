@@ -33,7 +33,7 @@ use Rattle.ip_session.specs.Session.{no_rules}
 use Rattle.ip_app.specs.Places.{Places}
 use Rattle.ip_app.specs.Turns.{turn_counts, IsLater, Follow}
 use Rattle.ip_app.specs.Outside.{Outside, Tells, GoesOn, KeepsFiles}
-use Rattle.ip_session.specs.Session.{IsServing, IsWorking, state_in}
+use Rattle.ip_session.specs.Session.{IsServing, IsWorking, state_in, IsViewIn}
 
 -- what was said grew by a part from the front of the bytes
 abbrev pub SaysPart : Bytes → Bytes → Bytes → Type 0
@@ -64,6 +64,7 @@ pub record TurnedIn (known : Bool) (old new : Outside) (lines lines' : Lines) (c
   pub view : View
   pub turned : Turned known old new lines lines' counts counts' (state_in s r v) exchange
   pub now_at : IsTrue known → exchange.after ≡ state_in s' after view
+  pub seen : IsTrue known → IsViewIn r v exchange.line exchange.reply view
   pub placed : IsTrue known → PlacedIn s.store.slot s'.store.slot (state_in s r v) v exchange.line exchange.reply
   pub no_fault : new.counts ≡ old.counts
   pub serving : IsServing s'
@@ -114,7 +115,7 @@ CountsOf _ old new = new ≡ old
 pub record Unsaid (status : Status) (known : Bool) (old new : Outside) (lines lines' : Lines) (counts counts' : TurnCounts) (state : State) : Type 0 where
   pub exchange : Exchange
   pub turned : Turned known old new lines lines' counts counts' state exchange
-  -- of the ground one fault was counted, where the status says so, and none else
+  -- of the ground a fault was counted, where the status says so, and of no other kind
   pub counted : CountsOf status old.counts new.counts
   pub part : IsTrue known → SaysPart (reply_text exchange.reply) (said old.told) (said new.told)
   -- a command that was cut short says nothing

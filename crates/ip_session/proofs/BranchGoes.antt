@@ -24,9 +24,11 @@ use Rattle.ip_store.specs.Commits.{fault_reply}
 use Rattle.ip_store.specs.Naming.{branch_reply, removed_reply, AnswersBranch, AnswersSet, AnswersRemove, without_branch}
 use Rattle.ip_store.specs.Store.{IsOf, Holds}
 use Rattle.ip_store.specs.Work.{AreParents, IsAt, work_at, session}
+use Rattle.ip_store.specs.Views.{IsViewAfter}
 use Rattle.ip_session.specs.declared.session.Session.{Session}
-use Rattle.ip_session.specs.Session.{no_rules, IsServing, IsWorking, state_in, met_only, conditions_of, IsDurable, ChangedBy, TouchedBy, Goes, Cut}
+use Rattle.ip_session.specs.Session.{no_rules, IsServing, IsWorking, state_in, met_only, conditions_of, IsDurable, ChangedBy, GoesBy, CutBy}
 use Rattle.ip_session.proofs.SessionLemmas.{at, plainly, ok_is_short, branch_refused, branch_rm_refused}
+use Rattle.ip_session.proofs.Referring.{IsUnnamed, NamesNone, names_none}
 use Rattle.ip_session.proofs.SessionGoes.{still_goes}
 use Rattle.ip_session.proofs.DurableGoes.{IsWhole, IsTurn, stays, refused_so, fault_so, done_so, reply_so, cut_so, Went, floor_stays, unanswered}
 
@@ -105,7 +107,7 @@ module _ (r : Repository) (w : MachineWork) (name : Bytes) (target : Target) whe
         (subst (λ (t : Turned). IsAccepted t.0) (answer_is met) (accepted_set name target (answer s set (conditions_of met)).0 done)))
 
     whole_set : IsWhole r w set (with_branch r name n)
-    whole_set = record { quiet = quiet_set; done = done_set; plain = λ met t e. e; refusable = branch_refused name target }
+    whole_set = record { quiet = quiet_set; done = done_set; plain = λ met t e. e; refusable = branch_refused name target; durable = refl }
 
     -- where there is room, and no limit is met
     roomy : room_for_branch r name ≡ Ok tt → (answer s set (conditions_of (met_only false))).1.repository ≡ with_branch r name n
@@ -116,29 +118,22 @@ module _ (r : Repository) (w : MachineWork) (name : Bytes) (target : Target) whe
   unnamed reply is = (plainly r w set false reply (λ h. absurd (cc h)), sym (set_turn (met_only false) (Err reply) is))
 
 -- no reference is answered `ok`
-named_or_not : (r : Repository) (target : Target) → NeverOk (resolve r target)
-named_or_not r (Target.Branch name) = by (head r name)
-  where
-    by : (o : Option ℕ) → NeverOk (present o (Reply.NoBranch name))
-    by None = λ h. h
-    by (Some n) = tt
-named_or_not r (Target.Commit hash) = by (number_named r hash)
-  where
-    by : (o : Option ℕ) → NeverOk (present o (Reply.NoCommit hash))
-    by None = λ h. h
-    by (Some n) = tt
+never_accepted : (reply : Reply) → IsUnnamed reply → ¬ IsAccepted reply
+never_accepted Reply.Accepted un is = un
+never_accepted _ un is = absurd is
 
 pub unnamed_goes : (a : Told) (s : Session) (met : Met) (r : Repository) (v : View) (here : IsWorking a s r v) (name : Bytes) (target : Target) (reply : Reply) → met ≡ met_only false → resolve r target ≡ Err reply
-    → Goes a a s (record s { met = met }) r v (ChangedBy a.held (Command.Branch name target)) (Step no_rules (state_in s r v) (Command.Branch name target)) reply
-unnamed_goes a s met r v here name target reply e none = still_goes a s met r v here (ChangedBy a.held (Command.Branch name target)) (Step no_rules (state_in s r v) (Command.Branch name target)) reply
+    → GoesBy a a s (record s { met = met }) r v (Command.Branch name target) reply
+unnamed_goes a s met r v here name target reply e none = still_goes a s met r v here (ChangedBy a.held (Command.Branch name target)) (Step no_rules (state_in s r v) (Command.Branch name target)) (IsViewAfter r v (Command.Branch name target)) reply
     (subst (λ (m : Met). Step no_rules (state_in s r v) (Command.Branch name target) (conditions_of m) reply (state_in s r v)) (sym e) (unnamed r (work_at s.work v) name target reply none))
+    refl
     (λ long. branch_refused name target r (work_at s.work v))
-    (λ file changed. subst NeverOk none (named_or_not r target) (accepted_set name target reply changed.0))
+    (λ file changed. never_accepted reply (subst NamesNone none (names_none r target)) (accepted_set name target reply changed.0))
 
 -- the store's answer is the machine's turn, and the work is lawful where it stays so
-turn_of : (b : Told) (s : Session) (store : Store) (r : Repository) (v : View) (command : Command) (reply : Reply) → AreParents r s.work.parents → AnswersBranch r command store.met reply store
+turn_of : (b : Told) (s : Session) (store : Store) (r : Repository) (v : View) (command : Command) (reply : Reply) → IsViewAfter r v command reply v → AreParents r s.work.parents → AnswersBranch r command store.met reply store
     → ((q : Repository) → Holds store b q → AreParents q s.work.parents → IsAt b store q s.work v) → IsTurn b s store s.work r v command reply
-turn_of b s store r v command reply parents A stays = record { next = A.after; view = v; turns = A.turns (work_at s.work v); is_at = λ holds. stays A.after holds (A.parents s.work.parents parents) }
+turn_of b s store r v command reply seen parents A stays = record { next = A.after; view = v; turns = A.turns (work_at s.work v); is_at = λ holds. stays A.after holds (A.parents s.work.parents parents); seen = seen }
 
 -- none of the commits that the work rests on was given up
 works_on : {A : Type 0} (a b : Told) (s : Session) (store : Store) (r after : Repository) (v : View) (made : Result A StoreFault) → after.floor ≤ r.floor → Changes r after made store a b
@@ -158,7 +153,7 @@ module _ (a b : Told) (s : Session) (store : Store) (met : Met) (r : Repository)
   set_to = with_branch r name n
 
   pub set_goes : (reply : Reply) → met ≡ store.met → branch_reply made ≡ Some reply → IfSome (branch_reply made) (AnswersSet r name n store.met store)
-      → Goes a b s (record s { store = store; met = met }) r v (ChangedBy a.held setting) (Step no_rules (state_in s r v) setting) reply
+      → GoesBy a b s (record s { store = store; met = met }) r v setting reply
   set_goes reply m e A = reply_so a b s store s.work r set_to v here setting whole met (branch_reply made) reply m e (by made A (works_on a b s store r set_to v made (omega arith) does works) does)
     where
       whole : IsWhole r (work_at s.work v) setting set_to
@@ -166,10 +161,10 @@ module _ (a b : Told) (s : Session) (store : Store) (met : Met) (r : Repository)
 
       by : (made : Result (Unit {0}) StoreFault) → IfSome (branch_reply made) (AnswersSet r name n store.met store) → (HasAnswer made → (q : Repository) → Holds store b q → AreParents q s.work.parents → IsAt b store q s.work v)
           → Changes r set_to made store a b → IfSome (branch_reply made) (Went a b s store s.work r set_to v here setting whole)
-      by (Ok u) A stays does = done_so a b s store s.work r set_to v here setting whole u Reply.Accepted tt ok_is_short (turn_of b s store r v setting Reply.Accepted here.lawful.parents (A target named) (stays tt)) does
-      by (Err fault) A stays does = fault_so a b s store s.work r set_to v here setting whole fault (IfSome_then (fault_reply fault) A (λ reply x has. turn_of b s store r v setting reply here.lawful.parents (x target named) (stays has))) does
+      by (Ok u) A stays does = done_so a b s store s.work r set_to v here setting whole u Reply.Accepted tt ok_is_short (turn_of b s store r v setting Reply.Accepted refl here.lawful.parents (A target named) (stays tt)) does
+      by (Err fault) A stays does = fault_so a b s store s.work r set_to v here setting whole fault (IfSome_then (fault_reply fault) A (λ reply x has. turn_of b s store r v setting reply refl here.lawful.parents (x target named) (stays has))) does
 
-  pub set_cut : met ≡ met_only false → room_for_branch r name ≡ Ok tt → Cut a b s (record s { store = store; met = met }) r v (TouchedBy a.held setting) (Step no_rules (state_in s r v) setting)
+  pub set_cut : met ≡ met_only false → room_for_branch r name ≡ Ok tt → CutBy a b s (record s { store = store; met = met }) r v setting
   set_cut e room = cut_so a b s store s.work r set_to v here setting (whole_set r (work_at s.work v) name target n named) made met e refl (roomy r (work_at s.work v) name target n named room) does
 
 pub is_ground_set : (made : Result (Unit {0}) StoreFault) → IsUndamaged made → branch_reply made ≡ None → IsErrOf made StoreFault.Ground
@@ -213,7 +208,7 @@ module _ (r : Repository) (w : MachineWork) (name : Bytes) where
       (subst (λ (t : Turned). IsAccepted t.0) (removed_turn met) (accepted_removed name (answer (at r w) (Command.BranchRm name) (conditions_of met)).0 done)))
 
   whole_removed : IsWhole r w (Command.BranchRm name) (without_branch r name)
-  whole_removed = record { quiet = quiet_removed; done = done_removed; plain = λ met t e. e; refusable = branch_rm_refused name }
+  whole_removed = record { quiet = quiet_removed; done = done_removed; plain = λ met t e. e; refusable = branch_rm_refused name; durable = refl }
 
   -- where there is one, and no limit is met
   found : (o : Option ℕ) → IsSome o → (or_refused (at r w) (chain (present o (Reply.NoBranch name)) false false gone)).1.repository ≡ without_branch r name
@@ -229,7 +224,7 @@ module _ (a b : Told) (s : Session) (store : Store) (met : Met) (r : Repository)
   removed_to = without_branch r name
 
   pub remove_goes : (reply : Reply) → met ≡ store.met → removed_reply name made ≡ Some reply → (made ≡ Ok false → b ≡ a) → IfSome (removed_reply name made) (AnswersRemove r name store.met store)
-      → Goes a b s (record s { store = store; met = met }) r v (ChangedBy a.held removing) (Step no_rules (state_in s r v) removing) reply
+      → GoesBy a b s (record s { store = store; met = met }) r v removing reply
   remove_goes reply m e absent A = reply_so a b s store s.work r removed_to v here removing whole met (removed_reply name made) reply m e (by made A absent (works_on a b s store r removed_to v made (omega arith) does works) does)
     where
       whole : IsWhole r (work_at s.work v) removing removed_to
@@ -248,11 +243,11 @@ module _ (a b : Told) (s : Session) (store : Store) (met : Met) (r : Repository)
       by : (made : Result Bool StoreFault) → IfSome (removed_reply name made) (AnswersRemove r name store.met store) → (made ≡ Ok false → b ≡ a)
           → (HasAnswer made → (q : Repository) → Holds store b q → AreParents q s.work.parents → IsAt b store q s.work v) → Changes r removed_to made store a b
           → IfSome (removed_reply name made) (Went a b s store s.work r removed_to v here removing whole)
-      by (Ok true) A absent stays_so does = done_so a b s store s.work r removed_to v here removing whole true Reply.Accepted tt ok_is_short (turn_of b s store r v removing Reply.Accepted here.lawful.parents A (stays_so tt)) does
-      by (Ok false) A absent stays_so does = refused_so a b s store s.work r removed_to v here removing whole (Reply.NoBranch name) (λ h. h) (turn_of b s store r v removing (Reply.NoBranch name) here.lawful.parents A (stays_so tt)) (as_before A (absent refl) does)
-      by (Err fault) A absent stays_so does = fault_so a b s store s.work r removed_to v here removing whole fault (IfSome_then (fault_reply fault) A (λ reply x has. turn_of b s store r v removing reply here.lawful.parents x (stays_so has))) does
+      by (Ok true) A absent stays_so does = done_so a b s store s.work r removed_to v here removing whole true Reply.Accepted tt ok_is_short (turn_of b s store r v removing Reply.Accepted refl here.lawful.parents A (stays_so tt)) does
+      by (Ok false) A absent stays_so does = refused_so a b s store s.work r removed_to v here removing whole (Reply.NoBranch name) (λ h. h) (turn_of b s store r v removing (Reply.NoBranch name) refl here.lawful.parents A (stays_so tt)) (as_before A (absent refl) does)
+      by (Err fault) A absent stays_so does = fault_so a b s store s.work r removed_to v here removing whole fault (IfSome_then (fault_reply fault) A (λ reply x has. turn_of b s store r v removing reply refl here.lawful.parents x (stays_so has))) does
 
-  pub remove_cut : met ≡ met_only false → IsSome (head r name) → Cut a b s (record s { store = store; met = met }) r v (TouchedBy a.held removing) (Step no_rules (state_in s r v) removing)
+  pub remove_cut : met ≡ met_only false → IsSome (head r name) → CutBy a b s (record s { store = store; met = met }) r v removing
   remove_cut e there = cut_so a b s store s.work r removed_to v here removing (whole_removed r (work_at s.work v) name) made met e refl
       (ap (λ (t : Turned). t.1.repository) (removed_turn r (work_at s.work v) name (met_only false)) ∙ found r (work_at s.work v) name (head r name) there) does
 

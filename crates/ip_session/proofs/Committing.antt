@@ -24,8 +24,8 @@ use Rattle.ip_store.specs.Changes.{HasAnswer}
 use Rattle.ip_store.specs.Commits.{fault_reply, met_nothing, reply_to, Answers, repository_after, Commits}
 use Rattle.ip_store.specs.Work.{work_at, session}
 use Rattle.ip_session.specs.declared.session.Session.{Session}
-use Rattle.ip_session.specs.Session.{no_rules, IsWorking, state_in, met_only, conditions_of, IsLong, IsDurable, ChangedBy, TouchedBy, Goes, Cut}
-use Rattle.ip_session.proofs.SessionLemmas.{at, commit_refused}
+use Rattle.ip_session.specs.Session.{IsWorking, met_only, conditions_of, IsLong, IsDurable, GoesBy, CutBy}
+use Rattle.ip_session.proofs.SessionLemmas.{at, commit_refused, hex_long}
 use Rattle.ip_session.proofs.DurableGoes.{IsWhole, IsTurn, turned_by, fault_so, done_so, reply_so, cut_so, Went, answered}
 
 abbrev IsCommitted : Reply → Type 0
@@ -98,13 +98,9 @@ module _ (r : Repository) (w : MachineWork) (branch : Bytes) (info : Info) where
   after_is met same = ap (λ (t : Turned). t.1.repository) (sym (turned_by r w command met_nothing false refl ∙ same))
 
   pub whole : IsWhole r w command after
-  whole = record { quiet = quiet_commit; done = λ met is. after_is met (alike_commit met is); plain = λ met t e. e; refusable = commit_refused branch info }
+  whole = record { quiet = quiet_commit; done = λ met is. after_is met (alike_commit met is); plain = λ met t e. e; refusable = commit_refused branch info; durable = refl }
 
 -- ---- the text of a commit's name
-
-hex_long : (bytes : Bytes) → length (hex_text bytes) ≡ 2 * length bytes
-hex_long [] = refl
-hex_long (b ∷ bytes) = let h = hex_long bytes in omega (arith, h)
 
 name_is_short : (name : Hash) → length name ≡ 32 → IsLong (Reply.Committed name) → ⊥
 unfolding reply_text
@@ -121,14 +117,14 @@ module _ (a b : Told) (s : Session) (store : Store) (work : Work) (met : Met) (r
   committed_to = repository_after r s.work v branch info
 
   abbrev Machine : Reply → Type 0
-  Machine reply = Answers b (session r s.work v) committing store.met reply store work
+  Machine reply = Answers b (session r s.work v) v committing store.met reply store work
 
   turn_of : (reply : Reply) → Machine reply → IsTurn b s store work r v committing reply
-  turn_of reply A = record { next = A.after; view = A.view; turns = A.turns; is_at = λ holds. A.is_at }
+  turn_of reply A = record { next = A.after; view = A.view; turns = A.turns; is_at = λ holds. A.is_at; seen = A.seen }
 
   -- the store answered the commit
   pub commit_goes : (reply : Reply) → met ≡ store.met → reply_to made ≡ Some reply → IfOk made (λ name. length name ≡ 32) → IfSome (reply_to made) Machine
-      → Goes a b s (record s { store = store; work = work; met = met }) r v (ChangedBy a.held committing) (Step no_rules (state_in s r v) committing) reply
+      → GoesBy a b s (record s { store = store; work = work; met = met }) r v committing reply
   commit_goes reply m e long A = reply_so a b s store work r committed_to v here committing (whole r (work_at s.work v) branch info) met (reply_to made) reply m e (by made long A does)
     where
       by : (made : Result Hash StoreFault) → IfOk made (λ name. length name ≡ 32) → IfSome (reply_to made) Machine → Commits r s.work v branch info made store a b
@@ -136,7 +132,7 @@ module _ (a b : Told) (s : Session) (store : Store) (work : Work) (met : Met) (r
       by (Ok name) long A does = done_so a b s store work r committed_to v here committing (whole r (work_at s.work v) branch info) name (Reply.Committed name) tt (name_is_short name long) (turn_of (Reply.Committed name) A) does
       by (Err fault) long A does = fault_so a b s store work r committed_to v here committing (whole r (work_at s.work v) branch info) fault (IfSome_then (fault_reply fault) A (λ reply x has. turn_of reply x)) does
 
-  pub commit_cut : met ≡ met_only false → Cut a b s (record s { store = store; work = work; met = met }) r v (TouchedBy a.held committing) (Step no_rules (state_in s r v) committing)
+  pub commit_cut : met ≡ met_only false → CutBy a b s (record s { store = store; work = work; met = met }) r v committing
   commit_cut e = cut_so a b s store work r committed_to v here committing (whole r (work_at s.work v) branch info) made met e refl (after_is r (work_at s.work v) branch info met_nothing refl) does
 
 pub has_answer : (made : Result Hash StoreFault) (reply : Reply) → reply_to made ≡ Some reply → HasAnswer made

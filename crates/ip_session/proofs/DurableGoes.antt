@@ -1,7 +1,7 @@
 -- What a session does that ran a command which may change files.
 --     keeps_still      a call that changes no file, at every moment
 --     IsWhole r work command after      refused it changes nothing, and done it leaves this repository
---     IsTurn b s store work r v command reply      what the store answered it is the machine's turn, and the work is lawful where the store holds the repository after it
+--     IsTurn b s store work r v command reply      what the store answered it is the machine's turn, the work is lawful where the store holds the repository after it, and its tree's view comes of v
 --     refused_so, fault_so      the store refused it.      done_so      it did it.      cut_so      a fault of the ground cut it short
 --     reply_so      of an answer that there is
 --     floor_stays      an answered call gives no commits up
@@ -27,11 +27,12 @@ use Rattle.ip_store.specs.Changes.{HasAnswer, IsUndamaged, Changes}
 use Rattle.ip_store.specs.Commits.{fault_reply}
 use Rattle.ip_store.specs.Commits as commits
 use Rattle.ip_store.specs.Store.{IsOf, Holds}
+use Rattle.ip_store.specs.Views.{IsViewAfter}
 use Rattle.ip_store.specs.Work.{work_at, session, IsAt}
 use Rattle.ip_store.specs.Publishing.{MayChange}
 use Rattle.ip_store.proofs.Recovering.{recovers_since}
 use Rattle.ip_session.specs.declared.session.Session.{Session}
-use Rattle.ip_session.specs.Session.{no_rules, IsWorking, state_in, met_only, conditions_of, IsLong, is_durable, IsDurable, ChangedBy, TouchedBy, Goes, Cut}
+use Rattle.ip_session.specs.Session.{no_rules, IsWorking, state_in, met_only, conditions_of, IsLong, is_durable, IsDurable, ChangedBy, TouchedBy, GoesBy, CutBy}
 use Rattle.ip_session.proofs.SessionLemmas.{at, plainly, Refusable}
 
 pub keeps_still : (store : Store) (r after : Repository) (a b : Told) → Holds store a r → NothingPending a → ChangesOnly NoFile a b → IsAtomic a b r after
@@ -49,6 +50,7 @@ module _ (r : Repository) (w : MachineWork) (command : Command) where
     pub done : (met : Met) → IsDurable (answer s command (conditions_of met)).0 command → (answer s command (conditions_of met)).1.repository ≡ after
     pub plain : (met : Conditions) (t : Turned) → t ≡ answer s command met → Turns no_rules s command met t
     pub refusable : Refusable command
+    pub durable : is_durable command ≡ true
 
   pub turned_by : (met : Met) (b : Bool) → met.refused ≡ b → turned s command (conditions_of met) ≡ (if b then (Reply.Memory, s) else answer s command (conditions_of met))
   unfolding turned
@@ -76,18 +78,27 @@ module _ (r : Repository) (w : MachineWork) (command : Command) where
         by true is = let same = sym e ∙ turned_by met true is in (ap (λ (t : Turned). t.0) same, ap (λ (t : Turned). t.1) same)
         by false is = whole.plain (conditions_of met) (reply, s') (sym e ∙ turned_by met false is)
 
+-- a command that was not done leaves what is known of the work's tree
+kept_view : (r : Repository) (v : View) (command : Command) (reply : Reply) (view : View) → is_durable command ≡ true → ¬ IsDurable reply command → IsViewAfter r v command reply view → view ≡ v
+kept_view r v (Command.Commit branch info) (Reply.Committed name) view durable quiet seen = absurd (quiet tt)
+kept_view r v (Command.Commit branch info) _ view durable quiet seen = seen
+kept_view r v (Command.Branch name target) reply view durable quiet seen = seen
+kept_view r v (Command.BranchRm name) reply view durable quiet seen = seen
+kept_view r v _ reply view durable quiet seen = absurd (cc durable)
+
 pub record IsTurn (b : Told) (s : Session) (store : Store) (work : Work) (r : Repository) (v : View) (command : Command) (reply : Reply) : Type 0 where
   pub next : Repository
   pub view : View
   pub turns : commits.Turns (state_in s r v) command store.met reply (session next work view)
   pub is_at : Holds store b next → IsAt b store next work view
+  pub seen : IsViewAfter r v command reply view
 
 module _ (a b : Told) (s : Session) (store : Store) (work : Work) (r after : Repository) (v : View) (here : IsWorking a s r v) (command : Command) (whole : IsWhole r (work_at s.work v) command after) where
   abbrev pub after_it : Session
   after_it = record s { store = store; work = work; met = store.met }
 
   abbrev pub Went : Reply → Type 0
-  Went = Goes a b s after_it r v (ChangedBy a.held command) (Step no_rules (state_in s r v) command)
+  Went = GoesBy a b s after_it r v command
 
   abbrev pub Turn : Reply → Type 0
   Turn = IsTurn b s store work r v command
@@ -102,10 +113,11 @@ module _ (a b : Told) (s : Session) (store : Store) (work : Work) (r after : Rep
         view = T.view;
         gives = step_of r (work_at s.work v) command after whole store.met reply (session T.next work T.view) T.turns.1 T.turns.0;
         is_at = T.is_at (subst (Holds store b) (sym repository) does.1);
+        seen = T.seen;
         only = only_more a b NoFile (ChangedBy a.held command reply) (λ file none. absurd none) only;
         atomic = λ order. keeps_still s.store r T.next a b here.holds order only;
         nothing_pending = λ order. pending_passes a b only.goes (λ file. only.others file (λ none. none)) only.lending order;
-        spared = λ long. record { same = state; refused = whole.refusable r (work_at s.work v) };
+        spared = λ long. record { same = state; seen = kept_view r v command reply T.view whole.durable quiet T.seen; refused = whole.refusable r (work_at s.work v) };
         still = λ long file changed. quiet changed.0;
       }
 
@@ -125,6 +137,7 @@ module _ (a b : Told) (s : Session) (store : Store) (work : Work) (r after : Rep
         view = T.view;
         gives = step_of r (work_at s.work v) command after whole store.met reply (session T.next work T.view) T.turns.1 T.turns.0;
         is_at = T.is_at (subst (Holds store b) (sym repository) does.ok);
+        seen = T.seen;
         only = only_more a b _ (ChangedBy a.held command reply) (λ file changed. (done, changed)) does.only;
         atomic = λ order. subst (λ (q : Repository). IsAtomic a b r q) (sym repository) (does.atomic order);
         nothing_pending = λ order. does.nothing_pending order tt;
@@ -133,13 +146,13 @@ module _ (a b : Told) (s : Session) (store : Store) (work : Work) (r after : Rep
       }
 
   -- the store tells what was met
-  pub reply_so : (met : Met) (o : Option Reply) (reply : Reply) → met ≡ store.met → o ≡ Some reply → IfSome o Went → Goes a b s (record s { store = store; work = work; met = met }) r v (ChangedBy a.held command) (Step no_rules (state_in s r v) command) reply
+  pub reply_so : (met : Met) (o : Option Reply) (reply : Reply) → met ≡ store.met → o ≡ Some reply → IfSome o Went → GoesBy a b s (record s { store = store; work = work; met = met }) r v command reply
   reply_so met o reply m e went =
-      subst (λ (x : Met). Goes a b s (record s { store = store; work = work; met = x }) r v (ChangedBy a.held command) (Step no_rules (state_in s r v) command) reply) (sym m) (subst (λ (x : Option Reply). IfSome x Went) e went)
+      subst (λ (x : Met). GoesBy a b s (record s { store = store; work = work; met = x }) r v command reply) (sym m) (subst (λ (x : Option Reply). IfSome x Went) e went)
 
   -- what the machine gives where nothing was met
   pub cut_so : {A : Type 0} (result : Result A StoreFault) (met : Met) → met ≡ met_only false → is_durable command ≡ true → (answer (state_in s r v) command (conditions_of (met_only false))).1.repository ≡ after → Changes {A = A} r after result store a b
-      → Cut a b s (record s { store = store; work = work; met = met }) r v (TouchedBy a.held command) (Step no_rules (state_in s r v) command)
+      → CutBy a b s (record s { store = store; work = work; met = met }) r v command
   cut_so result met e durable repository does =
       let t = answer (state_in s r v) command (conditions_of (met_only false)) in
       record {

@@ -1,6 +1,7 @@
 pub mod SessionLemmas
 pub mod Referring
-pub mod Reading
+pub mod Seeing
+mod Reading
 pub mod SessionGoes
 pub mod DurableGoes
 pub mod Committing

@@ -39,6 +39,7 @@ use Rattle.ip_session.specs.declared.session.Session.{Session}
 use Rattle.ip_session.specs.declared.session.SessionEnd.{SessionEnd}
 use Rattle.ip_session.specs.Session.{IsWorking, state_in, is_durable, IsDurable, HasRead}
 use Rattle.ip_session.specs.Placing.{named_record, length_of, commits_in, PlacedBy, PlacedIn}
+use Rattle.ip_session.proofs.Referring.{IsUnnamed, NamesNone, names_none}
 use Rattle.ip_session.proofs.DurableGoes.{answered}
 use Rattle.ip_session.proofs.ReadGoes.{none_durable}
 
@@ -174,28 +175,6 @@ module _ (a b : Told) (s : Session) (store : Store) (r : Repository) (v : View) 
         refused {A = Bool} s.store.slot store.slot (state_in s r v) v removing fault reply s.store e refl
         (subst (λ (k : ℕ). LimitsSpace {A = Bool} k (Err fault) s.store) remove_end (limits (λ is. absurd (cc is))))
         (still_slot s.store store r r a b here.holds still.1 still.0)
-
--- no commit has the name
-abbrev IsUnnamed : Reply → Type 0
-IsUnnamed (Reply.NoBranch name) = Unit {0}
-IsUnnamed (Reply.NoCommit hash) = Unit {0}
-IsUnnamed reply = ⊥
-
-abbrev NamesNone : Refused ℕ → Type 0
-NamesNone (Ok n) = Unit {0}
-NamesNone (Err reply) = IsUnnamed reply
-
-names_none : (r : Repository) (target : Target) → NamesNone (resolve r target)
-names_none r (Target.Branch name) = by (head r name)
-  where
-    by : (o : Option ℕ) → NamesNone (present o (Reply.NoBranch name))
-    by None = tt
-    by (Some n) = tt
-names_none r (Target.Commit hash) = by (number_named r hash)
-  where
-    by : (o : Option ℕ) → NamesNone (present o (Reply.NoCommit hash))
-    by None = tt
-    by (Some n) = tt
 
 pub unnamed_placed : (slot : Slot) (s : State) (v : View) (name : Bytes) (target : Target) (reply : Reply) → resolve s.repository target ≡ Err reply → PlacedBy slot slot s v (Command.Branch name target) reply
 unnamed_placed slot s v name target reply is = by reply (subst NamesNone is (names_none s.repository target))

@@ -18,7 +18,7 @@ use Rattle.ip_store.specs.Trees.{OnlyLooks}
 use Rattle.ip_store.specs.Work.{IsLawful, work_at}
 use Rattle.ip_session.specs.declared.session.Session.{Session}
 use Rattle.ip_session.specs.declared.session.SessionEnd.{SessionEnd}
-use Rattle.ip_session.specs.Session.{no_rules, IsServing, IsWorking, state_in, met_only, conditions_of, HasWords, is_durable, IsDurable, ChangedBy, TouchedBy, IsAnswered, HasRead, Goes, Cut}
+use Rattle.ip_session.specs.Session.{no_rules, IsServing, IsWorking, state_in, met_only, conditions_of, HasWords, is_durable, IsDurable, ChangedBy, TouchedBy, IsAnswered, HasRead, GoesBy, CutBy}
 use Rattle.ip_session.proofs.SessionLemmas.{plainly}
 use Rattle.ip_session.proofs.DurableGoes.{keeps_still}
 
@@ -35,13 +35,14 @@ plain s _ met words = refl
 
 module _ (a b : Told) (s s' : Session) (r : Repository) (v : View) (here : IsWorking a s r v) (looks : OnlyLooks a b s.store s'.store) (command : Command) (quiet : is_durable command ≡ false) where
   -- the store holds the repository over the same records
-  goes : (reply : Reply) → IsAnswered (image_records here.holds) s s' r v (Step no_rules (state_in s r v) command) reply → Goes a b s s' r v (ChangedBy a.held command) (Step no_rules (state_in s r v) command) reply
+  goes : (reply : Reply) → IsAnswered (image_records here.holds) s s' r v command reply → GoesBy a b s s' r v command reply
   goes reply A =
       let holds : Holds s'.store b r = looks.holds r here.holds in
       record {
         after = r;
         view = A.view;
         gives = A.gives;
+        seen = A.seen;
         is_at = record { holds = holds; lawful = subst (λ (records : ℕ → Option Record). IsLawful records r s'.work A.view) (sym (looks.records r here.holds holds)) A.lawful };
         only = only_more a b NoFile (ChangedBy a.held command reply) (λ file none. absurd none) looks.reads.only;
         atomic = λ order. keeps_still s.store r r a b here.holds order looks.reads.only;
@@ -51,7 +52,7 @@ module _ (a b : Told) (s s' : Session) (r : Repository) (v : View) (here : IsWor
       }
 
   -- the machine's answer, where nothing was met
-  cut : HasWords command → s'.met ≡ met_only false → Cut a b s s' r v (TouchedBy a.held command) (Step no_rules (state_in s r v) command)
+  cut : HasWords command → s'.met ≡ met_only false → CutBy a b s s' r v command
   cut words e =
       let t = answer (state_in s r v) command (conditions_of (met_only false)) in
       record {
@@ -68,10 +69,10 @@ read_serves tells a b s s' command (Ok reply) (r, is) has = (r, has.tables r is)
 read_serves tells a b s s' command (Err end) serving has = tt
 
 module _ (tells : Bool) (a b : Told) (s s' : Session) (command : Command) (told : IsTrue tells) (r : Repository) (v : View) (here : IsWorking a s r v) where
-  pub read_goes : (result : Result Reply SessionEnd) → is_durable command ≡ false → HasRead tells a b s s' command result → IfOk result (Goes a b s s' r v (ChangedBy a.held command) (Step no_rules (state_in s r v) command))
+  pub read_goes : (result : Result Reply SessionEnd) → is_durable command ≡ false → HasRead tells a b s s' command result → IfOk result (GoesBy a b s s' r v command)
   read_goes (Ok reply) quiet has = goes a b s s' r v here (has.looks told) command quiet reply (has.answered told r v here)
   read_goes (Err end) quiet has = tt
 
-  pub read_cut : (result : Result Reply SessionEnd) → is_durable command ≡ false → HasWords command → s.met ≡ met_only false → HasRead tells a b s s' command result → OnErr result (Cut a b s s' r v (TouchedBy a.held command) (Step no_rules (state_in s r v) command))
+  pub read_cut : (result : Result Reply SessionEnd) → is_durable command ≡ false → HasWords command → s.met ≡ met_only false → HasRead tells a b s s' command result → OnErr result (CutBy a b s s' r v command)
   read_cut (Ok reply) quiet words e has = tt
   read_cut (Err end) quiet words e has = cut a b s s' r v here (has.looks told) command quiet words (has.unmet refl ∙ e)

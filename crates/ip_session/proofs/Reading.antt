@@ -24,7 +24,7 @@ use Rattle.ip_spec.specs.Path.{Bytes, Path, is_prefix, is_related}
 use Rattle.ip_spec.specs.declared.tree.Got.{Got}
 use Rattle.ip_spec.specs.declared.tree.Listed.{Listed}
 use Rattle.ip_spec.specs.Tree.{Tree, graft, subtree, is_empty, got_at, listed_at}
-use Rattle.ip_spec.specs.TreeAt.{present}
+use Rattle.ip_spec.specs.TreeAt.{TreeAt, present}
 use Rattle.ip_spec.specs.View.{View, no_view, put_view, remove_view, graft_view, least}
 use Rattle.ip_spec.specs.Repository.{Repository, is_retained, tree_at, name_at}
 use Rattle.ip_spec.specs.Machine.{State, Conditions, empty_work}
@@ -43,6 +43,7 @@ use Rattle.ip_save.specs.Batches.{HasShortContents}
 use Rattle.ip_store.specs.Showing.{IsFetchedOr, IsShown}
 use Rattle.ip_store.specs.Store.{IsOf, Holds, SameTables, image_records}
 use Rattle.ip_store.specs.Trees.{OnlyLooks, IsTreeOf}
+use Rattle.ip_store.specs.Views.{IsStored, IsViewAfter}
 use Rattle.ip_store.specs.Work.{AreParents, IsLawful, work_at, state_at}
 use Rattle.ip_store.specs.declared.committing.StoreFault.{StoreFault}
 use Rattle.ip_store.specs.declared.store.Store.{Store}
@@ -53,6 +54,7 @@ use Rattle.ip_session.specs.declared.session.Session.{Session}
 use Rattle.ip_session.specs.declared.session.SessionEnd.{SessionEnd}
 use Rattle.ip_session.specs.Session.{no_rules, IsIn, IsWorking, state_in, met_only, conditions_of, IsLong, IsAnswered, HasRead, IsHeld, EndsBy, Fails, tree_fault}
 use Rattle.ip_session.proofs.SessionLemmas.{at, NoneGivenUp, Refusable, stat_of, empty_done, set_done, set_long, set_wide, rm_done, rm_absent, get_done, list_done, stat_done, hash_done, hash_refused, ok_is_short, at_is_short, memory_is_short, stat_is_short}
+use Rattle.ip_session.proofs.Seeing.{memory_seen, limit_seen}
 use Rattle.ip_session.proofs.Referring.{not_below, checkout_done, cat_done, graft_absent, graft_deep, graft_wide, graft_done, parent_done, show_done}
 
 -- ---- what was met, and what stays
@@ -66,24 +68,26 @@ module _ (records : ℕ → Option Record) (s s' : Session) (r : Repository) (v 
   state = ap (state_at r) same
 
   pub plainly_answered : (reply : Reply) → s'.met ≡ met_only false → Step no_rules (state_in s r v) command (conditions_of (met_only false)) reply (state_in s r v)
-      → (IsLong reply → Refusable command) → IsAnswered records s s' r v (Step no_rules (state_in s r v) command) reply
-  plainly_answered reply e step spared = record {
+      → IsViewAfter r v command reply v → (IsLong reply → Refusable command) → IsAnswered records s s' r v command reply
+  plainly_answered reply e step seen spared = record {
     view = v;
     gives = met_as (state_in s r v) command s'.met (met_only false) reply (state_in s' r v) e (subst (Step no_rules (state_in s r v) command (conditions_of (met_only false)) reply) (sym state) step);
     lawful = lawful;
-    spared = λ long. record { same = state; refused = spared long r (work_at s.work v) };
+    seen = seen;
+    spared = λ long. record { same = state; seen = refl; refused = spared long r (work_at s.work v) };
   }
 
   pub still_answered : (reply : Reply) → s'.met ≡ met_only false → Step no_rules (state_in s r v) command (conditions_of (met_only false)) reply (state_in s r v)
-      → Refusable command → IsAnswered records s s' r v (Step no_rules (state_in s r v) command) reply
-  still_answered reply e step refusable = plainly_answered reply e step (λ long. refusable)
+      → IsViewAfter r v command reply v → Refusable command → IsAnswered records s s' r v command reply
+  still_answered reply e step seen refusable = plainly_answered reply e step seen (λ long. refusable)
 
-  pub memory_answered : s'.met ≡ met_only true → Refusable command → IsAnswered records s s' r v (Step no_rules (state_in s r v) command) Reply.Memory
+  pub memory_answered : s'.met ≡ met_only true → Refusable command → IsAnswered records s s' r v command Reply.Memory
   memory_answered e refusable = record {
     view = v;
     gives = met_as (state_in s r v) command s'.met (met_only true) Reply.Memory (state_in s' r v) e
         (subst (Step no_rules (state_in s r v) command (conditions_of (met_only true)) Reply.Memory) (sym state) (refusable r (work_at s.work v)));
     lawful = lawful;
+    seen = memory_seen r v command;
     spared = λ long. absurd (omega (arith, long, memory_is_short));
   }
 
@@ -171,7 +175,7 @@ module _ (tells : Bool) (old new : Told) (s s' : Session) (command : Command) (t
   abbrev Did : Result Reply SessionEnd → Type 0
   Did result = HasRead tells old new s s' command result
 
-  pub answered_read : (reply : Reply) → (IsTrue tells → (r : Repository) (v : View) (here : IsWorking old s r v) → IsAnswered (image_records here.holds) s s' r v (Step no_rules (state_in s r v) command) reply) → Did (Ok reply)
+  pub answered_read : (reply : Reply) → (IsTrue tells → (r : Repository) (v : View) (here : IsWorking old s r v) → IsAnswered (image_records here.holds) s s' r v command reply) → Did (Ok reply)
   answered_read reply answered = record { tables = tables; answered = answered; looks = looks; unmet = λ err. absurd (cc err) }
 
   ended_read : (end : SessionEnd) → s'.met ≡ s.met → Did (Err end)
@@ -180,24 +184,26 @@ module _ (tells : Bool) (old new : Told) (s s' : Session) (command : Command) (t
   -- over the view as it was
   module _ (same : (v : View) → work_at s'.work v ≡ work_at s.work v) (e : s.met ≡ met_only false) (refusable : Refusable command) where
     pub still_read : (reply : Reply) → s'.met ≡ s.met
+        → ((r : Repository) (v : View) → IsOf s.store r → IsViewAfter r v command reply v)
         → (IsTrue tells → (r : Repository) (v : View) (here : IsWorking old s r v) → IsLawful (image_records here.holds) r s'.work v × Step no_rules (state_in s r v) command (conditions_of (met_only false)) reply (state_in s r v)) → Did (Ok reply)
-    still_read reply met does = answered_read reply (λ told r v here. let x = does told r v here in still_answered (image_records here.holds) s s' r v command (same v) x.0 reply (met ∙ e) x.1 refusable)
+    still_read reply met seen does = answered_read reply (λ told r v here. let x = does told r v here in still_answered (image_records here.holds) s s' r v command (same v) x.0 reply (met ∙ e) x.1 (seen r v here.holds.tables) refusable)
 
     pub fault_read : (fault : StoreFault) (result : Result Reply SessionEnd) → Fails fault s.met s'.met result
         → (IsTrue tells → (r : Repository) (v : View) (here : IsWorking old s r v) → IsLawful (image_records here.holds) r s'.work v × Refuses (state_in s r v) command fault) → Did result
     fault_read StoreFault.Memory result f does = subst Did (sym f.0) (answered_read Reply.Memory (λ told r v here. memory_answered (image_records here.holds) s s' r v command (same v) (does told r v here).0 f.1 refusable))
     fault_read StoreFault.Ground result f does = subst Did (sym f.0) (ended_read SessionEnd.Ground f.1)
     fault_read (StoreFault.Damaged at names) result f does = subst Did (sym f.0) (ended_read (SessionEnd.Damaged at names) f.1)
-    fault_read (StoreFault.Limit limit) result f does = subst Did (sym f.0) (still_read (Reply.Limit limit) f.1 does)
+    fault_read (StoreFault.Limit limit) result f does = subst Did (sym f.0) (still_read (Reply.Limit limit) f.1 (λ r v of. limit_seen r v command limit) does)
     fault_read (StoreFault.HeadMoved name) result f does = subst Did (sym f.0) (answered_read (Reply.HeadMoved name) (λ told r v here. absurd (does told r v here).1))
     fault_read (StoreFault.Existing name) result f does = subst Did (sym f.0) (answered_read (Reply.Existing name) (λ told r v here. absurd (does told r v here).1))
 
 -- it looked at nothing, and nothing changed but what was met
 pub unread : (tells : Bool) (a : Told) (s : Session) (met : Met) (command : Command) (reply : Reply) → met ≡ met_only false → Refusable command
+    → ((r : Repository) (v : View) → IsOf s.store r → IsViewAfter r v command reply v)
     → ((r : Repository) (v : View) → IsOf s.store r → NoneGivenUp r (work_at s.work v) → Step no_rules (state_in s r v) command (conditions_of (met_only false)) reply (state_in s r v))
     → HasRead tells a a s (record s { met = met }) command (Ok reply)
-unread tells a s met command reply e refusable gives = answered_read tells a a s (record s { met = met }) command (λ r is. is) (λ told. looks_nowhere a s.store) reply
-    (λ told r v here. still_answered (image_records here.holds) s (record s { met = met }) r v command refl here.lawful reply e (gives r v here.holds.tables here.lawful.retained) refusable)
+unread tells a s met command reply e refusable seen gives = answered_read tells a a s (record s { met = met }) command (λ r is. is) (λ told. looks_nowhere a s.store) reply
+    (λ told r v here. still_answered (image_records here.holds) s (record s { met = met }) r v command refl here.lawful reply e (gives r v here.holds.tables here.lawful.retained) (seen r v here.holds.tables) refusable)
 
 -- and it was refused memory
 pub refused_unread : (tells : Bool) (a : Told) (s : Session) (met : Met) (command : Command) (reply : Reply) → met ≡ met_only true → reply ≡ Reply.Memory → Refusable command → HasRead tells a a s (record s { met = met }) command (Ok reply)
@@ -207,7 +213,7 @@ refused_unread tells a s met command reply e is refusable = subst (λ (x : Reply
 
 -- it asks nothing of the ground
 pub within_read : (tells : Bool) (a : Told) (s s' : Session) (command : Command) (reply : Reply) → ((r : Repository) → IsIn s r → IsIn s' r) → s'.store ≡ s.store
-    → ((records : ℕ → Option Record) (r : Repository) (v : View) → IsOf s.store r → IsLawful records r s.work v → IsAnswered records s s' r v (Step no_rules (state_in s r v) command) reply) → HasRead tells a a s s' command (Ok reply)
+    → ((records : ℕ → Option Record) (r : Repository) (v : View) → IsOf s.store r → IsLawful records r s.work v → IsAnswered records s s' r v command reply) → HasRead tells a a s s' command (Ok reply)
 within_read tells a s s' command reply tables same answered = answered_read tells a a s s' command tables (λ told. subst (OnlyLooks a a s.store) (sym same) (looks_nowhere a s.store)) reply
     (λ told r v here. answered (image_records here.holds) r v here.holds.tables here.lawful)
 
@@ -272,6 +278,10 @@ one_parent r n retained = record {
 
 -- ---- the work's tree
 
+-- each part is in one of the records
+stored_as : (records : ℕ → Option Record) (n at : ℕ) (map : Tree) → TreeAt records at map → IsStored n map (stored_view records n at map)
+stored_as records n at map spelled = record { records = records; at = at; spelled = spelled; is = refl }
+
 -- another tree of the same view, perhaps over other records
 lawful_with : (records : ℕ → Option Record) (r : Repository) (work : Work) (v : View) (tree : lazy.Tree) → IsLawful records r work v → IsView records tree v → IsLawful records r (record work { tree = tree }) v
 lawful_with records r work v tree l view = record { tree = view; short = l.short; parents = l.parents; least = l.least; retained = l.retained }
@@ -281,7 +291,7 @@ module _ (records : ℕ → Option Record) (s : Session) (store : Store) (met : 
   with_tree tree least = record s { store = store; work = record s.work { tree = tree; least = least }; met = met }
 
   abbrev Answers : Command → Session → Reply → Type 0
-  Answers command s' reply = IsAnswered records s s' r v (Step no_rules (state_in s r v) command) reply
+  Answers command s' reply = IsAnswered records s s' r v command reply
 
   pub set_answered : (tree : lazy.Tree) (path : Path) (bytes : Bytes) → IsSet records path bytes tree v → Answers (Command.Set path bytes) (with_tree tree s.work.least) Reply.Accepted
   unfolding put_view
@@ -289,6 +299,7 @@ module _ (records : ℕ → Option Record) (s : Session) (store : Store) (met : 
     view = put_view v path bytes;
     gives = met_as (state_in s r v) (Command.Set path bytes) met (met_only false) Reply.Accepted _ e (set_done r (work_at s.work v) l.retained path bytes is.short is.narrow);
     lawful = record { tree = is.view; short = short_put v.map path bytes l.short is.short; parents = l.parents; least = l.least; retained = l.retained };
+    seen = refl;
     spared = λ long. absurd (ok_is_short long);
   }
 
@@ -298,6 +309,7 @@ module _ (records : ℕ → Option Record) (s : Session) (store : Store) (met : 
     view = remove_view v path;
     gives = met_as (state_in s r v) (Command.Rm path) met (met_only false) Reply.Accepted _ e (rm_done r (work_at s.work v) l.retained path (some_there (is_empty (subtree v.map path)) is.found));
     lawful = record { tree = is.view; short = short_removed v.map path l.short; parents = l.parents; least = l.least; retained = l.retained };
+    seen = refl;
     spared = λ long. absurd (ok_is_short long);
   }
     where
@@ -305,10 +317,10 @@ module _ (records : ℕ → Option Record) (s : Session) (store : Store) (met : 
       some_there true e = absurd (cc e)
       some_there false e = refl
 
-  pub graft_answered : (tree : lazy.Tree) (target : Target) (from to : Path) (n at_root low : ℕ) → resolve r target ≡ Ok n → IsTrue (is_retained r n) → Some low ≡ least_with s.work.least n → HasShortContents (tree_at r n)
+  pub graft_answered : (tree : lazy.Tree) (target : Target) (from to : Path) (n at_root low : ℕ) → TreeAt records at_root (tree_at r n) → resolve r target ≡ Ok n → IsTrue (is_retained r n) → Some low ≡ least_with s.work.least n → HasShortContents (tree_at r n)
       → IsGrafted records from to tree v (stored_view records n at_root (tree_at r n)) true → Answers (Command.Graft target from to) (with_tree tree (Some low)) Reply.Accepted
   unfolding graft_view
-  graft_answered tree target from to n at_root low named retained less short is = record {
+  graft_answered tree target from to n at_root low spelled named retained less short is = record {
     view = graft_view v (stored_view records n at_root (tree_at r n)) from to;
     gives = met_as (state_in s r v) (Command.Graft target from to) met (met_only false) Reply.Accepted _ e
         (subst (λ (o : Option ℕ). Step no_rules (state_in s r v) (Command.Graft target from to) (conditions_of (met_only false)) Reply.Accepted (at r (record (work_at s.work v) { tree = graft v.map (tree_at r n) from to; least = o }))) (sym less)
@@ -320,6 +332,7 @@ module _ (records : ℕ → Option Record) (s : Session) (store : Store) (met : 
       least = less ∙ ap (λ (o : Option ℕ). least_with o n) l.least ∙ least_more v.oldest s.work.parents n ∙ ap (λ (o : Option ℕ). fold least_with o s.work.parents) (with_least v.oldest n);
       retained = one_less r s.work.least low n l.retained retained less;
     };
+    seen = (stored_view records n at_root (tree_at r n), record { number = n; named = named; stored = stored_as records n at_root (tree_at r n) spelled }, refl);
     spared = λ long. absurd (ok_is_short long);
   }
     where
@@ -342,6 +355,7 @@ module _ (records : ℕ → Option Record) (s : Session) (store : Store) (met : 
       least = let same : n ≡ min n n = omega arith in ap Some same ∙ sym (ap (λ (ps : List ℕ). fold least_with (Some n) ps) one);
       retained = not_below r n retained;
     };
+    seen = record { number = n; named = named; stored = stored_as records n t.at (tree_at r n) t.spelled };
     spared = λ long. absurd (at_is_short name long_name long);
   }
 
@@ -349,8 +363,8 @@ module _ (records : ℕ → Option Record) (s : Session) (store : Store) (met : 
 
 -- by another name of the command
 pub answered_as : (records : ℕ → Option Record) (s s' : Session) (r : Repository) (v : View) (command command' : Command) (reply : Reply) → command ≡ command'
-    → IsAnswered records s s' r v (Step no_rules (state_in s r v) command') reply → IsAnswered records s s' r v (Step no_rules (state_in s r v) command) reply
-answered_as records s s' r v command command' reply e h = subst (λ (x : Command). IsAnswered records s s' r v (Step no_rules (state_in s r v) x) reply) (sym e) h
+    → IsAnswered records s s' r v command' reply → IsAnswered records s s' r v command reply
+answered_as records s s' r v command command' reply e h = subst (λ (x : Command). IsAnswered records s s' r v x reply) (sym e) h
 
 -- a retained commit more is a parent
 pub more_parents : (r : Repository) (parents : List ℕ) (n : ℕ) → AreParents r parents → IsTrue (is_retained r n) → list_any (λ p. p == n) parents ≡ false → length parents < 16 → AreParents r (parents ++ n ∷ [])
@@ -368,7 +382,7 @@ more_parents r parents n are retained new few = record {
 
 module _ (records : ℕ → Option Record) (s : Session) (r : Repository) (v : View) (of : IsOf s.store r) (l : IsLawful records r s.work v) where
   abbrev Said : Command → Session → Reply → Type 0
-  Said command s' reply = IsAnswered records s s' r v (Step no_rules (state_in s r v) command) reply
+  Said command s' reply = IsAnswered records s s' r v command reply
 
   pub empty_answered : (work : Work) (met : Met) → met ≡ met_only false → IsLawful records r work no_view → work_at work no_view ≡ empty_work → Said Command.Empty (record s { work = work; met = met }) Reply.Accepted
   empty_answered work met e lawful empty = record {
@@ -376,16 +390,17 @@ module _ (records : ℕ → Option Record) (s : Session) (r : Repository) (v : V
     gives = met_as (state_in s r v) Command.Empty met (met_only false) Reply.Accepted (state_at r (work_at work no_view)) e
         (subst (λ (w : Machine.Work). Step no_rules (state_in s r v) Command.Empty (conditions_of (met_only false)) Reply.Accepted (state_at r w)) (sym empty) (empty_done r (work_at s.work v)));
     lawful = lawful;
+    seen = refl;
     spared = λ long. absurd (ok_is_short long);
   }
 
   pub hash_answered : (met : Met) (bytes hash : Bytes) → met ≡ met_only false → hash ≡ sha256 bytes → Said (Command.Hash bytes) (record s { met = met }) (Reply.Hash hash)
   hash_answered met bytes hash e is = subst (λ (x : Bytes). Said (Command.Hash bytes) (record s { met = met }) (Reply.Hash x)) (sym is)
-      (still_answered records s (record s { met = met }) r v (Command.Hash bytes) refl l (Reply.Hash (sha256 bytes)) e (hash_done r (work_at s.work v) bytes) (hash_refused bytes))
+      (still_answered records s (record s { met = met }) r v (Command.Hash bytes) refl l (Reply.Hash (sha256 bytes)) e (hash_done r (work_at s.work v) bytes) refl (hash_refused bytes))
 
   pub stat_answered : (met : Met) (reply : Reply) → met ≡ met_only false → reply ≡ stat_of r → Said Command.Stat (record s { met = met }) reply
   stat_answered met reply e is = subst (Said Command.Stat (record s { met = met })) (sym is)
-      (plainly_answered records s (record s { met = met }) r v Command.Stat refl l (stat_of r) e (stat_done r (work_at s.work v)) (λ long. absurd (stat_is_short s.store r of long)))
+      (plainly_answered records s (record s { met = met }) r v Command.Stat refl l (stat_of r) e (stat_done r (work_at s.work v)) refl (λ long. absurd (stat_is_short s.store r of long)))
 
   pub parent_answered : (parents : List ℕ) (low : ℕ) (met : Met) (target : Target) (n : ℕ) → met ≡ met_only false → resolve r target ≡ Ok n → IsTrue (is_retained r n) → list_any (λ p. p == n) s.work.parents ≡ false → length s.work.parents < 16
       → parents ≡ s.work.parents ++ n ∷ [] → Some low ≡ least_with s.work.least n
@@ -403,6 +418,7 @@ module _ (records : ℕ → Option Record) (s : Session) (r : Repository) (v : V
       least = less ∙ ap (λ (o : Option ℕ). least_with o n) l.least ∙ sym (ap (λ (ps : List ℕ). fold least_with v.oldest ps) added ∙ least_last v.oldest s.work.parents n);
       retained = one_less r s.work.least low n l.retained retained less;
     };
+    seen = refl;
     spared = λ long. absurd (ok_is_short long);
   }
 
@@ -447,10 +463,10 @@ module _ (tells : Bool) (old new : Told) (s : Session) (store : Store) (same : S
       (λ told r v here. rm_answered (image_records here.holds) s store s.met r v e here.lawful tree path (is told r v here.holds here.lawful.tree))
 
   -- over the same view
-  pub same_read : (tree : lazy.Tree) (command : Command) (reply : Reply) → Refusable command
+  pub same_read : (tree : lazy.Tree) (command : Command) (reply : Reply) → Refusable command → ((r : Repository) (v : View) → IsOf s.store r → IsViewAfter r v command reply v)
       → (IsTrue tells → (r : Repository) (v : View) (here : IsWorking old s r v) → IsView (image_records here.holds) tree v × Step no_rules (state_in s r v) command (conditions_of (met_only false)) reply (state_in s r v))
       → HasRead tells old new s (after tree s.met) command (Ok reply)
-  same_read tree command reply refusable does = still_read tells old new s (after tree s.met) command (kept_in s (after tree s.met) same refl) looks (λ v. refl) e refusable reply refl
+  same_read tree command reply refusable seen does = still_read tells old new s (after tree s.met) command (kept_in s (after tree s.met) same refl) looks (λ v. refl) e refusable reply refl seen
       (λ told r v here. let x = does told r v here in (lawful_with (image_records here.holds) r s.work v tree here.lawful x.0, x.1))
 
   pub failed_read : (tree : lazy.Tree) (met : Met) (command : Command) (fault : StoreFault) (result : Result Reply SessionEnd) → Refusable command → Fails fault s.met met result
@@ -522,7 +538,7 @@ module _ (tells : Bool) (old new : Told) (s : Session) (store : Store) (same : S
       (λ told r v here.
       let of : IsOf s.store r = here.holds.tables in
       let t : IsReadFor r here.holds source = read told r here.holds (retained r of) in
-      graft_answered (image_records here.holds) s store s.met r v e here.lawful tree target from to n t.at low (sym (named r of)) (retained r of) less t.short (grafted told r v here.holds t here.lawful.tree))
+      graft_answered (image_records here.holds) s store s.met r v e here.lawful tree target from to n t.at low t.spelled (sym (named r of)) (retained r of) less t.short (grafted told r v here.holds t here.lawful.tree))
 
   -- it could not be read
   pub unfetched_read : (met : Met) (command : Command) (fault : StoreFault) (result : Result Reply SessionEnd) → Refusable command → Fails fault s.met met result

@@ -1,6 +1,7 @@
 -- What the machine gives to the commands that name commits and touch no file.
 --     X_unnamed      a reference names none.      X_done      they do
 --     parent_known, parent_full, parent_done      the commit is a parent already, there are as many as there may be, or it is added
+--     IsUnnamed, names_none      the replies of a reference that names none
 --     head_retained, named_retained      what a reference names is retained.      not_below      and what is retained is not below the floor
 use Rattle.std.proofs.Common.{◌≡◌, ℕ, ◌+◌, ◌<◌, ◌≤◌, ◌==◌, Bool, true, false, List, [], ◌∷◌, ◌++◌, map, length, refl, sym, ap, ◌∙◌, subst, arith, Option, Some, None, Ok, Err, IsTrue}
 use Rattle.std.specs.Prelude.{◌&&◌, IfSome, nat_le, nat_lt, position, reverse, option_map}
@@ -17,11 +18,35 @@ use Rattle.ip_spec.specs.Record.{Hash}
 use Rattle.ip_spec.specs.Repository.{Repository, Commit, next, head, name_at, tree_at, number_named, is_retained}
 use Rattle.ip_spec.specs.Tree.{Tree, subtree, place, graft, is_empty, height, widest, got_at}
 use Rattle.ip_spec.specs.Machine.{Work, State}
-use Rattle.ip_spec.specs.Step.{Refused, ◌>>=◌, ◌>>◌, refuse_if, or_refused, Turned, not_given_up, parents_limit, entries_limit, steps_limit, resolve, with_parent, graft_turn, least_with, head_of, commit_reply, got_reply, Step, outcome}
+use Rattle.ip_spec.specs.Step.{Refused, present, ◌>>=◌, ◌>>◌, refuse_if, or_refused, Turned, not_given_up, parents_limit, entries_limit, steps_limit, resolve, with_parent, graft_turn, least_with, head_of, commit_reply, got_reply, Step, outcome}
 use Rattle.ip_store.specs.declared.store.Store.{Store}
 use Rattle.ip_store.specs.Store.{IsOf}
 use Rattle.ip_session.specs.Session.{no_rules, met_only, conditions_of}
 use Rattle.ip_session.proofs.SessionLemmas.{at, plainly, NoneGivenUp, still_there, behind, tested as refused_by_test, passes, stays_in}
+
+-- ---- what names no commit
+
+-- no commit has the name
+abbrev pub IsUnnamed : Reply → Type 0
+IsUnnamed (Reply.NoBranch name) = Unit {0}
+IsUnnamed (Reply.NoCommit hash) = Unit {0}
+IsUnnamed reply = ⊥
+
+abbrev pub NamesNone : Refused ℕ → Type 0
+NamesNone (Ok n) = Unit {0}
+NamesNone (Err reply) = IsUnnamed reply
+
+pub names_none : (r : Repository) (target : Target) → NamesNone (resolve r target)
+names_none r (Target.Branch name) = by (head r name)
+  where
+    by : (o : Option ℕ) → NamesNone (present o (Reply.NoBranch name))
+    by None = tt
+    by (Some n) = tt
+names_none r (Target.Commit hash) = by (number_named r hash)
+  where
+    by : (o : Option ℕ) → NamesNone (present o (Reply.NoCommit hash))
+    by None = tt
+    by (Some n) = tt
 
 -- ---- what is retained
 

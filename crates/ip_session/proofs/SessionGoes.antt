@@ -23,23 +23,26 @@ use Rattle.ip_spec.specs.View.{View}
 use Rattle.ip_script.specs.Served.{IsServedLine}
 use Rattle.ip_session.specs.declared.session.Session.{Session}
 use Rattle.ip_session.specs.declared.session.SessionEnd.{SessionEnd}
-use Rattle.ip_session.specs.Session.{no_rules, IsWorking, state_in, met_only, conditions_of, IsLong, Writes, IsDurable, ChangedBy, ChangedIn, TouchedBy, TouchedIn, Goes, Cut}
+use Rattle.ip_store.specs.Views.{IsViewAfter}
+use Rattle.ip_session.specs.Session.{no_rules, IsWorking, state_in, met_only, conditions_of, IsLong, Writes, IsDurable, ChangedBy, ChangedIn, TouchedBy, TouchedIn, IsViewIn, Goes, GoesBy, GoesIn, CutBy, CutIn}
+use Rattle.ip_session.proofs.Seeing.{memory_seen, bad_seen}
 use Rattle.ip_session.specs.Placing.{PlacedIn}
 use Rattle.ip_session.proofs.Placing.{memory_placed}
 use Rattle.ip_session.proofs.SessionLemmas.{memory_is_short, bad_is_short, bad_line}
 
 -- nothing changed but what was met
-pub still_goes : (a : Told) (s : Session) (met : Met) (r : Repository) (v : View) (here : IsWorking a s r v) (Changed : Reply → FileName → Type 0) (Gives : Conditions → Reply → State → Type 0) (reply : Reply) → Gives (conditions_of met) reply (state_in s r v)
-    → (IsLong reply → Gives (conditions_of (met_only true)) Reply.Memory (state_in s r v)) → ((file : FileName) → ¬ Changed reply file) → Goes a a s (record s { met = met }) r v Changed Gives reply
-still_goes a s met r v here Changed Gives reply gives refused none = record {
+pub still_goes : (a : Told) (s : Session) (met : Met) (r : Repository) (v : View) (here : IsWorking a s r v) (Changed : Reply → FileName → Type 0) (Gives : Conditions → Reply → State → Type 0) (Views : Reply → View → Type 0) (reply : Reply) → Gives (conditions_of met) reply (state_in s r v) → Views reply v
+    → (IsLong reply → Gives (conditions_of (met_only true)) Reply.Memory (state_in s r v)) → ((file : FileName) → ¬ Changed reply file) → Goes a a s (record s { met = met }) r v Changed Gives Views reply
+still_goes a s met r v here Changed Gives Views reply gives seen refused none = record {
   after = r;
   view = v;
   gives = gives;
   is_at = here;
+  seen = seen;
   only = only_nowhere a (Changed reply);
   atomic = λ order t late le. absurd (no_moment a.moment t late le);
   nothing_pending = λ order. order;
-  spared = λ long. record { same = refl; refused = refused long };
+  spared = λ long. record { same = refl; seen = refl; refused = refused long };
   still = λ long. none;
 }
 
@@ -47,26 +50,27 @@ still_goes a s met r v here Changed Gives reply gives refused none = record {
 
 -- the line that spells the command, and no other one; what was met before does not matter
 lined : (a b : Told) (s s' : Session) (met : Met) (r : Repository) (v : View) (command : Command) (line : Bytes) (reply : Reply) → IsServedLine command line → ((other : Command) → IsServedLine other line → other ≡ command)
-    → Goes a b (record s { met = met }) s' r v (ChangedBy a.held command) (Step no_rules (state_in s r v) command) reply → Goes a b s s' r v (ChangedIn a.held line) (LineStep IsServedLine no_rules (state_in s r v) line) reply
+    → GoesBy a b (record s { met = met }) s' r v command reply → GoesIn a b s s' r v line reply
 lined a b s s' met r v command line reply served one h = record {
   after = h.after;
   view = h.view;
   gives = inl (command, served, h.gives);
   is_at = h.is_at;
+  seen = record { command = λ other spelled. subst (λ (c : Command). IsViewAfter r v c reply h.view) (sym (one other spelled)) h.seen; none = λ none. absurd (none command served) };
   only = only_more a b (ChangedBy a.held command reply) (ChangedIn a.held line reply) (λ file changed. (command, served, changed)) h.only;
   atomic = h.atomic;
   nothing_pending = h.nothing_pending;
-  spared = λ long. let x = h.spared long in record { same = x.same; refused = inl (command, served, x.refused) };
+  spared = λ long. let x = h.spared long in record { same = x.same; seen = x.seen; refused = inl (command, served, x.refused) };
   still = λ long file (other, spelled, changed). h.still long file (subst (λ (c : Command). ChangedBy a.held c reply file) (one other spelled) changed);
 }
 
 pub lined_ok : (a b : Told) (s s' : Session) (met : Met) (r : Repository) (v : View) (command : Command) (line : Bytes) (result : Result Reply SessionEnd) → IsServedLine command line → ((other : Command) → IsServedLine other line → other ≡ command)
-    → IfOk result (Goes a b (record s { met = met }) s' r v (ChangedBy a.held command) (Step no_rules (state_in s r v) command)) → IfOk result (Goes a b s s' r v (ChangedIn a.held line) (LineStep IsServedLine no_rules (state_in s r v) line))
+    → IfOk result (GoesBy a b (record s { met = met }) s' r v command) → IfOk result (GoesIn a b s s' r v line)
 lined_ok a b s s' met r v command line (Ok reply) served one h = lined a b s s' met r v command line reply served one h
 lined_ok a b s s' met r v command line (Err end) served one h = tt
 
 pub lined_cut : (a b : Told) (s s' : Session) (met : Met) (r : Repository) (v : View) (command : Command) (line : Bytes) (result : Result Reply SessionEnd) → IsServedLine command line
-    → OnErr result (Cut a b (record s { met = met }) s' r v (TouchedBy a.held command) (Step no_rules (state_in s r v) command)) → OnErr result (Cut a b s s' r v (TouchedIn a.held line) (LineStep IsServedLine no_rules (state_in s r v) line))
+    → OnErr result (CutBy a b (record s { met = met }) s' r v command) → OnErr result (CutIn a b s s' r v line)
 lined_cut a b s s' met r v command line (Ok reply) served h = tt
 lined_cut a b s s' met r v command line (Err end) served h = record { reply = h.reply; after = h.after; gives = inl (command, served, h.gives); only = only_more a b (TouchedBy a.held command) (TouchedIn a.held line) (λ file touched. (command, served, touched)) h.only; atomic = h.atomic }
 
@@ -76,32 +80,38 @@ none_changed image line reply none file changed = none changed.0 changed.2.0
 
 -- a line that is no command
 pub bad_goes : (a : Told) (s : Session) (met : Met) (r : Repository) (v : View) (here : IsWorking a s r v) (line : Bytes) (place : ℕ) → met ≡ met_only false → IsBadAt IsServedLine line place → length line < 2 ^ 64
-    → Goes a a s (record s { met = met }) r v (ChangedIn a.held line) (LineStep IsServedLine no_rules (state_in s r v) line) (Reply.Bad place)
-bad_goes a s met r v here line place e bad small = still_goes a s met r v here (ChangedIn a.held line) (LineStep IsServedLine no_rules (state_in s r v) line) (Reply.Bad place)
+    → GoesIn a a s (record s { met = met }) r v line (Reply.Bad place)
+bad_goes a s met r v here line place e bad small = still_goes a s met r v here (ChangedIn a.held line) (LineStep IsServedLine no_rules (state_in s r v) line) (IsViewIn r v line) (Reply.Bad place)
     (subst (λ (m : Met). LineStep IsServedLine no_rules (state_in s r v) line (conditions_of m) (Reply.Bad place) (state_in s r v)) (sym e) (bad_line (state_in s r v) line place bad))
+    (record { command = λ command served. bad_seen r v command place; none = λ none. refl })
     (λ long. absurd (bad_is_short place line bad.in_line small long))
     (none_changed a.held line (Reply.Bad place) (λ command h. h))
+
+refused_in : (r : Repository) (v : View) (line : Bytes) → IsViewIn r v line Reply.Memory v
+refused_in r v line = record { command = λ command served. memory_seen r v command; none = λ none. refl }
 
 -- a line that was refused memory
 pub refused_goes : (a : Told) (s : Session) (met : Met) (r : Repository) (v : View) (here : IsWorking a s r v) (line : Bytes) (reply : Reply) → met ≡ met_only true → reply ≡ Reply.Memory
     → LineStep IsServedLine no_rules (state_in s r v) line (conditions_of (met_only true)) Reply.Memory (state_in s r v)
-    → Goes a a s (record s { met = met }) r v (ChangedIn a.held line) (LineStep IsServedLine no_rules (state_in s r v) line) reply
-refused_goes a s met r v here line reply e is_memory gives = subst (Goes a a s (record s { met = met }) r v (ChangedIn a.held line) (LineStep IsServedLine no_rules (state_in s r v) line)) (sym is_memory)
-    (still_goes a s met r v here (ChangedIn a.held line) (LineStep IsServedLine no_rules (state_in s r v) line) Reply.Memory
+    → GoesIn a a s (record s { met = met }) r v line reply
+refused_goes a s met r v here line reply e is_memory gives = subst (GoesIn a a s (record s { met = met }) r v line) (sym is_memory)
+    (still_goes a s met r v here (ChangedIn a.held line) (LineStep IsServedLine no_rules (state_in s r v) line) (IsViewIn r v line) Reply.Memory
     (subst (λ (m : Met). LineStep IsServedLine no_rules (state_in s r v) line (conditions_of m) Reply.Memory (state_in s r v)) (sym e) gives)
+    (refused_in r v line)
     (λ long. gives)
     (none_changed a.held line Reply.Memory (λ command h. h)))
 
 -- ---- texts
 
 -- there was no memory for a long text
-memory_instead : (a b : Told) (s s' : Session) (met : Met) (r : Repository) (v : View) (Changed : Reply → FileName → Type 0) (Gives : Conditions → Reply → State → Type 0) (reply : Reply) → Goes a b s s' r v Changed Gives reply → IsLong reply → met ≡ met_only true
-    → ((file : FileName) → ¬ Changed Reply.Memory file) → Goes a b s (record s' { met = met }) r v Changed Gives Reply.Memory
-memory_instead a b s s' met r v Changed Gives reply h long e none = record {
+memory_instead : (a b : Told) (s s' : Session) (met : Met) (r : Repository) (v : View) (Changed : Reply → FileName → Type 0) (Gives : Conditions → Reply → State → Type 0) (Views : Reply → View → Type 0) (reply : Reply) → Goes a b s s' r v Changed Gives Views reply → IsLong reply → met ≡ met_only true
+    → Views Reply.Memory v → ((file : FileName) → ¬ Changed Reply.Memory file) → Goes a b s (record s' { met = met }) r v Changed Gives Views Reply.Memory
+memory_instead a b s s' met r v Changed Gives Views reply h long e seen none = record {
   after = h.after;
   view = h.view;
   gives = let x = h.spared long in subst (λ (m : Met). Gives (conditions_of m) Reply.Memory (state_in s' h.after h.view)) (sym e) (subst (Gives (conditions_of (met_only true)) Reply.Memory) (sym x.same) x.refused);
   is_at = h.is_at;
+  seen = subst (Views Reply.Memory) (sym (h.spared long).seen) seen;
   only = only_more a b (Changed reply) (Changed Reply.Memory) (λ file changed. absurd (h.still long file changed)) h.only;
   atomic = h.atomic;
   nothing_pending = h.nothing_pending;
@@ -111,21 +121,21 @@ memory_instead a b s s' met r v Changed Gives reply h long e none = record {
 
 -- of what the ground tells
 abbrev Tells : (tells : Bool) (a b : Told) (s s' : Session) (line : Bytes) (reply : Reply) → Type 0
-Tells tells a b s s' line reply = IsTrue tells → (r : Repository) (v : View) → IsWorking a s r v → Goes a b s s' r v (ChangedIn a.held line) (LineStep IsServedLine no_rules (state_in s r v) line) reply
+Tells tells a b s s' line reply = IsTrue tells → (r : Repository) (v : View) → IsWorking a s r v → GoesIn a b s s' r v line reply
 
 abbrev Places : (tells : Bool) (a : Told) (s s' : Session) (line : Bytes) (reply : Reply) → Type 0
 Places tells a s s' line reply = IsTrue tells → (r : Repository) (v : View) → IsWorking a s r v → PlacedIn s.store.slot s'.store.slot (state_in s r v) v line reply
 
 -- what was written of its reply
 pub written_goes : (tells : Bool) (a b : Told) (s s' : Session) (met : Met) (line : Bytes) (reply : Reply) (text : Bytes) → Tells tells a b s s' line reply → Writes reply s'.met met text
-    → Places tells a s s' line reply → (written : Reply) × (text ≡ reply_text written) × (IsTrue tells → (r : Repository) (v : View) → IsWorking a s r v → Goes a b s (record s' { met = met }) r v (ChangedIn a.held line) (LineStep IsServedLine no_rules (state_in s r v) line) written × PlacedIn s.store.slot s'.store.slot (state_in s r v) v line written)
+    → Places tells a s s' line reply → (written : Reply) × (text ≡ reply_text written) × (IsTrue tells → (r : Repository) (v : View) → IsWorking a s r v → GoesIn a b s (record s' { met = met }) r v line written × PlacedIn s.store.slot s'.store.slot (state_in s r v) v line written)
 written_goes tells a b s s' met line reply text goes (inl whole) placed =
-    (reply, whole.1, λ told r v here. (subst (λ (m : Met). Goes a b s (record s' { met = m }) r v (ChangedIn a.held line) (LineStep IsServedLine no_rules (state_in s r v) line) reply) (sym whole.0) (goes told r v here), placed told r v here))
+    (reply, whole.1, λ told r v here. (subst (λ (m : Met). GoesIn a b s (record s' { met = m }) r v line reply) (sym whole.0) (goes told r v here), placed told r v here))
 written_goes tells a b s s' met line reply text goes (inr refused) placed = (
   Reply.Memory,
   refused.2,
   λ told r v here. (
-    memory_instead a b s s' met r v (ChangedIn a.held line) (LineStep IsServedLine no_rules (state_in s r v) line) reply (goes told r v here) refused.0 refused.1 (none_changed a.held line Reply.Memory (λ command h. h)),
+    memory_instead a b s s' met r v (ChangedIn a.held line) (LineStep IsServedLine no_rules (state_in s r v) line) (IsViewIn r v line) reply (goes told r v here) refused.0 refused.1 (refused_in r v line) (none_changed a.held line Reply.Memory (λ command h. h)),
     memory_placed s.store.slot s'.store.slot (state_in s r v) v line reply (λ command served done. (goes told r v here).still refused.0 Control (command, served, (done, inl refl))) (placed told r v here),
   ),
 )

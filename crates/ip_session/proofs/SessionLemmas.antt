@@ -224,7 +224,7 @@ pub ok_is_short : IsLong Reply.Accepted → ⊥
 unfolding reply_text
 ok_is_short long = omega (arith, long)
 
-hex_long : (bytes : Bytes) → length (hex_text bytes) ≡ 2 * length bytes
+pub hex_long : (bytes : Bytes) → length (hex_text bytes) ≡ 2 * length bytes
 hex_long [] = refl
 hex_long (b ∷ bytes) = let h = hex_long bytes in omega (arith, h)
 

@@ -7,10 +7,12 @@
 --     asks_ground command      it reads records.      HasWords command      it is served, with the words that its line may have
 --     ChangedBy image command reply, ChangedIn image line reply      the files that a command or a line with this reply may have changed
 --     TouchedBy image command, TouchedIn image line      and where it was cut short
---     IsAnswered records s s' r v Gives reply      a command was run that changes no file, of which Gives says what the machine may give
+--     IsAnswered records s s' r v command reply      a command was run that changes no file
 --     HasRead tells old new s s' command result      and it may have read records
---     Goes old new s s' r v Changed Gives reply      a command or a line was run
+--     IsViewIn r v line reply view      the view of the work's tree after a line with this reply
+--     Goes old new s s' r v Changed Gives Views reply      a command or a line was run, of which they say the files changed, what the machine gives, and the view after it
 --     Cut old new s s' r v Touched Gives      a fault of the ground or of its files cut it short
+--     GoesBy, CutBy .. command, GoesIn, CutIn .. line      so of a command, and of a line
 --     IsHeld tells told session      the ground tells what the store holds, and the session works over it
 --     EndsBy held end      why a session has ended.      ground_end end      by a fault of the ground
 --     Fails fault met met' result      what comes of a call of the store that failed
@@ -30,6 +32,7 @@ use Rattle.ip_spec.specs.Path.{Bytes, IsPath}
 use Rattle.ip_spec.specs.Machine.{State, Conditions}
 use Rattle.ip_spec.specs.Merge.{Rule, same_means}
 use Rattle.ip_spec.specs.Record.{IsBranchName, IsInfo}
+use Rattle.ip_spec.specs.Script.{LineStep}
 use Rattle.ip_spec.specs.Step.{Step}
 use Rattle.ip_spec.specs.Text.{reply_text}
 use Rattle.ip_script.specs.Served.{IsServed, IsServedLine}
@@ -42,6 +45,7 @@ use Rattle.ip_store.specs.Publishing.{MayChange}
 use Rattle.ip_store.specs.Showing.{fault_from}
 use Rattle.ip_store.specs.Store.{IsOf, image_records}
 use Rattle.ip_store.specs.Trees.{OnlyLooks}
+use Rattle.ip_store.specs.Views.{IsViewAfter}
 use Rattle.ip_store.specs.Work.{AreParents, IsLawful, IsAt, session}
 use Rattle.ip_tree.specs.declared.tree.TreeFault.{TreeFault}
 use Rattle.ip_session.specs.declared.session.Session.{Session}
@@ -121,34 +125,41 @@ abbrev pub TouchedIn : Image → Bytes → FileName → Type 0
 TouchedIn image line file = (command : Command) × IsServedLine command line × TouchedBy image command file
 
 -- nothing was changed, and memory may be refused instead
-pub record IsSpared (s s' : State) (Gives : Conditions → Reply → State → Type 0) : Type 0 where
+pub record IsSpared (s s' : State) (v view : View) (Gives : Conditions → Reply → State → Type 0) : Type 0 where
   pub same : s' ≡ s
+  pub seen : view ≡ v
   pub refused : Gives (conditions_of (met_only true)) Reply.Memory s
 
 -- over the records of the store, which stay
-pub record IsAnswered (records : ℕ → Option Record) (s s' : Session) (r : Repository) (v : View) (Gives : Conditions → Reply → State → Type 0) (reply : Reply) : Type 0 where
+pub record IsAnswered (records : ℕ → Option Record) (s s' : Session) (r : Repository) (v : View) (command : Command) (reply : Reply) : Type 0 where
   pub view : View
-  pub gives : Gives (conditions_of s'.met) reply (state_in s' r view)
+  pub gives : Step no_rules (state_in s r v) command (conditions_of s'.met) reply (state_in s' r view)
   pub lawful : IsLawful records r s'.work view
-  pub spared : IsLong reply → IsSpared (state_in s r v) (state_in s' r view) Gives
+  pub seen : IsViewAfter r v command reply view
+  pub spared : IsLong reply → IsSpared (state_in s r v) (state_in s' r view) v view (Step no_rules (state_in s r v) command)
 
 pub record HasRead (tells : Bool) (old new : Told) (s s' : Session) (command : Command) (result : Result Reply SessionEnd) : Type 0 where
   pub tables : (r : Repository) → IsIn s r → IsIn s' r
-  pub answered : IsTrue tells → (r : Repository) (v : View) (here : IsWorking old s r v) → IfOk result (IsAnswered (image_records here.holds) s s' r v (Step no_rules (state_in s r v) command))
+  pub answered : IsTrue tells → (r : Repository) (v : View) (here : IsWorking old s r v) → IfOk result (IsAnswered (image_records here.holds) s s' r v command)
   pub looks : IsTrue tells → OnlyLooks old new s.store s'.store
   -- one that was cut short met nothing
   pub unmet : IsErr result → s'.met ≡ s.met
 
-pub record Goes (old new : Told) (s s' : Session) (r : Repository) (v : View) (Changed : Reply → FileName → Type 0) (Gives : Conditions → Reply → State → Type 0) (reply : Reply) : Type 0 where
+pub record IsViewIn (r : Repository) (v : View) (line : Bytes) (reply : Reply) (view : View) : Type 0 where
+  pub command : (command : Command) → IsServedLine command line → IsViewAfter r v command reply view
+  pub none : ((command : Command) → ¬ IsServedLine command line) → view ≡ v
+
+pub record Goes (old new : Told) (s s' : Session) (r : Repository) (v : View) (Changed : Reply → FileName → Type 0) (Gives : Conditions → Reply → State → Type 0) (Views : Reply → View → Type 0) (reply : Reply) : Type 0 where
   pub after : Repository
   pub view : View
   pub gives : Gives (conditions_of s'.met) reply (state_in s' after view)
   pub is_at : IsWorking new s' after view
+  pub seen : Views reply view
   pub only : ChangesOnly (Changed reply) old new
   -- at every moment whatever a crash leaves stands for the repository before or after it
   pub atomic : NothingPending old → IsAtomic old new r after
   pub nothing_pending : NothingPending old → NothingPending new
-  pub spared : IsLong reply → IsSpared (state_in s r v) (state_in s' after view) Gives
+  pub spared : IsLong reply → IsSpared (state_in s r v) (state_in s' after view) v view Gives
   pub still : IsLong reply → (file : FileName) → ¬ Changed reply file
 
 -- the reply and the next state are those that the machine gives where none of its writes fails
@@ -158,6 +169,18 @@ pub record Cut (old new : Told) (s s' : Session) (r : Repository) (v : View) (To
   pub gives : Gives (conditions_of s'.met) reply after
   pub only : ChangesOnly Touched old new
   pub atomic : NothingPending old → IsAtomic old new r after.repository
+
+abbrev pub GoesBy : Told → Told → Session → Session → Repository → View → Command → Reply → Type 0
+GoesBy old new s s' r v command = Goes old new s s' r v (ChangedBy old.held command) (Step no_rules (state_in s r v) command) (IsViewAfter r v command)
+
+abbrev pub GoesIn : Told → Told → Session → Session → Repository → View → Bytes → Reply → Type 0
+GoesIn old new s s' r v line = Goes old new s s' r v (ChangedIn old.held line) (LineStep IsServedLine no_rules (state_in s r v) line) (IsViewIn r v line)
+
+abbrev pub CutBy : Told → Told → Session → Session → Repository → View → Command → Type 0
+CutBy old new s s' r v command = Cut old new s s' r v (TouchedBy old.held command) (Step no_rules (state_in s r v) command)
+
+abbrev pub CutIn : Told → Told → Session → Session → Repository → View → Bytes → Type 0
+CutIn old new s s' r v line = Cut old new s s' r v (TouchedIn old.held line) (LineStep IsServedLine no_rules (state_in s r v) line)
 
 abbrev pub IsHeld : Bool → Told → Session → Type 0
 IsHeld tells told s = IsTrue tells × ((r : Repository) × (v : View) × IsWorking told s r v)

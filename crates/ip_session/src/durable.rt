@@ -6,9 +6,8 @@ ghost use Rattle.ip_spec.specs.declared.command.Target.{Target};
 ghost use Rattle.ip_spec.specs.declared.command.Command.TheVariants as Command;
 ghost use Rattle.ip_spec.specs.Record.{IsBranchName, IsInfo};
 ghost use Rattle.ip_spec.specs.Repository.{Repository};
-ghost use Rattle.ip_spec.specs.Step.{Step};
 ghost use Rattle.ip_session.specs.Placing.{PlacedBy};
-ghost use Rattle.ip_session.specs.Session.{ground_end, no_rules, met_only, ChangedBy, TouchedBy, IsHeld, EndsBy};
+ghost use Rattle.ip_session.specs.Session.{ground_end, met_only, IsHeld, EndsBy};
 
 use crate::replies::{branch_reply, removed_reply, reply_to};
 use crate::session::{Session, SessionEnd, resolve};
@@ -17,7 +16,7 @@ use ip_ground::Ground;
 use ip_script::{Reply, Target};
 
 impl Session {
-    ghost use Rattle.ip_session.specs.Session.{IsServing, IsWorking, state_in, Goes, Cut};
+    ghost use Rattle.ip_session.specs.Session.{IsServing, IsWorking, state_in, GoesBy, CutBy};
 
     // Commits the work to a branch.
     pub(crate) fn commit<G: Ground>(
@@ -32,11 +31,11 @@ impl Session {
         requires tables { IsServing self.old }
         ensures tables { IfOk result (λ reply. IsServing self.new) }
         ensures goes { IsTrue G.tells → (r : Repository) (v : View) → IsWorking (G.told ground.old) self.old r v →
-            IfOk result (Goes (G.told ground.old) (G.told ground.new) self.old self.new r v (ChangedBy (G.told ground.old).held (Command.Commit branch.now info)) (Step no_rules (state_in self.old r v) (Command.Commit branch.now info))) }
+            IfOk result (GoesBy (G.told ground.old) (G.told ground.new) self.old self.new r v (Command.Commit branch.now info)) }
         ensures placed { IsTrue G.tells → (r : Repository) (v : View) → IsWorking (G.told ground.old) self.old r v →
             IfOk result (PlacedBy self.old.store.slot self.new.store.slot (state_in self.old r v) v (Command.Commit branch.now info)) }
         ensures cut { IsTrue G.tells → (r : Repository) (v : View) → IsWorking (G.told ground.old) self.old r v →
-            OnErr result (Cut (G.told ground.old) (G.told ground.new) self.old self.new r v (TouchedBy (G.told ground.old).held (Command.Commit branch.now info)) (Step no_rules (state_in self.old r v) (Command.Commit branch.now info))) }
+            OnErr result (CutBy (G.told ground.old) (G.told ground.new) self.old self.new r v (Command.Commit branch.now info)) }
         ensures counts { Counts ground_end result (G.counts_of ground.old) (G.counts_of ground.new) }
         ensures cause { IfErr result (EndsBy (IsHeld G.tells (G.told ground.old) self.old)) }
     {
@@ -64,11 +63,11 @@ impl Session {
         requires tables { IsServing self.old }
         ensures tables { IfOk result (λ reply. IsServing self.new) }
         ensures goes { IsTrue G.tells → (r : Repository) (v : View) → IsWorking (G.told ground.old) self.old r v →
-            IfOk result (Goes (G.told ground.old) (G.told ground.new) self.old self.new r v (ChangedBy (G.told ground.old).held (Command.Branch name.now target)) (Step no_rules (state_in self.old r v) (Command.Branch name.now target))) }
+            IfOk result (GoesBy (G.told ground.old) (G.told ground.new) self.old self.new r v (Command.Branch name.now target)) }
         ensures placed { IsTrue G.tells → (r : Repository) (v : View) → IsWorking (G.told ground.old) self.old r v →
             IfOk result (PlacedBy self.old.store.slot self.new.store.slot (state_in self.old r v) v (Command.Branch name.now target)) }
         ensures cut { IsTrue G.tells → (r : Repository) (v : View) → IsWorking (G.told ground.old) self.old r v →
-            OnErr result (Cut (G.told ground.old) (G.told ground.new) self.old self.new r v (TouchedBy (G.told ground.old).held (Command.Branch name.now target)) (Step no_rules (state_in self.old r v) (Command.Branch name.now target))) }
+            OnErr result (CutBy (G.told ground.old) (G.told ground.new) self.old self.new r v (Command.Branch name.now target)) }
         ensures counts { Counts ground_end result (G.counts_of ground.old) (G.counts_of ground.new) }
         ensures cause { IfErr result (EndsBy (IsHeld G.tells (G.told ground.old) self.old)) }
     {
@@ -97,11 +96,11 @@ impl Session {
         requires tables { IsServing self.old }
         ensures tables { IfOk result (λ reply. IsServing self.new) }
         ensures goes { IsTrue G.tells → (r : Repository) (v : View) → IsWorking (G.told ground.old) self.old r v →
-            IfOk result (Goes (G.told ground.old) (G.told ground.new) self.old self.new r v (ChangedBy (G.told ground.old).held (Command.BranchRm name)) (Step no_rules (state_in self.old r v) (Command.BranchRm name))) }
+            IfOk result (GoesBy (G.told ground.old) (G.told ground.new) self.old self.new r v (Command.BranchRm name)) }
         ensures placed { IsTrue G.tells → (r : Repository) (v : View) → IsWorking (G.told ground.old) self.old r v →
             IfOk result (PlacedBy self.old.store.slot self.new.store.slot (state_in self.old r v) v (Command.BranchRm name)) }
         ensures cut { IsTrue G.tells → (r : Repository) (v : View) → IsWorking (G.told ground.old) self.old r v →
-            OnErr result (Cut (G.told ground.old) (G.told ground.new) self.old self.new r v (TouchedBy (G.told ground.old).held (Command.BranchRm name)) (Step no_rules (state_in self.old r v) (Command.BranchRm name))) }
+            OnErr result (CutBy (G.told ground.old) (G.told ground.new) self.old self.new r v (Command.BranchRm name)) }
         ensures counts { Counts ground_end result (G.counts_of ground.old) (G.counts_of ground.new) }
         ensures cause { IfErr result (EndsBy (IsHeld G.tells (G.told ground.old) self.old)) }
     {

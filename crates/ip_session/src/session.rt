@@ -1,5 +1,5 @@
 // A session: one line, one reply.
-ghost use Rattle.std.specs.Prelude.{◌≡◌, ◌≤◌, [], true, false, ℕ, Option, IsTrue, IfOk, IfErr, OnOk, OnErr, None, Ok};
+ghost use Rattle.std.specs.Prelude.{◌≡◌, ◌≤◌, [], false, ℕ, Option, IsTrue, IfOk, IfErr, OnOk, OnErr, None, Ok};
 ghost use Rattle.std.specs.Vec.{vec_capacity};
 ghost use Rattle.ip_ground.specs.Counts.{Counts};
 ghost use Rattle.ip_spec.specs.Map.{len};
@@ -11,22 +11,20 @@ ghost use Rattle.ip_spec.specs.Machine.{opened};
 ghost use Rattle.ip_spec.specs.declared.command.Command.TheVariants as Command;
 ghost use Rattle.ip_spec.specs.declared.reply.Reply.{Reply};
 ghost use Rattle.ip_spec.specs.declared.reply.Reply.TheVariants as Reply;
-ghost use Rattle.ip_spec.specs.Step.{Step, resolve, least_with};
-ghost use Rattle.ip_script.specs.Served.{IsServedLine};
-ghost use Rattle.ip_spec.specs.Script.{LineStep};
+ghost use Rattle.ip_spec.specs.Step.{resolve, least_with};
 ghost use Rattle.ip_spec.specs.Text.{reply_text};
 ghost use Rattle.ip_store.specs.Commits.{met_nothing};
 ghost use Rattle.ip_store.specs.Store.{IsOf};
 ghost use Rattle.ip_tree.specs.Leaves.{HasLeavesOnly};
 ghost use Rattle.ip_store.specs.Work.{IsLawful};
 ghost use Rattle.ip_session.specs.Placing.{PlacedBy, PlacedIn};
-ghost use Rattle.ip_session.specs.Session.{ground_end, no_rules, met_only, is_durable, asks_ground, ChangedBy, ChangedIn, TouchedBy, TouchedIn, HasRead, IsHeld, EndsBy};
+ghost use Rattle.ip_session.specs.Session.{ground_end, met_only, is_durable, asks_ground, HasRead, IsHeld, EndsBy};
 
 use crate::replies::{met_only, put_reply, refuse};
 use ip_base::limit::PARENTS_MAX;
 use ip_base::{Hash, Items, Limit, Number};
 use ip_ground::Ground;
-use ip_script::{Command, LineFault, Reply, Target, grammar, read_line};
+use ip_script::{Command, LineFault, Reply, Target, read_line};
 use ip_spec::met::{Met, Phase};
 use ip_store::{Store, Work};
 use sha2::{Digest, Sha256};
@@ -83,7 +81,7 @@ pub struct Session {
 }
 
 impl Session {
-    ghost use Rattle.ip_session.specs.Session.{IsIn, IsServing, IsWorking, state_in, HasWords, IsAnswered, Goes, Cut};
+    ghost use Rattle.ip_session.specs.Session.{IsIn, IsServing, IsWorking, state_in, HasWords, IsAnswered, GoesBy, GoesIn, CutBy, CutIn};
 
     /// A session begins idle, with the empty work.
     pub fn new(alloc: Global, store: Store) -> Self
@@ -115,7 +113,7 @@ impl Session {
         ensures tables { (r : Repository) → IsIn self.old r → IsTrue (is_retained r number) → IsIn self.new r }
         ensures same_store { self.new.store ≡ self.old.store }
         ensures answered { (records : ℕ → Option Record) (r : Repository) (v : View) → IsOf self.old.store r → IsLawful records r self.old.work v → IsTrue (is_retained r number) →
-            (target : Target) → resolve r target ≡ Ok number → IsAnswered records self.old self.new r v (Step no_rules (state_in self.old r v) (Command.Parent target)) result }
+            (target : Target) → resolve r target ≡ Ok number → IsAnswered records self.old self.new r v (Command.Parent target) result }
     {
         let parents = self.work.parents.as_slice();
         if parents.contains(&number) {
@@ -138,7 +136,7 @@ impl Session {
         ensures tables { (r : Repository) → IsIn self.old r → IsIn self.new r }
         ensures same_store { self.new.store ≡ self.old.store }
         ensures answered { (records : ℕ → Option Record) (r : Repository) (v : View) → IsOf self.old.store r → IsLawful records r self.old.work v →
-            IsAnswered records self.old self.new r v (Step no_rules (state_in self.old r v) (Command.Parent target)) result }
+            IsAnswered records self.old self.new r v (Command.Parent target) result }
     {
         match resolve(&self.store, target) {
             Ok(number) => self.add_parent(number),
@@ -153,7 +151,7 @@ impl Session {
         ensures tables { (r : Repository) → IsIn self.old r → IsIn self.new r }
         ensures same_store { self.new.store ≡ self.old.store }
         ensures answered { (records : ℕ → Option Record) (r : Repository) (v : View) → IsOf self.old.store r → IsLawful records r self.old.work v →
-            IsAnswered records self.old self.new r v (Step no_rules (state_in self.old r v) Command.Branches) result }
+            IsAnswered records self.old self.new r v Command.Branches result }
     {
         match self.store.branches(self.alloc) {
             Ok(heads) => Reply::Branches(heads),
@@ -168,7 +166,7 @@ impl Session {
         ensures tables { (r : Repository) → IsIn self.old r → IsIn self.new r }
         ensures same_store { self.new.store ≡ self.old.store }
         ensures answered { (records : ℕ → Option Record) (r : Repository) (v : View) → IsOf self.old.store r → IsLawful records r self.old.work v →
-            IsAnswered records self.old self.new r v (Step no_rules (state_in self.old r v) (Command.Log target)) result }
+            IsAnswered records self.old self.new r v (Command.Log target) result }
     {
         let number = match resolve(&self.store, target) {
             Ok(number) => number,
@@ -187,7 +185,7 @@ impl Session {
         ensures tables { (r : Repository) → IsIn self.old r → IsIn self.new r }
         ensures same_store { self.new.store ≡ self.old.store }
         ensures answered { (records : ℕ → Option Record) (r : Repository) (v : View) → IsOf self.old.store r → IsLawful records r self.old.work v →
-            IsAnswered records self.old self.new r v (Step no_rules (state_in self.old r v) (Command.Lcas one other)) result }
+            IsAnswered records self.old self.new r v (Command.Lcas one other) result }
     {
         let one = match resolve(&self.store, one) {
             Ok(number) => number,
@@ -227,7 +225,7 @@ impl Session {
         ensures tables { (r : Repository) → IsIn self.old r → IsIn self.new r }
         ensures same_store { self.new.store ≡ self.old.store }
         ensures answered { (records : ℕ → Option Record) (r : Repository) (v : View) → IsOf self.old.store r → IsLawful records r self.old.work v →
-            IsAnswered records self.old self.new r v (Step no_rules (state_in self.old r v) command) result }
+            IsAnswered records self.old self.new r v command result }
     {
         match command {
             Command::Empty => {
@@ -274,11 +272,11 @@ impl Session {
         requires tables { IsServing self.old }
         ensures tables { IfOk result (λ reply. IsServing self.new) }
         ensures goes { IsTrue G.tells → (r : Repository) (v : View) → IsWorking (G.told ground.old) self.old r v →
-            IfOk result (Goes (G.told ground.old) (G.told ground.new) self.old self.new r v (ChangedBy (G.told ground.old).held command) (Step no_rules (state_in self.old r v) command)) }
+            IfOk result (GoesBy (G.told ground.old) (G.told ground.new) self.old self.new r v command) }
         ensures placed { IsTrue G.tells → (r : Repository) (v : View) → IsWorking (G.told ground.old) self.old r v →
             IfOk result (PlacedBy self.old.store.slot self.new.store.slot (state_in self.old r v) v command) }
         ensures cut { IsTrue G.tells → (r : Repository) (v : View) → IsWorking (G.told ground.old) self.old r v →
-            OnErr result (Cut (G.told ground.old) (G.told ground.new) self.old self.new r v (TouchedBy (G.told ground.old).held command) (Step no_rules (state_in self.old r v) command)) }
+            OnErr result (CutBy (G.told ground.old) (G.told ground.new) self.old self.new r v command) }
         ensures counts { Counts ground_end result (G.counts_of ground.old) (G.counts_of ground.new) }
         ensures cause { IfErr result (EndsBy (IsHeld G.tells (G.told ground.old) self.old)) }
     {
@@ -295,15 +293,14 @@ impl Session {
         requires tables { IsServing self.old }
         ensures tables { IfOk result (λ reply. IsServing self.new) }
         ensures goes { IsTrue G.tells → (r : Repository) (v : View) → IsWorking (G.told ground.old) self.old r v →
-            IfOk result (Goes (G.told ground.old) (G.told ground.new) self.old self.new r v (ChangedIn (G.told ground.old).held line.now) (LineStep IsServedLine no_rules (state_in self.old r v) line.now)) }
+            IfOk result (GoesIn (G.told ground.old) (G.told ground.new) self.old self.new r v line.now) }
         ensures placed { IsTrue G.tells → (r : Repository) (v : View) → IsWorking (G.told ground.old) self.old r v →
             IfOk result (PlacedIn self.old.store.slot self.new.store.slot (state_in self.old r v) v line.now) }
         ensures cut { IsTrue G.tells → (r : Repository) (v : View) → IsWorking (G.told ground.old) self.old r v →
-            OnErr result (Cut (G.told ground.old) (G.told ground.new) self.old self.new r v (TouchedIn (G.told ground.old).held line.now) (LineStep IsServedLine no_rules (state_in self.old r v) line.now)) }
+            OnErr result (CutIn (G.told ground.old) (G.told ground.new) self.old self.new r v line.now) }
         ensures counts { Counts ground_end result (G.counts_of ground.old) (G.counts_of ground.new) }
         ensures cause { IfErr result (EndsBy (IsHeld G.tells (G.told ground.old) self.old)) }
     {
-        grammar();
         self.met = met_only(false);
         match read_line(self.alloc, line) {
             Ok(command) => self.run(ground, command),
@@ -328,10 +325,10 @@ impl Session {
         ensures silent { OnErr result (text.new.items ≡ []) }
         ensures tables { OnOk result (IsServing self.new) }
         ensures goes { OnOk result ((reply : Reply) × (text.new.items ≡ reply_text reply) × (IsTrue G.tells → (r : Repository) (v : View) → IsWorking (G.told ground.old) self.old r v →
-            Goes (G.told ground.old) (G.told ground.new) self.old self.new r v (ChangedIn (G.told ground.old).held line.now) (LineStep IsServedLine no_rules (state_in self.old r v) line.now) reply
+            GoesIn (G.told ground.old) (G.told ground.new) self.old self.new r v line.now reply
             × PlacedIn self.old.store.slot self.new.store.slot (state_in self.old r v) v line.now reply)) }
         ensures cut { IsTrue G.tells → (r : Repository) (v : View) → IsWorking (G.told ground.old) self.old r v →
-            OnErr result (Cut (G.told ground.old) (G.told ground.new) self.old self.new r v (TouchedIn (G.told ground.old).held line.now) (LineStep IsServedLine no_rules (state_in self.old r v) line.now)) }
+            OnErr result (CutIn (G.told ground.old) (G.told ground.new) self.old self.new r v line.now) }
         ensures counts { Counts ground_end result (G.counts_of ground.old) (G.counts_of ground.new) }
         ensures cause { IfErr result (EndsBy (IsHeld G.tells (G.told ground.old) self.old)) }
     {

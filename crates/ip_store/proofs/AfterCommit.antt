@@ -61,6 +61,7 @@ use Rattle.ip_store.specs.Publishing.{CanStep, MakesStep}
 use Rattle.ip_store.specs.Changes.{next_slot}
 use Rattle.ip_store.specs.Store.{IsOf, Holds, SameTables, image_records}
 use Rattle.ip_store.specs.Trees.{RecordsStay}
+use Rattle.ip_store.specs.Views.{IsStored, IsViewAfter}
 use Rattle.ip_store.specs.Work.{AreParents, IsLawful, IsAt, least_of, session}
 use Rattle.ip_store.proofs.Recovering.{held_has}
 use Rattle.ip_store.proofs.Listed.{within_fits, same_records, leaves_only, records_below}
@@ -247,11 +248,18 @@ module _ (r : Repository) (work : Work) (v : View) (branch : Bytes) (info : Info
     found place x there = subst (λ (rs : Records). present rs place ≡ Some x) (sym list_on)
         (found_together held.stands.standing.records all store.slot.end next_live.end (records_below store a r held) all_lie place x there)
 
+    spelled_now : TreeAt (image_records now) plan.batch.root.at v.map
+    spelled_now = (spelled.0, more_part (with_batch (image_records held) all) (image_records now) found spelled.1)
+
+    -- one of the records is known of each part
+    pub stored_tree : IsStored (next r) v.map (stored_view (image_records now) (next r) plan.batch.root.at v.map)
+    stored_tree = record { records = image_records now; at = plan.batch.root.at; spelled = spelled_now; is = refl }
+
     pub saved_tree : (tree : lazy.Tree) → IsRead plan.number plan.batch.root tree → IsView (image_records now) tree (stored_view (image_records now) (next r) plan.batch.root.at v.map)
     saved_tree tree read = subst (λ (n : ℕ). IsView (image_records now) tree (stored_view (image_records now) n plan.batch.root.at v.map)) coming.number
-        (read (image_records now) v.map spelled.0
+        (read (image_records now) v.map spelled_now.0
         (record {
-          part = more_part (with_batch (image_records held) all) (image_records now) found spelled.1;
+          part = spelled_now.1;
           kind = ap (λ (root : Ref). root.kind) is.root;
           name = ap (λ (root : Ref). root.name) is.root;
         })
@@ -276,21 +284,29 @@ module _ (r : Repository) (work : Work) (v : View) (branch : Bytes) (info : Info
 
 -- ---- answers
 
+still_known : (r : Repository) (v : View) (branch : Bytes) (info : Info) (fault : StoreFault) → IfSome (fault_reply fault) (λ reply. IsViewAfter r v (Command.Commit branch info) reply v)
+still_known r v branch info (StoreFault.HeadMoved name) = refl
+still_known r v branch info (StoreFault.Existing name) = refl
+still_known r v branch info (StoreFault.Limit limit) = refl
+still_known r v branch info StoreFault.Memory = refl
+still_known r v branch info StoreFault.Ground = tt
+still_known r v branch info (StoreFault.Damaged at names) = tt
+
 -- the answer of a refusal
 pub answers_refused : (r : Repository) (work : Work) (v : View) (branch : Bytes) (info : Info) (fault : StoreFault) (store : Store) (told : Told) → IsAt told store r work v → IsRefusal r work v branch info fault
-    → IfSome (fault_reply fault) (λ reply. Answers told (session r work v) (Command.Commit branch info) (met_of fault) reply store work)
-answers_refused r work v branch info fault store told at is = by_reply (fault_reply fault) is
+    → IfSome (fault_reply fault) (λ reply. Answers told (session r work v) v (Command.Commit branch info) (met_of fault) reply store work)
+answers_refused r work v branch info fault store told at is = by_reply (fault_reply fault) is (still_known r v branch info fault)
   where
     by_reply : (o : Option Reply) → IfSome o (λ reply. Turns (session r work v) (Command.Commit branch info) (met_of fault) reply (session r work v))
-        → IfSome o (λ reply. Answers told (session r work v) (Command.Commit branch info) (met_of fault) reply store work)
-    by_reply None is = tt
-    by_reply (Some reply) turns = record { after = r; view = v; turns = turns; is_at = at }
+        → IfSome o (λ reply. IsViewAfter r v (Command.Commit branch info) reply v) → IfSome o (λ reply. Answers told (session r work v) v (Command.Commit branch info) (met_of fault) reply store work)
+    by_reply None is seen = tt
+    by_reply (Some reply) turns seen = record { after = r; view = v; turns = turns; is_at = at; seen = seen }
 
 -- the answer of a commit that was made
 pub answers_made : (r : Repository) (work work' : Work) (v v' : View) (branch : Bytes) (info : Info) (store store' : Store) (plan : Plan) (name : Hash) (told : Told) → IfSome work.least (λ n. r.floor ≤ n) → IsNext r branch store plan → IsPlan r work v branch info store plan
     → name ≡ plan.batch.name → v'.map ≡ v.map → work'.parents ≡ plan.parents → work'.least ≡ Some plan.number → IsAt told store' (with_commit r (new_commit r v.map work.parents info) branch) work' v'
-    → Answers told (session r work v) (Command.Commit branch info) met_nothing (Reply.Committed name) store' work'
-answers_made r work work' v v' branch info store store' plan name told retained coming is named same parents least at =
+    → IsStored (next r) v.map v' → Answers told (session r work v) v (Command.Commit branch info) met_nothing (Reply.Committed name) store' work'
+answers_made r work work' v v' branch info store store' plan name told retained coming is named same parents least at stored =
     let name_is : name ≡ (new_commit r v.map work.parents info).name = named ∙ is.name in
     let after = with_commit r (new_commit r v.map work.parents info) branch in
     record {
@@ -301,6 +317,7 @@ answers_made r work work' v v' branch info store store' plan name told retained 
         is.turn ∙ (λ i. (Reply.Committed (sym name_is i), record { repository = after; phase = (session after work' v').phase; work = record { tree = sym same i; parents = sym (parents ∙ coming.parents) i; least = sym (least ∙ ap Some coming.number) i } })),
       );
       is_at = at;
+      seen = stored;
     }
 
 -- ---- the same store, with what was met
@@ -311,9 +328,9 @@ same_at store store' same told r work v at =
     record { holds = holds; lawful = subst (λ (records : ℕ → Option Record). IsLawful records r work v) (same_records told store store' r r at.holds holds) at.lawful }
 
 pub same_answers : (store store' : Store) → SameTables store store'
-    → (told : Told) (s : State) (command : Command) (met : Met) (work : Work) (o : Option Reply) → IfSome o (λ reply. Answers told s command met reply store work) → IfSome o (λ reply. Answers told s command met reply store' work)
-same_answers store store' same told s command met work None p = tt
-same_answers store store' same told s command met work (Some reply) p = record { after = p.after; view = p.view; turns = p.turns; is_at = same_at store store' same told p.after work p.view p.is_at }
+    → (told : Told) (s : State) (v : View) (command : Command) (met : Met) (work : Work) (o : Option Reply) → IfSome o (λ reply. Answers told s v command met reply store work) → IfSome o (λ reply. Answers told s v command met reply store' work)
+same_answers store store' same told s v command met work None p = tt
+same_answers store store' same told s v command met work (Some reply) p = record { after = p.after; view = p.view; turns = p.turns; is_at = same_at store store' same told p.after work p.view p.is_at; seen = p.seen }
 
 pub same_goes_on : (store store' : Store) → SameTables store store' → (work : Work) → GoesOn store work → GoesOn store' work
 same_goes_on store store' same work on = record { repository = on.repository; tables = same_tables store store' same on.repository on.tables; parents = on.parents }

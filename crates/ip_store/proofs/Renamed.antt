@@ -12,7 +12,7 @@ use Rattle.ip_ground.specs.Told.{Told}
 use Rattle.ip_spec.specs.declared.record.Record.{Record}
 use Rattle.ip_spec.specs.Map.{get, insert, remove, len, from_entries, get-insert}
 use Rattle.ip_spec.specs.Path.{Bytes, bytes_cmp}
-use Rattle.ip_spec.specs.Record.{Names, Fits, IsHash, spelling, spelling_of}
+use Rattle.ip_spec.specs.Record.{Names, Fits, IsHash, spelling}
 use Rattle.ip_spec.specs.Repository.{Repository, next}
 use Rattle.ip_image.specs.declared.slot.Slot.{Slot}
 use Rattle.ip_image.specs.declared.layout.Layout.{Layout}
@@ -20,7 +20,7 @@ use Rattle.ip_image.specs.Slot.{IsSlot}
 use Rattle.ip_image.specs.Standing.{StandsFor, AreRetained, IsServedKind, names_after}
 use Rattle.ip_image.specs.Appending.{AddsBytes, MayName, renamed, bytes_of_records}
 use Rattle.ip_image.specs.Pending.{HasLive}
-use Rattle.ip_image.proofs.Renaming.{get_without, few_without, stands_renamed}
+use Rattle.ip_image.proofs.Renaming.{get_without, few_without, spelled_is, stands_renamed}
 use Rattle.ip_image.proofs.Tables.{made_again}
 use Rattle.ip_history.specs.History.{HasParentsFirst}
 use Rattle.ip_store.specs.declared.committing.StoreFault.{StoreFault}
@@ -69,10 +69,6 @@ no_place r at (Record.BranchSet number name) may = refl
 no_place r at (Record.BranchRemove name) may = refl
 no_place r at (Record.BranchTable rows) may = refl
 no_place r at _ may = absurd may
-
-pub spelled_is : (at : ℕ) (x : Record) → spelling x ≡ bytes_of_records ((at, x) ∷ [])
-unfolding spelling_of
-spelled_is at x = sym (append-nil (spelling x))
 
 module _ (r : Repository) (store : Store) (of : IsOf store r) where
   retained_set : (name : Bytes) (number : ℕ) → IsAmong store.slot number → (q : Bytes) → IfSome (get (insert r.branches name number) q) (IsAmong store.slot)

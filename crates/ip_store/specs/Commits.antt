@@ -1,7 +1,7 @@
 -- What a commit does.
 --     reply_to result      the reply; a fault of the ground has none, nor has one of its files
 --     Turns s command met reply s'      the reply and the next state are the machine's, for what was met
---     Answers told s command met reply store work      they are so, where the store holds the next repository and the work is that of the next state
+--     Answers told s v command met reply store work      they are so, where the store holds the next repository, the work is that of the next state, and its tree has the view that comes of v
 --     IsNext r work branch store plan, IsPlan r work v branch info store plan      what a commit will do, whatever is told, and where the tree's records are
 --     Commits r work v branch info result store' old new      what it does to what a ground tells
 --     GoesOn store work      the store's tables are some repository's, and the work goes on from commits of it
@@ -39,6 +39,7 @@ use Rattle.ip_store.specs.declared.committing.StoreFault.{StoreFault}
 use Rattle.ip_store.specs.Changes.{Changes, next_slot}
 use Rattle.ip_store.specs.Placed.{places_in}
 use Rattle.ip_store.specs.Store.{IsOf}
+use Rattle.ip_store.specs.Views.{IsViewAfter}
 use Rattle.ip_store.specs.Work.{AreParents, IsAt, session}
 
 -- nothing met but a limit, or want of memory
@@ -156,11 +157,12 @@ pub record GoesOn (store : Store) (work : Work) : Type 0 where
   pub tables : IsOf store repository
   pub parents : AreParents repository work.parents
 
-pub record Answers (told : Told) (s : State) (command : Command) (met : Met) (reply : Reply) (store : Store) (work : Work) : Type 0 where
+pub record Answers (told : Told) (s : State) (v : View) (command : Command) (met : Met) (reply : Reply) (store : Store) (work : Work) : Type 0 where
   pub after : Repository
   pub view : View
   pub turns : Turns s command met reply (session after work view)
   pub is_at : IsAt told store after work view
+  pub seen : IsViewAfter s.repository v command reply view
 
 abbrev pub IsSaved : (ℕ → Option Record) → lazy.Tree → ℕ → Tree → Type 0
 IsSaved records tree n map = (at : ℕ) × IsView records tree (stored_view records n at map)

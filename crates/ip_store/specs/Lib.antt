@@ -14,3 +14,4 @@ pub mod Store
 pub mod Walk
 pub mod Work
 pub mod Trees
+pub mod Views

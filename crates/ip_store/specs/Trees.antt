@@ -6,6 +6,7 @@ use Rattle.std.specs.Prelude.{◌≡◌, ℕ, Option, Some}
 use Rattle.ip_ground.specs.Told.{Told}
 use Rattle.ip_spec.specs.declared.record.Record.{Record}
 use Rattle.ip_spec.specs.Repository.{Repository, tree_at}
+use Rattle.ip_spec.specs.TreeAt.{TreeAt}
 use Rattle.ip_save.specs.Batches.{HasShortContents}
 use Rattle.ip_space.specs.SpaceView.{OnlyReads}
 use Rattle.ip_tree.specs.TreeView.{IsView, stored_view}
@@ -23,5 +24,6 @@ pub record OnlyLooks (old new : Told) (store now : Store) : Type 0 where
 
 pub record IsTreeOf (records : ℕ → Option Record) (r : Repository) (number : ℕ) (tree : Tree) : Type 0 where
   pub at : ℕ
+  pub spelled : TreeAt records at (tree_at r number)
   pub view : IsView records tree (stored_view records number at (tree_at r number))
   pub short : HasShortContents (tree_at r number)

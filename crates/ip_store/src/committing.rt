@@ -329,7 +329,7 @@ impl Store {
         requires tables { (r : Repository) × IsOf self.old r × AreParents r work.old.parents }
         ensures tables { (r : Repository) → IsOf self.old r → AreParents r work.old.parents → HasAnswer result → GoesOn self.new work.new }
         ensures answers { IsTrue G.tells → (r : Repository) (v : View) → IsAt (G.told outside.old) self.old r work.old v →
-            IfSome (reply_to result) (λ reply. Answers (G.told outside.new) (session r work.old v) (Command.Commit branch.now info) self.new.met reply self.new work.new) }
+            IfSome (reply_to result) (λ reply. Answers (G.told outside.new) (session r work.old v) v (Command.Commit branch.now info) self.new.met reply self.new work.new) }
         ensures saved { IsTrue G.tells → (r q : Repository) (v : View) → IsAt (G.told outside.old) self.old r work.old v → (now : Holds self.new (G.told outside.new) q) →
             OnOk result (IsSaved (image_records now) work.new.tree (next r) v.map) }
         ensures limits { IsTrue G.tells → (r : Repository) (v : View) → IsAt (G.told outside.old) self.old r work.old v →
@@ -469,7 +469,7 @@ impl Store {
         requires tables { (r : Repository) × IsOf self.old r × AreParents r work.old.parents }
         ensures tables { (r : Repository) → IsOf self.old r → AreParents r work.old.parents → HasAnswer result → GoesOn self.new work.new }
         ensures answers { IsTrue G.tells → (r : Repository) (v : View) → IsAt (G.told outside.old) self.old r work.old v →
-            IfSome (reply_to result) (λ reply. Answers (G.told outside.new) (session r work.old v) (Command.Commit branch.now info) (met_by result) reply self.new work.new) }
+            IfSome (reply_to result) (λ reply. Answers (G.told outside.new) (session r work.old v) v (Command.Commit branch.now info) (met_by result) reply self.new work.new) }
         ensures saved { IsTrue G.tells → (r q : Repository) (v : View) → IsAt (G.told outside.old) self.old r work.old v → (now : Holds self.new (G.told outside.new) q) →
             OnOk result (IsSaved (image_records now) work.new.tree (next r) v.map) }
         ensures limits { IsTrue G.tells → (r : Repository) (v : View) → IsAt (G.told outside.old) self.old r work.old v →

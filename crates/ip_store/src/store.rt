@@ -1,4 +1,4 @@
-// The control file of a store without commits.
+// The store: how it is made, its tables, and what it tells of its numbers, names and branches.
 ghost use Rattle.std.specs.Prelude.{◌≡◌, ◌↔◌, IsTrue, OnErr, IfOk, IsErrOf, is_some, take, length, ◌+◌, ◌≤◌, nat_le, ◌&&◌, ◌==◌, slice_index, slice_get, map, option_map, MatchOption, None, Some};
 ghost use Rattle.ip_store.specs.Faults.{ground_init};
 ghost use Rattle.ip_ground.specs.Counts.{Counts};

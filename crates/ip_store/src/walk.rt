@@ -24,7 +24,7 @@ use ip_base::{Memory, Number, Numbers};
 use ip_control::Slot;
 use ip_ground::Ground;
 use ip_history::Table;
-use ip_space::{FetchFault, Run, Scan, Space, stretches_lie};
+use ip_space::{FetchFault, Run, Scan, Space};
 use ip_spec::record::{Parent, Record};
 use std::alloc::Global;
 
@@ -249,7 +249,6 @@ fn take_next<G: Ground>(
     ensures only { IsTrue G.tells → ChangesOnly NoFile (G.told outside.old) (G.told outside.new) }
     ensures counts { Counts ground_open result (G.counts_of outside.old) (G.counts_of outside.new) }
 {
-    stretches_lie();
     match walk.scan.step(outside, space) {
         Ok(None) => Ok(false),
         Ok(Some((at, rec))) => {

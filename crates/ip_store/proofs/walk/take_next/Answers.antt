@@ -1,17 +1,44 @@
-use Rattle.std.proofs.Common.{subst, arith}
-use Rattle.std.specs.Prelude.{Ok, IfSome}
+use Rattle.std.proofs.Common.{◌≡◌, ◌+◌, ◌≤◌, ℕ, Some, subst, arith}
+use Rattle.std.specs.Prelude.{Ok, IfSome, IsSome, slice_get}
+use Rattle.ip_image.specs.declared.run.Run.{Run}
+use Rattle.ip_image.specs.Virtual.{lies_at}
+use Rattle.ip_spec.specs.declared.record.Record.{Record}
 use Rattle.ip_spec.specs.Record.{Fits}
 use Rattle.ip_image.specs.Slot.{newest_version}
-use Rattle.ip_space.specs.SpaceView.{byte_at}
-use Rattle.ip_space.specs.Scanning.{Moves, FindsWhole}
+use Rattle.ip_space.specs.ScanView.{ScanView}
+use Rattle.ip_space.specs.SpaceView.{SpaceView, byte_at, stretches_of}
+use Rattle.ip_space.proofs.StretchRows.{stretch_lies}
+use Rattle.ip_space.specs.Scanning.{Moves, Steps, FindsWhole}
 use Rattle.ip_store.proofs.RecordSteps.{stays_there, goes_on, further, too_long, bad_taken_as, bad_unread}
 use Rattle.ip_store.proofs.walk.take_next.Goals as goal
+
+-- a record that was found lies in its stretch
+found_lies : (space : SpaceView) (number : ℕ) (stretch : Run) (old new : ScanView) (at : ℕ) (rec : Record) → slice_get (stretches_of space) number ≡ Some stretch → stretch.at ≤ old.next → old.to ≡ stretch.at + stretch.length → Steps old new at rec
+    → IsSome (lies_at space.layout space.runs at)
+found_lies space number stretch old new at rec here from to steps =
+    let is = steps.place in
+    let more = steps.more in
+    stretch_lies space number at stretch here (omega (arith, from, is)) (omega (arith, is, to, more))
 
 pub unread-requires : goal.unread-requires
 unread-requires g c =
     let walk = c.args.walk.now in
     let walks = c.requires.walks in
-    (walk.scan.next, c.stretches_lie.ensures c.args.space.now walk.number walk.scan.next walk.stretch walks.here walks.from (let more = c.in-Err.ensures.moves.0 in let to = walks.to in omega (arith, more, to)), c.in-Err.ensures.blames)
+    (walk.scan.next, stretch_lies c.args.space.now walk.number walk.scan.next walk.stretch walks.here walks.from (let more = c.in-Err.ensures.moves.0 in let to = walks.to in omega (arith, more, to)), c.in-Err.ensures.blames)
+
+pub damaged_at-requires : goal.damaged_at-requires
+damaged_at-requires g c =
+    let walk = c.args.walk.now in
+    let walks = c.requires.walks in
+    let steps = subst (λ o. Moves walk.scan c.step.new.self (Ok o)) c.in-Ok-Some.field-0-is c.in-Ok-Some.ensures.moves in
+    found_lies c.args.space.now walk.number walk.stretch walk.scan c.step.new.self c.in-Ok-Some.at c.in-Ok-Some.rec walks.here walks.from walks.to steps
+
+pub take_read-requires-clause-lies : goal.take_read-requires-clause-lies
+take_read-requires-clause-lies g c =
+    let walk = c.args.walk.now in
+    let walks = c.requires.walks in
+    let steps = subst (λ o. Moves walk.scan c.step.new.self (Ok o)) c.in-Ok-Some.field-0-is c.in-Ok-Some.ensures.moves in
+    found_lies c.args.space.now walk.number walk.stretch walk.scan c.step.new.self c.in-Ok-Some.at c.in-Ok-Some.rec walks.here walks.from walks.to steps
 
 pub returns-in-Ok-None-clause-walks : goal.returns-in-Ok-None-clause-walks
 returns-in-Ok-None-clause-walks g c =

@@ -4,7 +4,7 @@ use Rattle.ip_ground.proofs.Rising.{none_falls_on, falls_itself}
 use Rattle.ip_image.specs.declared.counts.TurnCounts.{TurnCounts}
 use Rattle.ip_spec.specs.Path.{Bytes}
 use Rattle.ip_session.specs.Placing.{PlacedIn}
-use Rattle.ip_session.specs.Session.{ground_end, state_in, ChangedIn}
+use Rattle.ip_session.specs.Session.{ground_end, state_in, ChangedIn, IsViewIn}
 use Rattle.ip_app.specs.declared.statuses.Status.TheVariants as status
 use Rattle.ip_app.specs.Serving.{CountsOf}
 use Rattle.ip_app.specs.Turns.{turn_counts}
@@ -51,6 +51,7 @@ returns-in-Ok-say-clause-turned g c known r v works =
           (λ is. files_of _ _ _ c.deref.result.now answered.0 (goes is).only _ _ (c.say.ensures.does (works is).0))
           c.in_default.ensures.ok c.in_default.ensures.count c.in_default.ensures.still (λ is. (goes is).gives) c.deref.ensures.value c.met.ensures c.note.ensures.noted (c.turn_counts.ensures ∙ ap turn_counts c.counts.ensures) c.requires.counted (falls_same _ _ c.in-Ok.ensures.counts) (ap turn_counts (sym c.in-Ok-say.ensures.counts));
       now_at = λ is. refl;
+      seen = λ is. subst (λ (line : Bytes). IsViewIn r v line answered.0 went.0.1) c.deref.ensures.value (goes is).seen;
       placed = λ is. let w = works is in subst (λ (line : Bytes). PlacedIn c.args.session.now.store.slot c.answer-answered.new.self.store.slot (state_in c.args.session.now r v) v line answered.0) c.deref.ensures.value (answered.2 w.0 r v w.1).1;
       no_fault = same;
       serving = c.in-Ok.ensures.tables;

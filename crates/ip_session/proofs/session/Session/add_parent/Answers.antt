@@ -3,10 +3,9 @@ use Rattle.std.specs.List.{list_any}
 use Rattle.ip_base.specs.declared.limit.Limit.TheVariants as Limit
 use Rattle.ip_spec.specs.declared.command.Command.TheVariants as Command
 use Rattle.ip_spec.specs.declared.reply.Reply.TheVariants as Reply
-use Rattle.ip_spec.specs.Step.{Step}
 use Rattle.ip_store.specs.Work.{work_at, AreParents, IsLawful}
 use Rattle.ip_session.specs.declared.session.Session.{Session}
-use Rattle.ip_session.specs.Session.{no_rules, state_in, IsAnswered}
+use Rattle.ip_session.specs.Session.{IsAnswered}
 use Rattle.ip_session.proofs.SessionLemmas.{parent_refused}
 use Rattle.ip_session.proofs.Referring.{parent_known, parent_full}
 use Rattle.ip_session.proofs.Reading.{still_answered, memory_answered, more_parents, parent_answered}
@@ -16,14 +15,14 @@ pub returns-then-contains-clause-answered : goal.returns-then-contains-clause-an
 returns-then-contains-clause-answered c records r v of l retained target named =
     let s = c.args.self.now in
     let known : list_any (λ p. p == c.args.number) s.work.parents ≡ true = search rules in
-    still_answered records s s r v (Command.Parent target) refl l Reply.Accepted c.requires.met (parent_known r (work_at s.work v) target c.args.number l.retained named known) (parent_refused target)
+    still_answered records s s r v (Command.Parent target) refl l Reply.Accepted c.requires.met (parent_known r (work_at s.work v) target c.args.number l.retained named known) refl (parent_refused target)
 
 pub returns-then-parents-ge-PARENTS_MAX-clause-answered : goal.returns-then-parents-ge-PARENTS_MAX-clause-answered
 returns-then-parents-ge-PARENTS_MAX-clause-answered c records r v of l retained target named =
     let s = c.args.self.now in
     let new : list_any (λ p. p == c.args.number) s.work.parents ≡ false = search rules in
     still_answered records s s r v (Command.Parent target) refl l (Reply.Limit Limit.Parents) c.requires.met
-    (parent_full r (work_at s.work v) target c.args.number l.retained named new (omega (arith, ap length c.as_slice-parents.ensures))) (parent_refused target)
+    (parent_full r (work_at s.work v) target c.args.number l.retained named new (omega (arith, ap length c.as_slice-parents.ensures))) refl (parent_refused target)
 
 pub returns-clause-answered : goal.returns-clause-answered
 returns-clause-answered c records r v of l retained target named =
@@ -36,7 +35,7 @@ returns-then-is_err-clause-answered c records r v of l retained target named =
     let s = c.args.self.now in
     let same : c.push.new.self ≡ s.work.parents = search rules in
     let after : Session = record s { work = record s.work { parents = c.push.new.self }; met = c.refuse.new.met } in
-    subst (IsAnswered records s after r v (Step no_rules (state_in s r v) (Command.Parent target))) (sym c.refuse.ensures.reply)
+    subst (IsAnswered records s after r v (Command.Parent target)) (sym c.refuse.ensures.reply)
     (memory_answered records s after r v (Command.Parent target) (ap (λ (parents : List ℕ). record (work_at s.work v) { parents = parents }) same)
     (subst (λ (parents : List ℕ). IsLawful records r (record s.work { parents = parents }) v) (sym same) l) c.refuse.ensures.met (parent_refused target))
 

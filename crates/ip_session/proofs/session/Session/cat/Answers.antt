@@ -1,4 +1,4 @@
-use Rattle.std.proofs.Common.{◌≡◌, ap, sym}
+use Rattle.std.proofs.Common.{refl, ◌≡◌, ap, sym}
 use Rattle.ip_spec.specs.declared.command.Command.TheVariants as Command
 use Rattle.ip_spec.specs.Tree.{Tree, got_at}
 use Rattle.ip_tree.specs.Reads.{IsFree}
@@ -12,7 +12,7 @@ use Rattle.ip_session.proofs.session.Session.cat.Goals as goal
 pub returns-in-Err-clause-reads : goal.returns-in-Err-clause-reads
 returns-in-Err-clause-reads g c =
     let s = c.args.self.now in
-    unread _ _ s s.met (Command.Cat c.args.target c.args.path) c.in-Err.reply c.requires.met (cat_refused c.args.target c.args.path)
+    unread _ _ s s.met (Command.Cat c.args.target c.args.path) c.in-Err.reply c.requires.met (cat_refused c.args.target c.args.path) (λ r v of. refl)
     (λ r v of kept. cat_unnamed r (work_at s.work v) c.args.target c.args.path c.in-Err.reply (sym (c.in-Err.ensures.number r of)))
 
 pub tree_of-requires : goal.tree_of-requires
@@ -40,7 +40,7 @@ returns-in-Ok-get-clause-reads g c =
     let command = Command.Cat c.args.target path in
     read_as _ _ _ s _ (Command.Cat c.args.target c.args.path) command _ (ap (Command.Cat c.args.target) c.steps.ensures)
     (same_read _ _ _ s c.get.new.self (same_on s.store mid c.get.new.self c.tree_of.ensures.same c.get.ensures.same) (λ told. looks_on _ _ _ s.store mid c.get.new.self (c.tree_of.ensures.looks told) (c.get.ensures.looks told)) c.requires.met
-    s.work.tree command c.got_reply.result (cat_refused c.args.target path)
+    s.work.tree command c.got_reply.result (cat_refused c.args.target path) (λ r v of. refl)
     (λ told r v here.
     let of = here.holds.tables in
     let read = c.in-Ok-tree_of.ensures.tree told r here.holds (c.in-Ok.ensures.retained r of) in (

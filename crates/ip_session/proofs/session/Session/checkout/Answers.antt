@@ -5,6 +5,7 @@ use Rattle.ip_store.specs.Work.{work_at}
 use Rattle.ip_store.proofs.Stepping.{same_tables}
 use Rattle.ip_session.proofs.SessionLemmas.{checkout_refused}
 use Rattle.ip_session.proofs.Referring.{checkout_unnamed}
+use Rattle.ip_session.proofs.Seeing.{unnamed_seen}
 use Rattle.ip_session.proofs.Reading.{unread, refused_unread, reply_as, checkout_read, unfetched_read, unfetched_ends}
 use Rattle.ip_session.proofs.session.Session.checkout.Goals as goal
 
@@ -12,6 +13,7 @@ pub returns-in-Err-clause-reads : goal.returns-in-Err-clause-reads
 returns-in-Err-clause-reads g c =
     let s = c.args.self.now in
     unread _ _ s s.met (Command.Checkout c.args.target) c.in-Err.reply c.requires.met (checkout_refused c.args.target)
+    (λ r v of. unnamed_seen r v (Command.Checkout c.args.target) c.args.target c.in-Err.reply (sym (c.in-Err.ensures.number r of)))
     (λ r v of kept. checkout_unnamed r (work_at s.work v) c.args.target c.in-Err.reply (sym (c.in-Err.ensures.number r of)))
 
 pub returns-then-is_err-clause-reads : goal.returns-then-is_err-clause-reads

@@ -1,4 +1,4 @@
-use Rattle.std.proofs.Common.{ap}
+use Rattle.std.proofs.Common.{refl, ap}
 use Rattle.ip_spec.specs.declared.command.Command.TheVariants as Command
 use Rattle.ip_store.specs.Work.{work_at}
 use Rattle.ip_session.specs.Session.{state_in, tree_fault}
@@ -11,7 +11,7 @@ returns-in-Ok-clause-reads g c =
     let s = c.args.self.now in
     let path = c.steps.result.now in
     read_as _ _ _ s _ (Command.Get c.args.path) (Command.Get path) _ (ap Command.Get c.steps.ensures)
-    (same_read _ _ _ s c.get.new.self c.get.ensures.same c.get.ensures.looks c.requires.met s.work.tree (Command.Get path) c.got_reply.result (get_refused path)
+    (same_read _ _ _ s c.get.new.self c.get.ensures.same c.get.ensures.looks c.requires.met s.work.tree (Command.Get path) c.got_reply.result (get_refused path) (λ r v of. refl)
     (λ told r v here. (here.lawful.tree, got_gives r (work_at s.work v) path c.in-Ok.got c.got_reply.result here.lawful.retained c.got_reply.ensures (c.in-Ok.ensures.got told r v here.holds here.lawful.tree))))
 
 pub returns-clause-reads : goal.returns-clause-reads

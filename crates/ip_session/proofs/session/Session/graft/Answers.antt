@@ -1,4 +1,4 @@
-use Rattle.std.proofs.Common.{ap₂, sym, subst, Ok, Err}
+use Rattle.std.proofs.Common.{refl, ap₂, sym, subst, Ok, Err}
 use Rattle.ip_spec.specs.declared.command.Command.TheVariants as Command
 use Rattle.ip_spec.specs.declared.reply.Reply.TheVariants as Reply
 use Rattle.ip_spec.specs.Repository.{tree_at}
@@ -8,6 +8,7 @@ use Rattle.ip_store.specs.Work.{work_at}
 use Rattle.ip_session.specs.Session.{state_in, tree_fault}
 use Rattle.ip_session.proofs.SessionLemmas.{graft_refused}
 use Rattle.ip_session.proofs.Referring.{graft_unnamed}
+use Rattle.ip_session.proofs.Seeing.{unnamed_seen}
 use Rattle.ip_session.proofs.Reading.{read_as, unread, same_read, failed_read, fails_as, graft_refuses, ends, looks_on, same_on, grafts_behind, graft_read, ungrafted_gives, unfetched_read, unfetched_ends}
 use Rattle.ip_session.proofs.session.Session.graft.Goals as goal
 
@@ -15,6 +16,7 @@ pub returns-in-Err-clause-reads : goal.returns-in-Err-clause-reads
 returns-in-Err-clause-reads g c =
     let s = c.args.self.now in
     unread _ _ s s.met (Command.Graft c.args.target c.args.from c.args.to) c.in-Err.reply c.requires.met (graft_refused c.args.target c.args.from c.args.to)
+    (λ r v of. unnamed_seen r v (Command.Graft c.args.target c.args.from c.args.to) c.args.target c.in-Err.reply (sym (c.in-Err.ensures.number r of)))
     (λ r v of kept. graft_unnamed r (work_at s.work v) c.args.target c.args.from c.args.to c.in-Err.reply kept (sym (c.in-Err.ensures.number r of)))
 
 pub tree_of-requires : goal.tree_of-requires
@@ -61,7 +63,7 @@ returns-in-Ok-false-clause-reads g c =
     let command = Command.Graft c.args.target from to in
     read_as _ _ _ s _ (Command.Graft c.args.target c.args.from c.args.to) command _ (ap₂ (Command.Graft c.args.target) c.steps.ensures c.steps-2.ensures)
     (same_read _ _ _ s c.graft.new.self (same_on s.store mid c.graft.new.self c.tree_of.ensures.same c.graft.ensures.same)
-    (λ told. looks_on _ _ _ s.store mid c.graft.new.self (c.tree_of.ensures.looks told) (c.graft.ensures.looks told)) c.requires.met tree command Reply.Absent (graft_refused c.args.target from to)
+    (λ told. looks_on _ _ _ s.store mid c.graft.new.self (c.tree_of.ensures.looks told) (c.graft.ensures.looks told)) c.requires.met tree command Reply.Absent (graft_refused c.args.target from to) (λ r v of. refl)
     (λ told r v here.
     let of = here.holds.tables in
     let t = c.in-Ok-tree_of.ensures.tree told r here.holds (c.in-Ok.ensures.retained r of) in

@@ -1,4 +1,4 @@
-use Rattle.std.proofs.Common.{ap}
+use Rattle.std.proofs.Common.{refl, ap}
 use Rattle.ip_spec.specs.declared.command.Command.TheVariants as Command
 use Rattle.ip_store.specs.Work.{work_at}
 use Rattle.ip_session.specs.Session.{state_in, tree_fault}
@@ -11,7 +11,7 @@ returns-in-Ok-clause-reads g c =
     let s = c.args.self.now in
     let path = c.steps.result.now in
     read_as _ _ _ s _ (Command.List c.args.path) (Command.List path) _ (ap Command.List c.steps.ensures)
-    (same_read _ _ _ s c.list.new.self c.list.ensures.same c.list.ensures.looks c.requires.met s.work.tree (Command.List path) c.listed_reply.result (list_refused path)
+    (same_read _ _ _ s c.list.new.self c.list.ensures.same c.list.ensures.looks c.requires.met s.work.tree (Command.List path) c.listed_reply.result (list_refused path) (λ r v of. refl)
     (λ told r v here. (here.lawful.tree, listed_gives r (work_at s.work v) path c.in-Ok.listed c.listed_reply.result here.lawful.retained c.listed_reply.ensures (c.in-Ok.ensures.listed told r v here.holds here.lawful.tree))))
 
 pub returns-clause-reads : goal.returns-clause-reads

@@ -1,4 +1,4 @@
-use Rattle.std.proofs.Common.{ap, subst}
+use Rattle.std.proofs.Common.{refl, ap, subst}
 use Rattle.ip_spec.specs.declared.command.Command.TheVariants as Command
 use Rattle.ip_spec.specs.declared.reply.Reply.TheVariants as Reply
 use Rattle.ip_tree.specs.TreeView.{IsRemoved}
@@ -22,7 +22,7 @@ returns-in-Ok-false-clause-reads g c =
     let s = c.args.self.now in
     let path = c.steps.result.now in
     read_as _ _ _ s _ (Command.Rm c.args.path) (Command.Rm path) _ (ap Command.Rm c.steps.ensures)
-    (same_read _ _ _ s c.remove.new.self c.remove.ensures.same c.remove.ensures.looks c.requires.met c.remove.new.tree (Command.Rm path) Reply.Absent (rm_refused path)
+    (same_read _ _ _ s c.remove.new.self c.remove.ensures.same c.remove.ensures.looks c.requires.met c.remove.new.tree (Command.Rm path) Reply.Absent (rm_refused path) (λ r v of. refl)
     (λ told r v here. let removed = subst (IsRemoved (image_records here.holds) path c.remove.new.tree v) c.in-Ok-false.field-0-test (c.in-Ok-false.ensures.removes told r v here.holds here.lawful.tree) in
     (removed.view, absent_gives r (work_at s.work v) path here.lawful.retained removed.found)))
 

@@ -1,4 +1,4 @@
-use Rattle.std.proofs.Common.{sym}
+use Rattle.std.proofs.Common.{refl, sym}
 use Rattle.ip_spec.specs.declared.command.Command.TheVariants as Command
 use Rattle.ip_store.specs.Work.{work_at}
 use Rattle.ip_session.specs.Session.{state_in}
@@ -10,7 +10,7 @@ use Rattle.ip_session.proofs.session.Session.show.Goals as goal
 pub returns-in-Err-clause-reads : goal.returns-in-Err-clause-reads
 returns-in-Err-clause-reads g c =
     let s = c.args.self.now in
-    unread _ _ s s.met (Command.Show c.args.target) c.in-Err.reply c.requires.met (show_refused c.args.target)
+    unread _ _ s s.met (Command.Show c.args.target) c.in-Err.reply c.requires.met (show_refused c.args.target) (λ r v of. refl)
     (λ r v of kept. show_unnamed r (work_at s.work v) c.args.target c.in-Err.reply (sym (c.in-Err.ensures.number r of)))
 
 pub show-requires : goal.show-requires
@@ -22,7 +22,7 @@ show-requires g c =
 pub returns-in-Ok-show-clause-reads : goal.returns-in-Ok-show-clause-reads
 returns-in-Ok-show-clause-reads g c =
     let s = c.args.self.now in
-    same_read _ _ _ s c.show.new.self c.show.ensures.same c.show.ensures.looks c.requires.met s.work.tree (Command.Show c.args.target) c.shown_reply.result (show_refused c.args.target)
+    same_read _ _ _ s c.show.new.self c.show.ensures.same c.show.ensures.looks c.requires.met s.work.tree (Command.Show c.args.target) c.shown_reply.result (show_refused c.args.target) (λ r v of. refl)
     (λ told r v here.
     let of = here.holds.tables in (
       here.lawful.tree,

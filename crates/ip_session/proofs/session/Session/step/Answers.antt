@@ -2,6 +2,8 @@ use Rattle.std.proofs.Common.{rules, sym, subst, Err}
 use Rattle.ip_spec.specs.declared.command.LineFault.{LineFault}
 use Rattle.ip_spec.specs.Line.{Reads}
 use Rattle.ip_script.specs.Served.{IsServedLine}
+use Rattle.ip_script.proofs.LineLaw.{one_command}
+use Rattle.ip_script.proofs.ReadLaw.{each_line}
 use Rattle.ip_store.specs.Work.{work_at}
 use Rattle.ip_session.proofs.SessionLemmas.{line_refused, has_words}
 use Rattle.ip_session.proofs.SessionGoes.{lined_ok, lined_cut, bad_goes, refused_goes}
@@ -13,7 +15,7 @@ use Rattle.ip_session.proofs.session.Session.step.Goals as goal
 
 pub returns-in-Ok-clause-goes : goal.returns-in-Ok-clause-goes
 returns-in-Ok-clause-goes g c told r v here = lined_ok _ _ c.args.self.now c.run.new.self c.met_only-self.result r v c.in-Ok.command c.args.line.now c.run.result c.in-Ok.ensures.reads
-    (λ other spelled. c.grammar.ensures.one c.args.line.now other c.in-Ok.command spelled c.in-Ok.ensures.reads) (c.run.ensures.goes told r v here)
+    (λ other spelled. one_command c.args.line.now other c.in-Ok.command spelled c.in-Ok.ensures.reads) (c.run.ensures.goes told r v here)
 
 pub returns-in-Ok-clause-cut : goal.returns-in-Ok-clause-cut
 returns-in-Ok-clause-cut g c told r v here = lined_cut _ _ c.args.self.now c.run.new.self c.met_only-self.result r v c.in-Ok.command c.args.line.now c.run.result c.in-Ok.ensures.reads (c.run.ensures.cut told r v here)
@@ -24,11 +26,11 @@ returns-in-Err-Bad-clause-goes g c told r v here = bad_goes _ c.args.self.now c.
 
 pub returns-in-Err-Memory-clause-goes : goal.returns-in-Err-Memory-clause-goes
 returns-in-Err-Memory-clause-goes g c told r v here = refused_goes _ c.args.self.now c.refuse.new.met r v here c.args.line.now c.refuse.result c.refuse.ensures.met c.refuse.ensures.reply
-    (line_refused r (work_at c.args.self.now.work v) c.args.line.now (c.grammar.ensures.each c.args.line.now) (has_words c.args.line.now c.in-Err-Memory.field-0 c.in-Err-Memory.field-0-is c.in-Err-Memory.ensures.one_word))
+    (line_refused r (work_at c.args.self.now.work v) c.args.line.now (each_line c.args.line.now) (has_words c.args.line.now c.in-Err-Memory.field-0 c.in-Err-Memory.field-0-is c.in-Err-Memory.ensures.one_word))
 
 pub returns-in-Ok-clause-placed : goal.returns-in-Ok-clause-placed
 returns-in-Ok-clause-placed g c told r v here = lined_placed _ _ _ v c.in-Ok.command c.args.line.now c.run.result c.in-Ok.ensures.reads
-    (λ other spelled. c.grammar.ensures.one c.args.line.now other c.in-Ok.command spelled c.in-Ok.ensures.reads) (c.run.ensures.placed told r v here)
+    (λ other spelled. one_command c.args.line.now other c.in-Ok.command spelled c.in-Ok.ensures.reads) (c.run.ensures.placed told r v here)
 
 pub returns-in-Err-Bad-clause-placed : goal.returns-in-Err-Bad-clause-placed
 returns-in-Err-Bad-clause-placed g c told r v here = quiet_placed _ _ v c.args.line.now (Reply.Bad c.in-Err-Bad.at) (λ command h. h) (λ l is. absurd (cc is))

@@ -18,8 +18,8 @@ returns-clause-tables g c r of are has = same_goes_on c.commit_work-answer.new.s
 pub returns-clause-answers : goal.returns-clause-answers
 returns-clause-answers g c told r v at =
     let store : Store = record { index = c.commit_work-answer.new.self.index; slot = c.commit_work-answer.new.self.slot; names = c.commit_work-answer.new.self.names; branches = c.commit_work-answer.new.self.branches; history = c.commit_work-answer.new.self.history; places = c.commit_work-answer.new.self.places; space = c.commit_work-answer.new.self.space; met = c.met_by-self.result } in
-    subst (λ met. IfSome (reply_to c.commit_work-answer.result) (λ reply. Answers (g.G.Ground.told c.commit_work-answer.new.outside) (session r c.args.work.now v) (Command.Commit c.args.branch.now c.args.info) met reply store c.commit_work-answer.new.work)) (sym c.met_by-self.ensures)
-    (same_answers c.commit_work-answer.new.self store (in_itself c.commit_work-answer.new.self c.met_by-self.result) _ _ _ _ _ _ (c.commit_work-answer.ensures.answers told r v at))
+    subst (λ met. IfSome (reply_to c.commit_work-answer.result) (λ reply. Answers (g.G.Ground.told c.commit_work-answer.new.outside) (session r c.args.work.now v) v (Command.Commit c.args.branch.now c.args.info) met reply store c.commit_work-answer.new.work)) (sym c.met_by-self.ensures)
+    (same_answers c.commit_work-answer.new.self store (in_itself c.commit_work-answer.new.self c.met_by-self.result) _ _ _ _ _ _ _ (c.commit_work-answer.ensures.answers told r v at))
 
 pub returns-clause-does : goal.returns-clause-does
 returns-clause-does g c told r v at = same_changes c.commit_work-answer.new.self _ (in_itself c.commit_work-answer.new.self c.met_by-self.result) r _ _ _ _ (c.commit_work-answer.ensures.does told r v at)

@@ -16,7 +16,7 @@ use Rattle.ip_store.proofs.Histories.{may_enter}
 use Rattle.ip_store.proofs.Machine.{refused_memory}
 use Rattle.ip_store.proofs.Planning.{err_of}
 use Rattle.ip_store.proofs.Stepping.{itself, same_tables, changes_none, stays_still, same_can_step, same_step}
-use Rattle.ip_store.proofs.AfterCommit.{some_commit, after_tables, after_parents, held_after, list_committed, read_root, further, inside, can_step, stays_committed, made, cut, saved_tree, work_after, answers_refused, answers_made, same_at}
+use Rattle.ip_store.proofs.AfterCommit.{some_commit, after_tables, after_parents, held_after, list_committed, read_root, further, inside, can_step, stays_committed, made, cut, saved_tree, stored_tree, work_after, answers_refused, answers_made, same_at}
 use Rattle.ip_store.proofs.Tables.{none_named, free}
 use Rattle.ip_store.proofs.store.Store.commit_work.Goals as goal
 
@@ -66,7 +66,7 @@ pub returns-in_err-plan-clause-answers : goal.returns-in_err-plan-clause-answers
 returns-in_err-plan-clause-answers g c told r v at =
     let fault = c.in_err-plan.field-0.0 in
     let is : c.from_residual.result ≡ Err fault = search rules in
-    subst (λ res. IfSome (reply_to res) (λ reply. Answers (g.G.Ground.told c.args.outside.now) (session r c.args.work.now v) (Command.Commit c.args.branch.now c.args.info) (met_by res) reply c.args.self.now c.args.work.now)) (sym is)
+    subst (λ res. IfSome (reply_to res) (λ reply. Answers (g.G.Ground.told c.args.outside.now) (session r c.args.work.now v) v (Command.Commit c.args.branch.now c.args.info) (met_by res) reply c.args.self.now c.args.work.now)) (sym is)
     (answers_refused r c.args.work.now v c.args.branch.now c.args.info fault c.args.self.now (g.G.Ground.told c.args.outside.now) at (c.in_err-plan.ensures.refused _ r v at.holds.tables at.lawful))
 
 pub returns-in_err-plan-clause-limits : goal.returns-in_err-plan-clause-limits
@@ -96,7 +96,7 @@ returns-in_err-plan-clause-tables g c r of are has = record { repository = r; ta
 pub returns-in_err-enter-clause-answers : goal.returns-in_err-enter-clause-answers
 returns-in_err-enter-clause-answers g c told r v at =
     let is : c.from_residual-in_err-enter.result ≡ Err StoreFault.Memory = search rules in
-    subst (λ res. IfSome (reply_to res) (λ reply. Answers (g.G.Ground.told c.args.outside.now) (session r c.args.work.now v) (Command.Commit c.args.branch.now c.args.info) (met_by res) reply c.enter.new.self c.args.work.now)) (sym is)
+    subst (λ res. IfSome (reply_to res) (λ reply. Answers (g.G.Ground.told c.args.outside.now) (session r c.args.work.now v) v (Command.Commit c.args.branch.now c.args.info) (met_by res) reply c.enter.new.self c.args.work.now)) (sym is)
     (answers_refused r c.args.work.now v c.args.branch.now c.args.info StoreFault.Memory c.enter.new.self (g.G.Ground.told c.args.outside.now) (same_at c.args.self.now c.enter.new.self c.in_err-enter.ensures.err (g.G.Ground.told c.args.outside.now) r c.args.work.now v at)
     (refused_memory r c.args.work.now v c.args.branch.now c.args.info at.lawful.retained))
 
@@ -188,6 +188,7 @@ returns-clause-answers g c told r v at =
       holds = holds;
       lawful = work_after r c.args.work.now v c.args.branch.now c.args.info c.args.self.now plan is planned (g.G.Ground.told c.args.outside.now) at (g.G.Ground.told c.durable_step.new.outside) _ step _ holds _ (read_root plan.number c.root.result plan.batch.root c.of.result c.root.ensures c.of.ensures) refl refl refl;
     })
+    (stored_tree r c.args.work.now v c.args.branch.now c.args.info c.args.self.now plan is planned (g.G.Ground.told c.args.outside.now) at (g.G.Ground.told c.durable_step.new.outside) _ step _ holds)
 
 pub returns-clause-saved : goal.returns-clause-saved
 returns-clause-saved g c told r q v at now =
