@@ -1,6 +1,8 @@
+mod Bits
 mod BranchLaws
 mod Kept
 mod Named
+mod Parting
 mod PartLaws
 mod Placing
 mod Reaching

@@ -2,4 +2,5 @@ pub mod Ancestry
 pub mod Commits
 pub mod Names
 pub mod Parts
+pub mod Places
 pub mod Working

@@ -5,6 +5,7 @@ mod commits;
 mod history;
 mod machine;
 mod names;
+mod places;
 #[cfg(test)]
 mod tests;
 mod trees;

@@ -166,7 +166,7 @@ impl Tree {
         ensures { (t : Map) → IsSmall t → self.now ≡ t.entries → IfOk result (λ name. name ≡ directory_name levels t) }
     {
         if levels == 0 {
-            return Ok(entries_name(&[]));
+            return entries_name(alloc, &[]);
         }
         let entries = self.entries(alloc)?;
         let mut named = Vec::new(alloc);
@@ -181,7 +181,7 @@ impl Tree {
                 name,
             })?;
         }
-        Ok(entries_name(named.as_slice()))
+        entries_name(alloc, named.as_slice())
     }
 
     // What stands at a path, seen from there, and whether there is nothing. The root is a directory though it may be empty.

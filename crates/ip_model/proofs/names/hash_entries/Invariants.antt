@@ -3,5 +3,5 @@ use Rattle.std.specs.Prelude.{All}
 use Rattle.ip_model.specs.Names.{hashed_entry}
 use Rattle.ip_model.proofs.names.hash_entries.Given as goal
 
-abbrev pub invariant-loop-entry : goal.invariant-loop-entry
-invariant-loop-entry g l = (m : List ℕ) → All (λ e. length e.step ≤ 255) l.entries → g.D.Digest.holds l.fn.hasher m → g.D.Digest.holds l.hasher (m ++ flat_map hashed_entry (take l.entry-index l.entries))
+abbrev pub invariant-loop-placed : goal.invariant-loop-placed
+invariant-loop-placed g l = (m : List ℕ) → All (λ p. length p.entry.now.step ≤ 255) l.entries → g.D.Digest.holds l.fn.hasher m → g.D.Digest.holds l.hasher (m ++ flat_map (λ p. hashed_entry p.entry.now) (take l.placed-index l.entries))

@@ -1,6 +1,8 @@
-use Rattle.std.proofs.Common.{◌≡◌, ◌-◌, ap, sym, ◌∙◌, arith, map, length, not}
+use Rattle.std.proofs.Common.{◌≡◌, ◌-◌, ap, sym, subst, ◌∙◌, arith, map, length, not}
+use Rattle.std.specs.Prelude.{IfOk}
 use Rattle.std.proofs.lemmas.List.{take_all, length-map}
 use Rattle.sha2.specs.Sha256.{sha256}
+use Rattle.ip_spec.specs.Record.{Hash}
 use Rattle.ip_spec.specs.Tree.{entries_of}
 use Rattle.ip_spec.specs.Shape.{entries_name}
 use Rattle.ip_model.specs.declared.names.Entry.{Entry}
@@ -10,7 +12,8 @@ use Rattle.ip_model.proofs.trees.Tree.+directory_name.Goals as goal
 use Rattle.ip_model.proofs.trees.Tree.+directory_name.Goals.{in-Some, in-None+in_ok-name-in-None}
 
 pub returns-then-levels-eq0 : goal.returns-then-levels-eq0
-returns-then-levels-eq0 n c t small is = c.entries_name.ensures (omega arith) (λ k d low. absurd (omega (arith, low))) ∙ no_levels c.args.levels t c.if-levels-eq0.true
+returns-then-levels-eq0 n c t small is =
+    subst (λ (x : Hash). IfOk c.entries_name.result (λ name. name ≡ x)) (no_levels c.args.levels t c.if-levels-eq0.true) (c.entries_name.ensures (omega arith) (λ k d low. absurd (omega (arith, low))))
 
 pub loop-entry-preserved : goal.loop-entry-preserved
 loop-entry-preserved n c t small is =
@@ -34,4 +37,6 @@ returns n c t small is =
     let all : map paired c.as_slice-2.result.now ≡ map (named_in below) (entries_of t).entries =
     ap (map paired) c.as_slice-2.ensures.value ∙ (c.loop-entry.invariant t small is ∙ ap (map (named_in below)) (take_all c.loop-entry.entry-index (entries_of t).entries (omega (arith, size, past)))) in
     let some = c.if-levels-eq0.false in
-    c.entries_name-2.ensures (few_named t small below _ all) (short_steps t small below _ all) ∙ (ap entries_name all ∙ sym (directory_below c.args.levels t (omega (arith, some))))
+    let few = few_named t small below _ all in
+    subst (λ (x : Hash). IfOk c.entries_name-2.result (λ name. name ≡ x)) (ap entries_name all ∙ sym (directory_below c.args.levels t (omega (arith, some))))
+    (c.entries_name-2.ensures (omega (arith, few)) (short_steps t small below _ all))
