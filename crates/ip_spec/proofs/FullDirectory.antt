@@ -1,4 +1,4 @@
--- A directory of 32 entries is one leaf and takes no more, and the name of one of 33 is that of an inode.
+-- A directory of 32 entries is one leaf, one more makes an inode, and without it the name is what it was.
 use Rattle.std.proofs.Common.{◌≡◌, ℕ, List, [], ◌∷◌, refl}
 use Rattle.std.specs.Prelude.{codes, if◌then◌else◌}
 use Rattle.std.specs.List.{join_with_byte}
@@ -29,7 +29,7 @@ unfoldable row_runs : Unit {0}
 unfolding machine_runs text_runs
 row_runs = tt
 
-a_full_directory : texts_of (opened no_repository)
+over_the_border : texts_of (opened no_repository)
     ((Command.Set (codes "k00" ∷ []) (1 ∷ []), quiet)
     ∷ (Command.Set (codes "k01" ∷ []) (1 ∷ []), quiet)
     ∷ (Command.Set (codes "k02" ∷ []) (1 ∷ []), quiet)
@@ -64,9 +64,9 @@ a_full_directory : texts_of (opened no_repository)
     ∷ (Command.Set (codes "k31" ∷ []) (1 ∷ []), quiet)
     ∷ (Command.Commit (codes "main") (about 0 (codes "a") (codes "m")), quiet)
     ∷ (Command.Set (codes "k32" ∷ []) (1 ∷ []), quiet)
-    ∷ (Command.Set (codes "k31" ∷ []) (1 ∷ []), quiet)
+    ∷ (Command.Commit (codes "main") (about 1 (codes "a") (codes "m")), quiet)
     ∷ (Command.Rm (codes "k32" ∷ []), quiet)
-    ∷ (Command.Commit (codes "main") (about 1 (codes "a") (codes "m")), quiet) ∷ [])
+    ∷ (Command.Commit (codes "main") (about 2 (codes "a") (codes "m")), quiet) ∷ [])
     ≡ codes "ok"
     ∷ codes "ok"
     ∷ codes "ok"
@@ -100,12 +100,12 @@ a_full_directory : texts_of (opened no_repository)
     ∷ codes "ok"
     ∷ codes "ok"
     ∷ codes "committed ebe032a4f7a2b879be3c1b7a781d47d18c5c5a9afff98ffca77b2dfa3af0bf08"
-    ∷ codes "limit entries"
     ∷ codes "ok"
-    ∷ codes "absent"
-    ∷ codes "committed 9ea3da983a00e8687c7b14e6540a13bd5ad44ef4d3b1fb6dbd76be9feb0c8149" ∷ []
+    ∷ codes "committed b932bfac9cf319a1271174bfe60d3ebac214e904456b48162e63364b4343806d"
+    ∷ codes "ok"
+    ∷ codes "committed 7c9f3f693c2386c06c6699656b915847e8a00d8530d4667695d2ce4372fd9e40" ∷ []
 unfolding row_runs
-a_full_directory = refl
+over_the_border = refl
 
 -- as many steps from `k00` on, each with one byte
 abbrev full : Tree

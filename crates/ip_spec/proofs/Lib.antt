@@ -7,6 +7,7 @@ pub mod Naming
 pub mod Spelling
 pub mod BatchLaws
 pub mod Unique
+pub mod Widths
 pub mod HistoryLaws
 pub mod ReadingLaws
 pub mod CoreLaws

@@ -62,8 +62,7 @@ or_refused s (Err reply) = (reply, s)
 abbrev pub contents_limit : ℕ
 contents_limit = CONTENTS_MAX
 
--- What a command may make of one directory, which is one leaf for now. The format allows more entries, for directories of many parts:
--- the limit is raised to the format's own with them.
+-- of one directory
 abbrev pub entries_limit : ℕ
 entries_limit = ENTRIES_MAX
 

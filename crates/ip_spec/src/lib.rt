@@ -22,6 +22,7 @@ ghost use Rattle.ip_spec.specs.Line.{IsLineOf, IsBadAt};
 
 pub mod command;
 pub mod event;
+pub mod kind;
 pub mod merge;
 pub mod met;
 pub mod record;
