@@ -7,6 +7,7 @@ ghost use Rattle.ip_spec.specs.Reading.{bytes_where, number_where, any, hash_fie
 ghost use Rattle.ip_object.specs.Body.{left_in, IsFault, Takes, IsInside, is_text};
 
 use ip_base::{Blob, Cursor, Hash, Step};
+use ip_spec::kind;
 use ip_spec::record::RecordFault;
 use std::alloc::Global;
 
@@ -64,7 +65,7 @@ pub fn take_some_u8(body: &mut Body<'_>) -> Result<u8, RecordFault>
     }
 }
 
-/// An entry's kind: 1 for contents, 2 for a directory.
+/// An entry's kind: contents or a directory.
 pub fn take_kind(body: &mut Body<'_>) -> Result<u8, RecordFault>
     requires inside { IsInside body.old }
     ensures inside { IsInside body.new }
@@ -72,7 +73,7 @@ pub fn take_kind(body: &mut Body<'_>) -> Result<u8, RecordFault>
 {
     let at = body.at();
     match body.left.take_u8() {
-        Some(n) if n == 1 || n == 2 => Ok(n),
+        Some(n) if n == kind::CONTENTS || n == kind::DIRECTORY => Ok(n),
         _ => Err(RecordFault::Form(at)),
     }
 }

@@ -5,6 +5,7 @@ ghost use Rattle.ip_spec.specs.declared.record.Record.TheVariants as Record;
 ghost use Rattle.ip_spec.specs.Record.{IsCommitRecord, kind_of, IsLeafEntry, IsBranchName, IsU64, Fits, spelling, body, short_text, long_text, info_spelling, entry_spelling, child_spelling, u64, bitmap};
 
 use ip_base::{Hash, Info, Memory, Number, put_bytes, put_u8, put_u16, put_u32, put_u64};
+use ip_spec::kind;
 use ip_spec::record::{Branch, InodeChild, LeafEntry, Parent, Record, Ref};
 
 #[tactic(auto, using(crate::proofs::PutLemmas::extends_same, crate::proofs::PutLemmas::extends_on))]
@@ -166,7 +167,7 @@ fn put_body(rec: &Record, out: &mut Vec<u8>) -> Result<(), Memory>
             let root = Ref {
                 at: c.root_at,
                 name: c.root_name,
-                kind: 2,
+                kind: kind::DIRECTORY,
             };
             put_commit(c.number, &root, c.parents.as_slice(), &c.info, out)
         }
@@ -184,20 +185,21 @@ fn put_body(rec: &Record, out: &mut Vec<u8>) -> Result<(), Memory>
     }
 }
 
-fn kind_of(rec: &Record) -> u8
+/// The number of a record's kind.
+pub fn kind_of(rec: &Record) -> u8
     ensures { result ≡ kind_of rec.now }
 {
     match rec {
-        Record::Contents(_) => 1,
-        Record::Leaf(_) => 2,
-        Record::Inode { .. } => 3,
-        Record::Commit(_) => 4,
-        Record::BranchSet { .. } => 5,
-        Record::BranchRemove { .. } => 6,
-        Record::BranchTable(_) => 7,
-        Record::TagSet { .. } => 8,
-        Record::TagRemove { .. } => 9,
-        Record::TagTable(_) => 10,
+        Record::Contents(_) => kind::CONTENTS,
+        Record::Leaf(_) => kind::LEAF,
+        Record::Inode { .. } => kind::INODE,
+        Record::Commit(_) => kind::COMMIT,
+        Record::BranchSet { .. } => kind::BRANCH_SET,
+        Record::BranchRemove { .. } => kind::BRANCH_REMOVE,
+        Record::BranchTable(_) => kind::BRANCH_TABLE,
+        Record::TagSet { .. } => kind::TAG_SET,
+        Record::TagRemove { .. } => kind::TAG_REMOVE,
+        Record::TagTable(_) => kind::TAG_TABLE,
     }
 }
 
@@ -266,7 +268,7 @@ pub fn put_contents(bytes: &[u8], out: &mut Vec<u8>) -> Result<(), Memory>
     ensures err { OnErr result (Extends out.old.items out.new.items) }
 {
     out.reserve(bytes.len() + 5)?;
-    put_u8(out, 1)?;
+    put_u8(out, kind::CONTENTS)?;
     put_u32(out, bytes.len() as u32)?;
     put_bytes(out, bytes)
 }
@@ -287,7 +289,7 @@ pub fn encode_commit(
 {
     let length = 60 + 40 * parents.len() + info.author.len() + info.message.len();
     out.reserve(length + 5)?;
-    put_u8(out, 4)?;
+    put_u8(out, kind::COMMIT)?;
     put_u32(out, length as u32)?;
     put_commit(number, root, parents, info, out)
 }
@@ -301,7 +303,7 @@ pub fn encode_branch(number: Number, name: &[u8], out: &mut Vec<u8>) -> Result<(
     ensures err { OnErr result (Extends out.old.items out.new.items) }
 {
     out.reserve(name.len() + 14)?;
-    put_u8(out, 5)?;
+    put_u8(out, kind::BRANCH_SET)?;
     put_u32(out, name.len() as u32 + 9)?;
     put_u64(out, number.0)?;
     put_short(name, out)

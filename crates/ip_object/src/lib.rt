@@ -9,7 +9,7 @@ mod name;
 mod read;
 mod referring;
 
-pub use encode::{encode_branch, encode_commit, encode_into, put_contents};
+pub use encode::{encode_branch, encode_commit, encode_into, kind_of, put_contents};
 pub use ip_spec::record::{
     Branch, Branches, CommitRecord, InodeChild, InodeChildren, LeafEntries, LeafEntry, Parent,
     Parents, Record, RecordFault, Ref,

@@ -7,6 +7,7 @@ ghost use Rattle.ip_object.specs.Lists.{commit_of, hashed_entry, hashed_child};
 
 use crate::encode::bitmap_of;
 use ip_base::{Hash, Info};
+use ip_spec::kind;
 use ip_spec::record::{InodeChild, LeafEntry, Parent, Record, Ref};
 use sha2::{Digest, Sha256};
 
@@ -83,7 +84,7 @@ fn leaf_name(entries: &[LeafEntry]) -> Hash
     ensures { result ≡ sha256 (2 ∷ u32 (length entries.now) ++ flat_map hashed_entry entries.now) }
 {
     let mut hasher = Sha256::new();
-    hasher.update(&[2]);
+    hasher.update(&[kind::LEAF]);
     hasher.update(&(entries.len() as u32).to_le_bytes());
     hash_entries(&mut hasher, entries);
     Hash(hasher.finalize())
@@ -95,7 +96,7 @@ fn inode_name(depth: u8, children: &[InodeChild]) -> Hash
     ensures { result ≡ sha256 (3 ∷ depth ∷ u32 (bitmap children.now) ++ flat_map hashed_child children.now) }
 {
     let mut hasher = Sha256::new();
-    hasher.update(&[3, depth]);
+    hasher.update(&[kind::INODE, depth]);
     hasher.update(&bitmap_of(children).to_le_bytes());
     hash_children(&mut hasher, children);
     Hash(hasher.finalize())
@@ -109,7 +110,7 @@ pub fn commit_name(root: &Ref, parents: &[Parent], info: &Info) -> Hash
     ensures { (number : ℕ) → name_of (Record.Commit (commit_of number root.now parents.now info.now)) ≡ Some result }
 {
     let mut hasher = Sha256::new();
-    hasher.update(&[4]);
+    hasher.update(&[kind::COMMIT]);
     hasher.update(root.name.as_slice());
     hasher.update(&[parents.len() as u8]);
     hash_parents(&mut hasher, parents);
@@ -131,7 +132,7 @@ pub fn name_of_record(rec: &Record) -> Option<Hash>
             let root = Ref {
                 at: c.root_at,
                 name: c.root_name,
-                kind: 2,
+                kind: kind::DIRECTORY,
             };
             Some(commit_name(&root, c.parents.as_slice(), &c.info))
         }

@@ -14,6 +14,7 @@ use crate::body::{
 use crate::lists::{owned, take_info, take_short};
 use crate::loops::{take_children, take_entries, take_parents, take_rows};
 use ip_base::{Blob, Cursor, Number};
+use ip_spec::kind;
 use ip_spec::record::{Branches, CommitRecord, Record, RecordFault};
 use std::alloc::Global;
 
@@ -135,16 +136,16 @@ fn take_record(alloc: Global, kind: u8, body: &mut Body<'_>) -> Result<Record, R
     ensures takes { MatchOption (fields_of kind) (result ≡ Err (fault.Kind kind)) (λ fields. Takes (fields (left_in body.old)) result (left_in body.new)) }
 {
     match kind {
-        1 => take_contents(alloc, body),
-        2 => take_leaf(alloc, body),
-        3 => take_inode(alloc, body),
-        4 => take_commit(alloc, body),
-        5 => take_name_set(alloc, body, false),
-        6 => take_name_remove(alloc, body, false),
-        7 => take_name_table(alloc, body, false),
-        8 => take_name_set(alloc, body, true),
-        9 => take_name_remove(alloc, body, true),
-        10 => take_name_table(alloc, body, true),
+        kind::CONTENTS => take_contents(alloc, body),
+        kind::LEAF => take_leaf(alloc, body),
+        kind::INODE => take_inode(alloc, body),
+        kind::COMMIT => take_commit(alloc, body),
+        kind::BRANCH_SET => take_name_set(alloc, body, false),
+        kind::BRANCH_REMOVE => take_name_remove(alloc, body, false),
+        kind::BRANCH_TABLE => take_name_table(alloc, body, false),
+        kind::TAG_SET => take_name_set(alloc, body, true),
+        kind::TAG_REMOVE => take_name_remove(alloc, body, true),
+        kind::TAG_TABLE => take_name_table(alloc, body, true),
         _ => Err(RecordFault::Kind(kind)),
     }
 }
@@ -153,7 +154,13 @@ fn take_record(alloc: Global, kind: u8, body: &mut Body<'_>) -> Result<Record, R
 fn is_known(version: u32, kind: u8) -> bool
     ensures { result ≡ known version kind }
 {
-    kind > 0 && kind <= if version >= 2 { 10 } else { 7 }
+    kind > 0
+        && kind
+            <= if version >= 2 {
+                kind::TAG_TABLE
+            } else {
+                kind::BRANCH_TABLE
+            }
 }
 
 fn contents_limit(version: u32) -> u32
@@ -195,7 +202,7 @@ fn read_front(alloc: Global, version: u32, bytes: &[u8]) -> Result<(Record, u64)
     let Some(length) = left.take_u32() else {
         return Err(RecordFault::Short);
     };
-    if *kind == 1 && length > contents_limit(version) {
+    if *kind == kind::CONTENTS && length > contents_limit(version) {
         return Err(RecordFault::Length);
     }
     let Some(body) = left.take_bytes(length as usize) else {

@@ -3,6 +3,7 @@ ghost use Rattle.std.specs.Prelude.{◌≡◌, List, [], drop};
 ghost use Rattle.ip_spec.specs.Record.{references};
 ghost use Rattle.ip_object.specs.Referring.{left_in};
 
+use ip_spec::kind;
 use ip_spec::record::{InodeChild, LeafEntry, Record, Ref};
 
 /// The references of a record that are still to come, in the order of the record's fields.
@@ -28,7 +29,7 @@ pub fn references(rec: &Record) -> RecordReferences<'_>
         Record::Commit(c) => RecordReferences::Root(Ref {
             at: c.root_at,
             name: c.root_name,
-            kind: 2,
+            kind: kind::DIRECTORY,
         }),
         _ => RecordReferences::None,
     }
@@ -59,7 +60,7 @@ impl<'a> Iterator for RecordReferences<'a> {
                 Some(Ref {
                     at: child.at,
                     name: child.name,
-                    kind: 2,
+                    kind: kind::DIRECTORY,
                 })
             }
             RecordReferences::Root(root) => {
