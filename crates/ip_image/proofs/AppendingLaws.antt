@@ -25,6 +25,7 @@ use Rattle.ip_spec.specs.Repository.{Repository, Commit, next}
 use Rattle.ip_spec.specs.Step.{new_commit, with_commit}
 use Rattle.ip_spec.proofs.TreeAtLaws.{more_part}
 use Rattle.ip_spec.proofs.BatchLaws.{batch_lies, sources_stand}
+use Rattle.ip_spec.proofs.Widths.{none_wider}
 use Rattle.ip_image.specs.Slot.{Slot, IsSlot, layout_of}
 use Rattle.ip_image.specs.Standing.{Terms, RecordFits, IsServedKind, IsGood, AreGood, commit_of, commits_in, names_after, named, AreRetained, WholeFits, Spells, terms_of, may_be_outside}
 use Rattle.ip_image.specs.Appending.{SameGeneration, MayGrow, fields_of, grown_batch, AreWithin, StandsStill, StandsGrown}
@@ -107,13 +108,16 @@ module _ (J : ℕ → Option Record) where
       by : (at : ℕ) (r : Record) → IsTreePart J at r → cons_option (commit_of (at, r)) (commits_in xs) ≡ commits_in xs
       by at (Record.Contents bytes) part = refl
       by at (Record.Leaf fields) part = refl
+      by at (Record.Inode depth children) part = refl
       by at _ part = absurd part
 
   no_name : (names : Names) (m : Map bytes_cmp ℕ) (at : ℕ) (r : Record) → IsTreePart J at r → names_after names m r ≡ m
   no_name Names.branches m at (Record.Contents bytes) part = refl
   no_name Names.branches m at (Record.Leaf fields) part = refl
+  no_name Names.branches m at (Record.Inode depth children) part = refl
   no_name Names.tags m at (Record.Contents bytes) part = refl
   no_name Names.tags m at (Record.Leaf fields) part = refl
+  no_name Names.tags m at (Record.Inode depth children) part = refl
   no_name names m at _ part = absurd part
 
   names_pass : (names : Names) (m : Map bytes_cmp ℕ) (xs later : Records) → AreTreeParts J xs → names_from names m (xs ++ later) ≡ names_from names m later
@@ -183,11 +187,7 @@ module _ (s : Slot) (fields : IsSlot s) (image : Image) (r : Repository) (chunk 
   all_within = recursion_from_All (IsWithin s.version) new within
 
   tree : TreeBatch (terms_of s) v from f s.end old
-  tree = tree_behind (terms_of s) v from f s.end old known stand may.is_tree (served new all_within)
-    where
-      served : (xs : Records) → AllByRecursion (IsWithin s.version) xs → AllByRecursion (λ (x : ℕ × Record). IsServedKind x.1) xs
-      served [] all = tt
-      served (x ∷ xs) all = (all.0.1, served xs all.1)
+  tree = tree_behind (terms_of s) v from f s.end old known stand may.is_tree (λ p. let most = none_wider v.map p in let narrow = may.narrow in omega (arith, most, narrow))
 
   abbrev parts : Records
   parts = tree.parts

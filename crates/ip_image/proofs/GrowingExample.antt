@@ -250,9 +250,9 @@ unfolding image_runs shape_runs
 first_within = All-from_recursion IsWithin first_records (
   (record { size = lit< tt; fields = (lit≤ tt, are_bytes (2 ∷ []) tt) }, tt),
   (
-    (record { size = lit< tt; fields = record { count = lit< tt; each = All-from_recursion IsLeafEntry below (is_below, tt); rising = refl } }, lit≤ tt),
+    (record { size = lit< tt; fields = record { count = lit< tt; each = All-from_recursion IsLeafEntry below (is_below, tt); rising = refl } }, tt),
     (
-      (record { size = lit< tt; fields = record { count = lit< tt; each = All-from_recursion IsLeafEntry (directory ∷ []) (is_directory, tt); rising = refl } }, lit≤ tt),
+      (record { size = lit< tt; fields = record { count = lit< tt; each = All-from_recursion IsLeafEntry (directory ∷ []) (is_directory, tt); rising = refl } }, tt),
       (
         (record { size = lit< tt; fields = record { number = lit< tt; root_name = is_hash (root_name first_tree) refl tt; root_at = lit< tt; parents = lit≤ tt; each = All-from_recursion _ [] tt; info = is_info } }, tt),
         ((record { size = lit< tt; fields = (lit< tt, is_main) }, tt), tt),
@@ -266,7 +266,7 @@ unfolding image_runs shape_runs step_runs
 second_within = All-from_recursion IsWithin second_records (
   (record { size = lit< tt; fields = (lit≤ tt, are_bytes (1 ∷ []) tt) }, tt),
   (
-    (record { size = lit< tt; fields = record { count = lit< tt; each = All-from_recursion IsLeafEntry (directory ∷ beside ∷ []) (is_directory, (is_beside, tt)); rising = refl } }, lit≤ tt),
+    (record { size = lit< tt; fields = record { count = lit< tt; each = All-from_recursion IsLeafEntry (directory ∷ beside ∷ []) (is_directory, (is_beside, tt)); rising = refl } }, tt),
     (
       (
         record {

@@ -32,7 +32,7 @@ use Rattle.ip_image.proofs.AppendingLaws.{good_append}
 use Rattle.ip_image.proofs.CoreTies.{image_rises, core_rests, kept_rises, kept_among, staying, staying_is}
 use Rattle.ip_image.specs.Collected.{offsets_of, remaining, IsCollectable, IsSwapped, StandsCollected}
 use Rattle.ip_image.proofs.OneRepository.{goes_on}
-use Rattle.ip_image.proofs.TreeParts.{all_right}
+use Rattle.ip_image.proofs.TreeParts.{all_right, all_onto}
 use Rattle.ip_image.proofs.DamageLaws.{slot_is}
 use Rattle.ip_image.proofs.PairLaws.{Has, Rises, has_from, contains_from, rises, same_records}
 use Rattle.ip_image.proofs.KeptRuns.{get_behind, Ordered, ordered_has, ordered_append, kept_stand, runs_filled, rows_in_order, rows_numbers, rows_total, rows_many, runs_again}
@@ -40,10 +40,6 @@ use Rattle.ip_image.proofs.Stretches.{ends_ordered, runs_ordered, EndsCut, ends_
 use Rattle.ip_image.proofs.StayingRecords.{RestsOn, good_both, In, has_left, has_right, has_either, ordered_rises, present_has, has_present, one_at, filter_has, has_filter, filter_rises, filter_ordered, filter_all, filter_last, filter_none, filter_present, refs_of, Leads, staying_part, Cut, cut, good_at, front_there, before_there, front_rises, Stays, reached_leads, reached_kept, stays_closed, test, test_stays, stays_test}
 
 -- ---- lists
-
-all_onto : {X : Type 0} (P Q : X → Type 0) (xs : List X) → ((x : X) → P x → Q x) → AllByRecursion P xs → AllByRecursion Q xs
-all_onto P Q [] f all = tt
-all_onto P Q (x ∷ xs) f all = (f x all.0, all_onto P Q xs f all.1)
 
 zip_behind : {A B : Type 0} (R : A → B → Type 0) (xs us : List A) (ys : List B) → AllZip R (xs ++ us) ys → AllZip R us (drop (length xs) ys)
 zip_behind R [] us ys zip = zip
@@ -93,6 +89,7 @@ no_tags s m before (x ∷ xs) good = ap (λ (n : Map bytes_cmp ℕ). fold (step 
     by : (r : Record) → IsServedKind r → names_after Names.tags m r ≡ m
     by (Record.Contents bytes) l = refl
     by (Record.Leaf fields) l = refl
+    by (Record.Inode depth children) l = refl
     by (Record.Commit c) l = refl
     by (Record.BranchSet number name) l = refl
     by (Record.BranchRemove name) l = refl

@@ -8,7 +8,6 @@ use Rattle.std.proofs.Common.{◌≡◌, ℕ, suc, ◌+◌, ◌<◌, ◌≤◌, 
 use Rattle.std.proofs.lemmas.Bool.{false≢true}
 use Rattle.std.proofs.lemmas.Cmp.{nat_cmp_total}
 use Rattle.std.specs.Prelude.{is_some}
-use Rattle.std.specs.List.{AllByRecursion}
 use Rattle.std.specs.Cmp.{tied_itself}
 use Rattle.std.specs.Ordering.{is_eq, nat_cmp, eq_by_cmp}
 use Rattle.std.specs.FinMap.{nat_cmp-IsAntisymmetric}
@@ -19,6 +18,7 @@ use Rattle.ip_spec.specs.declared.record.InodeChild.{InodeChild}
 use Rattle.ip_spec.specs.declared.record.CommitRecord.{CommitRecord}
 use Rattle.ip_spec.specs.Path.{Step, Path}
 use Rattle.ip_spec.specs.Record.{spelling}
+use Rattle.ip_spec.specs.Step.{entries_limit}
 use Rattle.ip_spec.specs.Tree.{Tree, IsTree, height}
 use Rattle.ip_spec.specs.Shape.{Entries, root_name}
 use Rattle.ip_spec.specs.TreeAt.{Records, present, EntryAt, EntriesAt, ChildrenAt, PartAt, TreeAt, contents_at, directory_at, no_entries, entry_first, no_children, child_first, leaf_at, inode_at}
@@ -26,11 +26,12 @@ use Rattle.ip_spec.specs.View.{View}
 use Rattle.ip_spec.specs.Batch.{CommitFields, Sources, placed, contents_end, contents_record, new_contents, contents_offset, root_spelled, tree_batch, batch_root, batch, batch_end, with_batch, either, AreEndToEnd, KnownStand, SourcesStand}
 use Rattle.ip_spec.proofs.TreeAtLaws.{more_part}
 use Rattle.ip_spec.proofs.BatchLaws.{batch_lies, tree_stands}
-use Rattle.ip_spec.proofs.Spelling.{some_bytes}
-use Rattle.ip_image.specs.Standing.{Terms, EndToEnd, IsSomePart, IsServedKind, RecordFits}
+use Rattle.ip_spec.proofs.Spelling.{AllHeld, held_right, some_bytes}
+use Rattle.ip_spec.proofs.Widths.{NoneWider}
+use Rattle.ip_image.specs.Standing.{Terms, EndToEnd, IsSomePart, RecordFits}
 use Rattle.ip_image.proofs.InChunk.{eq_of}
 use Rattle.ip_image.proofs.SpelledCommits.{FitCommits, present_front, present_behind}
-use Rattle.ip_image.proofs.TreeParts.{all_left, all_right, IsTold, IsTreePart, AreTold, AreTreeParts, part_found, directory_parts}
+use Rattle.ip_image.proofs.TreeParts.{IsTreePart, AreTreeParts, part_found, directory_parts}
 
 -- ---- records end to end
 
@@ -78,14 +79,11 @@ found_later x xs at r l is = by (eq_by_cmp nat_cmp at x.0) refl
     by false b = is
 
 -- each is found where it lies
-each_found : (J : ℕ → Option Record) (from : ℕ) (xs : Records) (to : ℕ) → AreEndToEnd from xs to → ((at : ℕ) (r : Record) → from ≤ at → present xs at ≡ Some r → J at ≡ Some r)
-    → AllByRecursion (λ (x : ℕ × Record). IsServedKind x.1) xs → AreTold J xs
-each_found J from [] to e keeps served = tt
-each_found J from (x ∷ xs) to (at, e) keeps served = (
-  (keeps x.0 x.1 (omega (arith, at)) (found_first x.0 x.1 xs), served.0),
-  each_found J (from + length (spelling x.1)) xs to e
-      (λ a r l is. let some = some_bytes x.1 in keeps a r (omega (arith, l)) (found_later x xs a r (omega (arith, at, some, l)) is))
-      served.1,
+each_found : (J : ℕ → Option Record) (from : ℕ) (xs : Records) (to : ℕ) → AreEndToEnd from xs to → ((at : ℕ) (r : Record) → from ≤ at → present xs at ≡ Some r → J at ≡ Some r) → AllHeld J xs
+each_found J from [] to e keeps = tt
+each_found J from (x ∷ xs) to (at, e) keeps = (
+  keeps x.0 x.1 (omega (arith, at)) (found_first x.0 x.1 xs),
+  each_found J (from + length (spelling x.1)) xs to e (λ a r l is. let some = some_bytes x.1 in keeps a r (omega (arith, l)) (found_later x xs a r (omega (arith, at, some, l)) is)),
 )
 
 -- ---- records behind others
@@ -143,8 +141,7 @@ pub record TreeBatch (terms : Terms) (v : View) (from : Sources) (f : CommitFiel
   pub spelled : TreeAt (present (old ++ parts)) root v.map
 
 module _ (terms : Terms) (v : View) (from : Sources) (f : CommitFields) (end : ℕ) (old : Records)
-    (known : KnownStand (present old) v end) (stand : SourcesStand (present old) v from) (lawful : IsTree v.map)
-    (served : AllByRecursion (λ (x : ℕ × Record). IsServedKind x.1) (batch v from f end)) where
+    (known : KnownStand (present old) v end) (stand : SourcesStand (present old) v from) (lawful : IsTree v.map) (narrow : NoneWider entries_limit v.map) where
   abbrev parts : Records
   parts = tree_batch v from end
 
@@ -187,8 +184,8 @@ module _ (terms : Terms) (v : View) (from : Sources) (f : CommitFields) (end : �
       by None e r is = found_below end parts commit_at (batch_root v from end).at r parts_end (sym (present_behind old parts (batch_root v from end).at e) ∙ is)
       by (Some q) e r is = let low = known.below (batch_root v from end).at q e in let up = ends_on end parts commit_at parts_end in omega (arith, low, up)
 
-  told : AreTold all parts
-  told = each_found all end parts commit_at parts_end part_there (all_left (λ (x : ℕ × Record). IsServedKind x.1) parts behind_parts (subst (AllByRecursion (λ (x : ℕ × Record). IsServedKind x.1)) whole served))
+  held : AllHeld all parts
+  held = each_found all end parts commit_at parts_end part_there
 
   abbrev contents : Records
   contents = map (λ (x : Path × ℕ). (x.1, contents_record v x.0)) (placed v end (new_contents v from))
@@ -203,8 +200,8 @@ module _ (terms : Terms) (v : View) (from : Sources) (f : CommitFields) (end : �
 
   all_parts : AreTreeParts all parts
   all_parts = subst (AreTreeParts all) (sym pieces) (contents_parts (placed v end (new_contents v from)) (root_spelled v from end).records
-      (directory_parts all v (contents_offset v from end) (suc (height v.map)) [] v.map (contents_end v end (new_contents v from)) root_spelled_there.1
-      (all_right (IsTold all) contents (root_spelled v from end).records (subst (AreTold all) pieces told))))
+      (directory_parts all v (contents_offset v from end) (suc (height v.map)) [] v.map (contents_end v end (new_contents v from)) narrow root_spelled_there.1
+      (held_right all contents (root_spelled v from end).records (subst (AllHeld all) pieces held))))
 
   -- ---- each behind those before it
 
@@ -228,6 +225,7 @@ module _ (terms : Terms) (v : View) (from : Sources) (f : CommitFields) (end : �
   one_fits : (before later : Records) (at to : ℕ) (r : Record) → before ++ (at, r) ∷ later ≡ old ++ parts → AreEndToEnd (at + length (spelling r)) later to → IsTreePart all at r → RecordFits terms before at r
   one_fits before later at to (Record.Contents bytes) here ends part = tt
   one_fits before later at to (Record.Leaf fields) here ends part = some_part before later at to (Record.Leaf fields) here ends part
+  one_fits before later at to (Record.Inode depth children) here ends part = some_part before later at to (Record.Inode depth children) here ends part
   one_fits before later at to _ here ends part = absurd part
 
   parts_fit : (before xs : Records) (at to : ℕ) → before ++ xs ≡ old ++ parts → AreEndToEnd at xs to → AreTreeParts all xs → FitCommits terms before xs
