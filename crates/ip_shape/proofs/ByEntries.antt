@@ -3,9 +3,10 @@ use Rattle.std.proofs.Common.{◌≡◌, ◌≤◌, ◌<◌, ◌+◌, ◌-◌, �
 use Rattle.std.specs.Prelude.{cond, nat_le, ◌==◌, ◌||◌}
 use Rattle.std.proofs.lemmas.Bool.Decides.{nat_tests}
 use Rattle.ip_spec.specs.Path.{Step}
-use Rattle.ip_spec.specs.Shape.{place, at_place, is_leaf, leaf_limit, deepest}
+use Rattle.ip_spec.specs.Shape.{place, at_place, is_leaf, leaf_limit, deepest, part_from}
 use Rattle.ip_shape.specs.Shape.{IsPart, IsLeafOf, IsInodeOf, steps_at}
 use Rattle.ip_shape.specs.Directory.{steps_of}
+use Rattle.ip_shape.specs.Reading.{steps_under}
 use Rattle.ip_shape.specs.declared.part.Part.{Part, out-Part}
 use Rattle.ip_shape.proofs.Members.{neither}
 use Rattle.ip_shape.proofs.OneShape.{in_order}
@@ -26,6 +27,10 @@ module _ {C : Type 0} where
         | true ↦ ap (λ ss. e.0 ∷ ss) (steps_at_place depth i es)
         | false ↦ steps_at_place depth i es
       ]
+
+  pub steps_part : (depth : ℕ) (is : List ℕ) (es : List (Step × C)) → steps_under depth is (steps_of es) ≡ steps_of (part_from depth es is)
+  steps_part depth [] es = refl
+  steps_part depth (i ∷ is) es = ap (steps_under (suc depth) is) (sym (steps_at_place depth i es)) ∙ steps_part (suc depth) is (at_place depth i es)
 
   pub as_long : (es : List (Step × C)) → length (steps_of es) ≡ length es
   as_long [] = refl

@@ -1,7 +1,9 @@
 -- The entries of a directory, and their steps.
-use Rattle.std.proofs.Common.{◌≡◌, Bool, true, false, not, List, [], ◌∷◌, subst, sym, ap, ◌∙◌, refl, Option, Some, None, ◌++◌, length, arith}
+use Rattle.std.proofs.Common.{◌≡◌, Bool, true, false, not, List, [], ◌∷◌, subst, sym, ap, ◌∙◌, refl, Option, Some, None, ◌++◌, ◌+◌, append_assoc, drop, length, arith}
 use Rattle.std.specs.Prelude.{cond, T, ◌||◌, is_some, IsSome}
 use Rattle.std.proofs.lemmas.Bool.{false≢true}
+use Rattle.std.proofs.Math.Seq.{drop-append_seam}
+use Rattle.std.proofs.lemmas.List.{length-append}
 use Rattle.std.specs.Ordering.{is_lt, is_eq, match_ordering, ordering_reverse}
 use Rattle.std.specs.declared.cmp.Ordering.{Ordering}
 use Rattle.std.specs.declared.cmp.Ordering.TheVariants.{Less, Equal, Greater}
@@ -108,6 +110,31 @@ own dir es is = subst (λ l. IsDir dir l) (sym is.0.0) is
 pub moved : {C : Type 0} (given left es new all : List (Step × C)) (s : Step) (x : C) → given ≡ left ++ (s, x) ∷ [] → new ≡ put bytes_cmp s x es → entries_from given es ≡ all → entries_from left new ≡ all
 moved given left es new all s x is put_in before =
     ap (entries_from left) put_in ∙ sym (from_last left (s, x) es) ∙ ap (λ l. entries_from l es) (sym is) ∙ before
+
+-- and all behind it stand there already
+pub one_out : {C : Type 0} (given left init : List (Step × C)) (e : Step × C) → given ≡ left ++ drop (length left) given → left ≡ init ++ e ∷ []
+    → (given ≡ init ++ drop (length init) given) × (drop (length init) given ≡ e ∷ drop (length left) given) × (length left ≡ length init + 1)
+one_out {C = C} given left init e split last =
+    let rest = drop (length left) given in
+    let all : given ≡ init ++ e ∷ rest = split ∙ ap (λ (l : List (Step × C)). l ++ rest) last ∙ append_assoc init (e ∷ []) rest in
+    let behind : drop (length init) given ≡ e ∷ rest = ap (drop (length init)) all ∙ drop-append_seam init (e ∷ rest) in
+    (all ∙ ap (λ l. init ++ l) (sym behind), behind, ap length last ∙ length-append init (e ∷ []))
+
+pub none_out : {A : Type 0} (xs : List A) → (drop (length xs) xs ≡ []) × (xs ≡ xs ++ drop (length xs) xs)
+none_out [] = (refl, refl)
+none_out (x ∷ xs) = ((none_out xs).0, ap (λ l. x ∷ l) (none_out xs).1)
+
+put_front : {C : Type 0} (e : Step × C) (es : List (Step × C)) → T (is_below_all e.0 (steps_of es)) → put bytes_cmp e.0 e.1 es ≡ e ∷ es
+put_front e [] below = refl
+put_front e (f ∷ es) below =
+    ap (λ o. by_order o (e ∷ f ∷ es) ((f.0, e.1) ∷ es) (f ∷ put bytes_cmp e.0 e.1 es)) (less (bytes_cmp e.0 f.0) (first (is_lt (bytes_cmp e.0 f.0)) (is_below_all e.0 (steps_of es)) below))
+
+-- entries that ascend, put into a map that has none, are the map's
+pub from_none : {C : Type 0} (es : List (Step × C)) → AreSteps (steps_of es) → entries_from es [] ≡ es
+from_none [] ascends = refl
+from_none (e ∷ es) ascends =
+    ap (put bytes_cmp e.0 e.1) (from_none es (second (is_below_all e.0 (steps_of es)) (ascend (steps_of es)) ascends))
+    ∙ put_front e es (first (is_below_all e.0 (steps_of es)) (ascend (steps_of es)) ascends)
 
 pub nil_of : {A : Type 0} (xs : List A) → length xs ≡ 0 → xs ≡ []
 nil_of [] e = refl

@@ -1,95 +1,38 @@
 -- The entries of a leaf that was read, put among those of its directory.
-use Rattle.std.proofs.Common.{◌≡◌, ◌≤◌, ◌-◌, ◌+◌, ℕ, zero, suc, Bool, true, false, List, [], ◌∷◌, ◌++◌, length, filter, subst, sym, ap, ◌∙◌, refl, arith, Option, Some, None, inl, inr, ◌⊎◌, T}
+use Rattle.std.proofs.Common.{◌≡◌, ◌≤◌, ◌-◌, ◌+◌, ℕ, zero, suc, Bool, true, false, List, [], ◌∷◌, drop, length, filter, subst, sym, ap, ◌∙◌, refl, arith, Option, Some, None, inl, inr, ◌⊎◌}
 use Rattle.std.specs.Prelude.{cond, ◌==◌, ◌&&◌, ◌||◌, is_some, is_none, option_and_then, slice_get, nat_le, Vec}
 use Rattle.std.specs.Global.{Global}
-use Rattle.std.specs.Ordering.{is_lt, is_eq}
-use Rattle.std.specs.declared.cmp.Ordering.TheVariants.{Less}
-use Rattle.std.specs.FinMap.Entries.{find, put, find-put}
-use Rattle.std.specs.Cmp.{tied_itself}
+use Rattle.std.specs.FinMap.Entries.{find}
 use Rattle.std.proofs.lemmas.Bool.{false≢true, eq-eqb, ne_eqb}
 use Rattle.std.proofs.lemmas.Bool.Decides.{nat_tests}
-use Rattle.std.proofs.lemmas.Cmp.{nat_list_cmp_total}
-use Rattle.std.proofs.lemmas.List.{map-append}
 use Rattle.ip_spec.specs.Path.{Step, bytes_cmp, same_bytes}
 use Rattle.ip_spec.specs.Shape.{place, deepest, is_leaf, leaf_limit}
 use Rattle.ip_spec.specs.View.{leads}
 use Rattle.ip_shape.specs.Shape.{AreSteps, IsPart, IsLeafOf, IsInodeOf, ascend, is_below_all, has, steps_at}
 use Rattle.ip_shape.specs.Loaded.{behind, known_in, unread_in, unread_here, unread_below, way, way_to}
 use Rattle.ip_shape.specs.Reading.{IsEntered, IsLeafRead, Steps, in_place, leaf_known, steps_under}
-use Rattle.ip_shape.specs.Directory.{AreNew, entries_from, steps_of}
+use Rattle.ip_shape.specs.Directory.{AreNew, entries_from, entries_off, steps_of}
 use Rattle.ip_shape.specs.declared.part.Part.{Part, out-Part}
 use Rattle.ip_shape.specs.declared.part.Part.TheVariants as variant
 use Rattle.ip_shape.specs.declared.part.Part.TheOpen as layer
 use Rattle.ip_shape.specs.declared.part.Part.TheOpen.{Part-F}
-use Rattle.ip_shape.proofs.Steps.{AreSteps-filter, first, second, less, equal, same_step}
-use Rattle.ip_shape.proofs.Members.{has-add, has-filter, same_steps}
-use Rattle.ip_shape.proofs.Entries.{AreSteps-add, none_of, steps_put}
+use Rattle.ip_shape.proofs.Steps.{AreSteps-filter, first, second}
+use Rattle.ip_shape.proofs.Members.{at_head, has-add, has-filter, or_more, same_steps}
+use Rattle.ip_shape.proofs.Entries.{AreSteps-add, below_absent, has_of, none_of, steps_put, taken_back}
 use Rattle.ip_shape.proofs.Partly.{Stands, reaches, stands_in}
 use Rattle.ip_shape.proofs.ByEntries.{as_long}
 use Rattle.ip_shape.proofs.Shapes.{by_either, deepest_made, leaf_made}
 use Rattle.ip_shape.proofs.Ways.{known_leaf, past_leaf, same_or_not, unread_leaf}
 
-or_false : (b : Bool) → (b || false) ≡ b
-or_false true = refl
-or_false false = refl
-
 or_later : (a b c : Bool) → (a || (b || c)) ≡ ((a || b) || c)
 or_later true b c = refl
 or_later false b c = refl
-
-has_last : (q : Step) (xs : List Step) (s : Step) → has q (xs ++ s ∷ []) ≡ (has q xs || same_bytes q s)
-has_last q [] s = or_false (same_bytes q s)
-has_last q (x ∷ xs) s = ap (λ b. same_bytes q x || b) (has_last q xs s) ∙ or_later (same_bytes q x) (has q xs) (same_bytes q s)
-
-below_last : (x : Step) (xs : List Step) (s : Step) → T (is_below_all x (xs ++ s ∷ [])) → T (is_below_all x xs) × (bytes_cmp x s ≡ Less)
-below_last x [] s h = (tt, less (bytes_cmp x s) (first (is_lt (bytes_cmp x s)) true h))
-below_last x (y ∷ ys) s h =
-    let rest = below_last x ys s (second (is_lt (bytes_cmp x y)) (is_below_all x (ys ++ s ∷ [])) h) in
-    (both_of (is_lt (bytes_cmp x y)) (is_below_all x ys) (first (is_lt (bytes_cmp x y)) (is_below_all x (ys ++ s ∷ [])) h) rest.0, rest.1)
-  where
-    both_of : (a b : Bool) → T a → T b → T (a && b)
-    both_of true b p q = q
-    both_of false b p q = p
-
-module _ (q s : Step) where
-  by_head : (x : Step) (xs : List Step) (b : Bool) → same_bytes q x ≡ b → bytes_cmp x s ≡ Less → (has q xs ≡ true → same_bytes q s ≡ false) → (b || has q xs) ≡ true → same_bytes q s ≡ false
-  by_head x xs true e below rest is_in = ap (λ t. is_eq (bytes_cmp t s)) (same_step q x (equal (bytes_cmp q x) e)) ∙ ap is_eq below
-  by_head x xs false e below rest is_in = rest is_in
-
-last_apart : (xs : List Step) (s : Step) → T (ascend (xs ++ s ∷ [])) → T (ascend xs) × ((q : Step) → has q xs ≡ true → same_bytes q s ≡ false)
-last_apart [] s h = (tt, λ q e. absurd (false≢true e))
-last_apart (x ∷ xs) s h =
-    let rest = last_apart xs s (second (is_below_all x (xs ++ s ∷ [])) (ascend (xs ++ s ∷ [])) h) in
-    let below = below_last x xs s (first (is_below_all x (xs ++ s ∷ [])) (ascend (xs ++ s ∷ [])) h) in
-    (both_of (is_below_all x xs) (ascend xs) below.0 rest.0, λ q is_in. by_head q s x xs (same_bytes q x) refl below.1 (rest.1 q) is_in)
-  where
-    both_of : (a b : Bool) → T a → T b → T (a && b)
-    both_of true b p q = q
-    both_of false b p q = p
-
-or_true : (b : Bool) → (b || true) ≡ true
-or_true true = refl
-or_true false = refl
 
 pub or_first : (a b : Bool) → a ≡ true → (a || b) ≡ true
 or_first true b e = refl
 or_first false b e = absurd (false≢true e)
 
 module _ {C : Type 0} where
-  pub new_last : (init given es : List (Step × C)) (s : Step) (x : C) → given ≡ init ++ (s, x) ∷ [] → AreNew given es → AreNew init (put bytes_cmp s x es) × (find bytes_cmp s es ≡ None)
-  new_last init given es s x e new =
-      let steps : steps_of given ≡ steps_of init ++ s ∷ [] = ap (λ (l : List (Step × C)). steps_of l) e ∙ map-append (λ (f : Step × C). f.0) init ((s, x) ∷ []) in
-      let apart = last_apart (steps_of init) s (subst AreSteps steps new.0) in
-      let itself : same_bytes s s ≡ true = ap is_eq (tied_itself nat_list_cmp_total s) in (
-        (
-          apart.0,
-          λ q is_in.
-              find-put bytes_cmp nat_list_cmp_total q s x es ∙ ap (λ b. cond b (Some x) (find bytes_cmp q es)) (apart.1 q is_in)
-              ∙ new.1 q (ap (has q) steps ∙ has_last q (steps_of init) s ∙ or_first (has q (steps_of init)) (same_bytes q s) is_in),
-        ),
-        new.1 s (ap (has s) steps ∙ has_last s (steps_of init) s ∙ ap (λ b. has s (steps_of init) || b) itself ∙ or_true (has s (steps_of init))),
-      )
-
   has_from : (q : Step) (given es : List (Step × C)) → has q (steps_of (entries_from given es)) ≡ (has q (steps_of given) || has q (steps_of es))
   has_from q [] es = refl
   has_from q (e ∷ given) es =
@@ -99,6 +42,32 @@ module _ {C : Type 0} where
   ascend_from : (given es : List (Step × C)) → AreSteps (steps_of es) → AreSteps (steps_of (entries_from given es))
   ascend_from [] es a = a
   ascend_from (e ∷ given) es a = subst AreSteps (sym (steps_put e.0 e.1 (entries_from given es))) (AreSteps-add e.0 (steps_of (entries_from given es)) (ascend_from given es a))
+
+module _ {C : Type 0} where
+  pub new_behind : (k : ℕ) (given es : List (Step × C)) → AreNew given es → AreNew (drop k given) es
+  new_behind zero given es new = new
+  new_behind (suc k) [] es new = new
+  new_behind (suc k) (e ∷ given) es new =
+      new_behind k given es
+      (second (is_below_all e.0 (steps_of given)) (ascend (steps_of given)) new.0, λ q is_in. new.1 q (or_more (same_bytes q e.0) (has q (steps_of given)) is_in))
+
+  pub drop_steps : (k : ℕ) (given : List (Step × C)) → drop k (steps_of given) ≡ steps_of (drop k given)
+  drop_steps zero given = refl
+  drop_steps (suc k) [] = refl
+  drop_steps (suc k) (e ∷ given) = drop_steps k given
+
+  none_there : (e : Step × C) (given es : List (Step × C)) → AreNew (e ∷ given) es → find bytes_cmp e.0 (entries_from given es) ≡ None
+  none_there e given es new =
+      none_of (find bytes_cmp e.0 (entries_from given es))
+      (sym (has_of e.0 (entries_from given es)) ∙ has_from e.0 given es
+      ∙ ap (λ b. b || has e.0 (steps_of es)) (below_absent e.0 (steps_of given) (first (is_below_all e.0 (steps_of given)) (ascend (steps_of given)) new.0))
+      ∙ has_of e.0 es ∙ ap is_some (new.1 e.0 (at_head e.0 (steps_of given))))
+
+  -- what was put into a map that had none of it is taken out again
+  pub all_off : (given es : List (Step × C)) → AreNew given es → entries_off (steps_of given) (entries_from given es) ≡ es
+  all_off [] es new = refl
+  all_off (e ∷ given) es new =
+      ap (entries_off (steps_of given)) (taken_back e.0 e.1 (entries_from given es) (none_there e given es new)) ∙ all_off given es (new_behind 1 (e ∷ given) es new)
 
 and_swap : (l a h : Bool) → (l && (a && h)) ≡ ((a && l) && h)
 and_swap true true h = refl

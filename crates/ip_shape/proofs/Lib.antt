@@ -1,16 +1,18 @@
 mod Bits
-mod ByEntries
+pub mod ByEntries
 mod Digests
 mod Edits
 mod Entering
-mod Entries
+pub mod Entries
 mod Gathering
 mod InodeRead
-mod LeafRead
-mod Members
+pub mod LeafRead
+mod Made
+pub mod Members
 mod Needs
 mod OneShape
+mod Onward
 mod Partly
 mod Shapes
-mod Steps
-mod Ways
+pub mod Steps
+pub mod Ways

@@ -7,7 +7,7 @@ use Rattle.std.proofs.lemmas.List.{reverse-append}
 use Rattle.ip_spec.specs.Path.{Step}
 use Rattle.ip_spec.specs.Shape.{place, deepest}
 use Rattle.ip_shape.specs.Shape.{has, steps_at}
-use Rattle.ip_shape.specs.Loaded.{behind, is_under, join_of, unread_in, way_to}
+use Rattle.ip_shape.specs.Loaded.{IsRead, behind, is_under, join_of, unread_in, way_to}
 use Rattle.ip_shape.specs.Reading.{IsFirstBelow, IsNeeded, IsToJoin, is_needed}
 use Rattle.ip_shape.specs.declared.part.Part.{Part}
 use Rattle.ip_shape.specs.declared.part.Part.TheViews as view
@@ -51,6 +51,10 @@ or_either true b e = inl refl
 or_either false b e = inr e
 
 module _ {R : Type 0} where
+  -- nothing has to be read below a part that was read
+  pub read_join : (join : Option (List ℕ)) (part : Part R) → IsRead part → IsToJoin join part None
+  read_join join part read = λ is r under e. false≢true (ap is_some (sym (read is) ∙ e))
+
   pub whole_join : (part : Part R) (found : Option (List ℕ × R)) → IsFirstBelow part found → IsToJoin (Some []) part found
   whole_join part None read = λ is r under e. false≢true (ap is_some (sym (read is) ∙ e))
   whole_join part (Some f) first = (refl, first)

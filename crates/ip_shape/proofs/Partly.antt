@@ -26,6 +26,10 @@ both_true : (a b : Bool) → (a && b) ≡ true → b ≡ true
 both_true true b e = e
 both_true false b e = absurd (false≢true e)
 
+first_true : (a b : Bool) → (a && b) ≡ true → a ≡ true
+first_true true b e = refl
+first_true false b e = e
+
 absorbed : (a b : Bool) → (a ≡ true → b ≡ true) → (a || b) ≡ b
 absorbed true b to = sym (to refl)
 absorbed false b to = refl
@@ -63,6 +67,10 @@ module _ {C R : Type 0} where
 
   pub read_is : (root : Part R) (steps : List Step) (entries : List (Step × C)) (s : Step) → steps_of entries ≡ filter (reaches root) steps → reaches root s ≡ true → is_some (find bytes_cmp s entries) ≡ has s steps
   read_is root steps entries s are read = stands_in root steps entries s are ∙ ap (λ b. b && has s steps) read
+
+  -- and each part on the way to an entry was read
+  pub read_there : (root : Part R) (steps : List Step) (entries : List (Step × C)) (s : Step) → steps_of entries ≡ filter (reaches root) steps → is_some (find bytes_cmp s entries) ≡ true → reaches root s ≡ true
+  read_there root steps entries s are found = first_true (reaches root s) (has s steps) (sym (stands_in root steps entries s are) ∙ found)
 
   pub stands_still : (old new : Part R) (steps : List Step) (entries : List (Step × C)) → Stands old steps entries → IsPart deepest 0 steps new → SameUnread old new → Stands new steps entries
   stands_still old new steps entries is shape same = (is.0, shape, is.2 ∙ filtered old new steps same)

@@ -1,7 +1,7 @@
 -- What an edit leaves of what is unread and of what is known.
 use Rattle.std.proofs.Common.{◌≡◌, ◌≢◌, ◌<◌, ℕ, zero, suc, ◌+◌, ◌-◌, Bool, true, false, List, [], ◌∷◌, ◌++◌, length, ◌⊎◌, inl, inr, get_or, subst, sym, ap, ◌∙◌, refl, arith}
 use Rattle.std.proofs.Math.ListN.{set}
-use Rattle.std.specs.Prelude.{slice_get, Option, Some, None, Result, Ok, Err, IfOk, IfErr, OnOk, OnErr, Vec, cond, ◌==◌, ◌&&◌, ◌||◌, is_some, option_and_then, option_map, unwrap_or}
+use Rattle.std.specs.Prelude.{slice_get, Option, Some, None, Result, Ok, Err, IfOk, IfErr, OnOk, OnErr, Vec, cond, ◌==◌, ◌&&◌, ◌||◌, is_some, is_err, option_and_then, option_map, unwrap_or}
 use Rattle.std.proofs.lemmas.List.{length-append}
 use Rattle.std.specs.Global.{Global}
 use Rattle.std.specs.Vec.{with_item}
@@ -24,6 +24,18 @@ whenever_ok (Err b) X x = tt
 pub whenever_err : {A B : Type 0} (r : Result A B) (X : Type 0) → X → OnErr r X
 whenever_err (Ok a) X x = tt
 whenever_err (Err b) X x = x
+
+pub taken_ok : {A B : Type 0} (r : Result A B) (X : Type 0) → is_err r ≡ false → OnOk r X → X
+taken_ok (Ok a) X e x = x
+taken_ok (Err b) X e x = absurd (false≢true (sym e))
+
+pub taken_err : {A B : Type 0} (r : Result A B) (X : Type 0) → is_err r ≡ true → OnErr r X → X
+taken_err (Ok a) X e x = absurd (false≢true e)
+taken_err (Err b) X e x = x
+
+pub on_ok : {A B : Type 0} (r : Result A B) (X Y : Type 0) → (X → Y) → OnOk r X → OnOk r Y
+on_ok (Ok a) X Y to x = to x
+on_ok (Err b) X Y to x = tt
 
 cond_same : {X : Type 0} (b : Bool) (x : X) → cond b x x ≡ x
 cond_same true x = refl
@@ -52,6 +64,11 @@ pub found_below : {A : Type 0} (xs : List A) (i : ℕ) (x : A) → slice_get xs 
 found_below [] i x e = absurd (false≢true (ap is_some e))
 found_below (y ∷ ys) zero x e = omega arith
 found_below (y ∷ ys) (suc i) x e = omega (arith, found_below ys i x e)
+
+found_in : {A : Type 0} (xs : List A) (i : ℕ) → i < length xs → (x : A) × (slice_get xs i ≡ Some x)
+found_in [] i lt = absurd (omega (arith, lt))
+found_in (y ∷ ys) zero lt = (y, refl)
+found_in (y ∷ ys) (suc i) lt = found_in ys i (omega (arith, lt))
 
 -- one more at the end
 pub grown_by : {A : Type 0} (P : ℕ → A → Type 0) (xs : List A) (x : A) → ((i : ℕ) (y : A) → slice_get xs i ≡ Some y → P i y) → P (length xs) x
@@ -118,12 +135,42 @@ module _ {R : Type 0} where
   read_inode known n parts all [] = unread_inode known n parts
   read_inode known n parts all (i ∷ is) = unread_child known n parts i is ∙ by_found (unread_in is) (slice_get parts.items i) (λ child found. all i child found is)
 
+  -- an inode once more
+  module _ (known : Option R) (n : ℕ) (parts copies : Vec (Part R) Global) (long : length copies.items ≡ length parts.items)
+      (all : (i : ℕ) (copy : Part R) → slice_get copies.items i ≡ Some copy → (child : Part R) → slice_get parts.items i ≡ Some child → IsUnchanged child copy) where
+    both_there : {U : Type 0} (f : Part R → Option U) (i : ℕ) → ((child copy : Part R) → IsUnchanged child copy → f copy ≡ f child)
+        → option_and_then f (slice_get copies.items i) ≡ option_and_then f (slice_get parts.items i)
+    both_there f i same = at (slice_get parts.items i) (slice_get copies.items i) refl refl
+      where
+        at : (o p : Option (Part R)) → slice_get parts.items i ≡ o → slice_get copies.items i ≡ p → option_and_then f p ≡ option_and_then f o
+        at None None d e = refl
+        at None (Some copy) d e = absurd (false≢true (ap is_some (sym d ∙ (found_in parts.items i (omega (arith, long, found_below copies.items i copy e))).1)))
+        at (Some child) None d e = absurd (false≢true (ap is_some (sym e ∙ (found_in copies.items i (omega (arith, long, found_below parts.items i child d))).1)))
+        at (Some child) (Some copy) d e = same child copy (all i copy e child d)
+
+    pub inode_copied : IsUnchanged (view.Inode known n parts) (view.Inode known n copies)
+    inode_copied [] = (unread_inode known n copies ∙ sym (unread_inode known n parts), known_inode known n copies ∙ sym (known_inode known n parts))
+    inode_copied (i ∷ is) = (
+      unread_child known n copies i is ∙ both_there (unread_in is) i (λ child copy same. (same is).0) ∙ sym (unread_child known n parts i is),
+      known_child known n copies i is ∙ both_there (known_in is) i (λ child copy same. (same is).1) ∙ sym (known_child known n parts i is),
+    )
+
+  pub found_is : (parts : List (Part R)) (i j : ℕ) (x child : Part R) → i ≡ j → j < length parts → x ≡ get_or parts j x → slice_get parts i ≡ Some child → x ≡ child
+  found_is parts i j x child same within at e = ap (λ o. unwrap_or o x) (ap Some at ∙ sym (slice_get-get_or parts j x within) ∙ ap (slice_get parts) (sym same) ∙ e)
+
   pub one_more_read : (parts : List (Part R)) (i : ℕ) (x : Part R) → i < length parts → x ≡ get_or parts i x → ((k : ℕ) (child : Part R) → k < i → slice_get parts k ≡ Some child → IsRead child) → IsRead x
       → (k : ℕ) (child : Part R) → k < i + 1 → slice_get parts k ≡ Some child → IsRead child
   one_more_read parts i x within at before read k child lt e = elim (same_or_not k i) [
     | inl same ↦ subst (λ (p : Part R). IsRead p) (ap (λ o. unwrap_or o x) (ap Some at ∙ sym (slice_get-get_or parts i x within) ∙ ap (slice_get parts) (sym same) ∙ e)) read
     | inr ne ↦ before k child (omega (arith, lt, ne)) e
   ]
+
+  -- an edit makes nothing known
+  pub still_fresh : (depth : ℕ) (s : Step) (old new : Part R) → IsFresh old → IsEdited depth s old new → IsFresh new
+  still_fresh depth s old new fresh edited is = (
+    (edited is).0 ∙ (fresh is).0,
+    (edited is).1 ∙ ap (cond (leads depth is s) None) (fresh is).1 ∙ cond_same (leads depth is s) None,
+  )
 
   -- the same parts are unread, and those are known that were, but where a test says
   abbrev pub IsBy : (List ℕ → Bool) → Part R → Part R → Type 0

@@ -8,18 +8,16 @@ ghost use Rattle.ip_shape.specs.declared.part.Part.{Part, out-Part};
 ghost use Rattle.ip_shape.specs.declared.part.Part.TheVariants as variant;
 ghost use Rattle.ip_shape.specs.declared.part.Part.TheViews as view;
 ghost use Rattle.ip_shape.specs.Place.{place_in};
-ghost use Rattle.ip_shape.specs.Shape.{AreSteps, AreAlike, AreUnited, IsChainTo, IsLeafOf, IsPart, add, has, steps_at, take_out};
-ghost use Rattle.ip_shape.specs.Loaded.{IsEdited, IsFresh, IsLessened, IsRead, IsUnchanged};
+ghost use Rattle.ip_shape.specs.Shape.{AreSteps, AreAlike, AreUnited, IsChainTo, IsLeafOf, IsPart, add, count_in, has, steps_at, take_out};
+ghost use Rattle.ip_shape.specs.Loaded.{IsEdited, IsFresh, IsLessened, IsRead, IsUnchanged, join_of, unread_in, way};
+ghost use Rattle.ip_shape.specs.Reading.{IsToJoin};
 
-use crate::places::{DEEPEST, Places};
+use crate::places::{CHILDREN, DEEPEST, Places};
 use ip_base::limit::LEAF_ENTRIES_MAX;
 use ip_base::{Memory, Step};
 use std::alloc::Global;
 use std::cmp::Ordering;
 use std::mem;
-
-/// How many children an inode has.
-pub(crate) const CHILDREN: u8 = 32;
 
 /// A part of a directory. `known` is the record that spells it, where there is one.
 #[derive(Drop)]
@@ -45,7 +43,8 @@ pub enum Part<R> {
 impl<R> Part<R> {
     /// How many entries it has. It takes no walk.
     pub fn count(&self) -> usize
-        ensures { (depth : ℕ) (steps : List TheStep) → IsPart (deepest - depth) depth steps self.now → result ≡ length steps }
+        ensures steps { (depth : ℕ) (steps : List TheStep) → IsPart (deepest - depth) depth steps self.now → result ≡ length steps }
+        ensures told { result ≡ count_in (out-Part R self.now) }
     {
         match self {
             Part::Leaf { steps, .. } => steps.len(),
@@ -147,6 +146,42 @@ pub(crate) fn no_part<R>(alloc: Global) -> Part<R>
     Part::Leaf {
         known: None,
         steps: Vec::new(alloc),
+    }
+}
+
+// The same part at a depth once more.
+pub(crate) fn copied<R: Copy>(alloc: Global, part: &Part<R>, depth: u8) -> Result<Part<R>, Memory>
+    ensures shape { (steps : List TheStep) → IsPart (deepest - depth) depth steps part.now → IfOk result (IsPart (deepest - depth) depth steps) }
+    ensures same { IfOk result (IsUnchanged part.now) }
+{
+    match part {
+        Part::Leaf { known, steps } => Ok(Part::Leaf {
+            known: *known,
+            steps: copies_of(alloc, steps, steps.len())?,
+        }),
+        Part::Inode {
+            known,
+            count,
+            children,
+        } => {
+            // So deep no directory has an inode.
+            if depth >= DEEPEST {
+                return Err(Memory);
+            }
+            let mut copies = Vec::with_capacity(alloc, children.len())?;
+            for i in 0..children.len() {
+                copies.push(copied(alloc, &children[i], depth + 1)?)?;
+            }
+            Ok(Part::Inode {
+                known: *known,
+                count: *count,
+                children: copies,
+            })
+        }
+        Part::Unread { record, count } => Ok(Part::Unread {
+            record: *record,
+            count: *count,
+        }),
     }
 }
 
@@ -293,6 +328,7 @@ pub(crate) fn with_step<R: Drop>(
         IfOk result (IsPart (deepest - depth) depth (add step.now steps)) }
     ensures refused { (steps : List TheStep) → IsPart (deepest - depth) depth steps part → IfErr result (IsPart (deepest - depth) depth steps) }
     ensures edited { IfOk result (IsEdited depth step.now part) }
+    ensures read { OnOk result (unread_in (way (deepest - depth) depth step.now) part ≡ None) }
     ensures left { IfErr result (IsUnchanged part) }
 {
     match part {
@@ -409,6 +445,8 @@ pub(crate) fn without_step<R: Drop>(
         IfOk result (IsPart (deepest - depth) depth (take_out step.now steps)) }
     ensures refused { (steps : List TheStep) → IsPart (deepest - depth) depth steps part → IfErr result (IsPart (deepest - depth) depth steps) }
     ensures edited { (steps : List TheStep) → IsPart (deepest - depth) depth steps part → IfOk result (IsLessened (deepest - depth) depth step.now steps part) }
+    ensures read { OnOk result (unread_in (way (deepest - depth) depth step.now) part ≡ None) }
+    ensures joined { (steps : List TheStep) → IsPart (deepest - depth) depth steps part → OnOk result (IsToJoin (join_of (deepest - depth) depth step.now steps) part None) }
     ensures left { IfErr result (IsUnchanged part) }
 {
     match part {
@@ -445,7 +483,10 @@ pub(crate) fn without_step<R: Drop>(
             let edited = without_step(alloc, below, places, depth + 1, step);
             put_back(known, count, children, index, fewer, edited)
         }
-        Part::Unread { record, count } => Err(Part::Unread { record, count }),
+        Part::Unread { record, count } => {
+            // Whether it holds the step is not known, nor what its record would be without it.
+            Err(Part::Unread { record, count })
+        }
     }
 }
 

@@ -8,8 +8,11 @@ use ip_base::Step;
 use sha2::{Digest, Sha256};
 use std::marker::Model;
 
-/// The depth at which every part is a leaf.
+/// The depth at which every part is a leaf. An inode has a lesser one.
 pub const DEEPEST: u8 = 51;
+
+/// How many places there are at a depth: an inode has a child for each.
+pub const CHILDREN: u8 = 32;
 
 /// The places of a step at all depths: its SHA-256 (FIPS 180-4), which an operation computes once.
 #[derive(Clone, Copy)]

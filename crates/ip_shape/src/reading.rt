@@ -1,19 +1,20 @@
 // What was not read so far of a directory, and how it is entered when it is.
-ghost use Rattle.std.specs.Prelude.{◌≡◌, ◌≤◌, ◌-◌, ◌+◌, ℕ, true, List, [], length, take, drop, Option, Some, None, slice_get, option_map, IfOk, IfErr, OnOk, OnErr, IfSome};
+ghost use Rattle.std.specs.Prelude.{◌≡◌, ◌≤◌, ◌-◌, ◌+◌, ℕ, true, false, List, [], length, take, drop, Option, Some, None, slice_get, option_map, IfOk, IfErr, OnOk, OnErr, IfSome};
 ghost use Rattle.sha2.specs.Sha256.{sha256};
 ghost use Rattle.ip_spec.specs.Path.{Step as TheStep};
 ghost use Rattle.ip_spec.specs.Shape.{deepest, is_leaf};
+ghost use Rattle.ip_spec.specs.View.{leads};
 ghost use Rattle.ip_shape.specs.Shape.{AreSteps, IsLeafOf, IsPart};
-ghost use Rattle.ip_shape.specs.Loaded.{IsFresh, join_of, known_in, unread_in, way, way_to};
+ghost use Rattle.ip_shape.specs.Loaded.{IsFresh, is_under, join_of, known_in, unread_in, way, way_to};
 ghost use Rattle.ip_shape.specs.Reading.{AreChildren, IsEntered, IsInodeRead, IsLeafRead, IsMissing, IsNeeded, IsFirstBelow, IsToJoin, IsUnreadOn, Steps, placed_from, spelled_by, steps_under};
-ghost use Rattle.ip_shape.specs.Directory.{AreNew, IsPartly, entries_from, root_of, steps_of};
+ghost use Rattle.ip_shape.specs.Directory.{AreNew, IsPartly, entries_from, entries_off, root_of, steps_of};
 ghost use Rattle.ip_shape.specs.declared.part.Part.{Part, out-Part};
 ghost use Rattle.ip_shape.specs.declared.part.Part.TheVariants as variant;
 ghost use Rattle.std.proofs.Math.ListN.{set};
 
-use crate::dir::{Dir, Entries};
-use crate::part::{CHILDREN, Part, no_part};
-use crate::places::{DEEPEST, Places};
+use crate::dir::{Dir, Entries, put_entries};
+use crate::part::{Part, no_part};
+use crate::places::{CHILDREN, DEEPEST, Places};
 use ip_base::limit::LEAF_ENTRIES_MAX;
 use ip_base::{Memory, Step};
 use std::alloc::Global;
@@ -52,6 +53,25 @@ fn unread_on<'a, R>(part: &'a Part<R>, places: &Places, depth: u8) -> Option<(u8
     }
 }
 
+/// The depth and the record of the first part on the way to a step that was not read, for whoever goes on below it without entering it, or `None` where each of them was read.
+/// It takes no memory.
+pub fn first_unread<'a, C, R>(dir: &'a Dir<C, R>, step: &Step) -> Option<(u8, &'a R)>
+    ensures within { IfSome result (λ f. f.0 ≤ deepest) }
+    ensures found { option_map {U = R × List ℕ} (λ f. (f.1.now, drop f.0 (way_to step.now))) result ≡ unread_in (way_to step.now) (root_of dir.now) }
+    ensures part { IfSome result (λ f. unread_in (take f.0 (way_to step.now)) (root_of dir.now) ≡ Some (f.1.now, [])) }
+{
+    unread_on(dir.root(), &Places::of(step), 0)
+}
+
+/// Laws, which do nothing when they are called, of the way to a step: it has 51 indexes, those are the first of it that lead to the step, and where each part on it was read, no
+/// indexes that lead to the step are of an unread part.
+pub fn way_of_step<R>()
+    ensures long { (s : TheStep) → length (way_to s) ≡ deepest }
+    ensures leads { (s : TheStep) (indexes : List ℕ) → length indexes ≤ deepest → is_under (Some indexes) (way_to s) ≡ leads 0 indexes s }
+    ensures read { (s : TheStep) (steps : List TheStep) (root : Part R) (indexes : List ℕ) (by : R) → IsPart deepest 0 steps root → unread_in (way_to s) root ≡ None →
+        unread_in indexes root ≡ Some (by, []) → leads 0 indexes s ≡ false }
+{}
+
 // The first of the indexes that lead to a step.
 fn first_indexes(alloc: Global, places: &Places, depth: u8) -> Result<Vec<u8>, Memory>
     requires { depth ≤ deepest }
@@ -78,15 +98,15 @@ pub fn missing<C, R: Copy>(
         Some((depth, record)) => {
             let indexes = first_indexes(alloc, &places, depth)?;
             Ok(Some(UnreadPart {
-                indexes,
                 record: *record,
+                indexes,
             }))
         }
     }
 }
 
 // The first unread part of a part at a depth: its indexes, the last one first, and its record.
-fn first_unread<'a, R>(
+fn first_below<'a, R>(
     alloc: Global,
     part: &'a Part<R>,
     depth: u8,
@@ -104,7 +124,7 @@ fn first_unread<'a, R>(
                 if index as usize >= children.len() {
                     return Ok(None);
                 }
-                let found = first_unread(alloc, &children[index as usize], depth + 1)?;
+                let found = first_below(alloc, &children[index as usize], depth + 1)?;
                 if let Some((mut indexes, record)) = found {
                     indexes.push(index)?;
                     return Ok(Some((indexes, record)));
@@ -138,7 +158,7 @@ fn unread_to_join<'a, R>(
                 return Ok(None);
             }
             if *count == LEAF_ENTRIES_MAX + 1 {
-                return first_unread(alloc, part, depth);
+                return first_below(alloc, part, depth);
             }
             let index = places.at(depth);
             if index as usize >= children.len() {
@@ -170,8 +190,8 @@ pub fn missing_to_remove<C, R: Copy>(
     if let Some((depth, record)) = unread_on(dir.root(), &places, 0) {
         let indexes = first_indexes(alloc, &places, depth)?;
         return Ok(Some(UnreadPart {
-            indexes,
             record: *record,
+            indexes,
         }));
     }
     if !dir.entries.contains_key(step) {
@@ -182,8 +202,8 @@ pub fn missing_to_remove<C, R: Copy>(
         Some((mut indexes, record)) => {
             indexes.reverse();
             Ok(Some(UnreadPart {
-                indexes,
                 record: *record,
+                indexes,
             }))
         }
     }
@@ -275,33 +295,36 @@ fn steps_in<C>(alloc: Global, entries: &[(Step, C)]) -> Result<Vec<Step>, Memory
     Ok(steps)
 }
 
-// Puts entries into a map that has none of their steps. An `Err` leaves the map as it was. It calls itself once for each entry, of which a leaf above depth 51 has at most 32.
-fn enter<C: Drop>(
-    alloc: Global,
-    map: &mut BTreeMap<Step, C>,
-    entries: Entries<C>,
-) -> Result<(), Memory>
-    ensures entered { OnOk result (map.new.entries ≡ entries_from entries.items map.old.entries) }
-    ensures refused { AreNew entries.items map.old.entries → OnErr result (map.new.entries ≡ map.old.entries) }
+// Takes the entries at steps out of a map, the first one first.
+fn take_entries<C: Drop>(map: &mut BTreeMap<Step, C>, steps: &[Step])
+    ensures { map.new.entries ≡ entries_off steps.now map.old.entries }
 {
-    let mut left = entries;
-    match left.pop() {
-        None => Ok(()),
-        Some((step, child)) => {
-            let key = step.copy(alloc)?;
-            map.insert(key, child)?;
-            match enter(alloc, map, left) {
-                Ok(()) => Ok(()),
-                Err(_) => {
-                    map.remove(&step);
-                    Err(Memory)
-                }
-            }
-        }
+    for i in 0..steps.len() {
+        map.remove(&steps[i]);
     }
 }
 
+// Puts entries at these steps into a map that has none of them. An `Err` leaves the map as it was.
+fn enter<C: Drop>(
+    map: &mut BTreeMap<Step, C>,
+    entries: Entries<C>,
+    steps: &[Step],
+) -> Result<(), Memory>
+    requires { steps.now ≡ steps_of entries.items }
+    ensures entered { OnOk result (map.new.entries ≡ entries_from entries.items map.old.entries) }
+    ensures refused { AreNew entries.items map.old.entries → OnErr result (map.new.entries ≡ map.old.entries) }
+{
+    let left = put_entries(map, entries);
+    if left == 0 {
+        return Ok(());
+    }
+    take_entries(map, &steps[left..]);
+    Err(Memory)
+}
+
 /// Enters what was read of the unread part at these indexes: the entries of a leaf, in the order of their steps. An `Err` leaves the directory as it was.
+/// Where a record spells other entries than stand there, as one that others wrote may, they are entered all the same, however many there are, and then no clause tells what the
+/// directory has.
 pub fn read_leaf<C: Drop, R: Drop>(
     alloc: Global,
     dir: &mut Dir<C, R>,
@@ -315,7 +338,7 @@ pub fn read_leaf<C: Drop, R: Drop>(
         steps_of entries.items ≡ steps_under 0 indexes.now steps → OnErr result (IsPartly dir.new steps old × (root_of dir.new ≡ root_of dir.old)) }
 {
     let steps = steps_in(alloc, &entries)?;
-    enter(alloc, &mut dir.entries, entries)?;
+    enter(&mut dir.entries, entries, &steps)?;
     let root = mem::replace(&mut dir.root, no_part(alloc));
     dir.root = entered(alloc, root, indexes, 0, Content::Leaf(steps));
     Ok(())

@@ -2,11 +2,11 @@
 ghost use Rattle.std.specs.Prelude.{◌<◌, ◌≤◌};
 ghost use Rattle.ip_spec.specs.Shape.{deepest};
 
-use crate::dir::{Dir, Entries, build, exchange, find, forget, insert, remove};
+use crate::dir::{Dir, Entries, build, copy_with, exchange, find, forget, insert, remove};
 use crate::part::Part;
 use crate::places::place;
 use crate::reading::{
-    Child, UnreadPart, missing, missing_to_remove, read_inode, read_leaf, unread,
+    Child, UnreadPart, first_unread, missing, missing_to_remove, read_inode, read_leaf, unread,
 };
 use ip_base::{Blob, Memory, Step};
 use std::alloc::Global;
@@ -346,6 +346,17 @@ fn enter(
     }
 }
 
+// Whether the first part that was not read on the way to a step is the one that was found.
+fn is_first(dir: &Dir<u16, u64>, step: &Step, found: &Option<UnreadPart<u64>>) -> bool {
+    match (first_unread(dir, step), found) {
+        (None, None) => true,
+        (Some((depth, record)), Some(part)) => {
+            depth as usize == part.indexes.len() && *record == part.record
+        }
+        _ => false,
+    }
+}
+
 // Reads what a look-up or a removal at a step needs, each part once, and tells how many parts these were.
 fn read_to(
     alloc: Global,
@@ -360,6 +371,9 @@ fn read_to(
         } else {
             missing(alloc, dir, step)?
         };
+        if !removal && !is_first(dir, step, &found) {
+            return Ok(None);
+        }
         match found {
             None => return Ok(Some(parts)),
             Some(UnreadPart { indexes, record }) => {
@@ -484,6 +498,93 @@ fn exchanged(alloc: Global) -> Result<[bool; 5], Memory> {
 #[test]
 fn a_child_is_exchanged(rt: HostRuntime) {
     assert_eq!(rt; exchanged(rt.alloc()), Ok([true, true, true, true, true]));
+}
+
+// Edits where a part that they need is not read: at a step that no part that was read has, and at one whose removal makes a leaf of an inode.
+fn edited_unread(alloc: Global) -> Result<[bool; 5], Memory> {
+    let whole: Dir<u16, u64> = build(alloc, entries(alloc, 4, &shuffled(alloc, 33, 4)?)?)?;
+    let mut records = records_of(alloc, &whole)?;
+    let mut dir: Dir<u16, u64> = unread(alloc, 0, 33);
+    let one = step(alloc, 4, 1)?;
+    let inserted = insert(alloc, &mut dir, &one, 5) == Err(Memory);
+    let removed = remove(alloc, &mut dir, &one) == Ok(None);
+    let same = dir.entries().is_empty() && dir.root().count() == 33;
+    let read = read_to(alloc, &mut dir, &mut records, &one, false)? == Some(2);
+    let stays = remove(alloc, &mut dir, &one) == Err(Memory) && find(&dir, &one) == Some(&1);
+    Ok([inserted, removed, same, read, stays])
+}
+
+#[test]
+fn what_is_not_read_is_not_edited(rt: HostRuntime) {
+    assert_eq!(rt;
+        edited_unread(rt.alloc()),
+        Ok([true, true, true, true, true])
+    );
+}
+
+// The children of a directory and a thousand more, by their steps.
+fn thousands(alloc: Global, dir: &Dir<u16, u64>) -> Result<Entries<u64>, Memory> {
+    let mut children = Vec::new(alloc);
+    for (step, child) in dir.entries() {
+        children.push((step.copy(alloc)?, *child as u64 + 1000))?;
+    }
+    Ok(children)
+}
+
+// The record that has to be read first on the way to a step.
+fn first_record<C>(alloc: Global, dir: &Dir<C, u64>, step: &Step) -> Result<Option<u64>, Memory> {
+    match missing(alloc, dir, step)? {
+        None => Ok(None),
+        Some(part) => Ok(Some(part.record)),
+    }
+}
+
+// A copy has the shape of what was read, and the same records tell the rest.
+fn copied(alloc: Global) -> Result<[bool; 4], Memory> {
+    let whole: Dir<u16, u64> = build(alloc, entries(alloc, 5, &shuffled(alloc, 200, 5)?)?)?;
+    let mut records = records_of(alloc, &whole)?;
+    let mut dir: Dir<u16, u64> = unread(alloc, 0, 200);
+    let one = step(alloc, 5, 1)?;
+    let read = read_to(alloc, &mut dir, &mut records, &one, false)? == Some(2);
+    let copy: Dir<u64, u64> = copy_with(alloc, &dir, thousands(alloc, &dir)?)?;
+    let child = find(&copy, &one) == Some(&1001) && copy.entries().len() == dir.entries().len();
+    let known = alike(copy.root(), dir.root(), 51)
+        && knows(copy.root(), 0, 51, 0, &one, false)
+        && !knows(copy.root(), 0, 51, 0, &one, true);
+    let mut lacks = false;
+    for n in 0..200u16 {
+        let step = step(alloc, 5, n)?;
+        let record = first_record(alloc, &copy, &step)?;
+        if record != first_record(alloc, &dir, &step)? {
+            return Ok([read, child, known, false]);
+        }
+        lacks = lacks || record != None;
+    }
+    Ok([read, child, known, lacks])
+}
+
+#[test]
+fn a_copy_has_the_shape(rt: HostRuntime) {
+    assert_eq!(rt; copied(rt.alloc()), Ok([true, true, true, true]));
+}
+
+// A leaf as wide as no directory has one, as a record may spell it that others wrote.
+fn wide_leaf(alloc: Global) -> Result<(usize, bool), Memory> {
+    let mut entries: Entries<u16> = Vec::new(alloc);
+    for n in 0..u16::MAX {
+        entries.push((step(alloc, 6, n)?, n))?;
+    }
+    let mut dir: Dir<u16, u64> = unread(alloc, 0, entries.len());
+    read_leaf(alloc, &mut dir, &[], entries)?;
+    Ok((
+        dir.entries().len(),
+        find(&dir, &step(alloc, 6, 7)?) == Some(&7),
+    ))
+}
+
+#[test]
+fn a_wide_leaf_is_entered(rt: HostRuntime) {
+    assert_eq!(rt; wide_leaf(rt.alloc()), Ok((65535, true)));
 }
 
 // A directory that is read part by part, and the child that it should have at the step of each number.

@@ -6,7 +6,7 @@ use Rattle.std.specs.Ordering.{is_eq}
 use Rattle.ip_spec.specs.Path.{Step, bytes_cmp}
 use Rattle.ip_shape.specs.Shape.{AreSteps}
 use Rattle.ip_shape.proofs.Entries.{find_is}
-use Rattle.ip_shape.proofs.Partly.{exchanged_is, steps_exchanged}
+use Rattle.ip_shape.proofs.Partly.{exchanged_is, read_is, steps_exchanged}
 use Rattle.ip_shape.proofs.Steps.{AreSteps-filter}
 use Rattle.ip_shape.proofs.dir.exchange.Goals as goal
 
@@ -31,3 +31,20 @@ returns-in-Some-clause-exchanged g c steps entries is _ =
       is.2,
       steps_exchanged s c.args.child entries ascend found ∙ is.3,
     )
+
+pub returns-in-None-clause-held : goal.returns-in-None-clause-held
+returns-in-None-clause-held g c = c.in-None.ensures.value ∙ find_is c.args.step.now c.args.dir.now.entries.entries
+
+pub returns-in-Some-clause-held : goal.returns-in-Some-clause-held
+returns-in-Some-clause-held g c = ap Some c.replace.ensures.value ∙ c.in-Some.ensures.value ∙ find_is c.args.step.now c.args.dir.now.entries.entries
+
+pub returns-in-None-clause-absent : goal.returns-in-None-clause-absent
+returns-in-None-clause-absent g c steps entries is read =
+    ap is_some (c.in-None.ensures.value ∙ find_is c.args.step.now c.args.dir.now.entries.entries ∙ ap (λ (es : List (Step × g.row.C.Denot)). find bytes_cmp c.args.step.now es) is.0)
+    ∙ read_is c.args.dir.now.root steps entries c.args.step.now is.3 read
+
+pub returns-in-Some-clause-absent : goal.returns-in-Some-clause-absent
+returns-in-Some-clause-absent g c steps entries is read =
+    ap is_some
+    (ap Some c.replace.ensures.value ∙ c.in-Some.ensures.value ∙ find_is c.args.step.now c.args.dir.now.entries.entries ∙ ap (λ (es : List (Step × g.row.C.Denot)). find bytes_cmp c.args.step.now es) is.0)
+    ∙ read_is c.args.dir.now.root steps entries c.args.step.now is.3 read

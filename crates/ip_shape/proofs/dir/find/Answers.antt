@@ -14,3 +14,6 @@ pub returns-clause-absent : goal.returns-clause-absent
 returns-clause-absent g c steps entries is read =
     ap is_some (c.get.ensures.value ∙ find_is c.args.step.now c.args.dir.now.entries.entries ∙ ap (λ (es : List (Step × g.row.C.Denot)). find bytes_cmp c.args.step.now es) is.0)
     ∙ read_is c.args.dir.now.root steps entries c.args.step.now is.3 read
+
+pub returns-clause-held : goal.returns-clause-held
+returns-clause-held g c = c.get.ensures.value ∙ find_is c.args.step.now c.args.dir.now.entries.entries

@@ -10,7 +10,7 @@ use Rattle.ip_shape.proofs.Edits.{child_at}
 use Rattle.ip_shape.proofs.Needs.{first_below}
 use Rattle.ip_shape.proofs.Shapes.{inode_holds}
 use Rattle.ip_shape.proofs.Ways.{found_below, one_more_read, read_inode, unread_leaf}
-use Rattle.ip_shape.proofs.reading.+first_unread.Goals as goal
+use Rattle.ip_shape.proofs.reading.+first_below.Goals as goal
 
 pub returns-in-Some : goal.returns-in-Some
 returns-in-Some g n c steps le is =

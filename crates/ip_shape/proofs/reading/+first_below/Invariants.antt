@@ -5,10 +5,10 @@ use Rattle.ip_spec.specs.Shape.{deepest}
 use Rattle.ip_shape.specs.Loaded.{IsRead}
 use Rattle.ip_shape.specs.Shape.{IsPart}
 use Rattle.ip_shape.specs.declared.part.Part.{Part}
-use Rattle.ip_shape.proofs.reading.+first_unread.Given as goal
+use Rattle.ip_shape.proofs.reading.+first_below.Given as goal
 
-abbrev pub decreases-first_unread : goal.decreases-first_unread
-decreases-first_unread g l = deepest - l.depth
+abbrev pub decreases-first_below : goal.decreases-first_below
+decreases-first_below g l = deepest - l.depth
 
 abbrev pub invariant-loop-index : goal.invariant-loop-index
 invariant-loop-index g l =
