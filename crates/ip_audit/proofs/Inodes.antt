@@ -9,7 +9,8 @@ use Rattle.ip_spec.specs.declared.record.InodeChild.{InodeChild}
 use Rattle.ip_spec.specs.Tree.{Tree}
 use Rattle.ip_spec.specs.Shape.{Entries, place, at_place, children_of, leaf_limit, deepest}
 use Rattle.ip_spec.specs.TreeAt.{ChildrenAt, PartAt, no_children, child_first, leaf_at, inode_at}
-use Rattle.ip_image.specs.Standing.{AreTogether, entries_limit}
+use Rattle.ip_spec.specs.Step.{entries_limit}
+use Rattle.ip_image.specs.Standing.{AreTogether}
 use Rattle.ip_audit.proofs.Basics.{no_true, same_inode, leaf_or_inode}
 use Rattle.ip_audit.specs.Memory.{Part, kept_part, Look, leaf_part, inode_part, kept_by, ChildIs, ChildPasses, InodePasses, ways, common_at, common_of, places}
 use Rattle.ip_audit.proofs.Trees.{In, first_in}

@@ -17,7 +17,8 @@ use Rattle.ip_spec.specs.Tree as Tree
 use Rattle.ip_spec.specs.Tree.{Tree, entries_of, height, is_empty, is_contents}
 use Rattle.ip_spec.specs.Shape.{Entries, is_leaf, child_of, child_by, root_name, leaf_limit, deepest}
 use Rattle.ip_spec.specs.TreeAt.{EntryAt, EntriesAt, PartAt, contents_at, directory_at, no_entries, entry_first, leaf_at, inode_at}
-use Rattle.ip_image.specs.Standing.{AreTogether, IsSomePart, entries_limit}
+use Rattle.ip_spec.specs.Step.{entries_limit}
+use Rattle.ip_image.specs.Standing.{AreTogether, IsSomePart}
 use Rattle.ip_spec.proofs.SameDirectory.{get-below}
 use Rattle.ip_audit.proofs.Basics.{case, no_true, bytes_antisymmetric, same_fields, leaf_or_inode}
 use Rattle.ip_audit.specs.Memory.{Part, Kept, kept_contents, kept_part, Look, leaf_part, inode_part, kept_by, AtDepth, EntryIs, EntryPasses, LeafPasses, common_of, places}

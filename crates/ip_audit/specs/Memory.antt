@@ -20,7 +20,8 @@ use Rattle.ip_spec.specs.Record.{Hash, hashed_commit, hashed_leaf, hashed_inode}
 use Rattle.ip_spec.specs.Shape.{place, leaf_limit, deepest}
 use Rattle.ip_spec.specs.TreeAt.{Records, present}
 use Rattle.ip_image.specs.declared.terms.Terms.{Terms}
-use Rattle.ip_image.specs.Standing.{IsSomePart, entries_limit, IsEarlier, outside, commits_in}
+use Rattle.ip_spec.specs.Step.{entries_limit}
+use Rattle.ip_image.specs.Standing.{IsSomePart, IsEarlier, outside, commits_in}
 
 -- depth: of an inode. common: the first places, in which all steps agree. Of an inode those above its depth, of a leaf all there are, 51 at most
 pub record Part : Type 0 where

@@ -18,6 +18,7 @@ use ip_base::{Hash, Memory};
 use ip_image::terms::Terms;
 use ip_object::name_of_record;
 use ip_shape::places::{DEEPEST, Places};
+use ip_spec::kind::{CONTENTS, DIRECTORY};
 use ip_spec::record::{CommitRecord, InodeChild, LeafEntry, Record};
 use std::alloc::Global;
 use std::collections::BTreeMap;
@@ -175,10 +176,10 @@ impl Audit {
         match self.find(entry.at) {
             None => false,
             Some(Kept::Contents(name)) => {
-                entry.kind == 1 && entry.height == 0 && entry.name == *name
+                entry.kind == CONTENTS && entry.height == 0 && entry.name == *name
             }
             Some(Kept::Part(part)) => {
-                entry.kind == 2
+                entry.kind == DIRECTORY
                     && part.is_whole()
                     && part.count > 0
                     && entry.height == part.height

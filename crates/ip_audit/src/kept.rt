@@ -4,14 +4,14 @@ ghost use Rattle.ip_audit.specs.Memory.{AtDepth, shared};
 ghost use Rattle.ip_audit.specs.View.{part_of, places_in};
 
 use ip_base::Hash;
-use ip_base::limit::{FORMAT_ENTRIES_MAX, LEAF_ENTRIES_MAX};
+use ip_base::limit::{ENTRIES_MAX, LEAF_ENTRIES_MAX};
 use ip_shape::places::{DEEPEST, Places};
 
 /// How many entries a part above the deepest depth may have as a leaf.
 pub const LEAF_ENTRIES: u64 = LEAF_ENTRIES_MAX as u64;
 
 /// How many entries the format allows one directory; the machine's own limit is lower for now.
-pub const DIRECTORY_ENTRIES: u64 = FORMAT_ENTRIES_MAX as u64;
+pub const DIRECTORY_ENTRIES: u64 = ENTRIES_MAX as u64;
 
 /// Of a part of a directory: the depth of an inode, how many entries it has, its height, its name, and the places of
 /// one of its steps, in the first so many of which all its steps agree.
