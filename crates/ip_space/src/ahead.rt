@@ -20,6 +20,7 @@ use ip_base::limit::CONTENTS_MAX;
 use ip_base::{Cursor, Memory};
 use ip_ground::{Ground, GroundFault};
 use ip_object::read_record;
+use ip_spec::kind::{BRANCH_TABLE, CONTENTS};
 use ip_spec::record::{Record, RecordFault};
 use std::alloc::Global;
 
@@ -291,13 +292,13 @@ fn needed(bytes: &[u8]) -> usize
     let [kind, rest @ ..] = bytes else {
         return 0;
     };
-    if *kind == 0 || *kind > 7 {
+    if *kind == 0 || *kind > BRANCH_TABLE {
         return 0;
     }
     let Some(length) = Cursor::new(rest).take_u32() else {
         return 0;
     };
-    if *kind == 1 && length > CONTENTS_MAX as u32 {
+    if *kind == CONTENTS && length > CONTENTS_MAX as u32 {
         return 0;
     }
     5 + length as usize

@@ -3,7 +3,7 @@ ghost use Rattle.std.specs.Prelude.{◌≡◌, ◌≢◌, ℕ, ◌+◌, ◌<◌,
 ghost use Rattle.ip_space.specs.Faults.{ground_fetch, ground_space};
 ghost use Rattle.ip_ground.specs.Counts.{Counts};
 ghost use Rattle.ip_ground.specs.Told.{NoFile, ChangesOnly};
-ghost use Rattle.ip_spec.specs.Record.{Fits, kind_of};
+ghost use Rattle.ip_spec.specs.Record.{Fits};
 ghost use Rattle.ip_image.specs.Slot.{newest_version, IsChunkSize};
 ghost use Rattle.ip_image.specs.Virtual.{run_of, placed, RowsFit, lies_at};
 ghost use Rattle.ip_space.specs.SpaceView.{grown, stretches_of, AreBelow, IsLayout, OnlyReads, IsReadable, records_of, read_at, byte_at};
@@ -24,7 +24,8 @@ use ip_ground::{FileName, Ground};
 use ip_image::layout::Layout;
 use ip_image::run::Run;
 use ip_mapping::Mapping;
-use ip_object::name_of_record;
+use ip_object::{kind_of, name_of_record};
+use ip_spec::kind::{DIRECTORY, INODE};
 use ip_spec::record::{Record, RecordFault, Ref};
 use std::alloc::Global;
 use std::marker::Model;
@@ -262,27 +263,9 @@ fn referred(rec: Record, reference: &Ref) -> Result<Record, FetchFault>
     }
 }
 
-// The number of a record's kind.
-fn kind_of(rec: &Record) -> u8
-    ensures { result ≡ kind_of rec.now }
-{
-    match rec {
-        Record::Contents(_) => 1,
-        Record::Leaf(_) => 2,
-        Record::Inode { .. } => 3,
-        Record::Commit(_) => 4,
-        Record::BranchSet { .. } => 5,
-        Record::BranchRemove { .. } => 6,
-        Record::BranchTable(_) => 7,
-        Record::TagSet { .. } => 8,
-        Record::TagRemove { .. } => 9,
-        Record::TagTable(_) => 10,
-    }
-}
-
 // The number by which a reference tells the kind: an inode is a directory as a leaf is.
 fn reference_kind(kind: u8) -> u8
     ensures { result ≡ (if kind == 3 then 2 else kind) }
 {
-    if kind == 3 { 2 } else { kind }
+    if kind == INODE { DIRECTORY } else { kind }
 }
