@@ -1,64 +1,57 @@
 -- The tree with nothing in it.
 use Rattle.std.proofs.Common.{◌≡◌, ℕ, List, [], ◌∷◌, refl, sym, ap, subst, ◌∙◌, Option, None, map, arith}
-use Rattle.std.specs.Prelude.{Vec, Bool, false, true, ◌≤◌}
+use Rattle.std.specs.Prelude.{Bool, false, true, ◌≤◌}
 use Rattle.std.proofs.lemmas.Bool.{false≢true}
-use Rattle.std.specs.Global.{Global}
-use Rattle.ip_spec.specs.declared.record.Record.{Record}
-use Rattle.ip_spec.specs.Path.{Path}
+use Rattle.ip_spec.specs.Path.{Step, Path}
 use Rattle.ip_spec.specs.Step.{entries_limit}
-use Rattle.ip_spec.specs.Tree.{IsTree, no_tree, widest, tree_runs}
-use Rattle.ip_spec.specs.View.{Part, no_view}
-use Rattle.ip_tree.specs.Node as view
-use Rattle.ip_tree.specs.Known as parts
-use Rattle.ip_tree.specs.Meaning.{RootIs}
-use Rattle.ip_tree.specs.Shown.{shown_entry}
-use Rattle.ip_tree.specs.Leaves.{HasLeavesOnly}
-use Rattle.ip_tree.specs.TreeView.{IsView, shown_root}
-use Rattle.ip_tree.specs.declared.node.Entry.{Entry}
-use Rattle.ip_tree.specs.declared.node.Node.TheViews.{roll-Directory}
+use Rattle.ip_spec.specs.Tree.{IsTree, entries_of, no_tree, widest, tree_runs}
+use Rattle.ip_spec.specs.View.{no_view}
+use Rattle.ip_spec.specs.declared.record.Record.{Record}
+use Rattle.ip_shape.specs.Directory.{IsDir, root_of}
+use Rattle.ip_shape.specs.Loaded.{IsFresh, unread_in, way_to}
+use Rattle.ip_shape.specs.declared.dir.Dir.{Dir}
+use Rattle.ip_tree.specs.Known.{below_entry, known_at, known_by, unread_entry}
+use Rattle.ip_tree.specs.Meaning.{DirectoryIs, NodesAre}
+use Rattle.ip_tree.specs.Node.{directory, nodes_of, none}
+use Rattle.ip_tree.specs.Shown.{entries_shown}
+use Rattle.ip_tree.specs.TreeView.{IsView}
+use Rattle.ip_tree.specs.declared.node.Node.{Node}
+use Rattle.ip_tree.specs.declared.node.Stored.{Stored}
 use Rattle.ip_tree.specs.declared.tree.Root.TheVariants.{Loaded}
-use Rattle.ip_tree.proofs.Trees.{nothing_directory, entries_of_nothing}
-use Rattle.ip_tree.proofs.Places.{directory_shown, made_shown}
+use Rattle.ip_tree.proofs.Indexes.{no_some}
+use Rattle.ip_tree.proofs.PartlyShown.{has_steps, show}
+use Rattle.ip_tree.proofs.Trees.{entries_of_nothing, nothing_directory}
 
 pub no_paths : IsTree no_tree
 unfolding tree_runs
-no_paths = record { prefix_free = λ p q a b c. absurd (none a); paths = λ p a. absurd (none a) }
+no_paths = record { prefix_free = λ p q a b c. absurd (none_there a); paths = λ p a. absurd (none_there a) }
   where
-    none : ◌≡◌ {A = Bool} false true → ⊥
-    none e = false≢true e
+    none_there : ◌≡◌ {A = Bool} false true → ⊥
+    none_there e = false≢true e
 
 pub no_width : widest no_tree ≤ entries_limit
 unfolding tree_runs
 no_width = omega arith
 
-as_root : view.Node → view.Root
-as_root (view.directory k ns) = view.loaded k ns
-as_root n = view.loaded None view.none
+module _ (records : ℕ → Option Record) (d : Dir Node Stored) (is : IsDir d []) (fresh : IsFresh (root_of d)) where
+  pub empty_means : DirectoryIs records (root_of d) (nodes_of (entries_shown d)) no_tree
+  empty_means = record {
+    directory = nothing_directory;
+    steps = has_steps d [] [] (entries_of no_tree).entries is.0 (ap (λ (l : List (Step × _)). map (λ e. e.0) l) (sym entries_of_nothing));
+    parts = record { known = λ q x e. no_some x (sym (fresh q).1 ∙ e); unread = λ q x e. no_some _ (sym (fresh q).0 ∙ e) };
+    nodes = subst (λ (l : List (Step × Node)). NodesAre records (nodes_of (map show l)) (entries_of no_tree).entries) (sym is.0.0) tt;
+  }
 
-root_is : (entries : Vec Entry Global) → entries.items ≡ [] → shown_root (Loaded (roll-Directory record { known = None; entries = entries })) ≡ view.loaded None view.none
-unfolding as_root
-root_is entries none =
-    ap as_root (sym (directory_shown (roll-Directory record { known = None; entries = entries })) ∙ made_shown None entries) ∙ ap (λ (es : List Entry). view.loaded None (view.nodes_of (map shown_entry es))) none
+  nothing_known : (path : Path) (indexes : List ℕ) → None ≡ known_at records (directory (root_of d) none) path indexes
+  nothing_known [] indexes = sym (ap (λ k. known_by records k (unread_in indexes (root_of d))) (fresh indexes).1 ∙ ap (known_by records None) (fresh indexes).0)
+  nothing_known (s ∷ path) indexes = sym (ap (λ u. below_entry records path indexes (unread_entry records s u)) (fresh (way_to s)).0)
 
-no_root : (records : ℕ → Option Record) → RootIs records (view.loaded None view.none) no_tree
-no_root records = record { directory = nothing_directory; spelled = tt; nodes = entries_of_nothing }
-
-no_parts : (records : ℕ → Option Record) (part : Part) → None ≡ parts.known_of records (view.loaded None view.none) part
-no_parts records part = by part.path
-  where
-    by : (p : Path) → None ≡ parts.known_in records (view.directory None view.none) p part.indexes
-    by [] = refl
-    by (s ∷ p) = refl
-
-pub empty_is : (records : ℕ → Option Record) (entries : Vec Entry Global) → HasLeavesOnly records → entries.items ≡ [] → IsView records (record { root = Loaded (roll-Directory record { known = None; entries = entries }); oldest = None }) no_view
-unfolding no_view
-empty_is records entries leaves none =
-    let root = root_is entries none in
-    record {
-      root = subst (λ (r : view.Root). RootIs records r no_tree) (sym root) (no_root records);
-      lawful = no_paths;
-      narrow = no_width;
-      leaves = leaves;
-      oldest = refl;
-      known = λ part. no_parts records part ∙ ap (λ (r : view.Root). parts.known_of records r part) (sym root);
-    }
+  pub empty_view : IsView records (record { root = Loaded d; oldest = None }) no_view
+  unfolding no_view
+  empty_view = record {
+    root = empty_means;
+    lawful = no_paths;
+    narrow = no_width;
+    oldest = refl;
+    known = λ part. nothing_known part.path part.indexes ∙ sym (ap (λ (l : List (Step × Node)). known_at records (directory (root_of d) (nodes_of (map show l))) part.path part.indexes) is.0.0);
+  }

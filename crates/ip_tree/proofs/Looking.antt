@@ -1,68 +1,55 @@
--- What is answered below nodes that were loaded.
-use Rattle.std.proofs.Common.{◌≡◌, ℕ, ◌≤◌, ◌^◌, ◌<◌, drop, [], ◌∷◌, length, sym, ap, subst, ◌∙◌, Option, None, arith}
-use Rattle.std.proofs.lemmas.List.{length-map}
-use Rattle.std.specs.Prelude.{Err}
-use Rattle.std.specs.FinMap.Entries.{find}
-use Rattle.ip_spec.specs.Map.{len}
-use Rattle.ip_spec.specs.Path.{Bytes, Step, Path, bytes_cmp}
+-- Calls that only read records, one behind another, and what their faults say.
+--     looks_nothing, looks_on      no call, and two
+--     cause_on      what a fault says of records later on it says of those before
+--     causes_on      the same of an answer
+--     still_over      later, the space is still over the same records
+use Rattle.std.proofs.Common.{◌≡◌, ℕ, refl, sym, ◌∙◌, Bool, Option}
+use Rattle.std.specs.Prelude.{Result, Ok, Err, IfErr, IsTrue}
+use Rattle.ip_ground.specs.Told.{Told}
 use Rattle.ip_spec.specs.declared.record.Record.{Record}
-use Rattle.ip_spec.specs.declared.tree.Got.TheVariants.{Value, Dir, Absent}
-use Rattle.ip_spec.specs.Step.{entries_limit}
-use Rattle.ip_spec.specs.Tree as Tree
-use Rattle.ip_spec.specs.Tree.{Tree, got_at}
-use Rattle.ip_tree.specs.Node as view
-use Rattle.ip_tree.specs.Place.{place_of}
-use Rattle.ip_tree.specs.Shown.{shown, shown_directory, shown_entry, entries_of, keys_of}
-use Rattle.ip_tree.specs.Meaning.{NodeIs, StoredIs}
-use Rattle.ip_tree.specs.Edits.{IsDirectory}
-use Rattle.ip_tree.specs.Reads.{Reaches}
-use Rattle.ip_tree.specs.declared.node.Node.{Node}
-use Rattle.ip_tree.specs.declared.node.Entry.{Entry}
-use Rattle.ip_tree.specs.declared.node.Stored.{Stored}
-use Rattle.ip_tree.specs.declared.node.Directory.{Directory, out-Directory}
-use Rattle.ip_tree.specs.declared.node.Node.TheVariants as variants
-use Rattle.ip_tree.proofs.Trees.{got_none, got_contents, got_below_contents, got_directory}
-use Rattle.ip_tree.proofs.Reached.{reaches}
-use Rattle.ip_tree.proofs.Places.{stored_shown, contents_shown, inner_shown, directory_shown}
-use Rattle.ip_tree.proofs.Putting.{none_here}
-use Rattle.ip_tree.proofs.NodeLists.{keys_same, same_count}
-use Rattle.ip_tree.proofs.PutShown.{at}
+use Rattle.ip_spec.specs.declared.record.Ref.{Ref}
+use Rattle.ip_space.specs.SpaceView.{SpaceView}
+use Rattle.ip_space.specs.Fetching.{Fetches}
+use Rattle.ip_space.specs.declared.fault.FetchFault.{FetchFault}
+use Rattle.ip_space.specs.declared.fault.FetchFault.TheVariants.{Ground, Form, Name, Memory}
+use Rattle.ip_space.proofs.Passing.{reads_nothing, reads_on}
+use Rattle.ip_tree.specs.Reads.{Looks, IsCause, IsDamage, IsOver}
+use Rattle.ip_tree.specs.declared.tree.TreeFault.{TreeFault}
+use Rattle.ip_tree.specs.declared.tree.TreeFault.TheVariants as fault
 
-module _ (records : ℕ → Option Record) where
-  pub stored_is : (node : Node) (x : Stored) (t : Tree) → node ≡ variants.Stored x → NodeIs records (shown node) t → StoredIs records x.reference x.height t
-  stored_is node x t same is = subst (λ (n : view.Node). NodeIs records n t) (ap shown same ∙ stored_shown x) is
+pub looks_nothing : (tells : Bool) (told : Told) (space : SpaceView) → Looks tells told told space space
+looks_nothing tells told space = record { reads = λ t. reads_nothing told space; layout = refl; runs = refl }
 
-  pub stored_reaches : (node : Node) (x : Stored) (t : Tree) → node ≡ variants.Stored x → NodeIs records (shown node) t → Reaches records x.reference t
-  stored_reaches node x t same is = reaches records x.reference x.height t (stored_is node x t same is)
+pub looks_on : (tells : Bool) (old mid new : Told) (space then now : SpaceView) → Looks tells old mid space then → Looks tells mid new then now → Looks tells old new space now
+looks_on tells old mid new space then now one two = record {
+  reads = λ t. reads_on old mid new space then now (one.reads t) (two.reads t);
+  layout = two.layout ∙ one.layout;
+  runs = two.runs ∙ one.runs;
+}
 
-  pub bytes_of : (node : Node) (b : Bytes) (t : Tree) → node ≡ variants.Contents b → NodeIs records (shown node) t → t ≡ Tree.contents b
-  bytes_of node b t same is = subst (λ (n : view.Node). NodeIs records n t) (ap shown same ∙ contents_shown b) is
+module _ (old new : ℕ → Option Record) (same : (at : ℕ) → new at ≡ old at) where
+  fetches_on : (r : Ref) (f : FetchFault) → Fetches new r (Err f) → Fetches old r (Err f)
+  fetches_on r Ground is = tt
+  fetches_on r Memory is = tt
+  fetches_on r (Form at why) is = record { place = is.place; none = λ found here kind. is.none found (same r.at ∙ here) kind }
+  fetches_on r (Name at want got) is =
+      record { place = is.place; wanted = is.wanted; other = is.other; found = is.found; here = sym (same r.at) ∙ is.here; kind = is.kind; name = is.name }
 
-  pub value_here : (node : Node) (b : Bytes) (t : Tree) (p : Path) → node ≡ variants.Contents b → NodeIs records (shown node) t → p ≡ [] → Value b ≡ got_at t p
-  value_here node b t p same is nil = sym (ap (got_at t) nil ∙ ap (λ (x : Tree). got_at x []) (bytes_of node b t same is) ∙ got_contents b)
+  damage_on : (f : TreeFault) → IsDamage new f → IsDamage old f
+  damage_on (fault.Limit l) is = tt
+  damage_on fault.Memory is = tt
+  damage_on (fault.Fetch f) is = (is.0, is.1, fetches_on is.0 f is.2)
 
-  pub nothing_below : (node : Node) (b : Bytes) (t : Tree) (p : Path) (s : Step) (q : Path) → node ≡ variants.Contents b → NodeIs records (shown node) t → p ≡ s ∷ q → Absent ≡ got_at t p
-  nothing_below node b t p s q same is split = sym (ap (got_at t) split ∙ ap (λ (x : Tree). got_at x (s ∷ q)) (bytes_of node b t same is) ∙ got_below_contents b s q)
+pub cause_on : (tells : Bool) (old new : Told) (space now : SpaceView) → Looks tells old new space now → (f : TreeFault) → IsCause tells new now f → IsCause tells old space f
+cause_on tells old new space now looks f is = record {
+  blamed = is.blamed;
+  damage = λ t readable. let reads = looks.reads t in damage_on _ _ (reads.records readable) f (is.damage t (reads.readable readable));
+}
 
-  pub inner_is : (node : Node) (d : Directory) (t : Tree) → node ≡ variants.Directory d → NodeIs records (shown node) t → IsDirectory records (shown_directory d) t
-  inner_is node d t same is =
-      let n : NodeIs records (view.directory _ _) t = subst (λ (n : view.Node). NodeIs records n t) (ap shown same ∙ inner_shown d ∙ directory_shown d) is in
-      subst (λ (x : view.Node). IsDirectory records x t) (sym (directory_shown d)) (record { directory = n.0.directory; spelled = n.1; nodes = n.2 })
+pub causes_on : {A : Type 0} (tells : Bool) (old new : Told) (space now : SpaceView) → Looks tells old new space now → (r : Result A TreeFault) → IfErr r (IsCause tells new now) → IfErr r (IsCause tells old space)
+causes_on tells old new space now looks (Ok x) is = tt
+causes_on tells old new space now looks (Err f) is = cause_on tells old new space now looks f is
 
-  module _ (d : Directory) (t : Tree) (is : IsDirectory records (shown_directory d) t) where
-    -- it has as many entries as its tree
-    pub count_is : length (out-Directory d).entries.items ≡ len (Tree.entries_of t)
-    count_is = let a = at records d t is in sym (length-map {A = Entry} {B = view.Entry} (out-Directory d).entries.items shown_entry) ∙ same_count records (entries_of d) _ (a []).nodes
-
-    pub whole_here : (n m : ℕ) (p : Path) → n ≡ length (out-Directory d).entries.items → (n < 2 ^ 32 → m ≡ n) → len (Tree.entries_of t) ≤ entries_limit → p ≡ [] → Dir m ≡ got_at t p
-    whole_here n m p count told narrow nil =
-        let whole : n ≡ len (Tree.entries_of t) = count ∙ count_is in
-        let small : n < 2 ^ 32 = omega arith in
-        ap Dir (told small ∙ whole) ∙ sym (ap (got_at t) nil ∙ got_directory t (at records d t is []).directory)
-
-    -- no entry has the step
-    pub lost_here : (s : Step) (i : ℕ) → place_of s (keys_of (out-Directory d).entries.items) ≡ Err i → find bytes_cmp s (Tree.entries_of t).entries ≡ None
-    lost_here s i place = let a = at records d t is s in none_here s (Tree.entries_of t).entries i (ap (place_of s) (sym (keys_same records (entries_of d) _ a.nodes)) ∙ place) (Tree.entries_of t).sorted
-
-    pub absent_here : (s : Step) (i : ℕ) (q : Path) → q ≡ s ∷ drop 1 q → place_of s (keys_of (out-Directory d).entries.items) ≡ Err i → Absent ≡ got_at t q
-    absent_here s i q split place = sym (ap (got_at t) split ∙ got_none t s (drop 1 q) (lost_here s i place))
+pub still_over : (tells : Bool) (old new : Told) (space now : SpaceView) (records : ℕ → Option Record) → Looks tells old new space now → IsTrue tells → IsOver old space records → IsOver new now records
+still_over tells old new space now records looks told over =
+    let reads = looks.reads told in record { readable = reads.readable over.readable; held = λ at r is. reads.records over.readable at ∙ over.held at r is }

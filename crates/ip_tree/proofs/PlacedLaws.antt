@@ -1,4 +1,6 @@
 -- A lawful tree in which another was placed is lawful.
+--     lawful_place      where the other one is, and its paths behind the path are paths
+--     lawful_graft      where the steps of both are few enough
 use Rattle.std.proofs.Common.{◌≡◌, ◌+◌, ◌≤◌, [], ◌∷◌, ◌++◌, refl, sym, ap, subst, ◌∙◌, Option, Some, None, Bool, true, false, cond, length, arith}
 use Rattle.std.proofs.lemmas.Bool.{false≢true}
 use Rattle.std.proofs.lemmas.List.{length-append}
@@ -10,8 +12,8 @@ use Rattle.ip_spec.specs.Path.{Bytes, Step, Path, same_bytes, is_prefix, is_rela
 use Rattle.ip_spec.specs.Tree.{Tree, IsTree, IsPrefixFree, subtree, place, graft, height}
 use Rattle.ip_spec.proofs.Subtrees.{get-subtree, same_step}
 use Rattle.ip_tree.specs.Placing.{behind_or}
-use Rattle.ip_tree.proofs.Heights.{path_height}
-use Rattle.ip_tree.proofs.PlacedTrees.{IsSplit, split, itself, related_cons, get-placed}
+use Rattle.ip_tree.proofs.TreeHeights.{path_height}
+use Rattle.ip_tree.proofs.PlacedTrees.{IsSplit, split, itself, related_cons, get-placed, stays}
 
 -- ---- paths
 
@@ -55,7 +57,7 @@ stands t path sub p some = by (after_prefix path p) (split path p) (sym (ap is_s
     other true e h = absurd (false≢true h)
     other false e h = beside p e h
 
-    by : (o : Option Path) → IsSplit path p o → is_some (behind_or (get sub) (is_related path p) (get t p) o) ≡ true → Stands t path sub p
+    by : (o : Option Path) → IsSplit path p o → is_some (behind_or (get sub) o (stays t path p)) ≡ true → Stands t path sub p
     by (Some rest) is h = subst (Stands t path sub) (sym is) (placed rest h)
     by None apart h = other (is_related path p) refl h
 

@@ -1,4 +1,8 @@
 -- What placing a tree in another does to what stands at paths, and to the entries of a directory.
+--     split      a path is another and what is left behind it, or does not begin with it
+--     get-placed, subtree_place_same, subtree_place_apart      what stands where
+--     entries_of-place      the entries of the directory that the path begins in
+--     something      something stands in what is not empty
 use Rattle.std.proofs.Common.{◌≡◌, List, [], ◌∷◌, ◌++◌, refl, sym, ap, ◌∙◌, Option, Some, None, Bool, true, false, cond}
 use Rattle.std.proofs.lemmas.Bool.{false≢true}
 use Rattle.std.specs.Prelude.{not, ◌||◌, ◌&&◌, is_some, IsFalse}
@@ -11,7 +15,7 @@ use Rattle.ip_spec.specs.Path.{Bytes, Step, Path, bytes_cmp, path_cmp, same_byte
 use Rattle.ip_spec.specs.Tree.{Tree, no_tree, contents, subtree, place, entries_of, is_contents, is_empty}
 use Rattle.ip_tree.specs.Placing.{behind_or}
 use Rattle.ip_spec.proofs.GraftLaws.{get-place, get-beside}
-use Rattle.ip_spec.proofs.Subtrees.{step_itself, path_itself, same_step, step_antisymmetric, same_bytes_turned, get-subtree, get-entries_of, get-contents, get-no_tree, same_tree, some_not_empty, subtree_cons, empty_is, entry_found, entry_lost}
+use Rattle.ip_spec.proofs.Subtrees.{step_itself, path_itself, same_step, step_antisymmetric, same_bytes_turned, get-subtree, get-entries_of, get-contents, get-no_tree, same_tree, some_not_empty, subtree_cons}
 
 -- ---- paths
 
@@ -50,14 +54,18 @@ after_apart s r p q e = ap (λ b. cond b (after_prefix p q) None) (same_bytes_tu
 
 -- ---- what stands where
 
-pub get-placed : (t : Tree) (path : Path) (sub : Tree) (q : Path) → get (place t path sub) q ≡ behind_or (get sub) (is_related path q) (get t q) (after_prefix path q)
+-- where it does not lie behind the path, what is related to the path goes
+abbrev pub stays : Tree → Path → Path → Option Bytes
+stays t path q = cond (is_related path q) None (get t q)
+
+pub get-placed : (t : Tree) (path : Path) (sub : Tree) (q : Path) → get (place t path sub) q ≡ behind_or (get sub) (after_prefix path q) (stays t path q)
 get-placed t path sub q = by (after_prefix path q) (split path q)
   where
     turned : (b : Bool) (o : Option Bytes) → cond (not b) o None ≡ cond b None o
     turned true o = refl
     turned false o = refl
 
-    by : (o : Option Path) → IsSplit path q o → get (place t path sub) q ≡ behind_or (get sub) (is_related path q) (get t q) o
+    by : (o : Option Path) → IsSplit path q o → get (place t path sub) q ≡ behind_or (get sub) o (stays t path q)
     by (Some rest) is = ap (get (place t path sub)) is ∙ get-place t path sub rest
     by None apart = get-beside t path sub q apart ∙ turned (is_related path q) (get t q)
 
@@ -68,16 +76,16 @@ place_root t sub = same_tree _ _ (λ q. get-place t [] sub q)
 pub subtree_place : (t : Tree) (s : Step) (p : Path) (sub : Tree) → subtree (place t (s ∷ p) sub) (s ∷ []) ≡ place (subtree t (s ∷ [])) p sub
 subtree_place t s p sub = same_tree _ _ (λ q.
     get-subtree (place t (s ∷ p) sub) (s ∷ []) q ∙ get-placed t (s ∷ p) sub (s ∷ q)
-    ∙ ap (behind_or (get sub) (is_related (s ∷ p) (s ∷ q)) (get t (s ∷ q))) (after_cons s p q)
-    ∙ ap (λ b. behind_or (get sub) b (get t (s ∷ q)) (after_prefix p q)) (related_cons s p q)
-    ∙ ap (λ o. behind_or (get sub) (is_related p q) o (after_prefix p q)) (sym (get-subtree t (s ∷ []) q))
+    ∙ ap (λ o. behind_or (get sub) o (stays t (s ∷ p) (s ∷ q))) (after_cons s p q)
+    ∙ ap (λ b. behind_or (get sub) (after_prefix p q) (cond b None (get t (s ∷ q)))) (related_cons s p q)
+    ∙ ap (λ o. behind_or (get sub) (after_prefix p q) (cond (is_related p q) None o)) (sym (get-subtree t (s ∷ []) q))
     ∙ sym (get-placed (subtree t (s ∷ [])) p sub q))
 
 -- at another step
 subtree_apart : (t : Tree) (s r : Step) (p : Path) (sub : Tree) → same_bytes r s ≡ false → subtree (place t (s ∷ p) sub) (r ∷ []) ≡ subtree t (r ∷ [])
 subtree_apart t s r p sub e = same_tree _ _ (λ q.
     get-subtree (place t (s ∷ p) sub) (r ∷ []) q ∙ get-placed t (s ∷ p) sub (r ∷ q)
-    ∙ ap (behind_or (get sub) (is_related (s ∷ p) (r ∷ q)) (get t (r ∷ q))) (after_apart s r p q e)
+    ∙ ap (λ o. behind_or (get sub) o (stays t (s ∷ p) (r ∷ q))) (after_apart s r p q e)
     ∙ ap (λ b. cond b None (get t (r ∷ q))) (unrelated s r p q e)
     ∙ sym (get-subtree t (r ∷ []) q))
 
@@ -98,9 +106,6 @@ something t some = by t.entries refl some
 pub place_not_empty : (t : Tree) (p : Path) (sub : Tree) → is_empty sub ≡ false → IsFalse (is_empty (place t p sub))
 place_not_empty t p sub some = let s = something sub some in some_not_empty (place t p sub) (p ++ s.path) s.bytes (get-place t p sub s.path ∙ s.here)
 
-always : (s : Step) (p : Path) → is_related (s ∷ p) [] ≡ true
-always s p = refl
-
 pub place_directory : (t : Tree) (s : Step) (p : Path) (sub : Tree) → IsFalse (is_contents (place t (s ∷ p) sub))
 place_directory t s p sub = ap is_some (get-placed t (s ∷ p) sub [])
 
@@ -108,9 +113,9 @@ place_directory t s p sub = ap is_some (get-placed t (s ∷ p) sub [])
 pub place_over_contents : (c : Bytes) (s : Step) (p : Path) (sub : Tree) → place (contents c) (s ∷ p) sub ≡ place no_tree (s ∷ p) sub
 place_over_contents c s p sub = same_tree _ _ (λ q. get-placed (contents c) (s ∷ p) sub q ∙ same q ∙ sym (get-placed no_tree (s ∷ p) sub q))
   where
-    same : (q : Path) → behind_or (get sub) (is_related (s ∷ p) q) (get (contents c) q) (after_prefix (s ∷ p) q) ≡ behind_or (get sub) (is_related (s ∷ p) q) (get no_tree q) (after_prefix (s ∷ p) q)
+    same : (q : Path) → behind_or (get sub) (after_prefix (s ∷ p) q) (stays (contents c) (s ∷ p) q) ≡ behind_or (get sub) (after_prefix (s ∷ p) q) (stays no_tree (s ∷ p) q)
     same [] = refl
-    same (r ∷ q) = ap (λ o. behind_or (get sub) (is_related (s ∷ p) (r ∷ q)) o (after_prefix (s ∷ p) (r ∷ q))) (get-contents c (r ∷ q) ∙ sym (get-no_tree (r ∷ q)))
+    same (r ∷ q) = ap (λ o. behind_or (get sub) (after_prefix (s ∷ p) (r ∷ q)) (cond (is_related (s ∷ p) (r ∷ q)) None o)) (get-contents c (r ∷ q) ∙ sym (get-no_tree (r ∷ q)))
 
 -- ---- the entries
 
@@ -142,27 +147,3 @@ subtree_place_apart t s r p q sub e = subtree_cons (place t (s ∷ p) sub) r q �
 pub subtree_placed : (t : Tree) (path rest : Path) (sub : Tree) → subtree (place t path sub) (path ++ rest) ≡ subtree sub rest
 subtree_placed t [] rest sub = ap (λ (x : Tree). subtree x rest) (place_root t sub)
 subtree_placed t (s ∷ path) rest sub = subtree_place_same t s path (path ++ rest) sub ∙ subtree_placed (subtree t (s ∷ [])) path rest sub
-
--- what the path does not touch stays
-pub subtree_unplaced : (t : Tree) (p q : Path) (sub : Tree) → is_related p q ≡ false → subtree (place t p sub) q ≡ subtree t q
-subtree_unplaced t [] q sub e = absurd (false≢true (sym e))
-subtree_unplaced t (s ∷ p) [] sub e = absurd (false≢true (sym e))
-subtree_unplaced t (s ∷ p) (r ∷ q) sub e =
-    elim (same_bytes r s) as (λ x. same_bytes r s ≡ x → subtree (place t (s ∷ p) sub) (r ∷ q) ≡ subtree t (r ∷ q)) [
-      | true ↦ λ x.
-          let same : r ≡ s = same_step r s x in
-          let inner : is_related p q ≡ false = sym (related_cons s p q) ∙ ap (λ (k : Step). is_related (s ∷ p) (k ∷ q)) (sym same) ∙ e in
-          ap (λ (k : Step). subtree (place t (s ∷ p) sub) (k ∷ q)) same ∙ subtree_place_same t s p q sub ∙ subtree_unplaced (subtree t (s ∷ [])) p q sub inner
-          ∙ sym (subtree_cons t s q) ∙ ap (λ (k : Step). subtree t (k ∷ q)) (sym same)
-      | false ↦ λ x. subtree_place_apart t s r p q sub x
-    ] refl
-
--- ---- by what stands at the first step
-
-pub place_some : (t : Tree) (s : Step) (p : Path) (sub inner : Tree) → is_empty sub ≡ false → find bytes_cmp s (entries_of t).entries ≡ Some inner
-    → (entries_of (place t (s ∷ p) sub)).entries ≡ E.put bytes_cmp s (place inner p sub) (entries_of t).entries
-place_some t s p sub inner some found = entries_of-place t s p sub some ∙ ap (λ (x : Tree). E.put bytes_cmp s (place x p sub) (entries_of t).entries) (sym (entry_found t s inner found).is)
-
-pub place_none : (t : Tree) (s : Step) (p : Path) (sub : Tree) → is_empty sub ≡ false → find bytes_cmp s (entries_of t).entries ≡ None
-    → (entries_of (place t (s ∷ p) sub)).entries ≡ E.put bytes_cmp s (place no_tree p sub) (entries_of t).entries
-place_none t s p sub some lost = entries_of-place t s p sub some ∙ ap (λ (x : Tree). E.put bytes_cmp s (place x p sub) (entries_of t).entries) (empty_is (subtree t (s ∷ [])) (entry_lost t s lost))

@@ -1,20 +1,32 @@
 -- How many entries directories have after another tree was placed.
-use Rattle.std.proofs.Common.{◌≡◌, ℕ, ◌+◌, ◌<◌, ◌≤◌, [], ◌∷◌, sym, ap, subst, ◌∙◌, length, arith, Option, Some, None, refl, true, false, cond}
+--     bytes_narrow      contents have none
+--     placed_narrow, placed_wide      by whether there was room for a new entry
+use Rattle.std.proofs.Common.{◌≡◌, ℕ, ◌+◌, ◌<◌, ◌≤◌, [], ◌∷◌, ◌++◌, sym, ap, subst, ◌∙◌, length, arith, Option, Some, None, refl, true, false, cond}
 use Rattle.std.proofs.lemmas.Bool.{false≢true, leb-true, leb-false}
 use Rattle.std.specs.Prelude.{is_some}
 use Rattle.std.specs.Cmp.Lexicographic.{nat_list_cmp_total}
 use Rattle.std.specs.FinMap.Entries as E
 use Rattle.std.specs.FinMap.Entries.{find}
 use Rattle.ip_spec.specs.Map.{len}
-use Rattle.ip_spec.specs.Path.{Step, Path, bytes_cmp, same_bytes}
+use Rattle.ip_spec.specs.Path.{Bytes, Step, Path, bytes_cmp, same_bytes}
 use Rattle.ip_spec.specs.Step.{entries_limit}
-use Rattle.ip_spec.specs.Tree.{Tree, no_tree, subtree, entries_of, place, is_empty}
-use Rattle.ip_spec.proofs.Subtrees.{subtree_root, same_step, entry_found, entry_lost, empty_is}
+use Rattle.ip_spec.specs.Tree.{Tree, no_tree, contents, subtree, entries_of, place, is_empty}
+use Rattle.ip_spec.proofs.Subtrees.{get-subtree, get-contents, get-no_tree, same_tree, narrow_under, subtree_root, same_step, entry_found, entry_lost, empty_is}
 use Rattle.ip_tree.specs.Edits.{is_full, full_by}
 use Rattle.ip_tree.specs.Narrow.{IsNarrow, IsWide}
+use Rattle.ip_spec.proofs.Widths.{root_none_wider}
 use Rattle.ip_tree.proofs.PlacedTrees.{place_root, entries_of-place, subtree_place_same, subtree_place_apart}
-use Rattle.ip_tree.proofs.Trees.{entries_of_nothing}
-use Rattle.ip_tree.proofs.Widths.{under_narrow, here_narrow}
+use Rattle.ip_tree.proofs.Trees.{entries_of_contents, entries_of_nothing}
+
+pub below_bytes : (b : Bytes) (s : Step) (q : Path) → subtree (contents b) (s ∷ q) ≡ no_tree
+below_bytes b s q = same_tree _ _ (λ r. get-subtree (contents b) (s ∷ q) r ∙ get-contents b (s ∷ q ++ r) ∙ sym (get-no_tree r))
+
+pub bytes_narrow : (b : Bytes) → IsNarrow (contents b)
+bytes_narrow b [] = let none : len (entries_of (subtree (contents b) [])) ≡ 0 = ap (λ (x : Tree). len (entries_of x)) (subtree_root (contents b)) ∙ ap length (entries_of_contents b) in omega arith
+bytes_narrow b (s ∷ q) = let none : len (entries_of (subtree (contents b) (s ∷ q))) ≡ 0 = ap (λ (x : Tree). len (entries_of x)) (below_bytes b s q) ∙ ap length entries_of_nothing in omega arith
+
+under_narrow : (t : Tree) (s : Step) → IsNarrow t → IsNarrow (subtree t (s ∷ []))
+under_narrow t s narrow q = subst (λ (x : Tree). len (entries_of x) ≤ entries_limit) (sym (narrow_under t s q)) (narrow (s ∷ q))
 
 room_in_nothing : (p : Path) → is_full p no_tree ≡ false
 room_in_nothing [] = refl
@@ -40,7 +52,7 @@ module _ (sub : Tree) (some : is_empty sub ≡ false) where
   root_narrow t s p narrow room = subst (λ (n : ℕ). n ≤ entries_limit) (sym (new_width t s p)) (by (find bytes_cmp s (entries_of t).entries) room)
     where
       by : (o : Option Tree) → full_by (is_full p) (entries_of t).entries o ≡ false → cond (is_some o) (len (entries_of t)) (len (entries_of t) + 1) ≤ entries_limit
-      by (Some inner) room = here_narrow t narrow
+      by (Some inner) room = root_none_wider entries_limit t narrow
       by None room = let lt = leb-false _ _ room in omega arith
 
   pub placed_narrow : (t : Tree) (path : Path) → IsNarrow sub → IsNarrow t → is_full path t ≡ false → IsNarrow (place t path sub)

@@ -1,47 +1,46 @@
 -- Setting contents in a tree, by its view: they are placed there as a node of which no part is known.
-use Rattle.std.proofs.Common.{◌≡◌, ℕ, ◌≤◌, ◌<◌, [], ◌++◌, length, refl, sym, ap, subst, ◌∙◌, Option, Some, None, false, cond}
-use Rattle.std.specs.Prelude.{Result, Ok, Err, ◌||◌, IsTrue, IsFalse}
+use Rattle.std.proofs.Common.{◌≡◌, ℕ, ◌≤◌, ◌<◌, length, refl, sym, ap, subst, ◌∙◌, Option, Some, None}
+use Rattle.std.specs.Prelude.{Result, Ok, Err, ◌&&◌, ◌||◌, not, IsTrue, IsFalse, if◌then◌else◌}
 use Rattle.ip_base.specs.declared.limit.Limit.TheVariants as limits
 use Rattle.ip_space.specs.declared.fault.FetchFault.TheVariants as fetch
-use Rattle.ip_spec.specs.Path.{Bytes, Path, IsPath, is_prefix, is_related, after_prefix}
+use Rattle.ip_spec.specs.Path.{Bytes, Path, IsPath, is_prefix, after_prefix}
 use Rattle.ip_spec.specs.Step.{contents_limit, entries_limit}
-use Rattle.ip_spec.specs.Tree.{contents, put, widest, is_empty}
-use Rattle.ip_spec.specs.View.{View, put_view}
+use Rattle.ip_spec.specs.Tree.{Tree, contents, put, place, widest}
+use Rattle.ip_spec.specs.View.{View, Part, holds_behind, is_part, put_view}
 use Rattle.ip_spec.specs.declared.record.Record.{Record}
-use Rattle.ip_spec.proofs.Subtrees.{lawful_put, prefix_of_append, some_not_empty, subtree_unrelated}
-use Rattle.ip_tree.specs.Edits.{PlaceFaultBy, knows, is_full}
+use Rattle.ip_spec.proofs.Subtrees.{lawful_put, prefix_of_append}
+use Rattle.ip_tree.specs.Edits.{PlaceFaultBy, is_full, known_after}
 use Rattle.ip_tree.specs.Node as view
-use Rattle.ip_tree.specs.Placing.{behind_or, IsPlacedIn, PlacesTree}
-use Rattle.ip_tree.specs.TreeView.{IsView, IsSet, IsSetFault, Sets, shown_root}
+use Rattle.ip_tree.specs.Placing.{IsPlacedIn, PlacesTree, behind_or}
+use Rattle.ip_tree.specs.TreeView.{IsView, IsSet, IsSetFault, Sets}
 use Rattle.ip_tree.specs.declared.tree.Tree as code
 use Rattle.ip_tree.specs.declared.tree.TreeFault.{TreeFault}
 use Rattle.ip_tree.specs.declared.tree.TreeFault.TheVariants.{Limit, Fetch, Memory}
-use Rattle.ip_tree.proofs.KnownParts.{known_edited}
+use Rattle.ip_tree.proofs.PartsPut.{if_touched}
+use Rattle.ip_tree.proofs.PlacedParts.{after_placing, known_behind}
 use Rattle.ip_tree.proofs.PlacedTrees.{IsSplit, split}
-use Rattle.ip_tree.proofs.PlacedWidths.{placed_narrow, placed_wide}
-use Rattle.ip_tree.proofs.Trees.{contents_get}
+use Rattle.ip_tree.proofs.PlacedWidths.{bytes_narrow, placed_narrow, placed_wide}
 use Rattle.ip_tree.proofs.Widest.{narrow_of, widest_of, wide_of}
-use Rattle.ip_tree.proofs.Widths.{bytes_narrow}
+use Rattle.ip_tree.proofs.Trees.{contents_some}
 
 module _ (records : ℕ → Option Record) (tree : code.Tree) (v : View) (is : IsView records tree v) (path : Path) (bytes : Bytes) (is_path : IsPath path) (short : length bytes ≤ contents_limit) where
-  some : is_empty (contents bytes) ≡ false
-  some = some_not_empty (contents bytes) [] bytes (contents_get bytes)
-
-  -- what is related to the path is not known any more
-  forgotten : (p : Path) (old : Option ℕ) → behind_or (knows records (view.contents bytes)) (is_related path p) old (after_prefix path p) ≡ cond (is_related path p) None old
-  forgotten p old = by (after_prefix path p) (split path p)
+  -- what lies behind the path is not known any more, as all that the path touches
+  forgotten : (map : Tree) (part : Part) → after_placing records (view.contents bytes) path v.known map part ≡ known_after v.known path map part
+  forgotten map part = by (after_prefix path part.path) (split path part.path)
     where
-      by : (o : Option Path) → IsSplit path p o → behind_or (knows records (view.contents bytes)) (is_related path p) old o ≡ cond (is_related path p) None old
-      by (Some rest) at = sym (ap (λ b. cond b None old) (ap (is_related path) at ∙ ap (λ b. b || is_prefix (path ++ rest) path) (prefix_of_append path rest)))
+      by : (o : Option Path) → IsSplit path part.path o → behind_or (known_behind records (view.contents bytes) part.indexes) o (known_after v.known path map part) ≡ known_after v.known path map part
+      by (Some rest) at =
+          if_touched (is_part map part) (v.known part)
+          ∙ ap (λ b. if is_part map part && not (b || holds_behind part.indexes (after_prefix part.path path)) then v.known part else None) (sym (ap (is_prefix path) at ∙ prefix_of_append path rest))
       by None apart = refl
 
   put_narrow : IsFalse (is_full path v.map) → widest (put v.map path bytes) ≤ entries_limit
   unfolding put
-  put_narrow room = widest_of (put v.map path bytes) (placed_narrow (contents bytes) some v.map path (bytes_narrow bytes) (narrow_of v.map is.narrow) room)
+  put_narrow room = widest_of (put v.map path bytes) (placed_narrow (contents bytes) (contents_some bytes) v.map path (bytes_narrow bytes) (narrow_of v.map is.narrow) room)
 
   put_wide : IsTrue (is_full path v.map) → entries_limit < widest (put v.map path bytes)
   unfolding put
-  put_wide full = wide_of (put v.map path bytes) (placed_wide (contents bytes) some v.map path full)
+  put_wide full = wide_of (put v.map path bytes) (placed_wide (contents bytes) (contents_some bytes) v.map path full)
 
   put_is : (new : code.Tree) → IsPlacedIn records path (view.contents bytes) (contents bytes) new v → IsSet records path bytes new v
   unfolding put_view put
@@ -50,9 +49,8 @@ module _ (records : ℕ → Option Record) (tree : code.Tree) (v : View) (is : I
       root = placed.root;
       lawful = lawful_put v.map path bytes is.lawful is_path;
       narrow = put_narrow placed.room;
-      leaves = is.leaves;
       oldest = placed.oldest;
-      known = known_edited records tree v is path (put v.map path bytes) (λ q apart. subtree_unrelated v.map path q bytes apart) (shown_root new.root) (λ p. placed.known p ∙ forgotten p _);
+      known = λ part. sym (placed.known part ∙ forgotten (place v.map path (contents bytes)) part);
     };
     short = short;
     narrow = put_narrow placed.room;

@@ -1,18 +1,21 @@
 -- Trees by their entries.
-use Rattle.std.proofs.Common.{◌≡◌, [], ◌∷◌, ◌++◌, refl, sym, ap, ◌∙◌, Some, None}
+use Rattle.std.proofs.Common.{◌≡◌, false, [], ◌∷◌, ◌++◌, refl, sym, ap, ◌∙◌, Some, None}
 use Rattle.std.specs.Prelude.{IsFalse}
 use Rattle.std.specs.FinMap.Entries.{find}
 use Rattle.ip_spec.specs.Map.{get, insert, empty, checked}
 use Rattle.ip_spec.specs.Path.{Bytes, Step, Path, bytes_cmp}
 use Rattle.ip_spec.specs.declared.tree.Got.TheVariants as Got
 use Rattle.ip_spec.specs.declared.tree.Listed.TheVariants as Listed
-use Rattle.ip_spec.specs.Tree.{Tree, no_tree, contents, subtree, entries_of, got_at, listed_at, is_contents, tree_runs}
+use Rattle.ip_spec.specs.Tree.{Tree, no_tree, contents, subtree, entries_of, got_at, listed_at, is_contents, is_empty, tree_runs}
 pub use Rattle.ip_spec.proofs.Subtrees.{got_contents, got_below_contents, got_directory, listed_contents, listed_below_contents, listed_directory}
-use Rattle.ip_spec.proofs.Subtrees.{entry_found, entry_lost, got_below, got_nothing, listed_below, listed_nothing, same_tree, get-subtree, get-no_tree}
+use Rattle.ip_spec.proofs.Subtrees.{entry_found, entry_lost, got_below, got_nothing, listed_below, listed_nothing, same_tree, get-subtree, get-no_tree, some_not_empty}
 
 pub contents_get : (bytes : Bytes) → get (contents bytes) [] ≡ Some bytes
 unfolding contents insert empty checked
 contents_get bytes = refl
+
+pub contents_some : (bytes : Bytes) → is_empty (contents bytes) ≡ false
+contents_some bytes = some_not_empty (contents bytes) [] bytes (contents_get bytes)
 
 -- ---- what is answered below an entry
 

@@ -1,15 +1,17 @@
 -- What a lazy tree is made of, as contracts see it.
-use Rattle.std.specs.Prelude.{ℕ, List, [], ◌∷◌, Option}
+use Rattle.std.specs.Prelude.{List, [], ◌∷◌}
 use Rattle.ip_spec.specs.Path.{Bytes, Step}
 use Rattle.ip_spec.specs.declared.record.Ref.{Ref}
+use Rattle.ip_shape.specs.declared.part.Part.{Part}
+use Rattle.ip_tree.specs.declared.node.Stored.{Stored}
 
 mutual
-  -- a record of the store that was not read, with the height of what it leads to; or contents that are new; or a
-  -- directory that was loaded or is new, with the record that is known to spell it
+  -- a record of the store that was not read; or contents that are new; or a directory as its parts, and what stands at the
+  -- steps of those that were read, in their order
   pub data Node : Type 0 where
-    stored : Ref → ℕ → Node
+    stored : Stored → Node
     contents : Bytes → Node
-    directory : Option Ref → Nodes → Node
+    directory : Part Stored → Nodes → Node
 
   pub data Nodes : Type 0 where
     none : Nodes
@@ -27,7 +29,11 @@ abbrev pub list_of : Nodes → List Entry
 list_of none = []
 list_of (first s n ns) = (s, n) ∷ list_of ns
 
+abbrev pub steps_in : Nodes → List Step
+steps_in none = []
+steps_in (first s n ns) = s ∷ steps_in ns
+
 -- the root: a record that was not read, or a directory
 pub data Root : Type 0 where
   unread : Ref → Root
-  loaded : Option Ref → Nodes → Root
+  loaded : Part Stored → Nodes → Root

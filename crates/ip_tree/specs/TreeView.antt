@@ -1,5 +1,4 @@
 -- A lazy tree as its users see it.
---     shown_root root      the root of the code as contracts see it
 --     IsView records tree v      over these records, the tree is this view: its map, the least number that it took
 --         from, and the parts that records are known to spell, with their offsets
 --     stored_view records n at map      the view of a tree that is read from the store
@@ -12,31 +11,21 @@ use Rattle.ip_spec.specs.declared.record.Record.{Record}
 use Rattle.ip_spec.specs.Step.{contents_limit, entries_limit, steps_limit}
 use Rattle.ip_spec.specs.Tree.{Tree, IsTree, height, widest, subtree, is_empty, put, graft}
 use Rattle.ip_spec.specs.View.{View, Part, put_view, remove_view, graft_view}
-use Rattle.ip_tree.specs.Node as view
-use Rattle.ip_tree.specs.Node.{nodes_of}
+use Rattle.ip_spec.specs.StoredParts.{stored_part}
 use Rattle.ip_tree.specs.Meaning.{RootIs}
-use Rattle.ip_tree.specs.Known as parts
-use Rattle.ip_tree.specs.Known.{stored_part}
-use Rattle.ip_tree.specs.Leaves.{HasLeavesOnly}
-use Rattle.ip_tree.specs.Shown.{known_of, entries_of}
+use Rattle.ip_tree.specs.Known.{known_of}
 use Rattle.ip_tree.specs.Reads.{IsFree}
-use Rattle.ip_tree.specs.declared.tree.Root.{Root}
-use Rattle.ip_tree.specs.declared.tree.Root.TheVariants.{Stored, Loaded}
+use Rattle.ip_tree.specs.Shown.{shown_root}
 use Rattle.ip_tree.specs.declared.tree.Tree as code
 use Rattle.ip_tree.specs.declared.tree.TreeFault.{TreeFault}
 use Rattle.ip_tree.specs.declared.tree.TreeFault.TheVariants.{Limit}
-
-abbrev pub shown_root : Root → view.Root
-shown_root (Stored r) = view.unread r
-shown_root (Loaded d) = view.loaded (known_of d) (nodes_of (entries_of d))
 
 pub record IsView (records : ℕ → Option Record) (tree : code.Tree) (v : View) : Type 0 where
   pub root : RootIs records (shown_root tree.root) v.map
   pub lawful : IsTree v.map
   pub narrow : widest v.map ≤ entries_limit
-  pub leaves : HasLeavesOnly records
   pub oldest : v.oldest ≡ tree.oldest
-  pub known : (part : Part) → v.known part ≡ parts.known_of records (shown_root tree.root) part
+  pub known : (part : Part) → v.known part ≡ known_of records (shown_root tree.root) part
 
 abbrev pub stored_view : (ℕ → Option Record) → ℕ → ℕ → Tree → View
 stored_view records n at map = record { map = map; oldest = Some n; known = λ part. stored_part records at part.path part.indexes }

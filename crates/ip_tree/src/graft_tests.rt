@@ -37,7 +37,6 @@ enum Said {
     // A directory with so many entries.
     Dir(u32),
     Depth,
-    Entries,
     Ground,
     Other,
 }
@@ -45,7 +44,6 @@ enum Said {
 fn blamed(fault: TreeFault) -> Said {
     match fault {
         TreeFault::Limit(Limit::Depth) => Said::Depth,
-        TreeFault::Limit(Limit::Entries) => Said::Entries,
         TreeFault::Fetch(FetchFault::Ground) => Said::Ground,
         _ => Said::Other,
     }
@@ -309,14 +307,13 @@ fn grafts_are_answered(rt: HostRuntime) -> Result<(), Fail> {
 }
 
 #[test]
-fn a_directory_takes_few_grafts(rt: HostRuntime) -> Result<(), Fail> {
+fn a_directory_takes_grafts_over_the_border(rt: HostRuntime) -> Result<(), Fail> {
     let alloc = rt.alloc();
     let mut bench = bench_of(alloc, 99)?;
     let mut space = space_of(alloc, &mut bench)?;
     let mut tree = Tree::empty(alloc);
     let mut source = Tree::of(Number(7), ROOT);
     for i in 0..34u8 {
-        let want = if i < 32 { Said::Done } else { Said::Entries };
         let got = answer_to(
             alloc,
             &mut bench,
@@ -325,7 +322,16 @@ fn a_directory_takes_few_grafts(rt: HostRuntime) -> Result<(), Fail> {
             &mut source,
             (Word::Graft, b"a/b", &[b'A' + i]),
         )?;
-        assert_eq!(rt; got, want);
+        assert_eq!(rt; got, Said::Done);
     }
+    let got = answer_to(
+        alloc,
+        &mut bench,
+        &mut space,
+        &mut tree,
+        &mut source,
+        (Word::Get, b"", b""),
+    )?;
+    assert_eq!(rt; got, Said::Dir(34));
     Ok(())
 }

@@ -1,4 +1,4 @@
-//! Trees that are read lazily: an edit loads the directories on its path and no others, and a read loads none. What is said of
+//! Trees that are read lazily: an edit reads the parts of directories on its path and no others, but where one becomes a leaf, and what only looks loads none. What is said of
 //! a tree is its view: the map, the least number, and the parts that records are known to spell.
 #![tactic(auto)]
 
@@ -6,24 +6,21 @@ ghost use Rattle.std.specs.Prelude.{◌≡◌, ◌<◌, ℕ, Option, Some};
 ghost use Rattle.ip_spec.specs.Batch.{KnownStand};
 ghost use Rattle.ip_spec.specs.View.{View};
 ghost use Rattle.ip_spec.specs.declared.record.Record.{Record};
-ghost use Rattle.ip_tree.specs.Leaves.{HasLeavesOnly};
 ghost use Rattle.ip_tree.specs.TreeView.{IsView};
 ghost use Rattle.ip_tree.specs.declared.tree.Tree.{Tree};
 
-mod copy;
-mod entries;
-mod fetch;
-mod graft;
+pub mod below;
+pub mod copy;
+pub mod fetch;
+pub mod graft;
 #[cfg(test)]
 mod graft_tests;
 mod height;
 mod list;
-mod load;
-mod look;
+pub mod load;
+pub mod look;
 mod node;
-mod part;
-mod place;
-mod read;
+pub mod place;
 mod remove;
 #[cfg(test)]
 mod remove_tests;
@@ -32,7 +29,7 @@ mod set;
 mod tests;
 mod tree;
 
-pub use node::{Directory, Entry, Node, Stored};
+pub use node::{Directory, Node, Stored};
 pub use tree::{Root, Tree, TreeFault};
 
 /// What a tree knows of records is so: where all of them lie below an end, the parts that its view knows are records that spell them. So a
@@ -46,5 +43,5 @@ pub fn known_parts()
 /// adds records keeps what it knows of its trees.
 pub fn views_stay()
     ensures { (records more : ℕ → Option Record) (tree : Tree) (v : View) → IsView records tree v → ((at : ℕ) (r : Record) → records at ≡ Some r → more at ≡ Some r)
-        → HasLeavesOnly more → IsView more tree v }
+        → IsView more tree v }
 {}

@@ -1,38 +1,26 @@
 // The nodes of a tree.
-use ip_base::{Blob, Step};
+use ip_base::Blob;
+use ip_shape::dir::Dir;
 use ip_spec::record::Ref;
 
-/// A record of the store that was not read: contents, or a whole directory that is not empty.
+/// A record of the store: contents, a whole directory that is not empty, or a part of one.
 #[derive(Clone, Copy)]
 pub struct Stored {
     pub reference: Ref,
-    /// The greatest number of steps below it.
+    /// The greatest number of steps of what it spells.
     pub height: u8,
 }
 
 /// What stands in a tree at a step.
-#[cycle(node)]
 #[derive(Drop)]
 pub enum Node {
+    /// A record that was not read.
     Stored(Stored),
     /// Contents that no record of the store is known to hold.
     Contents(Blob),
+    /// A directory that is new, or of which parts were read: its entries at these, and the records of the others.
     Directory(Directory),
 }
 
-/// A directory that was loaded or is new, its entries ascending by step.
-#[cycle(node)]
-#[derive(Drop)]
-pub struct Directory {
-    /// The record that spells it, where one is known to.
-    pub known: Option<Ref>,
-    pub entries: Vec<Entry>,
-}
-
-/// An entry of a directory.
-#[cycle(node)]
-#[derive(Drop)]
-pub struct Entry {
-    pub step: Step,
-    pub node: Node,
-}
+/// A directory in a tree.
+pub type Directory = Dir<Node, Stored>;

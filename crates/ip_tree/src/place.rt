@@ -1,35 +1,40 @@
 // Putting a node at a path.
-ghost use Rattle.std.specs.Prelude.{◌≡◌, ◌<◌, ◌≤◌, ℕ, Option, map, length, insert, IsTrue, IfOk, IfErr, IsErrOf};
-ghost use Rattle.ip_tree.specs.Faults.{ground_tree};
+ghost use Rattle.std.specs.Prelude.{◌≡◌, ◌<◌, ℕ, true, [], List, Option, length, is_some, IsTrue, IfOk, IfErr, IsErrOf};
+ghost use Rattle.std.specs.FinMap.Entries.{find, put};
 ghost use Rattle.ip_ground.specs.Counts.{Counts};
-ghost use Rattle.ip_space.specs.SpaceView.{OnlyReads};
 ghost use Rattle.ip_space.specs.declared.fault.FetchFault.TheVariants as FetchFault;
-ghost use Rattle.ip_spec.specs.declared.record.Record.{Record};
+ghost use Rattle.ip_tree.specs.Faults.{ground_tree};
+ghost use Rattle.ip_shape.specs.Directory.{IsPartly, root_of};
+ghost use Rattle.ip_shape.specs.Loaded.{IsEdited};
+ghost use Rattle.ip_shape.specs.Shape.{ByTest};
+ghost use Rattle.ip_spec.specs.Path.{Step as TheStep, bytes_cmp};
 ghost use Rattle.ip_spec.specs.Tree.{Tree as Map};
 ghost use Rattle.ip_spec.specs.View.{View};
-ghost use Rattle.ip_tree.specs.Edits.{IsDirectory};
-ghost use Rattle.ip_tree.specs.Leaves.{HasLeavesOnly};
+ghost use Rattle.ip_spec.specs.declared.record.Record.{Record};
+ghost use Rattle.ip_tree.specs.Edits.{IsDirectory, IsNewAt};
 ghost use Rattle.ip_tree.specs.Meaning.{NodeIs};
-ghost use Rattle.ip_tree.specs.Placing.{chain_to, PlacesIn, PlacesAt, PlacesTree};
-ghost use Rattle.ip_tree.specs.Reads.{IsOver};
-ghost use Rattle.ip_tree.specs.Shown.{shown, shown_directory, shown_entry};
+ghost use Rattle.ip_tree.specs.Node as view;
+ghost use Rattle.ip_tree.specs.Placing.{IsChain, Places, PlacesTree};
+ghost use Rattle.ip_tree.specs.Reads.{IsOver, IsOwn, Looks, IsCause};
+ghost use Rattle.ip_tree.specs.Shown.{shown, shown_directory};
 ghost use Rattle.ip_tree.specs.TreeView.{IsView};
+ghost use Rattle.ip_tree.specs.declared.node.Node.{Node};
 ghost use Rattle.ip_tree.specs.declared.tree.TreeFault.TheVariants as TreeFault;
 
-use crate::entries::find;
-use crate::load::open;
-use crate::node::{Directory, Entry, Node};
+use crate::load::{load_way, unfold};
+use crate::node::{Directory, Node};
 use crate::tree::{Root, Tree, TreeFault};
 use ip_base::limit::ENTRIES_MAX;
-use ip_base::{Limit, Step};
+use ip_base::{Blob, Limit, Memory, Step};
 use ip_ground::Ground;
+use ip_shape::dir::{Dir, exchange, forget, insert};
 use ip_space::Space;
 use std::alloc::Global;
 
 impl Tree {
     /// Puts a node at a path, in place of what stands there, under it, or at a step before its last. Where it fails the tree is what it
-    /// was, though directories on the path may have been loaded.
-    pub(crate) fn place<G: Ground>(
+    /// was, though parts of directories on the path may have been read.
+    pub fn place<G: Ground>(
         &mut self,
         alloc: Global,
         outside: &mut G,
@@ -38,110 +43,45 @@ impl Tree {
         part: Node,
     ) -> Result<(), TreeFault>
         requires { 0 < length path.now }
-        ensures reads { IsTrue G.tells → OnlyReads (G.told outside.old) (G.told outside.new) space.old space.new }
         ensures place { IsTrue G.tells → (records : ℕ → Option Record) (v : View) (sub : Map) → IsOver (G.told outside.old) space.old records → IsView records self.old v → NodeIs records (shown part) sub
             → PlacesTree records path.now (shown part) sub self.new v result }
-        ensures layout { space.new.layout ≡ space.old.layout }
-        ensures runs { space.new.runs ≡ space.old.runs }
+        ensures looks { Looks G.tells (G.told outside.old) (G.told outside.new) space.old space.new }
         ensures counts { Counts ground_tree result (G.counts_of outside.old) (G.counts_of outside.new) }
+        ensures causes { IfErr result (IsCause G.tells (G.told outside.old) space.old) }
     {
-        match self.open_root(alloc, outside, space) {
-            Ok(()) => {}
-            Err(fault) => return Err(fault),
-        }
+        self.open_root(alloc, outside, space)?;
         match &mut self.root {
-            Root::Loaded(directory) => place_in(alloc, outside, space, directory, path, part),
+            Root::Loaded(dir) => place_in(alloc, outside, space, dir, path, part),
             Root::Stored(_) => Err(TreeFault::Memory),
         }
     }
 }
 
-/// Directories one in another down to a node.
-fn chain(alloc: Global, steps: &[Step], part: Node) -> Result<Node, TreeFault>
-    ensures made { IfOk result (λ node. shown node ≡ chain_to steps.now (shown part)) }
-    ensures memory { IfErr result (λ fault. fault ≡ TreeFault.Memory) }
-{
-    if steps.is_empty() {
-        return Ok(part);
-    }
-    let inner = chain(alloc, &steps[1..], part)?;
-    let step = steps[0].copy(alloc).map_err(|_| TreeFault::Memory)?;
-    let mut entries = Vec::new(alloc);
-    entries
-        .push(Entry { step, node: inner })
-        .map_err(|_| TreeFault::Memory)?;
-    Ok(Node::Directory(Directory {
-        known: None,
-        entries,
-    }))
-}
-
-/// Adds an entry at a place.
-fn add(entries: &mut Vec<Entry>, i: usize, step: Step, node: Node) -> Result<(), TreeFault>
-    requires { i ≤ length entries.old.items }
-    ensures added { IfOk result (λ _. map shown_entry entries.new.items ≡ insert (map shown_entry entries.old.items) i (step, shown node)) }
-    ensures refused { IfErr result (λ fault. (fault ≡ TreeFault.Memory) × (entries.new.items ≡ entries.old.items)) }
-{
-    match entries.insert(i, Entry { step, node }) {
-        Ok(()) => Ok(()),
-        Err(_) => Err(TreeFault::Memory),
-    }
-}
-
-/// Puts a node at a path below a directory, in place of what stands there, under it, or at a step before its last. Where it fails the
-/// directory is what it was, though directories on the path may have been loaded.
+/// Puts a node at a path below a directory.
 #[cycle(place)]
-pub fn place_in<G: Ground>(
+fn place_in<G: Ground>(
     alloc: Global,
     outside: &mut G,
     space: &mut Space,
-    directory: &mut Directory,
+    dir: &mut Directory,
     steps: &[Step],
     part: Node,
 ) -> Result<(), TreeFault>
     requires { 0 < length steps.now }
-    ensures reads { IsTrue G.tells → OnlyReads (G.told outside.old) (G.told outside.new) space.old space.new }
-    ensures place { IsTrue G.tells → (records : ℕ → Option Record) (t sub : Map) → IsOver (G.told outside.old) space.old records → HasLeavesOnly records → IsDirectory records (shown_directory directory.old) t
-        → NodeIs records (shown part) sub → PlacesIn records steps.now (shown part) sub (shown_directory directory.old) (shown_directory directory.new) t result }
-    ensures layout { space.new.layout ≡ space.old.layout }
-    ensures runs { space.new.runs ≡ space.old.runs }
+    ensures place { IsTrue G.tells → (records : ℕ → Option Record) (t sub : Map) → IsOver (G.told outside.old) space.old records → IsDirectory records (shown_directory dir.old) t → NodeIs records (shown part) sub
+        → Places (IsDirectory records) records steps.now (shown part) sub (shown_directory dir.old) (shown_directory dir.new) t result }
+    ensures looks { Looks G.tells (G.told outside.old) (G.told outside.new) space.old space.new }
     ensures counts { Counts ground_tree result (G.counts_of outside.old) (G.counts_of outside.new) }
+    ensures causes { IfErr result (IsCause G.tells (G.told outside.old) space.old) }
 {
-    match find(directory.entries.as_slice(), &steps[0]) {
-        Err(i) => {
-            if directory.entries.len() >= ENTRIES_MAX {
-                return Err(TreeFault::Limit(Limit::Entries));
-            }
-            let node = match chain(alloc, &steps[1..], part) {
-                Ok(node) => node,
-                Err(fault) => return Err(fault),
-            };
-            let step = match steps[0].copy(alloc) {
-                Ok(step) => step,
-                Err(_) => return Err(TreeFault::Memory),
-            };
-            match add(&mut directory.entries, i, step, node) {
-                Ok(()) => {
-                    directory.known = None;
-                    Ok(())
-                }
-                Err(fault) => Err(fault),
-            }
+    load_way(alloc, outside, space, dir, &steps[0])?;
+    match exchange(dir, &steps[0], vacant(alloc)) {
+        None => add(alloc, dir, steps, part),
+        Some(mut node) => {
+            let placed = place_at(alloc, outside, space, &mut node, &steps[1..], part);
+            put_back(alloc, dir, &steps[0], node, placed.is_ok());
+            placed
         }
-        Ok(i) => match place_at(
-            alloc,
-            outside,
-            space,
-            &mut directory.entries[i].node,
-            &steps[1..],
-            part,
-        ) {
-            Ok(()) => {
-                directory.known = None;
-                Ok(())
-            }
-            Err(fault) => Err(fault),
-        },
     }
 }
 
@@ -155,29 +95,68 @@ fn place_at<G: Ground>(
     steps: &[Step],
     part: Node,
 ) -> Result<(), TreeFault>
-    ensures reads { IsTrue G.tells → OnlyReads (G.told outside.old) (G.told outside.new) space.old space.new }
-    ensures place { IsTrue G.tells → (records : ℕ → Option Record) (t sub : Map) → IsOver (G.told outside.old) space.old records → HasLeavesOnly records → NodeIs records (shown node.old) t
-        → NodeIs records (shown part) sub → PlacesAt records steps.now (shown part) sub (shown node.old) (shown node.new) t result }
-    ensures layout { space.new.layout ≡ space.old.layout }
-    ensures runs { space.new.runs ≡ space.old.runs }
+    ensures place { IsTrue G.tells → (records : ℕ → Option Record) (t sub : Map) → IsOver (G.told outside.old) space.old records → NodeIs records (shown node.old) t → NodeIs records (shown part) sub
+        → Places (NodeIs records) records steps.now (shown part) sub (shown node.old) (shown node.new) t result }
+    ensures looks { Looks G.tells (G.told outside.old) (G.told outside.new) space.old space.new }
     ensures counts { Counts ground_tree result (G.counts_of outside.old) (G.counts_of outside.new) }
+    ensures causes { IfErr result (IsCause G.tells (G.told outside.old) space.old) }
 {
     if steps.is_empty() {
         *node = part;
         return Ok(());
     }
-    match open(alloc, outside, space, node) {
-        Ok(()) => {}
-        Err(fault) => return Err(fault),
-    }
+    unfold(alloc, outside, space, node)?;
     match node {
-        Node::Directory(inner) => place_in(alloc, outside, space, inner, steps, part),
-        _ => match chain(alloc, steps, part) {
-            Ok(made) => {
-                *node = made;
-                Ok(())
-            }
-            Err(fault) => Err(fault),
-        },
+        Node::Directory(dir) => place_in(alloc, outside, space, dir, steps, part),
+        _ => {
+            *node = chain(alloc, steps, part)?;
+            Ok(())
+        }
     }
+}
+
+/// What stands at a step while what stood there is edited. It takes no memory.
+pub fn vacant(alloc: Global) -> Node
+    ensures { shown result ≡ view.contents [] }
+{
+    Node::Contents(Blob::empty(alloc))
+}
+
+/// Puts what was edited back at its step. Where it was changed, no part on the way to it is known any more.
+pub fn put_back(alloc: Global, dir: &mut Directory, step: &Step, node: Node, is_changed: bool)
+    ensures { (steps : List TheStep) (es : List (TheStep × Node)) → IsPartly dir.old steps es → is_some (find bytes_cmp step.now es) ≡ true →
+        IsPartly dir.new steps (put bytes_cmp step.now node es) × ByTest is_changed (IsEdited 0 step.now (root_of dir.old) (root_of dir.new)) (root_of dir.new ≡ root_of dir.old) }
+{
+    exchange(dir, step, node);
+    if is_changed {
+        forget(alloc, dir, step);
+    }
+}
+
+/// Adds an entry for the first of the steps, with new directories from there down to the node.
+fn add(alloc: Global, dir: &mut Directory, steps: &[Step], part: Node) -> Result<(), TreeFault>
+    requires { 0 < length steps.now }
+    ensures place { (records : ℕ → Option Record) (t sub : Map) → IsDirectory records (shown_directory dir.old) t → IsNewAt steps.now (shown_directory dir.old) → NodeIs records (shown part) sub
+        → Places (IsDirectory records) records steps.now (shown part) sub (shown_directory dir.old) (shown_directory dir.new) t result }
+    ensures own { IfErr result IsOwn }
+{
+    if dir.root().count() >= ENTRIES_MAX {
+        return Err(TreeFault::Limit(Limit::Entries));
+    }
+    let node = chain(alloc, &steps[1..], part)?;
+    insert(alloc, dir, &steps[0], node)?;
+    Ok(())
+}
+
+/// New directories one in another down to a node.
+fn chain(alloc: Global, steps: &[Step], part: Node) -> Result<Node, Memory>
+    ensures { IfOk result (λ node. (records : ℕ → Option Record) (sub : Map) → NodeIs records (shown part) sub → IsChain records steps.now (shown part) sub (shown node)) }
+{
+    if steps.is_empty() {
+        return Ok(part);
+    }
+    let inner = chain(alloc, &steps[1..], part)?;
+    let mut dir = Dir::empty(alloc);
+    insert(alloc, &mut dir, &steps[0], inner)?;
+    Ok(Node::Directory(dir))
 }

@@ -1,38 +1,43 @@
-// Taking away what stands at a path.
-ghost use Rattle.std.specs.Prelude.{◌≡◌, ◌<◌, ℕ, [], Option, None, length, IsTrue, IsErrOf, if◌then◌else◌};
-ghost use Rattle.std.specs.List.{remove as without_index};
-ghost use Rattle.ip_tree.specs.Faults.{ground_tree};
+// Taking away what stands at a path. What goes is found first, so that nothing has changed where a record can't be read.
+ghost use Rattle.std.specs.Prelude.{◌≡◌, ◌<◌, ◌≤◌, ◌&&◌, ◌==◌, ◌^◌, ℕ, suc, cond, Option, length, IsTrue, IsFalse, IfOk, IfErr, IsErrOf};
 ghost use Rattle.ip_ground.specs.Counts.{Counts};
-ghost use Rattle.ip_space.specs.SpaceView.{OnlyReads};
 ghost use Rattle.ip_space.specs.declared.fault.FetchFault.TheVariants as FetchFault;
-ghost use Rattle.ip_spec.specs.declared.record.Record.{Record};
+ghost use Rattle.ip_tree.specs.Faults.{ground_tree};
 ghost use Rattle.ip_spec.specs.Path.{IsPath};
-ghost use Rattle.ip_spec.specs.Tree.{Tree as Map};
-ghost use Rattle.ip_spec.specs.View.{View, is_nil};
+ghost use Rattle.ip_spec.specs.Tree.{Tree as Map, is_empty, subtree};
+ghost use Rattle.ip_spec.specs.View.{View};
+ghost use Rattle.ip_spec.specs.declared.record.Record.{Record};
 ghost use Rattle.ip_tree.specs.Edits.{IsDirectory};
-ghost use Rattle.ip_tree.specs.Leaves.{HasLeavesOnly};
 ghost use Rattle.ip_tree.specs.Meaning.{NodeIs};
-ghost use Rattle.ip_tree.specs.Node as view;
-ghost use Rattle.ip_tree.specs.Node.{nodes_of};
-ghost use Rattle.ip_tree.specs.Reads.{IsOver};
-ghost use Rattle.ip_tree.specs.Removal.{RemovesAt, RemovesIn};
-ghost use Rattle.ip_tree.specs.Shown.{entries_of, shown, shown_directory};
+ghost use Rattle.ip_tree.specs.Reads.{IsOver, Looks, IsCause};
+ghost use Rattle.ip_tree.specs.Removal.{FindsFront, FindsFrontAt, RemovesFrom, Takes, TakesAt, taken_front};
+ghost use Rattle.ip_tree.specs.Shown.{shown, shown_directory};
 ghost use Rattle.ip_tree.specs.TreeView.{IsView, Removes};
-ghost use Rattle.ip_tree.specs.declared.node.Directory.{out-Directory};
+ghost use Rattle.ip_tree.specs.declared.remove.Front.TheVariants as Front;
 ghost use Rattle.ip_tree.specs.declared.tree.TreeFault.TheVariants as TreeFault;
 
-use crate::entries::find;
-use crate::load::open;
+use crate::load::{load_to_remove, load_way, unfold};
 use crate::node::{Directory, Node};
+use crate::place::{put_back, vacant};
 use crate::tree::{Root, Tree, TreeFault};
 use ip_base::Step;
 use ip_ground::Ground;
+use ip_shape::dir::{exchange, remove};
 use ip_space::Space;
 use std::alloc::Global;
 
+/// What goes with what stands at a path below a directory.
+#[derive(Clone, Copy)]
+pub enum Front {
+    /// Nothing stands there.
+    Nothing,
+    /// The entry at so many first steps of the path: below it nothing else stands.
+    Steps(usize),
+}
+
 impl Tree {
     /// Takes away what stands at a path and under it, and each directory on the path that is empty then; false where nothing stands there.
-    /// Where it fails or answers false the tree is what it was, though directories on the path may have been loaded.
+    /// Where it fails or answers false the tree is what it was, though parts of directories on the path may have been read.
     pub fn remove<G: Ground>(
         &mut self,
         alloc: Global,
@@ -41,123 +46,163 @@ impl Tree {
         path: &[Step],
     ) -> Result<bool, TreeFault>
         requires { IsPath path.now }
-        ensures reads { IsTrue G.tells → OnlyReads (G.told outside.old) (G.told outside.new) space.old space.new }
         ensures removes { IsTrue G.tells → (records : ℕ → Option Record) (v : View) → IsOver (G.told outside.old) space.old records → IsView records self.old v
             → Removes records path.now self.new v result }
-        ensures layout { space.new.layout ≡ space.old.layout }
-        ensures runs { space.new.runs ≡ space.old.runs }
+        ensures looks { Looks G.tells (G.told outside.old) (G.told outside.new) space.old space.new }
         ensures counts { Counts ground_tree result (G.counts_of outside.old) (G.counts_of outside.new) }
+        ensures causes { IfErr result (IsCause G.tells (G.told outside.old) space.old) }
     {
-        match self.open_root(alloc, outside, space) {
-            Ok(()) => {}
-            Err(fault) => return Err(fault),
-        }
+        self.open_root(alloc, outside, space)?;
         match &mut self.root {
-            Root::Loaded(directory) => remove_in(alloc, outside, space, directory, path),
+            Root::Loaded(dir) => remove_from(alloc, outside, space, dir, path),
             Root::Stored(_) => Err(TreeFault::Memory),
         }
     }
 }
 
-/// What a removal leaves of what stands at a node.
-#[derive(Clone, Copy)]
-enum Left {
-    /// All of it: nothing stands at the path.
-    Whole,
-    /// Something, but not what stood at the path.
-    Part,
-    /// Nothing. Whoever holds the node takes it away.
-    Nothing,
-}
-
-/// What is left of a directory from which something was taken away.
-fn left_of(directory: &Directory) -> Left
-    ensures { result ≡ (if is_nil (out-Directory directory.now).entries.items then Left.Nothing else Left.Part) }
-{
-    if directory.entries.is_empty() {
-        return Left::Nothing;
-    }
-    Left::Part
-}
-
-/// Takes the entry at a place out of a directory, which no record is known to spell then.
-fn take_out(directory: &mut Directory, i: usize)
-    requires { i < length (entries_of directory.old) }
-    ensures { shown_directory directory.new ≡ view.directory None (nodes_of (without_index (entries_of directory.old) i)) }
-{
-    let _ = directory.entries.remove(i);
-    directory.known = None;
-}
-
 /// Takes away what stands at a path below a directory, and each directory below it that is empty then; false where nothing stands there.
-#[cycle(remove)]
-fn remove_in<G: Ground>(
+fn remove_from<G: Ground>(
     alloc: Global,
     outside: &mut G,
     space: &mut Space,
-    directory: &mut Directory,
-    steps: &[Step],
+    dir: &mut Directory,
+    path: &[Step],
 ) -> Result<bool, TreeFault>
-    requires { 0 < length steps.now }
-    ensures reads { IsTrue G.tells → OnlyReads (G.told outside.old) (G.told outside.new) space.old space.new }
-    ensures removes { IsTrue G.tells → (records : ℕ → Option Record) (t : Map) → IsOver (G.told outside.old) space.old records → HasLeavesOnly records → IsDirectory records (shown_directory directory.old) t
-        → RemovesIn records steps.now (shown_directory directory.old) (shown_directory directory.new) t result }
-    ensures layout { space.new.layout ≡ space.old.layout }
-    ensures runs { space.new.runs ≡ space.old.runs }
+    requires { 0 < length path.now }
+    ensures removes { IsTrue G.tells → (records : ℕ → Option Record) (t : Map) → IsOver (G.told outside.old) space.old records → IsDirectory records (shown_directory dir.old) t
+        → RemovesFrom records path.now (shown_directory dir.old) (shown_directory dir.new) t result }
+    ensures looks { Looks G.tells (G.told outside.old) (G.told outside.new) space.old space.new }
     ensures counts { Counts ground_tree result (G.counts_of outside.old) (G.counts_of outside.new) }
+    ensures causes { IfErr result (IsCause G.tells (G.told outside.old) space.old) }
 {
-    match find(directory.entries.as_slice(), &steps[0]) {
-        Err(_) => Ok(false),
-        Ok(i) => match remove_at(
-            alloc,
-            outside,
-            space,
-            &mut directory.entries[i].node,
-            &steps[1..],
-        ) {
-            Ok(Left::Whole) => Ok(false),
-            Ok(Left::Part) => {
-                directory.known = None;
-                Ok(true)
-            }
-            Ok(Left::Nothing) => {
-                take_out(directory, i);
-                Ok(true)
-            }
-            Err(fault) => Err(fault),
-        },
+    match front_in(alloc, outside, space, dir, path)? {
+        Front::Nothing => Ok(false),
+        Front::Steps(count) => {
+            take_in(alloc, outside, space, dir, &path[..count])?;
+            Ok(true)
+        }
     }
 }
 
-/// Takes away what stands at a path below a node. Where nothing is left of the node, that is told, and it stays as it is.
-#[cycle(remove)]
-fn remove_at<G: Ground>(
+/// What goes with what stands at a path below a directory. It reads the parts on the way to each step.
+#[cycle(front)]
+fn front_in<G: Ground>(
+    alloc: Global,
+    outside: &mut G,
+    space: &mut Space,
+    dir: &mut Directory,
+    steps: &[Step],
+) -> Result<Front, TreeFault>
+    requires { 0 < length steps.now }
+    ensures front { IsTrue G.tells → (records : ℕ → Option Record) (t : Map) → IsOver (G.told outside.old) space.old records → IsDirectory records (shown_directory dir.old) t
+        → FindsFront records steps.now (shown_directory dir.old) (shown_directory dir.new) t result }
+    ensures within { IfOk result (λ front. (n : ℕ) → front ≡ Front.Steps n → (0 < n) × (n ≤ length steps.now)) }
+    ensures looks { Looks G.tells (G.told outside.old) (G.told outside.new) space.old space.new }
+    ensures counts { Counts ground_tree result (G.counts_of outside.old) (G.counts_of outside.new) }
+    ensures causes { IfErr result (IsCause G.tells (G.told outside.old) space.old) }
+{
+    load_way(alloc, outside, space, dir, &steps[0])?;
+    match exchange(dir, &steps[0], vacant(alloc)) {
+        None => Ok(Front::Nothing),
+        Some(mut node) => {
+            let front = front_at(alloc, outside, space, &mut node, &steps[1..]);
+            put_back(alloc, dir, &steps[0], node, false);
+            front
+        }
+    }
+}
+
+/// The same of a node at a step, counted from above it.
+#[cycle(front)]
+fn front_at<G: Ground>(
     alloc: Global,
     outside: &mut G,
     space: &mut Space,
     node: &mut Node,
     steps: &[Step],
-) -> Result<Left, TreeFault>
-    ensures reads { IsTrue G.tells → OnlyReads (G.told outside.old) (G.told outside.new) space.old space.new }
-    ensures removes { IsTrue G.tells → (records : ℕ → Option Record) (t : Map) → IsOver (G.told outside.old) space.old records → HasLeavesOnly records → NodeIs records (shown node.old) t
-        → RemovesAt records steps.now (shown node.old) (shown node.new) t result }
-    ensures layout { space.new.layout ≡ space.old.layout }
-    ensures runs { space.new.runs ≡ space.old.runs }
+) -> Result<Front, TreeFault>
+    ensures front { IsTrue G.tells → (records : ℕ → Option Record) (t : Map) → IsOver (G.told outside.old) space.old records → NodeIs records (shown node.old) t
+        → FindsFrontAt records steps.now (shown node.old) (shown node.new) t result }
+    ensures within { IfOk result (λ front. (n : ℕ) → front ≡ Front.Steps n → (0 < n) × (n ≤ suc (length steps.now))) }
+    ensures looks { Looks G.tells (G.told outside.old) (G.told outside.new) space.old space.new }
     ensures counts { Counts ground_tree result (G.counts_of outside.old) (G.counts_of outside.new) }
+    ensures causes { IfErr result (IsCause G.tells (G.told outside.old) space.old) }
 {
     if steps.is_empty() {
-        return Ok(Left::Nothing);
+        return Ok(Front::Steps(1));
     }
-    match open(alloc, outside, space, node) {
-        Ok(()) => {}
-        Err(fault) => return Err(fault),
+    unfold(alloc, outside, space, node)?;
+    let Node::Directory(dir) = node else {
+        return Ok(Front::Nothing);
+    };
+    let front = front_in(alloc, outside, space, dir, steps)?;
+    Ok(above(front, dir.root().count()))
+}
+
+// What goes, counted from above a directory with so many entries: where its only entry goes, it goes itself.
+fn above(front: Front, entries: usize) -> Front
+    requires { (n : ℕ) → front ≡ Front.Steps n → n < 2 ^ 63 }
+    ensures nothing { front ≡ Front.Nothing → result ≡ Front.Nothing }
+    ensures steps { (n : ℕ) → front ≡ Front.Steps n → result ≡ Front.Steps (cond (n == 1 && entries == 1) 1 (suc n)) }
+{
+    match front {
+        Front::Nothing => Front::Nothing,
+        Front::Steps(1) if entries == 1 => Front::Steps(1),
+        Front::Steps(count) => Front::Steps(count + 1),
     }
+}
+
+/// Takes out the entry at the last of the steps. Each directory on the way to it holds something else.
+#[cycle(take)]
+fn take_in<G: Ground>(
+    alloc: Global,
+    outside: &mut G,
+    space: &mut Space,
+    dir: &mut Directory,
+    steps: &[Step],
+) -> Result<(), TreeFault>
+    requires { 0 < length steps.now }
+    ensures taken { IsTrue G.tells → (records : ℕ → Option Record) (t : Map) → IsOver (G.told outside.old) space.old records → IsDirectory records (shown_directory dir.old) t
+        → IsFalse (is_empty (subtree t steps.now)) → length steps.now ≡ taken_front t steps.now → Takes records steps.now (shown_directory dir.old) (shown_directory dir.new) t result }
+    ensures looks { Looks G.tells (G.told outside.old) (G.told outside.new) space.old space.new }
+    ensures counts { Counts ground_tree result (G.counts_of outside.old) (G.counts_of outside.new) }
+    ensures causes { IfErr result (IsCause G.tells (G.told outside.old) space.old) }
+{
+    if steps.len() == 1 {
+        load_to_remove(alloc, outside, space, dir, &steps[0])?;
+        remove(alloc, dir, &steps[0])?;
+        return Ok(());
+    }
+    match exchange(dir, &steps[0], vacant(alloc)) {
+        // The front was found through a directory there, the way to which was read.
+        None => Err(TreeFault::Memory),
+        Some(mut node) => {
+            let taken = take_at(alloc, outside, space, &mut node, &steps[1..]);
+            put_back(alloc, dir, &steps[0], node, taken.is_ok());
+            taken
+        }
+    }
+}
+
+/// The same below a node that is a directory, of which something is left.
+#[cycle(take)]
+fn take_at<G: Ground>(
+    alloc: Global,
+    outside: &mut G,
+    space: &mut Space,
+    node: &mut Node,
+    steps: &[Step],
+) -> Result<(), TreeFault>
+    requires { 0 < length steps.now }
+    ensures taken { IsTrue G.tells → (records : ℕ → Option Record) (t : Map) → IsOver (G.told outside.old) space.old records → NodeIs records (shown node.old) t
+        → IsFalse (is_empty (subtree t steps.now)) → length steps.now ≡ taken_front t steps.now → TakesAt records steps.now (shown node.old) (shown node.new) t result }
+    ensures looks { Looks G.tells (G.told outside.old) (G.told outside.new) space.old space.new }
+    ensures counts { Counts ground_tree result (G.counts_of outside.old) (G.counts_of outside.new) }
+    ensures causes { IfErr result (IsCause G.tells (G.told outside.old) space.old) }
+{
     match node {
-        Node::Directory(inner) => match remove_in(alloc, outside, space, inner, steps) {
-            Ok(true) => Ok(left_of(inner)),
-            Ok(false) => Ok(Left::Whole),
-            Err(fault) => Err(fault),
-        },
-        _ => Ok(Left::Whole),
+        Node::Directory(dir) => take_in(alloc, outside, space, dir, steps),
+        // The front was found through it.
+        _ => Err(TreeFault::Memory),
     }
 }

@@ -1,15 +1,14 @@
 // Putting contents.
-ghost use Rattle.std.specs.Prelude.{◌≡◌, ◌<◌, ℕ, Option, Err, IsTrue, IsErrOf, length};
+ghost use Rattle.std.specs.Prelude.{◌≡◌, ◌<◌, ℕ, Option, Err, IsTrue, IfErr, IsErrOf, length};
 ghost use Rattle.ip_base.specs.declared.limit.Limit.TheVariants as Limit;
-ghost use Rattle.ip_tree.specs.Faults.{ground_tree};
 ghost use Rattle.ip_ground.specs.Counts.{Counts};
-ghost use Rattle.ip_space.specs.SpaceView.{OnlyReads};
 ghost use Rattle.ip_space.specs.declared.fault.FetchFault.TheVariants as FetchFault;
-ghost use Rattle.ip_spec.specs.declared.record.Record.{Record};
+ghost use Rattle.ip_tree.specs.Faults.{ground_tree};
 ghost use Rattle.ip_spec.specs.Path.{IsPath};
 ghost use Rattle.ip_spec.specs.Step.{contents_limit};
 ghost use Rattle.ip_spec.specs.View.{View};
-ghost use Rattle.ip_tree.specs.Reads.{IsOver};
+ghost use Rattle.ip_spec.specs.declared.record.Record.{Record};
+ghost use Rattle.ip_tree.specs.Reads.{IsOver, Looks, IsCause};
 ghost use Rattle.ip_tree.specs.TreeView.{IsView, Sets};
 ghost use Rattle.ip_tree.specs.declared.tree.TreeFault.TheVariants as TreeFault;
 
@@ -23,7 +22,7 @@ use std::alloc::Global;
 
 impl Tree {
     /// Puts contents at a path, in place of what stands there, under it, or at a step before its last. Where it fails the tree is what it
-    /// was, though directories on the path may have been loaded.
+    /// was, though parts of directories on the path may have been read.
     pub fn set<G: Ground>(
         &mut self,
         alloc: Global,
@@ -33,22 +32,18 @@ impl Tree {
         value: &[u8],
     ) -> Result<(), TreeFault>
         requires { IsPath path.now }
-        ensures reads { IsTrue G.tells → OnlyReads (G.told outside.old) (G.told outside.new) space.old space.new }
         ensures sets { IsTrue G.tells → (records : ℕ → Option Record) (v : View) → IsOver (G.told outside.old) space.old records → IsView records self.old v
             → Sets records path.now value.now self.new v result }
         // Contents that are too long are refused before anything is read or held.
         ensures long { contents_limit < length value.now → result ≡ Err (TreeFault.Limit Limit.Contents) }
-        ensures layout { space.new.layout ≡ space.old.layout }
-        ensures runs { space.new.runs ≡ space.old.runs }
+        ensures looks { Looks G.tells (G.told outside.old) (G.told outside.new) space.old space.new }
         ensures counts { Counts ground_tree result (G.counts_of outside.old) (G.counts_of outside.new) }
+        ensures causes { IfErr result (IsCause G.tells (G.told outside.old) space.old) }
     {
         if value.len() > CONTENTS_MAX {
             return Err(TreeFault::Limit(Limit::Contents));
         }
-        let contents = match Blob::copy_of(alloc, value) {
-            Ok(contents) => contents,
-            Err(_) => return Err(TreeFault::Memory),
-        };
+        let contents = Blob::copy_of(alloc, value)?;
         self.place(alloc, outside, space, path, Node::Contents(contents))
     }
 }

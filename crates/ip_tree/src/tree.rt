@@ -1,20 +1,19 @@
 // Trees.
 ghost use Rattle.std.specs.Prelude.{◌≡◌, ◌≤◌, ℕ, Option, IsTrue, IsFalse, IfErr, IsErrOf};
-ghost use Rattle.ip_tree.specs.Faults.{ground_tree};
 ghost use Rattle.ip_ground.specs.Counts.{Counts};
-ghost use Rattle.ip_space.specs.SpaceView.{OnlyReads};
 ghost use Rattle.ip_space.specs.declared.fault.FetchFault.TheVariants as FetchFault;
+ghost use Rattle.ip_tree.specs.Faults.{ground_tree};
 ghost use Rattle.ip_spec.specs.declared.record.Record.{Record};
 ghost use Rattle.ip_spec.specs.Step.{entries_limit};
 ghost use Rattle.ip_spec.specs.Tree.{Tree as Map, is_contents, widest, IsTree};
 ghost use Rattle.ip_spec.specs.View.{View, no_view};
-ghost use Rattle.ip_tree.specs.Leaves.{HasLeavesOnly};
 ghost use Rattle.ip_tree.specs.Meaning.{Spells};
 
 use crate::load::load;
 use crate::node::Directory;
-use ip_base::{Limit, Number};
+use ip_base::{Limit, Memory, Number};
 use ip_ground::Ground;
+use ip_shape::dir::Dir;
 use ip_space::{FetchFault, Space};
 use ip_spec::record::Ref;
 use std::alloc::Global;
@@ -28,6 +27,26 @@ pub enum TreeFault {
     Fetch(FetchFault),
     /// Want of memory. The call may be made again.
     Memory,
+}
+
+impl From<FetchFault> for TreeFault {
+    ghost use Rattle.ip_tree.specs.declared.tree.TreeFault.TheVariants as TreeFault;
+
+    ghost from_gives = { λ f e. e ≡ TreeFault.Fetch f };
+
+    fn from(fault: FetchFault) -> Self {
+        TreeFault::Fetch(fault)
+    }
+}
+
+impl From<Memory> for TreeFault {
+    ghost use Rattle.ip_tree.specs.declared.tree.TreeFault.TheVariants as TreeFault;
+
+    ghost from_gives = { λ _ e. e ≡ TreeFault.Memory };
+
+    fn from(_: Memory) -> Self {
+        TreeFault::Memory
+    }
 }
 
 /// The root directory.
@@ -46,26 +65,23 @@ pub struct Tree {
 }
 
 impl Tree {
-    ghost use Rattle.ip_tree.specs.Reads.{IsOver, IsFree};
+    ghost use Rattle.ip_tree.specs.Reads.{IsOver, IsFree, Looks, IsCause};
     ghost use Rattle.ip_tree.specs.TreeView.{IsView, stored_view};
     ghost use Rattle.ip_tree.specs.declared.tree.TreeFault.TheVariants as TreeFault;
 
     /// The tree with nothing in it. It takes no memory.
     pub fn empty(alloc: Global) -> Tree
-        ensures { (records : ℕ → Option Record) → HasLeavesOnly records → IsView records result no_view }
+        ensures { (records : ℕ → Option Record) → IsView records result no_view }
     {
         Tree {
-            root: Root::Loaded(Directory {
-                known: None,
-                entries: Vec::new(alloc),
-            }),
+            root: Root::Loaded(Dir::empty(alloc)),
             oldest: None,
         }
     }
 
     /// The tree of the commit of this number, its root in the record at the reference. Nothing is read.
     pub fn of(number: Number, root: Ref) -> Tree
-        ensures { (records : ℕ → Option Record) (map : Map) → IsFalse (is_contents map) → Spells records root map → IsTree map → widest map ≤ entries_limit → HasLeavesOnly records
+        ensures { (records : ℕ → Option Record) (map : Map) → IsFalse (is_contents map) → Spells records root map → IsTree map → widest map ≤ entries_limit
             → IsView records result (stored_view records number root.at map) }
     {
         Tree {
@@ -81,32 +97,24 @@ impl Tree {
         self.oldest
     }
 
-    /// Loads the root where it was not read.
-    pub(crate) fn open_root<G: Ground>(
+    /// Reads the root's record where it was not read.
+    pub fn open_root<G: Ground>(
         &mut self,
         alloc: Global,
         outside: &mut G,
         space: &mut Space,
     ) -> Result<(), TreeFault>
-        ensures reads { IsTrue G.tells → OnlyReads (G.told outside.old) (G.told outside.new) space.old space.new }
         ensures opened { IsTrue G.tells → (records : ℕ → Option Record) (v : View) → IsOver (G.told outside.old) space.old records → IsView records self.old v
             → IsView records self.new v × IfErr result IsFree }
-        ensures layout { space.new.layout ≡ space.old.layout }
-        ensures runs { space.new.runs ≡ space.old.runs }
+        ensures looks { Looks G.tells (G.told outside.old) (G.told outside.new) space.old space.new }
         ensures counts { Counts ground_tree result (G.counts_of outside.old) (G.counts_of outside.new) }
+        ensures causes { IfErr result (IsCause G.tells (G.told outside.old) space.old) }
     {
-        match &self.root {
-            Root::Stored(reference) => {
-                let reference = *reference;
-                match load(alloc, outside, space, reference) {
-                    Ok(directory) => {
-                        self.root = Root::Loaded(directory);
-                        Ok(())
-                    }
-                    Err(fault) => Err(fault),
-                }
-            }
-            Root::Loaded(_) => Ok(()),
-        }
+        let reference = match &self.root {
+            Root::Stored(reference) => *reference,
+            Root::Loaded(_) => return Ok(()),
+        };
+        self.root = Root::Loaded(load(alloc, outside, space, &reference)?);
+        Ok(())
     }
 }

@@ -1,79 +1,68 @@
-use Rattle.std.proofs.Common.{◌≡◌, sym, ap, ◌∙◌}
-use Rattle.std.specs.Prelude.{insert}
-use Rattle.ip_space.proofs.Passing.{reads_on}
-use Rattle.ip_tree.specs.Shown.{shown, shown_directory, entries_of}
-use Rattle.ip_tree.specs.declared.node.Directory.{out-Directory}
-use Rattle.ip_tree.proofs.Steps.{by_first_lt, by_rest, by_head, nil_of, same_first}
-use Rattle.ip_tree.proofs.Walk.{still_over}
-use Rattle.ip_tree.proofs.PutShown.{insert_fits, index_fits, child, not_placed_at, is_full_at, not_placed, whole_test, room_test, at_node, inner_directory}
-use Rattle.ip_tree.proofs.PlacedShown.{placed_at, new_at, placed_whole, placed_through, placed_chain}
+use Rattle.std.proofs.Common.{◌-◌, [], get_or, take, drop, length, refl, sym, ap, subst, ◌∙◌}
+use Rattle.std.specs.FinMap.Entries.{find}
+use Rattle.ip_spec.specs.Path.{Step, bytes_cmp}
+use Rattle.ip_shape.specs.declared.dir.Dir.{Dir}
+use Rattle.ip_tree.specs.Edits.{IsDirectory}
+use Rattle.ip_tree.specs.Placing.{Places}
+use Rattle.ip_tree.specs.Shown.{shown, shown_directory}
+use Rattle.ip_tree.specs.declared.node.Node.{Node, out-Node}
+use Rattle.ip_tree.specs.declared.node.Stored.{Stored}
+use Rattle.ip_tree.proofs.Steps.{by_first_lt, by_head, by_rest, nil_of, same_first}
+use Rattle.ip_tree.proofs.Looking.{causes_on, looks_on, still_over}
+use Rattle.ip_tree.proofs.PlacedCalls.{placed_added, placed_entry, placed_over, placed_through, placed_whole}
 use Rattle.ip_tree.proofs.place.+place.Goals as goal
 
-pub place_in-add-requires : goal.place_in-add-requires
-place_in-add-requires g t c =
-    let place = rw c.as_slice.ensures.value at (sym c.in-Err.ensures) in
-    insert_fits c.index-steps-0.result (out-Directory c.args.directory.now).entries c.in-Err.i place
-
-pub place_in-index_mut-requires : goal.place_in-index_mut-requires
-place_in-index_mut-requires g t c =
-    let place = rw c.as_slice.ensures.value at (sym c.in-Ok.ensures) in
-    index_fits c.index-steps-0.result (out-Directory c.args.directory.now).entries c.in-Ok.i place
-
-pub place_in-returns-in-Ok-place_at-clause-place : goal.place_in-returns-in-Ok-place_at-clause-place
-place_in-returns-in-Ok-place_at-clause-place g t c tells records tree sub over leaves is is_part =
-    let d = c.args.directory.now in
-    let p = c.args.steps.now in
-    let s = c.index-steps-0.result in
-    let place = rw c.as_slice.ensures.value at (sym c.in-Ok.ensures) in
-    let below = child records d tree is s c.in-Ok.i c.index_mut.result.now place c.index_mut.ensures.value in
-    let done = c.in-Ok-place_at.ensures.place tells records below.sub sub over leaves below.means is_part in
-    placed_at records (shown c.args.part) sub is_part d tree is s c.in-Ok.i c.index_mut.result.now place c.index_mut.ensures.value p (by_rest p s (by_first_lt p s c.requires c.index-steps-0.is)) c.place_at.new.node done
-
-pub place_in-returns-in-Err-place_at-clause-place : goal.place_in-returns-in-Err-place_at-clause-place
-place_in-returns-in-Err-place_at-clause-place g t c tells records tree sub over leaves is is_part =
-    let d = c.args.directory.now in
-    let p = c.args.steps.now in
-    let s = c.index-steps-0.result in
-    let place = rw c.as_slice.ensures.value at (sym c.in-Ok.ensures) in
-    let below = child records d tree is s c.in-Ok.i c.index_mut.result.now place c.index_mut.ensures.value in
-    let not = c.in-Err-place_at.ensures.place tells records below.sub sub over leaves below.means is_part in
-    not_placed_at records d tree is s c.in-Ok.i c.index_mut.result.now place c.index_mut.ensures.value p (by_rest p s (by_first_lt p s c.requires c.index-steps-0.is)) c.place_at.new.node c.in-Err-place_at.fault not
-
-pub place_in-returns-then-len-ge-ENTRIES_MAX-clause-place : goal.place_in-returns-then-len-ge-ENTRIES_MAX-clause-place
-place_in-returns-then-len-ge-ENTRIES_MAX-clause-place g t c tells records tree sub over leaves is is_part =
-    let d = c.args.directory.now in
-    let p = c.args.steps.now in
-    let s = c.index-steps-0.result in
-    let place = rw c.as_slice.ensures.value at (sym c.in-Err.ensures) in
-    not_placed records (shown_directory d) tree p _ is (is_full_at records d tree is s c.in-Err.i p (by_rest p s (by_first_lt p s c.requires c.index-steps-0.is)) place (whole_test (out-Directory d).entries (rw c.len.ensures at c.if-len-ge-ENTRIES_MAX.true)))
-
-pub place_in-returns-in-Ok-add-clause-place : goal.place_in-returns-in-Ok-add-clause-place
-place_in-returns-in-Ok-add-clause-place g t c tells records tree sub over leaves is is_part =
-    let d = c.args.directory.now in
-    let p = c.args.steps.now in
-    let s = c.index-steps-0.result in
-    let place = rw c.as_slice.ensures.value at (sym c.in-Err.ensures) in
-    let s' = c.index-steps-0-in-Err.result in
-    let step : c.in-Ok-copy.step ≡ s' = c.in-Ok-copy.ensures in
-    new_at records (shown c.args.part) sub is_part d tree is s c.in-Err.i c.in-Ok-chain.node c.add.new.entries _ p (by_rest p s (by_first_lt p s c.requires c.index-steps-0.is)) place
-    (room_test (out-Directory d).entries (rw c.len.ensures at c.if-len-ge-ENTRIES_MAX.false)) c.in-Ok-chain.ensures.made
-    (c.in-Ok-add.ensures.added ∙ ap (λ x. insert (entries_of d) c.in-Err.i (x, shown c.in-Ok-chain.node)) (step ∙ same_first p s' s c.requires c.index-steps-0-in-Err.is c.index-steps-0.is))
-
 pub place_at-returns-then-is_empty-clause-place : goal.place_at-returns-then-is_empty-clause-place
-place_at-returns-then-is_empty-clause-place g t c tells records tree sub over leaves is is_part =
+place_at-returns-then-is_empty-clause-place g t c tells records tree sub over is is_part =
     placed_whole records (shown c.args.part) sub is_part (shown c.args.node.now) tree c.args.steps.now (nil_of c.args.steps.now c.if-is_empty.ensures)
 
-pub place_at-returns-in-Directory-clause-reads : goal.place_at-returns-in-Directory-clause-reads
-place_at-returns-in-Directory-clause-reads g t c tells = reads_on _ _ _ _ _ _ (c.in-Ok.ensures.reads tells) (c.place_in.ensures.reads tells)
-
 pub place_at-returns-in-Directory-clause-place : goal.place_at-returns-in-Directory-clause-place
-place_at-returns-in-Directory-clause-place g t c tells records tree sub over leaves is is_part =
-    let o = at_node records (shown c.args.node.now) c.open.new.node c.in-Directory.inner tree c.in-Directory.is (c.in-Ok.ensures.opened tells records tree over leaves is) in
-    let over' = still_over (g.G.Ground.told c.args.outside.now) (g.G.Ground.told c.open.new.outside) c.args.space.now c.open.new.space records (c.in-Ok.ensures.reads tells) over in
-    placed_through records (shown c.args.part) sub is_part (shown c.args.node.now) c.in-Directory.inner c.place_in.new.directory c.args.steps.now tree c.place_in.result o
-    (c.place_in.ensures.place tells records tree sub over' leaves (inner_directory records _ c.in-Directory.inner tree o) is_part)
+unfolding out-Node denote.Hole.Carrier.out
+place_at-returns-in-Directory-clause-place g t c tells records tree sub over is is_part =
+    let later = still_over g.G.Ground.tells (g.G.Ground.told c.args.outside.now) (g.G.Ground.told c.unfold.new.outside) c.args.space.now c.unfold.new.space records c.in_ok-unfold.ensures.looks tells over in
+    rw c.in-Directory.is (placed_through records (shown c.args.part) sub is_part (shown c.args.node.now) c.unfold.new.node c.in-Directory.dir c.place_in.new.dir c.args.steps.now tree c.place_in.result c.in-Directory.is
+    (c.in_ok-unfold.ensures.opened tells records tree over is)
+    (subst (λ (x : Dir Node Stored). IsDirectory records (shown_directory x) tree → Places (IsDirectory records) records c.args.steps.now (shown c.args.part) sub (shown_directory x) (shown_directory c.place_in.new.dir) tree c.place_in.result)
+    c.in-Directory.dir-is (λ means. c.place_in.ensures.place tells records tree sub later means is_part)))
 
-pub place_at-returns-in-Ok-chain-clause-place : goal.place_at-returns-in-Ok-chain-clause-place
-place_at-returns-in-Ok-chain-clause-place g t c tells records tree sub over leaves is is_part =
-    placed_chain records (shown c.args.part) sub is_part (shown c.args.node.now) c.open.new.node c.in-Ok-chain.made c.args.steps.now tree (by_head c.args.steps.now c.if-is_empty.ensures) c.in_default.not-Directory c.in-Ok-chain.ensures.made
-    (c.in-Ok.ensures.opened tells records tree over leaves is)
+pub place_at-returns-in-Directory-clause-looks : goal.place_at-returns-in-Directory-clause-looks
+place_at-returns-in-Directory-clause-looks g t c = looks_on _ _ _ _ _ _ _ c.in_ok-unfold.ensures.looks c.place_in.ensures.looks
+
+pub place_at-returns-in-Directory-clause-causes : goal.place_at-returns-in-Directory-clause-causes
+place_at-returns-in-Directory-clause-causes g t c = causes_on _ _ _ _ _ c.in_ok-unfold.ensures.looks c.place_in.result c.place_in.ensures.causes
+
+pub place_at-returns-in_ok-node-in_default : goal.place_at-returns-in_ok-node-in_default
+place_at-returns-in_ok-node-in_default g t c = record {
+  place = λ tells records tree sub over is is_part.
+      placed_over records (shown c.args.part) sub is_part (shown c.args.node.now) c.unfold.new.node c.in_ok-node-in_default.field-0 c.args.steps.now (get_or c.args.steps.now 0 []) (drop 1 c.args.steps.now) tree
+      (by_head c.args.steps.now c.if-is_empty.ensures) c.in_default.not-Directory (c.in_ok-unfold.ensures.opened tells records tree over is) (c.in_ok-node-in_default.ensures records sub is_part);
+  looks = c.in_ok-unfold.ensures.looks;
+  counts = c.in_ok-unfold.ensures.counts;
+  causes = tt;
+}
+
+pub place_in-returns-in-None-clause-place : goal.place_in-returns-in-None-clause-place
+place_in-returns-in-None-clause-place g t c tells records tree sub over means is_part =
+    let p = c.args.steps.now in
+    let s = c.index-steps-0-2.result in
+    let same = same_first p c.index-steps-0.result s c.requires c.index-steps-0.is c.index-steps-0-2.is in
+    placed_added records (shown c.args.part) sub is_part c.args.dir.now c.load_way.new.dir c.exchange.new.dir c.add.new.dir tree p c.index-steps-0.result (take (length p - 1) (drop 1 p)) c.add.result
+    (by_rest p c.index-steps-0.result (by_first_lt p c.index-steps-0.result c.requires c.index-steps-0.is)) (c.in-None.ensures.same refl) (c.in_ok-load_way.ensures.opened tells records tree over means)
+    (ap (λ (k : Step). find bytes_cmp k c.load_way.new.dir.entries.entries) same ∙ sym c.in-None.ensures.held) (λ now new. c.add.ensures.place records tree sub now new is_part)
+
+pub place_in-returns-in-Some-clause-place : goal.place_in-returns-in-Some-clause-place
+place_in-returns-in-Some-clause-place g t c tells records tree sub over means is_part =
+    let p = c.args.steps.now in
+    let s = c.index-steps-0-2.result in
+    let later = still_over g.G.Ground.tells (g.G.Ground.told c.args.outside.now) (g.G.Ground.told c.load_way.new.outside) c.args.space.now c.load_way.new.space records c.in_ok-load_way.ensures.looks tells over in
+    placed_entry records (shown c.args.part) sub is_part c.args.dir.now c.load_way.new.dir c.exchange.new.dir c.put_back.new.dir tree p s c.index-steps-0.result c.index-steps-0-in-Some.result (take (length p - 1) (drop 1 p))
+    c.vacant.result c.in-Some.node c.place_at-placed.new.node c.place_at-placed.result c.is_ok.result (by_rest p s (by_first_lt p s c.requires c.index-steps-0-2.is))
+    (same_first p c.index-steps-0.result s c.requires c.index-steps-0.is c.index-steps-0-2.is) (same_first p c.index-steps-0-in-Some.result s c.requires c.index-steps-0-in-Some.is c.index-steps-0-2.is) c.is_ok.ensures.value
+    (c.in_ok-load_way.ensures.opened tells records tree over means) (sym c.in-Some.ensures.held) (λ w is. c.place_at-placed.ensures.place tells records w sub later is is_part)
+    (λ steps es is. c.in-Some.ensures.exchanged steps es is refl) c.in-Some.ensures.known c.put_back.ensures
+
+pub place_in-returns-in-Some-clause-looks : goal.place_in-returns-in-Some-clause-looks
+place_in-returns-in-Some-clause-looks g t c = looks_on _ _ _ _ _ _ _ c.in_ok-load_way.ensures.looks c.place_at-placed.ensures.looks
+
+pub place_in-returns-in-Some-clause-causes : goal.place_in-returns-in-Some-clause-causes
+place_in-returns-in-Some-clause-causes g t c = causes_on _ _ _ _ _ c.in_ok-load_way.ensures.looks c.place_at-placed.result c.place_at-placed.ensures.causes

@@ -1,15 +1,17 @@
-use Rattle.ip_space.proofs.Passing.{reads_on}
-use Rattle.ip_tree.proofs.Walk.{still_over}
-use Rattle.ip_tree.proofs.Roots.{root_directory}
-use Rattle.ip_tree.proofs.RemovedView.{removes_in}
+use Rattle.ip_tree.proofs.Looking.{causes_on, looks_on, still_over}
+use Rattle.ip_tree.proofs.RemovedViews.{removes_view}
 use Rattle.ip_tree.proofs.tree.Tree.remove.Goals as goal
-
-pub returns-in-Loaded-clause-reads : goal.returns-in-Loaded-clause-reads
-returns-in-Loaded-clause-reads g c tells = reads_on _ _ _ _ _ _ (c.in-Ok.ensures.reads tells) (c.remove_in.ensures.reads tells)
+use Rattle.ip_tree.proofs.Roots.{root_directory}
 
 pub returns-in-Loaded-clause-removes : goal.returns-in-Loaded-clause-removes
 returns-in-Loaded-clause-removes g c tells records v over is =
-    let opened = (c.in-Ok.ensures.opened tells records v over is).0 in
-    let over' = still_over (g.G.Ground.told c.args.outside.now) (g.G.Ground.told c.open_root.new.outside) c.args.space.now c.open_root.new.space records (c.in-Ok.ensures.reads tells) over in
-    let removed = c.remove_in.ensures.removes tells records v.map over' opened.leaves (root_directory records c.open_root.new.self v opened c.in-Loaded.directory c.in-Loaded.is) in
-    removes_in records c.open_root.new.self v c.in-Loaded.directory c.remove_in.new.directory opened c.in-Loaded.is c.args.path.now c.remove_in.result removed
+    let opened = (c.in_ok-open_root.ensures.opened tells records v over is).0 in
+    let tree = c.open_root.new.self in
+    let removed = c.remove_from.ensures.removes tells records v.map (still_over _ _ _ _ _ records c.in_ok-open_root.ensures.looks tells over) (root_directory records tree v opened c.in-Loaded.dir c.in-Loaded.is) in
+    removes_view records tree v c.in-Loaded.dir opened c.in-Loaded.is c.args.path.now c.remove_from.new.dir c.remove_from.result removed
+
+pub returns-in-Loaded-clause-looks : goal.returns-in-Loaded-clause-looks
+returns-in-Loaded-clause-looks g c = looks_on _ _ _ _ _ _ _ c.in_ok-open_root.ensures.looks c.remove_from.ensures.looks
+
+pub returns-in-Loaded-clause-causes : goal.returns-in-Loaded-clause-causes
+returns-in-Loaded-clause-causes g c = causes_on _ _ _ _ _ c.in_ok-open_root.ensures.looks c.remove_from.result c.remove_from.ensures.causes
