@@ -1,14 +1,15 @@
--- Records of contents, of leaves, of the commit and of its branch are within their bounds.
-use Rattle.std.proofs.Common.{◌≡◌, ℕ, ◌+◌, ◌*◌, ◌<◌, ◌≤◌, ◌^◌, List, [], ◌∷◌, ◌++◌, length, flat_map, arith}
+-- Records of contents, of leaves, of inodes, of the commit and of its branch are within their bounds.
+use Rattle.std.proofs.Common.{◌≡◌, ℕ, ◌+◌, ◌*◌, ◌<◌, ◌≤◌, ◌^◌, List, [], ◌∷◌, length, flat_map, arith}
 use Rattle.std.proofs.lemmas.List.{length-append}
 use Rattle.std.specs.Prelude.{OnOk, Result, Ok, Err}
 use Rattle.std.specs.List.{AllByRecursion}
 use Rattle.std.proofs.lemmas.List.Elements.{recursion_from_All}
 use Rattle.ip_spec.specs.declared.record.Record.TheVariants as Record
 use Rattle.ip_spec.specs.declared.record.LeafEntry.{LeafEntry}
+use Rattle.ip_spec.specs.declared.record.InodeChild.{InodeChild}
 use Rattle.ip_spec.specs.declared.record.Ref.{Ref}
 use Rattle.ip_spec.specs.Path.{Bytes, AreBytes}
-use Rattle.ip_spec.specs.Record.{u8, u64, short_text, entry_spelling, spelling, body, IsCommitRecord, IsLeaf, IsLeafEntry, IsHash, Fits}
+use Rattle.ip_spec.specs.Record.{u8, u32, u64, short_text, entry_spelling, child_spelling, spelling, body, IsCommitRecord, IsInode, IsInodeChild, IsLeaf, IsLeafEntry, IsHash, Fits}
 use Rattle.ip_object.specs.Lists.{commit_of}
 use Rattle.ip_object.proofs.Sizes.{five, commit_size, branch_size}
 use Rattle.ip_spec.specs.Batch.{CommitFields}
@@ -42,8 +43,27 @@ leaf_body : (es : List LeafEntry) → length (body (Record.Leaf es)) ≡ 4 + len
 unfolding body
 leaf_body es = omega arith
 
-pub leaf_fits : (es : List LeafEntry) → length es ≤ 32 → IsLeaf es → Fits 1 (Record.Leaf es)
+pub leaf_fits : (es : List LeafEntry) → length es ≤ 1048576 → IsLeaf es → Fits 1 (Record.Leaf es)
 leaf_fits es few is = record { size = omega (arith, leaf_body es, entries_room es (recursion_from_All IsLeafEntry es is.each), few); fields = is }
+
+-- ---- the inode
+
+child_room : (c : InodeChild) → IsInodeChild c → length (child_spelling c) ≤ 45
+child_room c is =
+    let size = five [] (u32 c.count) (u8 c.height) c.name (u64 c.at) in
+    let name = is.name.0 in
+    omega (arith, size, name)
+
+children_room : (cs : List InodeChild) → AllByRecursion IsInodeChild cs → length (flat_map child_spelling cs) ≤ 45 * length cs
+children_room [] each = omega arith
+children_room (c ∷ cs) (i, is) = let rest = children_room cs is in omega (arith, rest, child_room c i, length-append (child_spelling c) (flat_map child_spelling cs))
+
+inode_body : (depth : ℕ) (cs : List InodeChild) → length (body (Record.Inode depth cs)) ≡ 5 + length (flat_map child_spelling cs)
+unfolding body
+inode_body depth cs = omega arith
+
+pub inode_fits : (depth : ℕ) (cs : List InodeChild) → length cs ≤ 32 → IsInode depth cs → Fits 1 (Record.Inode depth cs)
+inode_fits depth cs few is = record { size = omega (arith, inode_body depth cs, children_room cs (recursion_from_All IsInodeChild cs is.each), few); fields = is }
 
 -- ---- the commit and its branch
 

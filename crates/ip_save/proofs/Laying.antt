@@ -1,20 +1,28 @@
--- The walk over directories, one entry after the other.
-use Rattle.std.proofs.Common.{◌≡◌, ℕ, suc, ◌+◌, ◌≤◌, max, List, [], ◌∷◌, ◌++◌, length, refl, ap, ◌∙◌, sym, subst, arith, append_assoc, Option, Some, None}
-use Rattle.std.specs.Prelude.{Result, Ok, Err, OnOk, IfOk, IfErr, MatchResult}
+-- The walks over directories: where they end, one thing behind the other, and why they give up.
+--     bytes_append, bytes_one, bytes_none, fit_append      records one behind the other
+--     Ends walk      the next record goes behind those of the walk.      ends_at, ends_part, ends_steps, ends_children      so it is of each
+--     RowsOn end rest all out before row      what is to be laid for the rest completes what is laid for all
+--     rows_more, rows_last      one more of them, and none
+--     known_laid, new_laid, last_laid      what a part lays.      behind_result      the record behind its entries or children
+--     cause_up, entry_cause, child_cause      why a walk gives up
+use Rattle.std.proofs.Common.{◌≡◌, ℕ, zero, suc, ◌+◌, ◌<◌, ◌≤◌, List, [], ◌∷◌, ◌++◌, length, refl, ap, ◌∙◌, sym, subst, arith, append_assoc, Option, Some, None, Bool, true, false, cond}
+use Rattle.std.specs.Prelude.{◌==◌, Result, Ok, Err, OnOk, IfOk, IfErr, MatchResult}
 use Rattle.std.proofs.lemmas.List.{append-nil, length-append}
-use Rattle.ip_spec.specs.Path.{Bytes, Step}
+use Rattle.ip_base.specs.declared.limit.Limit.TheVariants.{Contents, Depth, Entries, Parents, Branches, Space, Sequence, Attempt}
+use Rattle.ip_spec.specs.Path.{Bytes, Step, same_bytes}
+use Rattle.ip_spec.specs.Shape.{deepest}
 use Rattle.ip_spec.specs.declared.record.Record.{Record}
 use Rattle.ip_spec.specs.declared.record.LeafEntry.{LeafEntry}
-use Rattle.ip_spec.specs.declared.record.Ref.{Ref}
+use Rattle.ip_spec.specs.declared.record.InodeChild.{InodeChild}
 use Rattle.ip_spec.specs.Record.{Fits, spelling, spelling_of}
 use Rattle.ip_spec.specs.TreeAt.{Records}
+use Rattle.ip_shape.specs.declared.part.Part.{Part, out-Part}
+use Rattle.ip_shape.specs.declared.part.Part.TheOpen.{Part-F, Leaf, Inode, Unread}
 use Rattle.ip_tree.specs.Node.{Node, Nodes, stored, contents, directory, none, first}
 use Rattle.ip_tree.specs.declared.node.Stored.{Stored}
-use Rattle.ip_base.specs.declared.limit.Limit.TheVariants.{Contents, Depth, Entries, Parents, Branches, Space, Sequence, Attempt}
 use Rattle.ip_save.specs.declared.batch.SaveFault.{SaveFault}
 use Rattle.ip_save.specs.declared.batch.SaveFault.TheVariants.{Limit, Memory}
-use Rattle.ip_save.specs.Laid.{fresh, fresh_among, size, size_of, height_of, height_among, raised, count, breadth, breadth_among, Laid, LaidRow, lay, lay_among, bytes_of, AllFit, IsLaid, IsCause, IsLayFault, IsRow, field_for, height_above, new_leaf, contents_at}
-use Rattle.ip_save.proofs.Rests.{size_append}
+use Rattle.ip_save.specs.Laid.{AllFit, IsCause, IsHighFault, IsLaid, IsLayFault, IsRow, IsRowFault, Laid, LaidRow, behind, behind_bytes, behind_inode, behind_leaf, bytes_of, child_for, count_of, field_for, fresh, height_above, height_over, in_front, known_or, lay, lay_at, lay_children, lay_layer, lay_new, lay_nothing, lay_part, lay_steps, new_inode, new_leaf, no_row, raised, record_of, size_of, there}
 
 -- ---- bytes of records
 
@@ -35,200 +43,218 @@ pub fit_append : (xs ys : Records) → AllFit xs → AllFit ys → AllFit (xs ++
 fit_append [] ys f g = g
 fit_append (x ∷ xs) ys f g = (f.0, fit_append xs ys f.1 g)
 
--- ---- where the next records and contents go
+-- ---- where the next record goes
+
+abbrev IsEnd : ℕ → Records → ℕ → Type 0
+IsEnd at records next = next ≡ at + length (bytes_of records)
+
+abbrev pub Ends : (ℕ → Laid) → Type 0
+Ends walk = (at : ℕ) → (walk at).next ≡ at + length (bytes_of (walk at).records)
+
+abbrev pub EndsRow : {F : Type 0} → (ℕ → LaidRow F) → Type 0
+EndsRow walk = (at : ℕ) → (walk at).next ≡ at + length (bytes_of (walk at).records)
+
+none_end : (at : ℕ) → IsEnd at [] at
+none_end at = let e = ap length bytes_none in omega (arith, e)
+
+both_end : (at mid next : ℕ) (xs ys : Records) → IsEnd at xs mid → IsEnd mid ys next → IsEnd at (xs ++ ys) next
+both_end at mid next xs ys e f =
+    let l = ap length (bytes_append xs ys) in
+    omega (arith, e, f, l, length-append (bytes_of xs) (bytes_of ys))
+
+one_end : (at : ℕ) (r : Record) → IsEnd at ((at, r) ∷ []) (at + length (spelling r))
+one_end at r = let e = ap length (bytes_one at r) in omega (arith, e)
+
+ends_behind : {F : Type 0} (made : List F → Record) (refer : List F → ℕ → Stored) (at : ℕ) (row : LaidRow F) → IsEnd at row.records row.next → IsEnd at (behind made refer row).records (behind made refer row).next
+ends_behind made refer at row e = both_end at row.next (row.next + length (spelling (made row.fields))) row.records ((row.next, made row.fields) ∷ []) e (one_end row.next (made row.fields))
+
+ends_either : {F : Type 0} (b : Bool) (at : ℕ) (x y : LaidRow F) → IsEnd at x.records x.next → IsEnd at y.records y.next → IsEnd at (cond b x y).records (cond b x y).next
+ends_either true at x y e f = e
+ends_either false at x y e f = f
+
+one_or_other : (b : Bool) (at : ℕ) (x y : Laid) → IsEnd at x.records x.next → IsEnd at y.records y.next → IsEnd at (cond b x y).records (cond b x y).next
+one_or_other true at x y e f = e
+one_or_other false at x y e f = f
+
+ends_known : (o : Option Stored) (at : ℕ) (new : Laid) → IsEnd at new.records new.next → IsEnd at (known_or o at new).records (known_or o at new).next
+ends_known (Some x) at new e = none_end at
+ends_known None at new e = e
+
+ends_nothing : (at : ℕ) → IsEnd at (behind_leaf (no_row at)).records (behind_leaf (no_row at)).next
+ends_nothing at = ends_behind Record.Leaf new_leaf at (no_row at) (none_end at)
+
+module _ (child : Step → ℕ → Laid) (each : (s : Step) → Ends (child s)) where
+  pub ends_steps : (ss : List Step) → EndsRow (lay_steps child ss)
+  ends_steps [] at = none_end at
+  ends_steps (s ∷ ss) at =
+      let x = child s at in
+      let row = lay_steps child ss x.next in
+      both_end at x.next row.next x.records row.records (each s at) (ends_steps ss x.next)
+
+  pub ends_children : (deeper : Part Stored → ℕ → Laid) → ((c : Part Stored) → Ends (deeper c)) → (cs : List (Part Stored)) (i : ℕ) → EndsRow (lay_children child deeper i cs)
+  ends_children deeper ends [] i at = none_end at
+  ends_children deeper ends (c ∷ cs) i at =
+      let x = deeper c at in
+      let row = lay_children child deeper (suc i) cs x.next in
+      ends_either (count_of c == 0) at (lay_children child deeper (suc i) cs at) (in_front x (child_for i (count_of c) x.stands) row) (ends_children deeper ends cs (suc i) at)
+      (both_end at x.next row.next x.records row.records (ends c at) (ends_children deeper ends cs (suc i) x.next))
+
+  ends_layer : (deeper : Part Stored → ℕ → Laid) → ((c : Part Stored) → Ends (deeper c)) → (depth : ℕ) (layer : Part-F Stored (Part Stored)) → Ends (λ at. lay_layer child deeper depth layer at)
+  ends_layer deeper ends depth (Leaf known steps) at = ends_known known at (behind_leaf (lay_steps child steps.items at)) (ends_behind Record.Leaf new_leaf at (lay_steps child steps.items at) (ends_steps steps.items at))
+  ends_layer deeper ends depth (Inode known n children) at =
+      ends_known known at (behind_inode depth (lay_children child deeper 0 children.items at))
+      (ends_behind (Record.Inode depth) (new_inode depth) at (lay_children child deeper 0 children.items at) (ends_children deeper ends children.items 0 at))
+  ends_layer deeper ends depth (Unread x n) at = none_end at
+
+  pub ends_part : (levels depth : ℕ) (part : Part Stored) → Ends (lay_part child levels depth part)
+  ends_part zero depth part at = ends_layer (lay_nothing child) (λ c at. ends_nothing at) depth (out-Part Stored part) at
+  ends_part (suc levels) depth part at = ends_layer (lay_part child levels (suc depth)) (λ c at. ends_part levels (suc depth) c at) depth (out-Part Stored part) at
 
 mutual
-  pub lay_next : (n : Node) (from at : ℕ) → (lay n from at).next ≡ at + length (bytes_of (lay n from at).records)
-  lay_next (stored r h) from at = let e = ap length bytes_none in omega (arith, e)
-  lay_next (contents b) from at = let e = ap length bytes_none in omega (arith, e)
-  lay_next (directory (Some r) ns) from at = let e = ap length bytes_none in omega (arith, e)
-  lay_next (directory None ns) from at =
-      let row = lay_among ns from at in
-      let e = row_next ns from at in
-      let l = ap length (bytes_append row.records ((row.next, Record.Leaf row.fields) ∷ [])) in
-      let m = length-append (bytes_of row.records) (bytes_of ((row.next, Record.Leaf row.fields) ∷ [])) in
-      let k = ap length (bytes_one row.next (Record.Leaf row.fields)) in
-      omega (arith, e, l, m, k)
+  pub ends_node : (n : Node) (from : ℕ) → Ends (lay n from)
+  ends_node (stored x) from at = none_end at
+  ends_node (contents b) from at = none_end at
+  ends_node (directory root ns) from at = ends_part (λ s. lay_at ns from s) (λ s at. ends_at ns from s at) deepest 0 root at
 
-  pub row_next : (ns : Nodes) (from at : ℕ) → (lay_among ns from at).next ≡ at + length (bytes_of (lay_among ns from at).records)
-  row_next none from at = let e = ap length bytes_none in omega (arith, e)
-  row_next (first s n ns) from at =
-      let x = lay n from at in
-      let e = lay_next n from at in
-      let f = row_next ns x.contents x.next in
-      let l = ap length (bytes_append x.records (lay_among ns x.contents x.next).records) in
-      let m = length-append (bytes_of x.records) (bytes_of (lay_among ns x.contents x.next).records) in
-      omega (arith, e, f, l, m)
+  pub ends_at : (ns : Nodes) (from : ℕ) (s : Step) → Ends (lay_at ns from s)
+  ends_at none from s at = ends_nothing at
+  ends_at (first t n ns) from s at =
+      one_or_other (same_bytes s t) at (lay n from at) (lay_at ns (from + size_of (fresh n)) s at) (ends_node n from at) (ends_at ns (from + size_of (fresh n)) s at)
 
-mutual
-  pub lay_contents : (n : Node) (from at : ℕ) → (lay n from at).contents ≡ from + size_of (fresh n)
-  lay_contents (stored r h) from at = omega arith
-  lay_contents (contents b) from at = omega arith
-  lay_contents (directory (Some r) ns) from at = refl
-  lay_contents (directory None ns) from at = row_contents ns from at
+-- ---- one behind the other
 
-  pub row_contents : (ns : Nodes) (from at : ℕ) → (lay_among ns from at).contents ≡ from + size_of (fresh_among ns)
-  row_contents none from at = omega arith
-  row_contents (first s n ns) from at =
-      let x = lay n from at in
-      let e = lay_contents n from at in
-      let f = row_contents ns x.contents x.next in
-      omega (arith, e, f, size_append (fresh n) (fresh_among ns))
+-- what is to be laid for the rest completes what is laid for all
+pub record RowsOn {F : Type 0} (end : ℕ) (rest all : ℕ → LaidRow F) (out before : Bytes) (row : List F) : Type 0 where
+  pub bytes : out ++ bytes_of (rest (behind_bytes end out)).records ≡ before ++ bytes_of (all (behind_bytes end before)).records
+  pub fields : row ++ (rest (behind_bytes end out)).fields ≡ (all (behind_bytes end before)).fields
+  pub fits : AllFit (rest (behind_bytes end out)).records → AllFit (all (behind_bytes end before)).records
 
--- ---- the loop over the entries of a directory
+pub rows_first : {F : Type 0} (end : ℕ) (all : ℕ → LaidRow F) (out : Bytes) (row : List F) → row ≡ [] → RowsOn end all all out out row
+rows_first end all out row empty = record { bytes = refl; fields = ap (λ l. l ++ (all (behind_bytes end out)).fields) empty; fits = λ f. f }
 
--- what is to be laid for the nodes that are left completes what is laid for all
-pub record LayingOn (end : ℕ) (rest all : Nodes) (next from : ℕ) (out before : Bytes) (leaf : List LeafEntry) : Type 0 where
-  pub bytes : out ++ bytes_of (lay_among rest next (end + length out)).records ≡ before ++ bytes_of (lay_among all from (end + length before)).records
-  pub fields : leaf ++ (lay_among rest next (end + length out)).fields ≡ (lay_among all from (end + length before)).fields
-  pub contents : next + size_of (fresh_among rest) ≡ from + size_of (fresh_among all)
-  pub fits : AllFit (lay_among rest next (end + length out)).records → AllFit (lay_among all from (end + length before)).records
-  pub high : height_among rest ≤ height_among all
-  pub broad : breadth_among rest ≤ breadth_among all
+-- one thing and then others
+abbrev pub first_of : {F : Type 0} → (ℕ → Laid) → (Stored → F) → (ℕ → LaidRow F) → ℕ → LaidRow F
+first_of one field later at = let x = one at in in_front x (field x.stands) (later x.next)
 
-pub laying_first : (end : ℕ) (all : Nodes) (from : ℕ) (out : Bytes) (leaf : List LeafEntry) → leaf ≡ [] → LayingOn end all all from from out out leaf
-laying_first end all from out leaf empty = record {
-  bytes = refl;
-  fields = ap (λ l. l ++ (lay_among all from (end + length out)).fields) empty;
-  contents = refl;
-  fits = λ f. f;
-  high = omega arith;
-  broad = omega arith;
-}
+module _ {F : Type 0} (end : ℕ) (one : ℕ → Laid) (ends : Ends one) (field : Stored → F) (later all : ℕ → LaidRow F) (out before : Bytes) (row : List F) (now : RowsOn end (first_of one field later) all out before row) where
+  abbrev y : Laid
+  y = one (behind_bytes end out)
 
-module _ (end : ℕ) (s : Step) (n : Node) (rest all : Nodes) (next from : ℕ) (out before : Bytes) (leaf : List LeafEntry) (now : LayingOn end (first s n rest) all next from out before leaf)
-    (to : ℕ) (after : Bytes) (x : Stored) (laid : IsLaid end n next to out after x) (longer : List LeafEntry) (pushed : longer ≡ leaf ++ field_for s x ∷ []) where
-  abbrev one : Laid
-  one = lay n next (end + length out)
+  module _ (after : Bytes) (x : Stored) (laid : IsLaid end one out after x) (longer : List F) (pushed : longer ≡ row ++ field x ∷ []) where
+    reached : y.next ≡ behind_bytes end after
+    reached = let e = ends (behind_bytes end out) in let l = ap length laid.bytes in omega (arith, e, l, length-append out (bytes_of y.records))
 
-  -- where the next record goes
-  reached : one.next ≡ end + length after
-  reached =
-      let e = lay_next n next (end + length out) in
-      let l = ap length laid.bytes in
-      omega (arith, e, l, length-append out (bytes_of one.records))
+    row_is : later y.next ≡ later (behind_bytes end after)
+    row_is = ap later reached
 
-  passed : one.contents ≡ to
-  passed = lay_contents n next (end + length out) ∙ sym laid.contents
+    pub rows_more : RowsOn end later all after before longer
+    rows_more = record {
+      bytes = ap (λ (b : Bytes). b ++ bytes_of (later (behind_bytes end after)).records) laid.bytes
+          ∙ append_assoc out (bytes_of y.records) (bytes_of (later (behind_bytes end after)).records)
+          ∙ ap (λ (r : LaidRow F). out ++ (bytes_of y.records ++ bytes_of r.records)) (sym row_is)
+          ∙ ap (λ (b : Bytes). out ++ b) (sym (bytes_append y.records (later y.next).records))
+          ∙ now.bytes;
+      fields = ap (λ (l : List F). l ++ (later (behind_bytes end after)).fields) pushed
+          ∙ append_assoc row (field x ∷ []) (later (behind_bytes end after)).fields
+          ∙ ap (λ (z : Stored). row ++ field z ∷ (later (behind_bytes end after)).fields) laid.stands
+          ∙ ap (λ (r : LaidRow F). row ++ field y.stands ∷ r.fields) (sym row_is)
+          ∙ now.fields;
+      fits = λ f. now.fits (fit_append y.records _ laid.fits (subst (λ (r : LaidRow F). AllFit r.records) (sym row_is) f));
+    }
 
-  row_is : lay_among rest one.contents one.next ≡ lay_among rest to (end + length after)
-  row_is = ap (λ (c : ℕ). lay_among rest c one.next) passed ∙ ap (lay_among rest to) reached
-
-  pub laying_more : LayingOn end rest all to from after before longer
-  laying_more = record {
-    bytes = ap (λ (b : Bytes). b ++ bytes_of (lay_among rest to (end + length after)).records) laid.bytes
-        ∙ append_assoc out (bytes_of one.records) (bytes_of (lay_among rest to (end + length after)).records)
-        ∙ ap (λ (row : LaidRow). out ++ (bytes_of one.records ++ bytes_of row.records)) (sym row_is)
-        ∙ ap (λ (b : Bytes). out ++ b) (sym (bytes_append one.records (lay_among rest one.contents one.next).records))
-        ∙ now.bytes;
-    fields = ap (λ (l : List LeafEntry). l ++ (lay_among rest to (end + length after)).fields) pushed
-        ∙ append_assoc leaf (field_for s x ∷ []) (lay_among rest to (end + length after)).fields
-        ∙ ap (λ (y : Stored). leaf ++ field_for s y ∷ (lay_among rest to (end + length after)).fields) laid.stands
-        ∙ ap (λ (row : LaidRow). leaf ++ field_for s one.stands ∷ row.fields) (sym row_is)
-        ∙ now.fields;
-    contents = let a = laid.contents in let b = now.contents in omega (arith, a, b, size_append (fresh n) (fresh_among rest));
-    fits = λ f. now.fits (fit_append one.records _ laid.fits (subst (λ (row : LaidRow). AllFit row.records) (sym row_is) f));
-    high = let h = now.high in omega (arith, h);
-    broad = let h = now.broad in omega (arith, h);
-  }
-
-pub laying_last : (end : ℕ) (all : Nodes) (next from : ℕ) (out before : Bytes) (leaf : List LeafEntry) → LayingOn end none all next from out before leaf → IsRow end all from next before out leaf
-laying_last end all next from out before leaf now = record {
+pub rows_last : {F : Type 0} (end : ℕ) (all : ℕ → LaidRow F) (out before : Bytes) (row : List F) → RowsOn end no_row all out before row → IsRow end all before out row
+rows_last end all out before row now = record {
   bytes = sym (append-nil out) ∙ ap (λ (b : Bytes). out ++ b) (sym bytes_none) ∙ now.bytes;
-  fields = sym (append-nil leaf) ∙ now.fields;
-  contents = let e = now.contents in omega (arith, e);
+  fields = sym (append-nil row) ∙ now.fields;
   fits = now.fits tt;
 }
 
+-- ---- parts
+
+module _ (child : Step → ℕ → Laid) where
+  pub known_laid : (levels depth : ℕ) (part : Part Stored) (at : ℕ) (x : Stored) → record_of part ≡ Some x → lay_part child levels depth part at ≡ there x at
+  known_laid zero depth part at x known = ap (λ o. known_or o at (lay_new child (lay_nothing child) depth (out-Part Stored part) at)) known
+  known_laid (suc levels) depth part at x known = ap (λ o. known_or o at (lay_new child (lay_part child levels (suc depth)) depth (out-Part Stored part) at)) known
+
+  pub new_laid : (levels depth : ℕ) (part : Part Stored) (at : ℕ) → record_of part ≡ None → lay_part child (suc levels) depth part at ≡ lay_new child (lay_part child levels (suc depth)) depth (out-Part Stored part) at
+  new_laid levels depth part at new = ap (λ o. known_or o at (lay_new child (lay_part child levels (suc depth)) depth (out-Part Stored part) at)) new
+
+  pub last_laid : (depth : ℕ) (part : Part Stored) (at : ℕ) → record_of part ≡ None → lay_part child zero depth part at ≡ lay_new child (lay_nothing child) depth (out-Part Stored part) at
+  last_laid depth part at new = ap (λ o. known_or o at (lay_new child (lay_nothing child) depth (out-Part Stored part) at)) new
+
 -- ---- faults
 
-pub cause_more : (l b h m c k : ℕ) (f : SaveFault) → l ≤ m → b ≤ c → h ≤ k → IsCause l b h f → IsCause m c k f
-cause_more l b h m c k (Limit Contents) lm bc hk is = omega arith
-cause_more l b h m c k (Limit Entries) lm bc hk is = omega arith
-cause_more l b h m c k (Limit Depth) lm bc hk is = omega arith
-cause_more l b h m c k (Limit Parents) lm bc hk is = is
-cause_more l b h m c k (Limit Branches) lm bc hk is = is
-cause_more l b h m c k (Limit Space) lm bc hk is = is
-cause_more l b h m c k (Limit Sequence) lm bc hk is = is
-cause_more l b h m c k (Limit Attempt) lm bc hk is = is
-cause_more l b h m c k Memory lm bc hk is = is
+pub cause_up : (b h c k : ℕ) (f : SaveFault) → b ≤ c → (64 < h → 64 < k) → IsCause 0 b h f → IsCause 0 c k f
+cause_up b h c k (Limit Contents) bc hk is = is
+cause_up b h c k (Limit Entries) bc hk is = omega arith
+cause_up b h c k (Limit Depth) bc hk is = hk is
+cause_up b h c k (Limit Parents) bc hk is = is
+cause_up b h c k (Limit Branches) bc hk is = is
+cause_up b h c k (Limit Space) bc hk is = is
+cause_up b h c k (Limit Sequence) bc hk is = is
+cause_up b h c k (Limit Attempt) bc hk is = is
+cause_up b h c k Memory bc hk is = is
 
-mutual
-  pub lay_height : (n : Node) (from at : ℕ) → (lay n from at).stands.height ≡ height_of n
-  lay_height (stored r h) from at = refl
-  lay_height (contents b) from at = refl
-  lay_height (directory (Some r) ns) from at = refl
-  lay_height (directory None ns) from at = row_height ns from at
+above_at : (row : List LeafEntry) (e : LeafEntry) (more : List LeafEntry) → raised e.height ≤ height_above (row ++ e ∷ more)
+above_at [] e more = omega arith
+above_at (x ∷ row) e more = let l = above_at row e more in omega arith
 
-  pub row_height : (ns : Nodes) (from at : ℕ) → height_above (lay_among ns from at).fields ≡ height_among ns
-  row_height none from at = refl
-  row_height (first s n ns) from at =
-      let x = lay n from at in
-      ap (λ (h : ℕ). max (raised h) (height_above (lay_among ns x.contents x.next).fields)) (lay_height n from at) ∙ ap (max (raised (height_of n))) (row_height ns x.contents x.next)
+over_at : (row : List InodeChild) (c : InodeChild) (more : List InodeChild) → c.height ≤ height_over (row ++ c ∷ more)
+over_at [] c more = omega arith
+over_at (x ∷ row) c more = let l = over_at row c more in omega arith
 
-pub row_count : (ns : Nodes) (from at : ℕ) → length (lay_among ns from at).fields ≡ count ns
-row_count none from at = refl
-row_count (first s n ns) from at = let x = lay n from at in ap suc (row_count ns x.contents x.next)
+-- one thing of a leaf, and of an inode, gives the cause of all
+pub entry_cause : (breadth end : ℕ) (s : Step) (one : ℕ → Laid) (later all : ℕ → LaidRow LeafEntry) (out before : Bytes) (row : List LeafEntry) → RowsOn end (first_of one (field_for s) later) all out before row → (f : SaveFault)
+    → IsLayFault breadth end one out f → IsRowFault height_above breadth end all before f
+entry_cause breadth end s one later all out before row now f is =
+    let x = one (behind_bytes end out) in
+    let low : raised x.stands.height ≤ height_above (all (behind_bytes end before)).fields =
+    subst (λ (l : List LeafEntry). raised x.stands.height ≤ height_above l) now.fields (above_at row (field_for s x.stands) (later x.next).fields) in
+    cause_up breadth x.stands.height breadth (height_above (all (behind_bytes end before)).fields) f (omega arith) (λ high. omega (arith, high, low)) is
 
--- ---- one directory
+pub child_cause : (breadth end i n : ℕ) (one : ℕ → Laid) (later all : ℕ → LaidRow InodeChild) (out before : Bytes) (row : List InodeChild) → RowsOn end (first_of one (child_for i n) later) all out before row → (f : SaveFault)
+    → IsLayFault breadth end one out f → IsRowFault height_over breadth end all before f
+child_cause breadth end i n one later all out before row now f is =
+    let x = one (behind_bytes end out) in
+    let low : x.stands.height ≤ height_over (all (behind_bytes end before)).fields =
+    subst (λ (l : List InodeChild). x.stands.height ≤ height_over l) now.fields (over_at row (child_for i n x.stands) (later x.next).fields) in
+    cause_up breadth x.stands.height breadth (height_over (all (behind_bytes end before)).fields) f (omega arith) (λ high. omega (arith, high, low)) is
 
-module _ (end : ℕ) (ns : Nodes) (from to : ℕ) (before out : Bytes) (leaf : List LeafEntry) (row : IsRow end ns from to before out leaf) where
-  pub row_laid : (after : Bytes) (x : Stored) → after ≡ out ++ spelling (Record.Leaf leaf) → x ≡ new_leaf leaf (end + length out) → Fits 1 (Record.Leaf leaf) → IsLaid end (directory None ns) from to before after x
-  row_laid after x put is fits =
-      let all = lay_among ns from (end + length before) in
-      let ends : end + length out ≡ all.next =
-      (let l = ap length row.bytes in let n = row_next ns from (end + length before) in omega (arith, l, n, length-append before (bytes_of all.records))) in
-      let one : bytes_of ((all.next, Record.Leaf all.fields) ∷ []) ≡ spelling (Record.Leaf leaf) = bytes_one all.next (Record.Leaf all.fields) ∙ ap (λ (l : List LeafEntry). spelling (Record.Leaf l)) (sym row.fields) in
+-- ---- the record behind a row
+
+module _ {F : Type 0} (made : List F → Record) (refer : List F → ℕ → Stored) (end : ℕ) (walk : ℕ → LaidRow F) (ends : EndsRow walk) (before out : Bytes) (row : List F) (laid : IsRow end walk before out row) where
+  abbrev all : LaidRow F
+  all = walk (behind_bytes end before)
+
+  ended : behind_bytes end out ≡ all.next
+  ended = let e = ends (behind_bytes end before) in let l = ap length laid.bytes in omega (arith, e, l, length-append before (bytes_of all.records))
+
+  pub behind_laid : (after : Bytes) (x : Stored) → after ≡ out ++ spelling (made row) → x ≡ refer row (end + length out) → Fits 1 (made row) → IsLaid end (λ at. behind made refer (walk at)) before after x
+  behind_laid after x put is fits =
+      let one : bytes_of ((all.next, made all.fields) ∷ []) ≡ spelling (made row) = bytes_one all.next (made all.fields) ∙ ap (λ (l : List F). spelling (made l)) (sym laid.fields) in
       record {
-        bytes = put ∙ ap (λ (b : Bytes). b ++ spelling (Record.Leaf leaf)) row.bytes ∙ append_assoc before (bytes_of all.records) (spelling (Record.Leaf leaf))
+        bytes = put ∙ ap (λ (b : Bytes). b ++ spelling (made row)) laid.bytes ∙ append_assoc before (bytes_of all.records) (spelling (made row))
             ∙ ap (λ (b : Bytes). before ++ (bytes_of all.records ++ b)) (sym one)
-            ∙ ap (λ (b : Bytes). before ++ b) (sym (bytes_append all.records ((all.next, Record.Leaf all.fields) ∷ [])));
-        stands = is ∙ ap (λ (l : List LeafEntry). new_leaf l (end + length out)) row.fields ∙ ap (new_leaf all.fields) ends;
-        contents = row.contents;
-        fits = fit_append all.records ((all.next, Record.Leaf all.fields) ∷ []) row.fits (subst (λ (l : List LeafEntry). Fits 1 (Record.Leaf l)) row.fields fits, tt);
+            ∙ ap (λ (b : Bytes). before ++ b) (sym (bytes_append all.records ((all.next, made all.fields) ∷ [])));
+        stands = is ∙ ap (λ (l : List F). refer l (behind_bytes end out)) laid.fields ∙ ap (refer all.fields) ended;
+        fits = fit_append all.records ((all.next, made all.fields) ∷ []) laid.fits (subst (λ (l : List F). Fits 1 (made l)) laid.fields fits, tt);
       }
 
-  pub leaf_cause : (f : SaveFault) → IsCause 0 (length leaf) (height_above leaf) f → IsLayFault (directory None ns) f
-  leaf_cause f is =
-      let at = end + length before in
-      let long : length leaf ≡ count ns = ap length row.fields ∙ row_count ns from at in
-      let high : height_above leaf ≡ height_among ns = ap height_above row.fields ∙ row_height ns from at in
-      cause_more 0 (length leaf) (height_above leaf) 0 (breadth (directory None ns)) (height_among ns) f (omega arith) (omega (arith, long)) (omega (arith, high)) is
+  -- a part whose record was put, or was not
+  module _ (height : List F → ℕ) (high : (l : List F) (at : ℕ) → (refer l at).height ≡ height l) (breadth : ℕ) where
+    pub behind_cause : (f : SaveFault) → IsHighFault (height row) f → IsLayFault breadth end (λ at. behind made refer (walk at)) before f
+    behind_cause f is =
+        let same : height row ≡ (refer all.fields all.next).height = ap height laid.fields ∙ sym (high all.fields all.next) in
+        cause_up 0 (height row) breadth (refer all.fields all.next).height f (omega arith) (λ h. omega (arith, h, same)) is
 
-pub row_cause : (known : Option Ref) (ns : Nodes) (f : SaveFault) → IsCause 0 (breadth_among ns) (height_among ns) f → IsLayFault (directory known ns) f
-row_cause known ns f is = cause_more 0 (breadth_among ns) (height_among ns) 0 (breadth (directory known ns)) (height_among ns) f (omega arith) (omega arith) (omega arith) is
+    pub behind_result : (after : Bytes) (r : Result Stored SaveFault) → OnOk r (after ≡ out ++ spelling (made row)) → IfOk r (λ x. x ≡ refer row (end + length out)) → OnOk r (Fits 1 (made row)) → IfErr r (IsHighFault (height row))
+        → MatchResult r (IsLaid end (λ at. behind made refer (walk at)) before after) (IsLayFault breadth end (λ at. behind made refer (walk at)) before)
+    behind_result after (Ok x) put is fits cause = behind_laid after x put is fits
+    behind_result after (Err f) put is fits cause = behind_cause f cause
 
-pub first_cause : (s : Step) (n : Node) (ns : Nodes) (f : SaveFault) → IsLayFault n f → IsCause 0 (breadth_among (first s n ns)) (height_among (first s n ns)) f
-first_cause s n ns f is = by f is
-  where
-    by : (f : SaveFault) → IsLayFault n f → IsCause 0 (breadth_among (first s n ns)) (height_among (first s n ns)) f
-    by (Limit Contents) is = omega arith
-    by (Limit Entries) is = omega arith
-    by (Limit Depth) is = omega arith
-    by (Limit Parents) is = is
-    by (Limit Branches) is = is
-    by (Limit Space) is = is
-    by (Limit Sequence) is = is
-    by (Limit Attempt) is = is
-    by Memory is = is
-
--- ---- what lays nothing
-
+-- what lays nothing
 pub nothing_put : (out : Bytes) → out ≡ out ++ bytes_of []
 nothing_put out = sym (append-nil out) ∙ ap (λ (b : Bytes). out ++ b) (sym bytes_none)
 
-pub stored_laid : (end : ℕ) (x : Stored) (from : ℕ) (out : Bytes) → IsLaid end (stored x.reference x.height) from from out out x
-stored_laid end x from out = record { bytes = nothing_put out; stands = refl; contents = omega arith; fits = tt }
-
-pub contents_laid : (end : ℕ) (b : Bytes) (from to : ℕ) (out : Bytes) (x : Stored) → x ≡ contents_at b from → to ≡ from + size b → IsLaid end (contents b) from to out out x
-contents_laid end b from to out x is moved = record { bytes = nothing_put out; stands = is; contents = omega (arith, moved); fits = tt }
-
-pub known_laid : (end : ℕ) (r : Ref) (ns : Nodes) (from to : ℕ) (out : Bytes) (h : ℕ) → h ≡ height_among ns → to ≡ from + size_of (fresh_among ns) → IsLaid end (directory (Some r) ns) from to out out record { reference = r; height = h }
-known_laid end r ns from to out h high moved = record { bytes = nothing_put out; stands = ap (λ (k : ℕ). record { reference = r; height = k }) high; contents = moved; fits = tt }
-
--- a directory whose entries were laid
-pub leaf_result : (end : ℕ) (ns : Nodes) (from to : ℕ) (before out after : Bytes) (leaf : List LeafEntry) → IsRow end ns from to before out leaf → (r : Result Stored SaveFault)
-    → OnOk r (after ≡ out ++ spelling (Record.Leaf leaf)) → IfOk r (λ x. x ≡ new_leaf leaf (end + length out)) → OnOk r (Fits 1 (Record.Leaf leaf)) → IfErr r (IsCause 0 (length leaf) (height_above leaf))
-    → MatchResult r (IsLaid end (directory None ns) from to before after) (IsLayFault (directory None ns))
-leaf_result end ns from to before out after leaf row (Ok x) put stands fits cause = row_laid end ns from to before out leaf row after x put stands fits
-leaf_result end ns from to before out after leaf row (Err f) put stands fits cause = leaf_cause end ns from to before out leaf row f cause
+pub nothing_laid : (end : ℕ) (x : Stored) (out : Bytes) → IsLaid end (there x) out out x
+nothing_laid end x out = record { bytes = nothing_put out; stands = refl; fits = tt }

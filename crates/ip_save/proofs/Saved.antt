@@ -1,7 +1,5 @@
 -- The bytes of a batch are those of the records that the definition has.
 use Rattle.std.proofs.Common.{◌≡◌, ℕ, ◌+◌, ◌<◌, ◌≤◌, [], ◌∷◌, ◌++◌, refl, sym, ap, subst, ◌∙◌, Option, Some, map, length, arith, append_assoc}
-use Rattle.std.specs.Prelude.{Result, Ok, Err, MatchResult}
-use Rattle.std.specs.Result.{IsErrAnd}
 use Rattle.std.specs.List.{AllByRecursion}
 use Rattle.std.proofs.lemmas.List.{append-nil, length-append}
 use Rattle.std.proofs.lemmas.List.Elements.{All-from_recursion}
@@ -17,19 +15,20 @@ use Rattle.ip_spec.specs.View.{View}
 use Rattle.ip_spec.specs.Batch as Batches
 use Rattle.ip_spec.specs.Batch.{Spelled, sources, placed, new_contents, contents_record, root_spelled, tree_batch, batch, batch_root, batch_end, batch_name, commit_of, branch_of}
 use Rattle.ip_tree.specs.Node.{Root, directory, unread, loaded}
-use Rattle.ip_tree.specs.TreeView.{IsView, shown_root}
+use Rattle.ip_tree.specs.Shown.{shown_root}
+use Rattle.ip_tree.specs.TreeView.{IsView}
 use Rattle.ip_tree.specs.declared.tree.Tree as code
 use Rattle.ip_save.specs.declared.batch.Batch.{Batch}
 use Rattle.ip_save.specs.Batches.{IsBatch, commit_record, greatest_end}
 use Rattle.ip_save.specs.Laid.{size_of, fresh_root, contents_bytes, lay_root, Laid, bytes_of, AllFit, IsShort, IsLaidRoot}
-use Rattle.ip_save.proofs.Laying.{bytes_append, bytes_none, fit_append, lay_next}
+use Rattle.ip_save.proofs.Laying.{bytes_append, bytes_none, ends_node, fit_append}
 use Rattle.ip_save.proofs.News.{news_root, fresh_values_root}
 use Rattle.ip_save.proofs.Placed.{contents_records, records_are, records_spell, records_fit, bytes_length}
 use Rattle.ip_save.proofs.Viewed.{each_new, placed_ones, root_is, root_named}
 
 root_next : (root : Root) (from at : ℕ) → (lay_root root from at).next ≡ at + length (bytes_of (lay_root root from at).records)
 root_next (unread r) from at = let e = ap length bytes_none in omega (arith, e)
-root_next (loaded k ns) from at = lay_next (directory k ns) from at
+root_next (loaded root ns) from at = ends_node (directory root ns) from at
 
 same_some : (x y : Hash) → Some x ≡ Some y → x ≡ y
 same_some x y e = cc
@@ -138,11 +137,6 @@ module _ (records : ℕ → Option Record) (tree : code.Tree) (v : View) (is : I
     long = ends ∙ ap (λ (x : Bytes). end + length x) (sym bytes);
     fits = All-from_recursion (λ x. Fits 1 x.1) (batch v (sources v) f end) batch_fit;
   }
-
--- a fault that is passed on
-pub passed_on : {A E : Type 0} (r : Result A E) (f : E) (Q : A → Type 0) (P : E → Type 0) → IsErrAnd r (λ e. e ≡ f) → P f → MatchResult r Q P
-passed_on (Ok x) f Q P is p = absurd is
-passed_on (Err e) f Q P is p = subst P (sym is) p
 
 -- bytes with a record behind them
 pub some_behind : (old new : Bytes) (r : Record) → new ≡ old ++ spelling r → 0 < length new

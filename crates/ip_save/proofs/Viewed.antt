@@ -1,33 +1,30 @@
 -- The new contents of a view and the root of its tree, by the nodes.
 --     new_contents_are, each_new      its new contents are those of the nodes.      root_is      so is what is spelled for its directories
-use Rattle.std.proofs.Common.{◌≡◌, ℕ, suc, ◌+◌, List, [], ◌∷◌, refl, ap, subst, ◌∙◌, Option, Some, None, Bool, true, false, cond, map, T}
+use Rattle.std.proofs.Common.{◌≡◌, ℕ, suc, ◌+◌, ◌≤◌, arith, List, [], ◌∷◌, refl, ap, subst, ◌∙◌, Option, Some, None, Bool, true, false, cond, map, T}
 use Rattle.std.specs.Prelude.{is_none, filter}
 use Rattle.std.specs.List.{AllByRecursion}
 use Rattle.std.specs.FinMap.Entries.{is_sorted, is_sorted-where_key}
 use Rattle.std.proofs.lemmas.Bool.{false≢true}
 use Rattle.ip_spec.specs.Path.{Bytes, Path, path_cmp}
 use Rattle.ip_spec.specs.declared.record.Record.{Record}
-use Rattle.ip_spec.specs.Tree.{Tree, height, entries_of}
+use Rattle.ip_spec.specs.Tree.{height}
 use Rattle.ip_spec.specs.Shape.{root_name}
 use Rattle.ip_spec.specs.View.{View}
 use Rattle.ip_spec.specs.Batch.{sources, source_by, is_own, new_contents, placed, place_among, contents_end, contents_offset, offset_by, spell_directory, root_spelled, whole_part}
 use Rattle.ip_spec.proofs.TreeLaws.{path_total}
 use Rattle.ip_spec.proofs.Subtrees.{same_itself}
 use Rattle.ip_spec.proofs.Naming.{Member, here, there, member_found}
-use Rattle.ip_tree.specs.Node.{Root, unread, loaded}
-use Rattle.ip_tree.specs.Meaning.{RootIs}
+use Rattle.ip_tree.specs.Node.{Root}
 use Rattle.ip_tree.specs.Known.{known_of}
-use Rattle.ip_tree.specs.Leaves.{HasLeavesOnly}
-use Rattle.ip_tree.specs.Reads.{directory_at}
-use Rattle.ip_tree.specs.TreeView.{IsView, shown_root}
+use Rattle.ip_tree.specs.Shown.{shown_root}
+use Rattle.ip_tree.specs.TreeView.{IsView}
 use Rattle.ip_tree.specs.declared.tree.Tree as code
-use Rattle.ip_tree.proofs.Widest.{narrow_of}
-use Rattle.ip_tree.proofs.Heights.{lawful_height}
 use Rattle.ip_save.specs.Laid.{size, size_of, fresh_root, lay_root}
-use Rattle.ip_save.proofs.Split.{split}
-use Rattle.ip_save.proofs.News.{news_root, kept, nothing_new, only_below, news_of_among, fresh_values_root}
+use Rattle.ip_save.proofs.Lawful.{lawful_height}
+use Rattle.ip_save.proofs.News.{fresh_values_root, kept, news_of_root, news_root}
 use Rattle.ip_save.proofs.Placed.{key_of, places, IsNew, GoesOn, placed_are, end_is, places_found}
-use Rattle.ip_save.proofs.Agreeing.{OffsetsAt, RootAgrees, root_agrees, spelled_by}
+use Rattle.ip_save.proofs.Agreeing.{spelled_by}
+use Rattle.ip_save.proofs.TreesAgree.{OffsetsAt, RootAgrees, root_agrees}
 
 -- ---- tests
 
@@ -62,12 +59,6 @@ own_is p (Some at) = refl
 
 -- ---- the new contents
 
-root_kept : (records : ℕ → Option Record) → HasLeavesOnly records → (root : Root) (t : Tree) → RootIs records root t → kept (λ p. is_none (known_of records root (whole_part p))) t.entries ≡ news_root root
-root_kept records leaves (unread r) t is = nothing_new records leaves r t (directory_at t is.1 is.0)
-root_kept records leaves (loaded k ns) t is =
-    ap (kept (λ p. is_none (known_of records (loaded k ns) (whole_part p)))) (split t is.directory)
-    ∙ only_below records leaves k ns (entries_of t).entries ∙ news_of_among records leaves ns (entries_of t).entries is.nodes (entries_of t).sorted
-
 module _ (records : ℕ → Option Record) (tree : code.Tree) (v : View) (is : IsView records tree v) where
   abbrev root : Root
   root = shown_root tree.root
@@ -79,7 +70,7 @@ module _ (records : ℕ → Option Record) (tree : code.Tree) (v : View) (is : I
   fresh_ones = news_root root
 
   kept_are : kept is_new v.map.entries ≡ fresh_ones
-  kept_are = kept_same is_new (λ p. is_none (known_of records root (whole_part p))) (λ p. ap is_none (is.known (whole_part p))) v.map.entries ∙ root_kept records is.leaves root v.map is.root
+  kept_are = kept_same is_new (λ p. is_none (known_of records root (whole_part p))) (λ p. ap is_none (is.known (whole_part p))) v.map.entries ∙ news_of_root records root v.map is.root
 
   pub new_contents_are : new_contents v (sources v) ≡ map key_of fresh_ones
   new_contents_are = keys_kept (λ p. is_own p (sources v p)) is_new (λ p. own_is p (v.known (whole_part p))) v.map.entries ∙ ap (map key_of) kept_are
@@ -114,7 +105,10 @@ module _ (records : ℕ → Option Record) (tree : code.Tree) (v : View) (is : I
 
     agrees : (at : ℕ) → RootAgrees v offset records offset_known root v.map end at
     agrees at =
-        root_agrees v offset records offset_known root v.map end at is.root (λ p. is.known (whole_part p)) (offsets fresh_ones end each_new (places_found fresh_ones end ascending)) (lawful_height v.map is.lawful) (narrow_of v.map is.narrow)
+        root_agrees v offset records offset_known root v.map end at is.root is.known (offsets fresh_ones end each_new (places_found fresh_ones end ascending)) (lawful_height v.map is.lawful)
+
+    pub root_low : (at : ℕ) → (lay_root root end at).stands.height ≤ 64
+    root_low at = let low = (agrees at).low in let shallow = lawful_height v.map is.lawful in omega (arith, low, shallow)
 
     pub root_is : root_spelled v (sources v) end ≡ spelled_by (lay_root root end (end + size_of (fresh_root root)))
     root_is = ap (spell_directory v offset (suc (height v.map)) [] v.map) directories_from ∙ (agrees (end + size_of (fresh_root root))).spelled

@@ -1,33 +1,46 @@
 -- What the walks over a lazy tree write and answer, by its nodes alone.
---     fresh n      the new contents, in their order.      contents_bytes bs      the bytes of their records.      size_of bs      how many these are
---     raised h      a height one step further up, where 255 stands for all above.      height_of n      the greatest number of steps
---     longest n, breadth n      the greatest length of its new contents, and the most entries of a directory that was loaded
---     lay n from at      the records of the directories that are to be written, from the offset `at` on, where the next new contents lie at `from`
---     fresh_root, longest_root, breadth_root, height_root, lay_root      of a root
---     IsLaid, IsLaidRoot      what the walk over directories does.      IsCause l b h fault      a limit only where one of the three is passed
-use Rattle.std.specs.Prelude.{◌≡◌, ℕ, suc, ◌+◌, ◌<◌, max, min, List, [], ◌∷◌, ◌++◌, length, map, flat_map, Option, Some, None}
+--     fresh n      the new contents, in the order of their paths.      contents_bytes bs      the bytes of their records.      size_of bs      how many these are
+--     longest n      the greatest length of the new contents.      breadth n      the most entries of a directory that was loaded
+--     count_of part      how many entries a part has.      record_of part      the record that spells it, where one is known
+--     raised h      a height one step further up, where 255 stands for all above.      height_above, height_over      of a leaf, and of an inode
+--     lay n from at      the records of the directories that are to be written, from the offset `at` on, where the new contents below the node lie from `from` on
+--     lay_at ns from s at      of the node at a step, where those below the first node lie from `from` on.      start_in ns from s      where those at the step begin
+--     lay_part child levels depth part at      of a part, where `child` lays what stands at a step
+--     fresh_root, longest_root, breadth_root, lay_root      of a root
+--     AreStarts ns from starts, IsReady dir from table end      a table of where the new contents of each entry begin
+--     IsLaid, IsRow, IsLaidRoot      what the walk over directories does.      IsCause l b h fault      a limit only where one of the three is passed
+use Rattle.std.specs.Prelude.{◌≡◌, ℕ, zero, suc, ◌+◌, ◌<◌, ◌≤◌, ◌^◌, ◌==◌, cond, max, min, List, [], ◌∷◌, ◌++◌, length, map, flat_map, Option, Some, None}
 use Rattle.std.specs.List.{AllByRecursion}
 use Rattle.sha2.specs.Sha256.{sha256}
 use Rattle.ip_base.specs.declared.limit.Limit.TheVariants.{Contents, Depth, Entries}
-use Rattle.ip_spec.specs.Path.{Bytes, Step}
+use Rattle.ip_spec.specs.Path.{Bytes, Step, same_bytes}
 use Rattle.ip_spec.specs.declared.record.Record.{Record}
 use Rattle.ip_spec.specs.declared.record.LeafEntry.{LeafEntry}
+use Rattle.ip_spec.specs.declared.record.InodeChild.{InodeChild}
 use Rattle.ip_spec.specs.declared.record.Ref.{Ref}
-use Rattle.ip_spec.specs.Record.{Hash, Fits, spelling, spelling_of, hashed_leaf}
+use Rattle.ip_spec.specs.Record.{Hash, Fits, spelling, spelling_of, hashed_leaf, hashed_inode}
+use Rattle.ip_spec.specs.Shape.{deepest}
 use Rattle.ip_spec.specs.Step.{contents_limit, entries_limit, steps_limit}
 use Rattle.ip_spec.specs.TreeAt.{Records}
-use Rattle.ip_tree.specs.Node.{Node, Nodes, Root, stored, contents, directory, none, first, unread, loaded}
+use Rattle.ip_shape.specs.Shape.{AreSteps, count_in}
+use Rattle.ip_shape.specs.declared.dir.Dir.{Dir}
+use Rattle.ip_shape.specs.declared.part.Part.{Part, out-Part}
+use Rattle.ip_shape.specs.declared.part.Part.TheOpen.{Part-F, Leaf, Inode, Unread}
+use Rattle.ip_tree.specs.Node.{Node, Nodes, Root, stored, contents, directory, none, first, unread, loaded, nodes_of, steps_in}
+use Rattle.ip_tree.specs.Shown.{entries_shown}
+use Rattle.ip_tree.specs.declared.node.Node as code
 use Rattle.ip_tree.specs.declared.node.Stored.{Stored}
 use Rattle.ip_save.specs.declared.batch.SaveFault.{SaveFault}
 use Rattle.ip_save.specs.declared.batch.SaveFault.TheVariants.{Limit, Memory}
+use Rattle.ip_save.specs.declared.starts.Start.{Start}
 
 -- ---- new contents
 
 abbrev mutual
   pub fresh : Node → List Bytes
-  fresh (stored r h) = []
+  fresh (stored x) = []
   fresh (contents bytes) = bytes ∷ []
-  fresh (directory known ns) = fresh_among ns
+  fresh (directory root ns) = fresh_among ns
 
   pub fresh_among : Nodes → List Bytes
   fresh_among none = []
@@ -45,38 +58,24 @@ size_of (b ∷ bs) = size b + size_of bs
 
 -- ---- measures
 
-abbrev pub raised : ℕ → ℕ
-raised h = min 255 (h + 1)
-
-abbrev mutual
-  pub height_of : Node → ℕ
-  height_of (stored r h) = h
-  height_of (contents bytes) = 0
-  height_of (directory known ns) = height_among ns
-
-  pub height_among : Nodes → ℕ
-  height_among none = 0
-  height_among (first s n ns) = max (raised (height_of n)) (height_among ns)
-
-abbrev pub count : Nodes → ℕ
-count none = 0
-count (first s n ns) = suc (count ns)
-
 abbrev mutual
   pub longest : Node → ℕ
-  longest (stored r h) = 0
+  longest (stored x) = 0
   longest (contents bytes) = length bytes
-  longest (directory known ns) = longest_among ns
+  longest (directory root ns) = longest_among ns
 
   pub longest_among : Nodes → ℕ
   longest_among none = 0
   longest_among (first s n ns) = max (longest n) (longest_among ns)
 
+abbrev pub count_of : Part Stored → ℕ
+count_of part = count_in (out-Part Stored part)
+
 abbrev mutual
   pub breadth : Node → ℕ
-  breadth (stored r h) = 0
+  breadth (stored x) = 0
   breadth (contents bytes) = 0
-  breadth (directory known ns) = max (count ns) (breadth_among ns)
+  breadth (directory root ns) = max (count_of root) (breadth_among ns)
 
   pub breadth_among : Nodes → ℕ
   breadth_among none = 0
@@ -84,83 +83,169 @@ abbrev mutual
 
 -- ---- directories
 
--- the records, what refers to the thing itself, and the next places of new contents and of a record
+-- the records, what refers to the thing itself, and the place of the next record
 pub record Laid : Type 0 where
   pub records : Records
   pub stands : Stored
-  pub contents : ℕ
   pub next : ℕ
 
-pub record LaidRow : Type 0 where
+-- the same of the entries of a leaf, or of the children of an inode
+pub record LaidRow (F : Type 0) : Type 0 where
   pub records : Records
-  pub fields : List LeafEntry
-  pub contents : ℕ
+  pub fields : List F
   pub next : ℕ
+
+abbrev pub no_row : {F : Type 0} → ℕ → LaidRow F
+no_row at = record { records = []; fields = []; next = at }
+
+abbrev pub in_front : {F : Type 0} → Laid → F → LaidRow F → LaidRow F
+in_front x field row = record { records = x.records ++ row.records; fields = field ∷ row.fields; next = row.next }
 
 abbrev pub field_for : Step → Stored → LeafEntry
 field_for s x = record { step = s; kind = x.reference.kind; height = x.height; name = x.reference.name; at = x.reference.at }
 
-abbrev pub in_front : Step → Laid → LaidRow → LaidRow
-in_front s x row = record { records = x.records ++ row.records; fields = field_for s x.stands ∷ row.fields; contents = row.contents; next = row.next }
+abbrev pub child_for : ℕ → ℕ → Stored → InodeChild
+child_for i n x = record { index = i; count = n; height = x.height; name = x.reference.name; at = x.reference.at }
+
+abbrev pub raised : ℕ → ℕ
+raised h = min 255 (h + 1)
 
 abbrev pub height_above : List LeafEntry → ℕ
 height_above [] = 0
 height_above (e ∷ es) = max (raised e.height) (height_above es)
 
--- contents whose record lies there
-abbrev pub contents_at : Bytes → ℕ → Stored
-contents_at bytes at = record { reference = record { at = at; name = sha256 bytes; kind = 1 }; height = 0 }
+abbrev pub height_over : List InodeChild → ℕ
+height_over [] = 0
+height_over (c ∷ cs) = max c.height (height_over cs)
 
 abbrev pub leaf_name : List LeafEntry → Hash
 leaf_name fields = sha256 (hashed_leaf (map (λ e. (e.step, (e.kind, e.name))) fields))
 
-abbrev pub new_leaf : List LeafEntry → ℕ → Stored
-new_leaf fields at = record { reference = record { at = at; name = leaf_name fields; kind = 2 }; height = height_above fields }
+abbrev pub inode_name : ℕ → List InodeChild → Hash
+inode_name depth fields = sha256 (hashed_inode depth (map (λ c. (c.index, c.count, c.name)) fields))
 
-abbrev pub behind : LaidRow → Laid
-behind row = record {
-  records = row.records ++ (row.next, Record.Leaf row.fields) ∷ [];
-  stands = new_leaf row.fields row.next;
-  contents = row.contents;
-  next = row.next + length (spelling (Record.Leaf row.fields));
+-- contents whose record lies there
+abbrev pub contents_at : Bytes → ℕ → Stored
+contents_at bytes at = record { reference = record { at = at; name = sha256 bytes; kind = 1 }; height = 0 }
+
+-- a part of a directory whose record lies there
+abbrev pub part_at : ℕ → Hash → ℕ → Stored
+part_at height name at = record { reference = record { at = at; name = name; kind = 2 }; height = height }
+
+abbrev pub new_leaf : List LeafEntry → ℕ → Stored
+new_leaf fields at = part_at (height_above fields) (leaf_name fields) at
+
+abbrev pub new_inode : ℕ → List InodeChild → ℕ → Stored
+new_inode depth fields at = part_at (height_over fields) (inode_name depth fields) at
+
+-- what a record spells is only referred to
+abbrev pub there : Stored → ℕ → Laid
+there x at = record { records = []; stands = x; next = at }
+
+abbrev pub behind : {F : Type 0} → (List F → Record) → (List F → ℕ → Stored) → LaidRow F → Laid
+behind made refer row = record {
+  records = row.records ++ (row.next, made row.fields) ∷ [];
+  stands = refer row.fields row.next;
+  next = row.next + length (spelling (made row.fields));
 }
 
--- a directory that a record spells is only referred to
-abbrev pub known_or : Option Ref → Nodes → ℕ → ℕ → Laid → Laid
-known_or (Some r) ns from at x = record { records = []; stands = record { reference = r; height = height_among ns }; contents = from + size_of (fresh_among ns); next = at }
-known_or None ns from at x = x
+abbrev pub behind_leaf : LaidRow LeafEntry → Laid
+behind_leaf row = behind Record.Leaf new_leaf row
+
+abbrev pub behind_inode : ℕ → LaidRow InodeChild → Laid
+behind_inode depth row = behind (Record.Inode depth) (new_inode depth) row
+
+abbrev pub record_in : Part-F Stored (Part Stored) → Option Stored
+record_in (Leaf known steps) = known
+record_in (Inode known n children) = known
+record_in (Unread x n) = Some x
+
+abbrev pub record_of : Part Stored → Option Stored
+record_of part = record_in (out-Part Stored part)
+
+abbrev pub known_or : Option Stored → ℕ → Laid → Laid
+known_or (Some x) at new = there x at
+known_or None at new = new
+
+module _ (child : Step → ℕ → Laid) where
+  abbrev pub lay_steps : List Step → ℕ → LaidRow LeafEntry
+  lay_steps [] at = no_row at
+  lay_steps (s ∷ ss) at = let x = child s at in in_front x (field_for s x.stands) (lay_steps ss x.next)
+
+  -- the children from an index on: an empty one is left out
+  abbrev pub lay_children : (Part Stored → ℕ → Laid) → ℕ → List (Part Stored) → ℕ → LaidRow InodeChild
+  lay_children deeper i [] at = no_row at
+  lay_children deeper i (c ∷ cs) at =
+      cond (count_of c == 0) (lay_children deeper (suc i) cs at)
+      (let x = deeper c at in in_front x (child_for i (count_of c) x.stands) (lay_children deeper (suc i) cs x.next))
+
+  -- a part that no record is known to spell
+  abbrev pub lay_new : (Part Stored → ℕ → Laid) → ℕ → Part-F Stored (Part Stored) → ℕ → Laid
+  lay_new deeper depth (Leaf known steps) at = behind_leaf (lay_steps steps.items at)
+  lay_new deeper depth (Inode known n children) at = behind_inode depth (lay_children deeper 0 children.items at)
+  lay_new deeper depth (Unread x n) at = there x at
+
+  abbrev pub lay_layer : (Part Stored → ℕ → Laid) → ℕ → Part-F Stored (Part Stored) → ℕ → Laid
+  lay_layer deeper depth layer at = known_or (record_in layer) at (lay_new deeper depth layer at)
+
+  -- no inode is so deep
+  abbrev pub lay_nothing : Part Stored → ℕ → Laid
+  lay_nothing part at = behind_leaf (no_row at)
+
+  abbrev pub lay_part : ℕ → ℕ → Part Stored → ℕ → Laid
+  lay_part zero depth part at = lay_layer lay_nothing depth (out-Part Stored part) at
+  lay_part (suc levels) depth part at = lay_layer (lay_part levels (suc depth)) depth (out-Part Stored part) at
 
 abbrev mutual
   pub lay : Node → ℕ → ℕ → Laid
-  lay (stored r h) from at = record { records = []; stands = record { reference = r; height = h }; contents = from; next = at }
-  lay (contents bytes) from at = record { records = []; stands = contents_at bytes from; contents = from + size bytes; next = at }
-  lay (directory known ns) from at = known_or known ns from at (behind (lay_among ns from at))
+  lay (stored x) from at = there x at
+  lay (contents bytes) from at = there (contents_at bytes from) at
+  lay (directory root ns) from at = lay_part (λ s. lay_at ns from s) deepest 0 root at
 
-  pub lay_among : Nodes → ℕ → ℕ → LaidRow
-  lay_among none from at = record { records = []; fields = []; contents = from; next = at }
-  lay_among (first s n ns) from at = let x = lay n from at in in_front s x (lay_among ns x.contents x.next)
+  pub lay_at : Nodes → ℕ → Step → ℕ → Laid
+  lay_at none from s at = behind_leaf (no_row at)
+  lay_at (first t n ns) from s at = cond (same_bytes s t) (lay n from at) (lay_at ns (from + size_of (fresh n)) s at)
+
+abbrev pub start_in : Nodes → ℕ → Step → ℕ
+start_in none from s = from
+start_in (first t n ns) from s = cond (same_bytes s t) from (start_in ns (from + size_of (fresh n)) s)
 
 -- ---- roots
 
 abbrev pub fresh_root : Root → List Bytes
 fresh_root (unread r) = []
-fresh_root (loaded known ns) = fresh_among ns
+fresh_root (loaded root ns) = fresh_among ns
 
 abbrev pub longest_root : Root → ℕ
 longest_root (unread r) = 0
-longest_root (loaded known ns) = longest_among ns
+longest_root (loaded root ns) = longest_among ns
 
 abbrev pub breadth_root : Root → ℕ
 breadth_root (unread r) = 0
-breadth_root (loaded known ns) = breadth (directory known ns)
-
-abbrev pub height_root : Root → ℕ
-height_root (unread r) = 0
-height_root (loaded known ns) = height_among ns
+breadth_root (loaded root ns) = breadth (directory root ns)
 
 abbrev pub lay_root : Root → ℕ → ℕ → Laid
-lay_root (unread r) from at = record { records = []; stands = record { reference = r; height = 0 }; contents = from; next = at }
-lay_root (loaded known ns) from at = lay (directory known ns) from at
+lay_root (unread r) from at = there (record { reference = r; height = 0 }) at
+lay_root (loaded root ns) from at = lay (directory root ns) from at
+
+-- ---- where new contents begin
+
+abbrev pub AreStarts : Nodes → ℕ → List Start → Type 0
+AreStarts none from [] = Unit {0}
+AreStarts none from (x ∷ xs) = ⊥
+AreStarts (first s n ns) from [] = ⊥
+AreStarts (first s n ns) from (x ∷ xs) = (x.step.now ≡ s) × (x.at ≡ from) × AreStarts ns (from + size_of (fresh n)) xs
+
+-- what stands in a directory at the steps whose parts were read
+abbrev pub nodes_in : Dir code.Node Stored → Nodes
+nodes_in dir = nodes_of (entries_shown dir)
+
+-- the table is the directory's, whose first new contents lie at `from`, and the offsets from the end of what there was on can be counted
+pub record IsReady (dir : Dir code.Node Stored) (from : ℕ) (table : List Start) (end : ℕ) : Type 0 where
+  pub ascend : AreSteps (steps_in (nodes_in dir))
+  pub starts : AreStarts (nodes_in dir) from table
+  pub room : from + size_of (fresh_among (nodes_in dir)) < 2 ^ 64
+  pub low : end ≤ 2 ^ 62
 
 -- ---- what the walks do
 
@@ -174,29 +259,26 @@ AllFit records = AllByRecursion (λ x. Fits 1 x.1) records
 abbrev pub IsShort : Bytes → Type 0
 IsShort bytes = Fits 1 (Record.Contents bytes)
 
--- what was laid, behind bytes whose first lies at the offset `end`
-pub record IsLaid (end : ℕ) (n : Node) (from to : ℕ) (before after : Bytes) (x : Stored) : Type 0 where
-  pub bytes : after ≡ before ++ bytes_of (lay n from (end + length before)).records
-  pub stands : x ≡ (lay n from (end + length before)).stands
-  pub contents : to ≡ from + size_of (fresh n)
-  pub fits : AllFit (lay n from (end + length before)).records
+-- the place behind bytes whose first lies at the offset `end`
+abbrev pub behind_bytes : ℕ → Bytes → ℕ
+behind_bytes end bytes = end + length bytes
 
--- the entries of a directory
-abbrev pub nodes_in : Node → Nodes
-nodes_in (stored r h) = none
-nodes_in (contents bytes) = none
-nodes_in (directory known ns) = ns
+-- what a walk laid, behind bytes whose first lies at the offset `end`
+pub record IsLaid (end : ℕ) (walk : ℕ → Laid) (before after : Bytes) (x : Stored) : Type 0 where
+  pub bytes : after ≡ before ++ bytes_of (walk (behind_bytes end before)).records
+  pub stands : x ≡ (walk (behind_bytes end before)).stands
+  pub fits : AllFit (walk (behind_bytes end before)).records
 
-pub record IsRow (end : ℕ) (ns : Nodes) (from to : ℕ) (before after : Bytes) (row : List LeafEntry) : Type 0 where
-  pub bytes : after ≡ before ++ bytes_of (lay_among ns from (end + length before)).records
-  pub fields : row ≡ (lay_among ns from (end + length before)).fields
-  pub contents : to ≡ from + size_of (fresh_among ns)
-  pub fits : AllFit (lay_among ns from (end + length before)).records
+-- the entries of a leaf, or the children of an inode
+pub record IsRow {F : Type 0} (end : ℕ) (walk : ℕ → LaidRow F) (before after : Bytes) (row : List F) : Type 0 where
+  pub bytes : after ≡ before ++ bytes_of (walk (behind_bytes end before)).records
+  pub fields : row ≡ (walk (behind_bytes end before)).fields
+  pub fits : AllFit (walk (behind_bytes end before)).records
 
 pub record IsLaidRoot (end : ℕ) (root : Root) (before after : Bytes) (r : Ref) : Type 0 where
-  pub bytes : after ≡ before ++ bytes_of (lay_root root end (end + length before)).records
-  pub stands : r ≡ (lay_root root end (end + length before)).stands.reference
-  pub fits : AllFit (lay_root root end (end + length before)).records
+  pub bytes : after ≡ before ++ bytes_of (lay_root root end (behind_bytes end before)).records
+  pub stands : r ≡ (lay_root root end (behind_bytes end before)).stands.reference
+  pub fits : AllFit (lay_root root end (behind_bytes end before)).records
 
 -- limits of contents, of a directory's entries and of steps
 abbrev pub IsCause : ℕ → ℕ → ℕ → SaveFault → Type 0
@@ -209,14 +291,16 @@ IsCause l b h Memory = Unit {0}
 abbrev pub IsLongFault : ℕ → SaveFault → Type 0
 IsLongFault l = IsCause l 0 0
 
-abbrev pub IsLeafFault : List LeafEntry → SaveFault → Type 0
-IsLeafFault fields = IsCause 0 (length fields) (height_above fields)
+-- steps alone
+abbrev pub IsHighFault : ℕ → SaveFault → Type 0
+IsHighFault h = IsCause 0 0 h
 
-abbrev pub IsLayFault : Node → SaveFault → Type 0
-IsLayFault n = IsCause 0 (breadth n) (height_of n)
+-- of a walk over directories of at most so many entries: the height is that of what it lays
+abbrev pub IsLayFault : ℕ → ℕ → (ℕ → Laid) → Bytes → SaveFault → Type 0
+IsLayFault breadth end walk before = IsCause 0 breadth (walk (behind_bytes end before)).stands.height
 
-abbrev pub IsRowFault : Nodes → SaveFault → Type 0
-IsRowFault ns = IsCause 0 (breadth_among ns) (height_among ns)
+abbrev pub IsRowFault : {F : Type 0} → (List F → ℕ) → ℕ → ℕ → (ℕ → LaidRow F) → Bytes → SaveFault → Type 0
+IsRowFault height breadth end walk before = IsCause 0 breadth (height (walk (behind_bytes end before)).fields)
 
-abbrev pub IsRootFault : Root → SaveFault → Type 0
-IsRootFault root = IsCause 0 (breadth_root root) (height_root root)
+abbrev pub IsRootFault : ℕ → Root → Bytes → SaveFault → Type 0
+IsRootFault end root before = IsLayFault (breadth_root root) end (lay_root root end) before

@@ -4,8 +4,7 @@ ghost use Rattle.std.specs.List.{AllByRecursion};
 ghost use Rattle.ip_save.specs.Laid.{fresh, fresh_root, contents_bytes, IsShort, IsLongFault, longest, longest_root};
 ghost use Rattle.ip_spec.specs.Record.{Fits, spelling};
 ghost use Rattle.ip_spec.specs.declared.record.Record.TheVariants as Record;
-ghost use Rattle.ip_tree.specs.Shown.{shown, shown_directory};
-ghost use Rattle.ip_tree.specs.TreeView.{shown_root};
+ghost use Rattle.ip_tree.specs.Shown.{shown, shown_directory, shown_root};
 
 use crate::SaveFault;
 use ip_base::Limit;
@@ -21,19 +20,19 @@ pub fn put_all_fresh(root: &Root, out: &mut Vec<u8>) -> Result<(), SaveFault>
 {
     match root {
         Root::Stored(_) => Ok(()),
-        Root::Loaded(directory) => put_fresh_in(directory, out),
+        Root::Loaded(dir) => put_fresh_in(dir, out),
     }
 }
 
-// Puts the records of the new contents below a directory, those of known directories included.
+// Puts the records of the new contents below a directory, in the order of its steps.
 #[cycle(fresh)]
-fn put_fresh_in(directory: &Directory, out: &mut Vec<u8>) -> Result<(), SaveFault>
-    ensures bytes { OnOk result (out.new.items ≡ out.old.items ++ contents_bytes (fresh (shown_directory directory.now))) }
-    ensures short { OnOk result (AllByRecursion IsShort (fresh (shown_directory directory.now))) }
-    ensures cause { IfErr result (IsLongFault (longest (shown_directory directory.now))) }
+fn put_fresh_in(dir: &Directory, out: &mut Vec<u8>) -> Result<(), SaveFault>
+    ensures bytes { OnOk result (out.new.items ≡ out.old.items ++ contents_bytes (fresh (shown_directory dir.now))) }
+    ensures short { OnOk result (AllByRecursion IsShort (fresh (shown_directory dir.now))) }
+    ensures cause { IfErr result (IsLongFault (longest (shown_directory dir.now))) }
 {
-    for entry in &directory.entries {
-        put_fresh(&entry.node, out)?;
+    for (_, node) in dir.entries() {
+        put_fresh(node, out)?;
     }
     Ok(())
 }
@@ -48,7 +47,7 @@ fn put_fresh(node: &Node, out: &mut Vec<u8>) -> Result<(), SaveFault>
     match node {
         Node::Stored(_) => Ok(()),
         Node::Contents(bytes) => put_one(bytes.as_slice(), out),
-        Node::Directory(directory) => put_fresh_in(directory, out),
+        Node::Directory(dir) => put_fresh_in(dir, out),
     }
 }
 

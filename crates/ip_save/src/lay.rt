@@ -1,18 +1,26 @@
 // The records of directories that no record is known to spell.
-ghost use Rattle.std.specs.Prelude.{◌≡◌, ◌+◌, ◌++◌, ◌≤◌, ◌<◌, ◌^◌, length, IfErr, IfOk, OnOk, MatchResult};
-ghost use Rattle.ip_save.specs.Laid.{fresh, fresh_root, size, size_of, contents_at, field_for, IsLaid, IsLaidRoot, IsLayFault, IsLeafFault, IsRootFault, IsRow, IsRowFault, new_leaf, nodes_in};
+ghost use Rattle.std.specs.Prelude.{◌≡◌, ◌≢◌, ◌+◌, ◌-◌, ◌++◌, ◌≤◌, ◌<◌, ◌^◌, ℕ, length, Option, Some, None, IfErr, IfOk, OnOk, MatchResult, IsOkAnd, IsSomeAnd};
+ghost use Rattle.ip_save.specs.Laid.{IsHighFault, IsLaid, IsLaidRoot, IsLayFault, IsReady, IsRootFault, IsRow, IsRowFault};
+ghost use Rattle.ip_save.specs.Laid.{breadth, breadth_among, contents_at, count_of, fresh, fresh_root, height_above, height_over, lay, lay_at, lay_children, lay_part, lay_steps, new_inode, new_leaf, nodes_in, record_of, size_of};
 ghost use Rattle.ip_spec.specs.Record.{Fits, spelling};
+ghost use Rattle.ip_spec.specs.Shape.{deepest};
 ghost use Rattle.ip_spec.specs.declared.record.Record.TheVariants as Record;
-ghost use Rattle.ip_tree.specs.Shown.{shown, shown_directory};
-ghost use Rattle.ip_tree.specs.TreeView.{shown_root};
+ghost use Rattle.ip_tree.specs.Shown.{shown, shown_directory, shown_root};
 
 use crate::SaveFault;
-use crate::leaf::height_above;
-use crate::measure::{behind_all, behind_one, height_in};
-use crate::records::put_leaf;
-use ip_base::{Items, Memory, Step};
+use crate::inode::{add_child, height_over};
+use crate::leaf::{height_above, leaf_entry};
+use crate::measure::record_of;
+use crate::records::{put_inode, put_leaf};
+use crate::starts::{Start, start_at, starts_of};
+use ip_base::limit::ENTRIES_MAX;
+use ip_base::{Items, Limit, Step};
 use ip_object::hash_contents;
-use ip_spec::record::{LeafEntries, LeafEntry, Ref};
+use ip_shape::dir::find;
+use ip_shape::part::Part;
+use ip_shape::places::DEEPEST;
+use ip_spec::kind::{CONTENTS, DIRECTORY};
+use ip_spec::record::{InodeChildren, LeafEntries, Ref};
 use ip_tree::{Directory, Node, Root, Stored};
 use std::alloc::Global;
 
@@ -21,100 +29,223 @@ use std::alloc::Global;
 pub fn put_root(alloc: Global, root: &Root, end: u64, out: &mut Vec<u8>) -> Result<Ref, SaveFault>
     requires end { end ≤ 2 ^ 62 }
     requires contents { length out.old.items ≡ size_of (fresh_root (shown_root root.now)) }
-    ensures laid { MatchResult result (IsLaidRoot end (shown_root root.now) out.old.items out.new.items) (IsRootFault (shown_root root.now)) }
+    ensures laid { MatchResult result (IsLaidRoot end (shown_root root.now) out.old.items out.new.items) (IsRootFault end (shown_root root.now) out.old.items) }
 {
     match root {
         Root::Stored(reference) => Ok(*reference),
-        Root::Loaded(directory) => {
-            let mut next = end;
-            let stored = put_directory(alloc, directory, end, &mut next, out)?;
+        Root::Loaded(dir) => {
+            let stored = put_directory(alloc, dir, end, end, out)?;
             Ok(stored.reference)
         }
     }
 }
 
-// Puts the records of what stands at a node, where there are such, and answers what refers to it. Its first new contents lie at `next`,
-// which is moved behind its last.
+// Puts the records of what stands at a node, where there are such, and answers what refers to it. Its first new contents lie at `from`, and the
+// first byte at `end`.
 #[cycle(lay)]
 fn put_node(
     alloc: Global,
     node: &Node,
+    from: u64,
     end: u64,
-    next: &mut u64,
     out: &mut Vec<u8>,
 ) -> Result<Stored, SaveFault>
-    ensures laid { end ≤ 2 ^ 62 → next.old + size_of (fresh (shown node.now)) < 2 ^ 64 → MatchResult result (IsLaid end (shown node.now) next.old next.new out.old.items out.new.items) (IsLayFault (shown node.now)) }
+    ensures laid { end ≤ 2 ^ 62 → from + size_of (fresh (shown node.now)) < 2 ^ 64
+        → MatchResult result (IsLaid end (lay (shown node.now) from) out.old.items out.new.items) (IsLayFault (breadth (shown node.now)) end (lay (shown node.now) from) out.old.items) }
 {
     match node {
         Node::Stored(stored) => Ok(*stored),
-        Node::Contents(bytes) => Ok(pass(bytes.as_slice(), next)),
-        Node::Directory(directory) => put_directory(alloc, directory, end, next, out),
+        Node::Contents(bytes) => Ok(contents_at(bytes.as_slice(), from)),
+        Node::Directory(dir) => put_directory(alloc, dir, from, end, out),
     }
 }
 
-// What refers to contents whose record lies at `next`.
-fn pass(bytes: &[u8], next: &mut u64) -> Stored
-    ensures stands { result ≡ contents_at bytes.now next.old }
-    ensures next { next.old + size bytes.now < 2 ^ 64 → next.new ≡ next.old + size bytes.now }
+// What refers to contents whose record lies at an offset.
+fn contents_at(bytes: &[u8], at: u64) -> Stored
+    ensures { result ≡ contents_at bytes.now at }
 {
-    let at = *next;
-    *next = behind_one(bytes, at);
     Stored {
         reference: Ref {
             at,
             name: hash_contents(bytes),
-            kind: 1,
+            kind: CONTENTS,
         },
         height: 0,
     }
 }
 
-// Puts the records of a directory, children before parents, where it is not known.
+// Puts the records of a directory, where it is not known as a whole.
 #[cycle(lay)]
 fn put_directory(
     alloc: Global,
-    directory: &Directory,
+    dir: &Directory,
+    from: u64,
     end: u64,
-    next: &mut u64,
     out: &mut Vec<u8>,
 ) -> Result<Stored, SaveFault>
-    ensures laid { end ≤ 2 ^ 62 → next.old + size_of (fresh (shown_directory directory.now)) < 2 ^ 64
-        → MatchResult result (IsLaid end (shown_directory directory.now) next.old next.new out.old.items out.new.items) (IsLayFault (shown_directory directory.now)) }
+    ensures laid { end ≤ 2 ^ 62 → from + size_of (fresh (shown_directory dir.now)) < 2 ^ 64
+        → MatchResult result (IsLaid end (lay (shown_directory dir.now) from) out.old.items out.new.items) (IsLayFault (breadth (shown_directory dir.now)) end (lay (shown_directory dir.now) from) out.old.items) }
 {
-    if let Some(reference) = directory.known {
-        *next = behind_all(directory, *next);
-        return Ok(Stored {
-            reference,
-            height: height_in(directory),
-        });
+    let root = dir.root();
+    if let Some(stored) = record_of(root) {
+        return Ok(stored);
     }
-    match put_entries(alloc, directory, end, next, out) {
-        Ok(leaf) => put_new_leaf(leaf, end, out),
-        Err(fault) => Err(fault),
+    if root.count() > ENTRIES_MAX {
+        return Err(SaveFault::Limit(Limit::Entries));
+    }
+    let starts = starts_of(alloc, dir, from)?;
+    put_new_part(alloc, dir, &starts, root, 0, end, out)
+}
+
+// Puts the records of a part of a directory at a depth, all under it first, where no record is known to spell it, and answers what refers to it.
+#[cycle(lay)]
+fn put_part(
+    alloc: Global,
+    dir: &Directory,
+    starts: &[Start<'_>],
+    part: &Part<Stored>,
+    depth: u8,
+    end: u64,
+    out: &mut Vec<u8>,
+) -> Result<Stored, SaveFault>
+    ensures laid { (from : ℕ) → IsReady dir.now from starts.now end → depth ≤ deepest
+        → MatchResult result (IsLaid end (lay_part (lay_at (nodes_in dir.now) from) (deepest - depth) depth part.now) out.old.items out.new.items)
+        (IsLayFault (breadth_among (nodes_in dir.now)) end (lay_part (lay_at (nodes_in dir.now) from) (deepest - depth) depth part.now) out.old.items) }
+{
+    match record_of(part) {
+        Some(stored) => Ok(stored),
+        None => put_new_part(alloc, dir, starts, part, depth, end, out),
     }
 }
 
-// Puts the records of what stands in a directory, and answers its entries.
+// The same of a part that no record is known to spell.
+#[cycle(lay)]
+fn put_new_part(
+    alloc: Global,
+    dir: &Directory,
+    starts: &[Start<'_>],
+    part: &Part<Stored>,
+    depth: u8,
+    end: u64,
+    out: &mut Vec<u8>,
+) -> Result<Stored, SaveFault>
+    ensures laid { (from : ℕ) → IsReady dir.now from starts.now end → depth ≤ deepest → record_of part.now ≡ None
+        → MatchResult result (IsLaid end (lay_part (lay_at (nodes_in dir.now) from) (deepest - depth) depth part.now) out.old.items out.new.items)
+        (IsLayFault (breadth_among (nodes_in dir.now)) end (lay_part (lay_at (nodes_in dir.now) from) (deepest - depth) depth part.now) out.old.items) }
+{
+    match part {
+        Part::Leaf { steps, .. } => {
+            let leaf = put_entries(alloc, dir, starts, steps, end, out)?;
+            put_new_leaf(leaf, end, out)
+        }
+        Part::Inode { children, .. } => {
+            // So deep no directory has an inode.
+            if depth >= DEEPEST {
+                return Err(SaveFault::Memory);
+            }
+            let row = put_children(alloc, dir, starts, children, depth, end, out)?;
+            put_new_inode(depth, row, end, out)
+        }
+        Part::Unread { record, .. } => Ok(*record),
+    }
+}
+
+// Puts the records of what stands at the steps of a leaf, and answers its entries.
 #[cycle(lay)]
 fn put_entries(
     alloc: Global,
-    directory: &Directory,
+    dir: &Directory,
+    starts: &[Start<'_>],
+    steps: &[Step],
     end: u64,
-    next: &mut u64,
     out: &mut Vec<u8>,
 ) -> Result<LeafEntries, SaveFault>
-    ensures row { end ≤ 2 ^ 62 → next.old + size_of (fresh (shown_directory directory.now)) < 2 ^ 64
-        → MatchResult result (IsRow end (nodes_in (shown_directory directory.now)) next.old next.new out.old.items out.new.items) (IsRowFault (nodes_in (shown_directory directory.now))) }
+    ensures row { (from : ℕ) → IsReady dir.now from starts.now end
+        → MatchResult result (IsRow end (lay_steps (lay_at (nodes_in dir.now) from) steps.now) out.old.items out.new.items)
+        (IsRowFault height_above (breadth_among (nodes_in dir.now)) end (lay_steps (lay_at (nodes_in dir.now) from) steps.now) out.old.items) }
 {
-    let mut leaf = Items::of(Vec::with_capacity(alloc, directory.entries.len())?);
-    for entry in &directory.entries {
-        let stored = match put_node(alloc, &entry.node, end, next, out) {
+    let mut leaf = Items::of(Vec::with_capacity(alloc, steps.len())?);
+    for step in steps {
+        let stored = match put_at(alloc, dir, starts, step, end, out) {
             Ok(stored) => stored,
             Err(fault) => return Err(fault),
         };
-        leaf.push(leaf_entry(alloc, &entry.step, stored)?)?;
+        leaf.push(leaf_entry(alloc, step, &stored)?)?;
     }
     Ok(leaf)
+}
+
+// Puts the records of what stands at a step of a directory.
+#[cycle(lay)]
+fn put_at(
+    alloc: Global,
+    dir: &Directory,
+    starts: &[Start<'_>],
+    step: &Step,
+    end: u64,
+    out: &mut Vec<u8>,
+) -> Result<Stored, SaveFault>
+    ensures laid { (from : ℕ) → IsReady dir.now from starts.now end
+        → MatchResult result (IsLaid end (lay_at (nodes_in dir.now) from step.now) out.old.items out.new.items)
+        (IsLayFault (breadth_among (nodes_in dir.now)) end (lay_at (nodes_in dir.now) from step.now) out.old.items) }
+{
+    // Each step of a part that was read has its entry.
+    let Some(node) = find(dir, step) else {
+        return Err(SaveFault::Memory);
+    };
+    put_node(alloc, node, start_at(starts, step), end, out)
+}
+
+// Puts the records of the children of an inode at a depth, in the order of their indexes, and answers what it tells of them.
+#[cycle(lay)]
+fn put_children(
+    alloc: Global,
+    dir: &Directory,
+    starts: &[Start<'_>],
+    children: &[Part<Stored>],
+    depth: u8,
+    end: u64,
+    out: &mut Vec<u8>,
+) -> Result<InodeChildren, SaveFault>
+    ensures row { (from : ℕ) → IsReady dir.now from starts.now end → depth < deepest
+        → MatchResult result (IsRow end (lay_children (lay_at (nodes_in dir.now) from) (lay_part (lay_at (nodes_in dir.now) from) (deepest - (depth + 1)) (depth + 1)) 0 children.now) out.old.items out.new.items)
+        (IsRowFault height_over (breadth_among (nodes_in dir.now)) end (lay_children (lay_at (nodes_in dir.now) from) (lay_part (lay_at (nodes_in dir.now) from) (deepest - (depth + 1)) (depth + 1)) 0 children.now) out.old.items) }
+{
+    let mut row = Items::of(Vec::with_capacity(alloc, children.len())?);
+    for index in 0..children.len() {
+        let child = &children[index];
+        let stored = match put_some(alloc, dir, starts, child, depth, end, out) {
+            Ok(stored) => stored,
+            Err(fault) => return Err(fault),
+        };
+        add_child(&mut row, index, child.count(), &stored)?;
+    }
+    Ok(row)
+}
+
+// Puts the records of a child of an inode at a depth. One without entries is absent, and has no record.
+#[cycle(lay)]
+fn put_some(
+    alloc: Global,
+    dir: &Directory,
+    starts: &[Start<'_>],
+    child: &Part<Stored>,
+    depth: u8,
+    end: u64,
+    out: &mut Vec<u8>,
+) -> Result<Option<Stored>, SaveFault>
+    ensures absent { count_of child.now ≡ 0 → IsOkAnd result (λ stored. stored ≡ None) × (out.new.items ≡ out.old.items) }
+    ensures laid { (from : ℕ) → IsReady dir.now from starts.now end → depth < deepest → count_of child.now ≢ 0
+        → MatchResult result (λ stored. IsSomeAnd stored (IsLaid end (lay_part (lay_at (nodes_in dir.now) from) (deepest - (depth + 1)) (depth + 1) child.now) out.old.items out.new.items))
+        (IsLayFault (breadth_among (nodes_in dir.now)) end (lay_part (lay_at (nodes_in dir.now) from) (deepest - (depth + 1)) (depth + 1) child.now) out.old.items) }
+{
+    if child.count() == 0 {
+        return Ok(None);
+    }
+    match put_part(alloc, dir, starts, child, depth.saturating_add(1), end, out) {
+        Ok(stored) => Ok(Some(stored)),
+        Err(fault) => Err(fault),
+    }
 }
 
 // Puts the record of a leaf with these entries, and answers what refers to it.
@@ -122,28 +253,46 @@ fn put_new_leaf(leaf: LeafEntries, end: u64, out: &mut Vec<u8>) -> Result<Stored
     ensures bytes { OnOk result (out.new.items ≡ out.old.items ++ spelling (Record.Leaf leaf)) }
     ensures stands { end ≤ 2 ^ 62 → IfOk result (λ stored. stored ≡ new_leaf leaf (end + length out.old.items)) }
     ensures fits { OnOk result (Fits 1 (Record.Leaf leaf)) }
-    ensures cause { IfErr result (IsLeafFault leaf) }
+    ensures cause { IfErr result (IsHighFault (height_above leaf)) }
 {
     let height = height_above(leaf.as_slice());
     let at = end.saturating_add(out.len() as u64);
     match put_leaf(leaf, out) {
         Ok(name) => Ok(Stored {
-            reference: Ref { at, name, kind: 2 },
+            reference: Ref {
+                at,
+                name,
+                kind: DIRECTORY,
+            },
             height,
         }),
         Err(fault) => Err(fault),
     }
 }
 
-// The entry of a leaf for what stands at a step.
-fn leaf_entry(alloc: Global, step: &Step, stored: Stored) -> Result<LeafEntry, Memory>
-    ensures { IfOk result (λ entry. entry ≡ field_for step.now stored) }
+// Puts the record of an inode at a depth with these children, and answers what refers to it.
+fn put_new_inode(
+    depth: u8,
+    row: InodeChildren,
+    end: u64,
+    out: &mut Vec<u8>,
+) -> Result<Stored, SaveFault>
+    ensures bytes { OnOk result (out.new.items ≡ out.old.items ++ spelling (Record.Inode depth row)) }
+    ensures stands { end ≤ 2 ^ 62 → IfOk result (λ stored. stored ≡ new_inode depth row (end + length out.old.items)) }
+    ensures fits { OnOk result (Fits 1 (Record.Inode depth row)) }
+    ensures cause { IfErr result (IsHighFault (height_over row)) }
 {
-    Ok(LeafEntry {
-        step: step.copy(alloc)?,
-        kind: stored.reference.kind,
-        height: stored.height,
-        name: stored.reference.name,
-        at: stored.reference.at,
-    })
+    let height = height_over(row.as_slice());
+    let at = end.saturating_add(out.len() as u64);
+    match put_inode(depth, row, out) {
+        Ok(name) => Ok(Stored {
+            reference: Ref {
+                at,
+                name,
+                kind: DIRECTORY,
+            },
+            height,
+        }),
+        Err(fault) => Err(fault),
+    }
 }

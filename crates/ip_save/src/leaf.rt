@@ -1,29 +1,33 @@
-// Whether entries may stand in the record of a leaf.
-ghost use Rattle.std.specs.Prelude.{◌≡◌, ◌≤◌, ◌<◌, length, map, All, IsTrue, IfNone, IfSome};
-ghost use Rattle.ip_save.specs.Laid.{height_above, IsLeafFault};
+// The entries of a leaf, and whether they may stand in its record.
+ghost use Rattle.std.specs.Prelude.{◌≡◌, ◌≤◌, ◌<◌, length, map, All, IsTrue, IfNone, IfOk, IfSome};
+ghost use Rattle.ip_save.specs.Laid.{IsHighFault, field_for, height_above};
 ghost use Rattle.ip_spec.specs.Path.{AreBytes, IsStep};
 ghost use Rattle.ip_spec.specs.Record.{Fits, IsHash, IsLeafEntry, are_rising};
 ghost use Rattle.ip_spec.specs.declared.record.Record.TheVariants as Record;
 
 use crate::SaveFault;
 use ip_base::limit::ENTRIES_MAX;
-use ip_base::{Hash, Limit};
+use ip_base::{Hash, Limit, Memory, Step};
+use ip_spec::kind::{CONTENTS, DIRECTORY};
 use ip_spec::record::LeafEntry;
+use ip_tree::Stored;
+use std::alloc::Global;
 use std::cmp::Ordering;
 
 /// The greatest height of what an entry leads to.
 const HEIGHT_LIMIT: u8 = 63;
 
 /// Why entries may not stand in a leaf. A tree that is read or made by edits gives no cause.
-pub fn fault_of(entries: &[LeafEntry]) -> Option<SaveFault>
+pub fn leaf_fault(entries: &[LeafEntry]) -> Option<SaveFault>
     ensures none { IfNone result (Fits 1 (Record.Leaf entries.now)) }
-    ensures cause { IfSome result (IsLeafFault entries.now) }
+    ensures cause { IfSome result (IsHighFault (height_above entries.now)) }
 {
-    if entries.len() > ENTRIES_MAX {
-        return Some(SaveFault::Limit(Limit::Entries));
-    }
     if height_above(entries) > HEIGHT_LIMIT + 1 {
         return Some(SaveFault::Limit(Limit::Depth));
+    }
+    // The limit of entries is the directory's, and was tested there: no leaf of it has more.
+    if entries.len() > ENTRIES_MAX {
+        return Some(SaveFault::Memory);
     }
     if !are_entries(entries) || !are_rising(entries) {
         return Some(SaveFault::Memory);
@@ -59,7 +63,7 @@ fn is_entry(entry: &LeafEntry) -> bool
     let _at = entry.at;
     see_name(&entry.name);
     is_step(entry.step.bytes())
-        && (entry.kind == 1 || entry.kind == 2)
+        && (entry.kind == CONTENTS || entry.kind == DIRECTORY)
         && entry.height <= HEIGHT_LIMIT
 }
 
@@ -102,4 +106,17 @@ fn are_rising(entries: &[LeafEntry]) -> bool
         }
     }
     true
+}
+
+/// The entry of a leaf for what stands at a step.
+pub fn leaf_entry(alloc: Global, step: &Step, stored: &Stored) -> Result<LeafEntry, Memory>
+    ensures { IfOk result (λ entry. entry ≡ field_for step.now stored.now) }
+{
+    Ok(LeafEntry {
+        step: step.copy(alloc)?,
+        kind: stored.reference.kind,
+        height: stored.height,
+        name: stored.reference.name,
+        at: stored.reference.at,
+    })
 }

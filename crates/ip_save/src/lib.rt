@@ -11,15 +11,21 @@ ghost use Rattle.ip_tree.specs.declared.tree.Tree.{Tree};
 
 mod batch;
 mod fresh;
+mod inode;
 mod lay;
 mod leaf;
 mod measure;
 mod records;
+mod starts;
 
 pub use batch::{Batch, CommitFields, SaveFault};
 
 #[cfg(test)]
+mod spelled;
+#[cfg(test)]
 mod tests;
+#[cfg(test)]
+mod wide_tests;
 
 use ip_spec::batch_stands;
 use ip_tree::known_parts;

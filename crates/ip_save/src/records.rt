@@ -1,16 +1,17 @@
 // The records that a batch makes.
 ghost use Rattle.std.specs.Prelude.{◌≡◌, ◌≢◌, ◌++◌, Some, IsSome, IfErr, IfOk, OnOk};
 ghost use Rattle.ip_save.specs.Batches.{AreFields, commit_record, fields_told};
-ghost use Rattle.ip_save.specs.Laid.{IsLeafFault, leaf_name};
+ghost use Rattle.ip_save.specs.Laid.{IsHighFault, height_above, height_over, inode_name, leaf_name};
 ghost use Rattle.ip_save.specs.declared.batch.SaveFault.TheVariants as SaveFault;
 ghost use Rattle.ip_spec.specs.Record.{Fits, name_of, spelling};
 ghost use Rattle.ip_spec.specs.declared.record.Record.TheVariants as Record;
 
-use crate::leaf::{fault_of, see_name};
+use crate::inode::inode_fault;
+use crate::leaf::{leaf_fault, see_name};
 use crate::{CommitFields, SaveFault};
 use ip_base::{Hash, Memory};
 use ip_object::{commit_name, encode_branch, encode_commit, encode_into, name_of_record};
-use ip_spec::record::{LeafEntries, Record, Ref};
+use ip_spec::record::{InodeChildren, LeafEntries, Record, Ref};
 
 // Puts a record that has a name behind what is there, and answers the name.
 fn put_named(rec: &Record, out: &mut Vec<u8>) -> Result<Hash, Memory>
@@ -31,12 +32,26 @@ pub fn put_leaf(leaf: LeafEntries, out: &mut Vec<u8>) -> Result<Hash, SaveFault>
     ensures bytes { OnOk result (out.new.items ≡ out.old.items ++ spelling (Record.Leaf leaf)) }
     ensures name { IfOk result (λ name. name ≡ leaf_name leaf) }
     ensures fits { OnOk result (Fits 1 (Record.Leaf leaf)) }
-    ensures cause { IfErr result (IsLeafFault leaf) }
+    ensures cause { IfErr result (IsHighFault (height_above leaf)) }
 {
-    if let Some(fault) = fault_of(leaf.as_slice()) {
+    if let Some(fault) = leaf_fault(leaf.as_slice()) {
         return Err(fault);
     }
     let name = put_named(&Record::Leaf(leaf), out)?;
+    Ok(name)
+}
+
+/// Puts the record of an inode at a depth, where one may have these children, and answers its name.
+pub fn put_inode(depth: u8, children: InodeChildren, out: &mut Vec<u8>) -> Result<Hash, SaveFault>
+    ensures bytes { OnOk result (out.new.items ≡ out.old.items ++ spelling (Record.Inode depth children)) }
+    ensures name { IfOk result (λ name. name ≡ inode_name depth children) }
+    ensures fits { OnOk result (Fits 1 (Record.Inode depth children)) }
+    ensures cause { IfErr result (IsHighFault (height_over children)) }
+{
+    if let Some(fault) = inode_fault(depth, children.as_slice()) {
+        return Err(fault);
+    }
+    let name = put_named(&Record::Inode { depth, children }, out)?;
     Ok(name)
 }
 

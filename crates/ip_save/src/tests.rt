@@ -7,9 +7,11 @@ use crate::leaf::see_name;
 use crate::{Batch, CommitFields, SaveFault};
 use ip_base::{Blob, Hash, Info, Items, Limit, Memory, Number, Path, Step};
 use ip_ground::{Bench, FileName, Ground};
+use ip_shape::dir::{Entries, build, forget};
+use ip_shape::reading::{Child, read_inode, unread};
 use ip_space::{Layout, Space};
 use ip_spec::record::{Parent, Parents, Ref};
-use ip_tree::{Directory, Entry, Node, Root, Stored, Tree};
+use ip_tree::{Directory, Node, Root, Stored, Tree};
 use std::alloc::Global;
 
 // The first commit of the empty tree: its leaf at 0, the commit at 9, the branch at 76.
@@ -34,27 +36,22 @@ const NESTED: &[u8] =
 const NEXT_ROOT: &[u8] =
     b"\x02\x5c\x00\x00\x00\x02\x00\x00\x00\x01\x61\x02\x01\x9e\x7c\xf7\x0c\x53\x8d\xf6\x4a\xb7\x58\xb9\xbc\x84\xa9\xc4\xe4\xf1\x8e\x8b\x5d\x2e\x39\x49\x63\x5b\x06\xfd\x67\x89\x17\xd9\x22\x06\x00\x00\x00\x00\x00\x00\x00\x01\x63\x01\x00\x4b\xf5\x12\x2f\x34\x45\x54\xc5\x3b\xde\x2e\xbb\x8c\xd2\xb7\xe3\xd1\x60\x0a\xd6\x31\xc3\x85\xa5\xd7\xcc\xe2\x3c\x77\x85\x45\x9a\xc5\x00\x00\x00\x00\x00\x00\x00";
 
-fn entry(alloc: Global, step: &[u8], node: Node) -> Result<Entry, Memory> {
-    Ok(Entry {
-        step: Step::of(Blob::copy_of(alloc, step)?),
-        node,
-    })
+fn step(alloc: Global, text: &[u8]) -> Result<Step, Memory> {
+    Ok(Step::of(Blob::copy_of(alloc, text)?))
 }
 
 fn contents(alloc: Global, bytes: &[u8]) -> Result<Node, Memory> {
     Ok(Node::Contents(Blob::copy_of(alloc, bytes)?))
 }
 
-fn directory_of(alloc: Global, entry: Entry) -> Result<Directory, Memory> {
+// The directory of one entry.
+fn directory_of(alloc: Global, text: &[u8], node: Node) -> Result<Directory, Memory> {
     let mut entries = Vec::new(alloc);
-    entries.push(entry)?;
-    Ok(Directory {
-        known: None,
-        entries,
-    })
+    entries.push((step(alloc, text)?, node))?;
+    build(alloc, entries)
 }
 
-fn tree_of(root: Directory) -> Tree {
+pub(crate) fn tree_of(root: Directory) -> Tree {
     Tree {
         root: Root::Loaded(root),
         oldest: None,
@@ -95,7 +92,7 @@ fn fields_of(alloc: Global, number: u64, parents: Parents) -> Result<CommitField
 }
 
 // The first commit, at an offset.
-fn first(alloc: Global, tree: &Tree, end: u64) -> Result<Batch, SaveFault>
+pub(crate) fn first(alloc: Global, tree: &Tree, end: u64) -> Result<Batch, SaveFault>
     requires { end ≤ 2 ^ 62 }
 {
     let fields = fields_of(alloc, 0, Items::empty(alloc))?;
@@ -103,7 +100,7 @@ fn first(alloc: Global, tree: &Tree, end: u64) -> Result<Batch, SaveFault>
 }
 
 // The second one.
-fn second(alloc: Global, tree: &Tree, end: u64) -> Result<Batch, SaveFault>
+pub(crate) fn second(alloc: Global, tree: &Tree, end: u64) -> Result<Batch, SaveFault>
     requires { end ≤ 2 ^ 62 }
 {
     let fields = fields_of(alloc, 1, one_parent(alloc)?)?;
@@ -116,12 +113,12 @@ fn places(batch: &Batch) -> (u64, u64, u64) {
 }
 
 fn one(alloc: Global) -> Result<Tree, Memory> {
-    Ok(tree_of(directory_of(alloc, entry(alloc, b"a", contents(alloc, &[1])?)?)?))
+    Ok(tree_of(directory_of(alloc, b"a", contents(alloc, &[1])?)?))
 }
 
 fn nested(alloc: Global) -> Result<Tree, Memory> {
-    let inner = directory_of(alloc, entry(alloc, b"b", contents(alloc, &[2])?)?)?;
-    Ok(tree_of(directory_of(alloc, entry(alloc, b"a", Node::Directory(inner))?)?))
+    let inner = directory_of(alloc, b"b", contents(alloc, &[2])?)?;
+    Ok(tree_of(directory_of(alloc, b"a", Node::Directory(inner))?))
 }
 
 #[test]
@@ -191,30 +188,48 @@ fn a_later_commit_saves_what_is_new(rt: HostRuntime) -> Result<(), SaveFault> {
     Ok(())
 }
 
-// A directory of so many entries, each with contents of so many bytes.
-fn wide(alloc: Global, count: u8, size: usize) -> Result<Tree, Memory> {
-    let mut entries = Vec::new(alloc);
+// A directory of so many entries, at most 64, each with contents of so many bytes.
+fn filled(alloc: Global, count: u8, size: usize) -> Result<Tree, Memory> {
+    let mut entries: Entries<Node> = Vec::new(alloc);
     for i in 0..count {
         let bytes = vec![in alloc; 0; size]?;
-        entries.push(entry(alloc, &[b'A' + i % 64], Node::Contents(Blob::of(bytes)))?)?;
+        entries.push((
+            step(alloc, &[b'A' + i % 64])?,
+            Node::Contents(Blob::of(bytes)),
+        ))?;
     }
-    Ok(tree_of(Directory {
-        known: None,
-        entries,
-    }))
+    Ok(tree_of(build(alloc, entries)?))
 }
 
-// One entry that leads to a record, of this height.
-fn tall(alloc: Global, height: u8) -> Result<Tree, Memory> {
-    let stored = Stored {
+// A record of a directory, of this height.
+fn record_of(height: u8) -> Stored {
+    Stored {
         reference: Ref {
             at: 0,
             name: Hash([7; 32]),
             kind: 2,
         },
         height,
-    };
-    Ok(tree_of(directory_of(alloc, entry(alloc, b"a", Node::Stored(stored))?)?))
+    }
+}
+
+// One entry that leads to a record of this height.
+fn tall(alloc: Global, height: u8) -> Result<Tree, Memory> {
+    Ok(tree_of(directory_of(alloc, b"a", Node::Stored(record_of(height)))?))
+}
+
+// A directory of an inode that no record is known to spell, with one child that was not read and has so many entries, and this height.
+fn over_child(alloc: Global, count: usize, height: u8) -> Result<Tree, Memory> {
+    let mut dir: Directory = unread(alloc, record_of(height), count);
+    let mut children = Vec::new(alloc);
+    children.push(Child {
+        index: 3,
+        record: record_of(height),
+        count,
+    })?;
+    read_inode(alloc, &mut dir, &[], children)?;
+    forget(alloc, &mut dir, &step(alloc, b"a")?);
+    Ok(tree_of(dir))
 }
 
 // Limits, also those of a tree that no edit gives.
@@ -227,22 +242,25 @@ fn limits_are_answered(rt: HostRuntime) -> Result<(), SaveFault> {
         Some(SaveFault::Limit(Limit::Space))
     );
     first(alloc, &empty, 4611686018427387810)?;
-    let rows: [(u8, usize, Limit); 3] = [
-        (33, 1, Limit::Entries),
-        (1, 1048577, Limit::Contents),
-        (33, 1048577, Limit::Contents),
-    ];
-    for (count, size, limit) in rows {
-        let tree = wide(alloc, count, size)?;
-        assert_eq!(rt; first(alloc, &tree, 0).err(), Some(SaveFault::Limit(limit)));
+    for count in [1, 2] {
+        let tree = filled(alloc, count, 1048577)?;
+        assert_eq!(rt;
+            first(alloc, &tree, 0).err(),
+            Some(SaveFault::Limit(Limit::Contents))
+        );
     }
-    first(alloc, &wide(alloc, 32, 1)?, 0)?;
-    first(alloc, &wide(alloc, 1, 1048576)?, 0)?;
+    first(alloc, &filled(alloc, 32, 1)?, 0)?;
+    first(alloc, &filled(alloc, 33, 1)?, 0)?;
+    first(alloc, &filled(alloc, 1, 1048576)?, 0)?;
     first(alloc, &tall(alloc, 63)?, 0)?;
-    let tree = tall(alloc, 64)?;
-    assert_eq!(rt;
-        first(alloc, &tree, 0).err(),
-        Some(SaveFault::Limit(Limit::Depth))
-    );
+    first(alloc, &over_child(alloc, 1048576, 64)?, 0)?;
+    let rows = [
+        (tall(alloc, 64)?, Limit::Depth),
+        (over_child(alloc, 1048576, 65)?, Limit::Depth),
+        (over_child(alloc, 1048577, 64)?, Limit::Entries),
+    ];
+    for (tree, limit) in &rows {
+        assert_eq!(rt; first(alloc, tree, 0).err(), Some(SaveFault::Limit(*limit)));
+    }
     Ok(())
 }

@@ -4,10 +4,10 @@ use Rattle.ip_save.specs.Laid.{fresh_among, contents_bytes, longest_among, IsSho
 use Rattle.ip_save.proofs.Rests.{rest_of}
 use Rattle.ip_save.proofs.fresh.+fresh.Given as goal
 
-abbrev pub invariant-put_fresh_in-loop-entry : goal.invariant-put_fresh_in-loop-entry
-invariant-put_fresh_in-loop-entry l =
-    record {
-      bytes : l.out.items ++ contents_bytes (fresh_among (rest_of l.entry-items l.entry-index)) ≡ l.fn.out.items ++ contents_bytes (fresh_among (rest_of l.entry-items 0));
-      short : AllByRecursion IsShort (fresh_among (rest_of l.entry-items l.entry-index)) → AllByRecursion IsShort (fresh_among (rest_of l.entry-items 0));
-      longest : longest_among (rest_of l.entry-items l.entry-index) ≤ longest_among (rest_of l.entry-items 0);
-    }
+abbrev pub invariant-put_fresh_in-loop-node : goal.invariant-put_fresh_in-loop-node
+invariant-put_fresh_in-loop-node l =
+    (goal.iterator-put_fresh_in-loop-node).can_next l.node-iterator ×
+    (goal.iterator-put_fresh_in-loop-node).is_finite l.node-iterator ×
+    (l.out.items ++ contents_bytes (fresh_among (rest_of l.node-iterator)) ≡ l.fn.out.items ++ contents_bytes (fresh_among (rest_of l.fn.dir.entries.entries))) ×
+    (AllByRecursion IsShort (fresh_among (rest_of l.node-iterator)) → AllByRecursion IsShort (fresh_among (rest_of l.fn.dir.entries.entries))) ×
+    (longest_among (rest_of l.node-iterator) ≤ longest_among (rest_of l.fn.dir.entries.entries))

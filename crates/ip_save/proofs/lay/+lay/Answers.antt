@@ -1,86 +1,199 @@
-use Rattle.std.proofs.Common.{◌≡◌, ◌+◌, ◌<◌, ◌^◌, ◌++◌, ◌∷◌, [], List, ap, sym, subst, ◌∙◌, arith}
+use Rattle.std.proofs.Common.{◌≡◌, ◌+◌, ◌-◌, ◌<◌, ◌^◌, ◌++◌, ◌∷◌, [], List, refl, sym, ap, ◌∙◌, arith}
 use Rattle.std.specs.Prelude.{Some}
-use Rattle.ip_spec.specs.Path.{Bytes}
+use Rattle.std.specs.FinMap.Entries.{find}
+use Rattle.ip_spec.specs.Path.{Bytes, Step, bytes_cmp}
+use Rattle.ip_spec.specs.Shape.{deepest}
 use Rattle.ip_spec.specs.declared.record.LeafEntry.{LeafEntry}
-use Rattle.ip_tree.specs.Node.{Node, Nodes, stored, contents, directory, nodes_of}
-use Rattle.ip_tree.specs.Shown.{shown, shown_directory, entries_of}
-use Rattle.ip_tree.proofs.Places.{directory_shown, stored_shown, contents_shown}
-use Rattle.ip_save.specs.Laid.{size, size_of, fresh_among, contents_at, IsLaid, IsRow, IsRowFault}
-use Rattle.ip_save.proofs.Rests.{rest_of, size_all, contents_sized, fresh_is, height_is}
-use Rattle.ip_save.proofs.Laying.{stored_laid, contents_laid, known_laid}
-use Rattle.ip_save.proofs.Rows.{nodes_are, new_directory, directory_result, entry_room, entry_cause, entry_more, entries_laid}
+use Rattle.ip_spec.specs.declared.record.Record.TheVariants as Record
+use Rattle.ip_shape.specs.declared.part.Part.{Part}
+use Rattle.ip_tree.specs.Node.{Node, stored, contents}
+use Rattle.ip_tree.specs.Shown.{shown, shown_directory}
+use Rattle.ip_tree.specs.declared.node.Node.{size-Node}
+use Rattle.ip_tree.proofs.Nodes.{stored_shown, contents_shown}
+use Rattle.ip_tree.specs.declared.node.Stored.{Stored}
+use Rattle.ip_save.specs.Laid.{IsLaid, IsLayFault, behind_inode, behind_leaf, child_for, height_above, height_over, lay_children, lay_steps, new_inode, new_leaf, breadth, breadth_among, contents_at, fresh, lay, lay_at, lay_part, nodes_in, record_of, size_of, there}
+use Rattle.ip_save.proofs.Found.{found_broad, found_has, found_laid, found_room}
+use Rattle.ip_save.proofs.Laying.{behind_result, ends_at, ends_children, ends_part, ends_steps, known_laid, nothing_laid}
+use Rattle.ip_save.proofs.Rows.{child_failed, child_more, children_end, fault_up, inode_laid, leaf_laid, passed_on, step_cause, step_more, steps_end, walk_same, walk_up}
+use Rattle.ip_save.proofs.Smaller.{found_most}
 use Rattle.ip_save.proofs.lay.+lay.Goals as goal
+
+pub put_at-put_node-requires : goal.put_at-put_node-requires
+put_at-put_node-requires t c =
+    let low = found_most size-Node c.args.dir.now.entries.entries c.args.step.now c.in-Some.node.now (sym c.in-Some.ensures.held) in
+    (omega (arith, low, c.decreases), tt)
+
+pub put_at-returns : goal.put_at-returns
+put_at-returns t c = record {
+  laid = λ from ready.
+      let d = c.args.dir.now in
+      let es = d.entries.entries in
+      let s = c.args.step.now in
+      let n = c.in-Some.node.now in
+      let found : find bytes_cmp s es ≡ Some n = sym c.in-Some.ensures.held in
+      let start = c.start_at.ensures (nodes_in d) from ready.ascend ready.starts (found_has es s n found) in
+      let room : c.start_at.result + size_of (fresh (shown n)) < 2 ^ 64 = let all = ready.room in omega (arith, start, all, found_room es s n from found) in
+      walk_up c.args.end (breadth (shown n)) (breadth_among (nodes_in d)) (lay (shown n) c.start_at.result) (lay_at (nodes_in d) from s)
+      (λ at. ap (λ k. lay (shown n) k at) start ∙ sym (found_laid es s n from at found)) (found_broad es s n found) c.args.out.now.items c.put_node.new.out.items c.put_node.result (c.put_node.ensures.laid ready.low room);
+}
+
+pub put_directory-returns-in-Some : goal.put_directory-returns-in-Some
+put_directory-returns-in-Some t c = record {
+  laid = λ low room.
+      let d = c.args.dir.now in
+      let x = c.in-Some.stored in
+      let known : record_of d.root ≡ Some x = ap record_of (sym c.root-root.ensures) ∙ sym c.in-Some.ensures in
+      walk_same c.args.end (there x) (lay (shown_directory d) c.args.from) (λ at. sym (known_laid (lay_at (nodes_in d) c.args.from) deepest 0 d.root at x known)) c.args.out.now.items c.args.out.now.items x (nothing_laid c.args.end x c.args.out.now.items);
+}
 
 pub put_node-returns-in-Stored : goal.put_node-returns-in-Stored
 put_node-returns-in-Stored t c = record {
   laid = λ low room.
-      let shows : shown c.args.node.now ≡ stored c.in-Stored.stored.reference c.in-Stored.stored.height = ap shown c.in-Stored.is ∙ stored_shown c.in-Stored.stored in
-      subst (λ (n : Node). IsLaid c.args.end n c.args.next.now c.args.next.now c.args.out.now.items c.args.out.now.items c.in-Stored.stored) (sym shows)
-      (stored_laid c.args.end c.in-Stored.stored c.args.next.now c.args.out.now.items);
+      let x = c.in-Stored.stored in
+      let shows : shown c.args.node.now ≡ stored x = ap shown c.in-Stored.is ∙ stored_shown x in
+      walk_same c.args.end (there x) (lay (shown c.args.node.now) c.args.from) (λ at. ap (λ (n : Node). lay n c.args.from at) (sym shows)) c.args.out.now.items c.args.out.now.items x (nothing_laid c.args.end x c.args.out.now.items);
 }
 
 pub put_node-returns-in-Contents : goal.put_node-returns-in-Contents
 put_node-returns-in-Contents t c = record {
   laid = λ low room.
       let b = c.in-Contents.bytes in
+      let x = c.contents_at.result in
       let shows : shown c.args.node.now ≡ contents b = ap shown c.in-Contents.is ∙ contents_shown b in
-      let sized = contents_sized c.args.node.now b c.in-Contents.is in
-      let same = ap size c.as_slice.ensures in
-      let moved = c.pass.ensures.next (omega (arith, room, sized, same)) in
-      subst (λ (n : Node). IsLaid c.args.end n c.args.next.now c.pass.new.next c.args.out.now.items c.args.out.now.items c.pass.result) (sym shows)
-      (contents_laid c.args.end b c.args.next.now c.pass.new.next c.args.out.now.items c.pass.result
-      (c.pass.ensures.stands ∙ ap (λ (x : Bytes). contents_at x c.args.next.now) c.as_slice.ensures) (omega (arith, moved, same)));
+      let is : x ≡ contents_at b c.args.from = c.contents_at.ensures ∙ ap (λ (z : Bytes). contents_at z c.args.from) c.as_slice.ensures in
+      walk_same c.args.end (there x) (lay (shown c.args.node.now) c.args.from) (λ at. ap (λ y. there y at) is ∙ ap (λ (n : Node). lay n c.args.from at) (sym shows)) c.args.out.now.items c.args.out.now.items x (nothing_laid c.args.end x c.args.out.now.items);
 }
 
-pub put_directory-returns-in-Some : goal.put_directory-returns-in-Some
-put_directory-returns-in-Some t c = record {
-  laid = λ low room.
-      let d = c.args.directory.now in
-      let r = c.in-Some.reference in
-      let ns : Nodes = nodes_of (entries_of d) in
-      let shows : shown_directory d ≡ directory (Some r) ns = directory_shown d ∙ ap (λ k. directory k ns) c.in-Some.is in
-      subst (λ (n : Node). IsLaid c.args.end n c.args.next.now c.behind_all.result c.args.out.now.items c.args.out.now.items record { reference = r; height = c.height_in.result }) (sym shows)
-      (known_laid c.args.end r ns c.args.next.now c.behind_all.result c.args.out.now.items c.height_in.result (c.height_in.ensures ∙ height_is d)
-      (c.behind_all.ensures room ∙ ap (λ (b : List Bytes). c.args.next.now + size_of b) (fresh_is d)));
-}
-
-pub put_directory-returns-in-Ok : goal.put_directory-returns-in-Ok
-put_directory-returns-in-Ok t c = record {
-  laid = λ low room.
-      directory_result (shown_directory c.args.directory.now) _ (new_directory c.args.directory.now c.in_default.is) c.args.end c.args.next.now c.put_entries.new.next c.args.out.now.items c.put_entries.new.out.items
-      c.put_new_leaf.new.out.items c.in-Ok.leaf (c.in-Ok.ensures.row low room) c.put_new_leaf.result c.put_new_leaf.ensures.bytes (c.put_new_leaf.ensures.stands low) c.put_new_leaf.ensures.fits c.put_new_leaf.ensures.cause;
+pub put_part-returns-in-Some : goal.put_part-returns-in-Some
+put_part-returns-in-Some t c = record {
+  laid = λ from ready deep.
+      let d = c.args.dir.now in
+      let x = c.in-Some.stored in
+      let child = lay_at (nodes_in d) from in
+      let known : record_of c.args.part.now ≡ Some x = sym c.in-Some.ensures in
+      walk_same c.args.end (there x) (lay_part child (deepest - c.args.depth) c.args.depth c.args.part.now) (λ at. sym (known_laid child (deepest - c.args.depth) c.args.depth c.args.part.now at x known)) c.args.out.now.items c.args.out.now.items x
+      (nothing_laid c.args.end x c.args.out.now.items);
 }
 
 pub put_entries-returns-in-Err : goal.put_entries-returns-in-Err
 put_entries-returns-in-Err t c = record {
-  row = λ low room.
-      let d = c.args.directory.now in
-      let items = c.deref-entry-items.result.now in
-      let here = c.deref-entry-items.ensures.value in
-      let all : c.args.next.now + size_of (fresh_among (rest_of items 0)) < 2 ^ 64 = omega (arith, room, size_all d items here) in
-      let now = c.loop-entry.invariant low all in
-      let e = c.entry-item.result in
-      let fault = c.in-Err.ensures.laid low (entry_room c.args.end items c.loop-entry.entry-index e c.loop-entry-test.true c.entry-item.is c.loop-entry.next c.args.next.now c.loop-entry.out.items c.args.out.now.items c.loop-entry.leaf now all) in
-      subst (λ (ns : Nodes). IsRowFault ns c.in-Err.fault) (sym (nodes_are d items here))
-      (entry_cause c.args.end items c.loop-entry.entry-index e c.loop-entry-test.true c.entry-item.is c.loop-entry.next c.args.next.now c.loop-entry.out.items c.args.out.now.items c.loop-entry.leaf now c.in-Err.fault fault);
+  row = λ from ready.
+      let ns = nodes_in c.args.dir.now in
+      let child = lay_at ns from in
+      step_cause c.args.end child (λ s at. ends_at ns from s at) (lay_steps child c.args.steps.now) c.args.steps.now c.loop-step.step-index c.loop-step.out.items c.args.out.now.items c.loop-step.leaf (c.loop-step.invariant from ready)
+      c.step-item.result c.loop-step-test.true c.step-item.is (breadth_among ns) c.in-Err.fault (c.in-Err.ensures.laid from ready);
 }
 
-pub put_entries-loop-entry-preserved : goal.put_entries-loop-entry-preserved
-put_entries-loop-entry-preserved t c low room =
-    let items = c.deref-entry-items.result.now in
-    let now = c.loop-entry.invariant low room in
-    let e = c.entry-item.result in
-    let laid = c.in-Ok.ensures.laid low (entry_room c.args.end items c.loop-entry.entry-index e c.loop-entry-test.true c.entry-item.is c.loop-entry.next c.args.next.now c.loop-entry.out.items c.args.out.now.items c.loop-entry.leaf now room) in
-    entry_more c.args.end items c.loop-entry.entry-index e c.loop-entry-test.true c.entry-item.is c.loop-entry.next c.args.next.now c.loop-entry.out.items c.args.out.now.items c.loop-entry.leaf now c.put_node.new.next c.put_node.new.out.items
-    c.in-Ok.stored laid c.push.new.self (c.in_ok-push.ensures.ok ∙ ap (λ (x : LeafEntry). c.loop-entry.leaf ++ x ∷ []) c.in_ok-leaf_entry.ensures)
+pub put_entries-loop-step-preserved : goal.put_entries-loop-step-preserved
+put_entries-loop-step-preserved t c from ready =
+    let ns = nodes_in c.args.dir.now in
+    let child = lay_at ns from in
+    step_more c.args.end child (λ s at. ends_at ns from s at) (lay_steps child c.args.steps.now) c.args.steps.now c.loop-step.step-index c.loop-step.out.items c.args.out.now.items c.loop-step.leaf (c.loop-step.invariant from ready)
+    c.step-item.result c.loop-step-test.true c.step-item.is c.put_at.new.out.items c.in-Ok.stored (c.in-Ok.ensures.laid from ready) c.push.new.self
+    (c.in_ok-push.ensures.ok ∙ ap (λ (x : LeafEntry). c.loop-step.leaf ++ x ∷ []) c.in_ok-leaf_entry.ensures)
 
 pub put_entries-returns : goal.put_entries-returns
 put_entries-returns t c = record {
-  row = λ low room.
-      let d = c.args.directory.now in
-      let items = c.deref-entry-items.result.now in
-      let here = c.deref-entry-items.ensures.value in
-      let now = c.loop-entry.invariant low (omega (arith, room, size_all d items here)) in
-      subst (λ (ns : Nodes). IsRow c.args.end ns c.args.next.now c.loop-entry.next c.args.out.now.items c.loop-entry.out.items c.loop-entry.leaf) (sym (nodes_are d items here))
-      (entries_laid c.args.end items c.loop-entry.entry-index c.loop-entry-test.false c.loop-entry.next c.args.next.now c.loop-entry.out.items c.args.out.now.items c.loop-entry.leaf now);
+  row = λ from ready.
+      let ns = nodes_in c.args.dir.now in
+      let child = lay_at ns from in
+      steps_end c.args.end child (λ s at. ends_at ns from s at) (lay_steps child c.args.steps.now) c.args.steps.now c.loop-step.step-index c.loop-step.out.items c.args.out.now.items c.loop-step.leaf (c.loop-step.invariant from ready) c.loop-step-test.false;
+}
+
+pub put_children-returns-in-Err : goal.put_children-returns-in-Err
+put_children-returns-in-Err t c = record {
+  row = λ from ready lt.
+      let ns = nodes_in c.args.dir.now in
+      let child = lay_at ns from in
+      let depth = c.args.depth + 1 in
+      let deeper = lay_part child (deepest - depth) depth in
+      child_failed c.args.end child deeper (λ p at. ends_part child (λ s at. ends_at ns from s at) (deepest - depth) depth p at) (lay_children child deeper 0 c.args.children.now) c.args.children.now c.loop-index.index c.loop-index.out.items c.args.out.now.items c.loop-index.row (c.loop-index.invariant from ready lt)
+      c.index-children-index.result (omega arith) c.index-children-index.is (breadth_among ns) c.in-Err.fault (λ none. (c.in-Err.ensures.absent none).0) (λ some. c.in-Err.ensures.laid from ready lt some);
+}
+
+pub put_children-loop-index-preserved : goal.put_children-loop-index-preserved
+put_children-loop-index-preserved t c from ready lt =
+    let ns = nodes_in c.args.dir.now in
+    let child = lay_at ns from in
+    let depth = c.args.depth + 1 in
+    let deeper = lay_part child (deepest - depth) depth in
+    child_more c.args.end child deeper (λ p at. ends_part child (λ s at. ends_at ns from s at) (deepest - depth) depth p at) (lay_children child deeper 0 c.args.children.now) c.args.children.now c.loop-index.index c.loop-index.out.items c.args.out.now.items c.loop-index.row (c.loop-index.invariant from ready lt)
+    c.index-children-index.result (omega arith) c.index-children-index.is c.put_some.new.out.items c.in-Ok.stored c.add_child.new.row (λ none. c.in-Ok.ensures.absent none) (λ some. c.in-Ok.ensures.laid from ready lt some)
+    (λ none. c.in_ok-add_child.ensures.absent none) (λ x is. c.in_ok-add_child.ensures.added x is ∙ ap (λ n. c.loop-index.row ++ child_for c.loop-index.index n x ∷ []) c.count.ensures.told)
+
+pub put_children-returns : goal.put_children-returns
+put_children-returns t c = record {
+  row = λ from ready lt.
+      let ns = nodes_in c.args.dir.now in
+      let child = lay_at ns from in
+      let depth = c.args.depth + 1 in
+      let deeper = lay_part child (deepest - depth) depth in
+      children_end c.args.end child deeper (λ p at. ends_part child (λ s at. ends_at ns from s at) (deepest - depth) depth p at) (lay_children child deeper 0 c.args.children.now) c.args.children.now c.loop-index.index c.loop-index.out.items c.args.out.now.items c.loop-index.row (c.loop-index.invariant from ready lt) (omega arith);
+}
+
+pub put_new_part-returns-in_err-leaf-in-Leaf : goal.put_new_part-returns-in_err-leaf-in-Leaf
+put_new_part-returns-in_err-leaf-in-Leaf t c = record {
+  laid = λ from ready deep new.
+      let ns = nodes_in c.args.dir.now in
+      let child = lay_at ns from in
+      let part = c.args.part.now in
+      let whole = lay_part child (deepest - c.args.depth) c.args.depth part in
+      let before = c.args.out.now.items in
+      let f = c.in_err-leaf-in-Leaf.field-0.0 in
+      passed_on c.from_residual.result f (IsLaid c.args.end whole before c.put_entries.new.out.items) (IsLayFault (breadth_among ns) c.args.end whole before) c.from_residual.ensures.1
+      (fault_up c.args.end (breadth_among ns) (breadth_among ns) (λ at. behind_leaf (lay_steps child c.deref.result.now at)) whole
+      (λ at. ap (λ (ss : List Step). behind_leaf (lay_steps child ss at)) c.deref.ensures.value ∙ leaf_laid child (deepest - c.args.depth) c.args.depth part c.in-Leaf.known c.in-Leaf.steps c.in-Leaf.is new at) (omega arith) before f
+      (c.in_err-leaf-in-Leaf.ensures.row from ready));
+}
+
+pub put_new_part-returns-in_err-row-in-Inode : goal.put_new_part-returns-in_err-row-in-Inode
+put_new_part-returns-in_err-row-in-Inode t c = record {
+  laid = λ from ready deep new.
+      let ns = nodes_in c.args.dir.now in
+      let child = lay_at ns from in
+      let part = c.args.part.now in
+      let lt = c.if-depth-ge-DEEPEST.false in
+      let depth = c.args.depth + 1 in
+      let deeper = lay_part child (deepest - depth) depth in
+      let whole = lay_part child (deepest - c.args.depth) c.args.depth part in
+      let before = c.args.out.now.items in
+      let f = c.in_err-row-in-Inode.field-0.0 in
+      passed_on c.from_residual-in_err-row-in-Inode.result f (IsLaid c.args.end whole before c.put_children.new.out.items) (IsLayFault (breadth_among ns) c.args.end whole before) c.from_residual-in_err-row-in-Inode.ensures.1
+      (fault_up c.args.end (breadth_among ns) (breadth_among ns) (λ at. behind_inode c.args.depth (lay_children child deeper 0 c.deref-in-Inode.result.now at)) whole
+      (λ at. ap (λ (cs : List (Part Stored)). behind_inode c.args.depth (lay_children child deeper 0 cs at)) c.deref-in-Inode.ensures.value ∙ inode_laid child c.args.depth part c.in-Inode.known c.in-Inode.count c.in-Inode.children lt c.in-Inode.is new at) (omega arith) before f
+      (c.in_err-row-in-Inode.ensures.row from ready lt));
+}
+
+pub put_new_part-returns-in_ok-leaf-in-Leaf : goal.put_new_part-returns-in_ok-leaf-in-Leaf
+put_new_part-returns-in_ok-leaf-in-Leaf t c = record {
+  laid = λ from ready deep new.
+      let ns = nodes_in c.args.dir.now in
+      let child = lay_at ns from in
+      let part = c.args.part.now in
+      let ss = c.deref.result.now in
+      let before = c.args.out.now.items in
+      walk_up c.args.end (breadth_among ns) (breadth_among ns) (λ at. behind_leaf (lay_steps child ss at)) (lay_part child (deepest - c.args.depth) c.args.depth part)
+      (λ at. ap (λ (l : List Step). behind_leaf (lay_steps child l at)) c.deref.ensures.value ∙ leaf_laid child (deepest - c.args.depth) c.args.depth part c.in-Leaf.known c.in-Leaf.steps c.in-Leaf.is new at) (omega arith) before c.put_new_leaf.new.out.items
+      c.put_new_leaf.result
+      (behind_result Record.Leaf new_leaf c.args.end (lay_steps child ss) (ends_steps child (λ s at. ends_at ns from s at) ss) before c.put_entries.new.out.items c.in_ok-leaf-in-Leaf.leaf (c.in_ok-leaf-in-Leaf.ensures.row from ready) height_above (λ l at. refl) (breadth_among ns)
+      c.put_new_leaf.new.out.items c.put_new_leaf.result c.put_new_leaf.ensures.bytes (c.put_new_leaf.ensures.stands ready.low) c.put_new_leaf.ensures.fits c.put_new_leaf.ensures.cause);
+}
+
+pub put_new_part-returns-in_ok-row-in-Inode : goal.put_new_part-returns-in_ok-row-in-Inode
+put_new_part-returns-in_ok-row-in-Inode t c = record {
+  laid = λ from ready deep new.
+      let ns = nodes_in c.args.dir.now in
+      let child = lay_at ns from in
+      let part = c.args.part.now in
+      let lt = c.if-depth-ge-DEEPEST.false in
+      let depth = c.args.depth + 1 in
+      let deeper = lay_part child (deepest - depth) depth in
+      let cs = c.deref-in-Inode.result.now in
+      let before = c.args.out.now.items in
+      walk_up c.args.end (breadth_among ns) (breadth_among ns) (λ at. behind_inode c.args.depth (lay_children child deeper 0 cs at)) (lay_part child (deepest - c.args.depth) c.args.depth part)
+      (λ at. ap (λ (l : List (Part Stored)). behind_inode c.args.depth (lay_children child deeper 0 l at)) c.deref-in-Inode.ensures.value ∙ inode_laid child c.args.depth part c.in-Inode.known c.in-Inode.count c.in-Inode.children lt c.in-Inode.is new at) (omega arith) before c.put_new_inode.new.out.items
+      c.put_new_inode.result
+      (behind_result (Record.Inode c.args.depth) (new_inode c.args.depth) c.args.end (lay_children child deeper 0 cs) (ends_children child (λ s at. ends_at ns from s at) deeper (λ p at. ends_part child (λ s at. ends_at ns from s at) (deepest - depth) depth p at) cs 0) before c.put_children.new.out.items
+      c.in_ok-row-in-Inode.row (c.in_ok-row-in-Inode.ensures.row from ready lt) height_over (λ l at. refl) (breadth_among ns)
+      c.put_new_inode.new.out.items c.put_new_inode.result c.put_new_inode.ensures.bytes (c.put_new_inode.ensures.stands ready.low) c.put_new_inode.ensures.fits c.put_new_inode.ensures.cause);
 }

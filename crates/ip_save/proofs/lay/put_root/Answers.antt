@@ -1,6 +1,6 @@
 use Rattle.std.proofs.Common.{refl, sym, ap, subst}
 use Rattle.ip_tree.specs.Node.{Root}
-use Rattle.ip_tree.specs.TreeView.{shown_root}
+use Rattle.ip_tree.specs.Shown.{shown_root}
 use Rattle.ip_save.specs.Laid.{IsLaidRoot}
 use Rattle.ip_save.proofs.Laying.{nothing_put}
 use Rattle.ip_save.proofs.lay.put_root.Goals as goal

@@ -1,8 +1,8 @@
-use Rattle.std.proofs.Common.{◌≡◌, sym, subst, arith, List, Some}
-use Rattle.ip_object.specs.Lists.{commit_of}
-use Rattle.ip_spec.specs.Record.{IsCommitRecord, name_of}
+use Rattle.std.proofs.Common.{◌≡◌, Some, subst, sym, List, arith}
 use Rattle.ip_spec.specs.declared.record.Parent.{Parent}
 use Rattle.ip_spec.specs.declared.record.Record.TheVariants as Record
+use Rattle.ip_spec.specs.Record.{IsCommitRecord, name_of}
+use Rattle.ip_object.specs.Lists.{commit_of}
 use Rattle.ip_save.specs.Batches.{fields_told}
 use Rattle.ip_save.proofs.Bounds.{commit_fits}
 use Rattle.ip_save.proofs.records.put_commit.Goals as goal

@@ -1,10 +1,11 @@
 use Rattle.std.proofs.Common.{◌≡◌, ◌+◌, ◌++◌, ℕ, List, length, refl, ap, ◌∙◌, arith, rules}
-use Rattle.ip_tree.specs.TreeView.{shown_root}
+use Rattle.ip_tree.specs.Shown.{shown_root}
 use Rattle.ip_save.specs.Batches.{IsBatch, IsSaveFault, fields_told}
 use Rattle.ip_save.specs.Laid.{contents_bytes, fresh_root}
 use Rattle.ip_save.proofs.Limits.{none_too_long, none_too_wide}
 use Rattle.ip_save.proofs.Placed.{bytes_length}
-use Rattle.ip_save.proofs.Saved.{end_is, saved, passed_on, some_behind}
+use Rattle.ip_save.proofs.Rows.{passed_on}
+use Rattle.ip_save.proofs.Saved.{end_is, saved, some_behind}
 use Rattle.ip_save.proofs.batch.Batch.of.Goals as goal
 
 pub returns-in_err-put_all_fresh-clause-made : goal.returns-in_err-put_all_fresh-clause-made
@@ -22,7 +23,7 @@ pub returns-in_err-root-clause-made : goal.returns-in_err-root-clause-made
 returns-in_err-root-clause-made c records v is short =
     let f = fields_told c.args.fields.now in
     passed_on c.from_residual-in_err-root.result c.in_err-root.field-0.0 (IsBatch v f c.args.end) (IsSaveFault v f c.args.end) c.from_residual-in_err-root.ensures.1
-    (none_too_wide records c.args.tree.now v is f c.args.end c.in_err-root.field-0.0 c.in_err-root.ensures.laid)
+    (none_too_wide records c.args.tree.now v is f c.args.end c.in_err-root.field-0.0 c.put_all_fresh.new.out.items c.in_err-root.ensures.laid)
 
 pub returns-then-last-gt-OFFSET_MAX-clause-made : goal.returns-then-last-gt-OFFSET_MAX-clause-made
 returns-then-last-gt-OFFSET_MAX-clause-made c records v is short =

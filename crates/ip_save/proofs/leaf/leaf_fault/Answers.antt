@@ -1,6 +1,6 @@
 use Rattle.std.proofs.Common.{arith}
 use Rattle.ip_save.proofs.Bounds.{leaf_fits}
-use Rattle.ip_save.proofs.leaf.fault_of.Goals as goal
+use Rattle.ip_save.proofs.leaf.leaf_fault.Goals as goal
 
 pub returns-clause-none : goal.returns-clause-none
 returns-clause-none c =
