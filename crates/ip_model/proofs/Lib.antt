@@ -7,6 +7,7 @@ mod PartLaws
 mod Placing
 mod Reaching
 mod SmallTrees
+mod Widths
 mod WorkLaws
 mod MachineLaws
 mod Grafted

@@ -8,6 +8,7 @@ use Rattle.sha2.specs.Sha256.{sha256}
 use Rattle.ip_spec.specs.Map.{get, len}
 use Rattle.ip_spec.specs.Path.{Bytes, Step, Path, bytes_cmp, path_cmp}
 use Rattle.ip_spec.specs.Record.{Hash, Child}
+use Rattle.ip_spec.specs.Step.{entries_limit}
 use Rattle.ip_spec.specs.Tree.{Tree, is_empty, subtree, entries_of}
 use Rattle.ip_spec.specs.Shape.{directory_name, entries_name}
 use Rattle.ip_spec.proofs.Subtrees.{entry_found, get-subtree, subtree_root, narrow_under, same_itself}
@@ -46,8 +47,8 @@ record IsSmallEntry (e : Step × Tree) : Type 0 where
   pub step : length e.0 ≤ 255
 
 module _ (t : Tree) (small : IsSmall t) where
-  few : length (entries_of t).entries ≤ 32
-  few = subst (λ (x : Tree). length (entries_of x).entries ≤ 32) (subtree_root t) (small.entries [])
+  few : length (entries_of t).entries ≤ entries_limit
+  few = subst (λ (x : Tree). length (entries_of x).entries ≤ entries_limit) (subtree_root t) (small.entries [])
 
   under : (s : Step) (path : Path) → IsSome (get (subtree t (s ∷ [])) path) → All (λ step. length step ≤ 255) (s ∷ path)
   under s path some = small.steps (s ∷ path) (sym (ap is_some (get-subtree t (s ∷ []) path)) ∙ some)
@@ -56,7 +57,7 @@ module _ (t : Tree) (small : IsSmall t) where
   small_under s some = record {
     tree = record {
       steps = λ path there k d low. under s path there (suc k) d (omega (arith, low));
-      entries = λ path. subst (λ (x : Tree). len (entries_of x) ≤ 32) (sym (narrow_under t s path)) (small.entries (s ∷ path));
+      entries = λ path. subst (λ (x : Tree). len (entries_of x) ≤ entries_limit) (sym (narrow_under t s path)) (small.entries (s ∷ path));
     };
     step = let deep = somewhere (subtree t (s ∷ [])) some in under s deep.path deep.some 0 s (omega arith);
   }
@@ -119,8 +120,8 @@ pub no_levels : (n : ℕ) (t : Tree) → n ≡ 0 → entries_name [] ≡ directo
 unfolding directory_name
 no_levels n t e = subst (λ k. entries_name [] ≡ directory_name k t) (sym e) refl
 
-pub few_named : (t : Tree) → IsSmall t → (n : ℕ) (all : List Entry) → map paired all ≡ map (named_in n) (entries_of t).entries → length all ≤ 32
-few_named t small n all are = let h = few t small in subst (λ k. k ≤ 32) (sym (sym (length-map all paired) ∙ (ap length are ∙ length-map _ _))) h
+pub few_named : (t : Tree) → IsSmall t → (n : ℕ) (all : List Entry) → map paired all ≡ map (named_in n) (entries_of t).entries → length all ≤ entries_limit
+few_named t small n all are = let h = few t small in subst (λ k. k ≤ entries_limit) (sym (sym (length-map all paired) ∙ (ap length are ∙ length-map _ _))) h
 
 pub short_steps : (t : Tree) → IsSmall t → (n : ℕ) (all : List Entry) → map paired all ≡ map (named_in n) (entries_of t).entries → All (λ e. length e.step ≤ 255) all
 short_steps t small n all are k d low =

@@ -1,7 +1,7 @@
 -- The machine's state as the model holds it, and what the machine answers where nothing is met.
 --     IsWork w v      the same tree, parents and least number
 --     IsState m s      the same commits, trees, branches and work, and no collection runs
---     IsSmall t      each step has at most 255 bytes, and each directory at most 32 entries
+--     IsSmall t      each step has at most 255 bytes, and each directory at most as many entries as it may have
 --     IsSound s      what holds of the states that the machine comes to
 --     TurnsTo turned reply m, StepsTo s command reply m      a reply, and the state after it
 --     WorksTo s turned reply w, Answers s command reply w      a reply, and that only the work changed, to this one

@@ -13,3 +13,4 @@ mod work;
 
 pub use history::History;
 pub use machine::Machine;
+pub use names::{Entry, contents_name, entries_name};

@@ -1,14 +1,16 @@
 // Trees as lists of paths and contents, ascending by path. Each call does to the list what the definition says of the map.
-ghost use Rattle.std.specs.Prelude.{◌≡◌, ◌<◌, ◌≤◌, ◌++◌, [], ◌∷◌, ◌&&◌, cond, not, length, map, fold, max, is_some, insert, option_map, slice_index_or, slice_set, IfOk, IfErr, OnOk};
+ghost use Rattle.std.specs.Prelude.{◌≡◌, ◌<◌, ◌≤◌, ◌++◌, [], ◌∷◌, ◌&&◌, cond, not, length, map, fold, max, is_some, insert, option_map, slice_index_or, slice_set, nat_lt, IfOk, IfErr, OnOk};
 ghost use Rattle.std.specs.FinMap.Entries.{find, put as entered, where_key};
 ghost use Rattle.ip_spec.specs.Map.{get, len};
 ghost use Rattle.ip_spec.specs.Path.{bytes_cmp, path_cmp, after_prefix, is_prefix};
 ghost use Rattle.ip_spec.specs.Tree.{Tree as Map, is_empty, subtree, remove, place, put as put_at, height, widest, ways, entries_of, got_by, listed_by, got_at, listed_at, is_root};
 ghost use Rattle.ip_spec.specs.Shape.{directory_name, root_name};
+ghost use Rattle.ip_spec.specs.Step.{entries_limit};
 ghost use Rattle.ip_model.specs.Working.{IsSmall};
 ghost use Rattle.ip_model.specs.Parts.{put_some, rest_of, beside, first_in, step_in, item_in};
 
 use crate::names::{Entry, contents_name, entries_name};
+use ip_base::limit::ENTRIES_MAX;
 use ip_base::{Blob, Hash, Items, Memory, Step};
 use ip_spec::tree::{Got, Item, Listed, Listing};
 use std::alloc::Global;
@@ -127,8 +129,18 @@ impl Tree {
         height
     }
 
-    /// The most entries of one directory.
-    pub fn widest(&self, alloc: Global) -> Result<usize, Memory>
+    /// Whether a directory has more entries than it may. None has more than there are contents.
+    pub fn is_wide(&self, alloc: Global) -> Result<bool, Memory>
+        ensures { (t : Map) → self.now ≡ t.entries → IfOk result (λ wide. wide ≡ nat_lt entries_limit (widest t)) }
+    {
+        if self.parts.len() <= ENTRIES_MAX {
+            return Ok(false);
+        }
+        Ok(self.widest(alloc)? > ENTRIES_MAX)
+    }
+
+    // The most entries of one directory.
+    fn widest(&self, alloc: Global) -> Result<usize, Memory>
         ensures { (t : Map) → self.now ≡ t.entries → IfOk result (λ n. n ≡ widest t) }
     {
         let mut widest = 0;

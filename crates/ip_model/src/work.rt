@@ -9,7 +9,7 @@ ghost use Rattle.std.specs.List.{list_any};
 ghost use Rattle.ip_model.specs.Working.{IsWork, WorksTo, Answers, parent_after, graft_after};
 
 use crate::trees::Tree;
-use ip_base::limit::{CONTENTS_MAX, ENTRIES_MAX, PARENTS_MAX, STEPS_MAX};
+use ip_base::limit::{CONTENTS_MAX, PARENTS_MAX, STEPS_MAX};
 use ip_base::{Blob, Limit, Memory, Number, Numbers, Step};
 use ip_spec::reply::Reply;
 use ip_spec::tree::{Got, Listed};
@@ -63,7 +63,7 @@ impl Work {
             return Ok(Reply::Limit(Limit::Contents));
         }
         let tree = self.tree.put(alloc, path, contents)?;
-        if tree.widest(alloc)? > ENTRIES_MAX {
+        if tree.is_wide(alloc)? {
             return Ok(Reply::Limit(Limit::Entries));
         }
         self.tree = tree;
@@ -114,7 +114,7 @@ impl Work {
             return Ok(Reply::Limit(Limit::Depth));
         }
         let tree = self.tree.place(alloc, to, sub)?;
-        if tree.widest(alloc)? > ENTRIES_MAX {
+        if tree.is_wide(alloc)? {
             return Ok(Reply::Limit(Limit::Entries));
         }
         self.tree = tree;
