@@ -20,7 +20,7 @@ use Rattle.ip_spec.specs.declared.met.Met.{Met}
 use Rattle.ip_spec.specs.declared.record.Record.{Record}
 use Rattle.ip_spec.specs.declared.reply.Reply.{Reply}
 use Rattle.ip_spec.specs.Map.{get}
-use Rattle.ip_spec.specs.Path.{Bytes, Path, is_prefix, is_related}
+use Rattle.ip_spec.specs.Path.{Bytes, Path, after_prefix, is_related}
 use Rattle.ip_spec.specs.declared.tree.Got.{Got}
 use Rattle.ip_spec.specs.declared.tree.Listed.{Listed}
 use Rattle.ip_spec.specs.Tree.{Tree, graft, subtree, is_empty, got_at, listed_at}
@@ -38,7 +38,7 @@ use Rattle.ip_tree.specs.Reads.{IsFree}
 use Rattle.ip_tree.specs.TreeView.{IsView, stored_view, IsSetFault, IsSet, IsRemoved, IsGraftFault, IsGrafted, Grafts}
 use Rattle.ip_tree.specs.declared.tree.Tree as lazy
 use Rattle.ip_tree.specs.declared.tree.TreeFault.{TreeFault}
-use Rattle.ip_tree.proofs.Removing.{rest_of}
+use Rattle.ip_tree.proofs.PlacedTrees.{IsSplit, split}
 use Rattle.ip_save.specs.Batches.{HasShortContents}
 use Rattle.ip_store.specs.Showing.{IsFetchedOr, IsShown}
 use Rattle.ip_store.specs.Store.{IsOf, Holds, SameTables, image_records}
@@ -231,11 +231,11 @@ short_without t q b true short e = absurd (cc e)
 short_without t q b false short e = short q b e
 
 short_graft : (t source : Tree) (from to : Path) → HasShortContents t → HasShortContents source → HasShortContents (graft t source from to)
-short_graft t source from to short short_source q b is = by (is_prefix to q) refl
+short_graft t source from to short short_source q b is = by (after_prefix to q) (split to q)
   where
-    by : (under : Bool) → is_prefix to q ≡ under → length b ≤ contents_limit
-    by true e = let rest = rest_of to q e in short_source (from ++ rest.0) b (sym (ap (get (graft t source from to)) rest.1 ∙ get-graft t source from to rest.0) ∙ is)
-    by false e = short_without t q b (is_related to q) short (sym (get-graft_beside t source from to q e) ∙ is)
+    by : (o : Option Path) → IsSplit to q o → length b ≤ contents_limit
+    by (Some rest) e = short_source (from ++ rest) b (sym (ap (get (graft t source from to)) e ∙ get-graft t source from to rest) ∙ is)
+    by None e = short_without t q b (is_related to q) short (sym (get-graft_beside t source from to q e) ∙ is)
 
 -- ---- the least number
 

@@ -15,7 +15,6 @@ ghost use Rattle.ip_spec.specs.Step.{resolve, least_with};
 ghost use Rattle.ip_spec.specs.Text.{reply_text};
 ghost use Rattle.ip_store.specs.Commits.{met_nothing};
 ghost use Rattle.ip_store.specs.Store.{IsOf};
-ghost use Rattle.ip_tree.specs.Leaves.{HasLeavesOnly};
 ghost use Rattle.ip_store.specs.Work.{IsLawful};
 ghost use Rattle.ip_session.specs.Placing.{PlacedBy, PlacedIn};
 ghost use Rattle.ip_session.specs.Session.{ground_end, met_only, is_durable, asks_ground, HasRead, IsHeld, EndsBy};
@@ -89,7 +88,7 @@ impl Session {
         ensures met { result.met ≡ met_nothing }
         ensures is_in { (r : Repository) → IsOf store r → IsIn result r }
         ensures state { (r : Repository) → state_in result r no_view ≡ opened r }
-        ensures lawful { (records : ℕ → Option Record) (r : Repository) → HasLeavesOnly records → IsLawful records r result.work no_view }
+        ensures lawful { (records : ℕ → Option Record) (r : Repository) → IsLawful records r result.work no_view }
     {
         Session {
             alloc,

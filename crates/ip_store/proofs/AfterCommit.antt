@@ -45,7 +45,6 @@ use Rattle.ip_image.proofs.TreeBatch.{found_together}
 use Rattle.ip_history.specs.History.{History, HasParentsFirst}
 use Rattle.ip_history.proofs.Parents.{first_push}
 use Rattle.ip_tree.specs.declared.tree.Tree as lazy
-use Rattle.ip_tree.specs.Leaves.{HasLeavesOnly}
 use Rattle.ip_tree.specs.Meaning.{Spells}
 use Rattle.ip_tree.specs.TreeView.{IsView, stored_view}
 use Rattle.ip_tree.proofs.Stands.{known_stand}
@@ -64,7 +63,7 @@ use Rattle.ip_store.specs.Trees.{RecordsStay}
 use Rattle.ip_store.specs.Views.{IsStored, IsViewAfter}
 use Rattle.ip_store.specs.Work.{AreParents, IsLawful, IsAt, least_of, session}
 use Rattle.ip_store.proofs.Recovering.{held_has}
-use Rattle.ip_store.proofs.Listed.{within_fits, same_records, leaves_only, records_below}
+use Rattle.ip_store.proofs.Listed.{within_fits, same_records, records_below}
 use Rattle.ip_store.proofs.Stepping.{same_tables, same_holds, space_same, may_step, changed, list_after, stays_made, cut_short, same_can_step, same_step}
 use Rattle.ip_store.proofs.NextSlot.{next_is, next_generation, next_space}
 use Rattle.ip_store.proofs.Histories.{history_committed}
@@ -173,7 +172,7 @@ stays_committed r branch store plan of is a held b step store' q now =
 
 -- what `Tree::of` says of the tree that it gives
 abbrev pub IsRead : ℕ → Ref → lazy.Tree → Type 0
-IsRead number root tree = (records : ℕ → Option Record) (map : Tree) → IsFalse (is_contents map) → Spells records root map → IsTree map → widest map ≤ entries_limit → HasLeavesOnly records → IsView records tree (stored_view records number root.at map)
+IsRead number root tree = (records : ℕ → Option Record) (map : Tree) → IsFalse (is_contents map) → Spells records root map → IsTree map → widest map ≤ entries_limit → IsView records tree (stored_view records number root.at map)
 
 pub read_root : (number : ℕ) (given root : Ref) (tree : lazy.Tree) → given ≡ root → IsRead number given tree → IsRead number root tree
 read_root number given root tree same read = subst (λ (at : Ref). IsRead number at tree) same read
@@ -263,7 +262,7 @@ module _ (r : Repository) (work : Work) (v : View) (branch : Bytes) (info : Info
           kind = ap (λ (root : Ref). root.kind) is.root;
           name = ap (λ (root : Ref). root.name) is.root;
         })
-        at.lawful.tree.lawful at.lawful.tree.narrow (leaves_only store' b q now))
+        at.lawful.tree.lawful at.lawful.tree.narrow)
 
     pub work_after : (work' : Work) → IsRead plan.number plan.batch.root work'.tree → work'.parents ≡ plan.parents → work'.least ≡ Some plan.number → q ≡ made_is
         → IsLawful (image_records now) q work' (stored_view (image_records now) (next r) plan.batch.root.at v.map)

@@ -1,38 +1,30 @@
--- The records of a batch, where no directory has more entries than a leaf may: contents and leaves, then the commit and its branch.
+-- The records of a batch: contents and parts of directories, then the commit and its branch.
 --     batch_served      each is of a kind that is there so far
 --     batch_places      one of them is a commit, where the batch says
 use Rattle.std.proofs.Common.{◌≡◌, ℕ, zero, suc, ◌≤◌, Bool, true, false, List, [], ◌∷◌, ◌++◌, length, map, Option, Some, None, refl, sym, ◌∙◌, ap, subst, arith}
-use Rattle.std.specs.Prelude.{All, if◌then◌else◌, nat_le, ◌||◌}
+use Rattle.std.specs.Prelude.{◌-◌, All, if◌then◌else◌}
 use Rattle.std.specs.List.{AllByRecursion, cons_option}
-use Rattle.std.proofs.lemmas.Bool.Decides.{nat_tests}
 use Rattle.std.proofs.lemmas.List.Elements.{filter_map-append, recursion_from_All, All-from_recursion}
-use Rattle.std.specs.Cmp.Lexicographic.{nat_list_cmp_total}
 use Rattle.ip_spec.specs.declared.record.Record.{Record}
 use Rattle.ip_spec.specs.declared.record.InodeChild.{InodeChild}
-use Rattle.ip_spec.specs.declared.record.LeafEntry.{LeafEntry}
-use Rattle.ip_spec.specs.Map.{len}
-use Rattle.ip_spec.specs.Path.{Step, Path, bytes_cmp}
+use Rattle.ip_spec.specs.Path.{Step, Path}
 use Rattle.ip_spec.specs.Record.{Fits}
-use Rattle.ip_spec.specs.Step.{entries_limit}
-use Rattle.ip_spec.specs.Tree.{Tree, entries_of, subtree, is_contents, widest, height}
-use Rattle.ip_spec.specs.Shape.{Entries, is_leaf, children_of}
+use Rattle.ip_spec.specs.Tree.{Tree, entries_of, is_contents, height}
+use Rattle.ip_spec.specs.Shape.{Entries, deepest, is_leaf, children_of}
 use Rattle.ip_spec.specs.TreeAt.{Records}
 use Rattle.ip_spec.specs.View.{View}
 use Rattle.ip_spec.specs.Batch.{CommitFields, Spelled, Row, sources, contents_record, contents_offset, contents_end, new_contents, placed, there_already, behind, known_or, spell_entry, spell_entries, spell_children, spell_part, spell_directory, root_spelled, tree_batch, batch}
-use Rattle.ip_spec.proofs.Naming.{Member, here, there, member_found}
-use Rattle.ip_spec.proofs.Subtrees.{entry_found, subtree_root, subtree_cons}
 use Rattle.ip_image.specs.Standing.{IsServedKind}
 use Rattle.ip_image.specs.Appending.{AreWithin}
 use Rattle.ip_image.proofs.TreeParts.{all_join}
 use Rattle.ip_save.specs.Batches.{commit_place}
-use Rattle.ip_tree.specs.Narrow.{IsNarrow}
-use Rattle.ip_tree.proofs.Widest.{narrow_of}
 use Rattle.ip_store.specs.Placed.{place_of, places_in}
 
--- contents, or a leaf
+-- contents, or a part of a directory
 abbrev IsPlain : Record → Type 0
 IsPlain (Record.Contents bytes) = Unit {0}
-IsPlain (Record.Leaf fields) = length fields ≤ 32
+IsPlain (Record.Leaf fields) = Unit {0}
+IsPlain (Record.Inode depth children) = Unit {0}
 IsPlain r = ⊥
 
 abbrev IsPlainAt : ℕ × Record → Type 0
@@ -43,70 +35,57 @@ ArePlain xs = AllByRecursion IsPlainAt xs
 
 -- ---- directories
 
-abbrev AreNarrow : Entries → Type 0
-AreNarrow es = AllByRecursion (λ (e : Step × Tree). IsNarrow e.1) es
-
-below_narrow : (t sub : Tree) (s : Step) → sub ≡ subtree t (s ∷ []) → IsNarrow t → IsNarrow sub
-below_narrow t sub s is narrow = subst IsNarrow (sym is) (λ p. subst (λ (u : Tree). len (entries_of u) ≤ entries_limit) (subtree_cons t s p) (narrow (s ∷ p)))
-
-narrow_entries : (t : Tree) → IsNarrow t → (es : Entries) → ((e : Step × Tree) → Member e es → Member e (entries_of t).entries) → AreNarrow es
-narrow_entries t narrow [] among = tt
-narrow_entries t narrow (e ∷ es) among = (
-  below_narrow t e.1 e.0 (entry_found t e.0 e.1 (member_found bytes_cmp nat_list_cmp_total (entries_of t).entries e (entries_of t).sorted (among e here))).is narrow,
-  narrow_entries t narrow es (λ x m. among x (there m)),
-)
-
-few : (t : Tree) → IsNarrow t → length (entries_of t).entries ≤ 32
-few t narrow = subst (λ (u : Tree). len (entries_of u) ≤ entries_limit) (subtree_root t) (narrow [])
-
 abbrev ArePlainBelow : (Path → Tree → ℕ → Spelled) → Type 0
-ArePlainBelow deeper = (path : Path) (sub : Tree) (at : ℕ) → IsNarrow sub → ArePlain (deeper path sub at).records
+ArePlainBelow deeper = (path : Path) (sub : Tree) (at : ℕ) → ArePlain (deeper path sub at).records
 
-module _ (offset : Path → ℕ) (deeper : Path → Tree → ℕ → Spelled) (plain : ArePlainBelow deeper) (path : Path) where
-  entry_plain : (e : Step × Tree) (at : ℕ) → IsNarrow e.1 → ArePlain (spell_entry offset deeper path e at).records
-  entry_plain e at narrow = by (is_contents e.1)
+unknown_plain : (k : Option ℕ) (at : ℕ) (s : Spelled) → ArePlain s.records → ArePlain (known_or k at s).records
+unknown_plain (Some root) at s plain = tt
+unknown_plain None at s plain = plain
+
+children_plain : (one : ℕ × Entries → ℕ → Spelled) → ((c : ℕ × Entries) (at : ℕ) → ArePlain (one c at).records) → (depth : ℕ) (cs : List (ℕ × Entries)) (at : ℕ) → ArePlain (spell_children one depth cs at).records
+children_plain one plain depth [] at = tt
+children_plain one plain depth (c ∷ cs) at =
+    let s = one c at in all_join IsPlainAt s.records (spell_children one depth cs s.next).records (plain c at) (children_plain one plain depth cs s.next)
+
+module _ (offset : Path → ℕ) (deeper : Path → Tree → ℕ → Spelled) (plain : ArePlainBelow deeper) where
+  entry_plain : (path : Path) (e : Step × Tree) (at : ℕ) → ArePlain (spell_entry offset deeper path e at).records
+  entry_plain path e at = by (is_contents e.1)
     where
       by : (b : Bool) → ArePlain (if b then there_already (offset (path ++ e.0 ∷ [])) at else deeper (path ++ e.0 ∷ []) e.1 at).records
       by true = tt
-      by false = plain (path ++ e.0 ∷ []) e.1 at narrow
+      by false = plain (path ++ e.0 ∷ []) e.1 at
 
-  entries_plain : (es : Entries) (at : ℕ) → AreNarrow es → ArePlain (spell_entries offset deeper path es at).records
-  entries_plain [] at narrow = tt
-  entries_plain (e ∷ es) at narrow =
+  entries_plain : (path : Path) (es : Entries) (at : ℕ) → ArePlain (spell_entries offset deeper path es at).records
+  entries_plain path [] at = tt
+  entries_plain path (e ∷ es) at =
       let s = spell_entry offset deeper path e at in
-      all_join IsPlainAt s.records (spell_entries offset deeper path es s.next).records (entry_plain e at narrow.0) (entries_plain es s.next narrow.1)
+      all_join IsPlainAt s.records (spell_entries offset deeper path es s.next).records (entry_plain path e at) (entries_plain path es s.next)
 
-  as_many : (es : Entries) (at : ℕ) → length (spell_entries offset deeper path es at).fields ≡ length es
-  as_many [] at = refl
-  as_many (e ∷ es) at = ap suc (as_many es (spell_entry offset deeper path e at).next)
+  leaf_plain : (path : Path) (es : Entries) (at : ℕ) → ArePlain (behind Record.Leaf (spell_entries offset deeper path es at)).records
+  leaf_plain path es at = all_join IsPlainAt (spell_entries offset deeper path es at).records _ (entries_plain path es at) (tt, tt)
 
-  part_plain : (v : View) (sub : Tree) (at : ℕ) → IsNarrow sub → ArePlain (spell_part v offset deeper 51 path [] (entries_of sub).entries at).records
-  part_plain v sub at narrow = by (v.known (record { path = path; indexes = [] })) (is_leaf 0 es) refl
+  part_plain : (v : View) (levels : ℕ) (path : Path) (indexes : List ℕ) (es : Entries) (at : ℕ) → ArePlain (spell_part v offset deeper levels path indexes es at).records
+  part_plain v zero path indexes es at = unknown_plain (v.known (record { path = path; indexes = indexes })) at _ (leaf_plain path es at)
+  part_plain v (suc levels) path indexes es at =
+      unknown_plain (v.known (record { path = path; indexes = indexes })) at _ (by (λ c at. part_plain v levels path (indexes ++ c.0 ∷ []) c.1 at) (is_leaf (50 - levels) es))
     where
-      es : Entries
-      es = (entries_of sub).entries
+      one : ℕ × Entries → ℕ → Spelled
+      one c = spell_part v offset deeper levels path (indexes ++ c.0 ∷ []) c.1
 
-      row : Row LeafEntry
-      row = spell_entries offset deeper path es at
+      row : Row InodeChild
+      row = spell_children one (suc (50 - levels)) (children_of (50 - levels) es) at
 
-      children : Row InodeChild
-      children = spell_children (λ c. spell_part v offset deeper 50 path (c.0 ∷ []) c.1) 1 (children_of 0 es) at
+      inode : Spelled
+      inode = behind (Record.Inode (50 - levels)) row
 
-      inodes : Spelled
-      inodes = behind (Record.Inode 0) children
-
-      too_many : (n : ℕ) → n ≤ 32 → (nat_le n 32 || false) ≡ false → ⊥
-      too_many n low e = grind (arith, nat_tests)
-
-      by : (k : Option ℕ) (b : Bool) → is_leaf 0 es ≡ b → ArePlain (known_or k at (if b then behind Record.Leaf row else inodes)).records
-      by (Some root) b is = tt
-      by None true is = all_join IsPlainAt row.records _ (entries_plain es at (narrow_entries sub narrow es (λ e m. m))) (let same = as_many es at in let low = few sub narrow in (omega (arith, same, low), tt))
-      by None false is = absurd (too_many (length es) (few sub narrow) is)
+      by : ((c : ℕ × Entries) (at : ℕ) → ArePlain (one c at).records) → (b : Bool) → ArePlain (if b then behind Record.Leaf (spell_entries offset deeper path es at) else inode).records
+      by below true = leaf_plain path es at
+      by below false = all_join IsPlainAt row.records _ (children_plain one below (suc (50 - levels)) (children_of (50 - levels) es) at) (tt, tt)
 
 directory_plain : (v : View) (offset : Path → ℕ) (h : ℕ) → ArePlainBelow (spell_directory v offset h)
 unfolding spell_directory
-directory_plain v offset zero path sub at narrow = tt
-directory_plain v offset (suc h) path sub at narrow = part_plain offset (spell_directory v offset h) (directory_plain v offset h) path v sub at narrow
+directory_plain v offset zero path sub at = tt
+directory_plain v offset (suc h) path sub at = part_plain offset (spell_directory v offset h) (directory_plain v offset h) v deepest path [] (entries_of sub).entries at
 
 -- ---- the batch
 
@@ -114,12 +93,12 @@ contents_plain : (v : View) (xs : List (Path × ℕ)) → ArePlain (map (λ (x :
 contents_plain v [] = tt
 contents_plain v (x ∷ xs) = (tt, contents_plain v xs)
 
-module _ (v : View) (narrow : widest v.map ≤ entries_limit) (f : CommitFields) (end : ℕ) where
+module _ (v : View) (f : CommitFields) (end : ℕ) where
   tree_plain : ArePlain (tree_batch v (sources v) end)
   unfolding tree_batch
   tree_plain = all_join IsPlainAt (map (λ (x : Path × ℕ). (x.1, contents_record v x.0)) (placed v end (new_contents v (sources v)))) (root_spelled v (sources v) end).records
       (contents_plain v (placed v end (new_contents v (sources v))))
-      (directory_plain v (contents_offset v (sources v) end) (suc (height v.map)) [] v.map (contents_end v end (new_contents v (sources v))) (narrow_of v.map narrow))
+      (directory_plain v (contents_offset v (sources v) end) (suc (height v.map)) [] v.map (contents_end v end (new_contents v (sources v))))
 
   plain_served : (xs : Records) → ArePlain xs → AllByRecursion (λ (x : ℕ × Record). IsServedKind x.1) xs
   plain_served [] are = tt
@@ -127,7 +106,8 @@ module _ (v : View) (narrow : widest v.map ≤ entries_limit) (f : CommitFields)
     where
       by : (r : Record) → IsPlain r → IsServedKind r
       by (Record.Contents bytes) is = tt
-      by (Record.Leaf fields) is = is
+      by (Record.Leaf fields) is = tt
+      by (Record.Inode depth children) is = tt
       by _ is = absurd is
 
   served : AllByRecursion (λ (x : ℕ × Record). IsServedKind x.1) (batch v (sources v) f end)
@@ -149,6 +129,7 @@ module _ (v : View) (narrow : widest v.map ≤ entries_limit) (f : CommitFields)
       by : (at : ℕ) (r : Record) → IsPlain r → cons_option (place_of (at, r)) (places_in xs) ≡ places_in xs
       by at (Record.Contents bytes) is = refl
       by at (Record.Leaf fields) is = refl
+      by at (Record.Inode depth children) is = refl
       by at _ is = absurd is
 
   pub batch_places : places_in (batch v (sources v) f end) ≡ commit_place v end ∷ []

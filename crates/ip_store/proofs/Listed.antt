@@ -1,10 +1,9 @@
 -- The records of an image, and what a store holds.
 --     good_newest, within_fits, places_size      good records are within the bounds of the newest version; and have as many places as commits
---     only_leaves      none of the records of an image that stands is an inode
 --     same_rows, more_records      the rows of an image that goes on, and its records.      space_stays, pair_stays      what calls keep that change no file
 --     readable_by, readable_of      a store's space is readable.      holds_on      a store holds on what it held, where the live slot and the bytes of its records are as before
 --     commits_there      at the store's places stand the records of its commits
---     over, leaves_only, records_good, records_below      of the records of the image that a store holds: the space reads them; none is an inode; what each of them is; where it lies
+--     over, records_good, records_parts, records_below      of the records of the image that a store holds: the space reads them; what each of them is, and of what it is a part; where it lies
 --     same_list, same_records      of two images of which one reads as the other did; and of one image, whichever proof says that it stands
 use Rattle.std.proofs.Common.{◌≡◌, ◌≢◌, ◌⊎◌, inl, inr, ℕ, zero, suc, ◌+◌, ◌≤◌, List, [], ◌∷◌, ◌++◌, map, length, refl, sym, ◌∙◌, ap, subst, arith, append_assoc, append-nil, length-append}
 use Rattle.std.specs.Prelude.{◌<◌, Bool, true, false, cond, Option, Some, None, slice_get}
@@ -17,7 +16,7 @@ use Rattle.ip_ground.specs.Contents.{Content, Image, bytes_of}
 use Rattle.ip_ground.specs.Told.{Told, IsForeign, IsKept}
 use Rattle.ip_spec.specs.declared.record.Record.{Record}
 use Rattle.ip_spec.specs.declared.record.CommitRecord.{CommitRecord}
-use Rattle.ip_spec.specs.Record.{Fits, spelling, spelling_of}
+use Rattle.ip_spec.specs.Record.{Fits, reference_kind, spelling, spelling_of}
 use Rattle.ip_spec.specs.Shape.{root_name}
 use Rattle.ip_spec.specs.TreeAt.{Records, present}
 use Rattle.ip_spec.specs.Repository.{Repository, Commit}
@@ -29,7 +28,7 @@ use Rattle.ip_image.specs.declared.run.Run.{Run}
 use Rattle.ip_image.specs.Slot.{IsSlot, IsLive, layout_of, newest_version}
 use Rattle.ip_image.specs.declared.run.Row.{Row}
 use Rattle.ip_image.specs.Virtual.{run_of, byte_of, mapping_file, chunk_of, place_in_chunk, chunk_byte, virtual_byte}
-use Rattle.ip_image.specs.Standing.{EndToEnd, RunByRun, IsServedKind, IsGood, AreGood, Generation, commit_of, commits_in, Spells, Standing, StandsFor}
+use Rattle.ip_image.specs.Standing.{EndToEnd, RunByRun, IsServedKind, IsSomePart, IsGood, AreGood, Generation, commit_of, commits_in, Spells, Standing, StandsFor}
 use Rattle.ip_image.specs.Stored.{stored}
 use Rattle.ip_image.specs.Appending.{SameGeneration, AreWithin}
 use Rattle.ip_image.specs.Pending.{HasLive, SameSpace}
@@ -39,6 +38,7 @@ use Rattle.ip_image.proofs.AppendingLaws.{stands_still}
 use Rattle.ip_image.proofs.RecordsOn.{records_go_on}
 use Rattle.ip_image.proofs.HeadlineLaws.{same_generation_itself}
 use Rattle.ip_image.proofs.SpelledCommits.{present_front}
+use Rattle.ip_image.proofs.PartEntries.{part_of_good}
 use Rattle.ip_image.proofs.PairLaws.{Has, Rises}
 use Rattle.ip_image.proofs.KeptRuns.{Ordered}
 use Rattle.ip_image.proofs.InChunk.{ordered_below, LiesIn, lies_ordered, lies_on, chunk_lies, chunk_good}
@@ -47,7 +47,6 @@ use Rattle.ip_image.proofs.StoredLaws.{standing_stored}
 use Rattle.ip_space.specs.SpaceView.{IsReadable, records_of}
 use Rattle.ip_store.specs.declared.store.Store.{Store}
 use Rattle.ip_store.specs.Placed.{places_in, IsCommitAt, AreCommitsAt}
-use Rattle.ip_tree.specs.Leaves.{HasLeavesOnly}
 use Rattle.ip_tree.specs.Reads.{IsOver}
 use Rattle.ip_store.specs.Store.{IsOf, OwnsPair, Holds, image_records}
 
@@ -76,10 +75,6 @@ good_found s before (y ∷ records) good at x is = by (eq_by_cmp nat_cmp at y.0)
     by : (b : Bool) → cond b (Some y.1) (present records at) ≡ Some x → (present records at ≡ Some x → Fits s.version x × IsServedKind x) → Fits s.version x × IsServedKind x
     by true is later = let same : y.1 ≡ x = cc (is) in subst (λ (z : Record). Fits s.version z × IsServedKind z) same (good.0.bounds, good.0.served)
     by false is later = later is
-
--- each directory is one leaf in an image that stands
-pub only_leaves : (image : Image) (standing : Standing image) → HasLeavesOnly (present standing.records)
-only_leaves image standing = record { none = λ at depth children is. (good_found standing.slot [] standing.records standing.good at (Record.Inode depth children) is).1 }
 
 -- as many places as commits
 pub places_size : (records : Records) → length (places_in records) ≡ length (commits_in records)
@@ -148,13 +143,14 @@ module _ (s : Slot) (all : Records) (rise : Rises all) where
       no_more pre xs (at, Record.Contents bytes) ms refl (commits_from (pre ++ (at, Record.Contents bytes) ∷ []) xs ms (append_assoc pre ((at, Record.Contents bytes) ∷ []) xs ∙ is) good.1 zip)
   commits_from pre ((at, Record.Leaf es) ∷ xs) ms is good zip =
       no_more pre xs (at, Record.Leaf es) ms refl (commits_from (pre ++ (at, Record.Leaf es) ∷ []) xs ms (append_assoc pre ((at, Record.Leaf es) ∷ []) xs ∙ is) good.1 zip)
+  commits_from pre ((at, Record.Inode depth cs) ∷ xs) ms is good zip =
+      no_more pre xs (at, Record.Inode depth cs) ms refl (commits_from (pre ++ (at, Record.Inode depth cs) ∷ []) xs ms (append_assoc pre ((at, Record.Inode depth cs) ∷ []) xs ∙ is) good.1 zip)
   commits_from pre ((at, Record.BranchSet n name) ∷ xs) ms is good zip =
       no_more pre xs (at, Record.BranchSet n name) ms refl (commits_from (pre ++ (at, Record.BranchSet n name) ∷ []) xs ms (append_assoc pre ((at, Record.BranchSet n name) ∷ []) xs ∙ is) good.1 zip)
   commits_from pre ((at, Record.BranchRemove name) ∷ xs) ms is good zip =
       no_more pre xs (at, Record.BranchRemove name) ms refl (commits_from (pre ++ (at, Record.BranchRemove name) ∷ []) xs ms (append_assoc pre ((at, Record.BranchRemove name) ∷ []) xs ∙ is) good.1 zip)
   commits_from pre ((at, Record.BranchTable rows) ∷ xs) ms is good zip =
       no_more pre xs (at, Record.BranchTable rows) ms refl (commits_from (pre ++ (at, Record.BranchTable rows) ∷ []) xs ms (append_assoc pre ((at, Record.BranchTable rows) ∷ []) xs ∙ is) good.1 zip)
-  commits_from pre ((at, Record.Inode depth cs) ∷ xs) ms is good zip = absurd good.0.served
   commits_from pre ((at, Record.TagSet n name) ∷ xs) ms is good zip = absurd good.0.served
   commits_from pre ((at, Record.TagRemove name) ∷ xs) ms is good zip = absurd good.0.served
   commits_from pre ((at, Record.TagTable rows) ∷ xs) ms is good zip = absurd good.0.served
@@ -303,8 +299,9 @@ module _ (store : Store) (told : Told) (r : Repository) (holds : Holds store tol
       let good = good_found store.slot [] A.records good_here at x is in
       (subst (λ (v : ℕ). Fits v x) (newest store.slot holds.tables.slot) good.0, good.1)
 
-  pub leaves_only : HasLeavesOnly (image_records holds)
-  leaves_only = only_leaves told.held A
+  -- a leaf or an inode is a part of some directory
+  pub records_parts : (at : ℕ) (x : Record) → image_records holds at ≡ Some x → reference_kind x ≡ 2 → IsSomePart (image_records holds) at
+  records_parts at x is kind = part_of_good store.slot [] A.records good_here at x is kind
 
   records_ordered : Ordered 0 A.records store.slot.end
   records_ordered = lies_ordered told.held (layout_of store.slot) has.live.fields.horizon A.records (chunk_lies told.held store.slot has A)

@@ -162,7 +162,7 @@ module _ (records : ℕ → Option Record) (r : Repository) (work : Work) (v : V
       record {
         name = name;
         bytes = is_batch.bytes ∙ ap (λ f. bytes_of_records (grown_batch v f store.slot.end)) told;
-        place = batch_places v lawful.tree.narrow (fields_of r work.parents info branch) store.slot.end ∙ ap (λ (n : ℕ). n ∷ []) (sym is_batch.commit_at);
+        place = batch_places v (fields_of r work.parents info branch) store.slot.end ∙ ap (λ (n : ℕ). n ∷ []) (sym is_batch.commit_at);
         root = is_batch.root;
         behind = ap (λ f. grown_end v f store.slot.end) (sym told) ∙ sym is_batch.ends ∙ is_batch.long;
         may = record {
@@ -177,7 +177,7 @@ module _ (records : ℕ → Option Record) (r : Repository) (work : Work) (v : V
           room = room_after r branch (next r) room_is of.retained.few;
         };
         within = subst (λ (n : ℕ). AreWithin n (grown_batch v (fields_of r work.parents info branch) store.slot.end)) (sym version_is)
-            (batch_served v lawful.tree.narrow (fields_of r work.parents info branch) store.slot.end 1
+            (batch_served v (fields_of r work.parents info branch) store.slot.end 1
             (subst (λ f. All (λ (x : ℕ × Record). Fits 1 x.1) (grown_batch v f store.slot.end)) told is_batch.fits));
         turn = turn_is_done r work v branch info lawful.retained head_is room_is new_is;
       }

@@ -1,26 +1,32 @@
--- A tree that good records spell, of which none is an inode: it is lawful, no contents are too long, and no directory has too many entries.
-use Rattle.std.proofs.Common.{◌≡◌, ◌⊎◌, inl, inr, ℕ, suc, ◌≤◌, Bool, true, false, cond, List, [], ◌∷◌, length, Option, Some, None, refl, sym, ◌∙◌, ap, subst, arith}
+-- A tree that good records spell: it is lawful, no contents are too long, and no directory has too many entries.
+use Rattle.std.proofs.Common.{◌≡◌, ◌⊎◌, inl, inr, ℕ, zero, suc, ◌≤◌, Bool, true, false, cond, List, [], ◌∷◌, length, Option, Some, None, refl, sym, ◌∙◌, ap, subst, arith}
 use Rattle.std.proofs.lemmas.Bool.{false≢true}
-use Rattle.std.specs.Prelude.{◌&&◌, is_some, IsSome}
+use Rattle.std.specs.Prelude.{◌&&◌, is_some, IsSome, option_and_then, option_map}
 use Rattle.std.specs.List.{AllByRecursion}
 use Rattle.std.proofs.lemmas.List.Elements.{recursion_from_All, All-from_recursion}
-use Rattle.std.specs.Ordering.{eq_by_cmp}
 use Rattle.std.specs.FinMap.Entries.{find}
 use Rattle.ip_spec.specs.declared.record.Record.{Record}
 use Rattle.ip_spec.specs.declared.record.LeafEntry.{LeafEntry}
 use Rattle.ip_spec.specs.Map.{get, len}
 use Rattle.ip_spec.specs.Path.{Bytes, Step, Path, bytes_cmp, same_bytes, is_prefix, IsStep, IsPath}
-use Rattle.ip_spec.specs.Record.{Fits, IsLeafEntry}
-use Rattle.ip_spec.specs.Shape.{Entries}
+use Rattle.ip_spec.specs.Record.{Fits, IsLeafEntry, reference_kind}
+use Rattle.ip_spec.specs.Shape.{Entries, deepest, place}
 use Rattle.ip_spec.specs.Step.{contents_limit, entries_limit}
 use Rattle.ip_spec.specs.Tree as Tree
 use Rattle.ip_spec.specs.Tree.{Tree, IsTree, entries_of, subtree, is_empty, height, widest, tree_runs}
-use Rattle.ip_spec.specs.TreeAt.{EntryAt, EntriesAt, PartAt, TreeAt, contents_at, directory_at, no_entries, entry_first, leaf_at, inode_at}
+use Rattle.ip_spec.specs.StoredParts.{child_with, entry_by, entry_named, entry_through}
+use Rattle.ip_spec.specs.TreeAt.{PartAt, TreeAt, leaf_at, inode_at}
+use Rattle.ip_spec.proofs.Unique.{Ordered}
 use Rattle.ip_spec.proofs.Subtrees.{get-subtree, get-entries_of, get-contents, same_itself, same_step, empty_is, some_not_empty, subtree_root, subtree_cons}
 use Rattle.ip_image.specs.Slot.{newest_version}
-use Rattle.ip_image.specs.Standing.{IsServedKind}
+use Rattle.ip_image.specs.Standing.{IsServedKind, IsSomePart}
+use Rattle.ip_image.proofs.PartEntries.{few_entries}
 use Rattle.ip_save.specs.Batches.{HasShortContents}
-use Rattle.ip_tree.proofs.Heights.{path_height}
+use Rattle.ip_tree.specs.Meaning.{StoredIs, contents_in, directory_in}
+use Rattle.ip_tree.specs.Reads.{FindsEntry, stored_of_entry}
+use Rattle.ip_tree.specs.declared.node.Stored.{Stored}
+use Rattle.ip_tree.proofs.PartLookups.{through}
+use Rattle.ip_tree.proofs.TreeHeights.{directory_height, path_height}
 use Rattle.ip_tree.proofs.Trees.{entries_of_contents, entries_of_nothing, nothing_under}
 use Rattle.ip_tree.proofs.Widest.{widest_of}
 
@@ -28,34 +34,72 @@ contents_height : (bytes : Bytes) → height (Tree.contents bytes) ≡ 0
 unfolding tree_runs
 contents_height bytes = refl
 
-module _ (records : ℕ → Option Record) (good : (at : ℕ) (x : Record) → records at ≡ Some x → Fits newest_version x × IsServedKind x) where
+module _ (records : ℕ → Option Record) (good : (at : ℕ) (x : Record) → records at ≡ Some x → Fits newest_version x × IsServedKind x)
+    (parts : (at : ℕ) (x : Record) → records at ≡ Some x → reference_kind x ≡ 2 → IsSomePart records at) where
   -- contents that are short enough, or a directory
   abbrev Stands : Tree → Type 0
   Stands t = ((b : Bytes) × (t ≡ Tree.contents b) × (length b ≤ contents_limit)) ⊎ ((at : ℕ) × TreeAt records at t)
 
-  entry_stands : {bound : ℕ} {e : LeafEntry} {x : Step × Tree} → EntryAt records bound e x → Stands x.1
-  entry_stands (contents_at {e = e} bytes below is height child) = inl (bytes, refl, (good e.at (Record.Contents bytes) is).0.fields.0)
-  entry_stands (directory_at {e = e} sub below part directory some height child) = inr (e.at, (directory, part))
+  stored_stands : {x : Stored} {sub : Tree} → StoredIs records x sub → Stands sub
+  stored_stands {x = x} (contents_in bytes is height child) = inl (bytes, refl, (good x.reference.at (Record.Contents bytes) is).0.fields.0)
+  stored_stands {x = x} (directory_in sub some spells) = inr (x.reference.at, (some.directory, spells.part))
 
-  found_stands : {bound : ℕ} {fields : List LeafEntry} {es : Entries} → EntriesAt records bound fields es → (s : Step) (sub : Tree) → find bytes_cmp s es ≡ Some sub → Stands sub
-  found_stands no_entries s sub found = absurd (cc (found))
-  found_stands (entry_first {x = x} {xs = xs} entry entries) s sub found = by (eq_by_cmp bytes_cmp s x.0) found (found_stands entries s sub)
+  stored_low : {x : Stored} {sub : Tree} → StoredIs records x sub → x.height ≤ 63 → height sub ≤ 63
+  stored_low (contents_in bytes is height child) low = let none = contents_height bytes in omega (arith, none)
+  stored_low (directory_in sub some spells) low = let same = spells.height in let is = directory_height sub some.directory in omega (arith, same, is, low)
+
+  -- ---- entries
+
+  -- an entry of a leaf within its bounds, at the step
+  record IsHeld (s : Step) (e : LeafEntry) : Type 0 where
+    fits : IsLeafEntry e
+    step : s ≡ e.step
+
+  named_held : (s : Step) (fields : List LeafEntry) → AllByRecursion IsLeafEntry fields → (e : LeafEntry) → entry_named s fields ≡ Some e → IsHeld s e
+  named_held s [] each e is = absurd (false≢true (ap is_some is))
+  named_held s (x ∷ fields) each e is = by (same_bytes s x.step) refl is (named_held s fields each.1 e)
     where
-      by : (b : Bool) → cond b (Some x.1) (find bytes_cmp s xs) ≡ Some sub → (find bytes_cmp s xs ≡ Some sub → Stands sub) → Stands sub
-      by true found later = let same : x.1 ≡ sub = cc (found) in subst Stands same (entry_stands entry)
-      by false found later = later found
+      by : (b : Bool) → same_bytes s x.step ≡ b → cond b (Some x) (entry_named s fields) ≡ Some e → (entry_named s fields ≡ Some e → IsHeld s e) → IsHeld s e
+      by true same is later = let one : x ≡ e = cc (is) in subst (IsHeld s) one (record { fits = each.0; step = same_step s x.step same })
+      by false same is later = later is
 
-  as_many : {bound : ℕ} {fields : List LeafEntry} {es : Entries} → EntriesAt records bound fields es → length es ≡ length fields
-  as_many no_entries = refl
-  as_many (entry_first entry entries) = ap suc (as_many entries)
+  -- of the record of a part, where those below it are so
+  entry_held : (s : Step) (deeper : ℕ → Option LeafEntry) → ((at : ℕ) (e : LeafEntry) → deeper at ≡ Some e → IsHeld s e)
+      → (at : ℕ) (o : Option Record) → records at ≡ o → (e : LeafEntry) → entry_by deeper s o ≡ Some e → IsHeld s e
+  entry_held s deeper below at (Some (Record.Leaf fields)) is e found = named_held s fields (recursion_from_All IsLeafEntry fields (good at (Record.Leaf fields) is).0.fields.each) e found
+  entry_held s deeper below at (Some (Record.Inode depth children)) is e found = by (child_with (place s depth) children) found
+    where
+      by : (o : Option ℕ) → option_and_then deeper o ≡ Some e → IsHeld s e
+      by None found = absurd (false≢true (ap is_some found))
+      by (Some o) found = below o e found
+  entry_held s deeper below at _ is e found = absurd (false≢true (ap is_some found))
+
+  through_held : (levels : ℕ) (s : Step) (at : ℕ) (e : LeafEntry) → entry_through levels records s at ≡ Some e → IsHeld s e
+  through_held zero s at e found = entry_held s (λ at. None) (λ at e none. absurd (false≢true (ap is_some none))) at (records at) refl e found
+  through_held (suc levels) s at e found = entry_held s (entry_through levels records s) (through_held levels s) at (records at) refl e found
+
+  -- what an entry of a directory tells
+  record Entry (s : Step) (sub : Tree) : Type 0 where
+    entry : LeafEntry
+    held : IsHeld s entry
+    means : StoredIs records (stored_of_entry entry) sub
+
+  part_entry : {at : ℕ} {es : Entries} → PartAt records 0 at es → (s : Step) (sub : Tree) → find bytes_cmp s es ≡ Some sub → Entry s sub
+  part_entry {at = at} {es = es} part s sub found = by (entry_through deepest records s at) refl (through records deepest part refl s)
+    where
+      by : (o : Option LeafEntry) → entry_through deepest records s at ≡ o → FindsEntry records es s (option_map stored_of_entry o) → Entry s sub
+      by None is none = absurd (false≢true (ap is_some (sym none ∙ found)))
+      by (Some e) is (other, there, means) =
+          let same : other ≡ sub = cc (sym there ∙ found) in
+          record { entry = e; held = through_held deepest s at e is; means = subst (StoredIs records (stored_of_entry e)) same means }
 
   part_stands : {at : ℕ} {es : Entries} → PartAt records 0 at es → (s : Step) (sub : Tree) → find bytes_cmp s es ≡ Some sub → Stands sub
-  part_stands (leaf_at fields is leaf entries) s sub found = found_stands entries s sub found
-  part_stands (inode_at {at = at} children is inode each) s sub found = absurd (good at (Record.Inode 0 children) is).1
+  part_stands part s sub found = stored_stands (part_entry part s sub found).means
 
-  part_few : {at : ℕ} {es : Entries} → PartAt records 0 at es → length es ≤ entries_limit
-  part_few (leaf_at {at = at} fields is leaf entries) = let same = as_many entries in let few = (good at (Record.Leaf fields) is).1 in omega (arith, same, few)
-  part_few (inode_at {at = at} children is inode each) = absurd (good at (Record.Inode 0 children) is).1
+  -- the record of a directory is a part of some directory, and so of no other one
+  part_few : {at : ℕ} {es : Entries} → PartAt records 0 at es → Ordered es → length es ≤ entries_limit
+  part_few (leaf_at {at = at} fields is leaf each) ordered = few_entries records {depth = 0} (parts at (Record.Leaf fields) is refl) (leaf_at fields is leaf each) ordered
+  part_few (inode_at {at = at} children is many each) ordered = few_entries records {depth = 0} (parts at (Record.Inode 0 children) is refl) (inode_at children is many each) ordered
 
   -- what stands under it, where something does
   below_stands : (t : Tree) → Stands t → (s : Step) → is_empty (subtree t (s ∷ [])) ≡ false → Stands (subtree t (s ∷ []))
@@ -76,7 +120,7 @@ module _ (records : ℕ → Option Record) (good : (at : ℕ) (x : Record) → r
 
   few_here : (t : Tree) → Stands t → len (entries_of t) ≤ entries_limit
   few_here t (inl (b, is, short)) = let none : len (entries_of t) ≡ 0 = ap length (ap (λ (u : Tree). (entries_of u).entries) is ∙ entries_of_contents b) in omega (arith, none)
-  few_here t (inr (at, part)) = part_few part.1
+  few_here t (inr (at, part)) = part_few part.1 (entries_of t).sorted
 
   stands_narrow : (t : Tree) → Stands t → (p : Path) → len (entries_of (subtree t p)) ≤ entries_limit
   stands_narrow t stands [] = subst (λ (u : Tree). len (entries_of u) ≤ entries_limit) (sym (subtree_root t)) (few_here t stands)
@@ -101,24 +145,10 @@ module _ (records : ℕ → Option Record) (good : (at : ℕ) (x : Record) → r
   found_below : (t : Tree) (s : Step) → is_empty (subtree t (s ∷ [])) ≡ false → find bytes_cmp s (entries_of t).entries ≡ Some (subtree t (s ∷ []))
   found_below t s some = get-entries_of t s ∙ ap (λ b. cond b None (Some (subtree t (s ∷ [])))) some
 
-  entry_low : {bound : ℕ} {e : LeafEntry} {x : Step × Tree} → EntryAt records bound e x → IsLeafEntry e → IsStep x.0 × (height x.1 ≤ 63)
-  entry_low (contents_at bytes below is low child) fits = let none = contents_height bytes in (fits.step, omega (arith, none))
-  entry_low (directory_at sub below part directory some is child) fits = let low = fits.height in (fits.step, omega (arith, is, low))
-
-  found_low : {bound : ℕ} {fields : List LeafEntry} {es : Entries} → EntriesAt records bound fields es → AllByRecursion IsLeafEntry fields → (s : Step) (sub : Tree) → find bytes_cmp s es ≡ Some sub → IsStep s × (height sub ≤ 63)
-  found_low no_entries all s sub found = absurd (cc (found))
-  found_low (entry_first {x = x} {xs = xs} entry entries) all s sub found = by (eq_by_cmp bytes_cmp s x.0) refl found (found_low entries all.1 s sub)
-    where
-      by : (b : Bool) → eq_by_cmp bytes_cmp s x.0 ≡ b → cond b (Some x.1) (find bytes_cmp s xs) ≡ Some sub → (find bytes_cmp s xs ≡ Some sub → IsStep s × (height sub ≤ 63)) → IsStep s × (height sub ≤ 63)
-      by true e found later =
-          let same : x.1 ≡ sub = cc (found) in
-          let low = entry_low entry all.0 in
-          (subst IsStep (sym (same_step s x.0 e)) low.0, subst (λ (t : Tree). height t ≤ 63) same low.1)
-      by false e found later = later found
-
   part_low : {at : ℕ} {es : Entries} → PartAt records 0 at es → (s : Step) (sub : Tree) → find bytes_cmp s es ≡ Some sub → IsStep s × (height sub ≤ 63)
-  part_low (leaf_at {at = at} fields is leaf entries) s sub found = found_low entries (recursion_from_All IsLeafEntry fields (good at (Record.Leaf fields) is).0.fields.each) s sub found
-  part_low (inode_at {at = at} children is inode each) s sub found = absurd (good at (Record.Inode 0 children) is).1
+  part_low part s sub found =
+      let is = part_entry part s sub found in
+      (subst IsStep (sym is.held.step) is.held.fits.step, stored_low is.means is.held.fits.height)
 
   below_low : (t : Tree) → Stands t → (s : Step) → is_empty (subtree t (s ∷ [])) ≡ false → IsStep s × (height (subtree t (s ∷ [])) ≤ 63)
   below_low t (inr (at, part)) s some = part_low part.1 s (subtree t (s ∷ [])) (found_below t s some)

@@ -5,7 +5,6 @@ use Rattle.std.specs.Prelude.{IfSome}
 use Rattle.ip_spec.specs.declared.record.Record.{Record}
 use Rattle.ip_spec.specs.Repository.{Repository}
 use Rattle.ip_spec.specs.View.{View}
-use Rattle.ip_tree.specs.Leaves.{HasLeavesOnly}
 use Rattle.ip_tree.proofs.MoreRecords.{view_stays}
 use Rattle.ip_store.specs.declared.work.Work.{Work}
 use Rattle.ip_store.specs.Trees.{RecordsStay}
@@ -15,9 +14,9 @@ lower : (floor other : ℕ) (least : Option ℕ) → other ≤ floor → IfSome 
 lower floor other None low is = tt
 lower floor other (Some n) low is = omega (arith, low, is)
 
-pub works_stay : (records more : ℕ → Option Record) (r q : Repository) (work : Work) (v : View) → IsLawful records r work v → RecordsStay records more → HasLeavesOnly more → q.floor ≤ r.floor → AreParents q work.parents → IsLawful more q work v
-works_stay records more r q work v lawful stay leaves low parents = record {
-  tree = view_stays records more work.tree v lawful.tree stay leaves;
+pub works_stay : (records more : ℕ → Option Record) (r q : Repository) (work : Work) (v : View) → IsLawful records r work v → RecordsStay records more → q.floor ≤ r.floor → AreParents q work.parents → IsLawful more q work v
+works_stay records more r q work v lawful stay low parents = record {
+  tree = view_stays records more work.tree v lawful.tree stay;
   short = lawful.short;
   parents = parents;
   least = lawful.least;

@@ -386,7 +386,7 @@ mod tests {
     }
 
     #[test]
-    fn directories_may_be_nested_and_inodes_are_none_yet(rt: HostRuntime) -> Result<(), Fail> {
+    fn directories_may_be_nested_and_an_inode_has_its_parts(rt: HostRuntime) -> Result<(), Fail> {
         let alloc = rt.alloc();
         let good = nested(alloc, 6)?;
         assert_eq!(&rt; opened(&rt, &control(179, 1, 0), &good), Ok((1, 0, None)));
@@ -396,6 +396,7 @@ mod tests {
             opened(&rt, &control(179, 1, 0), &other),
             damaged(CHUNK, 59)
         );
+        // Below the inode there is no part.
         let mut inode = Vec::from_slice(alloc, &[3, 50, 0, 0, 0, 0, 1, 0, 0, 0, 40, 0, 0, 0])?;
         inode.extend_from_slice(&[0; 50])?;
         assert_eq!(&rt; opened(&rt, &control(55, 0, 0), &inode), damaged(CHUNK, 0));

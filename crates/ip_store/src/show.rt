@@ -15,6 +15,7 @@ use crate::{Store, StoreFault};
 use ip_base::{Hash, Hashes, Info, Items, Memory, Number};
 use ip_ground::Ground;
 use ip_space::FetchFault;
+use ip_spec::kind::{COMMIT, DIRECTORY};
 use ip_spec::record::{CommitRecord, Parent, Record, Ref};
 use std::alloc::Global;
 
@@ -43,11 +44,6 @@ impl Shown {
         })
     }
 }
-
-// The kinds of references to a commit and to a directory.
-const COMMIT: u8 = 4;
-
-const DIRECTORY: u8 = 2;
 
 impl Store {
     /// A retained commit as its record tells it, which takes two reads at most. `Damaged` comes only where others changed the files; after it

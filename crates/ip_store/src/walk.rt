@@ -19,7 +19,6 @@ ghost use Rattle.ip_ground.specs.declared.names.FileName.{FileName};
 
 use crate::{Branches, OpenFault};
 use ip_audit::{Audit, AuditFault, Terms};
-use ip_base::limit::ENTRIES_MAX;
 use ip_base::{Memory, Number, Numbers};
 use ip_control::Slot;
 use ip_ground::Ground;
@@ -141,17 +140,18 @@ pub fn name_branch(alloc: Global, branches: &mut Branches, rec: Record) -> Resul
     }
 }
 
-// Whether records of the kind are served, and for a leaf, whether it is a whole directory.
+// Whether records of the kind are served.
 fn is_served(rec: &Record) -> bool
     ensures { IsTrue result ↔ IsServedKind rec.now }
 {
     match rec {
         Record::Contents(_)
+        | Record::Leaf(_)
+        | Record::Inode { .. }
         | Record::Commit(_)
         | Record::BranchSet { .. }
         | Record::BranchRemove { .. }
         | Record::BranchTable(_) => true,
-        Record::Leaf(entries) => entries.as_slice().len() <= ENTRIES_MAX,
         _ => false,
     }
 }
@@ -165,7 +165,10 @@ fn may_stand(slot: &Slot, at: u64, rec: &Record) -> bool
         return false;
     }
     if at < slot.horizon {
-        return matches!(rec, Record::Contents(_) | Record::Leaf(_));
+        return matches!(
+            rec,
+            Record::Contents(_) | Record::Leaf(_) | Record::Inode { .. }
+        );
     }
     slot.live == 0 || at != slot.horizon || matches!(rec, Record::Commit(_))
 }

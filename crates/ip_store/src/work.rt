@@ -4,7 +4,6 @@ ghost use Rattle.ip_spec.specs.Machine.{empty_work};
 ghost use Rattle.ip_spec.specs.Repository.{Repository};
 ghost use Rattle.ip_spec.specs.View.{View, no_view};
 ghost use Rattle.ip_spec.specs.declared.record.Record.{Record};
-ghost use Rattle.ip_tree.specs.Leaves.{HasLeavesOnly};
 ghost use Rattle.ip_store.specs.Work.{work_at, AreParents, IsLawful};
 
 use ip_base::{Number, Numbers};
@@ -22,7 +21,7 @@ pub struct Work {
 impl Work {
     /// As a session begins: an empty tree, no parents, no least number. It takes no memory.
     pub fn empty(alloc: Global) -> Self
-        ensures lawful { (records : ℕ → Option Record) (r : Repository) → HasLeavesOnly records → IsLawful records r result no_view }
+        ensures lawful { (records : ℕ → Option Record) (r : Repository) → IsLawful records r result no_view }
         ensures begins { work_at result no_view ≡ empty_work }
         ensures parents { (r : Repository) → AreParents r result.parents }
     {

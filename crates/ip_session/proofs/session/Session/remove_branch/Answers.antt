@@ -8,7 +8,6 @@ use Rattle.ip_spec.specs.declared.record.Record.TheVariants as Record
 use Rattle.ip_spec.specs.Record.{spelling}
 use Rattle.ip_store.specs.Changes.{Changes, LimitsSpace, Appends}
 use Rattle.ip_store.specs.Naming.{removed_reply, AnswersRemove, without_branch}
-use Rattle.ip_store.proofs.Listed.{only_leaves}
 use Rattle.ip_store.proofs.Works.{works_stay}
 use Rattle.ip_session.proofs.BranchGoes.{serves, remove_goes, remove_cut, is_ground_removed}
 use Rattle.ip_session.proofs.Placing.{remove_placed}
@@ -29,7 +28,7 @@ returns-in-Some-clause-goes g c told r v here =
     let store = c.remove_branch-made.new.self in
     remove_goes _ _ c.args.self.now store _ r v here c.args.name made
     (subst (λ (n : Bytes). Changes {A = Bool} r (without_branch r n) made store (g.G.Ground.told c.args.ground.now) (g.G.Ground.told c.remove_branch-made.new.outside)) c.as_slice.ensures (c.remove_branch-made.ensures.does told r here.holds))
-    (λ has q now kept parents. record { holds = now; lawful = works_stay _ _ r q _ v here.lawful (c.remove_branch-made.ensures.stay told has r q here.holds now) (only_leaves _ now.stands.standing) kept parents })
+    (λ has q now kept parents. record { holds = now; lawful = works_stay _ _ r q _ v here.lawful (c.remove_branch-made.ensures.stay told has r q here.holds now) kept parents })
     c.in-Some.reply c.met-self.ensures (sym c.removed_reply.ensures ∙ c.in-Some.is) (λ absent. ap g.G.Ground.told (c.remove_branch-made.ensures.absent absent))
     (subst (λ (n : Bytes). IfSome (removed_reply n made) (AnswersRemove r n store.met store)) c.as_slice.ensures (c.remove_branch-made.ensures.answers r here.holds.tables))
 
@@ -39,7 +38,7 @@ returns-in-None-clause-cut g c told r v here =
     let store = c.remove_branch-made.new.self in
     remove_cut _ _ c.args.self.now store _ r v here c.args.name made
     (subst (λ (n : Bytes). Changes {A = Bool} r (without_branch r n) made store (g.G.Ground.told c.args.ground.now) (g.G.Ground.told c.remove_branch-made.new.outside)) c.as_slice.ensures (c.remove_branch-made.ensures.does told r here.holds))
-    (λ has q now kept parents. record { holds = now; lawful = works_stay _ _ r q _ v here.lawful (c.remove_branch-made.ensures.stay told has r q here.holds now) (only_leaves _ now.stands.standing) kept parents })
+    (λ has q now kept parents. record { holds = now; lawful = works_stay _ _ r q _ v here.lawful (c.remove_branch-made.ensures.stay told has r q here.holds now) kept parents })
     c.requires.met
     (subst (λ (n : Bytes). IsSome (head r n)) c.as_slice.ensures (c.remove_branch-made.ensures.begun r here.holds.tables (is_ground_removed c.args.name made c.remove_branch-made.ensures.undamaged (sym c.removed_reply.ensures ∙ c.in-None.is))))
 

@@ -6,7 +6,7 @@ use Rattle.ip_session.proofs.session.Session.run_within.Goals as goal
 
 pub returns-in-Empty-clause-answered : goal.returns-in-Empty-clause-answered
 returns-in-Empty-clause-answered c records r v of l = answered_as records _ _ r v c.args.command Command.Empty _ c.in-Empty.is
-    (empty_answered records c.args.self.now r v of l c.empty.result _ c.requires.met (c.empty.ensures.lawful records r l.tree.leaves) c.empty.ensures.begins)
+    (empty_answered records c.args.self.now r v of l c.empty.result _ c.requires.met (c.empty.ensures.lawful records r) c.empty.ensures.begins)
 
 pub returns-in-Parent-clause-answered : goal.returns-in-Parent-clause-answered
 returns-in-Parent-clause-answered c records r v of l = answered_as records _ _ r v c.args.command (Command.Parent c.in-Parent.target) _ c.in-Parent.is (c.parent.ensures.answered records r v of l)

@@ -3,7 +3,6 @@ use Rattle.std.specs.Prelude.{IfSome}
 use Rattle.ip_spec.specs.declared.command.Command.TheVariants as Command
 use Rattle.ip_spec.specs.declared.reply.Reply.{Reply}
 use Rattle.ip_store.specs.Naming.{AnswersSet}
-use Rattle.ip_store.proofs.Listed.{only_leaves}
 use Rattle.ip_store.proofs.Works.{works_stay}
 use Rattle.ip_session.proofs.BranchGoes.{unnamed_goes, serves, set_goes, set_cut, is_ground_set}
 use Rattle.ip_session.proofs.Placing.{unnamed_placed, set_placed}
@@ -29,7 +28,7 @@ returns-in-Some-clause-goes g c told r v here =
     let tables = here.holds.tables in
     let retained = c.in-Ok.ensures.retained r tables in
     set_goes _ _ c.args.self.now c.set_branch-made.new.self _ r v here c.args.name.now c.args.target c.in-Ok.number (sym (c.in-Ok.ensures.number r tables)) c.set_branch-made.result (c.set_branch-made.ensures.does told r here.holds retained)
-    (λ has q now kept parents. record { holds = now; lawful = works_stay _ _ r q _ v here.lawful (c.set_branch-made.ensures.stay told has r q here.holds now) (only_leaves _ now.stands.standing) kept parents })
+    (λ has q now kept parents. record { holds = now; lawful = works_stay _ _ r q _ v here.lawful (c.set_branch-made.ensures.stay told has r q here.holds now) kept parents })
     c.in-Some.reply c.met-self.ensures (sym c.branch_reply.ensures ∙ c.in-Some.is) (c.set_branch-made.ensures.answers r tables retained)
 
 pub returns-in-None-clause-cut : goal.returns-in-None-clause-cut
@@ -37,7 +36,7 @@ returns-in-None-clause-cut g c told r v here =
     let tables = here.holds.tables in
     let retained = c.in-Ok.ensures.retained r tables in
     set_cut _ _ c.args.self.now c.set_branch-made.new.self _ r v here c.args.name.now c.args.target c.in-Ok.number (sym (c.in-Ok.ensures.number r tables)) c.set_branch-made.result (c.set_branch-made.ensures.does told r here.holds retained)
-    (λ has q now kept parents. record { holds = now; lawful = works_stay _ _ r q _ v here.lawful (c.set_branch-made.ensures.stay told has r q here.holds now) (only_leaves _ now.stands.standing) kept parents })
+    (λ has q now kept parents. record { holds = now; lawful = works_stay _ _ r q _ v here.lawful (c.set_branch-made.ensures.stay told has r q here.holds now) kept parents })
     c.requires.met (c.set_branch-made.ensures.begun r tables (is_ground_set c.set_branch-made.result c.set_branch-made.ensures.undamaged (sym c.branch_reply.ensures ∙ c.in-None.is)))
 
 pub returns-in-Err-clause-placed : goal.returns-in-Err-clause-placed

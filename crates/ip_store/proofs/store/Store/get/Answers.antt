@@ -8,4 +8,4 @@ pub returns-clause-got : goal.returns-clause-got
 returns-clause-got g c told r v held view = c.get.ensures.got told (image_records held) v (over c.args.self.now (g.G.Ground.told c.args.outside.now) r held) view
 
 pub returns-clause-looks : goal.returns-clause-looks
-returns-clause-looks g c told = looks c.args.self.now _ (search rules) (g.G.Ground.told c.args.outside.now) (g.G.Ground.told c.get.new.outside) (c.get.ensures.reads told)
+returns-clause-looks g c told = looks c.args.self.now _ (search rules) (g.G.Ground.told c.args.outside.now) (g.G.Ground.told c.get.new.outside) (c.get.ensures.looks.reads told)

@@ -8,4 +8,4 @@ pub returns-clause-listed : goal.returns-clause-listed
 returns-clause-listed g c told r v held view = c.list.ensures.listed told (image_records held) v (over c.args.self.now (g.G.Ground.told c.args.outside.now) r held) view
 
 pub returns-clause-looks : goal.returns-clause-looks
-returns-clause-looks g c told = looks c.args.self.now _ (search rules) (g.G.Ground.told c.args.outside.now) (g.G.Ground.told c.list.new.outside) (c.list.ensures.reads told)
+returns-clause-looks g c told = looks c.args.self.now _ (search rules) (g.G.Ground.told c.args.outside.now) (g.G.Ground.told c.list.new.outside) (c.list.ensures.looks.reads told)

@@ -8,4 +8,4 @@ pub returns-clause-removes : goal.returns-clause-removes
 returns-clause-removes g c told r v held view = c.remove.ensures.removes told (image_records held) v (over c.args.self.now (g.G.Ground.told c.args.outside.now) r held) view
 
 pub returns-clause-looks : goal.returns-clause-looks
-returns-clause-looks g c told = looks c.args.self.now _ (search rules) (g.G.Ground.told c.args.outside.now) (g.G.Ground.told c.remove.new.outside) (c.remove.ensures.reads told)
+returns-clause-looks g c told = looks c.args.self.now _ (search rules) (g.G.Ground.told c.args.outside.now) (g.G.Ground.told c.remove.new.outside) (c.remove.ensures.looks.reads told)

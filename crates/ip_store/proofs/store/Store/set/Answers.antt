@@ -8,4 +8,4 @@ pub returns-clause-sets : goal.returns-clause-sets
 returns-clause-sets g c told r v held view = c.set.ensures.sets told (image_records held) v (over c.args.self.now (g.G.Ground.told c.args.outside.now) r held) view
 
 pub returns-clause-looks : goal.returns-clause-looks
-returns-clause-looks g c told = looks c.args.self.now _ (search rules) (g.G.Ground.told c.args.outside.now) (g.G.Ground.told c.set.new.outside) (c.set.ensures.reads told)
+returns-clause-looks g c told = looks c.args.self.now _ (search rules) (g.G.Ground.told c.args.outside.now) (g.G.Ground.told c.set.new.outside) (c.set.ensures.looks.reads told)

@@ -1,7 +1,7 @@
 use Rattle.ip_spec.specs.Repository.{tree_at}
 use Rattle.ip_store.specs.Showing.{IsRootOf}
 use Rattle.ip_store.specs.Store.{image_records}
-use Rattle.ip_store.proofs.Listed.{leaves_only, records_good}
+use Rattle.ip_store.proofs.Listed.{records_good, records_parts}
 use Rattle.ip_store.proofs.SpelledTrees.{short_contents, narrow_tree, lawful_tree}
 use Rattle.ip_store.proofs.Stepping.{looks}
 use Rattle.ip_store.proofs.store.Store.tree_of.Goals as goal
@@ -14,13 +14,14 @@ returns-in-Ok-clause-tree g c told r held retained =
     let map = tree_at r c.args.number in
     let at = c.in-Ok.root.at in
     let good = records_good store before r held in
+    let parts = records_parts store before r held in
     let root : IsRootOf records r c.args.number c.in-Ok.root = c.in-Ok.ensures.root told r held retained in
     record {
       at = at;
       spelled = root.tree;
       view = c.of.ensures records map root.tree.0 (record { part = root.tree.1; kind = root.kind; name = root.name })
-          (lawful_tree records good at map root.tree) (narrow_tree records good at map root.tree) (leaves_only store before r held);
-      short = short_contents records good at map root.tree;
+          (lawful_tree records good parts at map root.tree) (narrow_tree records good parts at map root.tree);
+      short = short_contents records good parts at map root.tree;
     }
 
 pub returns-in-Ok-clause-looks : goal.returns-in-Ok-clause-looks

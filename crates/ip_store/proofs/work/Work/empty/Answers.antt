@@ -6,13 +6,13 @@ use Rattle.ip_spec.specs.Repository.{Repository, is_retained}
 use Rattle.ip_spec.specs.Tree.{no_tree}
 use Rattle.ip_spec.specs.View.{no_view}
 use Rattle.ip_spec.proofs.Subtrees.{get-no_tree}
-use Rattle.ip_tree.proofs.KnownParts.{none_some}
+use Rattle.ip_tree.proofs.Indexes.{no_some}
 use Rattle.ip_store.specs.Work.{AreParents, least_of}
 use Rattle.ip_store.proofs.work.Work.empty.Goals as goal
 
 none_short : HasShortContents no_view.map
 unfolding no_view
-none_short p bytes is = absurd (none_some bytes (sym (get-no_tree p) ∙ is))
+none_short p bytes is = no_some bytes (sym (get-no_tree p) ∙ is)
 
 no_least : None ≡ least_of no_view []
 unfolding no_view
@@ -28,8 +28,8 @@ no_parents r parents is =
     }
 
 pub returns-clause-lawful : goal.returns-clause-lawful
-returns-clause-lawful c records r leaves = record {
-  tree = c.empty.ensures records leaves;
+returns-clause-lawful c records r = record {
+  tree = c.empty.ensures records;
   short = none_short;
   parents = no_parents r c.empty-2.result c.empty-2.ensures;
   least = no_least ∙ ap (least_of no_view) (sym c.empty-2.ensures);
