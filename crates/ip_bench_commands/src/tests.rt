@@ -248,26 +248,6 @@ fn words_that_ask_for_nothing(rt: HostRuntime) -> Result<(), Fail> {
 }
 
 #[test]
-fn a_directory_has_32_entries(rt: HostRuntime) -> Result<(), Fail> {
-    let alloc = rt.alloc();
-    let mut script = Vec::new(alloc);
-    for letter in b"abcdefghijklmnopqrstuvwxyz0123456" {
-        script.extend_from_slice(b"set ")?;
-        script.push(*letter)?;
-        script.extend_from_slice(b" -\n")?;
-    }
-    script.extend_from_slice(b"set a 01\nget a\nget 6\n")?;
-    let (status, said) = answers(alloc, &script, &[], &[])?;
-    assert_eq!(rt; status, Status::Done);
-    assert_eq!(rt; said.len(), 32 * 3 + 14 + 3 + 9 + 7);
-    assert_eq!(rt;
-        &said[96..],
-        b"limit entries\nok\nvalue 01\nabsent\n".as_slice()
-    );
-    Ok(())
-}
-
-#[test]
 fn lines_of_the_greatest_length_and_longer(rt: HostRuntime) -> Result<(), Fail> {
     let alloc = rt.alloc();
     let mut script = Vec::new(alloc);
