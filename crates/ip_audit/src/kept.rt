@@ -10,7 +10,7 @@ use ip_shape::places::{DEEPEST, Places};
 /// How many entries a part above the deepest depth may have as a leaf.
 pub const LEAF_ENTRIES: u64 = LEAF_ENTRIES_MAX as u64;
 
-/// How many entries the format allows one directory; the machine's own limit is lower for now.
+/// How many entries one directory may have.
 pub const DIRECTORY_ENTRIES: u64 = ENTRIES_MAX as u64;
 
 /// Of a part of a directory: the depth of an inode, how many entries it has, its height, its name, and the places of
