@@ -4,4 +4,6 @@
 #[cfg(test)]
 mod damage_tests;
 #[cfg(test)]
+mod place_tests;
+#[cfg(test)]
 mod tests;

@@ -20,7 +20,7 @@ fn put_step(out: &mut Vec<u8>, number: u32, digits: usize) -> Result<(), Fail> {
 }
 
 // Puts lines that set the steps of these numbers, each to one byte.
-fn put_sets(
+pub(crate) fn put_sets(
     script: &mut Vec<u8>,
     prefix: &[u8],
     numbers: Range<u32>,
@@ -36,7 +36,7 @@ fn put_sets(
 }
 
 // A store that has served a script, and what it said.
-fn served(alloc: Global, script: &[u8]) -> Result<(Bench, Vec<u8>), Fail> {
+pub(crate) fn served(alloc: Global, script: &[u8]) -> Result<(Bench, Vec<u8>), Fail> {
     let mut ground = bench(alloc, &[])?;
     if init(alloc, &mut ground)? != Status::Done {
         return Err("no store was made")?;
@@ -162,7 +162,12 @@ fn length(ground: &mut Bench) -> Result<u64, Fail> {
 }
 
 // How often a chunk is read for a script, over what a session that was begun by `checkout` has read.
-fn reads_of(alloc: Global, ground: &mut Bench, first: &[u8], then: &[u8]) -> Result<u64, Fail> {
+pub(crate) fn reads_of(
+    alloc: Global,
+    ground: &mut Bench,
+    first: &[u8],
+    then: &[u8],
+) -> Result<u64, Fail> {
     let before = reads(ground);
     let _ = answers_on(alloc, ground, first)?;
     let between = reads(ground);
