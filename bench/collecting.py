@@ -26,7 +26,10 @@ LIVE = "<12Q"
 FIELDS = "sequence chunk horizon end floor next live attempt prefix rows first_chunk first_attempt"
 Slot = collections.namedtuple("Slot", FIELDS)
 
-BRANCH_SET, BRANCH_REMOVE, BRANCH_TABLE, COMMIT = 5, 6, 7, 4
+LEAF, INODE, COMMIT, BRANCH_SET, BRANCH_REMOVE, BRANCH_TABLE = 2, 3, 4, 5, 6, 7
+
+# How many steps the directory `w` may have: some three fifths of them at a time.
+WIDE = 60
 
 
 # ---- the files
@@ -91,12 +94,17 @@ def references(record):
     if record.kind == COMMIT:
         return [struct.unpack_from("<Q", record.body, 40)[0]]
     found = []
-    if record.kind == 2:
+    if record.kind == LEAF:
         place = 4
         for _ in range(struct.unpack_from("<I", record.body)[0]):
             place += 1 + record.body[place] + 2 + 32
             found.append(struct.unpack_from("<Q", record.body, place)[0])
             place += 8
+    elif record.kind == INODE:
+        place = 5
+        for _ in range(bin(struct.unpack_from("<I", record.body, 1)[0]).count("1")):
+            found.append(struct.unpack_from("<Q", record.body, place + 37)[0])
+            place += 45
     return found
 
 
@@ -237,6 +245,10 @@ class History:
             for _ in range(self.draw.randrange(1, 5)):
                 path = f"d{self.draw.randrange(4)}/k{self.draw.randrange(12)}"
                 serve.ask(f"set {path} {self.draw.randbytes(self.draw.randrange(40)).hex() or '-'}")
+            # A directory that goes over 32 entries and back.
+            for _ in range(self.draw.randrange(12)):
+                entry = f"w/e{self.draw.randrange(WIDE)}"
+                serve.ask(f"set {entry} {self.draw.randbytes(2).hex()}" if self.draw.random() < 0.6 else f"rm {entry}")
             if self.names[self.floor :] and self.draw.random() < 0.3:
                 other = self.draw.choice(self.names[self.floor :])
                 serve.ask(f"graft @{other} d{self.draw.randrange(4)} g{self.draw.randrange(3)}")
@@ -255,6 +267,7 @@ class History:
             for step in range(4):
                 lines += [f"list d{step}", f"list g{step}"]
                 lines += [f"cat @{name} d{step}/k{key}" for key in range(12)]
+            lines += ["list w"] + [f"cat @{name} w/e{key}" for key in range(WIDE)]
         return lines
 
     def collect(self):
