@@ -70,15 +70,6 @@ fn put_steps(script: &mut Vec<u8>, steps: &[&str]) -> Result<(), Fail> {
     Ok(())
 }
 
-// What is said after these sets to the lines that follow them.
-fn said_then(alloc: Global, sets: &[u8], then: &str) -> Result<Vec<u8>, Fail> {
-    let mut script = Vec::from_slice(alloc, sets)?;
-    script.extend_from_slice(then.as_bytes())?;
-    let (_, said) = served(alloc, &script)?;
-    let sets = sets.iter().filter(|byte| **byte == b'\n').count();
-    Ok(Vec::from_slice(alloc, said.get(3 * sets..).unwrap_or(&[]))?)
-}
-
 #[test]
 fn steps_stand_at_their_places(rt: HostRuntime) -> Result<(), Fail> {
     let alloc = rt.alloc();
@@ -87,11 +78,12 @@ fn steps_stand_at_their_places(rt: HostRuntime) -> Result<(), Fail> {
         (CROWDED, 0, CROWDED_THEN),
         (SPREAD, 0, SPREAD_THEN),
     ] {
-        let mut sets = Vec::new(alloc);
-        put_steps(&mut sets, steps)?;
-        put_sets(&mut sets, b"", 0..more, 2)?;
-        let said = said_then(alloc, &sets, then)?;
-        assert_eq!(rt; said.as_slice(), replies.as_bytes());
+        let mut script = Vec::new(alloc);
+        put_steps(&mut script, steps)?;
+        put_sets(&mut script, b"", 0..more, 2)?;
+        script.extend_from_slice(then.as_bytes())?;
+        let (_, said) = served(alloc, &script)?;
+        assert!(rt; said.ends_with(replies.as_bytes()));
     }
     Ok(())
 }
