@@ -1,10 +1,12 @@
 -- What fetching the record of a commit comes to.
 --     commit_here      a retained commit's record stands at its place.      meets_commit      its reference is met
+--     is_fetched      where its record stands, a fetch gives it
 --     fetched_commit, blames_commit, damages_commit, only_commits      what comes of what a fetch answers
 --     shown_reply, root_found      what is made of the record
 use Rattle.std.proofs.Common.{◌≡◌, ◌≢◌, ℕ, zero, suc, ◌+◌, ◌-◌, ◌<◌, ◌≤◌, true, List, [], ◌∷◌, map, length, refl, sym, ◌∙◌, ap, subst, arith}
 use Rattle.std.specs.Prelude.{Option, Some, None, Result, Ok, Err, IfOk, IsTrue, IsErrOf, ◌&&◌, nat_le, nat_lt, if◌then◌else◌, slice_get, option_map, unwrap_or}
 use Rattle.std.proofs.lemmas.Bool.Decides.{nat_tests}
+use Rattle.std.proofs.lemmas.Option.{same_Some}
 use Rattle.ip_ground.specs.Told.{Told}
 use Rattle.ip_spec.specs.declared.record.Record.{Record}
 use Rattle.ip_spec.specs.declared.record.CommitRecord.{CommitRecord}
@@ -77,6 +79,21 @@ same_commit c d e = cc
 pub meets_commit : (records : ℕ → Option Record) (n place : ℕ) (m : Commit) (at : IsCommitAt records n place m) (ref : Ref) → ref.name ≡ m.name → ref.kind ≡ 4 → Meets ref (Record.Commit at.spelled)
 meets_commit records n place m at ref named kind = record { kind = sym kind; name = at.spells.name ∙ ap Some (sym named) }
 
+-- a commit has a name
+named_commit : (c : CommitRecord) → name_of (Record.Commit c) ≢ None
+named_commit c e = absurd (cc (e))
+
+-- where the commit's record stands, fetching it gives that record, or a fault of the ground, or want of memory
+pub is_fetched : (records : ℕ → Option Record) (ref : Ref) (c : CommitRecord) → records ref.at ≡ Some (Record.Commit c) → Meets ref (Record.Commit c)
+    → (fetched : Result Record FetchFault) → Fetches records ref fetched → IsFetched (Record.Commit c) fetched
+is_fetched records ref c here meets (Ok found) is = same_Some found (Record.Commit c) (sym is.here ∙ here)
+is_fetched records ref c here meets (Err Ground) is = tt
+is_fetched records ref c here meets (Err (Form at fault)) is = named_commit c (is.none (Record.Commit c) here meets.kind)
+is_fetched records ref c here meets (Err (Name at want got)) is =
+    let same : is.found ≡ Record.Commit c = same_Some is.found (Record.Commit c) (sym is.here ∙ here) in
+    is.other (same_Some got want (sym is.name ∙ (ap name_of same ∙ (meets.name ∙ ap Some (sym is.wanted)))))
+is_fetched records ref c here meets (Err Memory) is = tt
+
 pub fetched_commit : (records : ℕ → Option Record) (r : Repository) (number : ℕ) (c : CommitRecord) → IsRecordOf records r number c
     → (fetched : Result Record FetchFault) → IsFetched (Record.Commit c) fetched → (out : Result CommitRecord StoreFault) → IsCommitFrom fetched out → IsFetchedOr (IsRecordOf records r number) out
 fetched_commit records r number c of (Ok (Record.Commit d)) is out from =
@@ -109,9 +126,6 @@ the_commit (Record.BranchTable rows) kind = absurd (omega (arith, kind))
 the_commit (Record.TagSet n name) kind = absurd (omega (arith, kind))
 the_commit (Record.TagRemove name) kind = absurd (omega (arith, kind))
 the_commit (Record.TagTable rows) kind = absurd (omega (arith, kind))
-
-named_commit : (c : CommitRecord) → name_of (Record.Commit c) ≢ None
-named_commit c e = absurd (cc (e))
 
 pub damages_commit : (records : ℕ → Option Record) (ref : Ref) → ref.kind ≡ 4
     → (fetched : Result Record FetchFault) → Fetches records ref fetched → (out : Result CommitRecord StoreFault) → IsCommitFrom fetched out → Damages records out

@@ -115,7 +115,6 @@ impl Store {
         ensures holds { IsTrue G.tells → (r : Repository) → Holds self.old (G.told outside.old) r → Holds self.new (G.told outside.new) r }
         ensures counts { Counts ground_store result (G.counts_of outside.old) (G.counts_of outside.new) }
     {
-        ip_space::present_records();
         let reference = self.reference_to(number);
         commit_in(self.space.fetch(outside, reference))
     }

@@ -3,7 +3,7 @@ use Rattle.ip_spec.specs.declared.record.Record.TheVariants as Record
 use Rattle.ip_space.specs.SpaceView.{records_of}
 use Rattle.ip_store.specs.Store.{image_records}
 use Rattle.ip_store.proofs.Listed.{readable_by, readable_of, records_held}
-use Rattle.ip_store.proofs.Showing.{there_is, commit_is, name_is, commit_here, meets_commit, fetched_commit, damages_commit}
+use Rattle.ip_store.proofs.Showing.{there_is, commit_is, name_is, commit_here, meets_commit, is_fetched, fetched_commit, damages_commit}
 use Rattle.ip_store.proofs.Stepping.{still_holds}
 use Rattle.ip_store.proofs.store.Store.commit_record.Goals as goal
 
@@ -16,7 +16,7 @@ returns-clause-fetched g c told r held retained =
     let is = c.reference_to-reference.ensures r held.tables retained in
     let here = commit_here r c.args.number retained store before held ref.at is.at in
     let meets = meets_commit records c.args.number ref.at (there_is r c.args.number retained).0 here ref (is.name ∙ name_is r c.args.number retained) is.kind in
-    let found = c.present_records.ensures.fetched (records_of before store.space) ref (Record.Commit here.spelled) c.fetch.result (records_held store before r held ref.at (Record.Commit here.spelled) here.here) meets (c.fetch.ensures.found told (readable_of store r before held)) in
+    let found = is_fetched (records_of before store.space) ref here.spelled (records_held store before r held ref.at (Record.Commit here.spelled) here.here) meets c.fetch.result (c.fetch.ensures.found told (readable_of store r before held)) in
     fetched_commit records r c.args.number here.spelled ((there_is r c.args.number retained).0, commit_is r c.args.number retained, here.spells) c.fetch.result found c.commit_in.result c.commit_in.ensures
 
 pub returns-clause-damages : goal.returns-clause-damages
