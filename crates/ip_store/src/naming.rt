@@ -56,7 +56,7 @@ fn spelled(alloc: Global, rec: &Record) -> Result<Vec<u8>, Memory>
 
 impl Store {
     // Appends a record of a branch, and changes the branches as it says.
-    fn rename<G: Ground>(
+    fn append_branch_record<G: Ground>(
         &mut self,
         alloc: Global,
         outside: &mut G,
@@ -140,7 +140,7 @@ impl Store {
     {
         self.room_for(name)?;
         let rec = set_record(alloc, name, number)?;
-        self.rename(alloc, outside, rec)
+        self.append_branch_record(alloc, outside, rec)
     }
 
     /// Takes a branch away. `Ok(false)`: no branch has the name, and nothing was done. Once it is `Ok(true)` it is gone for good. After
@@ -196,7 +196,7 @@ impl Store {
             return Ok(false);
         }
         let rec = remove_record(alloc, name)?;
-        self.rename(alloc, outside, rec)?;
+        self.append_branch_record(alloc, outside, rec)?;
         Ok(true)
     }
 }

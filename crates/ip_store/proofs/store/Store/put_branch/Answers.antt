@@ -37,31 +37,31 @@ returns-in_err-rec-clause-does g c told r held retained =
     subst (λ res. Changes {A = Unit {0}} r (with_branch r c.args.name.now c.args.number) res c.args.self.now (g.G.Ground.told c.args.outside.now) (g.G.Ground.told c.args.outside.now)) (sym is)
     (changes_none r (with_branch r c.args.name.now c.args.number) StoreFault.Memory c.args.self.now c.args.self.now (g.G.Ground.told c.args.outside.now) (itself c.args.self.now) held)
 
-pub rename-requires-clause-tables : goal.rename-requires-clause-tables
-rename-requires-clause-tables g c =
+pub append_branch_record-requires-clause-tables : goal.append_branch_record-requires-clause-tables
+append_branch_record-requires-clause-tables g c =
     let r = c.requires.tables.0 in
     let of = c.requires.tables.1 in
     let room : room_for_branch r c.args.name.now ≡ Ok tt = search rules in
     (r, of, subst (MayName r) (sym c.in_ok-rec.ensures) (set_may r c.args.name.now c.args.number c.args.self.now of c.requires.tables.2 room))
 
-pub rename-requires-clause-served : goal.rename-requires-clause-served
-rename-requires-clause-served g c = subst IsServedKind (sym c.in_ok-rec.ensures) tt
+pub append_branch_record-requires-clause-served : goal.append_branch_record-requires-clause-served
+append_branch_record-requires-clause-served g c = subst IsServedKind (sym c.in_ok-rec.ensures) tt
 
-pub rename-requires-clause-fits : goal.rename-requires-clause-fits
-rename-requires-clause-fits g c = subst (Fits 1) (sym c.in_ok-rec.ensures) (set_fits c.requires.tables.0 c.args.name.now c.args.number c.args.self.now c.requires.tables.1 c.requires.tables.2 c.requires.name)
+pub append_branch_record-requires-clause-fits : goal.append_branch_record-requires-clause-fits
+append_branch_record-requires-clause-fits g c = subst (Fits 1) (sym c.in_ok-rec.ensures) (set_fits c.requires.tables.0 c.args.name.now c.args.number c.args.self.now c.requires.tables.1 c.requires.tables.2 c.requires.name)
 
 pub returns-clause-answers : goal.returns-clause-answers
 returns-clause-answers g c r of retained =
     let room : room_for_branch r c.args.name.now ≡ Ok tt = search rules in
-    set_answers r c.args.name.now c.args.number c.rename.new.self c.rename.result room
-    (subst (λ x. Renames r x c.rename.result c.rename.new.self) c.in_ok-rec.ensures (c.rename.ensures.tables r of (subst (MayName r) (sym c.in_ok-rec.ensures) (set_may r c.args.name.now c.args.number c.args.self.now of retained room))))
+    set_answers r c.args.name.now c.args.number c.append_branch_record.new.self c.append_branch_record.result room
+    (subst (λ x. Renames r x c.append_branch_record.result c.append_branch_record.new.self) c.in_ok-rec.ensures (c.append_branch_record.ensures.tables r of (subst (MayName r) (sym c.in_ok-rec.ensures) (set_may r c.args.name.now c.args.number c.args.self.now of retained room))))
 
 pub returns-clause-does : goal.returns-clause-does
 returns-clause-does g c told r held retained =
     let of = held.tables in
     let room : room_for_branch r c.args.name.now ≡ Ok tt = search rules in
-    subst (λ x. Changes {A = Unit {0}} r (renamed r x) c.rename.result c.rename.new.self (g.G.Ground.told c.args.outside.now) (g.G.Ground.told c.rename.new.outside)) c.in_ok-rec.ensures
-    (c.rename.ensures.does told r held (subst (MayName r) (sym c.in_ok-rec.ensures) (set_may r c.args.name.now c.args.number c.args.self.now of retained room)))
+    subst (λ x. Changes {A = Unit {0}} r (renamed r x) c.append_branch_record.result c.append_branch_record.new.self (g.G.Ground.told c.args.outside.now) (g.G.Ground.told c.append_branch_record.new.outside)) c.in_ok-rec.ensures
+    (c.append_branch_record.ensures.does told r held (subst (MayName r) (sym c.in_ok-rec.ensures) (set_may r c.args.name.now c.args.number c.args.self.now of retained room)))
 
 pub returns-in_err-room_for-clause-stay : goal.returns-in_err-room_for-clause-stay
 returns-in_err-room_for-clause-stay g c told has r q held now = stays_still c.args.self.now c.args.self.now (itself c.args.self.now) r q (g.G.Ground.told c.args.outside.now) held now
@@ -70,8 +70,8 @@ pub returns-in_err-rec-clause-stay : goal.returns-in_err-rec-clause-stay
 returns-in_err-rec-clause-stay g c told has r q held now = stays_still c.args.self.now c.args.self.now (itself c.args.self.now) r q (g.G.Ground.told c.args.outside.now) held now
 
 pub returns-clause-stay : goal.returns-clause-stay
-returns-clause-stay g c told has r q held now = c.rename.ensures.stay told has r q held now
+returns-clause-stay g c told has r q held now = c.append_branch_record.ensures.stay told has r q held now
 
 pub returns-clause-appends : goal.returns-clause-appends
 returns-clause-appends g c told =
-    subst (λ x. OnOk c.rename.result (Appends ((c.args.self.now.slot.end, x) ∷ []) 0 c.args.self.now c.rename.new.self (g.G.Ground.told c.args.outside.now) (g.G.Ground.told c.rename.new.outside))) c.in_ok-rec.ensures (c.rename.ensures.appends told)
+    subst (λ x. OnOk c.append_branch_record.result (Appends ((c.args.self.now.slot.end, x) ∷ []) 0 c.args.self.now c.append_branch_record.new.self (g.G.Ground.told c.args.outside.now) (g.G.Ground.told c.append_branch_record.new.outside))) c.in_ok-rec.ensures (c.append_branch_record.ensures.appends told)

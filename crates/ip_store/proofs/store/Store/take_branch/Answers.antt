@@ -34,44 +34,44 @@ returns-in_err-rec-clause-does g c told r held =
     subst (λ res. Changes {A = Bool} r (without_branch r c.args.name.now) res c.args.self.now (g.G.Ground.told c.args.outside.now) (g.G.Ground.told c.args.outside.now)) (sym is)
     (changes_none r (without_branch r c.args.name.now) StoreFault.Memory c.args.self.now c.args.self.now (g.G.Ground.told c.args.outside.now) (itself c.args.self.now) held)
 
-pub rename-requires-clause-tables : goal.rename-requires-clause-tables
-rename-requires-clause-tables g c = (c.requires.tables.0, c.requires.tables.1, subst (MayName c.requires.tables.0) (sym c.in_ok-rec.ensures) tt)
+pub append_branch_record-requires-clause-tables : goal.append_branch_record-requires-clause-tables
+append_branch_record-requires-clause-tables g c = (c.requires.tables.0, c.requires.tables.1, subst (MayName c.requires.tables.0) (sym c.in_ok-rec.ensures) tt)
 
-pub rename-requires-clause-served : goal.rename-requires-clause-served
-rename-requires-clause-served g c = subst IsServedKind (sym c.in_ok-rec.ensures) tt
+pub append_branch_record-requires-clause-served : goal.append_branch_record-requires-clause-served
+append_branch_record-requires-clause-served g c = subst IsServedKind (sym c.in_ok-rec.ensures) tt
 
-pub rename-requires-clause-fits : goal.rename-requires-clause-fits
-rename-requires-clause-fits g c = subst (Fits 1) (sym c.in_ok-rec.ensures) (remove_fits c.requires.tables.0 c.args.name.now c.requires.name)
+pub append_branch_record-requires-clause-fits : goal.append_branch_record-requires-clause-fits
+append_branch_record-requires-clause-fits g c = subst (Fits 1) (sym c.in_ok-rec.ensures) (remove_fits c.requires.tables.0 c.args.name.now c.requires.name)
 
-pub returns-in_err-rename-clause-answers : goal.returns-in_err-rename-clause-answers
-returns-in_err-rename-clause-answers g c r of =
-    let fault = c.in_err-rename.field-0.0 in
-    let is : c.from_residual-in_err-rename.result ≡ Err fault = search rules in
+pub returns-in_err-append_branch_record-clause-answers : goal.returns-in_err-append_branch_record-clause-answers
+returns-in_err-append_branch_record-clause-answers g c r of =
+    let fault = c.in_err-append_branch_record.field-0.0 in
+    let is : c.from_residual-in_err-append_branch_record.result ≡ Err fault = search rules in
     let there = some_in c.head.result (search rules) in
-    subst (λ res. IfSome (removed_reply c.args.name.now res) (AnswersRemove r c.args.name.now (met_by res) c.rename.new.self)) (sym is)
-    (remove_cut r c.args.name.now c.rename.new.self there.0 fault (sym (c.head.ensures r of) ∙ there.1)
-    (subst (λ x. Renames r x (Err fault) c.rename.new.self) c.in_ok-rec.ensures (c.in_err-rename.ensures.tables r of (subst (MayName r) (sym c.in_ok-rec.ensures) tt))))
+    subst (λ res. IfSome (removed_reply c.args.name.now res) (AnswersRemove r c.args.name.now (met_by res) c.append_branch_record.new.self)) (sym is)
+    (remove_cut r c.args.name.now c.append_branch_record.new.self there.0 fault (sym (c.head.ensures r of) ∙ there.1)
+    (subst (λ x. Renames r x (Err fault) c.append_branch_record.new.self) c.in_ok-rec.ensures (c.in_err-append_branch_record.ensures.tables r of (subst (MayName r) (sym c.in_ok-rec.ensures) tt))))
 
-pub returns-in_err-rename-clause-does : goal.returns-in_err-rename-clause-does
-returns-in_err-rename-clause-does g c told r held =
-    let fault = c.in_err-rename.field-0.0 in
-    let is : c.from_residual-in_err-rename.result ≡ Err fault = search rules in
-    subst (λ res. Changes {A = Bool} r (without_branch r c.args.name.now) res c.rename.new.self (g.G.Ground.told c.args.outside.now) (g.G.Ground.told c.rename.new.outside)) (sym is)
-    (with_fault fault r (without_branch r c.args.name.now) c.rename.new.self (g.G.Ground.told c.args.outside.now) (g.G.Ground.told c.rename.new.outside)
-    (subst (λ x. Changes {A = Unit {0}} r (renamed r x) (Err fault) c.rename.new.self (g.G.Ground.told c.args.outside.now) (g.G.Ground.told c.rename.new.outside)) c.in_ok-rec.ensures
-    (c.in_err-rename.ensures.does told r held (subst (MayName r) (sym c.in_ok-rec.ensures) tt))))
+pub returns-in_err-append_branch_record-clause-does : goal.returns-in_err-append_branch_record-clause-does
+returns-in_err-append_branch_record-clause-does g c told r held =
+    let fault = c.in_err-append_branch_record.field-0.0 in
+    let is : c.from_residual-in_err-append_branch_record.result ≡ Err fault = search rules in
+    subst (λ res. Changes {A = Bool} r (without_branch r c.args.name.now) res c.append_branch_record.new.self (g.G.Ground.told c.args.outside.now) (g.G.Ground.told c.append_branch_record.new.outside)) (sym is)
+    (with_fault fault r (without_branch r c.args.name.now) c.append_branch_record.new.self (g.G.Ground.told c.args.outside.now) (g.G.Ground.told c.append_branch_record.new.outside)
+    (subst (λ x. Changes {A = Unit {0}} r (renamed r x) (Err fault) c.append_branch_record.new.self (g.G.Ground.told c.args.outside.now) (g.G.Ground.told c.append_branch_record.new.outside)) c.in_ok-rec.ensures
+    (c.in_err-append_branch_record.ensures.does told r held (subst (MayName r) (sym c.in_ok-rec.ensures) tt))))
 
 pub returns-clause-answers : goal.returns-clause-answers
 returns-clause-answers g c r of =
     let there = some_in c.head.result (search rules) in
-    remove_done r c.args.name.now c.rename.new.self there.0 (sym (c.head.ensures r of) ∙ there.1)
-    (subst (λ x. Renames r x (Ok tt) c.rename.new.self) c.in_ok-rec.ensures (c.in_ok-rename.ensures.tables r of (subst (MayName r) (sym c.in_ok-rec.ensures) tt)))
+    remove_done r c.args.name.now c.append_branch_record.new.self there.0 (sym (c.head.ensures r of) ∙ there.1)
+    (subst (λ x. Renames r x (Ok tt) c.append_branch_record.new.self) c.in_ok-rec.ensures (c.in_ok-append_branch_record.ensures.tables r of (subst (MayName r) (sym c.in_ok-rec.ensures) tt)))
 
 pub returns-clause-does : goal.returns-clause-does
 returns-clause-does g c told r held =
-    with_value tt true r (without_branch r c.args.name.now) c.rename.new.self (g.G.Ground.told c.args.outside.now) (g.G.Ground.told c.rename.new.outside)
-    (subst (λ x. Changes {A = Unit {0}} r (renamed r x) (Ok tt) c.rename.new.self (g.G.Ground.told c.args.outside.now) (g.G.Ground.told c.rename.new.outside)) c.in_ok-rec.ensures
-    (c.in_ok-rename.ensures.does told r held (subst (MayName r) (sym c.in_ok-rec.ensures) tt)))
+    with_value tt true r (without_branch r c.args.name.now) c.append_branch_record.new.self (g.G.Ground.told c.args.outside.now) (g.G.Ground.told c.append_branch_record.new.outside)
+    (subst (λ x. Changes {A = Unit {0}} r (renamed r x) (Ok tt) c.append_branch_record.new.self (g.G.Ground.told c.args.outside.now) (g.G.Ground.told c.append_branch_record.new.outside)) c.in_ok-rec.ensures
+    (c.in_ok-append_branch_record.ensures.does told r held (subst (MayName r) (sym c.in_ok-rec.ensures) tt)))
 
 pub returns-then-is_none-clause-stay : goal.returns-then-is_none-clause-stay
 returns-then-is_none-clause-stay g c told has r q held now = stays_still c.args.self.now c.args.self.now (itself c.args.self.now) r q (g.G.Ground.told c.args.outside.now) held now
@@ -79,12 +79,12 @@ returns-then-is_none-clause-stay g c told has r q held now = stays_still c.args.
 pub returns-in_err-rec-clause-stay : goal.returns-in_err-rec-clause-stay
 returns-in_err-rec-clause-stay g c told has r q held now = stays_still c.args.self.now c.args.self.now (itself c.args.self.now) r q (g.G.Ground.told c.args.outside.now) held now
 
-pub returns-in_err-rename-clause-stay : goal.returns-in_err-rename-clause-stay
-returns-in_err-rename-clause-stay g c told has r q held now =
-    let fault = c.in_err-rename.field-0.0 in
-    let is : c.from_residual-in_err-rename.result ≡ Err fault = search rules in
-    c.in_err-rename.ensures.stay told (with_answer (Unit {0}) Bool fault (subst HasAnswer is has)) r q held now
+pub returns-in_err-append_branch_record-clause-stay : goal.returns-in_err-append_branch_record-clause-stay
+returns-in_err-append_branch_record-clause-stay g c told has r q held now =
+    let fault = c.in_err-append_branch_record.field-0.0 in
+    let is : c.from_residual-in_err-append_branch_record.result ≡ Err fault = search rules in
+    c.in_err-append_branch_record.ensures.stay told (with_answer (Unit {0}) Bool fault (subst HasAnswer is has)) r q held now
 
 pub returns-clause-appends : goal.returns-clause-appends
 returns-clause-appends g c told done =
-    subst (λ x. Appends ((c.args.self.now.slot.end, x) ∷ []) 0 c.args.self.now c.rename.new.self (g.G.Ground.told c.args.outside.now) (g.G.Ground.told c.rename.new.outside)) c.in_ok-rec.ensures (c.in_ok-rename.ensures.appends told)
+    subst (λ x. Appends ((c.args.self.now.slot.end, x) ∷ []) 0 c.args.self.now c.append_branch_record.new.self (g.G.Ground.told c.args.outside.now) (g.G.Ground.told c.append_branch_record.new.outside)) c.in_ok-rec.ensures (c.in_ok-append_branch_record.ensures.appends told)

@@ -10,7 +10,7 @@ use Rattle.ip_store.specs.Changes.{Changes, next_slot}
 use Rattle.ip_store.proofs.Stepping.{itself, changes_none, stays_still, same_step}
 use Rattle.ip_image.proofs.Renaming.{spelled_is}
 use Rattle.ip_store.proofs.Renamed.{renamed_tables, further, inside, can_rename, was_renamed, rename_cut, stays_renamed, list_renamed, slot_from, may_same}
-use Rattle.ip_store.proofs.store.Store.rename.Goals as goal
+use Rattle.ip_store.proofs.store.Store.append_branch_record.Goals as goal
 
 pub returns-in_err-spelled-clause-does : goal.returns-in_err-spelled-clause-does
 returns-in_err-spelled-clause-does g c told r held may =
