@@ -328,7 +328,7 @@ impl Store {
         requires info { IsInfo info }
         requires tables { (r : Repository) × IsOf self.old r × AreParents r work.old.parents }
         ensures tables { (r : Repository) → IsOf self.old r → AreParents r work.old.parents → HasAnswer result → GoesOn self.new work.new }
-        ensures answers { IsTrue G.tells → (r : Repository) (v : View) → IsAt (G.told outside.old) self.old r work.old v →
+        ensures answered { IsTrue G.tells → (r : Repository) (v : View) → IsAt (G.told outside.old) self.old r work.old v →
             IfSome (reply_to result) (λ reply. Answers (G.told outside.new) (session r work.old v) v (Command.Commit branch.now info) self.new.met reply self.new work.new) }
         ensures saved { IsTrue G.tells → (r q : Repository) (v : View) → IsAt (G.told outside.old) self.old r work.old v → (now : Holds self.new (G.told outside.new) q) →
             OnOk result (IsSaved (image_records now) work.new.tree (next r) v.map) }
@@ -336,9 +336,9 @@ impl Store {
             LimitsSpace (end_of r work.old v branch.now info self.old) result self.old }
         ensures appends { IsTrue G.tells → (r : Repository) (v : View) → IsAt (G.told outside.old) self.old r work.old v →
             OnOk result (Appends (records_of r work.old v branch.now info self.old) 1 self.old self.new (G.told outside.old) (G.told outside.new)) }
-        ensures does { IsTrue G.tells → (r : Repository) (v : View) → IsAt (G.told outside.old) self.old r work.old v →
+        ensures any_moment { IsTrue G.tells → (r : Repository) (v : View) → IsAt (G.told outside.old) self.old r work.old v →
             Commits r work.old v branch.now info result self.new (G.told outside.old) (G.told outside.new) }
-        ensures stay { IsTrue G.tells → HasAnswer result → (r q : Repository) (held : Holds self.old (G.told outside.old) r) (now : Holds self.new (G.told outside.new) q) →
+        ensures records_stay { IsTrue G.tells → HasAnswer result → (r q : Repository) (held : Holds self.old (G.told outside.old) r) (now : Holds self.new (G.told outside.new) q) →
             RecordsStay (image_records held) (image_records now) }
         ensures counts { Counts ground_store result (G.counts_of outside.old) (G.counts_of outside.new) }
         ensures undamaged { IsUndamaged result }
@@ -468,7 +468,7 @@ impl Store {
         requires info { IsInfo info }
         requires tables { (r : Repository) × IsOf self.old r × AreParents r work.old.parents }
         ensures tables { (r : Repository) → IsOf self.old r → AreParents r work.old.parents → HasAnswer result → GoesOn self.new work.new }
-        ensures answers { IsTrue G.tells → (r : Repository) (v : View) → IsAt (G.told outside.old) self.old r work.old v →
+        ensures answered { IsTrue G.tells → (r : Repository) (v : View) → IsAt (G.told outside.old) self.old r work.old v →
             IfSome (reply_to result) (λ reply. Answers (G.told outside.new) (session r work.old v) v (Command.Commit branch.now info) (met_by result) reply self.new work.new) }
         ensures saved { IsTrue G.tells → (r q : Repository) (v : View) → IsAt (G.told outside.old) self.old r work.old v → (now : Holds self.new (G.told outside.new) q) →
             OnOk result (IsSaved (image_records now) work.new.tree (next r) v.map) }
@@ -476,9 +476,9 @@ impl Store {
             LimitsSpace (end_of r work.old v branch.now info self.old) result self.old }
         ensures appends { IsTrue G.tells → (r : Repository) (v : View) → IsAt (G.told outside.old) self.old r work.old v →
             OnOk result (Appends (records_of r work.old v branch.now info self.old) 1 self.old self.new (G.told outside.old) (G.told outside.new)) }
-        ensures does { IsTrue G.tells → (r : Repository) (v : View) → IsAt (G.told outside.old) self.old r work.old v →
+        ensures any_moment { IsTrue G.tells → (r : Repository) (v : View) → IsAt (G.told outside.old) self.old r work.old v →
             Commits r work.old v branch.now info result self.new (G.told outside.old) (G.told outside.new) }
-        ensures stay { IsTrue G.tells → HasAnswer result → (r q : Repository) (held : Holds self.old (G.told outside.old) r) (now : Holds self.new (G.told outside.new) q) →
+        ensures records_stay { IsTrue G.tells → HasAnswer result → (r q : Repository) (held : Holds self.old (G.told outside.old) r) (now : Holds self.new (G.told outside.new) q) →
             RecordsStay (image_records held) (image_records now) }
         ensures counts { Counts ground_store result (G.counts_of outside.old) (G.counts_of outside.new) }
         ensures undamaged { IsUndamaged result }

@@ -68,9 +68,9 @@ impl Store {
         ensures tables { (r : Repository) → IsOf self.old r → MayName r rec → Renames r rec result self.new }
         ensures limits { LimitsSpace (self.old.slot.end + length (spelling rec)) result self.old }
         ensures appends { IsTrue G.tells → OnOk result (Appends ((self.old.slot.end, rec) ∷ []) 0 self.old self.new (G.told outside.old) (G.told outside.new)) }
-        ensures does { IsTrue G.tells → (r : Repository) → Holds self.old (G.told outside.old) r → MayName r rec →
+        ensures any_moment { IsTrue G.tells → (r : Repository) → Holds self.old (G.told outside.old) r → MayName r rec →
             Changes r (renamed r rec) result self.new (G.told outside.old) (G.told outside.new) }
-        ensures stay { IsTrue G.tells → HasAnswer result → (r q : Repository) (held : Holds self.old (G.told outside.old) r) (now : Holds self.new (G.told outside.new) q) →
+        ensures records_stay { IsTrue G.tells → HasAnswer result → (r q : Repository) (held : Holds self.old (G.told outside.old) r) (now : Holds self.new (G.told outside.new) q) →
             RecordsStay (image_records held) (image_records now) }
         ensures counts { Counts ground_store result (G.counts_of outside.old) (G.counts_of outside.new) }
         ensures undamaged { IsUndamaged result }
@@ -98,15 +98,15 @@ impl Store {
     ) -> Result<(), StoreFault>
         requires name { IsBranchName name.now }
         requires tables { (r : Repository) × IsOf self.old r × IsTrue (is_retained r number) }
-        ensures answers { (r : Repository) → IsOf self.old r → IsTrue (is_retained r number) →
+        ensures answered { (r : Repository) → IsOf self.old r → IsTrue (is_retained r number) →
             IfSome (branch_reply result) (AnswersSet r name.now number self.new.met self.new) }
         // Files are only touched where there is room for it.
         ensures begun { (r : Repository) → IsOf self.old r → IsErrOf result StoreFault.Ground → room_for_branch r name.now ≡ Ok tt }
         ensures limits { LimitsSpace (self.old.slot.end + length (spelling (Record.BranchSet number name.now))) result self.old }
         ensures appends { IsTrue G.tells → OnOk result (Appends ((self.old.slot.end, Record.BranchSet number name.now) ∷ []) 0 self.old self.new (G.told outside.old) (G.told outside.new)) }
-        ensures does { IsTrue G.tells → (r : Repository) → Holds self.old (G.told outside.old) r → IsTrue (is_retained r number) →
+        ensures any_moment { IsTrue G.tells → (r : Repository) → Holds self.old (G.told outside.old) r → IsTrue (is_retained r number) →
             Changes r (with_branch r name.now number) result self.new (G.told outside.old) (G.told outside.new) }
-        ensures stay { IsTrue G.tells → HasAnswer result → (r q : Repository) (held : Holds self.old (G.told outside.old) r) (now : Holds self.new (G.told outside.new) q) →
+        ensures records_stay { IsTrue G.tells → HasAnswer result → (r q : Repository) (held : Holds self.old (G.told outside.old) r) (now : Holds self.new (G.told outside.new) q) →
             RecordsStay (image_records held) (image_records now) }
         ensures counts { Counts ground_store result (G.counts_of outside.old) (G.counts_of outside.new) }
         ensures undamaged { IsUndamaged result }
@@ -125,15 +125,15 @@ impl Store {
     ) -> Result<(), StoreFault>
         requires name { IsBranchName name.now }
         requires tables { (r : Repository) × IsOf self.old r × IsTrue (is_retained r number) }
-        ensures answers { (r : Repository) → IsOf self.old r → IsTrue (is_retained r number) →
+        ensures answered { (r : Repository) → IsOf self.old r → IsTrue (is_retained r number) →
             IfSome (branch_reply result) (AnswersSet r name.now number (met_by result) self.new) }
         // Files are only touched where there is room for it.
         ensures begun { (r : Repository) → IsOf self.old r → IsErrOf result StoreFault.Ground → room_for_branch r name.now ≡ Ok tt }
         ensures limits { LimitsSpace (self.old.slot.end + length (spelling (Record.BranchSet number name.now))) result self.old }
         ensures appends { IsTrue G.tells → OnOk result (Appends ((self.old.slot.end, Record.BranchSet number name.now) ∷ []) 0 self.old self.new (G.told outside.old) (G.told outside.new)) }
-        ensures does { IsTrue G.tells → (r : Repository) → Holds self.old (G.told outside.old) r → IsTrue (is_retained r number) →
+        ensures any_moment { IsTrue G.tells → (r : Repository) → Holds self.old (G.told outside.old) r → IsTrue (is_retained r number) →
             Changes r (with_branch r name.now number) result self.new (G.told outside.old) (G.told outside.new) }
-        ensures stay { IsTrue G.tells → HasAnswer result → (r q : Repository) (held : Holds self.old (G.told outside.old) r) (now : Holds self.new (G.told outside.new) q) →
+        ensures records_stay { IsTrue G.tells → HasAnswer result → (r q : Repository) (held : Holds self.old (G.told outside.old) r) (now : Holds self.new (G.told outside.new) q) →
             RecordsStay (image_records held) (image_records now) }
         ensures counts { Counts ground_store result (G.counts_of outside.old) (G.counts_of outside.new) }
         ensures undamaged { IsUndamaged result }
@@ -153,15 +153,15 @@ impl Store {
     ) -> Result<bool, StoreFault>
         requires name { IsBranchName name.now }
         requires tables { (r : Repository) × IsOf self.old r }
-        ensures answers { (r : Repository) → IsOf self.old r → IfSome (removed_reply name.now result) (AnswersRemove r name.now self.new.met self.new) }
+        ensures answered { (r : Repository) → IsOf self.old r → IfSome (removed_reply name.now result) (AnswersRemove r name.now self.new.met self.new) }
         ensures absent { result ≡ Ok false → outside.new ≡ outside.old }
         // Files are only touched where there is such a branch.
         ensures begun { (r : Repository) → IsOf self.old r → IsErrOf result StoreFault.Ground → IsSome (head r name.now) }
         ensures limits { result ≢ Ok false → LimitsSpace (self.old.slot.end + length (spelling (Record.BranchRemove name.now))) result self.old }
         ensures appends { IsTrue G.tells → result ≡ Ok true → Appends ((self.old.slot.end, Record.BranchRemove name.now) ∷ []) 0 self.old self.new (G.told outside.old) (G.told outside.new) }
-        ensures does { IsTrue G.tells → (r : Repository) → Holds self.old (G.told outside.old) r →
+        ensures any_moment { IsTrue G.tells → (r : Repository) → Holds self.old (G.told outside.old) r →
             Changes r (without_branch r name.now) result self.new (G.told outside.old) (G.told outside.new) }
-        ensures stay { IsTrue G.tells → HasAnswer result → (r q : Repository) (held : Holds self.old (G.told outside.old) r) (now : Holds self.new (G.told outside.new) q) →
+        ensures records_stay { IsTrue G.tells → HasAnswer result → (r q : Repository) (held : Holds self.old (G.told outside.old) r) (now : Holds self.new (G.told outside.new) q) →
             RecordsStay (image_records held) (image_records now) }
         ensures counts { Counts ground_store result (G.counts_of outside.old) (G.counts_of outside.new) }
         ensures undamaged { IsUndamaged result }
@@ -179,15 +179,15 @@ impl Store {
     ) -> Result<bool, StoreFault>
         requires name { IsBranchName name.now }
         requires tables { (r : Repository) × IsOf self.old r }
-        ensures answers { (r : Repository) → IsOf self.old r → IfSome (removed_reply name.now result) (AnswersRemove r name.now (met_by result) self.new) }
+        ensures answered { (r : Repository) → IsOf self.old r → IfSome (removed_reply name.now result) (AnswersRemove r name.now (met_by result) self.new) }
         ensures absent { result ≡ Ok false → outside.new ≡ outside.old }
         // Files are only touched where there is such a branch.
         ensures begun { (r : Repository) → IsOf self.old r → IsErrOf result StoreFault.Ground → IsSome (head r name.now) }
         ensures limits { result ≢ Ok false → LimitsSpace (self.old.slot.end + length (spelling (Record.BranchRemove name.now))) result self.old }
         ensures appends { IsTrue G.tells → result ≡ Ok true → Appends ((self.old.slot.end, Record.BranchRemove name.now) ∷ []) 0 self.old self.new (G.told outside.old) (G.told outside.new) }
-        ensures does { IsTrue G.tells → (r : Repository) → Holds self.old (G.told outside.old) r →
+        ensures any_moment { IsTrue G.tells → (r : Repository) → Holds self.old (G.told outside.old) r →
             Changes r (without_branch r name.now) result self.new (G.told outside.old) (G.told outside.new) }
-        ensures stay { IsTrue G.tells → HasAnswer result → (r q : Repository) (held : Holds self.old (G.told outside.old) r) (now : Holds self.new (G.told outside.new) q) →
+        ensures records_stay { IsTrue G.tells → HasAnswer result → (r q : Repository) (held : Holds self.old (G.told outside.old) r) (now : Holds self.new (G.told outside.new) q) →
             RecordsStay (image_records held) (image_records now) }
         ensures counts { Counts ground_store result (G.counts_of outside.old) (G.counts_of outside.new) }
         ensures undamaged { IsUndamaged result }

@@ -18,7 +18,7 @@ returns-in-Some-clause-tables g c =
     let (r, is) = c.requires.tables in
     let made = c.remove_branch-made.result in
     let store = c.remove_branch-made.new.self in
-    let answers = subst (λ (n : Bytes). IfSome (removed_reply n made) (AnswersRemove r n store.met store)) c.as_slice.ensures (c.remove_branch-made.ensures.answers r is.0) in
+    let answers = subst (λ (n : Bytes). IfSome (removed_reply n made) (AnswersRemove r n store.met store)) c.as_slice.ensures (c.remove_branch-made.ensures.answered r is.0) in
     serves r (Command.BranchRm c.args.name) store.met c.in-Some.reply store c.args.self.now is.1
     (subst (λ (o : Option Reply). IfSome o (AnswersRemove r c.args.name store.met store)) (sym c.removed_reply.ensures ∙ c.in-Some.is) answers)
 
@@ -27,18 +27,18 @@ returns-in-Some-clause-goes g c told r v here =
     let made = c.remove_branch-made.result in
     let store = c.remove_branch-made.new.self in
     remove_goes _ _ c.args.self.now store _ r v here c.args.name made
-    (subst (λ (n : Bytes). Changes {A = Bool} r (without_branch r n) made store (g.G.Ground.told c.args.ground.now) (g.G.Ground.told c.remove_branch-made.new.outside)) c.as_slice.ensures (c.remove_branch-made.ensures.does told r here.holds))
-    (λ has q now kept parents. record { holds = now; lawful = works_stay _ _ r q _ v here.lawful (c.remove_branch-made.ensures.stay told has r q here.holds now) kept parents })
+    (subst (λ (n : Bytes). Changes {A = Bool} r (without_branch r n) made store (g.G.Ground.told c.args.ground.now) (g.G.Ground.told c.remove_branch-made.new.outside)) c.as_slice.ensures (c.remove_branch-made.ensures.any_moment told r here.holds))
+    (λ has q now kept parents. record { holds = now; lawful = works_stay _ _ r q _ v here.lawful (c.remove_branch-made.ensures.records_stay told has r q here.holds now) kept parents })
     c.in-Some.reply c.met-self.ensures (sym c.removed_reply.ensures ∙ c.in-Some.is) (λ absent. ap g.G.Ground.told (c.remove_branch-made.ensures.absent absent))
-    (subst (λ (n : Bytes). IfSome (removed_reply n made) (AnswersRemove r n store.met store)) c.as_slice.ensures (c.remove_branch-made.ensures.answers r here.holds.tables))
+    (subst (λ (n : Bytes). IfSome (removed_reply n made) (AnswersRemove r n store.met store)) c.as_slice.ensures (c.remove_branch-made.ensures.answered r here.holds.tables))
 
 pub returns-in-None-clause-cut : goal.returns-in-None-clause-cut
 returns-in-None-clause-cut g c told r v here =
     let made = c.remove_branch-made.result in
     let store = c.remove_branch-made.new.self in
     remove_cut _ _ c.args.self.now store _ r v here c.args.name made
-    (subst (λ (n : Bytes). Changes {A = Bool} r (without_branch r n) made store (g.G.Ground.told c.args.ground.now) (g.G.Ground.told c.remove_branch-made.new.outside)) c.as_slice.ensures (c.remove_branch-made.ensures.does told r here.holds))
-    (λ has q now kept parents. record { holds = now; lawful = works_stay _ _ r q _ v here.lawful (c.remove_branch-made.ensures.stay told has r q here.holds now) kept parents })
+    (subst (λ (n : Bytes). Changes {A = Bool} r (without_branch r n) made store (g.G.Ground.told c.args.ground.now) (g.G.Ground.told c.remove_branch-made.new.outside)) c.as_slice.ensures (c.remove_branch-made.ensures.any_moment told r here.holds))
+    (λ has q now kept parents. record { holds = now; lawful = works_stay _ _ r q _ v here.lawful (c.remove_branch-made.ensures.records_stay told has r q here.holds now) kept parents })
     c.requires.met
     (subst (λ (n : Bytes). IsSome (head r n)) c.as_slice.ensures (c.remove_branch-made.ensures.begun r here.holds.tables (is_ground_removed c.args.name made c.remove_branch-made.ensures.undamaged (sym c.removed_reply.ensures ∙ c.in-None.is))))
 
@@ -47,7 +47,7 @@ returns-in-Some-clause-placed g c told r v here =
     let made = c.remove_branch-made.result in
     let store = c.remove_branch-made.new.self in
     remove_placed _ _ c.args.self.now store r v here c.args.name made c.in-Some.reply (sym c.removed_reply.ensures ∙ c.in-Some.is)
-    (subst (λ (n : Bytes). Changes {A = Bool} r (without_branch r n) made store (g.G.Ground.told c.args.ground.now) (g.G.Ground.told c.remove_branch-made.new.outside)) c.as_slice.ensures (c.remove_branch-made.ensures.does told r here.holds))
+    (subst (λ (n : Bytes). Changes {A = Bool} r (without_branch r n) made store (g.G.Ground.told c.args.ground.now) (g.G.Ground.told c.remove_branch-made.new.outside)) c.as_slice.ensures (c.remove_branch-made.ensures.any_moment told r here.holds))
     (subst (λ (n : Bytes). made ≢ Ok false → LimitsSpace (c.args.self.now.store.slot.end + length (spelling (Record.BranchRemove n))) made c.args.self.now.store) c.as_slice.ensures c.remove_branch-made.ensures.limits)
     (λ absent. ap g.G.Ground.told (c.remove_branch-made.ensures.absent absent))
     (subst (λ (n : Bytes). made ≡ Ok true → Appends ((c.args.self.now.store.slot.end, Record.BranchRemove n) ∷ []) 0 c.args.self.now.store store (g.G.Ground.told c.args.ground.now) (g.G.Ground.told c.remove_branch-made.new.outside)) c.as_slice.ensures

@@ -20,23 +20,23 @@ pub returns-in-Some-clause-tables : goal.returns-in-Some-clause-tables
 returns-in-Some-clause-tables g c =
     let (r, is) = c.requires.tables in
     let store = c.set_branch-made.new.self in
-    let answers = subst (λ (o : Option Reply). IfSome o (AnswersSet r c.args.name.now c.in-Ok.number store.met store)) (sym c.branch_reply.ensures ∙ c.in-Some.is) (c.set_branch-made.ensures.answers r is.0 (c.in-Ok.ensures.retained r is.0)) in
+    let answers = subst (λ (o : Option Reply). IfSome o (AnswersSet r c.args.name.now c.in-Ok.number store.met store)) (sym c.branch_reply.ensures ∙ c.in-Some.is) (c.set_branch-made.ensures.answered r is.0 (c.in-Ok.ensures.retained r is.0)) in
     serves r (Command.Branch c.args.name.now c.args.target) store.met c.in-Some.reply store c.args.self.now is.1 (answers c.args.target (sym (c.in-Ok.ensures.number r is.0)))
 
 pub returns-in-Some-clause-goes : goal.returns-in-Some-clause-goes
 returns-in-Some-clause-goes g c told r v here =
     let tables = here.holds.tables in
     let retained = c.in-Ok.ensures.retained r tables in
-    set_goes _ _ c.args.self.now c.set_branch-made.new.self _ r v here c.args.name.now c.args.target c.in-Ok.number (sym (c.in-Ok.ensures.number r tables)) c.set_branch-made.result (c.set_branch-made.ensures.does told r here.holds retained)
-    (λ has q now kept parents. record { holds = now; lawful = works_stay _ _ r q _ v here.lawful (c.set_branch-made.ensures.stay told has r q here.holds now) kept parents })
-    c.in-Some.reply c.met-self.ensures (sym c.branch_reply.ensures ∙ c.in-Some.is) (c.set_branch-made.ensures.answers r tables retained)
+    set_goes _ _ c.args.self.now c.set_branch-made.new.self _ r v here c.args.name.now c.args.target c.in-Ok.number (sym (c.in-Ok.ensures.number r tables)) c.set_branch-made.result (c.set_branch-made.ensures.any_moment told r here.holds retained)
+    (λ has q now kept parents. record { holds = now; lawful = works_stay _ _ r q _ v here.lawful (c.set_branch-made.ensures.records_stay told has r q here.holds now) kept parents })
+    c.in-Some.reply c.met-self.ensures (sym c.branch_reply.ensures ∙ c.in-Some.is) (c.set_branch-made.ensures.answered r tables retained)
 
 pub returns-in-None-clause-cut : goal.returns-in-None-clause-cut
 returns-in-None-clause-cut g c told r v here =
     let tables = here.holds.tables in
     let retained = c.in-Ok.ensures.retained r tables in
-    set_cut _ _ c.args.self.now c.set_branch-made.new.self _ r v here c.args.name.now c.args.target c.in-Ok.number (sym (c.in-Ok.ensures.number r tables)) c.set_branch-made.result (c.set_branch-made.ensures.does told r here.holds retained)
-    (λ has q now kept parents. record { holds = now; lawful = works_stay _ _ r q _ v here.lawful (c.set_branch-made.ensures.stay told has r q here.holds now) kept parents })
+    set_cut _ _ c.args.self.now c.set_branch-made.new.self _ r v here c.args.name.now c.args.target c.in-Ok.number (sym (c.in-Ok.ensures.number r tables)) c.set_branch-made.result (c.set_branch-made.ensures.any_moment told r here.holds retained)
+    (λ has q now kept parents. record { holds = now; lawful = works_stay _ _ r q _ v here.lawful (c.set_branch-made.ensures.records_stay told has r q here.holds now) kept parents })
     c.requires.met (c.set_branch-made.ensures.begun r tables (is_ground_set c.set_branch-made.result c.set_branch-made.ensures.undamaged (sym c.branch_reply.ensures ∙ c.in-None.is)))
 
 pub returns-in-Err-clause-placed : goal.returns-in-Err-clause-placed
@@ -46,4 +46,4 @@ pub returns-in-Some-clause-placed : goal.returns-in-Some-clause-placed
 returns-in-Some-clause-placed g c told r v here =
     let tables = here.holds.tables in
     set_placed _ _ c.args.self.now c.set_branch-made.new.self r v here c.args.name.now c.args.target c.in-Ok.number (sym (c.in-Ok.ensures.number r tables)) c.set_branch-made.result c.in-Some.reply (sym c.branch_reply.ensures ∙ c.in-Some.is)
-    (c.set_branch-made.ensures.does told r here.holds (c.in-Ok.ensures.retained r tables)) c.set_branch-made.ensures.limits (c.set_branch-made.ensures.appends told)
+    (c.set_branch-made.ensures.any_moment told r here.holds (c.in-Ok.ensures.retained r tables)) c.set_branch-made.ensures.limits (c.set_branch-made.ensures.appends told)

@@ -21,5 +21,5 @@ remove_branch-requires-clause-tables c =
     let retained = head_retained c.args.store.now r of (codes "main") c.in-Some.number (ap (λ m. get m (codes "main")) (sym of.branches) ∙ sym (c.head.ensures r of) ∙ c.in-Some.is) in
     let there : head r (codes "main") ≡ Some c.in-Some.number = sym (c.head.ensures r of) ∙ c.in-Some.is in
     let named : resolve r (Target.Branch (codes "main")) ≡ Ok c.in-Some.number = ap (λ (o : Option ℕ). present o (Reply.NoBranch (codes "main"))) there in
-    let set = c.in-Ok.ensures.answers r of retained (Target.Branch (codes "main")) named in
+    let set = c.in-Ok.ensures.answered r of retained (Target.Branch (codes "main")) named in
     (set.after, set.tables)

@@ -12,21 +12,21 @@ use Rattle.ip_image.proofs.Renaming.{spelled_is}
 use Rattle.ip_store.proofs.Renamed.{renamed_tables, further, inside, can_rename, was_renamed, rename_cut, stays_renamed, list_renamed, slot_from, may_same}
 use Rattle.ip_store.proofs.store.Store.append_branch_record.Goals as goal
 
-pub returns-in_err-spelled-clause-does : goal.returns-in_err-spelled-clause-does
-returns-in_err-spelled-clause-does g c told r held may =
+pub returns-in_err-spelled-clause-any_moment : goal.returns-in_err-spelled-clause-any_moment
+returns-in_err-spelled-clause-any_moment g c told r held may =
     let is : c.from_residual.result ≡ Err StoreFault.Memory = search rules in
     subst (λ res. Changes {A = Unit {0}} r (renamed r c.args.rec) res c.args.self.now (g.G.Ground.told c.args.outside.now) (g.G.Ground.told c.args.outside.now)) (sym is)
     (changes_none r (renamed r c.args.rec) StoreFault.Memory c.args.self.now c.args.self.now (g.G.Ground.told c.args.outside.now) (itself c.args.self.now) held)
 
-pub returns-in_err-slot-clause-does : goal.returns-in_err-slot-clause-does
-returns-in_err-slot-clause-does g c told r held may =
+pub returns-in_err-slot-clause-any_moment : goal.returns-in_err-slot-clause-any_moment
+returns-in_err-slot-clause-any_moment g c told r held may =
     let fault = c.in_err-slot.field-0.0 in
     let is : c.from_residual-in_err-slot.result ≡ Err fault = search rules in
     subst (λ res. Changes {A = Unit {0}} r (renamed r c.args.rec) res c.args.self.now (g.G.Ground.told c.args.outside.now) (g.G.Ground.told c.args.outside.now)) (sym is)
     (changes_none r (renamed r c.args.rec) fault c.args.self.now c.args.self.now (g.G.Ground.told c.args.outside.now) (itself c.args.self.now) held)
 
-pub returns-in_err-name_branch-clause-does : goal.returns-in_err-name_branch-clause-does
-returns-in_err-name_branch-clause-does g c told r held may =
+pub returns-in_err-name_branch-clause-any_moment : goal.returns-in_err-name_branch-clause-any_moment
+returns-in_err-name_branch-clause-any_moment g c told r held may =
     let is : c.from_residual-in_err-name_branch.result ≡ Err StoreFault.Memory = search rules in
     let store : Store = record { index = c.args.self.now.index; slot = c.args.self.now.slot; names = c.args.self.now.names; branches = c.name_branch.new.branches; history = c.args.self.now.history; places = c.args.self.now.places; space = c.args.self.now.space; met = c.args.self.now.met } in
     subst (λ res. Changes {A = Unit {0}} r (renamed r c.args.rec) res store (g.G.Ground.told c.args.outside.now) (g.G.Ground.told c.args.outside.now)) (sym is)
@@ -47,8 +47,8 @@ grow-requires-clause-ends g c =
     let slot = slot_from c.args.self.now.slot c.args.rec _ c.in_ok-slot.slot (ap length (c.as_slice-bytes.ensures.value ∙ c.in_ok-spelled.ensures)) c.in_ok-slot.ensures in
     inside c.requires.tables.0 c.args.self.now c.requires.tables.1 c.args.rec c.requires.tables.2 c.requires.fits c.requires.served c.in_ok-slot.slot slot.0 slot.1 slot.2
 
-pub returns-in_err-durable_step-clause-does : goal.returns-in_err-durable_step-clause-does
-returns-in_err-durable_step-clause-does g c told r held may =
+pub returns-in_err-durable_step-clause-any_moment : goal.returns-in_err-durable_step-clause-any_moment
+returns-in_err-durable_step-clause-any_moment g c told r held may =
     let is : c.from_residual-in_err-durable_step.result ≡ Err StoreFault.Ground = search rules in
     let slot = slot_from c.args.self.now.slot c.args.rec _ c.in_ok-slot.slot (ap length (c.as_slice-bytes.ensures.value ∙ c.in_ok-spelled.ensures)) c.in_ok-slot.ensures in
     let store : Store = record { index = c.args.self.now.index; slot = c.args.self.now.slot; names = c.args.self.now.names; branches = c.name_branch.new.branches; history = c.args.self.now.history; places = c.args.self.now.places; space = c.args.self.now.space; met = c.args.self.now.met } in
@@ -62,25 +62,25 @@ returns-clause-tables g c r of may =
     let slot = slot_from c.args.self.now.slot c.args.rec _ c.in_ok-slot.slot (ap length (c.as_slice-bytes.ensures.value ∙ c.in_ok-spelled.ensures)) c.in_ok-slot.ensures in
     renamed_tables r c.args.self.now of c.args.rec may c.requires.fits c.requires.served c.in_ok-slot.slot slot.0 slot.1 slot.2 _ refl refl refl c.in_ok-name_branch.ensures.ok refl refl c.grow.ensures
 
-pub returns-clause-does : goal.returns-clause-does
-returns-clause-does g c told r held may =
+pub returns-clause-any_moment : goal.returns-clause-any_moment
+returns-clause-any_moment g c told r held may =
     let slot = slot_from c.args.self.now.slot c.args.rec _ c.in_ok-slot.slot (ap length (c.as_slice-bytes.ensures.value ∙ c.in_ok-spelled.ensures)) c.in_ok-slot.ensures in
     was_renamed r c.args.self.now held.tables c.args.rec may c.requires.fits c.requires.served c.in_ok-slot.slot slot.0 slot.1 slot.2 (g.G.Ground.told c.args.outside.now) held (g.G.Ground.told c.durable_step.new.outside) _ refl refl refl c.in_ok-name_branch.ensures.ok refl refl c.grow.ensures
     (same_step c.args.self.now.slot.end c.args.self.now.slot.end c.args.self.now.index c.args.self.now.index _ (spelling c.args.rec) c.in_ok-slot.slot c.in_ok-slot.slot _ (g.G.Ground.told c.args.outside.now) (g.G.Ground.told c.durable_step.new.outside)
     refl refl (c.as_slice-bytes.ensures.value ∙ c.in_ok-spelled.ensures) refl (c.in_ok-durable_step.ensures.does told (can_rename r c.args.self.now held.tables c.args.rec may c.requires.fits c.requires.served c.in_ok-slot.slot slot.0 slot.1 slot.2 (g.G.Ground.told c.args.outside.now) held)))
 
-pub returns-in_err-spelled-clause-stay : goal.returns-in_err-spelled-clause-stay
-returns-in_err-spelled-clause-stay g c told has r q held now = stays_still c.args.self.now c.args.self.now (itself c.args.self.now) r q (g.G.Ground.told c.args.outside.now) held now
+pub returns-in_err-spelled-clause-records_stay : goal.returns-in_err-spelled-clause-records_stay
+returns-in_err-spelled-clause-records_stay g c told has r q held now = stays_still c.args.self.now c.args.self.now (itself c.args.self.now) r q (g.G.Ground.told c.args.outside.now) held now
 
-pub returns-in_err-slot-clause-stay : goal.returns-in_err-slot-clause-stay
-returns-in_err-slot-clause-stay g c told has r q held now = stays_still c.args.self.now c.args.self.now (itself c.args.self.now) r q (g.G.Ground.told c.args.outside.now) held now
+pub returns-in_err-slot-clause-records_stay : goal.returns-in_err-slot-clause-records_stay
+returns-in_err-slot-clause-records_stay g c told has r q held now = stays_still c.args.self.now c.args.self.now (itself c.args.self.now) r q (g.G.Ground.told c.args.outside.now) held now
 
-pub returns-in_err-name_branch-clause-stay : goal.returns-in_err-name_branch-clause-stay
-returns-in_err-name_branch-clause-stay g c told has r q held now =
+pub returns-in_err-name_branch-clause-records_stay : goal.returns-in_err-name_branch-clause-records_stay
+returns-in_err-name_branch-clause-records_stay g c told has r q held now =
     stays_still c.args.self.now _ (record { index = refl; slot = refl; names = refl; places = refl; branches = c.in_err-name_branch.ensures.err; history = refl; space = refl }) r q (g.G.Ground.told c.args.outside.now) held now
 
-pub returns-clause-stay : goal.returns-clause-stay
-returns-clause-stay g c told has r q held now =
+pub returns-clause-records_stay : goal.returns-clause-records_stay
+returns-clause-records_stay g c told has r q held now =
     let may = may_same c.args.self.now c.requires.tables.0 r c.args.rec c.requires.tables.1 held.tables c.requires.tables.2 in
     let slot = slot_from c.args.self.now.slot c.args.rec _ c.in_ok-slot.slot (ap length (c.as_slice-bytes.ensures.value ∙ c.in_ok-spelled.ensures)) c.in_ok-slot.ensures in
     stays_renamed r c.args.self.now held.tables c.args.rec may c.requires.fits c.requires.served c.in_ok-slot.slot slot.0 slot.1 slot.2 (g.G.Ground.told c.args.outside.now) held (g.G.Ground.told c.durable_step.new.outside) _ q

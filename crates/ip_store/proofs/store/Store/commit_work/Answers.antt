@@ -62,8 +62,8 @@ durable_step-requires-clause-room g c =
 
 -- ---- refused
 
-pub returns-in_err-plan-clause-answers : goal.returns-in_err-plan-clause-answers
-returns-in_err-plan-clause-answers g c told r v at =
+pub returns-in_err-plan-clause-answered : goal.returns-in_err-plan-clause-answered
+returns-in_err-plan-clause-answered g c told r v at =
     let fault = c.in_err-plan.field-0.0 in
     let is : c.from_residual.result ≡ Err fault = search rules in
     subst (λ res. IfSome (reply_to res) (λ reply. Answers (g.G.Ground.told c.args.outside.now) (session r c.args.work.now v) v (Command.Commit c.args.branch.now c.args.info) (met_by res) reply c.args.self.now c.args.work.now)) (sym is)
@@ -80,42 +80,42 @@ returns-in_err-plan-clause-limits g c told r v at =
       enough = tt;
     })
 
-pub returns-in_err-plan-clause-does : goal.returns-in_err-plan-clause-does
-returns-in_err-plan-clause-does g c told r v at =
+pub returns-in_err-plan-clause-any_moment : goal.returns-in_err-plan-clause-any_moment
+returns-in_err-plan-clause-any_moment g c told r v at =
     let fault = c.in_err-plan.field-0.0 in
     let is : c.from_residual.result ≡ Err fault = search rules in
     subst (λ res. Commits r c.args.work.now v c.args.branch.now c.args.info res c.args.self.now (g.G.Ground.told c.args.outside.now) (g.G.Ground.told c.args.outside.now)) (sym is)
     (changes_none r (repository_after r c.args.work.now v c.args.branch.now c.args.info) fault c.args.self.now c.args.self.now (g.G.Ground.told c.args.outside.now) (itself c.args.self.now) at.holds)
 
-pub returns-in_err-plan-clause-stay : goal.returns-in_err-plan-clause-stay
-returns-in_err-plan-clause-stay g c told has r q held now = stays_still c.args.self.now c.args.self.now (itself c.args.self.now) r q (g.G.Ground.told c.args.outside.now) held now
+pub returns-in_err-plan-clause-records_stay : goal.returns-in_err-plan-clause-records_stay
+returns-in_err-plan-clause-records_stay g c told has r q held now = stays_still c.args.self.now c.args.self.now (itself c.args.self.now) r q (g.G.Ground.told c.args.outside.now) held now
 
 pub returns-in_err-plan-clause-tables : goal.returns-in_err-plan-clause-tables
 returns-in_err-plan-clause-tables g c r of are has = record { repository = r; tables = of; parents = are }
 
-pub returns-in_err-enter-clause-answers : goal.returns-in_err-enter-clause-answers
-returns-in_err-enter-clause-answers g c told r v at =
+pub returns-in_err-enter-clause-answered : goal.returns-in_err-enter-clause-answered
+returns-in_err-enter-clause-answered g c told r v at =
     let is : c.from_residual-in_err-enter.result ≡ Err StoreFault.Memory = search rules in
     subst (λ res. IfSome (reply_to res) (λ reply. Answers (g.G.Ground.told c.args.outside.now) (session r c.args.work.now v) v (Command.Commit c.args.branch.now c.args.info) (met_by res) reply c.enter.new.self c.args.work.now)) (sym is)
     (answers_refused r c.args.work.now v c.args.branch.now c.args.info StoreFault.Memory c.enter.new.self (g.G.Ground.told c.args.outside.now) (same_at c.args.self.now c.enter.new.self c.in_err-enter.ensures.err (g.G.Ground.told c.args.outside.now) r c.args.work.now v at)
     (refused_memory r c.args.work.now v c.args.branch.now c.args.info at.lawful.retained))
 
-pub returns-in_err-enter-clause-does : goal.returns-in_err-enter-clause-does
-returns-in_err-enter-clause-does g c told r v at =
+pub returns-in_err-enter-clause-any_moment : goal.returns-in_err-enter-clause-any_moment
+returns-in_err-enter-clause-any_moment g c told r v at =
     let is : c.from_residual-in_err-enter.result ≡ Err StoreFault.Memory = search rules in
     subst (λ res. Commits r c.args.work.now v c.args.branch.now c.args.info res c.enter.new.self (g.G.Ground.told c.args.outside.now) (g.G.Ground.told c.args.outside.now)) (sym is)
     (changes_none r (repository_after r c.args.work.now v c.args.branch.now c.args.info) StoreFault.Memory c.args.self.now c.enter.new.self (g.G.Ground.told c.args.outside.now) c.in_err-enter.ensures.err at.holds)
 
-pub returns-in_err-enter-clause-stay : goal.returns-in_err-enter-clause-stay
-returns-in_err-enter-clause-stay g c told has r q held now = stays_still c.args.self.now c.enter.new.self c.in_err-enter.ensures.err r q (g.G.Ground.told c.args.outside.now) held now
+pub returns-in_err-enter-clause-records_stay : goal.returns-in_err-enter-clause-records_stay
+returns-in_err-enter-clause-records_stay g c told has r q held now = stays_still c.args.self.now c.enter.new.self c.in_err-enter.ensures.err r q (g.G.Ground.told c.args.outside.now) held now
 
 pub returns-in_err-enter-clause-tables : goal.returns-in_err-enter-clause-tables
 returns-in_err-enter-clause-tables g c r of are has = record { repository = r; tables = same_tables c.args.self.now c.enter.new.self c.in_err-enter.ensures.err r of; parents = are }
 
 -- ---- cut short
 
-pub returns-in_err-durable_step-clause-does : goal.returns-in_err-durable_step-clause-does
-returns-in_err-durable_step-clause-does g c told r v at =
+pub returns-in_err-durable_step-clause-any_moment : goal.returns-in_err-durable_step-clause-any_moment
+returns-in_err-durable_step-clause-any_moment g c told r v at =
     let is : c.from_residual-in_err-durable_step.result ≡ Err StoreFault.Ground = search rules in
     let plan = c.in_ok-plan.plan in
     let of = at.holds.tables in
@@ -144,8 +144,8 @@ returns-clause-tables g c r of are has =
       parents = after_parents r c.args.work.now.parents c.args.branch.now c.args.self.now plan of is one refl refl plan.parents is.parents;
     }
 
-pub returns-clause-does : goal.returns-clause-does
-returns-clause-does g c told r v at =
+pub returns-clause-any_moment : goal.returns-clause-any_moment
+returns-clause-any_moment g c told r v at =
     let plan = c.in_ok-plan.plan in
     let of = at.holds.tables in
     let are = at.lawful.parents in
@@ -171,8 +171,8 @@ returns-clause-limits g c told r v at =
       enough = (subst (λ (n : ℕ). n ≤ 2 ^ 62) (sym planned.behind) is.ends, is.sequence);
     }
 
-pub returns-clause-answers : goal.returns-clause-answers
-returns-clause-answers g c told r v at =
+pub returns-clause-answered : goal.returns-clause-answered
+returns-clause-answered g c told r v at =
     let plan = c.in_ok-plan.plan in
     let of = at.holds.tables in
     let is = c.in_ok-plan.ensures.coming r of in
@@ -181,7 +181,7 @@ returns-clause-answers g c told r v at =
     (ap (λ (s : Slot). s.end) c.enter.ensures.rest.1) c.enter.ensures.rest.0 refl (can_step r c.args.branch.now c.args.self.now plan of (c.in_ok-plan.ensures.coming r of) (g.G.Ground.told c.args.outside.now) at.holds) in
     let step = same_step c.enter.new.self.slot.end c.args.self.now.slot.end c.enter.new.self.index c.args.self.now.index c.bytes.result.now plan.batch.bytes.items plan.slot plan.slot _ (g.G.Ground.told c.args.outside.now) (g.G.Ground.told c.durable_step.new.outside)
     (ap (λ (s : Slot). s.end) c.enter.ensures.rest.1) c.enter.ensures.rest.0 c.bytes.ensures refl (c.in_ok-durable_step.ensures.does told can) in
-    let done = returns-clause-does g c told r v at in
+    let done = returns-clause-any_moment g c told r v at in
     let holds = held_after r c.args.work.now v c.args.branch.now c.args.info c.args.self.now plan is planned (g.G.Ground.told c.args.outside.now) at (g.G.Ground.told c.durable_step.new.outside) _ _ done in
     answers_made r c.args.work.now _ v _ c.args.branch.now c.args.info c.args.self.now _ plan c.name-name.result (g.G.Ground.told c.durable_step.new.outside) at.lawful.retained is planned c.name-name.ensures refl refl refl
     (record {
@@ -202,8 +202,8 @@ returns-clause-saved g c told r q v at now =
     (ap (λ (s : Slot). s.end) c.enter.ensures.rest.1) c.enter.ensures.rest.0 c.bytes.ensures refl (c.in_ok-durable_step.ensures.does told can) in
     (plan.batch.root.at, saved_tree r c.args.work.now v c.args.branch.now c.args.info c.args.self.now plan is planned (g.G.Ground.told c.args.outside.now) at (g.G.Ground.told c.durable_step.new.outside) _ step q now _ (read_root plan.number c.root.result plan.batch.root c.of.result c.root.ensures c.of.ensures))
 
-pub returns-clause-stay : goal.returns-clause-stay
-returns-clause-stay g c told has r q held now =
+pub returns-clause-records_stay : goal.returns-clause-records_stay
+returns-clause-records_stay g c told has r q held now =
     let plan = c.in_ok-plan.plan in
     let of = held.tables in
     let is = c.in_ok-plan.ensures.coming r of in

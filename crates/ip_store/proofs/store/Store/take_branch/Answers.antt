@@ -12,24 +12,24 @@ use Rattle.ip_store.proofs.Stepping.{itself, changes_none, stays_still, changes_
 use Rattle.ip_store.proofs.BranchTurns.{none_in, some_in, remove_none, remove_memory, remove_done, remove_cut, remove_fits, absent_same}
 use Rattle.ip_store.proofs.store.Store.take_branch.Goals as goal
 
-pub returns-then-is_none-clause-answers : goal.returns-then-is_none-clause-answers
-returns-then-is_none-clause-answers g c r of =
+pub returns-then-is_none-clause-answered : goal.returns-then-is_none-clause-answered
+returns-then-is_none-clause-answered g c r of =
     let none : head r c.args.name.now ≡ None = sym (c.head.ensures r of) ∙ none_in c.head.result (search rules) in
     remove_none r c.args.name.now c.args.self.now of none
 
-pub returns-then-is_none-clause-does : goal.returns-then-is_none-clause-does
-returns-then-is_none-clause-does g c told r held =
+pub returns-then-is_none-clause-any_moment : goal.returns-then-is_none-clause-any_moment
+returns-then-is_none-clause-any_moment g c told r held =
     let none : head r c.args.name.now ≡ None = sym (c.head.ensures r held.tables) ∙ none_in c.head.result (search rules) in
     subst (λ q. Changes {A = Bool} r q (Ok false) c.args.self.now (g.G.Ground.told c.args.outside.now) (g.G.Ground.told c.args.outside.now)) (sym (absent_same r c.args.name.now none))
     (changes_still false r c.args.self.now (g.G.Ground.told c.args.outside.now) held)
 
-pub returns-in_err-rec-clause-answers : goal.returns-in_err-rec-clause-answers
-returns-in_err-rec-clause-answers g c r of =
+pub returns-in_err-rec-clause-answered : goal.returns-in_err-rec-clause-answered
+returns-in_err-rec-clause-answered g c r of =
     let is : c.from_residual.result ≡ Err StoreFault.Memory = search rules in
     subst (λ res. IfSome (removed_reply c.args.name.now res) (AnswersRemove r c.args.name.now (met_by res) c.args.self.now)) (sym is) (remove_memory r c.args.name.now c.args.self.now of)
 
-pub returns-in_err-rec-clause-does : goal.returns-in_err-rec-clause-does
-returns-in_err-rec-clause-does g c told r held =
+pub returns-in_err-rec-clause-any_moment : goal.returns-in_err-rec-clause-any_moment
+returns-in_err-rec-clause-any_moment g c told r held =
     let is : c.from_residual.result ≡ Err StoreFault.Memory = search rules in
     subst (λ res. Changes {A = Bool} r (without_branch r c.args.name.now) res c.args.self.now (g.G.Ground.told c.args.outside.now) (g.G.Ground.told c.args.outside.now)) (sym is)
     (changes_none r (without_branch r c.args.name.now) StoreFault.Memory c.args.self.now c.args.self.now (g.G.Ground.told c.args.outside.now) (itself c.args.self.now) held)
@@ -43,8 +43,8 @@ append_branch_record-requires-clause-served g c = subst IsServedKind (sym c.in_o
 pub append_branch_record-requires-clause-fits : goal.append_branch_record-requires-clause-fits
 append_branch_record-requires-clause-fits g c = subst (Fits 1) (sym c.in_ok-rec.ensures) (remove_fits c.requires.tables.0 c.args.name.now c.requires.name)
 
-pub returns-in_err-append_branch_record-clause-answers : goal.returns-in_err-append_branch_record-clause-answers
-returns-in_err-append_branch_record-clause-answers g c r of =
+pub returns-in_err-append_branch_record-clause-answered : goal.returns-in_err-append_branch_record-clause-answered
+returns-in_err-append_branch_record-clause-answered g c r of =
     let fault = c.in_err-append_branch_record.field-0.0 in
     let is : c.from_residual-in_err-append_branch_record.result ≡ Err fault = search rules in
     let there = some_in c.head.result (search rules) in
@@ -52,38 +52,38 @@ returns-in_err-append_branch_record-clause-answers g c r of =
     (remove_cut r c.args.name.now c.append_branch_record.new.self there.0 fault (sym (c.head.ensures r of) ∙ there.1)
     (subst (λ x. Renames r x (Err fault) c.append_branch_record.new.self) c.in_ok-rec.ensures (c.in_err-append_branch_record.ensures.tables r of (subst (MayName r) (sym c.in_ok-rec.ensures) tt))))
 
-pub returns-in_err-append_branch_record-clause-does : goal.returns-in_err-append_branch_record-clause-does
-returns-in_err-append_branch_record-clause-does g c told r held =
+pub returns-in_err-append_branch_record-clause-any_moment : goal.returns-in_err-append_branch_record-clause-any_moment
+returns-in_err-append_branch_record-clause-any_moment g c told r held =
     let fault = c.in_err-append_branch_record.field-0.0 in
     let is : c.from_residual-in_err-append_branch_record.result ≡ Err fault = search rules in
     subst (λ res. Changes {A = Bool} r (without_branch r c.args.name.now) res c.append_branch_record.new.self (g.G.Ground.told c.args.outside.now) (g.G.Ground.told c.append_branch_record.new.outside)) (sym is)
     (with_fault fault r (without_branch r c.args.name.now) c.append_branch_record.new.self (g.G.Ground.told c.args.outside.now) (g.G.Ground.told c.append_branch_record.new.outside)
     (subst (λ x. Changes {A = Unit {0}} r (renamed r x) (Err fault) c.append_branch_record.new.self (g.G.Ground.told c.args.outside.now) (g.G.Ground.told c.append_branch_record.new.outside)) c.in_ok-rec.ensures
-    (c.in_err-append_branch_record.ensures.does told r held (subst (MayName r) (sym c.in_ok-rec.ensures) tt))))
+    (c.in_err-append_branch_record.ensures.any_moment told r held (subst (MayName r) (sym c.in_ok-rec.ensures) tt))))
 
-pub returns-clause-answers : goal.returns-clause-answers
-returns-clause-answers g c r of =
+pub returns-clause-answered : goal.returns-clause-answered
+returns-clause-answered g c r of =
     let there = some_in c.head.result (search rules) in
     remove_done r c.args.name.now c.append_branch_record.new.self there.0 (sym (c.head.ensures r of) ∙ there.1)
     (subst (λ x. Renames r x (Ok tt) c.append_branch_record.new.self) c.in_ok-rec.ensures (c.in_ok-append_branch_record.ensures.tables r of (subst (MayName r) (sym c.in_ok-rec.ensures) tt)))
 
-pub returns-clause-does : goal.returns-clause-does
-returns-clause-does g c told r held =
+pub returns-clause-any_moment : goal.returns-clause-any_moment
+returns-clause-any_moment g c told r held =
     with_value tt true r (without_branch r c.args.name.now) c.append_branch_record.new.self (g.G.Ground.told c.args.outside.now) (g.G.Ground.told c.append_branch_record.new.outside)
     (subst (λ x. Changes {A = Unit {0}} r (renamed r x) (Ok tt) c.append_branch_record.new.self (g.G.Ground.told c.args.outside.now) (g.G.Ground.told c.append_branch_record.new.outside)) c.in_ok-rec.ensures
-    (c.in_ok-append_branch_record.ensures.does told r held (subst (MayName r) (sym c.in_ok-rec.ensures) tt)))
+    (c.in_ok-append_branch_record.ensures.any_moment told r held (subst (MayName r) (sym c.in_ok-rec.ensures) tt)))
 
-pub returns-then-is_none-clause-stay : goal.returns-then-is_none-clause-stay
-returns-then-is_none-clause-stay g c told has r q held now = stays_still c.args.self.now c.args.self.now (itself c.args.self.now) r q (g.G.Ground.told c.args.outside.now) held now
+pub returns-then-is_none-clause-records_stay : goal.returns-then-is_none-clause-records_stay
+returns-then-is_none-clause-records_stay g c told has r q held now = stays_still c.args.self.now c.args.self.now (itself c.args.self.now) r q (g.G.Ground.told c.args.outside.now) held now
 
-pub returns-in_err-rec-clause-stay : goal.returns-in_err-rec-clause-stay
-returns-in_err-rec-clause-stay g c told has r q held now = stays_still c.args.self.now c.args.self.now (itself c.args.self.now) r q (g.G.Ground.told c.args.outside.now) held now
+pub returns-in_err-rec-clause-records_stay : goal.returns-in_err-rec-clause-records_stay
+returns-in_err-rec-clause-records_stay g c told has r q held now = stays_still c.args.self.now c.args.self.now (itself c.args.self.now) r q (g.G.Ground.told c.args.outside.now) held now
 
-pub returns-in_err-append_branch_record-clause-stay : goal.returns-in_err-append_branch_record-clause-stay
-returns-in_err-append_branch_record-clause-stay g c told has r q held now =
+pub returns-in_err-append_branch_record-clause-records_stay : goal.returns-in_err-append_branch_record-clause-records_stay
+returns-in_err-append_branch_record-clause-records_stay g c told has r q held now =
     let fault = c.in_err-append_branch_record.field-0.0 in
     let is : c.from_residual-in_err-append_branch_record.result ≡ Err fault = search rules in
-    c.in_err-append_branch_record.ensures.stay told (with_answer (Unit {0}) Bool fault (subst HasAnswer is has)) r q held now
+    c.in_err-append_branch_record.ensures.records_stay told (with_answer (Unit {0}) Bool fault (subst HasAnswer is has)) r q held now
 
 pub returns-clause-appends : goal.returns-clause-appends
 returns-clause-appends g c told done =
