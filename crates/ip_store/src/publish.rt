@@ -1,4 +1,10 @@
-// A durable step: records behind the end, and then a slot that names their end.
+// A durable step: records behind the end, and then a slot that names their end. Its steps are those of docs/DISK.md:
+//   1. The caller has taken all memory that it needs; none is taken here.
+//   2. The records are written behind the end, one write for each chunk. No image refers to them yet.
+//   3. The chunks that hold them are synced, each once.
+//   4. The slot that is not live is closed and synced, unless it is whole and closed; its other bytes are written and synced.
+//   5. Its gate is opened, by one byte, and synced. What a crash in that write leaves has the old slot live, or the new one.
+//   6. The caller answers only behind that.
 ghost use Rattle.std.specs.Prelude.{◌+◌, ◌^◌, ◌<◌, ◌≤◌, length, IsTrue, OnErr};
 ghost use Rattle.ip_ground.specs.Counts.{CountsAs, FileFault};
 ghost use Rattle.ip_image.specs.Slot.{IsChunkSize};
