@@ -2,7 +2,7 @@
 --     Outside, outside      the record, and how the traits' ghost members make it
 --     Tells outside      the ground tells its content, and no child changes the live pair
 --     GoesOn old new      what no call changes: who tells, and that no count falls. A log may tell no more
---     KeepsFiles old new      at no moment has a file changed but the chunk and the control file, or was synced, and none was lent or settled
+--     KeepsFiles old new      at no moment has a file changed but the chunks and the control file, or was synced, and none was lent or settled
 use Rattle.std.specs.Prelude.{ℕ, ◌≤◌, ◌≡◌, Bool, IsTrue, List}
 use Rattle.ip_ground.specs.declared.names.FileName.{FileName}
 use Rattle.ip_ground.specs.declared.names.GroundCounts.{GroundCounts}

@@ -155,7 +155,7 @@ pub record Reopens (old new : Outside) (status : Status) (exchanges : List Excha
   pub again : IsTrue old.ground_tells → MayServe old.told → MayServe new.told
   -- in the end the files stand for the repository after all of them, unless a fault of the ground or of its files cut the last one short
   pub stands : Tells old → is_cut_short status ≡ false → StandsFor old.told.held first.repository → StandsFor new.told.held (after_all first exchanges).repository
-  -- at no moment does a file change but the chunk and the control file, and nothing is lent
+  -- at no moment does a file change but the chunks and the control file, and nothing is lent
   pub files : Tells old → KeepsFiles old.told new.told
 
 -- What was noted in the log, and what was counted.
