@@ -2,6 +2,7 @@
 use Rattle.std.proofs.Common.{◌≡◌, inl, inr, ℕ, ◌+◌, ◌^◌, ◌<◌, ◌≤◌, Bool, true, false, cond, List, [], ◌∷◌, ◌++◌, length, refl, sym, ap, ◌∙◌, subst, arith, ◌==◌, nat_lt, nat_le, All, IsTrue, ◌||◌}
 use Rattle.std.specs.List.{list_any, AllByRecursion}
 use Rattle.std.proofs.lemmas.List.Elements.{recursion_from_All}
+use Rattle.std.proofs.lemmas.Bool.{cond-true, cond-false, cases_Bool}
 use Rattle.std.proofs.lemmas.Bool.Decides.{nat_tests}
 use Rattle.ip_app.specs.declared.statuses.Status.{Status}
 use Rattle.ip_app.specs.declared.statuses.Status.TheVariants as status
@@ -14,7 +15,6 @@ use Rattle.ip_app.specs.Exchanges.{lines_in}
 use Rattle.ip_app.specs.Outside.{Outside}
 use Rattle.ip_app.specs.Run.{Row, Serves, is_cut_off, EndsAsBytes}
 use Rattle.ip_app.specs.Ending.{ending_from, ending_of, IsOfBytes}
-use Rattle.ip_app.proofs.LineLemmas.{if_true, if_false, either}
 use Rattle.ip_app.proofs.RunLemmas.{ends_along}
 
 -- ---- the state of reading after some bytes
@@ -46,13 +46,13 @@ are_short : (n : ℕ) (bytes : List ℕ) → FirstShort n (whole_lines bytes) �
 unfolding FirstShort AreShort
 are_short n [] h = tt
 are_short n (byte ∷ bytes) h =
-    elim (either (byte == line_feed)) [
+    elim (cases_Bool (byte == line_feed)) [
       | inl lf ↦
-          let s : FirstShort n ([] ∷ whole_lines bytes) = subst (FirstShort n) (if_true (byte == line_feed) _ _ lf) h in
-          (λ e. omega (arith, s.0), subst (λ k. AreShort k bytes) (sym (if_true (byte == line_feed) 0 (n + 1) lf)) (are_short 0 bytes s.1))
+          let s : FirstShort n ([] ∷ whole_lines bytes) = subst (FirstShort n) (cond-true (byte == line_feed) _ _ lf) h in
+          (λ e. omega (arith, s.0), subst (λ k. AreShort k bytes) (sym (cond-true (byte == line_feed) 0 (n + 1) lf)) (are_short 0 bytes s.1))
       | inr other ↦
-          let s : FirstShort n (onto_first byte (whole_lines bytes)) = subst (FirstShort n) (if_false (byte == line_feed) _ _ other) h in
-          (λ e. absurd (cc (e, other)), subst (λ k. AreShort k bytes) (sym (if_false (byte == line_feed) 0 (n + 1) other)) (are_short (n + 1) bytes (first_onto n byte (whole_lines bytes) s)))
+          let s : FirstShort n (onto_first byte (whole_lines bytes)) = subst (FirstShort n) (cond-false (byte == line_feed) _ _ other) h in
+          (λ e. absurd (cc (e, other)), subst (λ k. AreShort k bytes) (sym (cond-false (byte == line_feed) 0 (n + 1) other)) (are_short (n + 1) bytes (first_onto n byte (whole_lines bytes) s)))
     ]
 
 all_short : (lines : List (List ℕ)) → AllByRecursion (λ line. length line ≤ 4194304) lines → FirstShort 0 lines
@@ -74,26 +74,26 @@ or_right false b e h = h
 
 no_line_feed_rest : (bytes : List ℕ) → list_any is_line_feed bytes ≡ false → last_piece bytes ≡ bytes
 no_line_feed_rest [] h = refl
-no_line_feed_rest (byte ∷ bytes) h = if_false (list_any is_line_feed (byte ∷ bytes)) _ _ h
+no_line_feed_rest (byte ∷ bytes) h = cond-false (list_any is_line_feed (byte ∷ bytes)) _ _ h
 
 -- the last piece, by the definition of the lines
 from_zero : (n : ℕ) (bytes : List ℕ) → (list_any is_line_feed bytes ≡ true → n ≡ length (last_piece bytes)) × (list_any is_line_feed bytes ≡ false → n ≡ 0 + length bytes) → n ≡ length (last_piece bytes)
-from_zero n bytes i = elim (either (list_any is_line_feed bytes)) [ inl h ↦ i.0 h | inr h ↦ i.1 h ∙ (omega arith ∙ ap length (sym (no_line_feed_rest bytes h))) ]
+from_zero n bytes i = elim (cases_Bool (list_any is_line_feed bytes)) [ inl h ↦ i.0 h | inr h ↦ i.1 h ∙ (omega arith ∙ ap length (sym (no_line_feed_rest bytes h))) ]
 
 rest_is : (n : ℕ) (bytes : List ℕ) → (list_any is_line_feed bytes ≡ true → rest_from n bytes ≡ length (last_piece bytes)) × (list_any is_line_feed bytes ≡ false → rest_from n bytes ≡ n + length bytes)
 unfolding rest_from
 rest_is n [] = (λ h. absurd (cc), λ h. omega arith)
 rest_is n (byte ∷ bytes) =
-    elim (either (byte == line_feed)) [
+    elim (cases_Bool (byte == line_feed)) [
       | inl lf ↦
-          let next : after_byte n byte ≡ 0 = if_true (byte == line_feed) 0 (n + 1) lf in (
-            λ h. ap (λ k. rest_from k bytes) next ∙ (from_zero (rest_from 0 bytes) bytes (rest_is 0 bytes) ∙ ap length (sym (if_true (list_any is_line_feed (byte ∷ bytes)) _ _ h))),
+          let next : after_byte n byte ≡ 0 = cond-true (byte == line_feed) 0 (n + 1) lf in (
+            λ h. ap (λ k. rest_from k bytes) next ∙ (from_zero (rest_from 0 bytes) bytes (rest_is 0 bytes) ∙ ap length (sym (cond-true (list_any is_line_feed (byte ∷ bytes)) _ _ h))),
             λ h. absurd (cc (lf, or_left (byte == line_feed) (list_any is_line_feed bytes) h)),
           )
       | inr other ↦
-          let next : after_byte n byte ≡ n + 1 = if_false (byte == line_feed) 0 (n + 1) other in
+          let next : after_byte n byte ≡ n + 1 = cond-false (byte == line_feed) 0 (n + 1) other in
           let i = rest_is (n + 1) bytes in (
-            λ h. ap (λ k. rest_from k bytes) next ∙ (i.0 (or_right (byte == line_feed) (list_any is_line_feed bytes) other h) ∙ ap length (sym (if_true (list_any is_line_feed (byte ∷ bytes)) _ _ h))),
+            λ h. ap (λ k. rest_from k bytes) next ∙ (i.0 (or_right (byte == line_feed) (list_any is_line_feed bytes) other h) ∙ ap length (sym (cond-true (list_any is_line_feed (byte ∷ bytes)) _ _ h))),
             λ h. ap (λ k. rest_from k bytes) next ∙ (i.1 (or_none (byte == line_feed) (list_any is_line_feed bytes) h) ∙ omega arith),
           )
     ]
@@ -113,35 +113,35 @@ no_input_test : (t : ℕ) → t < 2 ^ 62 → nat_le (2 ^ 62) t ≡ false
 no_input_test t h = grind (arith, nat_tests)
 
 line_over : (n taken : ℕ) (bytes : List ℕ) → 4194304 < n → ending_from n taken bytes ≡ status.Limit bound.Line
-line_over n taken [] h = if_true _ _ _ (line_test n h)
-line_over n taken (byte ∷ bytes) h = if_true _ _ _ (line_test n h)
+line_over n taken [] h = cond-true _ _ _ (line_test n h)
+line_over n taken (byte ∷ bytes) h = cond-true _ _ _ (line_test n h)
 
 input_over : (n taken : ℕ) (bytes : List ℕ) → n ≤ 4194304 → 2 ^ 62 ≤ taken → ending_from n taken bytes ≡ status.Limit bound.Input
-input_over n taken [] h t = if_false _ _ _ (no_line_test n h) ∙ if_true _ _ _ (input_test taken t)
-input_over n taken (byte ∷ bytes) h t = if_false _ _ _ (no_line_test n h) ∙ if_true _ _ _ (input_test taken t)
+input_over n taken [] h t = cond-false _ _ _ (no_line_test n h) ∙ cond-true _ _ _ (input_test taken t)
+input_over n taken (byte ∷ bytes) h t = cond-false _ _ _ (no_line_test n h) ∙ cond-true _ _ _ (input_test taken t)
 
 goes_further : (n taken byte : ℕ) (bytes : List ℕ) → n ≤ 4194304 → taken < 2 ^ 62 → ending_from n taken (byte ∷ bytes) ≡ ending_from (after_byte n byte) (taken + 1) bytes
-goes_further n taken byte bytes h t = if_false _ _ _ (no_line_test n h) ∙ if_false _ _ _ (no_input_test taken t)
+goes_further n taken byte bytes h t = cond-false _ _ _ (no_line_test n h) ∙ cond-false _ _ _ (no_input_test taken t)
 
 at_end_done : (n taken : ℕ) → n ≡ 0 → taken < 2 ^ 62 → ending_from n taken [] ≡ status.Done
 at_end_done n taken h t =
     let z : n == 0 ≡ true = grind (arith, nat_tests) in
-    if_false _ _ _ (no_line_test n (omega arith)) ∙ (if_false _ _ _ (no_input_test taken t) ∙ if_true _ _ _ z)
+    cond-false _ _ _ (no_line_test n (omega arith)) ∙ (cond-false _ _ _ (no_input_test taken t) ∙ cond-true _ _ _ z)
 
 at_end_unfinished : (n taken : ℕ) → 0 < n → n ≤ 4194304 → taken < 2 ^ 62 → ending_from n taken [] ≡ status.Unfinished
 at_end_unfinished n taken p h t =
     let z : n == 0 ≡ false = grind (arith, nat_tests) in
-    if_false _ _ _ (no_line_test n h) ∙ (if_false _ _ _ (no_input_test taken t) ∙ if_false _ _ _ z)
+    cond-false _ _ _ (no_line_test n h) ∙ (cond-false _ _ _ (no_input_test taken t) ∙ cond-false _ _ _ z)
 
 -- a piece that is too long stays so
 stays_long : (n : ℕ) (bytes : List ℕ) → 4194304 < n → AreShort n bytes → 4194304 < rest_from n bytes
 unfolding AreShort rest_from
 stays_long n [] h s = h
 stays_long n (byte ∷ bytes) h s =
-    elim (either (byte == line_feed)) [
+    elim (cases_Bool (byte == line_feed)) [
       | inl lf ↦ absurd (omega (arith, s.0 lf))
       | inr other ↦
-          let next : after_byte n byte ≡ n + 1 = if_false (byte == line_feed) 0 (n + 1) other in
+          let next : after_byte n byte ≡ n + 1 = cond-false (byte == line_feed) 0 (n + 1) other in
           subst (λ k. 4194304 < rest_from k bytes) (sym next) (stays_long (n + 1) bytes (omega arith) (subst (λ k. AreShort k bytes) next s.1))
     ]
 
@@ -198,7 +198,7 @@ ends_as : (s : Status) (bytes left : List ℕ) (n taken : ℕ) → IsOfBytes s �
 unfolding AreShort rest_from
 ends_as s [] left n taken o short h = ends_here s left n taken o (ends_along s n n (taken + 0) taken _ _ h refl (omega arith) (λ e. e))
 ends_as s (byte ∷ bytes) left n taken o short h =
-    elim (either (nat_lt 4194304 n)) [
+    elim (cases_Bool (nat_lt 4194304 n)) [
       | inl over ↦
           let long : 4194304 < n = is_over n over in
           line_over n taken (byte ∷ (bytes ++ left)) long ∙ too_long_is s _ _ _ o h (stays_long n (byte ∷ bytes) long short)

@@ -1,9 +1,10 @@
 -- What pieces of a chunk are, and the lines of bytes that go on.
-use Rattle.std.proofs.Common.{◌≡◌, ℕ, suc, zero, ◌+◌, ◌-◌, ◌<◌, ◌≤◌, Bool, true, false, cond, ◌||◌, ◌==◌, List, [], ◌∷◌, ◌++◌, length, get_or, take, drop, inl, inr, ◌⊎◌, refl, sym, ap, ◌∙◌, subst, arith, slice_range, drop-cons}
+use Rattle.std.proofs.Common.{◌≡◌, ℕ, suc, zero, ◌+◌, ◌-◌, ◌<◌, ◌≤◌, Bool, true, false, ◌||◌, ◌==◌, List, [], ◌∷◌, ◌++◌, length, get_or, take, drop, refl, sym, ap, ◌∙◌, subst, arith, slice_range, drop-cons}
 use Rattle.std.specs.List.{list_any}
 use Rattle.std.proofs.lemmas.List.{take-append-drop, drop-take, length-take}
 use Rattle.std.proofs.Math.Seq.{drop-nil}
 use Rattle.std.proofs.lemmas.Grind.{common_steps}
+use Rattle.std.proofs.lemmas.Bool.{cond-true, cond-false, or_from, or_parts}
 use Rattle.std.proofs.lemmas.Bool.Decides.{nat_tests}
 use Rattle.memchr.specs.Find.{NoneBefore, Nowhere, Passes, is_byte}
 use Rattle.ip_spec.specs.Script.{whole_lines, onto_first}
@@ -14,9 +15,6 @@ drop_add zero b xs = let e : 0 + b ≡ b = omega arith in ap (λ k. drop k xs) e
 drop_add (suc a) b [] = drop-nil (suc a + b) ∙ sym (drop-nil b)
 drop_add (suc a) b (x ∷ xs) = let e : suc a + b ≡ suc (a + b) = omega arith in ap (λ k. drop k (x ∷ xs)) e ∙ drop_add a b xs
 
-or_false : (a b : Bool) → a ≡ false → b ≡ false → (a || b) ≡ false
-or_false a b p q = cc
-
 unequal : (x : ℕ) → ((x == 10) ≡ true → ⊥) → is_line_feed x ≡ false
 unequal x h = grind (arith, nat_tests)
 
@@ -24,7 +22,7 @@ no_line_feed_before : (xs : List ℕ) (n : ℕ) → ((k : ℕ) → k < n → (ge
 no_line_feed_before [] zero h = refl
 no_line_feed_before [] (suc n) h = refl
 no_line_feed_before (x ∷ xs) zero h = refl
-no_line_feed_before (x ∷ xs) (suc n) h = or_false _ _ (unequal x (h 0 (omega arith))) (no_line_feed_before xs n (λ k l. h (suc k) (omega arith)))
+no_line_feed_before (x ∷ xs) (suc n) h = or_from _ _ (unequal x (h 0 (omega arith))) (no_line_feed_before xs n (λ k l. h (suc k) (omega arith)))
 
 is_ten : (x : ℕ) → (x == 10) ≡ true → x ≡ 10
 is_ten x h = grind (arith, nat_tests)
@@ -57,33 +55,22 @@ none_between chunk end = let e : end - end ≡ 0 = omega arith in ap (λ k. take
 
 -- ---- lines of bytes that go on
 
-or_no : (a b : Bool) → (a || b) ≡ false → (a ≡ false) × (b ≡ false)
-or_no true b h = absurd (cc)
-or_no false b h = (refl, h)
-
-pub either : (b : Bool) → (b ≡ true) ⊎ (b ≡ false)
-either true = inl refl
-either false = inr refl
-
-pub if_false : {A : Type 0} (b : Bool) (x y : A) → b ≡ false → cond b x y ≡ y
-if_false b x y h = ap (λ b. cond b x y) h
-
 -- a line, its LF, and what comes then
 pub whole_lines-line : (line tail : List ℕ) → HasNoLineFeed line → whole_lines (line ++ 10 ∷ tail) ≡ line ∷ whole_lines tail
 whole_lines-line [] tail h = refl
 whole_lines-line (b ∷ line) tail h =
-    let parts = or_no (is_line_feed b) (list_any is_line_feed line) h in
-    if_false (is_line_feed b) _ _ parts.0 ∙ ap (onto_first b) (whole_lines-line line tail parts.1)
+    let parts = or_parts (is_line_feed b) (list_any is_line_feed line) h in
+    cond-false (is_line_feed b) _ _ parts.0 ∙ ap (onto_first b) (whole_lines-line line tail parts.1)
 
 pub whole_lines-rest : (rest : List ℕ) → HasNoLineFeed rest → whole_lines rest ≡ []
 whole_lines-rest [] h = refl
 whole_lines-rest (b ∷ rest) h =
-    let parts = or_no (is_line_feed b) (list_any is_line_feed rest) h in
-    if_false (is_line_feed b) _ _ parts.0 ∙ ap (onto_first b) (whole_lines-rest rest parts.1)
+    let parts = or_parts (is_line_feed b) (list_any is_line_feed rest) h in
+    cond-false (is_line_feed b) _ _ parts.0 ∙ ap (onto_first b) (whole_lines-rest rest parts.1)
 
 pub last_piece-rest : (rest : List ℕ) → HasNoLineFeed rest → last_piece rest ≡ rest
 last_piece-rest [] h = refl
-last_piece-rest (b ∷ rest) h = if_false (list_any is_line_feed (b ∷ rest)) _ _ h
+last_piece-rest (b ∷ rest) h = cond-false (list_any is_line_feed (b ∷ rest)) _ _ h
 
 has_lf : (line tail : List ℕ) → list_any is_line_feed (line ++ 10 ∷ tail) ≡ true
 has_lf [] tail = refl
@@ -93,11 +80,8 @@ has_lf (b ∷ line) tail = ap (λ x. is_line_feed b || x) (has_lf line tail) ∙
     or_true true = refl
     or_true false = refl
 
-pub if_true : {A : Type 0} (b : Bool) (x y : A) → b ≡ true → cond b x y ≡ x
-if_true b x y h = ap (λ b. cond b x y) h
-
 pub last_piece-line : (line tail : List ℕ) → HasNoLineFeed line → last_piece (line ++ 10 ∷ tail) ≡ last_piece tail
 last_piece-line [] tail h = refl
 last_piece-line (b ∷ line) tail h =
-    let parts = or_no (is_line_feed b) (list_any is_line_feed line) h in
-    if_true (list_any is_line_feed (b ∷ (line ++ 10 ∷ tail))) _ _ (has_lf (b ∷ line) tail) ∙ last_piece-line line tail parts.1
+    let parts = or_parts (is_line_feed b) (list_any is_line_feed line) h in
+    cond-true (list_any is_line_feed (b ∷ (line ++ 10 ∷ tail))) _ _ (has_lf (b ∷ line) tail) ∙ last_piece-line line tail parts.1

@@ -8,7 +8,7 @@ mod Smaller
 mod Found
 mod Tables
 mod Tallest
-mod Split
+pub mod Split
 mod Agreeing
 mod News
 mod Lawful

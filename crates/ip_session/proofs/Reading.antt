@@ -223,9 +223,6 @@ read_as tells a b s s' command command' result e h = subst (λ (x : Command). Ha
 
 -- ---- contents stay short
 
-some_same : {A : Type 0} (x y : A) → Some x ≡ Some y → x ≡ y
-some_same x y e = cc
-
 short_without : (t : Tree) (q : Path) (b : Bytes) (gone : Bool) → HasShortContents t → cond (not gone) (get t q) None ≡ Some b → length b ≤ contents_limit
 short_without t q b true short e = absurd (cc e)
 short_without t q b false short e = short q b e

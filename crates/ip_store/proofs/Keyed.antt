@@ -20,27 +20,15 @@ use Rattle.ip_spec.specs.Map.{Map, empty, insert, insert_all, from_entries, entr
 use Rattle.ip_spec.specs.Path.{Bytes, bytes_cmp}
 use Rattle.ip_spec.proofs.Subtrees.{step_antisymmetric}
 use Rattle.ip_image.proofs.InChunk.{eq_of}
+use Rattle.ip_save.proofs.Split.{both_first, both_second, less_of}
 use Rattle.ip_store.specs.Entries.{step_cmp}
 
 less : (o : Ordering) → o ≡ Less → T (is_lt o)
 less o e = subst (λ r. T (is_lt r)) (sym e) tt
 
-less_of : (o : Ordering) → T (is_lt o) → o ≡ Less
-less_of Less p = refl
-less_of Equal p = absurd p
-less_of Greater p = absurd p
-
 both : (a b : Bool) → T a → T b → T (a && b)
 both true b p q = q
 both false b p q = p
-
-first : (a b : Bool) → T (a && b) → T a
-first true b p = tt
-first false b p = p
-
-second : (a b : Bool) → T (a && b) → T b
-second true b p = p
-second false b p = absurd p
 
 -- ---- entries over `Vec` keys
 
@@ -80,7 +68,7 @@ module _ {X : Type 0} where
   -- nothing is taken out where the key is below all
   untouched : (name : Bytes) (es : List (Bytes × X)) → T (below_all bytes_cmp name es) → where_key bytes_cmp (λ x. not (eq_by_cmp bytes_cmp name x)) es ≡ es
   untouched name [] h = refl
-  untouched name (e ∷ es) h = by (bytes_cmp name e.0) refl (first (is_lt (bytes_cmp name e.0)) (below_all bytes_cmp name es) h) (untouched name es (second (is_lt (bytes_cmp name e.0)) (below_all bytes_cmp name es) h))
+  untouched name (e ∷ es) h = by (bytes_cmp name e.0) refl (both_first (is_lt (bytes_cmp name e.0)) (below_all bytes_cmp name es) h) (untouched name es (both_second (is_lt (bytes_cmp name e.0)) (below_all bytes_cmp name es) h))
     where
       by : (o : Ordering) → bytes_cmp name e.0 ≡ o → T (is_lt o) → where_key bytes_cmp (λ x. not (eq_by_cmp bytes_cmp name x)) es ≡ es
           → where_key bytes_cmp (λ x. not (eq_by_cmp bytes_cmp name x)) (e ∷ es) ≡ e ∷ es
@@ -101,10 +89,10 @@ module _ {X : Type 0} where
   pub out_in : (name : Bytes) (es : Pairs X) → T (is_sorted bytes_cmp (told es))
       → told (remove_entry (λ k. is_eq (bytes_cmp name k.items)) es) ≡ where_key bytes_cmp (λ x. not (eq_by_cmp bytes_cmp name x)) (told es)
   out_in name [] sorted = refl
-  out_in name (e ∷ es) sorted = by (is_eq (bytes_cmp name e.0.items)) refl (out_in name es (second (below_all bytes_cmp e.0.items (told es)) (is_sorted bytes_cmp (told es)) sorted))
+  out_in name (e ∷ es) sorted = by (is_eq (bytes_cmp name e.0.items)) refl (out_in name es (both_second (below_all bytes_cmp e.0.items (told es)) (is_sorted bytes_cmp (told es)) sorted))
     where
       below_it : T (below_all bytes_cmp e.0.items (told es))
-      below_it = first (below_all bytes_cmp e.0.items (told es)) (is_sorted bytes_cmp (told es)) sorted
+      below_it = both_first (below_all bytes_cmp e.0.items (told es)) (is_sorted bytes_cmp (told es)) sorted
 
       by : (b : Bool) → is_eq (bytes_cmp name e.0.items) ≡ b → told (remove_entry (λ k. is_eq (bytes_cmp name k.items)) es) ≡ where_key bytes_cmp (λ x. not (eq_by_cmp bytes_cmp name x)) (told es)
           → told (cond b es (e ∷ remove_entry (λ k. is_eq (bytes_cmp name k.items)) es)) ≡ cond (not b) ((e.0.items, e.1) ∷ where_key bytes_cmp (λ x. not (eq_by_cmp bytes_cmp name x)) (told es)) (where_key bytes_cmp (λ x. not (eq_by_cmp bytes_cmp name x)) (told es))
@@ -133,13 +121,13 @@ module _ {K X : Type 0} {R : K → K → Ordering} (o : IsTotalOrder R) where
 
   all_below_both : (xs : List (K × X)) (e : K × X) (es : List (K × X)) → AllByRecursion (λ f. AreBelow xs f.0) es → T (below_all R e.0 es) → AllByRecursion (λ f. AreBelow (xs ++ e ∷ []) f.0) es
   all_below_both xs e [] all sorted = tt
-  all_below_both xs e (f ∷ es) (p, ps) sorted = (below_both xs e f.0 p (less_of _ (first _ _ sorted)), all_below_both xs e es ps (second _ _ sorted))
+  all_below_both xs e (f ∷ es) (p, ps) sorted = (below_both xs e f.0 p (less_of _ (both_first _ _ sorted)), all_below_both xs e es ps (both_second _ _ sorted))
 
   made_behind : (m : Map R X) (es : List (K × X)) → AllByRecursion (λ e. AreBelow m.entries e.0) es → T (is_sorted R es) → (insert_all m es).entries ≡ m.entries ++ es
   made_behind m [] all sorted = sym (append-nil m.entries)
   made_behind m (e ∷ es) (p, ps) sorted =
       let one : (insert m e.0 e.1).entries ≡ m.entries ++ e ∷ [] = entries-insert o m e.0 e.1 ∙ put_behind m.entries e.0 e.1 p in
-      made_behind (insert m e.0 e.1) es (subst (λ (xs : List (K × X)). AllByRecursion (λ f. AreBelow xs f.0) es) (sym one) (all_below_both m.entries e es ps (first _ _ sorted))) (second _ _ sorted)
+      made_behind (insert m e.0 e.1) es (subst (λ (xs : List (K × X)). AllByRecursion (λ f. AreBelow xs f.0) es) (sym one) (all_below_both m.entries e es ps (both_first _ _ sorted))) (both_second _ _ sorted)
       ∙ ap (λ (xs : List (K × X)). xs ++ es) one ∙ append_assoc m.entries (e ∷ []) es
 
   nothing_below : (es : List (K × X)) → AllByRecursion (λ e. AreBelow [] e.0) es

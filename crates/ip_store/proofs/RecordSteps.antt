@@ -5,7 +5,7 @@
 --     begins_stretch, ends_stretch, covers_all      at the beginning of a stretch, behind it, and behind all of them
 use Rattle.std.proofs.Common.{◌≡◌, ℕ, zero, suc, ◌+◌, ◌<◌, ◌≤◌, Bool, List, [], ◌∷◌, ◌++◌, length, take, get_or, refl, sym, ◌∙◌, ap, subst, inl, inr, arith, append_assoc, append-nil}
 use Rattle.std.proofs.lemmas.List.{take_more, take_all}
-use Rattle.std.proofs.lemmas.Option.{slice_get-get_or, slice_get_within}
+use Rattle.std.proofs.lemmas.Option.{same_Some, slice_get-get_or, slice_get_within}
 use Rattle.std.specs.Prelude.{Option, Some, None, IsSome, Ok, Err, IsTrue, IsErrOf, slice_get}
 use Rattle.ip_ground.specs.declared.names.FileName.{FileName}
 use Rattle.ip_ground.specs.Told.{Told, NoFile, ChangesOnly}
@@ -37,9 +37,6 @@ use Rattle.ip_store.specs.Walk.{Tells, IsPlaced, IsUnread, TakesRead, Filled, Wa
 use Rattle.ip_store.proofs.Listed.{newest}
 use Rattle.ip_store.proofs.Walking.{beyond_push, beyond_up}
 
-same_some : {A : Type 0} (x y : A) → Some x ≡ Some y → x ≡ y
-same_some x y e = cc
-
 same_fault : (one other : OpenFault) → IsErrOf {T = Bool} (Err one) other → one ≡ other
 same_fault one other e = cc
 
@@ -51,7 +48,7 @@ fill_to : (f : ℕ → Option ℕ) (stretches : List Run) (number : ℕ) (run : 
 fill_to f [] zero run before behind at is fill lies inside = absurd (cc (is))
 fill_to f [] (suc number) run before behind at is fill lies inside = absurd (cc (is))
 fill_to f (r ∷ runs) zero run before behind at is none lies inside =
-    subst (λ (x : Run). FillTo f (x ∷ runs) (before ++ behind) at (run.at + run.length)) (sym (same_some r run is))
+    subst (λ (x : Run). FillTo f (x ∷ runs) (before ++ behind) at (run.at + run.length)) (sym (same_Some r run is))
     (inl (subst (λ (l : Records). EndToEnd f run.at (l ++ behind) at) (sym none) lies, inside, refl))
 fill_to f (r ∷ runs) (suc number) run before behind at is (here, later, e, ends, rest) lies inside =
     inr (here, later ++ behind, ap (λ (l : Records). l ++ behind) e ∙ append_assoc here later behind, ends, fill_to f runs number run later behind at is rest lies inside)
@@ -59,7 +56,7 @@ fill_to f (r ∷ runs) (suc number) run before behind at is (here, later, e, end
 take_one : (runs : List Run) (number : ℕ) (run : Run) → slice_get runs number ≡ Some run → take (number + 1) runs ≡ take number runs ++ run ∷ []
 take_one runs number run is =
     let below = slice_get_within runs number run is in
-    take_more runs number run below ∙ ap (λ (r : Run). take number runs ++ r ∷ []) (same_some (get_or runs number run) run (sym (slice_get-get_or runs number run below) ∙ is))
+    take_more runs number run below ∙ ap (λ (r : Run). take number runs ++ r ∷ []) (same_Some (get_or runs number run) run (sym (slice_get-get_or runs number run below) ∙ is))
 
 pub within_stretches : (space : SpaceView) (number : ℕ) (run : Run) → slice_get (stretches_of space) number ≡ Some run → number < length (stretches_of space)
 within_stretches space number run is = slice_get_within (stretches_of space) number run is
