@@ -17,6 +17,7 @@ pub mod Editing
 mod Renamed
 mod BranchTurns
 mod AfterCommit
+mod Noted
 mod Numbered
 mod Histories
 mod Removed

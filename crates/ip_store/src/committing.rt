@@ -82,7 +82,7 @@ pub struct Plan {
 }
 
 // What was met by an answer.
-pub(crate) fn met_by<T: Drop>(answer: &Result<T, StoreFault>) -> Met
+fn met_by<T: Drop>(answer: &Result<T, StoreFault>) -> Met
     ensures { result ≡ met_by answer.now }
 {
     Met {
@@ -302,6 +302,17 @@ impl Store {
     }
 }
 
+impl Store {
+    // The answer of a call that changes the store, once it is noted what was met by it.
+    pub(crate) fn noted<T: Drop>(&mut self, answer: Result<T, StoreFault>) -> Result<T, StoreFault>
+        ensures answer { result ≡ answer }
+        ensures met { self.new ≡ record self.old { met = met_by answer } }
+    {
+        self.met = met_by(&answer);
+        answer
+    }
+}
+
 // A law, which does nothing when it is called: a name has 32 bytes.
 fn see_name(name: &Hash)
     ensures { IsHash name.now }
@@ -343,9 +354,37 @@ impl Store {
         ensures counts { Counts ground_store result (G.counts_of outside.old) (G.counts_of outside.new) }
         ensures undamaged { IsUndamaged result }
     {
-        let answer = self.commit_work(alloc, outside, work, branch, info);
-        self.met = met_by(&answer);
-        answer
+        let plan = match self.plan(alloc, work, branch, info) {
+            Ok(plan) => plan,
+            Err(fault) => return self.noted(Err(fault)),
+        };
+        let name = plan.batch.name();
+        let entered = self.enter(
+            name,
+            work.parents.as_slice(),
+            branch,
+            plan.branch,
+            plan.number,
+        );
+        if let Err(Memory) = entered {
+            return self.noted(Err(StoreFault::Memory));
+        }
+        self.met = nothing_met();
+        durable_step(
+            outside,
+            self.slot.end,
+            plan.batch.bytes(),
+            1 - self.index,
+            &plan.slot,
+        )?;
+        self.index = 1 - self.index;
+        self.space.grow(plan.slot.end);
+        self.slot = plan.slot;
+        put_place(&mut self.places, plan.batch.commit_at());
+        work.tree = Tree::of(plan.number, plan.batch.root());
+        work.parents = plan.parents;
+        work.least = Some(plan.number);
+        Ok(name)
     }
 
     // The refusals in their order, the records, and all memory but for the tables.
@@ -454,58 +493,5 @@ impl Store {
             },
             Err(_) => StoreFault::Memory,
         }
-    }
-
-    fn commit_work<G: Ground>(
-        &mut self,
-        alloc: Global,
-        outside: &mut G,
-        work: &mut Work,
-        branch: &[u8],
-        info: Info,
-    ) -> Result<Hash, StoreFault>
-        requires branch { IsBranchName branch.now }
-        requires info { IsInfo info }
-        requires tables { (r : Repository) × IsOf self.old r × AreParents r work.old.parents }
-        ensures tables { (r : Repository) → IsOf self.old r → AreParents r work.old.parents → HasAnswer result → GoesOn self.new work.new }
-        ensures answered { IsTrue G.tells → (r : Repository) (v : View) → IsAt (G.told outside.old) self.old r work.old v →
-            IfSome (reply_to result) (λ reply. Answers (G.told outside.new) (session r work.old v) v (Command.Commit branch.now info) (met_by result) reply self.new work.new) }
-        ensures saved { IsTrue G.tells → (r q : Repository) (v : View) → IsAt (G.told outside.old) self.old r work.old v → (now : Holds self.new (G.told outside.new) q) →
-            OnOk result (IsSaved (image_records now) work.new.tree (next r) v.map) }
-        ensures limits { IsTrue G.tells → (r : Repository) (v : View) → IsAt (G.told outside.old) self.old r work.old v →
-            LimitsSpace (end_of r work.old v branch.now info self.old) result self.old }
-        ensures appends { IsTrue G.tells → (r : Repository) (v : View) → IsAt (G.told outside.old) self.old r work.old v →
-            OnOk result (Appends (records_of r work.old v branch.now info self.old) 1 self.old self.new (G.told outside.old) (G.told outside.new)) }
-        ensures any_moment { IsTrue G.tells → (r : Repository) (v : View) → IsAt (G.told outside.old) self.old r work.old v →
-            Commits r work.old v branch.now info result self.new (G.told outside.old) (G.told outside.new) }
-        ensures records_stay { IsTrue G.tells → HasAnswer result → (r q : Repository) (held : Holds self.old (G.told outside.old) r) (now : Holds self.new (G.told outside.new) q) →
-            RecordsStay (image_records held) (image_records now) }
-        ensures counts { Counts ground_store result (G.counts_of outside.old) (G.counts_of outside.new) }
-        ensures undamaged { IsUndamaged result }
-    {
-        let plan = self.plan(alloc, work, branch, info)?;
-        let name = plan.batch.name();
-        self.enter(
-            name,
-            work.parents.as_slice(),
-            branch,
-            plan.branch,
-            plan.number,
-        )?;
-        durable_step(
-            outside,
-            self.slot.end,
-            plan.batch.bytes(),
-            1 - self.index,
-            &plan.slot,
-        )?;
-        self.index = 1 - self.index;
-        self.space.grow(plan.slot.end);
-        self.slot = plan.slot;
-        put_place(&mut self.places, plan.batch.commit_at());
-        work.tree = Tree::of(plan.number, plan.batch.root());
-        work.parents = plan.parents;
-        work.least = Some(plan.number);
-        Ok(name)
     }
 }

@@ -9,13 +9,11 @@ ghost use Rattle.ip_spec.specs.declared.record.Record.TheVariants as Record;
 ghost use Rattle.ip_image.specs.Standing.{IsServedKind};
 ghost use Rattle.ip_image.specs.Appending.{MayName, renamed};
 ghost use Rattle.ip_store.specs.Changes.{Changes, Appends, HasAnswer, IsUndamaged, LimitsSpace};
-ghost use Rattle.ip_store.specs.Commits.{met_by};
 ghost use Rattle.ip_store.specs.Naming.{branch_reply, removed_reply, AnswersSet, AnswersRemove, without_branch, Renames};
 ghost use Rattle.ip_store.specs.Store.{IsOf, Holds, IsSound, image_records};
 ghost use Rattle.ip_store.specs.Trees.{RecordsStay};
 ghost use Rattle.ip_store.specs.declared.committing.StoreFault.TheVariants as StoreFault;
 
-use crate::committing::met_by;
 use crate::publish::durable_step;
 use crate::walk::name_branch;
 use crate::{Store, StoreFault};
@@ -111,36 +109,15 @@ impl Store {
         ensures counts { Counts ground_store result (G.counts_of outside.old) (G.counts_of outside.new) }
         ensures undamaged { IsUndamaged result }
     {
-        let answer = self.put_branch(alloc, outside, name, number);
-        self.met = met_by(&answer);
-        answer
-    }
-
-    fn put_branch<G: Ground>(
-        &mut self,
-        alloc: Global,
-        outside: &mut G,
-        name: &[u8],
-        number: Number,
-    ) -> Result<(), StoreFault>
-        requires name { IsBranchName name.now }
-        requires tables { (r : Repository) × IsOf self.old r × IsTrue (is_retained r number) }
-        ensures answered { (r : Repository) → IsOf self.old r → IsTrue (is_retained r number) →
-            IfSome (branch_reply result) (AnswersSet r name.now number (met_by result) self.new) }
-        // Files are only touched where there is room for it.
-        ensures begun { (r : Repository) → IsOf self.old r → IsErrOf result StoreFault.Ground → room_for_branch r name.now ≡ Ok tt }
-        ensures limits { LimitsSpace (self.old.slot.end + length (spelling (Record.BranchSet number name.now))) result self.old }
-        ensures appends { IsTrue G.tells → OnOk result (Appends ((self.old.slot.end, Record.BranchSet number name.now) ∷ []) 0 self.old self.new (G.told outside.old) (G.told outside.new)) }
-        ensures any_moment { IsTrue G.tells → (r : Repository) → Holds self.old (G.told outside.old) r → IsTrue (is_retained r number) →
-            Changes r (with_branch r name.now number) result self.new (G.told outside.old) (G.told outside.new) }
-        ensures records_stay { IsTrue G.tells → HasAnswer result → (r q : Repository) (held : Holds self.old (G.told outside.old) r) (now : Holds self.new (G.told outside.new) q) →
-            RecordsStay (image_records held) (image_records now) }
-        ensures counts { Counts ground_store result (G.counts_of outside.old) (G.counts_of outside.new) }
-        ensures undamaged { IsUndamaged result }
-    {
-        self.room_for(name)?;
-        let rec = set_record(alloc, name, number)?;
-        self.append_branch_record(alloc, outside, rec)
+        if let Err(fault) = self.room_for(name) {
+            return self.noted(Err(fault));
+        }
+        let rec = match set_record(alloc, name, number) {
+            Ok(rec) => rec,
+            Err(Memory) => return self.noted(Err(StoreFault::Memory)),
+        };
+        let answer = self.append_branch_record(alloc, outside, rec);
+        self.noted(answer)
     }
 
     /// Takes a branch away. `Ok(false)`: no branch has the name, and nothing was done. Once it is `Ok(true)` it is gone for good. After
@@ -166,37 +143,16 @@ impl Store {
         ensures counts { Counts ground_store result (G.counts_of outside.old) (G.counts_of outside.new) }
         ensures undamaged { IsUndamaged result }
     {
-        let answer = self.take_branch(alloc, outside, name);
-        self.met = met_by(&answer);
-        answer
-    }
-
-    fn take_branch<G: Ground>(
-        &mut self,
-        alloc: Global,
-        outside: &mut G,
-        name: &[u8],
-    ) -> Result<bool, StoreFault>
-        requires name { IsBranchName name.now }
-        requires tables { (r : Repository) × IsOf self.old r }
-        ensures answered { (r : Repository) → IsOf self.old r → IfSome (removed_reply name.now result) (AnswersRemove r name.now (met_by result) self.new) }
-        ensures absent { result ≡ Ok false → outside.new ≡ outside.old }
-        // Files are only touched where there is such a branch.
-        ensures begun { (r : Repository) → IsOf self.old r → IsErrOf result StoreFault.Ground → IsSome (head r name.now) }
-        ensures limits { result ≢ Ok false → LimitsSpace (self.old.slot.end + length (spelling (Record.BranchRemove name.now))) result self.old }
-        ensures appends { IsTrue G.tells → result ≡ Ok true → Appends ((self.old.slot.end, Record.BranchRemove name.now) ∷ []) 0 self.old self.new (G.told outside.old) (G.told outside.new) }
-        ensures any_moment { IsTrue G.tells → (r : Repository) → Holds self.old (G.told outside.old) r →
-            Changes r (without_branch r name.now) result self.new (G.told outside.old) (G.told outside.new) }
-        ensures records_stay { IsTrue G.tells → HasAnswer result → (r q : Repository) (held : Holds self.old (G.told outside.old) r) (now : Holds self.new (G.told outside.new) q) →
-            RecordsStay (image_records held) (image_records now) }
-        ensures counts { Counts ground_store result (G.counts_of outside.old) (G.counts_of outside.new) }
-        ensures undamaged { IsUndamaged result }
-    {
         if self.head(name).is_none() {
-            return Ok(false);
+            return self.noted(Ok(false));
         }
-        let rec = remove_record(alloc, name)?;
-        self.append_branch_record(alloc, outside, rec)?;
-        Ok(true)
+        let rec = match remove_record(alloc, name) {
+            Ok(rec) => rec,
+            Err(Memory) => return self.noted(Err(StoreFault::Memory)),
+        };
+        match self.append_branch_record(alloc, outside, rec) {
+            Ok(()) => self.noted(Ok(true)),
+            Err(fault) => self.noted(Err(fault)),
+        }
     }
 }

@@ -1,39 +1,237 @@
-use Rattle.std.proofs.Common.{sym, subst}
-use Rattle.std.specs.Prelude.{IfSome, OnOk}
-use Rattle.std.proofs.lemmas.Result.{on_ok_weaker}
+use Rattle.std.proofs.Common.{◌≡◌, ◌+◌, ◌-◌, ◌^◌, ◌≤◌, ◌++◌, length, [], ◌∷◌, ℕ, None, rules, refl, sym, ◌∙◌, ap, subst}
+use Rattle.std.specs.Prelude.{Err, IfSome, position}
 use Rattle.ip_spec.specs.declared.command.Command.TheVariants as Command
-use Rattle.ip_spec.specs.Repository.{next}
-use Rattle.ip_store.specs.Commits.{Answers, IsSaved, reply_to}
+use Rattle.ip_spec.specs.Path.{same_bytes}
+use Rattle.ip_spec.specs.Map.{insert}
+use Rattle.ip_spec.specs.Step.{new_commit, with_commit}
+use Rattle.ip_image.specs.declared.slot.Slot.{Slot}
+use Rattle.ip_image.specs.Slot.{IsChunkSize}
+use Rattle.ip_space.specs.SpaceView.{SpaceView, grown}
+use Rattle.ip_store.specs.declared.committing.StoreFault.TheVariants as StoreFault
 use Rattle.ip_store.specs.declared.store.Store.{Store}
+use Rattle.ip_store.specs.Changes.{LimitsSpace, next_slot}
+use Rattle.ip_store.specs.Commits.{Answers, Commits, end_of, repository_after, reply_to, met_by}
+use Rattle.ip_store.specs.Histories.{with_parents}
 use Rattle.ip_store.specs.Work.{session}
-use Rattle.ip_store.proofs.AfterCommit.{same_answers, same_goes_on}
-use Rattle.ip_store.specs.Store.{image_records}
-use Rattle.ip_store.specs.Trees.{RecordsStay}
-use Rattle.ip_store.proofs.Stepping.{in_itself, out_of_itself, same_changes, same_appends, carried}
+use Rattle.ip_store.proofs.Histories.{may_enter}
+use Rattle.ip_store.proofs.Machine.{refused_memory}
+use Rattle.ip_store.proofs.Planning.{err_of}
+use Rattle.ip_store.proofs.Stepping.{itself, same_tables, changes_none, stays_still, same_can_step, same_step}
+use Rattle.ip_store.proofs.AfterCommit.{some_commit, after_tables, after_parents, held_after, list_committed, read_root, further, inside, can_step, stays_committed, made, cut, saved_tree, stored_tree, work_after, answers_refused, answers_made, same_at}
+use Rattle.ip_store.proofs.Tables.{none_named, free}
+use Rattle.ip_store.proofs.Noted.{noted_itself, noted_same, noted_changes, noted_answers, answers_met}
 use Rattle.ip_store.proofs.store.Store.commit.Goals as goal
 
+pub enter-entered-requires-clause-new : goal.enter-entered-requires-clause-new
+enter-entered-requires-clause-new g c =
+    let r = c.requires.tables.0 in
+    let of = c.requires.tables.1 in
+    let is = c.in-Ok.ensures.coming r of in
+    subst (λ h. position (λ n. same_bytes n h) c.args.self.now.names ≡ None) (sym c.name-name.ensures) (free c.args.self.now r of _ (none_named r _ is.new_name))
+
+pub enter-entered-requires-clause-key : goal.enter-entered-requires-clause-key
+enter-entered-requires-clause-key g c = (c.in-Ok.ensures.coming c.requires.tables.0 c.requires.tables.1).same_branch
+
+pub enter-entered-requires-clause-parents : goal.enter-entered-requires-clause-parents
+enter-entered-requires-clause-parents g c = may_enter c.args.self.now c.requires.tables.0 c.requires.tables.1 c.args.work.now.parents _ c.as_slice.ensures c.requires.tables.2.retained
+
+pub grow-requires-clause-further : goal.grow-requires-clause-further
+grow-requires-clause-further g c =
+    let r = c.requires.tables.0 in
+    let of = c.requires.tables.1 in
+    let plan = c.in-Ok.plan in
+    let is = c.in-Ok.ensures.coming r of in
+    subst (λ (s : SpaceView). s.layout.end ≤ plan.slot.end) (sym c.enter-entered.ensures.rest.2)
+    (further r c.args.work.now.parents c.args.branch.now c.args.self.now plan of is (some_commit r c.args.work.now.parents c.args.info plan) refl refl)
+
+pub grow-requires-clause-ends : goal.grow-requires-clause-ends
+grow-requires-clause-ends g c =
+    let r = c.requires.tables.0 in
+    let of = c.requires.tables.1 in
+    let plan = c.in-Ok.plan in
+    inside r c.args.work.now.parents c.args.branch.now c.args.self.now plan of (c.in-Ok.ensures.coming r of) (some_commit r c.args.work.now.parents c.args.info plan) refl refl
+
+pub durable_step-requires-clause-chunk : goal.durable_step-requires-clause-chunk
+durable_step-requires-clause-chunk g c =
+    let of = c.requires.tables.1 in
+    let is = c.in-Ok.ensures.coming c.requires.tables.0 of in
+    subst (λ (s : Slot). IsChunkSize s.chunk) (sym is.slot) of.slot.chunk
+
+pub durable_step-requires-clause-room : goal.durable_step-requires-clause-room
+durable_step-requires-clause-room g c =
+    let is = c.in-Ok.ensures.coming c.requires.tables.0 c.requires.tables.1 in
+    subst (λ (s : Slot). s.end + length c.bytes.result.now ≤ 2 ^ 62) (sym c.enter-entered.ensures.rest.1) (subst (λ bytes. c.args.self.now.slot.end + length bytes ≤ 2 ^ 62) (sym c.bytes.ensures) is.ends)
+
+-- ---- refused
+
+pub returns-in-Err-clause-answered : goal.returns-in-Err-clause-answered
+returns-in-Err-clause-answered g c told r v at =
+    let fault = c.in-Err.fault in
+    noted_answers c.args.self.now c.noted.new.self (Err fault) c.noted.result c.noted.ensures.answer c.noted.ensures.met (g.G.Ground.told c.args.outside.now) (session r c.args.work.now v) v (Command.Commit c.args.branch.now c.args.info) c.args.work.now
+    (answers_refused r c.args.work.now v c.args.branch.now c.args.info fault c.args.self.now (g.G.Ground.told c.args.outside.now) at (c.in-Err.ensures.refused _ r v at.holds.tables at.lawful))
+
+pub returns-in-Err-clause-limits : goal.returns-in-Err-clause-limits
+returns-in-Err-clause-limits g c told r v at =
+    let fault = c.in-Err.fault in
+    subst (λ res. LimitsSpace (end_of r c.args.work.now v c.args.branch.now c.args.info c.args.self.now) res c.args.self.now) (sym c.noted.ensures.answer)
+    (record {
+      space = λ e. c.in-Err.ensures.space _ r v at.holds.tables at.lawful (err_of fault _ e);
+      sequence = λ e. c.in-Err.ensures.sequence _ r v at.holds.tables at.lawful (err_of fault _ e);
+      enough = tt;
+    })
+
+pub returns-in-Err-clause-any_moment : goal.returns-in-Err-clause-any_moment
+returns-in-Err-clause-any_moment g c told r v at =
+    let fault = c.in-Err.fault in
+    let told_now = g.G.Ground.told c.args.outside.now in
+    let after = repository_after r c.args.work.now v c.args.branch.now c.args.info in
+    noted_changes c.args.self.now c.noted.new.self (Err fault) c.noted.result c.noted.ensures.answer c.noted.ensures.met r after told_now told_now
+    (changes_none r after fault c.args.self.now c.args.self.now told_now (itself c.args.self.now) at.holds)
+
+pub returns-in-Err-clause-records_stay : goal.returns-in-Err-clause-records_stay
+returns-in-Err-clause-records_stay g c told has r q held now = stays_still c.args.self.now c.noted.new.self (noted_itself c.args.self.now c.noted.new.self _ c.noted.ensures.met) r q (g.G.Ground.told c.args.outside.now) held now
+
+pub returns-in-Err-clause-tables : goal.returns-in-Err-clause-tables
+returns-in-Err-clause-tables g c r of are has = record { repository = r; tables = same_tables c.args.self.now c.noted.new.self (noted_itself c.args.self.now c.noted.new.self _ c.noted.ensures.met) r of; parents = are }
+
+pub returns-in-Err-entered-clause-answered : goal.returns-in-Err-entered-clause-answered
+returns-in-Err-entered-clause-answered g c told r v at =
+    noted_answers c.enter-entered.new.self c.noted-in-Err-entered.new.self (Err StoreFault.Memory) c.noted-in-Err-entered.result c.noted-in-Err-entered.ensures.answer c.noted-in-Err-entered.ensures.met (g.G.Ground.told c.args.outside.now) (session r c.args.work.now v) v (Command.Commit c.args.branch.now c.args.info) c.args.work.now
+    (answers_refused r c.args.work.now v c.args.branch.now c.args.info StoreFault.Memory c.enter-entered.new.self (g.G.Ground.told c.args.outside.now) (same_at c.args.self.now c.enter-entered.new.self c.in-Err-entered.ensures.err (g.G.Ground.told c.args.outside.now) r c.args.work.now v at)
+    (refused_memory r c.args.work.now v c.args.branch.now c.args.info at.lawful.retained))
+
+pub returns-in-Err-entered-clause-any_moment : goal.returns-in-Err-entered-clause-any_moment
+returns-in-Err-entered-clause-any_moment g c told r v at =
+    let told_now = g.G.Ground.told c.args.outside.now in
+    let after = repository_after r c.args.work.now v c.args.branch.now c.args.info in
+    noted_changes c.enter-entered.new.self c.noted-in-Err-entered.new.self (Err StoreFault.Memory) c.noted-in-Err-entered.result c.noted-in-Err-entered.ensures.answer c.noted-in-Err-entered.ensures.met r after told_now told_now
+    (changes_none r after StoreFault.Memory c.args.self.now c.enter-entered.new.self told_now c.in-Err-entered.ensures.err at.holds)
+
+pub returns-in-Err-entered-clause-records_stay : goal.returns-in-Err-entered-clause-records_stay
+returns-in-Err-entered-clause-records_stay g c told has r q held now =
+    stays_still c.args.self.now c.noted-in-Err-entered.new.self (noted_same c.enter-entered.new.self c.noted-in-Err-entered.new.self _ c.noted-in-Err-entered.ensures.met c.args.self.now c.in-Err-entered.ensures.err) r q (g.G.Ground.told c.args.outside.now) held now
+
+pub returns-in-Err-entered-clause-tables : goal.returns-in-Err-entered-clause-tables
+returns-in-Err-entered-clause-tables g c r of are has = record {
+  repository = r;
+  tables = same_tables c.args.self.now c.noted-in-Err-entered.new.self (noted_same c.enter-entered.new.self c.noted-in-Err-entered.new.self _ c.noted-in-Err-entered.ensures.met c.args.self.now c.in-Err-entered.ensures.err) r of;
+  parents = are;
+}
+
+-- ---- cut short
+
+pub returns-in_err-durable_step-clause-any_moment : goal.returns-in_err-durable_step-clause-any_moment
+returns-in_err-durable_step-clause-any_moment g c told r v at =
+    let is : c.from_residual.result ≡ Err StoreFault.Ground = search rules in
+    let plan = c.in-Ok.plan in
+    let of = at.holds.tables in
+    let can = same_can_step c.enter-entered.new.self.slot.end c.args.self.now.slot.end c.enter-entered.new.self.index c.args.self.now.index plan.slot plan.slot (g.G.Ground.told c.args.outside.now)
+    (ap (λ (s : Slot). s.end) c.enter-entered.ensures.rest.1) c.enter-entered.ensures.rest.0 refl (can_step r c.args.branch.now c.args.self.now plan of (c.in-Ok.ensures.coming r of) (g.G.Ground.told c.args.outside.now) at.holds) in
+    let step = same_step c.enter-entered.new.self.slot.end c.args.self.now.slot.end c.enter-entered.new.self.index c.args.self.now.index c.bytes.result.now plan.batch.bytes.items plan.slot plan.slot _ (g.G.Ground.told c.args.outside.now) (g.G.Ground.told c.durable_step.new.outside)
+    (ap (λ (s : Slot). s.end) c.enter-entered.ensures.rest.1) c.enter-entered.ensures.rest.0 c.bytes.ensures refl (c.durable_step.ensures.does told can) in
+    let store : Store = record { index = c.enter-entered.new.self.index; slot = c.enter-entered.new.self.slot; names = c.enter-entered.new.self.names; branches = c.enter-entered.new.self.branches; history = c.enter-entered.new.self.history; places = c.enter-entered.new.self.places; space = c.enter-entered.new.self.space; met = c.nothing_met-self.result } in
+    subst (λ res. Commits r c.args.work.now v c.args.branch.now c.args.info res store (g.G.Ground.told c.args.outside.now) (g.G.Ground.told c.durable_step.new.outside)) (sym is)
+    (cut r c.args.work.now v c.args.branch.now c.args.info c.args.self.now plan (c.in-Ok.ensures.coming r of) (c.in-Ok.ensures.planned _ r v of at.lawful) (g.G.Ground.told c.args.outside.now) at (g.G.Ground.told c.durable_step.new.outside) store _ step)
+
+pub returns-in_err-durable_step-clause-limits : goal.returns-in_err-durable_step-clause-limits
+returns-in_err-durable_step-clause-limits g c told r v at =
+    let is : c.from_residual.result ≡ Err StoreFault.Ground = search rules in
+    subst (λ res. LimitsSpace (end_of r c.args.work.now v c.args.branch.now c.args.info c.args.self.now) res c.args.self.now) (sym is) (record { space = λ e. absurd (cc (e)); sequence = λ e. absurd (cc (e)); enough = tt })
+
+-- ---- made
+
 pub returns-clause-tables : goal.returns-clause-tables
-returns-clause-tables g c r of are has = same_goes_on c.commit_work-answer.new.self _ (in_itself c.commit_work-answer.new.self c.met_by-self.result) _ (c.commit_work-answer.ensures.tables r of are has)
+returns-clause-tables g c r of are has =
+    let plan = c.in-Ok.plan in
+    let is = c.in-Ok.ensures.coming r of in
+    let one = some_commit r c.args.work.now.parents c.args.info plan in
+    record {
+      repository = with_commit r one c.args.branch.now;
+      tables = after_tables r c.args.work.now.parents c.args.branch.now c.args.self.now plan of is one refl refl _ refl (ap (λ (i : ℕ). 1 - i) c.enter-entered.ensures.rest.0) (c.in_default.ensures.ok.0 ∙ ap (λ h. c.args.self.now.names ++ h ∷ []) c.name-name.ensures) (c.in_default.ensures.ok.1 ∙ ap (λ b. insert c.args.self.now.branches b plan.number) (sym is.same_branch)) (may_enter c.args.self.now r of c.args.work.now.parents c.args.work.now.parents refl are.retained) (c.in_default.ensures.history ∙ ap (with_parents c.args.self.now.history) c.as_slice.ensures) (c.put_place.ensures ∙ (λ i. c.enter-entered.ensures.places i ++ c.commit_at.ensures i ∷ [])) (c.grow.ensures ∙ ap (λ (s : SpaceView). grown s plan.slot.end) c.enter-entered.ensures.rest.2);
+      parents = after_parents r c.args.work.now.parents c.args.branch.now c.args.self.now plan of is one refl refl plan.parents is.parents;
+    }
+
+pub returns-clause-any_moment : goal.returns-clause-any_moment
+returns-clause-any_moment g c told r v at =
+    let plan = c.in-Ok.plan in
+    let of = at.holds.tables in
+    let are = at.lawful.parents in
+    let is = c.in-Ok.ensures.coming r of in
+    let planned = c.in-Ok.ensures.planned _ r v of at.lawful in
+    let one = new_commit r v.map c.args.work.now.parents c.args.info in
+    let placed = c.put_place.ensures ∙ (λ i. c.enter-entered.ensures.places i ++ c.commit_at.ensures i ∷ []) in
+    let can = same_can_step c.enter-entered.new.self.slot.end c.args.self.now.slot.end c.enter-entered.new.self.index c.args.self.now.index plan.slot plan.slot (g.G.Ground.told c.args.outside.now)
+    (ap (λ (s : Slot). s.end) c.enter-entered.ensures.rest.1) c.enter-entered.ensures.rest.0 refl (can_step r c.args.branch.now c.args.self.now plan of (c.in-Ok.ensures.coming r of) (g.G.Ground.told c.args.outside.now) at.holds) in
+    let step = same_step c.enter-entered.new.self.slot.end c.args.self.now.slot.end c.enter-entered.new.self.index c.args.self.now.index c.bytes.result.now plan.batch.bytes.items plan.slot plan.slot _ (g.G.Ground.told c.args.outside.now) (g.G.Ground.told c.durable_step.new.outside)
+    (ap (λ (s : Slot). s.end) c.enter-entered.ensures.rest.1) c.enter-entered.ensures.rest.0 c.bytes.ensures refl (c.in_ok-durable_step.ensures.does told can) in
+    made r c.args.work.now v c.args.branch.now c.args.info c.args.self.now plan is planned (g.G.Ground.told c.args.outside.now) at (g.G.Ground.told c.durable_step.new.outside) _ refl (ap (λ (i : ℕ). 1 - i) c.enter-entered.ensures.rest.0)
+    (after_tables r c.args.work.now.parents c.args.branch.now c.args.self.now plan of is one (sym planned.name) refl _ refl (ap (λ (i : ℕ). 1 - i) c.enter-entered.ensures.rest.0) (c.in_default.ensures.ok.0 ∙ ap (λ h. c.args.self.now.names ++ h ∷ []) c.name-name.ensures) (c.in_default.ensures.ok.1 ∙ ap (λ b. insert c.args.self.now.branches b plan.number) (sym is.same_branch)) (may_enter c.args.self.now r of c.args.work.now.parents c.args.work.now.parents refl are.retained) (c.in_default.ensures.history ∙ ap (with_parents c.args.self.now.history) c.as_slice.ensures) (c.put_place.ensures ∙ (λ i. c.enter-entered.ensures.places i ++ c.commit_at.ensures i ∷ [])) (c.grow.ensures ∙ ap (λ (s : SpaceView). grown s plan.slot.end) c.enter-entered.ensures.rest.2)) placed (c.grow.ensures ∙ ap (λ (s : SpaceView). grown s plan.slot.end) c.enter-entered.ensures.rest.2) c.name-name.result step
+
+pub returns-clause-limits : goal.returns-clause-limits
+returns-clause-limits g c told r v at =
+    let of = at.holds.tables in
+    let is = c.in-Ok.ensures.coming r of in
+    let planned = c.in-Ok.ensures.planned _ r v of at.lawful in
+    record {
+      space = λ e. absurd (cc (e));
+      sequence = λ e. absurd (cc (e));
+      enough = (subst (λ (n : ℕ). n ≤ 2 ^ 62) (sym planned.behind) is.ends, is.sequence);
+    }
 
 pub returns-clause-answered : goal.returns-clause-answered
 returns-clause-answered g c told r v at =
-    let store : Store = record { index = c.commit_work-answer.new.self.index; slot = c.commit_work-answer.new.self.slot; names = c.commit_work-answer.new.self.names; branches = c.commit_work-answer.new.self.branches; history = c.commit_work-answer.new.self.history; places = c.commit_work-answer.new.self.places; space = c.commit_work-answer.new.self.space; met = c.met_by-self.result } in
-    subst (λ met. IfSome (reply_to c.commit_work-answer.result) (λ reply. Answers (g.G.Ground.told c.commit_work-answer.new.outside) (session r c.args.work.now v) v (Command.Commit c.args.branch.now c.args.info) met reply store c.commit_work-answer.new.work)) (sym c.met_by-self.ensures)
-    (same_answers c.commit_work-answer.new.self store (in_itself c.commit_work-answer.new.self c.met_by-self.result) _ _ _ _ _ _ _ (c.commit_work-answer.ensures.answered told r v at))
-
-pub returns-clause-any_moment : goal.returns-clause-any_moment
-returns-clause-any_moment g c told r v at = same_changes c.commit_work-answer.new.self _ (in_itself c.commit_work-answer.new.self c.met_by-self.result) r _ _ _ _ (c.commit_work-answer.ensures.any_moment told r v at)
+    let plan = c.in-Ok.plan in
+    let of = at.holds.tables in
+    let is = c.in-Ok.ensures.coming r of in
+    let planned = c.in-Ok.ensures.planned _ r v of at.lawful in
+    let can = same_can_step c.enter-entered.new.self.slot.end c.args.self.now.slot.end c.enter-entered.new.self.index c.args.self.now.index plan.slot plan.slot (g.G.Ground.told c.args.outside.now)
+    (ap (λ (s : Slot). s.end) c.enter-entered.ensures.rest.1) c.enter-entered.ensures.rest.0 refl (can_step r c.args.branch.now c.args.self.now plan of (c.in-Ok.ensures.coming r of) (g.G.Ground.told c.args.outside.now) at.holds) in
+    let step = same_step c.enter-entered.new.self.slot.end c.args.self.now.slot.end c.enter-entered.new.self.index c.args.self.now.index c.bytes.result.now plan.batch.bytes.items plan.slot plan.slot _ (g.G.Ground.told c.args.outside.now) (g.G.Ground.told c.durable_step.new.outside)
+    (ap (λ (s : Slot). s.end) c.enter-entered.ensures.rest.1) c.enter-entered.ensures.rest.0 c.bytes.ensures refl (c.in_ok-durable_step.ensures.does told can) in
+    let done = returns-clause-any_moment g c told r v at in
+    let holds = held_after r c.args.work.now v c.args.branch.now c.args.info c.args.self.now plan is planned (g.G.Ground.told c.args.outside.now) at (g.G.Ground.told c.durable_step.new.outside) _ _ done in
+    answers_met _ _ _ _ _ _ _ _ _ c.nothing_met-self.ensures
+    (answers_made r c.args.work.now _ v _ c.args.branch.now c.args.info c.args.self.now _ plan c.name-name.result (g.G.Ground.told c.durable_step.new.outside) at.lawful.retained is planned c.name-name.ensures refl refl refl
+    (record {
+      holds = holds;
+      lawful = work_after r c.args.work.now v c.args.branch.now c.args.info c.args.self.now plan is planned (g.G.Ground.told c.args.outside.now) at (g.G.Ground.told c.durable_step.new.outside) _ step _ holds _ (read_root plan.number c.root.result plan.batch.root c.of.result c.root.ensures c.of.ensures) refl refl refl;
+    })
+    (stored_tree r c.args.work.now v c.args.branch.now c.args.info c.args.self.now plan is planned (g.G.Ground.told c.args.outside.now) at (g.G.Ground.told c.durable_step.new.outside) _ step _ holds))
 
 pub returns-clause-saved : goal.returns-clause-saved
 returns-clause-saved g c told r q v at now =
-    carried c.commit_work-answer.new.self _ (out_of_itself c.commit_work-answer.new.self c.met_by-self.result) (g.G.Ground.told c.commit_work-answer.new.outside) q
-    (λ records. OnOk c.commit_work-answer.result (IsSaved records c.commit_work-answer.new.work.tree (next r) v.map)) (λ mid. c.commit_work-answer.ensures.saved told r q v at mid) now
+    let plan = c.in-Ok.plan in
+    let of = at.holds.tables in
+    let is = c.in-Ok.ensures.coming r of in
+    let planned = c.in-Ok.ensures.planned _ r v of at.lawful in
+    let can = same_can_step c.enter-entered.new.self.slot.end c.args.self.now.slot.end c.enter-entered.new.self.index c.args.self.now.index plan.slot plan.slot (g.G.Ground.told c.args.outside.now)
+    (ap (λ (s : Slot). s.end) c.enter-entered.ensures.rest.1) c.enter-entered.ensures.rest.0 refl (can_step r c.args.branch.now c.args.self.now plan of (c.in-Ok.ensures.coming r of) (g.G.Ground.told c.args.outside.now) at.holds) in
+    let step = same_step c.enter-entered.new.self.slot.end c.args.self.now.slot.end c.enter-entered.new.self.index c.args.self.now.index c.bytes.result.now plan.batch.bytes.items plan.slot plan.slot _ (g.G.Ground.told c.args.outside.now) (g.G.Ground.told c.durable_step.new.outside)
+    (ap (λ (s : Slot). s.end) c.enter-entered.ensures.rest.1) c.enter-entered.ensures.rest.0 c.bytes.ensures refl (c.in_ok-durable_step.ensures.does told can) in
+    (plan.batch.root.at, saved_tree r c.args.work.now v c.args.branch.now c.args.info c.args.self.now plan is planned (g.G.Ground.told c.args.outside.now) at (g.G.Ground.told c.durable_step.new.outside) _ step q now _ (read_root plan.number c.root.result plan.batch.root c.of.result c.root.ensures c.of.ensures))
 
 pub returns-clause-records_stay : goal.returns-clause-records_stay
 returns-clause-records_stay g c told has r q held now =
-    carried c.commit_work-answer.new.self _ (out_of_itself c.commit_work-answer.new.self c.met_by-self.result) (g.G.Ground.told c.commit_work-answer.new.outside) q
-    (λ records. RecordsStay (image_records held) records) (λ mid. c.commit_work-answer.ensures.records_stay told has r q held mid) now
+    let plan = c.in-Ok.plan in
+    let of = held.tables in
+    let is = c.in-Ok.ensures.coming r of in
+    let can = same_can_step c.enter-entered.new.self.slot.end c.args.self.now.slot.end c.enter-entered.new.self.index c.args.self.now.index plan.slot plan.slot (g.G.Ground.told c.args.outside.now)
+    (ap (λ (s : Slot). s.end) c.enter-entered.ensures.rest.1) c.enter-entered.ensures.rest.0 refl (can_step r c.args.branch.now c.args.self.now plan of is (g.G.Ground.told c.args.outside.now) held) in
+    let step = same_step c.enter-entered.new.self.slot.end c.args.self.now.slot.end c.enter-entered.new.self.index c.args.self.now.index c.bytes.result.now plan.batch.bytes.items plan.slot plan.slot _ (g.G.Ground.told c.args.outside.now) (g.G.Ground.told c.durable_step.new.outside)
+    (ap (λ (s : Slot). s.end) c.enter-entered.ensures.rest.1) c.enter-entered.ensures.rest.0 c.bytes.ensures refl (c.in_ok-durable_step.ensures.does told can) in
+    stays_committed r c.args.branch.now c.args.self.now plan of is (g.G.Ground.told c.args.outside.now) held (g.G.Ground.told c.durable_step.new.outside) step _ q now
 
 pub returns-clause-appends : goal.returns-clause-appends
 returns-clause-appends g c told r v at =
-    on_ok_weaker c.commit_work-answer.result (same_appends _ 1 c.args.self.now c.commit_work-answer.new.self _ _ _ (in_itself c.commit_work-answer.new.self c.met_by-self.result) (out_of_itself c.commit_work-answer.new.self c.met_by-self.result)) (c.commit_work-answer.ensures.appends told r v at)
+    let plan = c.in-Ok.plan in
+    let of = at.holds.tables in
+    let is = c.in-Ok.ensures.coming r of in
+    let planned = c.in-Ok.ensures.planned _ r v of at.lawful in
+    record {
+      slot = is.slot ∙ ap (λ bytes. next_slot c.args.self.now.slot (length bytes) 1) planned.bytes;
+      records = λ r' q before after. list_committed r c.args.work.now v c.args.branch.now c.args.info c.args.self.now plan is planned (g.G.Ground.told c.args.outside.now) at (g.G.Ground.told c.durable_step.new.outside) _
+          (let can = same_can_step c.enter-entered.new.self.slot.end c.args.self.now.slot.end c.enter-entered.new.self.index c.args.self.now.index plan.slot plan.slot (g.G.Ground.told c.args.outside.now)
+          (ap (λ (s : Slot). s.end) c.enter-entered.ensures.rest.1) c.enter-entered.ensures.rest.0 refl (can_step r c.args.branch.now c.args.self.now plan of is (g.G.Ground.told c.args.outside.now) at.holds) in
+          same_step c.enter-entered.new.self.slot.end c.args.self.now.slot.end c.enter-entered.new.self.index c.args.self.now.index c.bytes.result.now plan.batch.bytes.items plan.slot plan.slot _ (g.G.Ground.told c.args.outside.now) (g.G.Ground.told c.durable_step.new.outside)
+          (ap (λ (s : Slot). s.end) c.enter-entered.ensures.rest.1) c.enter-entered.ensures.rest.0 c.bytes.ensures refl (c.in_ok-durable_step.ensures.does told can)) r' q before after;
+    }

@@ -1,27 +1,113 @@
-use Rattle.std.proofs.Common.{sym, subst}
-use Rattle.std.specs.Prelude.{IfSome}
-use Rattle.ip_store.specs.declared.store.Store.{Store}
-use Rattle.ip_store.specs.Naming.{removed_reply, AnswersRemove}
-use Rattle.ip_store.specs.Store.{image_records}
-use Rattle.ip_store.specs.Trees.{RecordsStay}
-use Rattle.ip_store.proofs.Stepping.{in_itself, out_of_itself, same_changes, same_appends, carried}
-use Rattle.ip_store.proofs.BranchTurns.{same_removed}
+use Rattle.std.proofs.Common.{◌≡◌, rules, true, false, Bool, None, sym, subst, ◌∙◌}
+use Rattle.std.specs.Prelude.{Ok, Err, [], ◌∷◌}
+use Rattle.ip_spec.specs.Repository.{head}
+use Rattle.ip_spec.specs.Record.{Fits}
+use Rattle.ip_image.specs.Standing.{IsServedKind}
+use Rattle.ip_image.specs.Appending.{MayName, renamed}
+use Rattle.ip_store.specs.declared.committing.StoreFault.TheVariants as StoreFault
+use Rattle.ip_store.specs.Changes.{Changes, Appends}
+use Rattle.ip_store.specs.Naming.{Renames, without_branch}
+use Rattle.ip_store.proofs.Stepping.{itself, changes_none, stays_still, changes_still, same_appends, with_value, with_answer, with_fault}
+use Rattle.ip_store.proofs.BranchTurns.{none_in, some_in, remove_none, remove_memory, remove_done, remove_cut, remove_fits, absent_same}
+use Rattle.ip_store.proofs.Noted.{noted_itself, noted_back, noted_changes, noted_stays, noted_removed}
 use Rattle.ip_store.proofs.store.Store.remove_branch.Goals as goal
 
-pub returns-clause-answered : goal.returns-clause-answered
-returns-clause-answered g c r of =
-    let store : Store = record { index = c.take_branch-answer.new.self.index; slot = c.take_branch-answer.new.self.slot; names = c.take_branch-answer.new.self.names; branches = c.take_branch-answer.new.self.branches; history = c.take_branch-answer.new.self.history; places = c.take_branch-answer.new.self.places; space = c.take_branch-answer.new.self.space; met = c.met_by-self.result } in
-    subst (λ met. IfSome (removed_reply c.args.name.now c.take_branch-answer.result) (AnswersRemove r c.args.name.now met store)) (sym c.met_by-self.ensures)
-    (same_removed c.take_branch-answer.new.self store (in_itself c.take_branch-answer.new.self c.met_by-self.result) r c.args.name.now _ _ (c.take_branch-answer.ensures.answered r of))
+-- ---- there is none
 
-pub returns-clause-any_moment : goal.returns-clause-any_moment
-returns-clause-any_moment g c told r held = same_changes c.take_branch-answer.new.self _ (in_itself c.take_branch-answer.new.self c.met_by-self.result) r _ _ _ _ (c.take_branch-answer.ensures.any_moment told r held)
+pub returns-then-is_none-clause-answered : goal.returns-then-is_none-clause-answered
+returns-then-is_none-clause-answered g c r of =
+    let none : head r c.args.name.now ≡ None = sym (c.head.ensures r of) ∙ none_in c.head.result (search rules) in
+    noted_removed c.args.self.now c.noted.new.self (Ok false) c.noted.result c.noted.ensures.answer c.noted.ensures.met r c.args.name.now (remove_none r c.args.name.now c.args.self.now of none)
 
-pub returns-clause-records_stay : goal.returns-clause-records_stay
-returns-clause-records_stay g c told has r q held now =
-    carried c.take_branch-answer.new.self _ (out_of_itself c.take_branch-answer.new.self c.met_by-self.result) (g.G.Ground.told c.take_branch-answer.new.outside) q
-    (λ records. RecordsStay (image_records held) records) (λ mid. c.take_branch-answer.ensures.records_stay told has r q held mid) now
+pub returns-then-is_none-clause-any_moment : goal.returns-then-is_none-clause-any_moment
+returns-then-is_none-clause-any_moment g c told r held =
+    let none : head r c.args.name.now ≡ None = sym (c.head.ensures r held.tables) ∙ none_in c.head.result (search rules) in
+    let told_now = g.G.Ground.told c.args.outside.now in
+    noted_changes c.args.self.now c.noted.new.self (Ok false) c.noted.result c.noted.ensures.answer c.noted.ensures.met r (without_branch r c.args.name.now) told_now told_now
+    (subst (λ q. Changes {A = Bool} r q (Ok false) c.args.self.now told_now told_now) (sym (absent_same r c.args.name.now none))
+    (changes_still false r c.args.self.now told_now held))
 
-pub returns-clause-appends : goal.returns-clause-appends
-returns-clause-appends g c told done =
-    same_appends _ 0 c.args.self.now c.take_branch-answer.new.self _ _ _ (in_itself c.take_branch-answer.new.self c.met_by-self.result) (out_of_itself c.take_branch-answer.new.self c.met_by-self.result) (c.take_branch-answer.ensures.appends told done)
+pub returns-then-is_none-clause-records_stay : goal.returns-then-is_none-clause-records_stay
+returns-then-is_none-clause-records_stay g c told has r q held now = stays_still c.args.self.now c.noted.new.self (noted_itself c.args.self.now c.noted.new.self _ c.noted.ensures.met) r q (g.G.Ground.told c.args.outside.now) held now
+
+-- ---- the record's bytes could not be taken
+
+pub returns-in-Err-clause-answered : goal.returns-in-Err-clause-answered
+returns-in-Err-clause-answered g c r of =
+    noted_removed c.args.self.now c.noted-in-Err.new.self (Err StoreFault.Memory) c.noted-in-Err.result c.noted-in-Err.ensures.answer c.noted-in-Err.ensures.met r c.args.name.now (remove_memory r c.args.name.now c.args.self.now of)
+
+pub returns-in-Err-clause-any_moment : goal.returns-in-Err-clause-any_moment
+returns-in-Err-clause-any_moment g c told r held =
+    let told_now = g.G.Ground.told c.args.outside.now in
+    noted_changes c.args.self.now c.noted-in-Err.new.self (Err StoreFault.Memory) c.noted-in-Err.result c.noted-in-Err.ensures.answer c.noted-in-Err.ensures.met r (without_branch r c.args.name.now) told_now told_now
+    (changes_none r (without_branch r c.args.name.now) StoreFault.Memory c.args.self.now c.args.self.now told_now (itself c.args.self.now) held)
+
+pub returns-in-Err-clause-records_stay : goal.returns-in-Err-clause-records_stay
+returns-in-Err-clause-records_stay g c told has r q held now = stays_still c.args.self.now c.noted-in-Err.new.self (noted_itself c.args.self.now c.noted-in-Err.new.self _ c.noted-in-Err.ensures.met) r q (g.G.Ground.told c.args.outside.now) held now
+
+-- ---- the record is appended
+
+pub append_branch_record-requires-clause-tables : goal.append_branch_record-requires-clause-tables
+append_branch_record-requires-clause-tables g c = (c.requires.tables.0, c.requires.tables.1, subst (MayName c.requires.tables.0) (sym c.in-Ok.ensures) tt)
+
+pub append_branch_record-requires-clause-served : goal.append_branch_record-requires-clause-served
+append_branch_record-requires-clause-served g c = subst IsServedKind (sym c.in-Ok.ensures) tt
+
+pub append_branch_record-requires-clause-fits : goal.append_branch_record-requires-clause-fits
+append_branch_record-requires-clause-fits g c = subst (Fits 1) (sym c.in-Ok.ensures) (remove_fits c.requires.tables.0 c.args.name.now c.requires.name)
+
+pub returns-in-Ok-append_branch_record-clause-answered : goal.returns-in-Ok-append_branch_record-clause-answered
+returns-in-Ok-append_branch_record-clause-answered g c r of =
+    let there = some_in c.head.result (search rules) in
+    let store = c.append_branch_record.new.self in
+    noted_removed store c.noted-in-Ok-append_branch_record.new.self (Ok true) c.noted-in-Ok-append_branch_record.result c.noted-in-Ok-append_branch_record.ensures.answer c.noted-in-Ok-append_branch_record.ensures.met r c.args.name.now
+    (remove_done r c.args.name.now store there.0 (sym (c.head.ensures r of) ∙ there.1)
+    (subst (λ x. Renames r x (Ok tt) store) c.in-Ok.ensures (c.in-Ok-append_branch_record.ensures.tables r of (subst (MayName r) (sym c.in-Ok.ensures) tt))))
+
+pub returns-in-Ok-append_branch_record-clause-any_moment : goal.returns-in-Ok-append_branch_record-clause-any_moment
+returns-in-Ok-append_branch_record-clause-any_moment g c told r held =
+    let store = c.append_branch_record.new.self in
+    let before = g.G.Ground.told c.args.outside.now in
+    let after = g.G.Ground.told c.append_branch_record.new.outside in
+    noted_changes store c.noted-in-Ok-append_branch_record.new.self (Ok true) c.noted-in-Ok-append_branch_record.result c.noted-in-Ok-append_branch_record.ensures.answer c.noted-in-Ok-append_branch_record.ensures.met r (without_branch r c.args.name.now) before after
+    (with_value tt true r (without_branch r c.args.name.now) store before after
+    (subst (λ x. Changes {A = Unit {0}} r (renamed r x) (Ok tt) store before after) c.in-Ok.ensures
+    (c.in-Ok-append_branch_record.ensures.any_moment told r held (subst (MayName r) (sym c.in-Ok.ensures) tt))))
+
+pub returns-in-Ok-append_branch_record-clause-records_stay : goal.returns-in-Ok-append_branch_record-clause-records_stay
+returns-in-Ok-append_branch_record-clause-records_stay g c told has r q held now =
+    noted_stays c.append_branch_record.new.self c.noted-in-Ok-append_branch_record.new.self (Ok true) c.noted-in-Ok-append_branch_record.result c.noted-in-Ok-append_branch_record.ensures.answer c.noted-in-Ok-append_branch_record.ensures.met (g.G.Ground.told c.append_branch_record.new.outside) q _
+    (λ answered mid. c.in-Ok-append_branch_record.ensures.records_stay told tt r q held mid) has now
+
+pub returns-in-Ok-append_branch_record-clause-appends : goal.returns-in-Ok-append_branch_record-clause-appends
+returns-in-Ok-append_branch_record-clause-appends g c told done =
+    let store = c.append_branch_record.new.self in
+    same_appends _ 0 c.args.self.now store c.noted-in-Ok-append_branch_record.new.self _ _ (noted_itself store c.noted-in-Ok-append_branch_record.new.self _ c.noted-in-Ok-append_branch_record.ensures.met) (noted_back store c.noted-in-Ok-append_branch_record.new.self _ c.noted-in-Ok-append_branch_record.ensures.met)
+    (subst (λ x. Appends ((c.args.self.now.slot.end, x) ∷ []) 0 c.args.self.now store (g.G.Ground.told c.args.outside.now) (g.G.Ground.told c.append_branch_record.new.outside)) c.in-Ok.ensures (c.in-Ok-append_branch_record.ensures.appends told))
+
+-- ---- a limit or a fault came
+
+pub returns-in-Err-append_branch_record-clause-answered : goal.returns-in-Err-append_branch_record-clause-answered
+returns-in-Err-append_branch_record-clause-answered g c r of =
+    let fault = c.in-Err-append_branch_record.fault in
+    let there = some_in c.head.result (search rules) in
+    let store = c.append_branch_record.new.self in
+    noted_removed store c.noted-in-Err-append_branch_record.new.self (Err fault) c.noted-in-Err-append_branch_record.result c.noted-in-Err-append_branch_record.ensures.answer c.noted-in-Err-append_branch_record.ensures.met r c.args.name.now
+    (remove_cut r c.args.name.now store there.0 fault (sym (c.head.ensures r of) ∙ there.1)
+    (subst (λ x. Renames r x (Err fault) store) c.in-Ok.ensures (c.in-Err-append_branch_record.ensures.tables r of (subst (MayName r) (sym c.in-Ok.ensures) tt))))
+
+pub returns-in-Err-append_branch_record-clause-any_moment : goal.returns-in-Err-append_branch_record-clause-any_moment
+returns-in-Err-append_branch_record-clause-any_moment g c told r held =
+    let fault = c.in-Err-append_branch_record.fault in
+    let store = c.append_branch_record.new.self in
+    let before = g.G.Ground.told c.args.outside.now in
+    let after = g.G.Ground.told c.append_branch_record.new.outside in
+    noted_changes store c.noted-in-Err-append_branch_record.new.self (Err fault) c.noted-in-Err-append_branch_record.result c.noted-in-Err-append_branch_record.ensures.answer c.noted-in-Err-append_branch_record.ensures.met r (without_branch r c.args.name.now) before after
+    (with_fault fault r (without_branch r c.args.name.now) store before after
+    (subst (λ x. Changes {A = Unit {0}} r (renamed r x) (Err fault) store before after) c.in-Ok.ensures
+    (c.in-Err-append_branch_record.ensures.any_moment told r held (subst (MayName r) (sym c.in-Ok.ensures) tt))))
+
+pub returns-in-Err-append_branch_record-clause-records_stay : goal.returns-in-Err-append_branch_record-clause-records_stay
+returns-in-Err-append_branch_record-clause-records_stay g c told has r q held now =
+    noted_stays c.append_branch_record.new.self c.noted-in-Err-append_branch_record.new.self (Err c.in-Err-append_branch_record.fault) c.noted-in-Err-append_branch_record.result c.noted-in-Err-append_branch_record.ensures.answer c.noted-in-Err-append_branch_record.ensures.met (g.G.Ground.told c.append_branch_record.new.outside) q _
+    (λ answered mid. c.in-Err-append_branch_record.ensures.records_stay told (with_answer (Unit {0}) Bool c.in-Err-append_branch_record.fault answered) r q held mid) has now

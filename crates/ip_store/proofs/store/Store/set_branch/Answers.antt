@@ -1,28 +1,92 @@
-use Rattle.std.proofs.Common.{sym, subst}
-use Rattle.std.specs.Prelude.{IfSome}
-use Rattle.std.proofs.lemmas.Result.{on_ok_weaker}
-use Rattle.ip_store.specs.declared.store.Store.{Store}
-use Rattle.ip_store.specs.Naming.{branch_reply, AnswersSet}
-use Rattle.ip_store.specs.Store.{image_records}
-use Rattle.ip_store.specs.Trees.{RecordsStay}
-use Rattle.ip_store.proofs.Stepping.{in_itself, out_of_itself, same_changes, same_appends, carried}
-use Rattle.ip_store.proofs.BranchTurns.{same_set}
+use Rattle.std.proofs.Common.{◌≡◌, rules, sym, subst}
+use Rattle.std.specs.Prelude.{Ok, Err, [], ◌∷◌, IfSome, OnOk}
+use Rattle.ip_spec.specs.Record.{Fits}
+use Rattle.ip_spec.specs.Step.{room_for_branch, with_branch}
+use Rattle.ip_image.specs.Standing.{IsServedKind}
+use Rattle.ip_image.specs.Appending.{MayName, renamed}
+use Rattle.ip_store.specs.declared.committing.StoreFault.TheVariants as StoreFault
+use Rattle.ip_store.specs.Changes.{Changes, Appends}
+use Rattle.ip_store.specs.Commits.{refusal}
+use Rattle.ip_store.specs.Naming.{Renames}
+use Rattle.ip_store.proofs.Stepping.{itself, changes_none, stays_still}
+use Rattle.ip_store.proofs.BranchTurns.{set_refused, set_memory, set_answers, set_may, set_fits}
+use Rattle.ip_store.proofs.Noted.{noted_itself, noted_changes, noted_stays, noted_appends, noted_set}
 use Rattle.ip_store.proofs.store.Store.set_branch.Goals as goal
+
+-- ---- there is no room for one more
+
+pub returns-in-Err-clause-answered : goal.returns-in-Err-clause-answered
+returns-in-Err-clause-answered g c r of retained =
+    let fault = c.in-Err.fault in
+    let full : room_for_branch r c.args.name.now ≡ Err (refusal fault) = search rules in
+    noted_set c.args.self.now c.noted.new.self (Err fault) c.noted.result c.noted.ensures.answer c.noted.ensures.met r c.args.name.now c.args.number (set_refused r c.args.name.now c.args.number c.args.self.now fault full of)
+
+pub returns-in-Err-clause-any_moment : goal.returns-in-Err-clause-any_moment
+returns-in-Err-clause-any_moment g c told r held retained =
+    let told_now = g.G.Ground.told c.args.outside.now in
+    noted_changes c.args.self.now c.noted.new.self (Err c.in-Err.fault) c.noted.result c.noted.ensures.answer c.noted.ensures.met r (with_branch r c.args.name.now c.args.number) told_now told_now
+    (changes_none r (with_branch r c.args.name.now c.args.number) c.in-Err.fault c.args.self.now c.args.self.now told_now (itself c.args.self.now) held)
+
+pub returns-in-Err-clause-records_stay : goal.returns-in-Err-clause-records_stay
+returns-in-Err-clause-records_stay g c told has r q held now = stays_still c.args.self.now c.noted.new.self (noted_itself c.args.self.now c.noted.new.self _ c.noted.ensures.met) r q (g.G.Ground.told c.args.outside.now) held now
+
+-- ---- the record's bytes could not be taken
+
+pub returns-in-Err-set_record-clause-answered : goal.returns-in-Err-set_record-clause-answered
+returns-in-Err-set_record-clause-answered g c r of retained =
+    noted_set c.args.self.now c.noted-in-Err-set_record.new.self (Err StoreFault.Memory) c.noted-in-Err-set_record.result c.noted-in-Err-set_record.ensures.answer c.noted-in-Err-set_record.ensures.met r c.args.name.now c.args.number (set_memory r c.args.name.now c.args.number c.args.self.now of)
+
+pub returns-in-Err-set_record-clause-any_moment : goal.returns-in-Err-set_record-clause-any_moment
+returns-in-Err-set_record-clause-any_moment g c told r held retained =
+    let told_now = g.G.Ground.told c.args.outside.now in
+    noted_changes c.args.self.now c.noted-in-Err-set_record.new.self (Err StoreFault.Memory) c.noted-in-Err-set_record.result c.noted-in-Err-set_record.ensures.answer c.noted-in-Err-set_record.ensures.met r (with_branch r c.args.name.now c.args.number) told_now told_now
+    (changes_none r (with_branch r c.args.name.now c.args.number) StoreFault.Memory c.args.self.now c.args.self.now told_now (itself c.args.self.now) held)
+
+pub returns-in-Err-set_record-clause-records_stay : goal.returns-in-Err-set_record-clause-records_stay
+returns-in-Err-set_record-clause-records_stay g c told has r q held now = stays_still c.args.self.now c.noted-in-Err-set_record.new.self (noted_itself c.args.self.now c.noted-in-Err-set_record.new.self _ c.noted-in-Err-set_record.ensures.met) r q (g.G.Ground.told c.args.outside.now) held now
+
+-- ---- the record is appended, or a limit or a fault came
+
+pub append_branch_record-answer-requires-clause-tables : goal.append_branch_record-answer-requires-clause-tables
+append_branch_record-answer-requires-clause-tables g c =
+    let r = c.requires.tables.0 in
+    let of = c.requires.tables.1 in
+    let room : room_for_branch r c.args.name.now ≡ Ok tt = search rules in
+    (r, of, subst (MayName r) (sym c.in-Ok.ensures) (set_may r c.args.name.now c.args.number c.args.self.now of c.requires.tables.2 room))
+
+pub append_branch_record-answer-requires-clause-served : goal.append_branch_record-answer-requires-clause-served
+append_branch_record-answer-requires-clause-served g c = subst IsServedKind (sym c.in-Ok.ensures) tt
+
+pub append_branch_record-answer-requires-clause-fits : goal.append_branch_record-answer-requires-clause-fits
+append_branch_record-answer-requires-clause-fits g c = subst (Fits 1) (sym c.in-Ok.ensures) (set_fits c.requires.tables.0 c.args.name.now c.args.number c.args.self.now c.requires.tables.1 c.requires.tables.2 c.requires.name)
 
 pub returns-clause-answered : goal.returns-clause-answered
 returns-clause-answered g c r of retained =
-    let store : Store = record { index = c.put_branch-answer.new.self.index; slot = c.put_branch-answer.new.self.slot; names = c.put_branch-answer.new.self.names; branches = c.put_branch-answer.new.self.branches; history = c.put_branch-answer.new.self.history; places = c.put_branch-answer.new.self.places; space = c.put_branch-answer.new.self.space; met = c.met_by-self.result } in
-    subst (λ met. IfSome (branch_reply c.put_branch-answer.result) (AnswersSet r c.args.name.now c.args.number met store)) (sym c.met_by-self.ensures)
-    (same_set c.put_branch-answer.new.self store (in_itself c.put_branch-answer.new.self c.met_by-self.result) r c.args.name.now c.args.number _ _ (c.put_branch-answer.ensures.answered r of retained))
+    let room : room_for_branch r c.args.name.now ≡ Ok tt = search rules in
+    let store = c.append_branch_record-answer.new.self in
+    let made = c.append_branch_record-answer.result in
+    noted_set store c.noted-2.new.self made c.noted-2.result c.noted-2.ensures.answer c.noted-2.ensures.met r c.args.name.now c.args.number
+    (set_answers r c.args.name.now c.args.number store made room
+    (subst (λ x. Renames r x made store) c.in-Ok.ensures (c.append_branch_record-answer.ensures.tables r of (subst (MayName r) (sym c.in-Ok.ensures) (set_may r c.args.name.now c.args.number c.args.self.now of retained room)))))
 
 pub returns-clause-any_moment : goal.returns-clause-any_moment
-returns-clause-any_moment g c told r held retained = same_changes c.put_branch-answer.new.self _ (in_itself c.put_branch-answer.new.self c.met_by-self.result) r _ _ _ _ (c.put_branch-answer.ensures.any_moment told r held retained)
+returns-clause-any_moment g c told r held retained =
+    let of = held.tables in
+    let room : room_for_branch r c.args.name.now ≡ Ok tt = search rules in
+    let store = c.append_branch_record-answer.new.self in
+    let made = c.append_branch_record-answer.result in
+    noted_changes store c.noted-2.new.self made c.noted-2.result c.noted-2.ensures.answer c.noted-2.ensures.met r (with_branch r c.args.name.now c.args.number) (g.G.Ground.told c.args.outside.now) (g.G.Ground.told c.append_branch_record-answer.new.outside)
+    (subst (λ x. Changes {A = Unit {0}} r (renamed r x) made store (g.G.Ground.told c.args.outside.now) (g.G.Ground.told c.append_branch_record-answer.new.outside)) c.in-Ok.ensures
+    (c.append_branch_record-answer.ensures.any_moment told r held (subst (MayName r) (sym c.in-Ok.ensures) (set_may r c.args.name.now c.args.number c.args.self.now of retained room))))
 
 pub returns-clause-records_stay : goal.returns-clause-records_stay
 returns-clause-records_stay g c told has r q held now =
-    carried c.put_branch-answer.new.self _ (out_of_itself c.put_branch-answer.new.self c.met_by-self.result) (g.G.Ground.told c.put_branch-answer.new.outside) q
-    (λ records. RecordsStay (image_records held) records) (λ mid. c.put_branch-answer.ensures.records_stay told has r q held mid) now
+    noted_stays c.append_branch_record-answer.new.self c.noted-2.new.self c.append_branch_record-answer.result c.noted-2.result c.noted-2.ensures.answer c.noted-2.ensures.met (g.G.Ground.told c.append_branch_record-answer.new.outside) q _
+    (λ answered mid. c.append_branch_record-answer.ensures.records_stay told answered r q held mid) has now
 
 pub returns-clause-appends : goal.returns-clause-appends
 returns-clause-appends g c told =
-    on_ok_weaker c.put_branch-answer.result (same_appends _ 0 c.args.self.now c.put_branch-answer.new.self _ _ _ (in_itself c.put_branch-answer.new.self c.met_by-self.result) (out_of_itself c.put_branch-answer.new.self c.met_by-self.result)) (c.put_branch-answer.ensures.appends told)
+    let store = c.append_branch_record-answer.new.self in
+    let made = c.append_branch_record-answer.result in
+    noted_appends store c.noted-2.new.self made c.noted-2.result c.noted-2.ensures.answer c.noted-2.ensures.met _ 0 c.args.self.now _ _
+    (subst (λ x. OnOk made (Appends ((c.args.self.now.slot.end, x) ∷ []) 0 c.args.self.now store (g.G.Ground.told c.args.outside.now) (g.G.Ground.told c.append_branch_record-answer.new.outside))) c.in-Ok.ensures (c.append_branch_record-answer.ensures.appends told))
