@@ -1,5 +1,5 @@
 -- The numbers that pass a test, found one by one from the last down.
-use Rattle.std.proofs.Common.{◌≡◌, ℕ, zero, suc, ◌+◌, ◌-◌, ◌<◌, ◌≤◌, List, [], ◌∷◌, ◌++◌, append-nil, refl, sym, ap, subst, ◌∙◌, Bool, true, false, cond, arith}
+use Rattle.std.proofs.Common.{◌≡◌, ◌≢◌, ℕ, zero, suc, ◌+◌, ◌-◌, ◌<◌, ◌≤◌, List, [], ◌∷◌, ◌++◌, append-nil, refl, sym, ap, subst, ◌∙◌, Bool, true, false, cond, arith}
 use Rattle.std.specs.Prelude.{filter, reverse}
 use Rattle.std.specs.List.{range_with_len}
 use Rattle.std.proofs.lemmas.List.{reverse-append}
@@ -17,6 +17,19 @@ module _ (test : ℕ → Bool) where
       let e : b + 1 + d ≡ b + suc d = omega arith in
       let size : suc d + m ≡ suc (d + m) = omega arith in
       ap (λ n. filter test (range_with_len b n)) size ∙ (ap (λ t. cond t (b ∷ filter test (range_with_len (b + 1) (d + m))) (filter test (range_with_len (b + 1) (d + m)))) out ∙ (rest ∙ ap (λ c. filter test (range_with_len c m)) e))
+
+  -- one number alone passes
+  pub one_found : (b m n : ℕ) → b ≤ n → n < b + m → test n ≡ true → ((k : ℕ) → k ≢ n → test k ≡ false) → filter test (range_with_len b m) ≡ n ∷ []
+  one_found b m n low high is others =
+      let rest = b + m - (n + 1) in
+      let size : m ≡ (n - b) + suc rest = omega (arith, low, high) in
+      let start : b + (n - b) ≡ n = omega (arith, low) in
+      let above = skip (n + 1) rest 0 (λ k less. others (n + 1 + k) (omega arith)) in
+      let all : rest ≡ rest + 0 = omega arith in
+      let none : filter test (range_with_len (n + 1) rest) ≡ [] = ap (λ k. filter test (range_with_len (n + 1) k)) all ∙ above in
+      ap (λ k. filter test (range_with_len b k)) size ∙ (skip b (n - b) (suc rest) (λ k less. others (b + k) (omega (arith, less, low)))
+      ∙ (ap (λ c. filter test (range_with_len c (suc rest))) start ∙ (ap (λ t. cond t (n ∷ filter test (range_with_len (n + 1) rest)) (filter test (range_with_len (n + 1) rest))) is
+      ∙ ap (λ xs. n ∷ xs) none)))
 
   module _ (last : ℕ) where
     -- what passes from b on, before the last

@@ -9,3 +9,4 @@ pub mod Results
 pub mod Logged
 pub mod Least
 pub mod Shown
+pub mod LeastAlone

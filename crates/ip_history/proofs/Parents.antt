@@ -29,6 +29,14 @@ last_step r a (of_parent {n = n} p at low) = by (last_step r a low)
     by (inl e) = inr (n, subst (Contains (parents_at r n)) (sym e) at, itself)
     by (inr (m, c, up)) = inr (m, c, of_parent p at up)
 
+-- an ancestor's number is not greater
+pub not_greater : (r : Repository) → ParentsFirst r → (a : ℕ) {n : ℕ} → Ancestor r a n → a ≤ n
+not_greater r first a itself = omega arith
+not_greater r first a (of_parent {n = n} p c up) =
+    let low = first n p c in
+    let rest = not_greater r first a up in
+    omega (arith, low, rest)
+
 le_test : (m n : ℕ) → m ≤ n → nat_le m n ≡ true
 le_test m n low = grind (arith, nat_tests)
 

@@ -8,7 +8,7 @@ use Rattle.ip_history.specs.History.{History, HasParentsFirst, Shows}
 use Rattle.ip_history.specs.Frontier.{Commits, at, flagged, is_parent, Passes, IsTaken}
 use Rattle.ip_history.specs.declared.frontier.Flags.{Flags}
 use Rattle.ip_history.proofs.Lists.{no_true, both, both_first, both_second, has, has_from, has_to}
-use Rattle.ip_history.proofs.Parents.{parent_in, parent_out, parents_first}
+use Rattle.ip_history.proofs.Parents.{not_greater, parent_in, parent_out, parents_first}
 use Rattle.ip_history.proofs.Flagged.{IsFlag, or_true, first_true, second_true, flagged_there, apart_or_same, passes_flag}
 
 -- the flags that are set say P, and each commit below the bound of which P says so is below one that is flagged
@@ -19,11 +19,7 @@ pub record IsFollowed (r : Repository) (K : Flags → Bool) (cs : Commits) (boun
 module _ (h : History) (r : Repository) (shows : Shows h r) (first : HasParentsFirst h) where
   -- an ancestor's number is not greater
   pub not_above : (a : ℕ) {n : ℕ} → Ancestor r a n → a ≤ n
-  not_above a itself = omega arith
-  not_above a (of_parent {n = n} p c up) =
-      let low = parents_first h r shows first n p c in
-      let rest = not_above a up in
-      omega (arith, low, rest)
+  not_above a up = not_greater r (parents_first h r shows first) a up
 
   parent_test : (n p : ℕ) → Contains (parents_at r n) p → is_parent h n p ≡ true
   parent_test n p c =
