@@ -3,7 +3,6 @@ ghost use Rattle.std.specs.Prelude.{◌≡◌, ◌<◌, ◌≤◌, ◌&&◌, ◌
 ghost use Rattle.ip_ground.specs.Counts.{Counts};
 ghost use Rattle.ip_space.specs.declared.fault.FetchFault.TheVariants as FetchFault;
 ghost use Rattle.ip_tree.specs.Faults.{ground_tree};
-ghost use Rattle.ip_spec.specs.Path.{IsPath};
 ghost use Rattle.ip_spec.specs.Tree.{Tree as Map, is_empty, subtree};
 ghost use Rattle.ip_spec.specs.View.{View};
 ghost use Rattle.ip_spec.specs.declared.record.Record.{Record};
@@ -45,7 +44,7 @@ impl Tree {
         space: &mut Space,
         path: &[Step],
     ) -> Result<bool, TreeFault>
-        requires { IsPath path.now }
+        requires { 0 < length path.now }
         ensures removes { IsTrue G.tells → (records : ℕ → Option Record) (v : View) → IsOver (G.told outside.old) space.old records → IsView records self.old v
             → Removes records path.now self.new v result }
         ensures looks { Looks G.tells (G.told outside.old) (G.told outside.new) space.old space.new }
