@@ -5,6 +5,7 @@ ghost use Rattle.ip_spec.specs.Merge.{IsOneAnswer, same_means, counter_means, li
 
 mod call;
 mod counter;
+mod decides;
 mod line_set;
 mod merger;
 mod order;
@@ -15,6 +16,7 @@ mod values;
 
 pub use call::{Answer, Call, Three};
 pub use counter::Counter;
+pub use decides::Decides;
 pub use ip_spec::merge::Merged;
 pub use line_set::LineSet;
 pub use merger::Merger;

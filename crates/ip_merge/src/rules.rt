@@ -99,8 +99,14 @@ impl Rules {
     pub fn pick(&self, path: &Path) -> Option<&Rule>
         ensures { MatchOption result (PicksNone (λ r. r.at) path.now self.now.list.items) (λ m. (rule : _) × Picks (λ r. r.at) path.now self.now.list.items rule × (rule.merger ≡ m.now)) }
     {
+        self.pick_at(path.steps())
+    }
+
+    fn pick_at(&self, path: &[Step]) -> Option<&Rule>
+        ensures { MatchOption result (PicksNone (λ r. r.at) path.now self.now.list.items) (λ m. (rule : _) × Picks (λ r. r.at) path.now self.now.list.items rule × (rule.merger ≡ m.now)) }
+    {
         let rules = self.list.as_slice();
-        match longest(rules, path.steps()) {
+        match longest(rules, path) {
             Some(at) => Some(&rules[at].merger),
             None => None,
         }
@@ -115,15 +121,15 @@ impl Rules {
     /// What the rule of the path answers.
     pub fn merge_at(
         &self,
-        path: &Path,
         alloc: Global,
+        path: &[Step],
         base: Option<&[u8]>,
         left: Option<&[u8]>,
         right: Option<&[u8]>,
     ) -> Result<Merged, Memory>
         ensures { IfOk result (λ merged. rule_of (meanings (λ r. r.at) (λ r. elim r.merger [ Boxed b ↦ means b | Closure call ↦ ⟦<Call as Merger>⟧.means call ]) self.now.list.items) path.now (option_copied base.entry) (option_copied left.entry) (option_copied right.entry) merged) }
     {
-        match self.pick(path) {
+        match self.pick_at(path) {
             Some(rule) => rule.merge(alloc, base, left, right),
             None => Same.merge(alloc, base, left, right),
         }

@@ -1,5 +1,8 @@
 //! Worked merges, and a caller's own closure behind a box.
-use crate::{Answer, Call, Counter, LineSet, Merged, Merger, Rules, Same, Seq, Three};
+ghost use Rattle.std.specs.Prelude.{IfOk};
+ghost use Rattle.std.specs.Option.{option_copied};
+
+use crate::{Answer, Call, Counter, Decides, LineSet, Merged, Merger, Rules, Same, Seq, Three};
 use ip_base::{Blob, Items, Memory, Path, Step};
 use std::alloc::{AllocError, Global};
 use std::test::Fail;
@@ -158,8 +161,35 @@ fn path(alloc: Global, steps: &[&[u8]]) -> Result<Path, Memory> {
     Ok(Path::of(path))
 }
 
+// What any rules answer at a path where there is no ancestor's value.
+fn asked<D: Decides>(
+    alloc: Global,
+    rules: &D,
+    path: &[Step],
+    left: Option<&[u8]>,
+    right: Option<&[u8]>,
+) -> Result<Merged, Memory>
+    ensures { IfOk result (λ merged. D.rule rules.now path.now None (option_copied left.entry) (option_copied right.entry) merged) }
+{
+    rules.answer(alloc, path, None, left, right)
+}
+
+// The same of the rules of this crate.
+fn asked_of_rules(
+    alloc: Global,
+    rules: &Rules,
+    path: &[Step],
+    left: Option<&[u8]>,
+    right: Option<&[u8]>,
+) -> Result<Merged, Memory>
+    ensures { IfOk result (λ merged. ⟦<Rules as Decides>⟧.rule rules.now path.now None (option_copied left.entry) (option_copied right.entry) merged) }
+{
+    asked(alloc, rules, path, left, right)
+}
+
 fn picks(alloc: Global, rules: &Rules, steps: &[&[u8]], want: &Want) -> Result<bool, Memory> {
-    let merged = rules.merge_at(&path(alloc, steps)?, alloc, None, Some(b"2"), Some(b"3"))?;
+    let at = path(alloc, steps)?;
+    let merged = asked_of_rules(alloc, rules, at.steps(), Some(b"2"), Some(b"3"))?;
     Ok(is_wanted(&merged, want))
 }
 
@@ -201,7 +231,7 @@ fn rule_of_a_closure(rt: HostRuntime) -> Result<(), Memory> {
     assert!(rt; picks(alloc, &rules, &[b"joined"], &Want::Value(b"23"))?);
     assert!(rt; picks(alloc, &rules, &[b"joined", b"x"], &Want::Value(b"23"))?);
     let at = path(alloc, &[b"joined"])?;
-    let merged = rules.merge_at(&at, alloc, None, Some(b"2"), None)?;
+    let merged = rules.merge_at(alloc, at.steps(), None, Some(b"2"), None)?;
     assert!(rt; is_wanted(&merged, &Want::Conflict));
     rules.add(at, Box::new(alloc, Counter)?)?;
     assert!(rt; picks(alloc, &rules, &[b"joined"], &Want::Value(b"5"))?);
