@@ -1,5 +1,6 @@
 mod Bits
 mod BranchLaws
+mod Decided
 mod Kept
 mod Named
 mod Parting

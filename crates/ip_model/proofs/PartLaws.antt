@@ -43,6 +43,9 @@ module _ {A K X : Type 0} (R : K → K → Ordering) where
   pub put_more : (f : A → K × X) (xs : List A) (i : ℕ) (x : A) (old new : List (K × X)) → i < length xs → x ≡ get_or xs i x → new ≡ E.put R (f x).0 (f x).1 old → put_all R new (map f (drop (i + 1) xs)) ≡ put_all R old (map f (drop i xs))
   put_more f xs i x old new low is e = ap (λ es. put_all R es (map f (drop (i + 1) xs))) e ∙ sym (ap (λ ys. put_all R old (map f ys)) (split_at xs i x low is))
 
+pub put_next : {K X : Type 0} (R : K → K → Ordering) (xs : List (K × X)) (i : ℕ) (x : K × X) (old new : List (K × X)) → i < length xs → x ≡ get_or xs i x → new ≡ E.put R x.0 x.1 old → put_all R new (drop (i + 1) xs) ≡ put_all R old (drop i xs)
+put_next R xs i x old new low is e = ap (λ es. put_all R es (drop (i + 1) xs)) e ∙ sym (ap (put_all R old) (split_at xs i x low is))
+
 pub kept_more : {A : Type 0} (p : A → Bool) (xs : List A) (i : ℕ) (x : A) (goes : Bool) (old new : List A) → i < length xs → x ≡ get_or xs i x → p x ≡ not goes → new ≡ old ++ cond goes [] (x ∷ []) → new ++ filter p (drop (i + 1) xs) ≡ old ++ filter p (drop i xs)
 kept_more p xs i x goes old new low is test e =
     ap (λ ys. ys ++ filter p (drop (i + 1) xs)) e ∙ (by goes ∙ sym (ap (λ ys. old ++ filter p ys) (split_at xs i x low is) ∙ ap (λ b. old ++ cond b (x ∷ filter p (drop (i + 1) xs)) (filter p (drop (i + 1) xs))) test))

@@ -4,6 +4,9 @@
 mod commits;
 mod history;
 mod machine;
+mod merging;
+#[cfg(test)]
+mod merging_tests;
 mod names;
 mod places;
 #[cfg(test)]
@@ -13,4 +16,6 @@ mod work;
 
 pub use history::History;
 pub use machine::Machine;
+pub use merging::Joined;
 pub use names::{Entry, contents_name, entries_name};
+pub use trees::Tree;

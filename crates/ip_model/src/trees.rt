@@ -24,7 +24,7 @@ pub type Part = (Items<Step>, Blob);
 /// A tree as the list of its contents, ascending by path.
 #[derive(Drop)]
 pub struct Tree {
-    parts: Vec<Part>,
+    pub(crate) parts: Vec<Part>,
 }
 
 impl Model for Tree {
@@ -378,8 +378,8 @@ fn push_unless(alloc: Global, parts: &mut Vec<Part>, goes: bool, part: &Part) ->
     Ok(())
 }
 
-// The steps of a path, and behind them those of another.
-fn joined(alloc: Global, path: &[Step], behind: &[Step]) -> Result<Items<Step>, Memory>
+/// The steps of a path, and behind them those of another.
+pub fn joined(alloc: Global, path: &[Step], behind: &[Step]) -> Result<Items<Step>, Memory>
     ensures { IfOk result (λ all. all ≡ path.now ++ behind.now) }
 {
     let mut all = Items::empty(alloc);
@@ -392,8 +392,8 @@ fn joined(alloc: Global, path: &[Step], behind: &[Step]) -> Result<Items<Step>, 
     Ok(all)
 }
 
-// Whether a path is a prefix of another, or the same.
-fn is_prefix(prefix: &[Step], path: &[Step]) -> bool
+/// Whether a path is a prefix of another, or the same.
+pub fn is_prefix(prefix: &[Step], path: &[Step]) -> bool
     ensures { result ≡ is_prefix prefix.now path.now }
 {
     after_prefix(prefix, path).is_some()
