@@ -1,6 +1,7 @@
 mod Bits
 mod BranchLaws
 mod Decided
+mod MergeSteps
 mod Kept
 mod Named
 mod Parting

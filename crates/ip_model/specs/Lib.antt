@@ -1,5 +1,6 @@
 pub mod Ancestry
 pub mod Commits
+pub mod MergeTurns
 pub mod Merging
 pub mod Names
 pub mod Parts

@@ -85,7 +85,7 @@ abbrev pub HasInfo : Command → Type 0
 HasInfo (Command.Commit branch info) = IsInfo info
 HasInfo command = Unit {0}
 
--- merges and collections are none of the model's
+-- `merge` is a call of its own, and collections are none of the model's
 abbrev pub Models : State → Command → Option Reply → Kept.Machine → Type 0
 Models s (Command.Merge target branch info) found m = (found ≡ None) × IsState m s
 Models s (Command.Collect target) found m = (found ≡ None) × IsState m s

@@ -7,7 +7,7 @@ ghost use Rattle.ip_spec.specs.Record.{IsInfo};
 ghost use Rattle.ip_spec.specs.Tree.{Tree};
 ghost use Rattle.ip_spec.specs.Shape.{root_name};
 ghost use Rattle.ip_spec.specs.Repository.{Repository, IsRepository, name_at, number_named};
-ghost use Rattle.ip_spec.specs.History.{ancestors, lcas};
+ghost use Rattle.ip_spec.specs.History.{is_ancestor, ancestors, lcas};
 ghost use Rattle.ip_spec.specs.Step.{commit_reply, new_commit};
 ghost use Rattle.ip_model.specs.Commits.{IsOf, IsNext, name_in, history_in, told_reply};
 
@@ -112,6 +112,22 @@ impl Commits {
         let least = self.history(alloc)?.lcas(alloc, one, other)?;
         let parents = self.parents_of(alloc, least.as_slice())?;
         Ok(Reply::Lcas(names_of(alloc, parents.as_slice())?))
+    }
+
+    /// Whether a commit is another one, or an ancestor of it.
+    pub fn is_ancestor(&self, alloc: Global, one: Number, other: Number) -> Result<bool, Memory>
+        ensures { (r : Repository) → IsRepository r → IsOf self.now r → IfOk result (λ is. is ≡ is_ancestor r one other) }
+    {
+        let history = self.history(alloc)?;
+        Ok(history.is_ancestor(one, other))
+    }
+
+    /// The numbers of the least common ancestors of two commits.
+    pub fn least_common(&self, alloc: Global, one: Number, other: Number) -> Result<Numbers, Memory>
+        ensures { (r : Repository) → IsRepository r → IsOf self.now r → IfOk result (λ ns. ns ≡ lcas r one other) }
+    {
+        let history = self.history(alloc)?;
+        history.lcas(alloc, one, other)
     }
 
     // The history of these commits.

@@ -4,6 +4,8 @@
 mod commits;
 mod history;
 mod machine;
+#[cfg(test)]
+mod machine_tests;
 mod merging;
 #[cfg(test)]
 mod merging_tests;

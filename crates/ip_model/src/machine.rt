@@ -5,18 +5,23 @@ ghost use Rattle.ip_spec.specs.Path.{bytes_cmp, same_bytes};
 ghost use Rattle.ip_spec.specs.Record.{IsInfo};
 ghost use Rattle.ip_spec.specs.Machine.{State, opened};
 ghost use Rattle.ip_spec.specs.Repository.{IsRepository, no_repository, next, tree_at};
-ghost use Rattle.ip_spec.specs.Tree.{subtree, got_at};
-ghost use Rattle.ip_spec.specs.Step.{answer, quiet, resolve, present, moved_head, got_reply};
+ghost use Rattle.ip_spec.specs.Tree.{Tree as Map, subtree, got_at};
+ghost use Rattle.ip_spec.specs.MergeModel.{base_of};
+ghost use Rattle.ip_spec.specs.Step.{answer, quiet, resolve, present, moved_head, got_reply, or_refused, forward_turn};
 ghost use Rattle.ip_spec.specs.declared.reply.Reply.TheVariants as Reply;
 ghost use Rattle.ip_spec.specs.declared.command.Command.TheVariants as Command;
 ghost use Rattle.ip_model.specs.Commits.{name_in};
-ghost use Rattle.ip_model.specs.Working.{IsState, IsSound, TurnsTo, StepsTo, HasInfo, Models, lcas_after, branch_after, checkout_after, graft_after, commit_after};
+ghost use Rattle.ip_model.specs.MergeTurns.{OneAnswers, MergesOn, MergesFrom, IntoHead, JoinsTo, HasShortSteps, kept_after, added_after};
+ghost use Rattle.ip_model.specs.Working.{IsState, IsSound, IsSmall, TurnsTo, StepsTo, HasInfo, Models, lcas_after, branch_after, checkout_after, graft_after, commit_after};
 
 use crate::commits::Commits;
+use crate::merging::Joined;
 use crate::names::contents_name;
 use crate::trees::{Tree, count_of, put};
 use crate::work::{Work, got_reply};
+use ip_base::limit::CONTENTS_MAX;
 use ip_base::{Blob, Info, Items, Limit, Memory, Number, Step};
+use ip_merge::Decides;
 use ip_spec::command::{Command, Target};
 use ip_spec::reply::{Head, Heads, Reply};
 use std::alloc::Global;
@@ -43,7 +48,7 @@ impl Machine {
         }
     }
 
-    /// One command. None: it is a merge, or begins a collection, which are none of the model's.
+    /// One command. None: it is a merge, which `merge` answers, or begins a collection, which is none of the model's.
     pub fn step(&mut self, alloc: Global, command: &Command) -> Result<Option<Reply>, Memory>
         ensures { (s : State) → IsSound s → HasInfo command.now → IsState self.old s → IfOk result (λ found. Models s command.now found self.new) }
     {
@@ -223,6 +228,159 @@ impl Machine {
         self.trees.push(self.work.tree.copy(alloc)?)?;
         put(&mut self.branches, branch, number)?;
         self.work = Work::at(alloc, number, tree)?;
+        Ok(())
+    }
+
+    /// `merge` of a commit into a branch, by rules of which each means one answer.
+    pub fn merge<D: Decides>(
+        &mut self,
+        alloc: Global,
+        target: &Target,
+        branch: Blob,
+        info: Info,
+        rules: &D,
+    ) -> Result<Reply, Memory>
+        ensures { (s : State) → IsSound s → IsInfo info → OneAnswers (D.rule rules.now) → IsState self.old s → IfOk result (λ reply. MergesOn (D.rule rules.now) s target.now branch info reply self.new) }
+    {
+        match self.resolve(alloc, target)? {
+            Ok(number) => self.merge_commit(alloc, number, branch, info, rules),
+            Err(reply) => Ok(reply),
+        }
+    }
+
+    fn merge_commit<D: Decides>(
+        &mut self,
+        alloc: Global,
+        number: Number,
+        branch: Blob,
+        info: Info,
+        rules: &D,
+    ) -> Result<Reply, Memory>
+        ensures { (s : State) → IsSound s → IsInfo info → OneAnswers (D.rule rules.now) → number < next s.repository → IsState self.old s → IfOk result (λ reply. MergesFrom (D.rule rules.now) s number branch info reply self.new) }
+    {
+        match self.head(alloc, &branch)? {
+            Ok(head) => self.merge_into(alloc, head, number, branch, info, rules),
+            Err(reply) => Ok(reply),
+        }
+    }
+
+    // `merge` into a branch at this commit.
+    fn merge_into<D: Decides>(
+        &mut self,
+        alloc: Global,
+        head: Number,
+        number: Number,
+        branch: Blob,
+        info: Info,
+        rules: &D,
+    ) -> Result<Reply, Memory>
+        ensures { (s : State) → IsSound s → IsInfo info → OneAnswers (D.rule rules.now) → head < next s.repository → number < next s.repository → IsState self.old s → IfOk result (λ reply. IntoHead (D.rule rules.now) s number branch head info reply self.new) }
+    {
+        if self.commits.is_ancestor(alloc, number, head)? {
+            return Ok(Reply::Current(self.commits.name_of(head)));
+        }
+        if self.commits.is_ancestor(alloc, head, number)? {
+            return self.forward(branch, number);
+        }
+        self.join(alloc, head, number, branch, info, rules)
+    }
+
+    // The branch moves on to a commit.
+    fn forward(&mut self, branch: Blob, commit: Number) -> Result<Reply, Memory>
+        ensures { (s : State) → commit < next s.repository → IsState self.old s → IfOk result (λ reply. TurnsTo (or_refused s (forward_turn s quiet commit branch)) reply self.new) }
+    {
+        put(&mut self.branches, branch, commit)?;
+        Ok(Reply::Forward(self.commits.name_of(commit)))
+    }
+
+    // The trees of two commits are merged over that of their least common ancestor.
+    fn join<D: Decides>(
+        &mut self,
+        alloc: Global,
+        head: Number,
+        number: Number,
+        branch: Blob,
+        info: Info,
+        rules: &D,
+    ) -> Result<Reply, Memory>
+        ensures { (s : State) → IsSound s → IsInfo info → OneAnswers (D.rule rules.now) → head < next s.repository → number < next s.repository → IsState self.old s → IfOk result (λ reply. JoinsTo (D.rule rules.now) s number branch head info reply self.new) }
+    {
+        let least = self.commits.least_common(alloc, head, number)?;
+        if least.len() > 1 {
+            return Ok(Reply::Bases(count_of(least.len())?));
+        }
+        let base = self.base(alloc, least.as_slice())?;
+        let left = self.tree_at(alloc, head)?;
+        let right = self.tree_at(alloc, number)?;
+        match Tree::merge(alloc, &base, &left, &right, rules)? {
+            Joined::Merged(tree) => self.keep_merge(alloc, tree, head, number, branch, info),
+            Joined::Conflict(path) => Ok(Reply::Conflict(path)),
+        }
+    }
+
+    // The tree of the one least common ancestor, and the empty one for none.
+    #[tactic(auto, unfolding(ip_spec::specs::Tree::no_tree, ip_spec::specs::Map::empty))]
+    fn base(&self, alloc: Global, least: &[Number]) -> Result<Tree, Memory>
+        ensures { (s : State) → IsState self.now s → IfOk result (λ t. t ≡ (base_of s.repository least.now).entries) }
+    {
+        match least {
+            [first, ..] => self.tree_at(alloc, *first),
+            [] => Ok(Tree::none(alloc)),
+        }
+    }
+
+    // A commit of the merge of two commits' trees, if it is within the limits.
+    fn keep_merge(
+        &mut self,
+        alloc: Global,
+        tree: Tree,
+        head: Number,
+        number: Number,
+        branch: Blob,
+        info: Info,
+    ) -> Result<Reply, Memory>
+        ensures { (s : State) (t : Map) → tree ≡ t.entries → HasShortSteps t → IsInfo info → head < next s.repository → number < next s.repository → IsState self.old s → IfOk result (λ reply. TurnsTo (kept_after s number branch head info t) reply self.new) }
+    {
+        if tree.longest() > CONTENTS_MAX {
+            return Ok(Reply::Limit(Limit::Contents));
+        }
+        if tree.is_wide(alloc)? {
+            return Ok(Reply::Limit(Limit::Entries));
+        }
+        self.add_merge(alloc, tree, head, number, branch, info)
+    }
+
+    fn add_merge(
+        &mut self,
+        alloc: Global,
+        tree: Tree,
+        head: Number,
+        number: Number,
+        branch: Blob,
+        info: Info,
+    ) -> Result<Reply, Memory>
+        ensures { (s : State) (t : Map) → tree ≡ t.entries → IsSmall t → IsInfo info → head < next s.repository → number < next s.repository → IsState self.old s → IfOk result (λ reply. TurnsTo (added_after s number branch head info t) reply self.new) }
+    {
+        let place = Number(self.commits.len() as u64);
+        let root = tree.root_name(alloc)?;
+        match self.commits.commit(alloc, &root, &[head, number], info)? {
+            Reply::Committed(name) => {
+                self.keep_tree(tree, branch, place)?;
+                Ok(Reply::Merged(name))
+            }
+            existing => Ok(existing),
+        }
+    }
+
+    // The last commit has this tree, and the branch is at it.
+    fn keep_tree(&mut self, tree: Tree, branch: Blob, commit: Number) -> Result<(), Memory>
+        ensures commits { self.new.commits ≡ self.old.commits }
+        ensures trees { OnOk result (self.new.trees.items ≡ self.old.trees.items ++ tree ∷ []) }
+        ensures branches { OnOk result (self.new.branches.items ≡ put bytes_cmp branch commit self.old.branches.items) }
+        ensures work { self.new.work ≡ self.old.work }
+    {
+        self.trees.push(tree)?;
+        put(&mut self.branches, branch, commit)?;
         Ok(())
     }
 

@@ -5,7 +5,7 @@ ghost use Rattle.ip_spec.specs.Map.{get, len};
 ghost use Rattle.ip_spec.specs.Path.{bytes_cmp, path_cmp, after_prefix, is_prefix};
 ghost use Rattle.ip_spec.specs.Tree.{Tree as Map, is_empty, subtree, remove, place, put as put_at, height, widest, ways, entries_of, got_by, listed_by, got_at, listed_at, is_root};
 ghost use Rattle.ip_spec.specs.Shape.{directory_name, root_name};
-ghost use Rattle.ip_spec.specs.Step.{entries_limit};
+ghost use Rattle.ip_spec.specs.Step.{entries_limit, longest_value};
 ghost use Rattle.ip_model.specs.Working.{IsSmall};
 ghost use Rattle.ip_model.specs.Parts.{put_some, rest_of, beside, first_in, step_in, item_in};
 
@@ -127,6 +127,17 @@ impl Tree {
             height = height.max(part.0.len());
         }
         height
+    }
+
+    /// The greatest number of bytes of contents.
+    pub fn longest(&self) -> usize
+        ensures { (t : Map) → self.now ≡ t.entries → result ≡ longest_value t }
+    {
+        let mut longest = 0;
+        for part in &self.parts {
+            longest = longest.max(part.1.len());
+        }
+        longest
     }
 
     /// Whether a directory has more entries than it may. None has more than there are contents.
