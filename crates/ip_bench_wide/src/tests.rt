@@ -3,7 +3,7 @@ use ip_app::Status;
 use ip_base::{Blob, Hash, Step};
 use ip_bench::{answers_on, bench, init};
 use ip_ground::{Bench, FileName, Ground};
-use ip_model::{Entry, contents_name, entries_name};
+use ip_model_trees::{Entry, contents_name, entries_name};
 use std::alloc::Global;
 use std::ops::Range;
 use std::test::Fail;

@@ -1,12 +1,11 @@
 -- What is told of the commits of a repository that the model keeps.
-use Rattle.std.proofs.Common.{◌≡◌, ℕ, zero, suc, ◌+◌, ◌-◌, ◌<◌, List, [], ◌∷◌, ◌++◌, refl, sym, ap, subst, ◌∙◌, Bool, true, false, cond, map, length, take, arith}
-use Rattle.std.specs.Prelude.{◌||◌, All, Contains, Option, Some, None, IfSome, is_some, MatchResult, option_map, unwrap_or, reverse, filter_map, slice_get, slice_index_or, position, nat_le, if◌then◌else◌}
+use Rattle.std.proofs.Common.{◌≡◌, ℕ, zero, suc, ◌+◌, ◌-◌, ◌<◌, List, [], ◌∷◌, ◌++◌, refl, sym, ap, subst, ◌∙◌, Bool, true, false, cond, map, length, arith}
+use Rattle.std.specs.Prelude.{◌||◌, All, Contains, Option, Some, None, IfSome, is_some, MatchResult, option_map, unwrap_or, reverse, filter_map, slice_get, position, nat_le, if◌then◌else◌}
 use Rattle.std.specs.List.{AllByRecursion, list_any, cons_option}
 use Rattle.std.proofs.lemmas.Bool.Decides.{nat_tests}
 use Rattle.std.proofs.lemmas.List.{length-map, map-append, length-reverse, get_or-reverse}
 use Rattle.std.proofs.lemmas.List.FromFn.{length-range_with_len, get_or-range_with_len}
 use Rattle.std.proofs.lemmas.List.Elements.{recursion_from_All, All-from_recursion, All-contains, All-filter}
-use Rattle.std.proofs.Math.Seq.{take-suc}
 use Rattle.std.proofs.lemmas.Option.{slice_get-map}
 use Rattle.std.proofs.lemmas.Iterator.Adapters.{position_from-zero}
 use Rattle.std.specs.List.{position_from}
@@ -23,14 +22,11 @@ use Rattle.ip_spec.specs.Step.{as_parent, new_commit, refuse_if, with_commit, co
 use Rattle.ip_history.specs.History.{Shows, history_of}
 use Rattle.ip_history.proofs.Lists.{none}
 use Rattle.ip_history.proofs.Shown.{shown}
+use Rattle.ip_model_trees.proofs.Lists.{again}
 use Rattle.ip_model.specs.declared.commits.Commit.{Commit}
 use Rattle.ip_model.specs.Commits.{Told, told, kept, as_kept, IsOf, IsNext, name_in, history_in, told_reply}
 
 -- ---- lists and options
-
-pub again : {A B C : Type 0} (g : B → C) (f : A → B) (xs : List A) → map g (map f xs) ≡ map (λ x. g (f x)) xs
-again g f [] = refl
-again g f (x ∷ xs) = ap (λ ys. g (f x) ∷ ys) (again g f xs)
 
 alike : {A B : Type 0} (f g : A → B) → ((x : A) → f x ≡ g x) → (xs : List A) → map f xs ≡ map g xs
 alike f g same [] = refl
@@ -63,13 +59,6 @@ unmoved (Some k) = let e : 0 + k ≡ k = omega arith in ap Some e
 mapped_some : {A B : Type 0} (f : A → B) (o : Option A) → is_some (option_map f o) ≡ is_some o
 mapped_some f None = refl
 mapped_some f (Some x) = refl
-
--- one element more of a list that is gone over
-pub map_more : {A B : Type 0} (f : A → B) (xs : List A) (i : ℕ) (x : A) (y : B) (old new : List B) → i < length xs → x ≡ slice_index_or xs i x → y ≡ f x → old ≡ map f (take i xs) → new ≡ old ++ y ∷ [] → new ≡ map f (take (i + 1) xs)
-map_more f xs i x y old new low at is before more =
-    let e : suc i ≡ i + 1 = omega arith in
-    let longer : take (i + 1) xs ≡ take i xs ++ x ∷ [] = ap (λ n. take n xs) (sym e) ∙ (take-suc xs i x low ∙ ap (λ z. take i xs ++ z ∷ []) (sym at)) in
-    more ∙ (ap (λ ys. ys ++ y ∷ []) before ∙ (ap (λ z. map f (take i xs) ++ z ∷ []) is ∙ (sym (map-append f (take i xs) (x ∷ [])) ∙ ap (map f) (sym longer))))
 
 -- ---- numbers of retained commits
 

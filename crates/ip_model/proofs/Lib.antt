@@ -1,15 +1,7 @@
-mod Bits
 mod BranchLaws
-mod Decided
 mod MergeSteps
 mod Kept
-mod Named
-mod Parting
-mod PartLaws
-mod Placing
 mod Reaching
-mod SmallTrees
-mod Widths
 mod WorkLaws
 mod MachineLaws
 mod Grafted

@@ -30,7 +30,8 @@ use Rattle.ip_spec.proofs.Widths.{none_wider}
 use Rattle.ip_model.specs.declared.commits.Commit.{Commit}
 use Rattle.ip_model.specs.declared.machine.Machine as Kept
 use Rattle.ip_model.specs.Commits.{IsOf, IsNext, name_in}
-use Rattle.ip_model.specs.Working.{IsWork, IsState, IsSmall, TurnsTo}
+use Rattle.ip_model_trees.specs.Small.{IsSmall}
+use Rattle.ip_model.specs.Working.{IsWork, IsState, TurnsTo}
 use Rattle.ip_model.specs.MergeTurns.{ComesTo, FromNumber, MergesFrom, MergesOn, IntoHead, JoinsTo, HasShortSteps, kept_after, added_after}
 use Rattle.ip_model.proofs.Kept.{size, named}
 

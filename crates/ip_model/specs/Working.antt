@@ -1,27 +1,26 @@
 -- The machine's state as the model holds it, and what the machine answers where nothing is met.
 --     IsWork w v      the same tree, parents and least number
 --     IsState m s      the same commits, trees, branches and work, and no collection runs
---     IsSmall t      each step has at most 255 bytes, and each directory at most as many entries as it may have
 --     IsSound s      what holds of the states that the machine comes to
 --     TurnsTo turned reply m, StepsTo s command reply m      a reply, and the state after it
 --     WorksTo s turned reply w, Answers s command reply w      a reply, and that only the work changed, to this one
 --     lcas_after, branch_after, parent_after, checkout_after, graft_after, commit_after      the answers to these commands, where the commits that they name were found or their first refusals are passed
 --     HasInfo command      the info that it may bring is one.      Models s command found m      the model's answer to a command, if it has any
-use Rattle.std.specs.Prelude.{◌≡◌, ◌==◌, ℕ, ◌≤◌, ◌<◌, [], ◌∷◌, length, map, All, IsSome, Option, Ok, Some, None}
+use Rattle.std.specs.Prelude.{◌≡◌, ◌==◌, ℕ, ◌≤◌, ◌<◌, [], ◌∷◌, length, map, All, Option, Ok, Some, None}
 use Rattle.std.specs.List.{list_any}
 use Rattle.ip_spec.specs.declared.reply.Reply.{Reply}
 use Rattle.ip_spec.specs.declared.command.Command.{Command}
 use Rattle.ip_spec.specs.Machine.{State}
 use Rattle.ip_spec.specs.Machine as Machine
 use Rattle.ip_spec.specs.declared.command.Target.{Target}
-use Rattle.ip_spec.specs.Map.{get, len}
 use Rattle.ip_spec.specs.Path.{Bytes, Path}
 use Rattle.ip_spec.specs.Record.{Info, IsInfo}
-use Rattle.ip_spec.specs.Tree.{Tree, subtree, entries_of}
+use Rattle.ip_spec.specs.Tree.{Tree}
 use Rattle.ip_spec.specs.Repository.{IsRepository, next, name_at, tree_at}
 use Rattle.ip_spec.specs.Repository as Repository
 use Rattle.ip_spec.specs.History.{lcas}
-use Rattle.ip_spec.specs.Step.{Turned, answer, quiet, resolve, or_refused, not_leaving, not_existing, room_for_branch, with_branch, with_commit, with_parent, new_commit, graft_turn, entries_limit, parents_limit, ◌>>◌, ◌>>=◌}
+use Rattle.ip_spec.specs.Step.{Turned, answer, quiet, resolve, or_refused, not_leaving, not_existing, room_for_branch, with_branch, with_commit, with_parent, new_commit, graft_turn, parents_limit, ◌>>◌, ◌>>=◌}
+use Rattle.ip_model_trees.specs.Small.{IsSmall}
 use Rattle.ip_model.specs.Commits.{IsOf}
 use Rattle.ip_model.specs.declared.work.Work.{Work}
 use Rattle.ip_model.specs.declared.machine.Machine as Kept
@@ -43,10 +42,6 @@ pub record IsState (m : Kept.Machine) (s : State) : Type 0 where
   pub trees : m.trees.items ≡ map (λ (c : Repository.Commit). c.tree.entries) s.repository.commits
   pub branches : m.branches.items ≡ s.repository.branches.entries
   pub work : IsWork m.work s.work
-
-pub record IsSmall (t : Tree) : Type 0 where
-  pub steps : (path : Path) → IsSome (get t path) → All (λ step. length step ≤ 255) path
-  pub entries : (path : Path) → len (entries_of (subtree t path)) ≤ entries_limit
 
 pub record IsSound (s : State) : Type 0 where
   pub repository : IsRepository s.repository

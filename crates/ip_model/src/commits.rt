@@ -12,8 +12,8 @@ ghost use Rattle.ip_spec.specs.Step.{commit_reply, new_commit};
 ghost use Rattle.ip_model.specs.Commits.{IsOf, IsNext, name_in, history_in, told_reply};
 
 use crate::history::History;
-use crate::names::commit_name;
 use ip_base::{Hash, Hashes, Info, Items, Memory, Number, Numbers};
+use ip_model_trees::commit_name;
 use ip_spec::record::{Parent, Parents};
 use ip_spec::reply::Reply;
 use std::alloc::Global;

@@ -8,9 +8,9 @@ ghost use Rattle.ip_spec.specs.Step.{got_reply, listed_reply, least_with};
 ghost use Rattle.std.specs.List.{list_any};
 ghost use Rattle.ip_model.specs.Working.{IsWork, WorksTo, Answers, parent_after, graft_after};
 
-use crate::trees::Tree;
 use ip_base::limit::{CONTENTS_MAX, PARENTS_MAX, STEPS_MAX};
 use ip_base::{Blob, Limit, Memory, Number, Numbers, Step};
+use ip_model_trees::Tree;
 use ip_spec::reply::Reply;
 use ip_spec::tree::{Got, Listed};
 use std::alloc::Global;

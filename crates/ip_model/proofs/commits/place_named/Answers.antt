@@ -4,7 +4,7 @@ use Rattle.std.proofs.lemmas.List.{at_drop_all}
 use Rattle.std.specs.List.{position_from}
 use Rattle.ip_spec.specs.Path.{same_bytes}
 use Rattle.ip_model.specs.declared.commits.Commit.{Commit}
-use Rattle.ip_model.proofs.Placing.{place_here, place_later}
+use Rattle.ip_model_trees.proofs.Placing.{place_here, place_later}
 use Rattle.ip_model.proofs.commits.place_named.Goals as goal
 
 pub returns-then-is_eq : goal.returns-then-is_eq

@@ -1,7 +1,7 @@
 use Rattle.std.proofs.Common.{◌≡◌, sym, ◌∙◌, true, false}
 use Rattle.std.specs.Ordering.{eq_by_cmp}
 use Rattle.ip_spec.specs.Path.{bytes_cmp}
-use Rattle.ip_model.proofs.Placing.{found_here, found_later}
+use Rattle.ip_model_trees.proofs.Placing.{found_here, found_later}
 use Rattle.ip_model.proofs.machine.number_of.Goals as goal
 
 pub returns-then-is_eq : goal.returns-then-is_eq

@@ -1,7 +1,7 @@
 use Rattle.std.proofs.Common.{ap, ◌∙◌, map}
 use Rattle.ip_spec.specs.declared.record.Parent.{Parent}
 use Rattle.ip_model.specs.declared.commits.Commit.{Commit}
-use Rattle.ip_model.proofs.Kept.{map_more}
+use Rattle.ip_model_trees.proofs.Lists.{map_more}
 use Rattle.ip_model.proofs.commits.Commits.history.Goals as goal
 
 pub loop-commit-preserved : goal.loop-commit-preserved

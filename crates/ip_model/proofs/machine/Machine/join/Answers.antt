@@ -2,8 +2,8 @@ use Rattle.std.proofs.Common.{◌<◌, ◌≤◌, length, ap, sym, subst, ◌∙
 use Rattle.ip_spec.specs.History.{lcas}
 use Rattle.ip_spec.specs.Repository.{tree_at}
 use Rattle.ip_spec.specs.MergeModel.{base_of}
-use Rattle.ip_model.specs.declared.merging.Joined.{Joined}
-use Rattle.ip_model.specs.Merging.{MergesTo}
+use Rattle.ip_model_trees.specs.declared.merging.Joined.{Joined}
+use Rattle.ip_model_trees.specs.Merging.{MergesTo}
 use Rattle.ip_model.proofs.MergeSteps.{several, conflicting, merging, short_merge}
 use Rattle.ip_model.proofs.machine.Machine.join.Goals as goal
 
