@@ -1,5 +1,6 @@
 pub mod Answered
 pub mod Counting
+pub mod Decisive
 pub mod LineLaws
 pub mod PathOrder
 pub mod PlaceLaws

@@ -7,11 +7,13 @@
 --     with_rule at rule rules      ascending rules with this one at its place, instead of the one for its path where there is one
 --     IsPlace at p rules k      the rule at place k is the one for p
 --     IsGap at p rules k      no rule is for p, and one would stand at place k
-use Rattle.std.specs.Prelude.{◌≡◌, ◌<◌, ◌≤◌, ℕ, Bool, false, ◌||◌, List, [], ◌∷◌, ◌++◌, length, slice_index_or, All, IsTrue}
+--     HasOneAnswer means, IsDecisive rule      a meaning that answers any three values in one way alone, and a rule that does so at each path
+use Rattle.std.specs.Prelude.{◌≡◌, ◌<◌, ◌≤◌, ℕ, Bool, false, ◌||◌, List, [], ◌∷◌, ◌++◌, length, slice_index_or, All, IsTrue, Option}
 use Rattle.std.specs.Ordering.{match_ordering}
 use Rattle.std.specs.declared.cmp.Ordering.TheVariants.{Less}
-use Rattle.ip_spec.specs.Path.{Path, path_cmp, is_prefix, same_path}
-use Rattle.ip_spec.specs.Merge.{Meaning}
+use Rattle.ip_spec.specs.Path.{Bytes, Path, path_cmp, is_prefix, same_path}
+use Rattle.ip_spec.specs.Merge.{Meaning, Rule}
+use Rattle.ip_spec.specs.declared.merge.Merged.{Merged}
 
 module _ {R : Type 0} (at : R → Path) where
   abbrev pub meanings : (R → Meaning) → List R → List (Path × Meaning)
@@ -47,3 +49,11 @@ module _ {R : Type 0} (at : R → Path) where
     pub within : k ≤ length rules
     pub before : (i : ℕ) (d : R) → i < k → path_cmp (at (slice_index_or rules i d)) p ≡ Less
     pub behind : (i : ℕ) (d : R) → k ≤ i → i < length rules → path_cmp p (at (slice_index_or rules i d)) ≡ Less
+
+-- exactly one answer for three values
+abbrev pub HasOneAnswer : Meaning → Type 0
+HasOneAnswer means = (o a b : Option Bytes) → (r : Merged) × means o a b r × ((s : Merged) → means o a b s → s ≡ r)
+
+-- at each path
+abbrev pub IsDecisive : Rule → Type 0
+IsDecisive rule = (p : Path) → HasOneAnswer (rule p)
