@@ -1,8 +1,7 @@
 -- Where no step stands below a path.
 --     bare_nothing      where nothing stands.      bare_contents      where contents do
 --     found_contents      and where these were found
-use Rattle.std.proofs.Common.{◌≡◌, ℕ, suc, ◌+◌, true, [], ◌∷◌, ◌++◌, append_assoc, length, refl, sym, ap, ◌∙◌, Option, Some, None, arith}
-use Rattle.std.proofs.lemmas.Bool.{false≢true}
+use Rattle.std.proofs.Common.{◌≡◌, ℕ, true, [], ◌∷◌, ◌++◌, append_assoc, length, refl, sym, ap, ◌∙◌, Option, Some, None, arith}
 use Rattle.std.proofs.lemmas.List.{append-nil}
 use Rattle.std.specs.Prelude.{IsTrue, is_some}
 use Rattle.ip_spec.specs.Map.{get}

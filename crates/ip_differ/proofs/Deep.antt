@@ -1,8 +1,8 @@
 -- An inode stands above the deepest leaves.
-use Rattle.std.proofs.Common.{◌≡◌, ℕ, zero, suc, ◌-◌, ◌<◌, ◌≤◌, true, false, List, length, refl, sym, subst, Option, Some, None, arith}
+use Rattle.std.proofs.Common.{◌≡◌, ℕ, zero, suc, ◌-◌, ◌<◌, true, List, length, refl, Option, Some, None, arith}
 use Rattle.std.proofs.lemmas.Bool.{false≢true}
 use Rattle.ip_spec.specs.Path.{Step}
-use Rattle.ip_spec.specs.Shape.{Entries, deepest, part}
+use Rattle.ip_spec.specs.Shape.{Entries, part}
 use Rattle.ip_spec.specs.declared.record.Record.{Record}
 use Rattle.ip_shape.specs.Directory.{steps_of}
 use Rattle.ip_shape.specs.Shape.{IsLeafOf, IsPart}

@@ -2,7 +2,7 @@
 --     put_told      what a map tells of a step after one was put
 --     entries_put, step_put, steps_put      one entry more
 --     fetched_leaf, read_leaf      those of a leaf are what stands at the steps to which its indexes lead
-use Rattle.std.proofs.Common.{◌≡◌, ℕ, zero, suc, ◌-◌, ◌≤◌, Bool, true, false, List, [], ◌∷◌, length, refl, sym, ap, subst, ◌∙◌, Option, Some, None, cond, rules, ◌+◌}
+use Rattle.std.proofs.Common.{◌≡◌, ℕ, zero, suc, ◌-◌, ◌≤◌, Bool, true, false, List, [], ◌∷◌, length, refl, sym, ap, subst, ◌∙◌, Option, Some, None, cond, rules}
 use Rattle.std.proofs.lemmas.Bool.{false≢true}
 use Rattle.std.proofs.lemmas.Cmp.{nat_list_cmp_total}
 use Rattle.std.specs.Global.{Global}
@@ -89,10 +89,6 @@ step_put false s k es o same is = refl
 where_leads : {X : Type 0} (b : Bool) (o p : Option X) → (b ≡ true → o ≡ p) → (b ≡ false → o ≡ None) → o ≡ cond b p None
 where_leads true o p f g = f refl
 where_leads false o p f g = g refl
-
-none_is : {X : Type 0} (o : Option X) → is_some o ≡ false → o ≡ None
-none_is None e = refl
-none_is (Some x) e = absurd (false≢true (sym e))
 
 module _ (records : ℕ → Option Record) (a : Step → Option Entry) (es : Entries) (is : List ℕ) (s : Step) where
   away_none : leads 0 is s ≡ false → find bytes_cmp s (part es is) ≡ None

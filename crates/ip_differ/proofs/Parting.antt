@@ -1,27 +1,27 @@
 -- Pieces of directories, and their children.
---     place_nothing, place_unread, place_held      the whole of what stands at a place
+--     place_unread, place_held      the whole of what stands at a place
 --     held_unread      a part that was not read
---     unread_child, unread_none      a child of the record of an inode, and where there is none
---     read_below, held_child      a child of a part that was read
---     not_deep_unread, not_deep_read      an inode stands above the deepest leaves
-use Rattle.std.proofs.Common.{◌≡◌, ◌≢◌, ℕ, zero, suc, ◌+◌, ◌-◌, ◌<◌, ◌≤◌, Bool, true, false, List, [], ◌∷◌, ◌++◌, append_assoc, length, refl, sym, ap, subst, ◌∙◌, Option, Some, None, arith, cond, rules}
+--     child_found, child_lost      a child of the record of an inode, and where there is none
+--     opened_fetched      a record that was fetched is that of a part that was not read
+--     held_child      a child of a part that was read
+--     not_deep_unread      the record of an inode stands above the deepest leaves
+use Rattle.std.proofs.Common.{◌≡◌, ◌≢◌, ℕ, suc, ◌+◌, ◌-◌, ◌<◌, ◌≤◌, Bool, true, false, List, [], ◌∷◌, ◌++◌, append_assoc, length, refl, sym, ap, subst, ◌∙◌, Option, Some, None, arith, cond, rules}
 use Rattle.std.proofs.lemmas.Bool.{false≢true, ne_eqb}
 use Rattle.std.proofs.lemmas.List.{append-nil}
 use Rattle.std.specs.Global.{Global}
 use Rattle.std.specs.Option.{option_or}
-use Rattle.std.specs.Prelude.{◌==◌, ◌&&◌, Vec, nat_le, option_and_then, option_map, slice_get}
-use Rattle.std.specs.FinMap.Entries.{find}
-use Rattle.ip_spec.specs.Path.{Path, Step, bytes_cmp}
-use Rattle.ip_spec.specs.Shape.{Entries, at_place, deepest, leaf_limit, part, place}
+use Rattle.std.specs.Prelude.{◌==◌, ◌&&◌, Vec, option_and_then, option_map, slice_get}
+use Rattle.ip_spec.specs.Path.{Path, Step}
+use Rattle.ip_spec.specs.Shape.{Entries, deepest, part, place}
 use Rattle.ip_spec.specs.StoredParts.{child_with, entry_through}
-use Rattle.ip_spec.specs.Tree.{Tree, entries_of, subtree}
+use Rattle.ip_spec.specs.Tree.{entries_of, subtree}
 use Rattle.ip_spec.specs.View.{View, leads}
 use Rattle.ip_spec.specs.declared.record.InodeChild.{InodeChild}
 use Rattle.ip_spec.specs.declared.record.Record.{Record}
-use Rattle.ip_shape.specs.Directory.{entries_in, root_of, steps_of}
+use Rattle.ip_shape.specs.Directory.{root_of, steps_of}
 use Rattle.ip_shape.specs.Loaded.{unread_in, way_to}
 use Rattle.ip_shape.specs.Reading.{child_in}
-use Rattle.ip_shape.specs.Shape.{ByTest, IsInodeOf, IsLeafOf, IsPart, steps_at}
+use Rattle.ip_shape.specs.Shape.{IsPart}
 use Rattle.ip_shape.specs.declared.dir.Dir.{Dir}
 use Rattle.ip_shape.specs.declared.part.Part.{Part, out-Part}
 use Rattle.ip_shape.specs.declared.part.Part.TheOpen as layer
@@ -30,12 +30,10 @@ use Rattle.ip_shape.specs.declared.part.Part.TheViews as whole
 use Rattle.ip_shape.proofs.Ways.{unread_child, unread_inode, unread_leaf, unread_unread}
 use Rattle.ip_tree.specs.Finding.{IsPlaceOf}
 use Rattle.ip_tree.specs.Known.{offset_of, unread_entry}
-use Rattle.ip_tree.specs.Meaning.{DirectoryIs}
 use Rattle.ip_tree.specs.Node as view
 use Rattle.ip_tree.specs.Reads.{IsPartRef, children_read, record_of, stored_of_entry}
 use Rattle.ip_tree.specs.Shown.{shown_directory}
 use Rattle.ip_tree.specs.declared.fetch.Content.{Content}
-use Rattle.ip_tree.specs.declared.look.Place.{Place}
 use Rattle.ip_tree.specs.declared.look.Place.TheVariants as place_at
 use Rattle.ip_tree.specs.declared.node.Node.{Node}
 use Rattle.ip_tree.specs.declared.node.Stored.{Stored}
@@ -44,7 +42,7 @@ use Rattle.ip_tree.proofs.Indexes.{no_some, some_same, unread_behind}
 use Rattle.ip_tree.proofs.MoreRecords.{next_entry}
 use Rattle.ip_tree.proofs.PartEntries.{part_deeper}
 use Rattle.ip_tree.proofs.PartRecords.{IsInode, above_deepest, child_known, child_spelled, is_inode}
-use Rattle.ip_tree.proofs.UnreadKinds.{child_shape, leaf_deep}
+use Rattle.ip_tree.proofs.UnreadKinds.{child_shape}
 use Rattle.ip_differ.specs.declared.pairs.Entry.{Entry}
 use Rattle.ip_differ.specs.declared.pairs.Entry.TheVariants as entry
 use Rattle.ip_differ.specs.declared.piece.Piece.{Piece}
@@ -87,9 +85,6 @@ module _ (records : ℕ → Option Record) (w : View) (p : Path) where
 
   pub place_held : (d : Dir Node Stored) → IsPlaceOf records w p (shown_directory d) → IsHeld records (in_directory records d) (entries_of (subtree w.map p)).entries [] d (root_of d)
   place_held d is = record { steps = is.0.steps; parts = is.0.parts; shape = is.0.steps.shape; unread = λ q. refl; tells = λ s. refl }
-
-pub place_nothing : (records : ℕ → Option Record) (es : Entries) (x : Stored) → (x.reference.kind == 1) ≡ true → IsNothing records (pieces.at_place records (Some (place_at.Stored x))) es []
-place_nothing records es x one s there = ap (λ b. cond b None (below_record records deepest x s)) one
 
 module _ (records : ℕ → Option Record) (a : Step → Option Entry) (es : Entries) (is : List ℕ) where
   -- ---- a part that was not read
@@ -178,29 +173,6 @@ module _ (records : ℕ → Option Record) (a : Step → Option Entry) (es : Ent
     out : out-Part Stored p ≡ layer.Inode known count children
     unfolding out-Part denote.Hole.Carrier.out
     out = ap (out-Part Stored) same ∙ search (rules, whole.the_lemmas)
-
-    pub not_deep_read : length is ≤ deepest → length is < 51
-    not_deep_read low = by (deepest - length is) refl
-      where
-        by : (n : ℕ) → deepest - length is ≡ n → length is < 51
-        by zero e = absurd (leaf_deep (deepest - length is) (length is) (steps_of (part es is)) p known count children e same read.held.shape)
-        by (suc n) e = omega (arith, e)
-
-    pub children_long : length is < 51 → length children.items ≡ 32
-    children_long low =
-        let more : deepest - length is ≡ suc (deepest - (length is + 1)) = omega (arith, low) in
-        by (nat_le (length (steps_of (part es is))) leaf_limit) (subst (λ n. IsPart n (length is) (steps_of (part es is)) p) more read.held.shape)
-      where
-        by : (b : Bool)
-            → ByTest b (IsLeafOf (steps_of (part es is)) (out-Part Stored p))
-            (IsInodeOf (length (steps_of (part es is))) (λ i child. IsPart (deepest - (length is + 1)) (suc (length is)) (steps_at (length is) i (steps_of (part es is))) child) (out-Part Stored p))
-            → length children.items ≡ 32
-        by true leaf = absurd (subst (IsLeafOf (steps_of (part es is))) out leaf)
-        by false is_it =
-            (subst
-            (IsInodeOf (length (steps_of (part es is))) (λ i child. IsPart (deepest - (length is + 1)) (suc (length is)) (steps_at (length is) i (steps_of (part es is))) child))
-            out
-            is_it).1
 
     pub held_child : length is < 51 → (i : ℕ) (c : Part Stored) → slice_get children.items i ≡ Some c → IsHeld records a es (is ++ i ∷ []) d c
     held_child low i c at =

@@ -6,9 +6,9 @@ use Rattle.std.specs.Option.{option_or}
 use Rattle.std.specs.Prelude.{◌==◌, ◌&&◌, is_none, is_some, option_map}
 use Rattle.std.specs.FinMap.Entries.{find}
 use Rattle.ip_spec.specs.Path.{Path, Step, bytes_cmp}
-use Rattle.ip_spec.specs.Shape.{Entries, deepest, part}
+use Rattle.ip_spec.specs.Shape.{Entries, deepest}
 use Rattle.ip_spec.specs.StoredParts.{entry_through}
-use Rattle.ip_spec.specs.Tree.{Tree, entries_of, subtree}
+use Rattle.ip_spec.specs.Tree.{entries_of, subtree}
 use Rattle.ip_spec.specs.View.{View}
 use Rattle.ip_spec.specs.declared.record.LeafEntry.{LeafEntry}
 use Rattle.ip_spec.specs.declared.record.Record.{Record}
@@ -24,7 +24,7 @@ use Rattle.ip_tree.specs.Known.{unread_entry}
 use Rattle.ip_tree.specs.Meaning.{HasSteps, is_read}
 use Rattle.ip_tree.specs.Node as view
 use Rattle.ip_tree.specs.Node.{nodes_of, steps_in}
-use Rattle.ip_tree.specs.Reads.{FindsEntry, entry_below, stored_of_entry}
+use Rattle.ip_tree.specs.Reads.{entry_below, stored_of_entry}
 use Rattle.ip_tree.specs.Shown.{entries_shown, shown, shown_directory}
 use Rattle.ip_tree.specs.declared.look.Place.{Place}
 use Rattle.ip_tree.specs.declared.look.Place.TheVariants as place

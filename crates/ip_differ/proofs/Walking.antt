@@ -1,5 +1,5 @@
 -- Walking the children of two parts, one index after the other.
---     puts_first, puts_more, puts_end      what is put of the children with the indexes so far
+--     puts_more, puts_end      what is put of the children with the indexes so far
 --     one_below      of one record that neither has read both tell the same
 --     both_put      both sides are put
 --     walks_same      nothing is told where both sides are the same, and not read
@@ -59,9 +59,6 @@ put_before a is i s = cond (is_before is i s) (a s) None
 
 abbrev pub put_here : (Step → Option Entry) → List ℕ → Step → Option Entry
 put_here a is s = cond (leads 0 is s) (a s) None
-
-pub puts_first : (side : Side) (a : Step → Option Entry) (is : List ℕ) (found : List (Step × Pair)) → Puts side (put_before a is 0) found found
-puts_first side a is found s = sym (ap (λ b. with_side side (cond b (a s) None) (find bytes_cmp s found)) (none_below (leads 0 is s) (place s (length is))))
 
 pub puts_more : (side : Side) (a : Step → Option Entry) (is : List ℕ) (i : ℕ) (old mid new : List (Step × Pair)) → Puts side (put_before a is i) old mid → Puts side (put_here a (is ++ i ∷ [])) mid new
     → Puts side (put_before a is (i + 1)) old new

@@ -1,4 +1,4 @@
-use Rattle.std.proofs.Common.{[], List, ap, refl}
+use Rattle.std.proofs.Common.{[], ap, refl}
 use Rattle.std.specs.FinMap.Entries.{find}
 use Rattle.ip_spec.specs.Path.{bytes_cmp}
 use Rattle.ip_spec.specs.Tree.{entries_of, subtree}

@@ -1,4 +1,4 @@
-use Rattle.std.proofs.Common.{◌≡◌, Option, Some, None, true, subst}
+use Rattle.std.proofs.Common.{◌≡◌, Option, true, subst}
 use Rattle.ip_tree.specs.declared.fetch.Content.{Content}
 use Rattle.ip_differ.specs.Pieces.{OpenedIs, has_children}
 use Rattle.ip_differ.proofs.Parting.{opened_fetched}

@@ -1,4 +1,4 @@
-use Rattle.std.proofs.Common.{◌≡◌, ℕ, List, Option, Some, ap, sym, ◌∙◌}
+use Rattle.std.proofs.Common.{ℕ, List, Some, ap, sym, ◌∙◌}
 use Rattle.std.specs.Prelude.{option_map}
 use Rattle.ip_shape.specs.Reading.{child_in}
 use Rattle.ip_spec.specs.declared.record.InodeChild.{InodeChild}

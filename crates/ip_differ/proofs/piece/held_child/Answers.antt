@@ -1,4 +1,4 @@
-use Rattle.std.proofs.Common.{◌≡◌, None, true, false, sym, subst}
+use Rattle.std.proofs.Common.{◌≡◌, None, true, subst}
 use Rattle.ip_differ.specs.Pieces.{OpenedIs, has_children}
 use Rattle.ip_differ.specs.declared.piece.Piece.{Piece}
 use Rattle.ip_differ.proofs.piece.held_child.Goals as goal

@@ -1,4 +1,4 @@
-use Rattle.std.proofs.Common.{[], rules, subst, sym}
+use Rattle.std.proofs.Common.{[], subst, sym}
 use Rattle.ip_spec.specs.Tree.{entries_of, subtree}
 use Rattle.ip_shape.specs.declared.part.Part.{Part}
 use Rattle.ip_tree.specs.declared.node.Stored.{Stored}

@@ -1,4 +1,4 @@
-use Rattle.std.proofs.Common.{◌≡◌, None, false, ap, subst, sym}
+use Rattle.std.proofs.Common.{◌≡◌, None, false, ap, subst}
 use Rattle.std.specs.FinMap.Entries.{find}
 use Rattle.ip_spec.specs.Path.{bytes_cmp}
 use Rattle.ip_differ.specs.Pieces.{OpenedIs, has_children}

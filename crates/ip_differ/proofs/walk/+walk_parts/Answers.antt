@@ -1,4 +1,4 @@
-use Rattle.std.proofs.Common.{◌≡◌, ◌+◌, ◌<◌, ◌++◌, ◌∷◌, [], length, true, rules, subst, ◌∙◌, arith}
+use Rattle.std.proofs.Common.{◌≡◌, ◌<◌, ◌++◌, ◌∷◌, [], length, true, rules, subst, ◌∙◌, arith}
 use Rattle.ip_spec.specs.Shape.{deepest}
 use Rattle.ip_tree.specs.Reads.{IsFree}
 use Rattle.ip_tree.proofs.Looking.{cause_on, causes_on, looks_on, still_over}
