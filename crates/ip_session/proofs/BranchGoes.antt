@@ -13,7 +13,7 @@ use Rattle.ip_spec.specs.declared.met.Met.{Met}
 use Rattle.ip_spec.specs.declared.reply.Reply.{Reply}
 use Rattle.ip_spec.specs.Map.{Map}
 use Rattle.ip_spec.specs.Path.{Bytes, bytes_cmp}
-use Rattle.ip_spec.specs.Repository.{Repository, head, number_named}
+use Rattle.ip_spec.specs.Repository.{Repository, head}
 use Rattle.ip_spec.specs.Machine.{Work as MachineWork, State, Limit}
 use Rattle.ip_spec.specs.Step.{Refused, ◌>>◌, ◌>>=◌, refuse_if, or_refused, Turned, present, not_leaving, resolve, room_for_branch, with_branch, is_short, Step, outcome, answer}
 use Rattle.ip_spec.specs.View.{View}

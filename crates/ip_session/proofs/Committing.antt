@@ -1,7 +1,7 @@
 -- What a session does that ran a commit.
 --     commit_goes      the store answered it.      commit_cut      a fault of the ground cut it short
 --     has_answer      what has a reply is an answer
-use Rattle.std.proofs.Common.{◌≡◌, Bool, true, false, length, refl, sym, ap, ◌∙◌, arith, Some, Ok, Err, length-append, ◌++◌, ◌∷◌, [], ◌*◌}
+use Rattle.std.proofs.Common.{◌≡◌, Bool, true, false, length, refl, sym, ap, ◌∙◌, arith, Some, Ok, Err, length-append, ◌++◌, ◌∷◌, []}
 use Rattle.std.specs.Prelude.{Result, IfSome, IfOk, codes}
 use Rattle.std.proofs.lemmas.Option.{IfSome_then}
 use Rattle.ip_base.specs.declared.info.Info.{Info}
@@ -14,7 +14,7 @@ use Rattle.ip_spec.specs.Record.{Hash}
 use Rattle.ip_spec.specs.Repository.{Repository, next}
 use Rattle.ip_spec.specs.Machine.{Phase, State, Limit}
 use Rattle.ip_spec.specs.Machine.{Work as MachineWork}
-use Rattle.ip_spec.specs.Step.{Refused, ◌>>◌, refuse_if, or_refused, Turned, not_given_up, head_among_parents, not_leaving, room_for_branch, not_existing, new_commit, with_commit, is_short, Step, outcome, answer, turned}
+use Rattle.ip_spec.specs.Step.{Refused, ◌>>◌, refuse_if, or_refused, Turned, not_given_up, head_among_parents, not_leaving, room_for_branch, not_existing, new_commit, with_commit, is_short, outcome, answer, turned}
 use Rattle.ip_spec.specs.View.{View}
 use Rattle.ip_spec.specs.Text.{reply_text, hex_text}
 use Rattle.ip_store.specs.declared.store.Store.{Store}

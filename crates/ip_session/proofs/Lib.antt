@@ -9,3 +9,4 @@ pub mod BranchGoes
 pub mod ReadGoes
 pub mod Beginning
 pub mod Placing
+mod Running

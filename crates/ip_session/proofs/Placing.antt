@@ -3,10 +3,9 @@
 --     commit_placed, set_placed, remove_placed      what the store says of its calls.      unnamed_placed      no commit has the name that was given
 --     read_placed      a command that may only read
 --     lined_placed      the line that spells a command.      quiet_placed      a line with a reply of none.      memory_placed      there was no memory for a reply's text
-use Rattle.std.proofs.Common.{◌≡◌, ◌≢◌, inl, ℕ, ◌+◌, ◌^◌, ◌<◌, ◌≤◌, Bool, true, false, List, [], ◌∷◌, refl, sym, ap, ◌∙◌, subst, arith, length, length-append, Ok, Err, Option, Some, None, IsTrue}
+use Rattle.std.proofs.Common.{◌≡◌, ◌≢◌, ℕ, ◌+◌, ◌^◌, ◌<◌, ◌≤◌, Bool, true, false, [], ◌∷◌, refl, sym, ap, ◌∙◌, subst, arith, length, length-append, Ok, Err, Some, IsTrue}
 use Rattle.std.specs.Prelude.{Result, OnOk, IfOk}
 use Rattle.ip_base.specs.declared.info.Info.{Info}
-use Rattle.ip_ground.specs.declared.names.FileName.{FileName}
 use Rattle.ip_ground.specs.declared.names.FileName.TheVariants.{Control}
 use Rattle.ip_ground.specs.Told.{Told, NoFile, ChangesOnly}
 use Rattle.ip_spec.specs.declared.command.Command.{Command}
@@ -17,23 +16,22 @@ use Rattle.ip_spec.specs.Batch.{AreEndToEnd, sources}
 use Rattle.ip_spec.specs.Machine.{State, Limit}
 use Rattle.ip_spec.specs.Path.{Bytes}
 use Rattle.ip_spec.specs.Record.{Hash, spelling, spelling_of}
-use Rattle.ip_spec.specs.Repository.{Repository, head, number_named}
-use Rattle.ip_spec.specs.Step.{Refused, present, resolve, with_branch}
+use Rattle.ip_spec.specs.Repository.{Repository}
+use Rattle.ip_spec.specs.Step.{resolve, with_branch}
 use Rattle.ip_spec.specs.TreeAt.{Records}
 use Rattle.ip_spec.specs.View.{View}
 use Rattle.ip_spec.proofs.BatchLaws.{batch_lies}
 use Rattle.ip_script.specs.Served.{IsServedLine}
 use Rattle.ip_image.specs.declared.slot.Slot.{Slot}
-use Rattle.ip_image.specs.Appending.{fields_of, grown_batch, grown_end, bytes_of_records}
+use Rattle.ip_image.specs.Appending.{fields_of, bytes_of_records}
 use Rattle.ip_image.proofs.HeadlineLaws.{one_slot}
 use Rattle.ip_image.proofs.Renaming.{spelled_is}
 use Rattle.ip_store.specs.declared.committing.StoreFault.{StoreFault}
 use Rattle.ip_store.specs.declared.store.Store.{Store}
-use Rattle.ip_store.specs.Changes.{HasAnswer, Changes, LimitsSpace, Appends, next_slot}
+use Rattle.ip_store.specs.Changes.{Changes, LimitsSpace, Appends, next_slot}
 use Rattle.ip_store.specs.Commits.{fault_reply, reply_to, records_of, end_of, Commits}
 use Rattle.ip_store.specs.Naming.{branch_reply, removed_reply, without_branch}
 use Rattle.ip_store.specs.Store.{Holds}
-use Rattle.ip_store.specs.Trees.{OnlyLooks}
 use Rattle.ip_store.proofs.Recovering.{held_has}
 use Rattle.ip_session.specs.declared.session.Session.{Session}
 use Rattle.ip_session.specs.declared.session.SessionEnd.{SessionEnd}

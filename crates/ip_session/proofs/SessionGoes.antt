@@ -17,7 +17,6 @@ use Rattle.ip_spec.specs.Path.{Bytes}
 use Rattle.ip_spec.specs.Repository.{Repository}
 use Rattle.ip_spec.specs.Machine.{State, Conditions}
 use Rattle.ip_spec.specs.Script.{LineStep}
-use Rattle.ip_spec.specs.Step.{Step}
 use Rattle.ip_spec.specs.Text.{reply_text}
 use Rattle.ip_spec.specs.View.{View}
 use Rattle.ip_script.specs.Served.{IsServedLine}

@@ -4,7 +4,7 @@
 --     no_rules      the merge rules of a session that is handed none
 --     met_only refused      what a command meets that changes no file: nothing but want of memory, if that
 --     is_durable command      it may change files.      IsDurable reply command      and with this reply it did
---     asks_ground command      it reads records.      HasWords command      it is served, with the words that its line may have
+--     HasWords command      it is served, with the words that its line may have
 --     ChangedBy image command reply, ChangedIn image line reply      the files that a command or a line with this reply may have changed
 --     TouchedBy image command, TouchedIn image line      and where it was cut short
 --     IsAnswered records s s' r v command reply      a command was run that changes no file
@@ -91,18 +91,6 @@ is_durable (Command.Commit branch info) = true
 is_durable (Command.Branch name target) = true
 is_durable (Command.BranchRm name) = true
 is_durable command = false
-
--- of those that are not durable
-abbrev pub asks_ground : Command → Bool
-asks_ground (Command.Checkout target) = true
-asks_ground (Command.Set path bytes) = true
-asks_ground (Command.Rm path) = true
-asks_ground (Command.Graft target from to) = true
-asks_ground (Command.Get path) = true
-asks_ground (Command.List path) = true
-asks_ground (Command.Cat target path) = true
-asks_ground (Command.Show target) = true
-asks_ground command = false
 
 abbrev pub IsDurable : Reply → Command → Type 0
 IsDurable (Reply.Committed hash) (Command.Commit branch info) = Unit {0}

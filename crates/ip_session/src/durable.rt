@@ -1,12 +1,10 @@
 // The commands that may change files.
-ghost use Rattle.std.specs.Prelude.{◌≡◌, false, IsTrue, IfOk, IfErr, OnErr};
+ghost use Rattle.std.specs.Prelude.{◌≡◌, false, IfErr};
 ghost use Rattle.ip_ground.specs.Counts.{Counts};
-ghost use Rattle.ip_spec.specs.View.{View};
 ghost use Rattle.ip_spec.specs.declared.command.Target.{Target};
 ghost use Rattle.ip_spec.specs.declared.command.Command.TheVariants as Command;
 ghost use Rattle.ip_spec.specs.Record.{IsBranchName, IsInfo};
-ghost use Rattle.ip_spec.specs.Repository.{Repository};
-ghost use Rattle.ip_session.specs.Placing.{PlacedBy};
+ghost use Rattle.ip_session.specs.Running.{Runs};
 ghost use Rattle.ip_session.specs.Session.{ground_end, met_only, IsHeld, EndsBy};
 
 use crate::replies::{branch_reply, removed_reply, reply_to};
@@ -16,7 +14,7 @@ use ip_ground::Ground;
 use ip_script::{Reply, Target};
 
 impl Session {
-    ghost use Rattle.ip_session.specs.Session.{IsServing, IsWorking, state_in, GoesBy, CutBy};
+    ghost use Rattle.ip_session.specs.Session.{IsServing};
 
     // Commits the work to a branch.
     pub(crate) fn commit<G: Ground>(
@@ -29,13 +27,7 @@ impl Session {
         requires info { IsInfo info }
         requires met { self.old.met ≡ met_only false }
         requires tables { IsServing self.old }
-        ensures tables { IfOk result (λ reply. IsServing self.new) }
-        ensures goes { IsTrue G.tells → (r : Repository) (v : View) → IsWorking (G.told ground.old) self.old r v →
-            IfOk result (GoesBy (G.told ground.old) (G.told ground.new) self.old self.new r v (Command.Commit branch.now info)) }
-        ensures placed { IsTrue G.tells → (r : Repository) (v : View) → IsWorking (G.told ground.old) self.old r v →
-            IfOk result (PlacedBy self.old.store.slot self.new.store.slot (state_in self.old r v) v (Command.Commit branch.now info)) }
-        ensures cut { IsTrue G.tells → (r : Repository) (v : View) → IsWorking (G.told ground.old) self.old r v →
-            OnErr result (CutBy (G.told ground.old) (G.told ground.new) self.old self.new r v (Command.Commit branch.now info)) }
+        ensures runs { Runs G.tells (G.told ground.old) (G.told ground.new) self.old self.new (Command.Commit branch.now info) result }
         ensures counts { Counts ground_end result (G.counts_of ground.old) (G.counts_of ground.new) }
         ensures cause { IfErr result (EndsBy (IsHeld G.tells (G.told ground.old) self.old)) }
     {
@@ -61,13 +53,7 @@ impl Session {
         requires name { IsBranchName name.now }
         requires met { self.old.met ≡ met_only false }
         requires tables { IsServing self.old }
-        ensures tables { IfOk result (λ reply. IsServing self.new) }
-        ensures goes { IsTrue G.tells → (r : Repository) (v : View) → IsWorking (G.told ground.old) self.old r v →
-            IfOk result (GoesBy (G.told ground.old) (G.told ground.new) self.old self.new r v (Command.Branch name.now target)) }
-        ensures placed { IsTrue G.tells → (r : Repository) (v : View) → IsWorking (G.told ground.old) self.old r v →
-            IfOk result (PlacedBy self.old.store.slot self.new.store.slot (state_in self.old r v) v (Command.Branch name.now target)) }
-        ensures cut { IsTrue G.tells → (r : Repository) (v : View) → IsWorking (G.told ground.old) self.old r v →
-            OnErr result (CutBy (G.told ground.old) (G.told ground.new) self.old self.new r v (Command.Branch name.now target)) }
+        ensures runs { Runs G.tells (G.told ground.old) (G.told ground.new) self.old self.new (Command.Branch name.now target) result }
         ensures counts { Counts ground_end result (G.counts_of ground.old) (G.counts_of ground.new) }
         ensures cause { IfErr result (EndsBy (IsHeld G.tells (G.told ground.old) self.old)) }
     {
@@ -94,13 +80,7 @@ impl Session {
         requires name { IsBranchName name }
         requires met { self.old.met ≡ met_only false }
         requires tables { IsServing self.old }
-        ensures tables { IfOk result (λ reply. IsServing self.new) }
-        ensures goes { IsTrue G.tells → (r : Repository) (v : View) → IsWorking (G.told ground.old) self.old r v →
-            IfOk result (GoesBy (G.told ground.old) (G.told ground.new) self.old self.new r v (Command.BranchRm name)) }
-        ensures placed { IsTrue G.tells → (r : Repository) (v : View) → IsWorking (G.told ground.old) self.old r v →
-            IfOk result (PlacedBy self.old.store.slot self.new.store.slot (state_in self.old r v) v (Command.BranchRm name)) }
-        ensures cut { IsTrue G.tells → (r : Repository) (v : View) → IsWorking (G.told ground.old) self.old r v →
-            OnErr result (CutBy (G.told ground.old) (G.told ground.new) self.old self.new r v (Command.BranchRm name)) }
+        ensures runs { Runs G.tells (G.told ground.old) (G.told ground.new) self.old self.new (Command.BranchRm name) result }
         ensures counts { Counts ground_end result (G.counts_of ground.old) (G.counts_of ground.new) }
         ensures cause { IfErr result (EndsBy (IsHeld G.tells (G.told ground.old) self.old)) }
     {

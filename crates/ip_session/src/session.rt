@@ -16,8 +16,9 @@ ghost use Rattle.ip_spec.specs.Text.{reply_text};
 ghost use Rattle.ip_store.specs.Commits.{met_nothing};
 ghost use Rattle.ip_store.specs.Store.{IsOf};
 ghost use Rattle.ip_store.specs.Work.{IsLawful};
-ghost use Rattle.ip_session.specs.Placing.{PlacedBy, PlacedIn};
-ghost use Rattle.ip_session.specs.Session.{ground_end, met_only, is_durable, asks_ground, HasRead, IsHeld, EndsBy};
+ghost use Rattle.ip_session.specs.Placing.{PlacedIn};
+ghost use Rattle.ip_session.specs.Running.{Runs};
+ghost use Rattle.ip_session.specs.Session.{ground_end, met_only, IsHeld, EndsBy};
 
 use crate::replies::{met_only, put_reply, refuse};
 use ip_base::limit::PARENTS_MAX;
@@ -80,7 +81,7 @@ pub struct Session {
 }
 
 impl Session {
-    ghost use Rattle.ip_session.specs.Session.{IsIn, IsServing, IsWorking, state_in, HasWords, IsAnswered, GoesBy, GoesIn, CutBy, CutIn};
+    ghost use Rattle.ip_session.specs.Session.{IsIn, IsServing, IsWorking, state_in, HasWords, IsAnswered, GoesIn, CutIn};
 
     /// A session begins idle, with the empty work.
     pub fn new(alloc: Global, store: Store) -> Self
@@ -215,43 +216,28 @@ impl Session {
         }
     }
 
-    // Runs a command that asks nothing of the ground.
-    pub(crate) fn run_within(&mut self, command: Command) -> Reply
+    // Runs a command.
+    fn run<G: Ground>(&mut self, ground: &mut G, command: Command) -> Result<Reply, SessionEnd>
         requires words { HasWords command }
-        requires within { (is_durable command ≡ false) × (asks_ground command ≡ false) }
         requires met { self.old.met ≡ met_only false }
         requires tables { IsServing self.old }
-        ensures tables { (r : Repository) → IsIn self.old r → IsIn self.new r }
-        ensures same_store { self.new.store ≡ self.old.store }
-        ensures answered { (records : ℕ → Option Record) (r : Repository) (v : View) → IsOf self.old.store r → IsLawful records r self.old.work v →
-            IsAnswered records self.old self.new r v command result }
-    {
-        match command {
-            Command::Empty => {
-                self.work = Work::empty(self.alloc);
-                Reply::Accepted
-            }
-            Command::Parent(target) => self.parent(target),
-            Command::Branches => self.branches(),
-            Command::Log(target) => self.log(target),
-            Command::Lcas { one, other } => self.lcas(one, other),
-            Command::Hash(bytes) => Reply::Hash(Hash(Sha256::digest(bytes.as_slice()))),
-            Command::Stat => self.stat(),
-            _ => unreachable!(),
-        }
-    }
-
-    // Runs a command that changes no file.
-    fn read<G: Ground>(&mut self, ground: &mut G, command: Command) -> Result<Reply, SessionEnd>
-        requires words { HasWords command }
-        requires quiet { is_durable command ≡ false }
-        requires met { self.old.met ≡ met_only false }
-        requires tables { IsServing self.old }
-        ensures reads { HasRead G.tells (G.told ground.old) (G.told ground.new) self.old self.new command result }
+        ensures runs { Runs G.tells (G.told ground.old) (G.told ground.new) self.old self.new command result }
         ensures counts { Counts ground_end result (G.counts_of ground.old) (G.counts_of ground.new) }
         ensures cause { IfErr result (EndsBy (IsHeld G.tells (G.told ground.old) self.old)) }
     {
         match command {
+            // It asks nothing of the ground.
+            Command::Empty => {
+                self.work = Work::empty(self.alloc);
+                Ok(Reply::Accepted)
+            }
+            Command::Parent(target) => Ok(self.parent(target)),
+            Command::Branches => Ok(self.branches()),
+            Command::Log(target) => Ok(self.log(target)),
+            Command::Lcas { one, other } => Ok(self.lcas(one, other)),
+            Command::Hash(bytes) => Ok(Reply::Hash(Hash(Sha256::digest(bytes.as_slice())))),
+            Command::Stat => Ok(self.stat()),
+            // It reads records, and changes no file.
             Command::Checkout(target) => self.checkout(ground, target),
             Command::Set { path, contents } => self.set(ground, path, contents),
             Command::Rm(path) => self.remove(ground, path),
@@ -260,30 +246,12 @@ impl Session {
             Command::List(path) => self.list(ground, path),
             Command::Cat { target, path } => self.cat(ground, target, path),
             Command::Show(target) => self.show(ground, target),
-            within => Ok(self.run_within(within)),
-        }
-    }
-
-    // Runs a command.
-    fn run<G: Ground>(&mut self, ground: &mut G, command: Command) -> Result<Reply, SessionEnd>
-        requires words { HasWords command }
-        requires met { self.old.met ≡ met_only false }
-        requires tables { IsServing self.old }
-        ensures tables { IfOk result (λ reply. IsServing self.new) }
-        ensures goes { IsTrue G.tells → (r : Repository) (v : View) → IsWorking (G.told ground.old) self.old r v →
-            IfOk result (GoesBy (G.told ground.old) (G.told ground.new) self.old self.new r v command) }
-        ensures placed { IsTrue G.tells → (r : Repository) (v : View) → IsWorking (G.told ground.old) self.old r v →
-            IfOk result (PlacedBy self.old.store.slot self.new.store.slot (state_in self.old r v) v command) }
-        ensures cut { IsTrue G.tells → (r : Repository) (v : View) → IsWorking (G.told ground.old) self.old r v →
-            OnErr result (CutBy (G.told ground.old) (G.told ground.new) self.old self.new r v command) }
-        ensures counts { Counts ground_end result (G.counts_of ground.old) (G.counts_of ground.new) }
-        ensures cause { IfErr result (EndsBy (IsHeld G.tells (G.told ground.old) self.old)) }
-    {
-        match command {
+            // It may change files.
             Command::Commit { branch, info } => self.commit(ground, branch.as_slice(), info),
             Command::Branch { name, target } => self.set_branch(ground, name.as_slice(), target),
             Command::BranchRm(name) => self.remove_branch(ground, name),
-            quiet => self.read(ground, quiet),
+            // No other is served.
+            _ => unreachable!(),
         }
     }
 

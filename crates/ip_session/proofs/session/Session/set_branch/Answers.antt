@@ -8,42 +8,48 @@ use Rattle.ip_session.proofs.BranchGoes.{unnamed_goes, serves, set_goes, set_cut
 use Rattle.ip_session.proofs.Placing.{unnamed_placed, set_placed}
 use Rattle.ip_session.proofs.session.Session.set_branch.Goals as goal
 
-pub returns-in-Err-clause-goes : goal.returns-in-Err-clause-goes
-returns-in-Err-clause-goes g c told r v here = unnamed_goes _ c.args.self.now c.args.self.now.met r v here c.args.name.now c.args.target c.in-Err.reply c.requires.met (sym (c.in-Err.ensures.number r here.holds.tables))
-
 pub set_branch-made-requires-clause-tables : goal.set_branch-made-requires-clause-tables
 set_branch-made-requires-clause-tables g c =
     let (r, is) = c.requires.tables in
     (r, is.0, c.in-Ok.ensures.retained r is.0)
 
-pub returns-in-Some-clause-tables : goal.returns-in-Some-clause-tables
-returns-in-Some-clause-tables g c =
-    let (r, is) = c.requires.tables in
-    let store = c.set_branch-made.new.self in
-    let answers = subst (λ (o : Option Reply). IfSome o (AnswersSet r c.args.name.now c.in-Ok.number store.met store)) (sym c.branch_reply.ensures ∙ c.in-Some.is) (c.set_branch-made.ensures.answered r is.0 (c.in-Ok.ensures.retained r is.0)) in
-    serves r (Command.Branch c.args.name.now c.args.target) store.met c.in-Some.reply store c.args.self.now is.1 (answers c.args.target (sym (c.in-Ok.ensures.number r is.0)))
+pub returns-in-Err-clause-runs : goal.returns-in-Err-clause-runs
+returns-in-Err-clause-runs g c = record {
+  serving = c.requires.tables;
+  goes = λ told r v here. unnamed_goes _ c.args.self.now c.args.self.now.met r v here c.args.name.now c.args.target c.in-Err.reply c.requires.met (sym (c.in-Err.ensures.number r here.holds.tables));
+  placed = λ told r v here. unnamed_placed _ _ v c.args.name.now c.args.target c.in-Err.reply (sym (c.in-Err.ensures.number r here.holds.tables));
+  cut = λ told r v here. tt;
+}
 
-pub returns-in-Some-clause-goes : goal.returns-in-Some-clause-goes
-returns-in-Some-clause-goes g c told r v here =
-    let tables = here.holds.tables in
-    let retained = c.in-Ok.ensures.retained r tables in
-    set_goes _ _ c.args.self.now c.set_branch-made.new.self _ r v here c.args.name.now c.args.target c.in-Ok.number (sym (c.in-Ok.ensures.number r tables)) c.set_branch-made.result (c.set_branch-made.ensures.any_moment told r here.holds retained)
-    (λ has q now kept parents. record { holds = now; lawful = works_stay _ _ r q _ v here.lawful (c.set_branch-made.ensures.records_stay told has r q here.holds now) kept parents })
-    c.in-Some.reply c.met-self.ensures (sym c.branch_reply.ensures ∙ c.in-Some.is) (c.set_branch-made.ensures.answered r tables retained)
+pub returns-in-Some-clause-runs : goal.returns-in-Some-clause-runs
+returns-in-Some-clause-runs g c = record {
+  serving =
+      let (r, is) = c.requires.tables in
+      let store = c.set_branch-made.new.self in
+      let answers = subst (λ (o : Option Reply). IfSome o (AnswersSet r c.args.name.now c.in-Ok.number store.met store)) (sym c.branch_reply.ensures ∙ c.in-Some.is) (c.set_branch-made.ensures.answered r is.0 (c.in-Ok.ensures.retained r is.0)) in
+      serves r (Command.Branch c.args.name.now c.args.target) store.met c.in-Some.reply store c.args.self.now is.1 (answers c.args.target (sym (c.in-Ok.ensures.number r is.0)));
+  goes = λ told r v here.
+      let tables = here.holds.tables in
+      let retained = c.in-Ok.ensures.retained r tables in
+      set_goes _ _ c.args.self.now c.set_branch-made.new.self _ r v here c.args.name.now c.args.target c.in-Ok.number (sym (c.in-Ok.ensures.number r tables)) c.set_branch-made.result (c.set_branch-made.ensures.any_moment told r here.holds retained)
+      (λ has q now kept parents. record { holds = now; lawful = works_stay _ _ r q _ v here.lawful (c.set_branch-made.ensures.records_stay told has r q here.holds now) kept parents })
+      c.in-Some.reply c.met-self.ensures (sym c.branch_reply.ensures ∙ c.in-Some.is) (c.set_branch-made.ensures.answered r tables retained);
+  placed = λ told r v here.
+      let tables = here.holds.tables in
+      set_placed _ _ c.args.self.now c.set_branch-made.new.self r v here c.args.name.now c.args.target c.in-Ok.number (sym (c.in-Ok.ensures.number r tables)) c.set_branch-made.result c.in-Some.reply (sym c.branch_reply.ensures ∙ c.in-Some.is)
+      (c.set_branch-made.ensures.any_moment told r here.holds (c.in-Ok.ensures.retained r tables)) c.set_branch-made.ensures.limits (c.set_branch-made.ensures.appends told);
+  cut = λ told r v here. tt;
+}
 
-pub returns-in-None-clause-cut : goal.returns-in-None-clause-cut
-returns-in-None-clause-cut g c told r v here =
-    let tables = here.holds.tables in
-    let retained = c.in-Ok.ensures.retained r tables in
-    set_cut _ _ c.args.self.now c.set_branch-made.new.self _ r v here c.args.name.now c.args.target c.in-Ok.number (sym (c.in-Ok.ensures.number r tables)) c.set_branch-made.result (c.set_branch-made.ensures.any_moment told r here.holds retained)
-    (λ has q now kept parents. record { holds = now; lawful = works_stay _ _ r q _ v here.lawful (c.set_branch-made.ensures.records_stay told has r q here.holds now) kept parents })
-    c.requires.met (c.set_branch-made.ensures.begun r tables (is_ground_set c.set_branch-made.result c.set_branch-made.ensures.undamaged (sym c.branch_reply.ensures ∙ c.in-None.is)))
-
-pub returns-in-Err-clause-placed : goal.returns-in-Err-clause-placed
-returns-in-Err-clause-placed g c told r v here = unnamed_placed _ _ v c.args.name.now c.args.target c.in-Err.reply (sym (c.in-Err.ensures.number r here.holds.tables))
-
-pub returns-in-Some-clause-placed : goal.returns-in-Some-clause-placed
-returns-in-Some-clause-placed g c told r v here =
-    let tables = here.holds.tables in
-    set_placed _ _ c.args.self.now c.set_branch-made.new.self r v here c.args.name.now c.args.target c.in-Ok.number (sym (c.in-Ok.ensures.number r tables)) c.set_branch-made.result c.in-Some.reply (sym c.branch_reply.ensures ∙ c.in-Some.is)
-    (c.set_branch-made.ensures.any_moment told r here.holds (c.in-Ok.ensures.retained r tables)) c.set_branch-made.ensures.limits (c.set_branch-made.ensures.appends told)
+pub returns-in-None-clause-runs : goal.returns-in-None-clause-runs
+returns-in-None-clause-runs g c = record {
+  serving = tt;
+  goes = λ told r v here. tt;
+  placed = λ told r v here. tt;
+  cut = λ told r v here.
+      let tables = here.holds.tables in
+      let retained = c.in-Ok.ensures.retained r tables in
+      set_cut _ _ c.args.self.now c.set_branch-made.new.self _ r v here c.args.name.now c.args.target c.in-Ok.number (sym (c.in-Ok.ensures.number r tables)) c.set_branch-made.result (c.set_branch-made.ensures.any_moment told r here.holds retained)
+      (λ has q now kept parents. record { holds = now; lawful = works_stay _ _ r q _ v here.lawful (c.set_branch-made.ensures.records_stay told has r q here.holds now) kept parents })
+      c.requires.met (c.set_branch-made.ensures.begun r tables (is_ground_set c.set_branch-made.result c.set_branch-made.ensures.undamaged (sym c.branch_reply.ensures ∙ c.in-None.is)));
+}

@@ -13,12 +13,15 @@ use Rattle.ip_session.specs.Session.{state_in}
 use Rattle.ip_spec.specs.declared.reply.Reply.{Reply}
 use Rattle.ip_session.proofs.session.Session.step.Goals as goal
 
+pub returns-in-Ok-clause-tables : goal.returns-in-Ok-clause-tables
+returns-in-Ok-clause-tables g c = c.run.ensures.runs.serving
+
 pub returns-in-Ok-clause-goes : goal.returns-in-Ok-clause-goes
 returns-in-Ok-clause-goes g c told r v here = lined_ok _ _ c.args.self.now c.run.new.self c.met_only-self.result r v c.in-Ok.command c.args.line.now c.run.result c.in-Ok.ensures.reads
-    (λ other spelled. one_command c.args.line.now other c.in-Ok.command spelled c.in-Ok.ensures.reads) (c.run.ensures.goes told r v here)
+    (λ other spelled. one_command c.args.line.now other c.in-Ok.command spelled c.in-Ok.ensures.reads) (c.run.ensures.runs.goes told r v here)
 
 pub returns-in-Ok-clause-cut : goal.returns-in-Ok-clause-cut
-returns-in-Ok-clause-cut g c told r v here = lined_cut _ _ c.args.self.now c.run.new.self c.met_only-self.result r v c.in-Ok.command c.args.line.now c.run.result c.in-Ok.ensures.reads (c.run.ensures.cut told r v here)
+returns-in-Ok-clause-cut g c told r v here = lined_cut _ _ c.args.self.now c.run.new.self c.met_only-self.result r v c.in-Ok.command c.args.line.now c.run.result c.in-Ok.ensures.reads (c.run.ensures.runs.cut told r v here)
 
 pub returns-in-Err-Bad-clause-goes : goal.returns-in-Err-Bad-clause-goes
 returns-in-Err-Bad-clause-goes g c told r v here = bad_goes _ c.args.self.now c.met_only-self.result r v here c.args.line.now c.in-Err-Bad.at c.met_only-self.ensures
@@ -30,7 +33,7 @@ returns-in-Err-Memory-clause-goes g c told r v here = refused_goes _ c.args.self
 
 pub returns-in-Ok-clause-placed : goal.returns-in-Ok-clause-placed
 returns-in-Ok-clause-placed g c told r v here = lined_placed _ _ _ v c.in-Ok.command c.args.line.now c.run.result c.in-Ok.ensures.reads
-    (λ other spelled. one_command c.args.line.now other c.in-Ok.command spelled c.in-Ok.ensures.reads) (c.run.ensures.placed told r v here)
+    (λ other spelled. one_command c.args.line.now other c.in-Ok.command spelled c.in-Ok.ensures.reads) (c.run.ensures.runs.placed told r v here)
 
 pub returns-in-Err-Bad-clause-placed : goal.returns-in-Err-Bad-clause-placed
 returns-in-Err-Bad-clause-placed g c told r v here = quiet_placed _ _ v c.args.line.now (Reply.Bad c.in-Err-Bad.at) (λ command h. h) (λ l is. absurd (cc is))
