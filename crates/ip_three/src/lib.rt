@@ -8,5 +8,7 @@ mod load;
 mod merge;
 mod plan;
 mod side;
+#[cfg(test)]
+mod tests;
 
 pub use merge::{ThreeFault, merge_trees};
