@@ -9,8 +9,8 @@ use Rattle.std.specs.declared.cmp.Ordering.TheVariants.{Less, Equal}
 use Rattle.ip_merge.proofs.PathOrder.{path_itself, prefix_steps, steps_prefix}
 use Rattle.ip_spec.specs.Path.{Bytes, Path, path_cmp, is_prefix}
 use Rattle.ip_spec.specs.declared.merge.Merged.{Merged}
-use Rattle.ip_spec.specs.Merge.{Meaning, longest, better, rule_of, same_means, IsOneAnswer}
-use Rattle.ip_merge.specs.Rules.{IsAscending, IsPlace, IsGap, meanings, Picks, PicksNone}
+use Rattle.ip_spec.specs.Merge.{Meaning, means, longest, better, rule_of, same_merger, same_means, IsOneAnswer}
+use Rattle.ip_merge.specs.Rules.{IsAscending, IsPlace, IsGap, meanings, Picks, PicksNone, HasOneAnswer}
 
 false_unless : (b : Bool) → (b ≡ true → ⊥) → b ≡ false
 false_unless true h = absurd (h refl)
@@ -18,6 +18,10 @@ false_unless false h = refl
 
 less_not_equal : Less ≡ Equal → ⊥
 less_not_equal h = cc
+
+-- a merger that computes means what it answers, and nothing else
+pub computes : (merger : Option Bytes → Option Bytes → Option Bytes → Merged) → HasOneAnswer (means merger)
+computes merger o a b = (merger o a b, refl, λ s is. is)
 
 module _ {R : Type 0} (at : R → Path) (p : Path) where
   abbrev Unfit : R → Type 0
@@ -103,6 +107,17 @@ module _ {R : Type 0} (at : R → Path) (p : Path) where
   -- where each rule means one answer, so does the rule of each path
   pub one_rule : (means : R → Meaning) (rules : List R) → All (λ r. IsOneAnswer (means r)) rules → IsOneAnswer (rule_of (meanings at means rules) p)
   one_rule means rules all = one_longest means ([], same_means) rules (λ o a b r s e f. e ∙ sym f) all
+
+  decisive_longest : (means : R → Meaning) (best : Path × Meaning) (rules : List R) → HasOneAnswer best.1 → All (λ r. HasOneAnswer (means r)) rules → HasOneAnswer (longest p best (meanings at means rules))
+  decisive_longest means best [] h all = h
+  decisive_longest means best (r ∷ rules) h all =
+      decisive_longest means (better_rule means best r) rules
+      (elim (is_prefix (at r) p && leb (length best.0) (length (at r))) as (λ b. HasOneAnswer (better b (at r, means r) best).1) [ true ↦ All-head (λ r. HasOneAnswer (means r)) r rules all | false ↦ h ])
+      (All-tail (λ r. HasOneAnswer (means r)) r rules all)
+
+  -- where each rule means one answer and no other, so does the rule of each path
+  pub decisive_rule : (means : R → Meaning) (rules : List R) → All (λ r. HasOneAnswer (means r)) rules → HasOneAnswer (rule_of (meanings at means rules) p)
+  decisive_rule means rules all = decisive_longest means ([], same_means) rules (computes same_merger) all
 
   -- no rule's path is longer than all prefixes
   pub none_longer : (rules : List R) → All (Below (length p + 1)) rules

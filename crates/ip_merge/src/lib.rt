@@ -2,6 +2,7 @@
 #![tactic(auto)]
 
 ghost use Rattle.ip_spec.specs.Merge.{IsOneAnswer, same_means, counter_means, line_set_means};
+ghost use Rattle.ip_merge.specs.Rules.{HasOneAnswer};
 
 mod call;
 mod counter;
@@ -29,6 +30,13 @@ pub fn one_answer()
     ensures same { IsOneAnswer same_means }
     ensures counter { IsOneAnswer counter_means }
     ensures line_set { IsOneAnswer line_set_means }
+{}
+
+/// Each of these means exactly one answer, so rules of nothing else are decisive.
+pub fn exact_answer()
+    ensures same { HasOneAnswer same_means }
+    ensures counter { HasOneAnswer counter_means }
+    ensures line_set { HasOneAnswer line_set_means }
 {}
 
 #[cfg(test)]

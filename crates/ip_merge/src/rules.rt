@@ -4,7 +4,7 @@ ghost use Rattle.ip_spec.specs.Path.{Path, path_cmp};
 ghost use Rattle.std.specs.Option.{option_copied};
 ghost use Rattle.ip_spec.specs.Merge.{Meaning, rule_of, IsOneAnswer};
 ghost use Rattle.ip_merge.specs.declared.rules.Rule.TheVariants.{Boxed, Closure};
-ghost use Rattle.ip_merge.specs.Rules.{IsAscending, IsPlace, IsGap, meanings, Picks, PicksNone, has_rule, with_rule};
+ghost use Rattle.ip_merge.specs.Rules.{IsAscending, IsPlace, IsGap, meanings, Picks, PicksNone, has_rule, with_rule, HasOneAnswer, IsDecisive};
 
 use crate::order::compare;
 use crate::{Call, Merged, Merger, Same};
@@ -116,6 +116,12 @@ impl Rules {
     pub fn one_answer(&self)
         requires { All (λ r. IsOneAnswer (elim r.merger [ Boxed b ↦ means b | Closure call ↦ ⟦<Call as Merger>⟧.means call ])) self.now.list.items }
         ensures { (p : Path) → IsOneAnswer (rule_of (meanings (λ r. r.at) (λ r. elim r.merger [ Boxed b ↦ means b | Closure call ↦ ⟦<Call as Merger>⟧.means call ]) self.now.list.items) p) }
+    {}
+
+    /// Where each merger means exactly one answer for three values, so does the rule of each path.
+    pub fn exact_answer(&self)
+        requires { All (λ r. HasOneAnswer (elim r.merger [ Boxed b ↦ means b | Closure call ↦ ⟦<Call as Merger>⟧.means call ])) self.now.list.items }
+        ensures { IsDecisive (rule_of (meanings (λ r. r.at) (λ r. elim r.merger [ Boxed b ↦ means b | Closure call ↦ ⟦<Call as Merger>⟧.means call ]) self.now.list.items)) }
     {}
 
     /// What the rule of the path answers.
