@@ -142,6 +142,7 @@ served_with Form.Get values rest line s e = (tt, joined (command_with Form.Get v
 served_with Form.List values rest line s e = (tt, joined (command_with Form.List values) line rest s e)
 served_with Form.Cat values rest line s e = (tt, joined (command_with Form.Cat values) line rest s e)
 served_with Form.Commit values rest line (name, more, is, s, f) e = (tt, joined (command_with Form.Commit values) line rest (name, more, is, info_joined values.1 more s, f) e)
+served_with Form.Merge values rest line (ref, most, is, (name, more, named, s, f), g) e = (tt, joined (command_with Form.Merge values) line rest (ref, most, is, (name, more, named, info_joined values.1.1 more s, f), g) e)
 served_with Form.Branch values rest line s e = (tt, joined (command_with Form.Branch values) line rest s e)
 served_with Form.BranchRm values rest line s e = (tt, joined (command_with Form.BranchRm values) line rest s e)
 served_with Form.Branches values rest line s e = (tt, joined (command_with Form.Branches values) line rest s e)
@@ -183,6 +184,11 @@ formed (Command.Commit branch info) line (u, l) =
     let p = parts (Command.Commit branch info) line l in
     let s = p.1 in
     record { form = Form.Commit; values = (branch, (info.date, (info.author, (info.message, tt)))); rest = p.0; words = (s.0, s.1, s.2, info_split info s.1 s.3, s.4); line_is = p.2; command = refl }
+formed (Command.Merge target branch info) line (u, l) =
+    let p = parts (Command.Merge target branch info) line l in
+    let s = p.1 in
+    let t = s.3 in
+    record { form = Form.Merge; values = (target, (branch, (info.date, (info.author, (info.message, tt))))); rest = p.0; words = (s.0, s.1, s.2, (t.0, t.1, t.2, info_split info t.1 t.3, t.4), s.4); line_is = p.2; command = refl }
 formed (Command.Branch name target) line (u, l) = let p = parts (Command.Branch name target) line l in record { form = Form.Branch; values = (name, (target, tt)); rest = p.0; words = p.1; line_is = p.2; command = refl }
 formed (Command.BranchRm name) line (u, l) = let p = parts (Command.BranchRm name) line l in record { form = Form.BranchRm; values = (name, tt); rest = p.0; words = p.1; line_is = p.2; command = refl }
 formed Command.Branches line (u, l) = let p = parts Command.Branches line l in record { form = Form.Branches; values = tt; rest = p.0; words = p.1; line_is = p.2; command = refl }

@@ -89,6 +89,7 @@ command_with Form.Get (path, none) = Command.Get path
 command_with Form.List (path, none) = Command.List path
 command_with Form.Cat (target, (path, none)) = Command.Cat target path
 command_with Form.Commit (branch, (date, (author, (message, none)))) = Command.Commit branch (record { date = date; author = author; message = message })
+command_with Form.Merge (target, (branch, (date, (author, (message, none))))) = Command.Merge target branch (record { date = date; author = author; message = message })
 command_with Form.Branch (name, (target, none)) = Command.Branch name target
 command_with Form.BranchRm (name, none) = Command.BranchRm name
 command_with Form.Branches values = Command.Branches

@@ -3,7 +3,7 @@
 use Rattle.ip_spec.specs.declared.command.Command.{Command}
 use Rattle.ip_spec.specs.Line.{Grammar, IsLineOf}
 
--- The commands that are served so far: not those of merging and of collecting. They come with what they stand on.
+-- The commands that are served so far: not those of collecting. They come with what they stand on.
 abbrev pub IsServed : Command → Type 0
 IsServed Command.Empty = Unit {0}
 IsServed (Command.Checkout target) = Unit {0}
@@ -15,6 +15,7 @@ IsServed (Command.Get path) = Unit {0}
 IsServed (Command.List path) = Unit {0}
 IsServed (Command.Cat target path) = Unit {0}
 IsServed (Command.Commit branch info) = Unit {0}
+IsServed (Command.Merge target branch info) = Unit {0}
 IsServed (Command.Branch name target) = Unit {0}
 IsServed (Command.BranchRm name) = Unit {0}
 IsServed Command.Branches = Unit {0}

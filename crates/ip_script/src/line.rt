@@ -31,6 +31,7 @@ enum Form {
     List,
     Cat,
     Commit,
+    Merge,
     Branch,
     BranchRm,
     Branches,
@@ -41,7 +42,7 @@ enum Form {
     Stat,
 }
 
-const FORMS: [Form; 18] = [
+const FORMS: [Form; 19] = [
     Form::Empty,
     Form::Checkout,
     Form::Set,
@@ -52,6 +53,7 @@ const FORMS: [Form; 18] = [
     Form::List,
     Form::Cat,
     Form::Commit,
+    Form::Merge,
     Form::Branch,
     Form::BranchRm,
     Form::Branches,
@@ -77,6 +79,7 @@ impl Form {
             Form::List => b"list",
             Form::Cat => b"cat",
             Form::Commit => b"commit",
+            Form::Merge => b"merge",
             Form::Branch => b"branch",
             Form::BranchRm => b"branch-rm",
             Form::Branches => b"branches",
@@ -102,6 +105,13 @@ impl Form {
             Form::List => &[Field::Place],
             Form::Cat => &[Field::Reference, Field::Path],
             Form::Commit => &[Field::Name, Field::Date, Field::Author, Field::Message],
+            Form::Merge => &[
+                Field::Reference,
+                Field::Name,
+                Field::Date,
+                Field::Author,
+                Field::Message,
+            ],
             Form::Branch => &[Field::Name, Field::Reference],
             Form::BranchRm => &[Field::Name],
             Form::Branches => &[],
@@ -172,6 +182,7 @@ fn command_of(alloc: Global, form: Form, text: &[u8]) -> Result<Command, Memory>
             branch: words.text(alloc, Field::Name)?,
             info: words.info(alloc)?,
         }),
+        Form::Merge => merge_of(alloc, words),
         Form::Branch => Ok(Command::Branch {
             name: words.text(alloc, Field::Name)?,
             target: words.target(alloc)?,
@@ -202,6 +213,18 @@ fn cat_of(alloc: Global, mut words: Words<'_>) -> Result<Command, Memory>
     Ok(Command::Cat {
         target: words.target(alloc)?,
         path: words.path(alloc)?,
+    })
+}
+
+fn merge_of(alloc: Global, mut words: Words<'_>) -> Result<Command, Memory>
+    ensures { IfOk result (λ command. command ≡ command_at Form.Merge (left_of words.entry)) }
+{
+    let target = words.target(alloc)?;
+    let branch = words.text(alloc, Field::Name)?;
+    Ok(Command::Merge {
+        target,
+        branch,
+        info: words.info(alloc)?,
     })
 }
 

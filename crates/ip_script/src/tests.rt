@@ -41,7 +41,10 @@ fn lines_go_wrong_where_the_grammar_says(rt: HostRuntime) {
         (b"log main", None),
         (b"log  main", Some(4)),
         (b"look", Some(2)),
-        (b"merge dev main 0 a m", Some(0)),
+        (b"me", Some(2)),
+        (b"merge", Some(5)),
+        (b"merges", Some(5)),
+        (b"merge x", Some(7)),
         (b"collect main", Some(2)),
         (b"finish", Some(0)),
         (b"cancel", Some(2)),
@@ -179,6 +182,32 @@ fn the_words_of_a_commit_go_wrong_at_a_byte(rt: HostRuntime) {
 }
 
 #[test]
+fn the_words_of_a_merge_go_wrong_at_a_byte(rt: HostRuntime) {
+    let lines = [
+        (b"merge dev main 0 a m".as_slice(), None),
+        (b"merge main main 0 a  m ", None),
+        (b"merge  main 0 a m", Some(6)),
+        (b"merge @x main 0 a m", Some(7)),
+        (b"merge a@ main 0 a m", None),
+        (b"merge dev", Some(9)),
+        (b"merge dev ", Some(10)),
+        (b"merge dev @x 0 a m", Some(10)),
+        (b"merge dev main", Some(14)),
+        (b"merge dev main me m", Some(15)),
+        (b"merge dev main 007 a m", Some(16)),
+        (b"merge dev main 18446744073709551615 a m", None),
+        (b"merge dev main 18446744073709551616 a m", Some(34)),
+        (b"merge dev main 0  m", Some(17)),
+        (b"merge dev main 0 a", Some(18)),
+        (b"merge dev main 0 a ", Some(19)),
+        (b"merge dev main 0 a \0", Some(19)),
+    ];
+    for (line, want) in lines {
+        assert_eq!(rt; bad_at(rt.alloc(), line), want, "{line:?}");
+    }
+}
+
+#[test]
 fn a_word_has_so_many_bytes_at_most(rt: HostRuntime) -> Result<(), Fail> {
     let alloc = rt.alloc();
     let rows = [
@@ -195,6 +224,12 @@ fn a_word_has_so_many_bytes_at_most(rt: HostRuntime) -> Result<(), Fail> {
         (b"commit b 0 ", 256, b" m", Some(266)),
         (b"commit b 0 a ", 4096, b"", None),
         (b"commit b 0 a ", 4097, b"", Some(4109)),
+        (b"merge ", 255, b" main 0 a m", None),
+        (b"merge ", 256, b" main 0 a m", Some(261)),
+        (b"merge dev ", 256, b" 0 a m", Some(265)),
+        (b"merge b b 0 ", 256, b" m", Some(267)),
+        (b"merge b b 0 a ", 4096, b"", None),
+        (b"merge b b 0 a ", 4097, b"", Some(4110)),
         (b"branch ", 255, b" main", None),
         (b"branch ", 256, b" main", Some(262)),
         (b"branch-rm ", 256, b"", Some(265)),
@@ -342,6 +377,10 @@ fn a_commit_has_64_digits(rt: HostRuntime) -> Result<(), Fail> {
         (b"lcas @H0 @H01", Some(69)),
         (b"lcas @H00 @H0", Some(135)),
         (b"lcas main @H00", None),
+        (b"merge @H00 main 0 a m", None),
+        (b"merge @H0 main 0 a m", Some(70)),
+        (b"merge @H000 main 0 a m", Some(71)),
+        (b"merge main @H00 0 a m", Some(11)),
     ];
     for (text, want) in rows {
         let line = with_digits(alloc, text, b"aF", 31)?;
@@ -361,6 +400,11 @@ fn last_reference(command: Command) -> Option<Target> {
         } => Some(target),
         Command::Parent(target) => Some(target),
         Command::Cat { target, path: _ } => Some(target),
+        Command::Merge {
+            target,
+            branch: _,
+            info: _,
+        } => Some(target),
         Command::Branch { name: _, target } => Some(target),
         Command::Show(target) => Some(target),
         Command::Log(target) => Some(target),
@@ -405,6 +449,8 @@ fn references_are_read(rt: HostRuntime) -> Result<(), Fail> {
         (b"graft main / x", b"main"),
         (b"cat @0BH a/b", name.as_slice()),
         (b"show main", b"main"),
+        (b"merge dev main 0 a m", b"dev"),
+        (b"merge @0BH main 0 a m", name.as_slice()),
     ];
     for (text, want) in rows {
         let line = with_digits(alloc, text, b"aF", 31)?;
@@ -433,6 +479,30 @@ fn a_message_is_the_rest_of_the_line(rt: HostRuntime) -> Result<(), Fail> {
         b"commit main 18446744073709551615 me  all of it ",
     ) {
         Ok(Command::Commit { branch, info }) => {
+            assert_eq!(rt; branch.as_slice(), b"main".as_slice());
+            assert_eq!(rt; info.date, u64::MAX);
+            assert_eq!(rt; info.author.as_slice(), b"me".as_slice());
+            assert_eq!(rt; info.message.as_slice(), b" all of it ".as_slice());
+            Ok(())
+        }
+        _ => Err("no command")?,
+    }
+}
+
+#[test]
+fn a_merge_has_a_reference_a_branch_and_an_info(rt: HostRuntime) -> Result<(), Fail> {
+    match read_line(
+        rt.alloc(),
+        b"merge dev main 18446744073709551615 me  all of it ",
+    ) {
+        Ok(
+            Command::Merge {
+                target,
+                branch,
+                info,
+            },
+        ) => {
+            assert!(rt; is_target(&target, b"dev"));
             assert_eq!(rt; branch.as_slice(), b"main".as_slice());
             assert_eq!(rt; info.date, u64::MAX);
             assert_eq!(rt; info.author.as_slice(), b"me".as_slice());
