@@ -33,7 +33,7 @@ module _ (r : Repository) (work : Work) (command : Command) (may : MayRefuse com
   abbrev s : State
   s = state_at r work
 
-  plain : (reply : Reply) → IsMet s command (conditions_of met_nothing) reply
+  pub plain : (reply : Reply) → IsMet s command (conditions_of met_nothing) reply
   plain reply = record {
     child = refl;
     checking = tt;
@@ -44,7 +44,7 @@ module _ (r : Repository) (work : Work) (command : Command) (may : MayRefuse com
     refused = λ t. absurd (cc (t));
   }
 
-  short : (limit : Limit) → IfSome (short_of limit) (λ l. (Reply.Limit limit ≡ Reply.Limit l) × MayBeShort l) → IsMet s command (conditions_of (met_of (StoreFault.Limit limit))) (Reply.Limit limit)
+  pub short : (limit : Limit) → IfSome (short_of limit) (λ l. (Reply.Limit limit ≡ Reply.Limit l) × MayBeShort l) → IsMet s command (conditions_of (met_of (StoreFault.Limit limit))) (Reply.Limit limit)
   short limit so = record {
     child = refl;
     checking = tt;
@@ -55,7 +55,7 @@ module _ (r : Repository) (work : Work) (command : Command) (may : MayRefuse com
     refused = λ t. absurd (cc (t));
   }
 
-  short_so : (limit : Limit) → IfSome (short_of limit) (λ l. (Reply.Limit limit ≡ Reply.Limit l) × MayBeShort l)
+  pub short_so : (limit : Limit) → IfSome (short_of limit) (λ l. (Reply.Limit limit ≡ Reply.Limit l) × MayBeShort l)
   short_so Limit.Contents = tt
   short_so Limit.Depth = tt
   short_so Limit.Entries = tt
@@ -65,7 +65,7 @@ module _ (r : Repository) (work : Work) (command : Command) (may : MayRefuse com
   short_so Limit.Sequence = (refl, tt)
   short_so Limit.Attempt = tt
 
-  wanting : IsMet s command (conditions_of (met_of StoreFault.Memory)) Reply.Memory
+  pub wanting : IsMet s command (conditions_of (met_of StoreFault.Memory)) Reply.Memory
   wanting = record {
     child = refl;
     checking = tt;
@@ -76,7 +76,7 @@ module _ (r : Repository) (work : Work) (command : Command) (may : MayRefuse com
     refused = λ t. may;
   }
 
-  turn_is : (met : Met) (out : Refused Turned) → met.refused ≡ false → outcome s command (conditions_of met) ≡ out → turned s command (conditions_of met) ≡ or_refused s out
+  pub turn_is : (met : Met) (out : Refused Turned) → met.refused ≡ false → outcome s command (conditions_of met) ≡ out → turned s command (conditions_of met) ≡ or_refused s out
   unfolding turned
   turn_is met out unrefused is =
       ap (λ b. if b then (Reply.Memory, state_with_exit s s.phase met.child) else answer s command (conditions_of met)) unrefused

@@ -13,11 +13,18 @@ mod Planning
 pub mod Recovering
 mod NextSlot
 pub mod Stepping
+mod Looked
+mod MergedMaps
 pub mod Editing
 mod Renamed
 mod BranchTurns
 mod AfterCommit
 mod Noted
+mod MergeTurns
+mod JoinAnswers
+mod JoinedTrees
+mod MergeExits
+mod JoinDone
 mod Numbered
 mod Histories
 mod Removed

@@ -47,7 +47,7 @@ module _ (r : Repository) (work : Work) (v : View) (branch : Bytes) (info : Info
   abbrev chain : Met → Refused Turned
   chain met = head_among_parents s branch >> (room_for_branch r branch >> (not_existing r commit.name >> (enough (conditions_of met) Limit.Space >> (enough (conditions_of met) Limit.Sequence >> Ok done))))
 
-  outcome_is : (met : Met) → outcome s (Command.Commit branch info) (conditions_of met) ≡ chain met
+  pub outcome_is : (met : Met) → outcome s (Command.Commit branch info) (conditions_of met) ≡ chain met
   unfolding outcome
   outcome_is met = ap (λ g. g >> chain met) not_given
 
@@ -141,7 +141,7 @@ module _ (r : Repository) (work : Work) (v : View) (branch : Bytes) (info : Info
     refused_room fault is = by_fault fault (λ met. behind_head met ∙ ap (λ g. g >> (not_existing r commit.name >> (enough (conditions_of met) Limit.Space >> (enough (conditions_of met) Limit.Sequence >> Ok done)))) is)
 
     module _ (room_is : room_for_branch r branch ≡ Ok tt) where
-      behind_room : (met : Met) → chain met ≡ (not_existing r commit.name >> (enough (conditions_of met) Limit.Space >> (enough (conditions_of met) Limit.Sequence >> Ok done)))
+      pub behind_room : (met : Met) → chain met ≡ (not_existing r commit.name >> (enough (conditions_of met) Limit.Space >> (enough (conditions_of met) Limit.Sequence >> Ok done)))
       behind_room met = behind_head met ∙ ap (λ g. g >> (not_existing r commit.name >> (enough (conditions_of met) Limit.Space >> (enough (conditions_of met) Limit.Sequence >> Ok done)))) room_is
 
       pub refused_name : (fault : StoreFault) → not_existing r commit.name ≡ refused_by (Err fault) → IsRefusal r work v branch info fault

@@ -39,7 +39,7 @@ module _ (store store' : Store) (met : Met) (is : store' ≡ record store { met 
   pub noted_back : SameTables store' store
   noted_back = subst (λ (s : Store). SameTables s store) (sym is) (out_of_itself store met)
 
-  noted_met : store'.met ≡ met
+  pub noted_met : store'.met ≡ met
   noted_met = ap (λ (s : Store). s.met) is
 
 module _ {A : Type 0} (store store' : Store) (res out : Result A StoreFault) (same : out ≡ res) (is : store' ≡ record store { met = met_by res }) where

@@ -3,6 +3,7 @@
 --     IsUndamaged result      it is no fault of the files
 --     Changes r after result store old new      what it does to what a ground tells, and what the store holds then
 --     next_slot s length commits      the slot of a durable step.      IsNextSlot s length commits result      it, or which limit is met
+--     KeepsNumbers store now      no commit is given up, and none is taken back
 --     LimitsSpace end result store      which limit is met
 --     Appends more commits store now old new      these records stand behind those that there were, and the slot says so
 use Rattle.std.specs.Prelude.{◌≡◌, ℕ, ◌+◌, ◌^◌, ◌<◌, ◌≤◌, ◌++◌, length, IsErr, IsErrOf, Result, Ok, Err, OnOk}
@@ -56,6 +57,10 @@ IsNextSlot s length commits (Ok next) = (next ≡ next_slot s length commits) ×
 IsNextSlot s length commits (Err (StoreFault.Limit Limit.Space)) = 2 ^ 62 < s.end + length
 IsNextSlot s length commits (Err (StoreFault.Limit Limit.Sequence)) = (s.end + length ≤ 2 ^ 62) × (2 ^ 62 ≤ s.sequence)
 IsNextSlot s length commits (Err fault) = ⊥
+
+-- each commit that is retained is so still
+abbrev pub KeepsNumbers : Store → Store → Type 0
+KeepsNumbers store now = (now.slot.floor ≡ store.slot.floor) × (store.slot.next ≤ now.slot.next)
 
 -- the place after the call's records would pass the greatest one, or the slot's sequence is the greatest
 pub record LimitsSpace {A : Type 0} (end : ℕ) (result : Result A StoreFault) (store : Store) : Type 0 where

@@ -15,3 +15,4 @@ pub mod Walk
 pub mod Work
 pub mod Trees
 pub mod Views
+pub mod Merging

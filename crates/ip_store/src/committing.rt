@@ -20,7 +20,7 @@ ghost use Rattle.ip_spec.specs.declared.record.Record.{Record};
 ghost use Rattle.ip_tree.specs.TreeView.{IsView};
 ghost use Rattle.ip_store.specs.declared.committing.StoreFault.TheVariants as StoreFault;
 ghost use Rattle.ip_store.specs.Commits.{parent_named, reply_to, refused_by, met_by, IsRefusal, IsNewBatch, IsNext, IsPlan, IsPastTheEnd, records_of, end_of, Answers, Commits, GoesOn, IsSaved};
-ghost use Rattle.ip_store.specs.Changes.{Appends, HasAnswer, IsUndamaged, IsNextSlot, LimitsSpace};
+ghost use Rattle.ip_store.specs.Changes.{Appends, HasAnswer, IsUndamaged, IsNextSlot, KeepsNumbers, LimitsSpace};
 ghost use Rattle.ip_store.specs.Histories.{with_parents, MayEnter};
 ghost use Rattle.ip_store.specs.Store.{IsOf, Holds, SameTables, image_records};
 ghost use Rattle.ip_store.specs.Trees.{RecordsStay};
@@ -338,6 +338,7 @@ impl Store {
         requires branch { IsBranchName branch.now }
         requires info { IsInfo info }
         requires tables { (r : Repository) × IsOf self.old r × AreParents r work.old.parents }
+        ensures numbers { KeepsNumbers self.old self.new }
         ensures tables { (r : Repository) → IsOf self.old r → AreParents r work.old.parents → HasAnswer result → GoesOn self.new work.new }
         ensures answered { IsTrue G.tells → (r : Repository) (v : View) → IsAt (G.told outside.old) self.old r work.old v →
             IfSome (reply_to result) (λ reply. Answers (G.told outside.new) (session r work.old v) v (Command.Commit branch.now info) self.new.met reply self.new work.new) }

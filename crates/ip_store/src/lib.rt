@@ -4,6 +4,7 @@
 mod branches;
 mod committing;
 mod history;
+mod merging;
 mod naming;
 mod opening;
 mod publish;
@@ -15,6 +16,7 @@ mod work;
 
 pub use branches::Branches;
 pub use committing::StoreFault;
+pub use merging::Merge;
 pub use opening::OpenFault;
 pub use show::Shown;
 pub use store::{InitFault, Store, chunk_allowed};

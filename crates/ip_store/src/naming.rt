@@ -24,7 +24,7 @@ use ip_spec::record::Record;
 use std::alloc::Global;
 
 // The record that puts a branch at a commit.
-fn set_record(alloc: Global, name: &[u8], number: Number) -> Result<Record, Memory>
+pub(crate) fn set_record(alloc: Global, name: &[u8], number: Number) -> Result<Record, Memory>
     ensures { IfOk result (λ rec. rec ≡ Record.BranchSet number name.now) }
 {
     Ok(Record::BranchSet {
@@ -54,7 +54,7 @@ fn spelled(alloc: Global, rec: &Record) -> Result<Vec<u8>, Memory>
 
 impl Store {
     // Appends a record of a branch, and changes the branches as it says.
-    fn append_branch_record<G: Ground>(
+    pub(crate) fn append_branch_record<G: Ground>(
         &mut self,
         alloc: Global,
         outside: &mut G,

@@ -1,0 +1,298 @@
+-- The trees of a merge as views over the records of an image, and the work that commits their merge.
+--     within_good, within_long, within_wide      whether a merge's tree is within the limits
+--     joined_is      what comes of merging the three trees.      joined_of      as the store has it
+--     join_outcome, join_view, join_lawful      of the merged tree: the machine's outcome, its view, and that the work is lawful
+--     join_parents      the parents of the commit.      goes_on_from      who goes on from commits of a repository goes on from them
+--     course_is      how two commits stand to each other, by their least common ancestors
+use Rattle.std.proofs.Common.{◌≡◌, ◌≢◌, ℕ, zero, suc, ◌<◌, ◌≤◌, Bool, true, false, List, [], ◌∷◌, length, Option, Some, None, refl, sym, ◌∙◌, ap, subst, arith}
+use Rattle.std.specs.Prelude.{Result, Ok, Err, All, AllPairs, IsTrue, IfSome, IfOk, min, not, ◌&&◌, ◌||◌, ◌==◌, nat_le, nat_lt, if◌then◌else◌}
+use Rattle.std.specs.List.{AllByRecursion, list_any}
+use Rattle.std.proofs.lemmas.List.Elements.{All-from_recursion}
+use Rattle.std.proofs.lemmas.Bool.Decides.{nat_tests}
+use Rattle.ip_base.specs.declared.limit.Limit.{Limit}
+use Rattle.ip_ground.specs.Files.{number_itself}
+use Rattle.ip_history.proofs.LeastAlone.{ancestor_meets, proper_meets}
+use Rattle.ip_history.proofs.Parents.{parents_first}
+use Rattle.ip_merge.specs.Rules.{IsDecisive}
+use Rattle.ip_merge.proofs.Decisive.{one_answer}
+use Rattle.ip_space.specs.declared.fault.FetchFault.TheVariants as fetch
+use Rattle.ip_spec.specs.declared.record.Record.{Record}
+use Rattle.ip_spec.specs.declared.reply.Reply.{Reply}
+use Rattle.ip_spec.specs.History.{is_ancestor, is_proper_ancestor, reaches, lcas, parents_at, ParentsFirst}
+use Rattle.ip_spec.specs.Map.{get}
+use Rattle.ip_spec.specs.Merge.{Rule, IsOneAnswer, Merges, Outcome, merged, conflict_at}
+use Rattle.ip_spec.specs.MergeModel.{base_of}
+use Rattle.ip_spec.specs.Path.{Bytes, Path}
+use Rattle.ip_spec.specs.Repository.{Repository, next, is_retained, tree_at}
+use Rattle.ip_spec.specs.Step.{contents_limit, entries_limit, longest_value, within_limits, refuse_if, Refused, ◌>>◌, least_with}
+use Rattle.ip_spec.specs.Tree.{Tree, widest}
+use Rattle.ip_spec.specs.View.{View, no_view, least}
+use Rattle.ip_save.specs.Batches.{HasShortContents}
+use Rattle.ip_tree.specs.TreeView.{IsView, stored_view}
+use Rattle.ip_tree.specs.declared.tree.Tree as lazy
+use Rattle.ip_three.specs.Merging.{of_left, of_right}
+use Rattle.ip_three.specs.Answered.{MergesTrees, MergedView, whole, edited}
+use Rattle.ip_three.specs.declared.merge.ThreeFault.{ThreeFault}
+use Rattle.ip_three.specs.declared.merge.ThreeFault.TheVariants as three
+use Rattle.ip_store.specs.declared.committing.StoreFault.{StoreFault}
+use Rattle.ip_store.specs.declared.merging.Course.{Course}
+use Rattle.ip_store.specs.declared.merging.Joined.{Joined}
+use Rattle.ip_store.specs.declared.merging.Sides.{Sides}
+use Rattle.ip_store.specs.declared.store.Store.{Store}
+use Rattle.ip_store.specs.declared.work.Work.{Work}
+use Rattle.ip_store.specs.Changes.{KeepsNumbers}
+use Rattle.ip_store.specs.Merging.{GoesOnFrom, IsStoredAs, IsBase, IsMergeView, IsCourseBy, IsCourse, bases_of, IsJoin, IsBaseTree, IsOutcome, IsJoinedTree, IsJoined}
+use Rattle.ip_store.specs.Showing.{fault_from}
+use Rattle.ip_store.specs.Store.{IsOf}
+use Rattle.ip_store.specs.Trees.{IsTreeOf}
+use Rattle.ip_store.specs.Work.{AreParents, IsLawful, least_of}
+use Rattle.ip_store.proofs.Histories.{shows_of}
+use Rattle.ip_store.proofs.MergedMaps.{short_merged, long_merged, longest_short, made_map}
+
+-- ---- limits
+
+not_less : (n m : ℕ) → m ≤ n → nat_lt n m ≡ false
+not_less n m low = grind (arith, nat_tests)
+
+less_so : (n m : ℕ) → n < m → nat_lt n m ≡ true
+less_so n m low = grind (arith, nat_tests)
+
+within_by : Bool → Bool → Tree → Refused Tree
+within_by long wide t = refuse_if long (Reply.Limit Limit.Contents) >> (refuse_if wide (Reply.Limit Limit.Entries) >> Ok t)
+
+within_is : (t : Tree) (long wide : Bool) → nat_lt contents_limit (longest_value t) ≡ long → nat_lt entries_limit (widest t) ≡ wide → within_limits t ≡ within_by long wide t
+unfolding within_by
+within_is t long wide e f = λ i. refuse_if (e i) (Reply.Limit Limit.Contents) >> (refuse_if (f i) (Reply.Limit Limit.Entries) >> Ok t)
+
+pub within_good : (t : Tree) → longest_value t ≤ contents_limit → widest t ≤ entries_limit → within_limits t ≡ Ok t
+unfolding within_by
+within_good t short narrow = within_is t false false (not_less contents_limit (longest_value t) short) (not_less entries_limit (widest t) narrow)
+
+pub within_long : (t : Tree) → contents_limit < longest_value t → within_limits t ≡ Err (Reply.Limit Limit.Contents)
+unfolding within_by
+within_long t long = within_is t true (nat_lt entries_limit (widest t)) (less_so contents_limit (longest_value t) long) refl
+
+pub within_wide : (t : Tree) → longest_value t ≤ contents_limit → entries_limit < widest t → within_limits t ≡ Err (Reply.Limit Limit.Entries)
+unfolding within_by
+within_wide t short wide = within_is t false true (not_less contents_limit (longest_value t) short) (less_so entries_limit (widest t) wide)
+
+-- ---- views
+
+module _ (records : ℕ → Option Record) (r : Repository) where
+  base_map : (base : Option ℕ) (v : View) → IsBase records r (bases_of base) v → v.map ≡ base_of r (bases_of base)
+  unfolding no_view
+  base_map None v is = ap (λ (w : View). w.map) is
+  base_map (Some c) v is = ap (λ (w : View). w.map) is.is
+
+  record IsSeen (n : ℕ) (tree : lazy.Tree) : Type 0 where
+    view : View
+    stored : IsStoredAs records r n view
+    is : IsView records tree view
+    short : HasShortContents view.map
+
+  seen : (n : ℕ) (tree : lazy.Tree) → IsTreeOf records r n tree → IsSeen n tree
+  seen n tree of = record { view = stored_view records n of.at (tree_at r n); stored = record { at = of.at; spelled = of.spelled; is = refl }; is = of.view; short = of.short }
+
+  record IsSeenBase (base : Option ℕ) (tree : lazy.Tree) : Type 0 where
+    view : View
+    stored : IsBase records r (bases_of base) view
+    is : IsView records tree view
+
+  seen_base : (base : Option ℕ) (tree : lazy.Tree) → IsBaseTree records r base tree → IsSeenBase base tree
+  seen_base None tree is = record { view = no_view; stored = refl; is = is }
+  seen_base (Some c) tree of = let s = seen c tree of in record { view = s.view; stored = s.stored; is = s.is }
+
+same_merges : (rule : Rule) (o p a b l q : Tree) (m : Outcome) → o ≡ p → a ≡ b → l ≡ q → Merges rule o a l m → Merges rule p b q m
+same_merges rule o p a b l q m first second third is = subst (λ (t : Tree). Merges rule p b t m) third (subst (λ (t : Tree). Merges rule p t l m) second (subst (λ (t : Tree). Merges rule t a l m) first is))
+
+-- what the store makes of the merge of the trees
+abbrev pub joined_of : Result lazy.Tree ThreeFault → Result Joined StoreFault
+joined_of (Ok tree) = Ok (Joined.Tree tree)
+joined_of (Err (three.Conflict path)) = Ok (Joined.Conflict path)
+joined_of (Err (three.Limit limit)) = Err (StoreFault.Limit limit)
+joined_of (Err (three.Fetch fault)) = Err (fault_from fault)
+joined_of (Err three.Memory) = Err StoreFault.Memory
+
+module _ (rule : Rule) (decides : IsDecisive rule) (records : ℕ → Option Record) (r : Repository) (sides : Sides) (base left right : lazy.Tree)
+    (base_is : IsBaseTree records r sides.base base) (left_is : IsTreeOf records r sides.head left) (right_is : IsTreeOf records r sides.number right) where
+  abbrev b : IsSeenBase records r sides.base base
+  b = seen_base records r sides.base base base_is
+
+  abbrev l : IsSeen records r sides.head left
+  l = seen records r sides.head left left_is
+
+  abbrev q : IsSeen records r sides.number right
+  q = seen records r sides.number right right_is
+
+  at_machine : (m : Outcome) → Merges rule b.view.map l.view.map q.view.map m → IsOutcome rule r sides m
+  at_machine m is =
+      same_merges rule b.view.map (base_of r (bases_of sides.base)) l.view.map (tree_at r sides.head) q.view.map (tree_at r sides.number) m
+      (base_map records r sides.base b.view b.stored) (ap (λ (w : View). w.map) l.stored.is) (ap (λ (w : View). w.map) q.stored.is) is
+
+  pub joined_is : (result : Result lazy.Tree ThreeFault)
+      → ((v w x : View) → IsView records base v → IsView records left w → IsView records right x → ((p : Path) → IsOneAnswer (rule p)) → MergesTrees records rule v w x result) → IsJoined rule records r sides (joined_of result)
+  joined_is result merges = by result (merges b.view l.view q.view b.is l.is q.is (one_answer rule decides))
+    where
+      by : (result : Result lazy.Tree ThreeFault) → MergesTrees records rule b.view l.view q.view result → IsJoined rule records r sides (joined_of result)
+      by (Ok tree) is =
+          let same : is.view.map ≡ is.map = made_map b.view l.view q.view is.map is.view is.made in
+          let made : Merges rule b.view.map l.view.map q.view.map (merged is.view.map) = subst (λ (t : Tree). Merges rule b.view.map l.view.map q.view.map (merged t)) (sym same) is.merges in
+          record {
+            base = b.view;
+            left = l.view;
+            right = q.view;
+            view = is.view;
+            base_is = b.stored;
+            left_is = l.stored;
+            right_is = q.stored;
+            merges = made;
+            made = subst (λ (t : Tree). MergedView b.view l.view q.view t is.view) (sym same) is.made;
+            is = is.is;
+            short = short_merged rule b.view.map l.view.map q.view.map is.view.map made l.short q.short is.short;
+          }
+      by (Err (three.Conflict path)) is = at_machine (conflict_at path) is
+      by (Err (three.Limit Limit.Contents)) (t, is, long) = (t, at_machine (merged t) is, long_merged rule b.view.map l.view.map q.view.map t is (one_answer rule decides) long)
+      by (Err (three.Limit Limit.Entries)) (t, is, short, wide) = (t, at_machine (merged t) is, longest_short t (short_merged rule b.view.map l.view.map q.view.map t is l.short q.short short), wide)
+      by (Err (three.Limit _)) is = absurd is
+      by (Err (three.Fetch fetch.Ground)) is = tt
+      by (Err (three.Fetch fetch.Memory)) is = tt
+      by (Err (three.Fetch (fetch.Form at fault))) is = absurd is
+      by (Err (three.Fetch (fetch.Name at want got))) is = absurd is
+      by (Err three.Memory) is = tt
+
+-- ---- the work
+
+module _ (rule : Rule) (records : ℕ → Option Record) (r : Repository) (sides : Sides) (tree : lazy.Tree) (J : IsJoinedTree rule records r sides tree) where
+  pub join_outcome : IsOutcome rule r sides (merged J.view.map)
+  join_outcome =
+      same_merges rule J.base.map (base_of r (bases_of sides.base)) J.left.map (tree_at r sides.head) J.right.map (tree_at r sides.number) (merged J.view.map)
+      (base_map records r sides.base J.base J.base_is) (ap (λ (w : View). w.map) J.left_is.is) (ap (λ (w : View). w.map) J.right_is.is) J.merges
+
+  pub join_good : within_limits J.view.map ≡ Ok J.view.map
+  join_good = within_good J.view.map (longest_short J.view.map J.short) J.is.narrow
+
+  pub join_view : (branch : Bytes) → IsJoin r branch sides → IsMergeView rule records r sides.head sides.number J.view
+  join_view branch is = record {
+    base = J.base;
+    left = J.left;
+    right = J.right;
+    base_is = subst (λ (cs : List ℕ). IsBase records r cs J.base) (sym is.least) J.base_is;
+    left_is = J.left_is;
+    right_is = J.right_is;
+    merges = J.merges;
+    made = J.made;
+  }
+
+  made_oldest : (b l q : View) (t : Tree) (v : View) → MergedView b l q t v → v.oldest ≡ least l.oldest q.oldest
+  made_oldest b l q t v (whole side is same) = refl
+  made_oldest b l q t v (edited gone come none edits) = refl
+
+  oldest_is : J.view.oldest ≡ Some (min sides.head sides.number)
+  oldest_is = made_oldest J.base J.left J.right J.view.map J.view J.made ∙ (λ i. least (J.left_is.is i).oldest (J.right_is.is i).oldest) ∙ lesser sides.head sides.number
+    where
+      lesser : (m n : ℕ) → least (Some m) (Some n) ≡ Some (min m n)
+      lesser m n = by (nat_le m n) refl
+        where
+          by : (b : Bool) → nat_le m n ≡ b → (if b then Some m else Some n) ≡ Some (min m n)
+          by true is = ap Some (grind (arith, nat_tests))
+          by false is = ap Some (grind (arith, nat_tests))
+
+  pub join_lawful : (branch : Bytes) → IsJoin r branch sides → AreParents r (sides.head ∷ sides.number ∷ []) → (work : Work) → work.tree ≡ tree → work.parents ≡ sides.head ∷ sides.number ∷ [] → work.least ≡ tree.oldest → IsLawful records r work J.view
+  join_lawful branch is are work same onto oldest =
+      let low : work.least ≡ Some (min sides.head sides.number) = oldest ∙ sym J.is.oldest ∙ oldest_is in
+      record {
+        tree = subst (λ (t : lazy.Tree). IsView records t J.view) (sym same) J.is;
+        short = J.short;
+        parents = subst (AreParents r) (sym onto) are;
+        least = low ∙ sym (twice sides.head sides.number) ∙ (λ i. least_of (record J.view { oldest = sym oldest_is i }) (sym onto i));
+        retained = subst (λ o. IfSome o (λ n. r.floor ≤ n)) (sym low) (above r.floor sides.head sides.number (next r) is.head_retained is.number_retained);
+      }
+    where
+      twice : (m n : ℕ) → least_with (least_with (Some (min m n)) m) n ≡ Some (min m n)
+      twice m n = ap Some (let e : min (min (min m n) m) n ≡ min m n = omega arith in e)
+
+      above : (floor m n high : ℕ) → (nat_le floor m && nat_lt m high) ≡ true → (nat_le floor n && nat_lt n high) ≡ true → floor ≤ min m n
+      above floor m n high a b = grind (arith, nat_tests)
+
+-- ---- parents
+
+itself_is : (steps : ℕ) (r : Repository) (n : ℕ) → reaches steps r n n ≡ true
+unfolding reaches
+itself_is zero r n = number_itself n
+itself_is (suc steps) r n = either (n == n) (list_any (λ p. reaches steps r n p) (parents_at r n)) (number_itself n)
+  where
+    either : (b c : Bool) → b ≡ true → (b || c) ≡ true
+    either b c is = ap (λ (d : Bool). d || c) is
+
+pub join_parents : (r : Repository) (branch : Bytes) (sides : Sides) → IsJoin r branch sides → AreParents r (sides.head ∷ sides.number ∷ [])
+join_parents r branch sides is = record {
+  retained = All-from_recursion (λ n. IsTrue (is_retained r n)) (sides.head ∷ sides.number ∷ []) (is.head_retained, (is.number_retained, tt));
+  distinct = distinct;
+  few = omega arith;
+}
+  where
+    apart : sides.head ≢ sides.number
+    apart e = let same : is_ancestor r sides.number sides.head ≡ true = subst (λ (n : ℕ). is_ancestor r sides.number n ≡ true) (sym e) (itself_is sides.number r sides.number) in absurd (cc (same, is.apart.0))
+
+    distinct : AllPairs (λ m n. m ≢ n) (sides.head ∷ sides.number ∷ [])
+    distinct zero zero d low high = absurd (omega (arith, low))
+    distinct zero (suc zero) d low high = apart
+    distinct zero (suc (suc j)) d low high = absurd (omega (arith, high))
+    distinct (suc i) zero d low high = absurd (omega (arith, low))
+    distinct (suc i) (suc j) d low high = absurd (omega (arith, low, high))
+
+pub goes_on_from : (store store' : Store) (r after : Repository) → IsOf store r → KeepsNumbers store store' → IsOf store' after → GoesOnFrom r store' after
+goes_on_from store store' r after of keeps now = record {
+  tables = now;
+  parents = λ ns are. record { retained = λ k d l. on _ (are.retained k d l); distinct = are.distinct; few = are.few };
+}
+  where
+    within : (floor n high high' : ℕ) → high ≤ high' → (nat_le floor n && nat_lt n high) ≡ true → (nat_le floor n && nat_lt n high') ≡ true
+    within floor n high high' low is = grind (arith, nat_tests)
+
+    on : (n : ℕ) → IsTrue (is_retained r n) → IsTrue (is_retained after n)
+    on n is =
+        let floors : r.floor ≡ after.floor = of.floor ∙ sym keeps.0 ∙ sym now.floor in
+        let was = of.next in
+        let is_now = now.next in
+        let more = keeps.1 in
+        let high : next r ≤ next after = omega (arith, was, is_now, more) in
+        subst (λ (f : ℕ). (nat_le f n && nat_lt n (next after)) ≡ true) floors (within r.floor n (next r) (next after) high is)
+
+-- ---- the course
+
+false_by : (b : Bool) → (b ≡ true → ⊥) → b ≡ false
+false_by true not = absurd (not refl)
+false_by false not = refl
+
+one_of : (m n : ℕ) → m ∷ [] ≡ n ∷ [] → m ≡ n
+one_of m n is = cc (is)
+
+pub course_is : (store : Store) (r : Repository) → IsOf store r → (head number : ℕ) → IsTrue (is_retained r head) → IsTrue (is_retained r number) → (cs : List ℕ) → cs ≡ lcas r head number → (course : Course) → IsCourseBy cs head number course → IsCourse r head number course
+course_is store r of head number there here cs e course is = by course is
+  where
+    first : ParentsFirst r
+    first = parents_first store.history r (shows_of store r of) of.parents_first
+
+    above : is_ancestor r number head ≡ true → cs ≡ number ∷ []
+    above t = e ∙ (ancestor_meets r first number head here).0 t
+
+    below : is_proper_ancestor r head number ≡ true → cs ≡ head ∷ []
+    below t = e ∙ ((proper_meets r first number head there).0 t).1
+
+    by : (course : Course) → IsCourseBy cs head number course → IsCourse r head number course
+    by Course.Current is = (ancestor_meets r first number head here).1 (sym e ∙ is)
+    by Course.Forward (is, apart) = (false_by (is_ancestor r number head) (λ t. apart (one_of head number (sym is ∙ above t))), (proper_meets r first number head there).1 (apart, sym e ∙ is))
+    by (Course.Bases count) (more, size) = (
+      (false_by (is_ancestor r number head) (λ t. let one = ap length (above t) in omega (arith, one, more)), false_by (is_proper_ancestor r head number) (λ t. let one = ap length (below t) in omega (arith, one, more))),
+      subst (λ (l : List ℕ). 1 < length l) e more,
+      size ∙ ap length e,
+    )
+    by (Course.Join None) is = (
+      (false_by (is_ancestor r number head) (λ t. let one = ap length (sym is ∙ above t) in omega (arith, one)), false_by (is_proper_ancestor r head number) (λ t. let one = ap length (sym is ∙ below t) in omega (arith, one))),
+      sym e ∙ is,
+    )
+    by (Course.Join (Some base)) (is, not_number, not_head) = (
+      (false_by (is_ancestor r number head) (λ t. not_number (one_of base number (sym is ∙ above t))), false_by (is_proper_ancestor r head number) (λ t. not_head (one_of base head (sym is ∙ below t)))),
+      sym e ∙ is,
+    )
