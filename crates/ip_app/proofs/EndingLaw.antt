@@ -13,6 +13,7 @@ use Rattle.ip_app.specs.Lines.{is_line_feed, last_piece}
 use Rattle.ip_app.specs.Reading.{EndsReading}
 use Rattle.ip_app.specs.Exchanges.{lines_in}
 use Rattle.ip_app.specs.Outside.{Outside}
+use Rattle.ip_spec.specs.Merge.{Rule}
 use Rattle.ip_app.specs.Run.{Row, Serves, is_cut_off, EndsAsBytes}
 use Rattle.ip_app.specs.Ending.{ending_from, ending_of, IsOfBytes}
 use Rattle.ip_app.proofs.RunLemmas.{ends_along}
@@ -220,29 +221,29 @@ ending_is s bytes taken left o split short h =
     sym (ap ending_of split ∙ ends_as s taken left 0 0 o (are_short 0 taken (all_short (whole_lines taken) (recursion_from_All _ (whole_lines taken) short)))
     (ends_along s _ _ _ _ _ _ h (sym (from_zero (rest_from 0 taken) taken (rest_is 0 taken))) (omega arith) (λ e. e)))
 
-row_reading : (s : Status) (old new : Outside) (taken : List ℕ) → IsOfBytes s → Row s old new taken → EndsReading s (length (last_piece taken)) (length taken) (IsTrue old.source_tells → new.left ≡ []) × (is_cut_off s ≡ false)
-row_reading status.Done old new taken o r = (r, refl)
-row_reading status.Unfinished old new taken o r = (r, refl)
-row_reading (status.Limit b) old new taken o r = (r, refl)
-row_reading status.ReadFault old new taken o r = absurd o
-row_reading status.Usage old new taken o r = absurd o
-row_reading status.NoStore old new taken o r = absurd o
-row_reading (status.Damaged f a) old new taken o r = absurd o
-row_reading (status.DamagedRecord a) old new taken o r = absurd o
-row_reading (status.DamagedName a want got) old new taken o r = absurd o
-row_reading status.SayFault old new taken o r = absurd o
-row_reading status.GroundFault old new taken o r = absurd o
-row_reading status.Memory old new taken o r = absurd o
-row_reading status.Exists old new taken o r = absurd o
+row_reading : (decisive : Bool) (s : Status) (old new : Outside) (taken : List ℕ) → IsOfBytes s → Row decisive s old new taken → EndsReading s (length (last_piece taken)) (length taken) (IsTrue old.source_tells → new.left ≡ []) × (is_cut_off s ≡ false)
+row_reading decisive status.Done old new taken o r = (r, refl)
+row_reading decisive status.Unfinished old new taken o r = (r, refl)
+row_reading decisive (status.Limit b) old new taken o r = (r, refl)
+row_reading decisive status.ReadFault old new taken o r = absurd o
+row_reading decisive status.Usage old new taken o r = absurd o
+row_reading decisive status.NoStore old new taken o r = absurd o
+row_reading decisive (status.Damaged f a) old new taken o r = absurd o
+row_reading decisive (status.DamagedRecord a) old new taken o r = absurd o
+row_reading decisive (status.DamagedName a want got) old new taken o r = absurd o
+row_reading decisive status.SayFault old new taken o r = absurd o
+row_reading decisive status.GroundFault old new taken o r = absurd o
+row_reading decisive status.Memory old new taken o r = absurd o
+row_reading decisive status.Exists old new taken o r = absurd o
 
 no_others : (xs : List (List ℕ)) → xs ++ [] ≡ xs
 no_others [] = refl
 no_others (x ∷ xs) = ap (λ (u : List (List ℕ)). x ∷ u) (no_others xs)
 
 -- a serving call ends as its source's bytes say
-pub ends_as_bytes : (old new : Outside) (s : Status) → Serves old new s → EndsAsBytes old s
-ends_as_bytes old new s v told o =
-    let r = row_reading s old new v.taken o v.row in
+pub ends_as_bytes : (rule : Rule) (decisive : Bool) (old new : Outside) (s : Status) → Serves rule decisive old new s → EndsAsBytes old s
+ends_as_bytes rule decisive old new s v told o =
+    let r = row_reading decisive s old new v.taken o v.row in
     let lines : whole_lines v.taken ≡ lines_in v.exchanges = v.replies.begun.1 ∙ (ap (λ (u : List (List ℕ)). lines_in v.exchanges ++ u) (v.replies.begun.2 r.1) ∙ no_others (lines_in v.exchanges)) in
     ending_is s old.left v.taken new.left o (v.replies.bytes told) (subst (All (λ line. length line ≤ 4194304)) (sym lines) v.replies.short)
     (ends_along s _ _ _ _ _ _ r.0 refl refl (λ e. e told))

@@ -2,7 +2,7 @@
 --     owns_pending      where nothing is pending none may
 --     live_before, owns_on      while no file changes, though it may be synced, the same slot is live, and if none may, none may still
 --     live_in      in an image that stands some slot is live
---     known_or_not      whether the ground tells its content and none may, where some slot is live if that is so
+--     known_or_not      whether the ground tells its content and none may, where some slot is live if that is so.      with_flag      and a flag is set too
 use Rattle.std.proofs.Common.{◌≡◌, ◌≢◌, ◌⊎◌, inl, inr, ℕ, refl, sym, ap, subst, ◌∙◌, Bool, true, false, Option, Some, None, IsTrue, take, drop, arith}
 use Rattle.std.specs.Int.{w64, from_le_bytes}
 use Rattle.std.proofs.lemmas.Nat.{from_le_bytes-to_le_bytes_8}
@@ -96,3 +96,7 @@ known_or_not true told some_live = elim (owns_or_not told (some_live refl)) [
   | inr none ↦ (false, λ both. absurd (none both.1), λ is. absurd (cc is))
 ]
 known_or_not false told some_live = (false, λ both. both.0, λ is. absurd (cc is))
+
+pub with_flag : (A : Type 0) (flag : Bool) → (known : Bool) × (A → IsTrue known) × (IsTrue known → A) → (known : Bool) × (A × IsTrue flag → IsTrue known) × (IsTrue known → A × IsTrue flag)
+with_flag A true known = (known.0, λ both. known.1 both.0, λ is. (known.2 is, refl))
+with_flag A false known = (false, λ both. both.1, λ is. absurd (cc is))

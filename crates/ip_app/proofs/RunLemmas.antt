@@ -28,6 +28,7 @@ use Rattle.ip_ground.specs.Contents.{Image, Content, bytes_of}
 use Rattle.ip_spec.specs.View.{View, no_view}
 use Rattle.ip_spec.specs.Repository.{Repository, no_repository}
 use Rattle.ip_spec.specs.Machine.{State, opened}
+use Rattle.ip_merge.specs.Rules.{IsDecisive}
 use Rattle.ip_script.specs.Served.{IsServedLine}
 use Rattle.ip_spec.specs.Script.{whole_lines, LineStep}
 use Rattle.ip_spec.specs.Text.{reply_text}
@@ -47,10 +48,10 @@ use Rattle.ip_app.specs.Pending.{pending}
 use Rattle.ip_app.specs.Reading.{EndsReading, IsCaused}
 use Rattle.ip_app.specs.Exchanges.{Exchange, conditions, answer_of, Run, after_all, lines_in, turns_in, texts_in}
 use Rattle.ip_session.specs.Placing.{PlacedIn}
-use Rattle.ip_session.specs.Session.{no_rules, IsViewIn}
+use Rattle.ip_session.specs.Session.{IsViewIn}
 use Rattle.ip_app.specs.Places.{Places}
 use Rattle.ip_app.specs.Turns.{turn_counts, IsLater, Follow}
-use Rattle.ip_app.specs.Outside.{Outside, Tells, GoesOn, KeepsFiles}
+use Rattle.ip_app.specs.Outside.{Outside, Tells, Knows, GoesOn, KeepsFiles}
 use Rattle.ip_app.specs.Serving.{SaysPart, TurnedIn, Stopped, Unsaid, CountsOf, Stops, Served}
 use Rattle.ip_app.specs.Run.{CouldNotOpen, IsUntouched, IsOpened, Begins, is_cut_off, Row, IsBehindOpening, Serves, EndsWhereAllIsWell}
 use Rattle.ip_app.proofs.Counting.{still_at, follow_more}
@@ -129,28 +130,29 @@ abbrev IsShort : Bytes → Type 0
 IsShort line = length line ≤ longest_line
 
 -- one turn more
-follow_turn : (old mid : Outside) (lines : Lines) (counts counts' : TurnCounts) (s : Session) (h : Served old mid lines counts s) (x : Exchange) → x.turn.before ≡ counts → x.turn.after ≡ counts' → IsLater x.turn.before x.turn.after
+follow_turn : (rule : Rule) (decisive : Bool) (old mid : Outside) (lines : Lines) (counts counts' : TurnCounts) (s : Session) (h : Served rule decisive old mid lines counts s) (x : Exchange) → x.turn.before ≡ counts → x.turn.after ≡ counts' → IsLater x.turn.before x.turn.after
     → Follow (turn_counts old.counts) (turns_in (h.exchanges ++ x ∷ [])) counts'
-follow_turn old mid lines counts counts' s h x begins ends rises =
+follow_turn rule decisive old mid lines counts counts' s h x begins ends rises =
     let first = turn_counts old.counts in
     subst (λ (ts : List Turn). Follow first ts counts') (sym (map-append (λ x. x.turn) h.exchanges (x ∷ [])))
     (subst (λ (e : TurnCounts). Follow first (turns_in h.exchanges ++ x.turn ∷ []) e) ends
     (follow_more first counts (turns_in h.exchanges) x.turn (still_at old.counts mid.counts counts h.counts_now h.no_fault) h.follow begins rises))
 
 -- one exchange more
-places_more : (slot : Slot) (s : State) (v : View) (xs : List Exchange) (mid : Slot) (w : View) (x : Exchange) (last : Slot) (view : View) → Places slot s v xs mid w → x.after.work.tree ≡ view.map → IsViewIn (after_all s xs).repository w x.line x.reply view → PlacedIn mid last (after_all s xs) w x.line x.reply → Places slot s v (xs ++ x ∷ []) last view
-places_more slot s v [] mid w x last view h tree seen placed = (last, view, tree, subst (λ (u : View). IsViewIn s.repository u x.line x.reply view) h.1 seen, subst (λ (a : Slot). PlacedIn a last s v x.line x.reply) h.0 (subst (λ (u : View). PlacedIn mid last s u x.line x.reply) h.1 placed), (refl, refl))
-places_more slot s v (y ∷ xs) mid w x last view h tree seen placed = (h.0, h.1, h.2, h.3, h.4, places_more h.0 y.after h.1 xs mid w x last view h.5 tree seen placed)
+places_more : (rule : Rule) (slot : Slot) (s : State) (v : View) (xs : List Exchange) (mid : Slot) (w : View) (x : Exchange) (last : Slot) (view : View) → Places rule slot s v xs mid w → x.after.work.tree ≡ view.map → IsViewIn (after_all s xs).repository w x.line x.reply view → PlacedIn rule mid last (after_all s xs) w x.line x.reply → Places rule slot s v (xs ++ x ∷ []) last view
+places_more rule slot s v [] mid w x last view h tree seen placed = (last, view, tree, subst (λ (u : View). IsViewIn s.repository u x.line x.reply view) h.1 seen, subst (λ (a : Slot). PlacedIn rule a last s v x.line x.reply) h.0 (subst (λ (u : View). PlacedIn rule mid last s u x.line x.reply) h.1 placed), (refl, refl))
+places_more rule slot s v (y ∷ xs) mid w x last view h tree seen placed = (h.0, h.1, h.2, h.3, h.4, places_more rule h.0 y.after h.1 xs mid w x last view h.5 tree seen placed)
 
 -- one line more was served
-pub served_more : (old mid new : Outside) (lines lines' : Lines) (counts counts' : TurnCounts) (s s' : Session) (h : Served old mid lines counts s) → TurnedIn h.known mid new lines lines' counts counts' s s' h.repository h.view → Served old new lines' counts' s'
-served_more old mid new lines lines' counts counts' s s' h turned =
+pub served_more : (rule : Rule) (decisive : Bool) (old mid new : Outside) (lines lines' : Lines) (counts counts' : TurnCounts) (s s' : Session) (h : Served rule decisive old mid lines counts s) → TurnedIn rule h.known mid new lines lines' counts counts' s s' h.repository h.view → Served rule decisive old new lines' counts' s'
+served_more rule decisive old mid new lines lines' counts counts' s s' h turned =
     let x = turned.exchange in
     let t = turned.turned in
     record {
       known = h.known;
       known_so = h.known_so;
       tells = h.tells;
+      is_decisive = h.is_decisive;
       first = h.first;
       repository = turned.after;
       view = turned.view;
@@ -166,13 +168,13 @@ served_more old mid new lines lines' counts counts' s s' h turned =
       rest_then = λ tail. ap last_piece (sym (regroup h.done x.line tail)) ∙ (h.rest_then (x.line ++ line_feed ∷ tail) ∙ last_piece-line x.line tail t.no_line_feed);
       short = subst (All IsShort) (sym (map-append (λ x. x.line) h.exchanges (x ∷ []))) (All-append IsShort (lines_in h.exchanges) (x.line ∷ []) h.short (All-cons IsShort x.line [] t.short (All-nil IsShort)));
       count = omega (arith, h.count, t.count, length-append h.done (x.line ++ line_feed ∷ []), length-append x.line (line_feed ∷ []));
-      run = λ g. run_more no_rules (opened h.first) (state_in s h.repository h.view) h.exchanges x (h.now_at g) (h.run g) (t.step g);
+      run = λ g. run_more rule (opened h.first) (state_in s h.repository h.view) h.exchanges x (h.now_at g) (h.run g) (t.step g);
       now_at = λ g. sym (turned.now_at g) ∙ sym (after_more (opened h.first) h.exchanges x);
       slot = h.slot;
       live = h.live;
-      places = λ g. places_more h.slot (opened h.first) no_view h.exchanges s.store.slot h.view x s'.store.slot turned.view (h.places g) (ap (λ (state : State). state.work.tree) (turned.now_at g))
+      places = λ g. places_more rule h.slot (opened h.first) no_view h.exchanges s.store.slot h.view x s'.store.slot turned.view (h.places g) (ap (λ (state : State). state.work.tree) (turned.now_at g))
           (subst (λ (state : State). IsViewIn state.repository h.view x.line x.reply turned.view) (h.now_at g) (turned.seen g))
-          (subst (λ (state : State). PlacedIn s.store.slot s'.store.slot state h.view x.line x.reply) (h.now_at g) (turned.placed g));
+          (subst (λ (state : State). PlacedIn rule s.store.slot s'.store.slot state h.view x.line x.reply) (h.now_at g) (turned.placed g));
       said = λ g. turned.said g ∙ (ap (λ (u : Bytes). u ++ reply_text x.reply) (h.said g) ∙ (append_assoc (said old.told) (texts_in h.exchanges) (reply_text x.reply) ∙ ap (λ (u : Bytes). said old.told ++ u) (sym (texts_more h.exchanges x))));
       opened_at = h.opened_at;
       headline = λ g order. headline_turn (h.opened_at g) old.told mid.told new.told (opened h.first) h.exchanges x (h.headline g order) (t.files g).goes (h.over g) (h.said g)
@@ -182,44 +184,45 @@ served_more old mid new lines lines' counts counts' s s' h turned =
       noted = λ l. t.noted l ∙ (ap (λ u. u ++ x.turn ∷ []) (h.noted (t.goes_on.log_tells l)) ∙ (append_assoc old.turns (turns_in h.exchanges) (x.turn ∷ []) ∙ ap (λ u. old.turns ++ u) (sym (map-append (λ x. x.turn) h.exchanges (x ∷ [])))));
       no_fault = turned.no_fault ∙ h.no_fault;
       counts_now = t.until;
-      follow = follow_turn old mid lines counts counts' s h x t.begins_at t.ends_at t.rises;
+      follow = follow_turn rule decisive old mid lines counts counts' s h x t.begins_at t.ends_at t.rises;
       reads = t.reads ∙ h.reads;
     }
 
 -- no line was served yet
-pub served_first : (old now : Outside) (lines : Lines) (counts : TurnCounts) (s : Session) (r : Repository) (v : View) → v ≡ no_view → (known : (b : Bool) × (Tells old → IsTrue b) × (IsTrue b → Tells old)) → IsServing s → state_in s r v ≡ opened r → (Tells old → IsWorking now.told s r v) → (Tells old → StandsFor old.told.held r)
+pub served_first : (rule : Rule) (decisive : Bool) → (IsTrue decisive → IsDecisive rule) → (old now : Outside) (lines : Lines) (counts : TurnCounts) (s : Session) (r : Repository) (v : View) → v ≡ no_view → (known : (b : Bool) × (Knows decisive old → IsTrue b) × (IsTrue b → Knows decisive old)) → IsServing s → state_in s r v ≡ opened r → (Tells old → IsWorking now.told s r v) → (Tells old → StandsFor old.told.held r)
     → (opening : IsTrue old.ground_tells → RecoversOnceOpen old.told now.told) → ((tells : Tells old) → (opening tells.0).since ≤ now.told.moment)
-    → counts ≡ turn_counts old.counts → now.counts ≡ old.counts → now.read_faults ≡ old.read_faults → GoesOn old now → (IsTrue old.ground_tells → SyncsOnly (Only Control) old.told now.told) → now.left ≡ old.left → now.turns ≡ old.turns → pending lines ≡ [] → lines.taken ≡ 0 → Served old now lines counts s
-served_first old now lines counts s r v none_known known serving begun working began opening over counted no_fault reads g f left turns none zero =
+    → counts ≡ turn_counts old.counts → now.counts ≡ old.counts → now.read_faults ≡ old.read_faults → GoesOn old now → (IsTrue old.ground_tells → SyncsOnly (Only Control) old.told now.told) → now.left ≡ old.left → now.turns ≡ old.turns → pending lines ≡ [] → lines.taken ≡ 0 → Served rule decisive old now lines counts s
+served_first rule decisive by_rule old now lines counts s r v none_known known serving begun working began opening over counted no_fault reads g f left turns none zero =
     record {
       known = known.0;
       known_so = known.1;
       tells = λ is. (known.2 is).0;
+      is_decisive = λ is. by_rule (known.2 is).1;
       done = [];
       exchanges = [];
       first = r;
       repository = r;
       view = v;
       goes_on = g;
-      files = λ is. keeps_unchanged old.told now.told (f (known.2 is).0);
+      files = λ is. keeps_unchanged old.told now.told (f (known.2 is).0.0);
       bytes = λ b. sym left ∙ ap (λ (u : Bytes). u ++ now.left) (sym none);
       lines_then = λ tail. refl;
       rest_then = λ tail. refl;
       short = All-nil IsShort;
       count = omega (arith, zero, ap length none);
-      began = λ is. began (known.2 is);
+      began = began;
       run = λ is. tt;
       now_at = λ is. begun;
       slot = s.store.slot;
-      live = λ is. live_before old.told now.told (f (known.2 is).0).files s.store.slot (held_has s.store r now.told (working (known.2 is)).holds);
+      live = λ is. live_before old.told now.told (f (known.2 is).0.0).files s.store.slot (held_has s.store r now.told (working (known.2 is).0).holds);
       places = λ is. (refl, none_known);
       serving = serving;
-      working = λ is. working (known.2 is);
-      said = λ is. let only = f (known.2 is).0 in said_now old.told now.told only.changes.goes only.changes.said ∙ sym (append_nil (said old.told));
-      opened_at = λ is. (opening (known.2 is).0).since;
-      over = λ is. over (known.2 is);
-      headline = λ is order. let told = (known.2 is).0 in headline_none old.told now.told (f told) (opening told) r (began (known.2 is)) order;
-      nothing_pending = λ is order. (opening (known.2 is).0).nothing_pending order;
+      working = λ is. working (known.2 is).0;
+      said = λ is. let only = f (known.2 is).0.0 in said_now old.told now.told only.changes.goes only.changes.said ∙ sym (append_nil (said old.told));
+      opened_at = λ is. (opening (known.2 is).0.0).since;
+      over = λ is. over (known.2 is).0;
+      headline = λ is order. let told = (known.2 is).0.0 in headline_none old.told now.told (f told) (opening told) r (began (known.2 is).0) order;
+      nothing_pending = λ is order. (opening (known.2 is).0.0).nothing_pending order;
       noted = λ b. turns ∙ sym (append_nil old.turns);
       no_fault = no_fault;
       counts_now = counted ∙ ap turn_counts (sym no_fault);
@@ -228,9 +231,9 @@ served_first old now lines counts s r v none_known known serving begun working b
     }
 
 -- no line was served at all
-pub serves_none : (old new : Outside) (s : Status) → GoesOn old new → (IsTrue old.ground_tells → SyncsOnly (Only Control) old.told new.told) → (IsTrue old.ground_tells → RecoversOnceOpen old.told new.told) → new.left ≡ old.left → new.turns ≡ old.turns → new.read_faults ≡ old.read_faults
-    → (IsBehindOpening s [] → ⊥) → Begins s old (opened no_repository) [] → CountsOf s old.counts new.counts → Row s old new [] → Serves old new s
-serves_none old new s g f opening left turns reads unopened begins counted row =
+pub serves_none : (rule : Rule) (decisive : Bool) (old new : Outside) (s : Status) → GoesOn old new → (IsTrue old.ground_tells → SyncsOnly (Only Control) old.told new.told) → (IsTrue old.ground_tells → RecoversOnceOpen old.told new.told) → new.left ≡ old.left → new.turns ≡ old.turns → new.read_faults ≡ old.read_faults
+    → (IsBehindOpening s [] → ⊥) → Begins s old (opened no_repository) [] → CountsOf s old.counts new.counts → Row decisive s old new [] → Serves rule decisive old new s
+serves_none rule decisive old new s g f opening left turns reads unopened begins counted row =
     let first = opened no_repository in
     let quiet : IsTrue old.ground_tells → said new.told ≡ said old.told = λ b. said_now old.told new.told (f b).changes.goes (f b).changes.said in
     record {
@@ -246,14 +249,14 @@ serves_none old new s g f opening left turns reads unopened begins counted row =
         short = All-nil IsShort;
         run = λ told. tt;
         placed = λ told slot live. record { whole = []; cut = []; all = refl; one = omega arith; none = λ _. refl; last = slot; view = no_view; places = (refl, refl) };
-        said_part = λ b. record { whole = []; cut = []; part = []; unsaid = []; all = refl; one = omega arith; some = λ _ begun. absurd (begun refl); text = refl; said_is = quiet b.0 ∙ (sym (append_nil (said old.told)) ∙ sym (append_nil (said old.told ++ []))); silent = λ cut_short. refl };
-        said_all = λ b c. quiet b.0 ∙ sym (append_nil (said old.told));
+        said_part = λ b. record { whole = []; cut = []; part = []; unsaid = []; all = refl; one = omega arith; some = λ _ begun. absurd (begun refl); text = refl; said_is = quiet b.0.0 ∙ (sym (append_nil (said old.told)) ∙ sym (append_nil (said old.told ++ []))); silent = λ cut_short. refl };
+        said_all = λ b c. quiet b.0.0 ∙ sym (append_nil (said old.told));
       };
       reopens = record {
-        any_moment = λ b r stands order. ((opening b).since, λ behind. absurd (unopened behind), headline_none old.told new.told (f b) (opening b) r stands order);
-        again = λ b may. record { repository = may.repository; stands = stands_after old.told new.told (f b) (owns_pending old.told may.nothing_pending) may.repository may.stands; nothing_pending = (opening b).nothing_pending may.nothing_pending };
-        stands = λ b whole h. stands_after old.told new.told (f b.0) b.1 first.repository h;
-        files = λ b. keeps_unchanged old.told new.told (f b.0);
+        any_moment = λ b d r stands order. ((opening b).since, λ behind. absurd (unopened behind), headline_none old.told new.told (f b) (opening b) r stands order);
+        again = λ b d may. record { repository = may.repository; stands = stands_after old.told new.told (f b) (owns_pending old.told may.nothing_pending) may.repository may.stands; nothing_pending = (opening b).nothing_pending may.nothing_pending };
+        stands = λ b whole h. stands_after old.told new.told (f b.0.0) b.0.1 first.repository h;
+        files = λ b. keeps_unchanged old.told new.told (f b.0.0);
       };
       notes = record {
         noted = λ b. turns ∙ sym (append_nil old.turns);
@@ -265,24 +268,24 @@ serves_none old new s g f opening left turns reads unopened begins counted row =
     }
 
 -- the store could not be opened
-pub begins_unopened : (old new : Outside) (s : Status) → GoesOn old new → (IsTrue old.ground_tells → SyncsOnly (Only Control) old.told new.told) → (IsTrue old.ground_tells → RecoversOnceOpen old.told new.told) → new.left ≡ old.left → new.turns ≡ old.turns → new.read_faults ≡ old.read_faults
-    → CouldNotOpen s old.ground_tells old.told → CountsOf s old.counts new.counts → Serves old new s
-begins_unopened old new s g f opening left turns reads could_not counted = by_status s could_not counted
+pub begins_unopened : (rule : Rule) (decisive : Bool) (old new : Outside) (s : Status) → GoesOn old new → (IsTrue old.ground_tells → SyncsOnly (Only Control) old.told new.told) → (IsTrue old.ground_tells → RecoversOnceOpen old.told new.told) → new.left ≡ old.left → new.turns ≡ old.turns → new.read_faults ≡ old.read_faults
+    → CouldNotOpen s old.ground_tells old.told → CountsOf s old.counts new.counts → Serves rule decisive old new s
+begins_unopened rule decisive old new s g f opening left turns reads could_not counted = by_status s could_not counted
   where
     untouched : IsUntouched old new []
     untouched = record { none_taken = refl; left = left; said_nothing = λ told. said_now old.told new.told (f told).changes.goes (f told).changes.said; only = f; turns = turns }
 
-    by_status : (s : Status) → CouldNotOpen s old.ground_tells old.told → CountsOf s old.counts new.counts → Serves old new s
-    by_status status.NoStore h n = serves_none old new status.NoStore g f opening left turns reads (λ b. b) refl n (untouched, h)
-    by_status (status.Damaged file at) h n = serves_none old new (status.Damaged file at) g f opening left turns reads (λ b. b) refl n (untouched, λ tells. h tells.0 tells.1)
-    by_status status.GroundFault h n = serves_none old new status.GroundFault g f opening left turns reads (λ some. some refl) (inl refl) n tt
+    by_status : (s : Status) → CouldNotOpen s old.ground_tells old.told → CountsOf s old.counts new.counts → Serves rule decisive old new s
+    by_status status.NoStore h n = serves_none rule decisive old new status.NoStore g f opening left turns reads (λ b. b) refl n (untouched, h)
+    by_status (status.Damaged file at) h n = serves_none rule decisive old new (status.Damaged file at) g f opening left turns reads (λ b. b) refl n (untouched, λ tells. h tells.0 tells.1)
+    by_status status.GroundFault h n = serves_none rule decisive old new status.GroundFault g f opening left turns reads (λ some. some refl) (inl refl) n tt
     by_status status.Done h n = absurd h
     by_status status.Usage h n = absurd h
     by_status (status.DamagedRecord at) h n = absurd h
     by_status (status.DamagedName at want got) h n = absurd h
     by_status status.ReadFault h n = absurd h
     by_status status.SayFault h n = absurd h
-    by_status status.Memory h n = serves_none old new status.Memory g f opening left turns reads (λ b. b) refl n untouched
+    by_status status.Memory h n = serves_none rule decisive old new status.Memory g f opening left turns reads (λ b. b) refl n untouched
     by_status (status.Limit bound) h n = absurd h
     by_status status.Unfinished h n = absurd h
     by_status status.Exists h n = absurd h
@@ -304,29 +307,29 @@ ends_along status.Memory r r' t t' A B h e f k = absurd h
 ends_along status.Exists r r' t t' A B h e f k = absurd h
 
 -- where reading ended, the store had been opened and no command was cut off
-record Ended (s : Status) (old new : Outside) (taken : Bytes) (first : State) (xs : List Exchange) : Type 0 where
-  row : Row s old new taken
+record Ended (decisive : Bool) (s : Status) (old new : Outside) (taken : Bytes) (first : State) (xs : List Exchange) : Type 0 where
+  row : Row decisive s old new taken
   whole : is_cut_off s ≡ false
   begins : Begins s old first xs
   counted : CountsOf s old.counts new.counts
   reads : s ≢ status.ReadFault → new.read_faults ≡ old.read_faults
 
 -- the row of a status with which reading ended
-row_of : (s : Status) (old mid new : Outside) (taken : Bytes) (first : State) (xs : List Exchange) → IsOpened old first → EndsReading s (length (last_piece taken)) (length taken) (IsTrue old.source_tells → new.left ≡ []) → new.counts ≡ old.counts → mid.read_faults ≡ old.read_faults
-    → IsCaused s mid.read_faults new.read_faults → Ended s old new taken first xs
-row_of status.Done old mid new taken first xs o e n f c = record { row = e; whole = refl; begins = o; counted = n; reads = λ other. c ∙ f }
-row_of status.Unfinished old mid new taken first xs o e n f c = record { row = e; whole = refl; begins = o; counted = n; reads = λ other. c ∙ f }
-row_of (status.Limit b) old mid new taken first xs o e n f c = record { row = e; whole = refl; begins = o; counted = n; reads = λ other. c ∙ f }
-row_of status.ReadFault old mid new taken first xs o e n f c = record { row = (e, subst (λ (before : ℕ). Rose before new.read_faults) f c); whole = refl; begins = o; counted = n; reads = λ other. absurd (other refl) }
-row_of status.Usage old mid new taken first xs o e n f c = absurd e
-row_of status.NoStore old mid new taken first xs o e n f c = absurd e
-row_of (status.Damaged file at) old mid new taken first xs o e n f c = absurd e
-row_of (status.DamagedRecord at) old mid new taken first xs o e n f c = absurd e
-row_of (status.DamagedName at want got) old mid new taken first xs o e n f c = absurd e
-row_of status.SayFault old mid new taken first xs o e n f c = absurd e
-row_of status.GroundFault old mid new taken first xs o e n f c = absurd e
-row_of status.Memory old mid new taken first xs o e n f c = absurd e
-row_of status.Exists old mid new taken first xs o e n f c = absurd e
+row_of : (decisive : Bool) (s : Status) (old mid new : Outside) (taken : Bytes) (first : State) (xs : List Exchange) → IsOpened old first → EndsReading s (length (last_piece taken)) (length taken) (IsTrue old.source_tells → new.left ≡ []) → new.counts ≡ old.counts → mid.read_faults ≡ old.read_faults
+    → IsCaused s mid.read_faults new.read_faults → Ended decisive s old new taken first xs
+row_of decisive status.Done old mid new taken first xs o e n f c = record { row = e; whole = refl; begins = o; counted = n; reads = λ other. c ∙ f }
+row_of decisive status.Unfinished old mid new taken first xs o e n f c = record { row = e; whole = refl; begins = o; counted = n; reads = λ other. c ∙ f }
+row_of decisive (status.Limit b) old mid new taken first xs o e n f c = record { row = e; whole = refl; begins = o; counted = n; reads = λ other. c ∙ f }
+row_of decisive status.ReadFault old mid new taken first xs o e n f c = record { row = (e, subst (λ (before : ℕ). Rose before new.read_faults) f c); whole = refl; begins = o; counted = n; reads = λ other. absurd (other refl) }
+row_of decisive status.Usage old mid new taken first xs o e n f c = absurd e
+row_of decisive status.NoStore old mid new taken first xs o e n f c = absurd e
+row_of decisive (status.Damaged file at) old mid new taken first xs o e n f c = absurd e
+row_of decisive (status.DamagedRecord at) old mid new taken first xs o e n f c = absurd e
+row_of decisive (status.DamagedName at want got) old mid new taken first xs o e n f c = absurd e
+row_of decisive status.SayFault old mid new taken first xs o e n f c = absurd e
+row_of decisive status.GroundFault old mid new taken first xs o e n f c = absurd e
+row_of decisive status.Memory old mid new taken first xs o e n f c = absurd e
+row_of decisive status.Exists old mid new taken first xs o e n f c = absurd e
 
 -- the files stood for one repository at most when the run began
 of_opened : (behind : Type 0) (since : ℕ) (old new : Outside) (first : Repository) (xs : List Exchange) → StandsFor old.told.held first → (r : Repository) → StandsFor old.told.held r → since ≤ new.told.moment → Headline since old.told new.told (opened first) (map answer_of xs)
@@ -334,22 +337,22 @@ of_opened : (behind : Type 0) (since : ℕ) (old new : Outside) (first : Reposit
 of_opened behind since old new first xs began r stands reached run = (since, λ b. reached, subst (λ (q : Repository). Headline since old.told new.told (opened q) (map answer_of xs)) (one_repository old.told.held first r began stands) run)
 
 -- one slot was live when the run began
-placed_from : (old mid : Outside) (lines : Lines) (counts : TurnCounts) (session : Session) (h : Served old mid lines counts session) → Tells old → (slot : Slot) → HasLive slot old.told.held → Places slot (opened h.first) no_view h.exchanges session.store.slot h.view
-placed_from old mid lines counts session h b slot live =
+placed_from : (rule : Rule) (decisive : Bool) (old mid : Outside) (lines : Lines) (counts : TurnCounts) (session : Session) (h : Served rule decisive old mid lines counts session) → Knows decisive old → (slot : Slot) → HasLive slot old.told.held → Places rule slot (opened h.first) no_view h.exchanges session.store.slot h.view
+placed_from rule decisive old mid lines counts session h b slot live =
     let is = h.known_so b in
-    subst (λ (t : Slot). Places t (opened h.first) no_view h.exchanges session.store.slot h.view) (one_slot h.slot slot old.told.held (h.live is) live) (h.places is)
+    subst (λ (t : Slot). Places rule t (opened h.first) no_view h.exchanges session.store.slot h.view) (one_slot h.slot slot old.told.held (h.live is) live) (h.places is)
 
 -- the source is read no further
-serves_stopped : (s : Status) (old mid new : Outside) (lines lines' : Lines) (counts counts' : TurnCounts) (session : Session) (h : Served old mid lines counts session) → Stopped s h.known mid new lines lines' counts counts' (state_in session h.repository h.view) → Serves old new s
-serves_stopped s old mid new lines lines' counts counts' session h t =
+serves_stopped : (rule : Rule) (decisive : Bool) (s : Status) (old mid new : Outside) (lines lines' : Lines) (counts counts' : TurnCounts) (session : Session) (h : Served rule decisive old mid lines counts session) → Stopped s h.known mid new lines lines' counts counts' (state_in session h.repository h.view) → Serves rule decisive old new s
+serves_stopped rule decisive s old mid new lines lines' counts counts' session h t =
     let first = opened h.first in
     let taken = h.done ++ t.rest in
     let whole : whole_lines taken ≡ lines_in h.exchanges ++ [] = h.lines_then t.rest ∙ ap (λ u. lines_in h.exchanges ++ u) (whole_lines-rest t.rest t.no_line_feed) in
     let rest : last_piece taken ≡ t.rest = h.rest_then t.rest ∙ last_piece-rest t.rest t.no_line_feed in
     let long : lines'.taken ≡ length taken = omega (arith, h.count, t.count, length-append h.done t.rest) in
-    let end = row_of s old mid new taken first h.exchanges (λ b. h.began (h.known_so b)) (ends_along s (length t.rest) (length (last_piece taken)) lines'.taken (length taken) _ _ t.ends (ap length (sym rest)) long (λ e b. e (told_before _ _ h.goes_on.source_tells b))) (t.no_fault ∙ h.no_fault) h.reads t.cause in
-    let known : IsTrue old.ground_tells → NothingPending old.told → IsTrue h.known = λ b order. h.known_so (b, owns_pending old.told order) in
-    let quiet : Tells old → said new.told ≡ said old.told ++ texts_in h.exchanges = λ b. t.same_said ∙ h.said (h.known_so b) in
+    let end = row_of decisive s old mid new taken first h.exchanges h.began (ends_along s (length t.rest) (length (last_piece taken)) lines'.taken (length taken) _ _ t.ends (ap length (sym rest)) long (λ e b. e (told_before _ _ h.goes_on.source_tells b))) (t.no_fault ∙ h.no_fault) h.reads t.cause in
+    let known : IsTrue old.ground_tells → IsTrue decisive → NothingPending old.told → IsTrue h.known = λ b d order. h.known_so ((b, owns_pending old.told order), d) in
+    let quiet : Knows decisive old → said new.told ≡ said old.told ++ texts_in h.exchanges = λ b. t.same_said ∙ h.said (h.known_so b) in
     record {
       taken = taken;
       exchanges = h.exchanges;
@@ -362,15 +365,15 @@ serves_stopped s old mid new lines lines' counts counts' session h t =
         begun = ([], whole, λ c. refl);
         short = h.short;
         run = λ b. h.run (h.known_so b);
-        placed = λ b slot live. record { whole = h.exchanges; cut = []; all = append_nil h.exchanges; one = omega arith; none = λ _. refl; last = session.store.slot; view = h.view; places = placed_from old mid lines counts session h b slot live };
+        placed = λ b slot live. record { whole = h.exchanges; cut = []; all = append_nil h.exchanges; one = omega arith; none = λ _. refl; last = session.store.slot; view = h.view; places = placed_from rule decisive old mid lines counts session h b slot live };
         said_part = λ b. record { whole = h.exchanges; cut = []; part = []; unsaid = []; all = append_nil h.exchanges; one = omega arith; some = λ c _. absurd (cc (c, end.whole)); text = refl; said_is = quiet b ∙ sym (append_nil (said old.told ++ texts_in h.exchanges)); silent = λ cut_short. refl };
         said_all = λ b c. quiet b;
       };
       reopens = record {
-        any_moment = λ b r stands order. let is = known b order in of_opened (IsBehindOpening s h.exchanges) (h.opened_at is) old new h.first h.exchanges (h.began is) r stands
+        any_moment = λ b d r stands order. let is = known b d order in of_opened (IsBehindOpening s h.exchanges) (h.opened_at is) old new h.first h.exchanges (h.began (h.tells is)) r stands
             (let was = h.over is in let later = t.files.goes.later in omega (arith, was, later))
             (headline_later (h.opened_at is) old.told mid.told new.told first (map answer_of h.exchanges) (h.headline is order) t.files.goes t.same_moment);
-        again = λ b may. let is = known b may.nothing_pending in record { repository = h.repository; stands = t.stands is; nothing_pending = t.nothing_pending (h.nothing_pending is may.nothing_pending) };
+        again = λ b d may. let is = known b d may.nothing_pending in record { repository = h.repository; stands = t.stands is; nothing_pending = t.nothing_pending (h.nothing_pending is may.nothing_pending) };
         stands = λ b whole began. subst (λ (state : State). StandsFor new.told.held state.repository) (h.now_at (h.known_so b)) (t.stands (h.known_so b));
         files = λ g. keeps_on old.told mid.told new.told (h.files (h.known_so g)) t.files;
       };
@@ -384,14 +387,14 @@ serves_stopped s old mid new lines lines' counts counts' session h t =
     }
 
 -- a reply could not be said
-serves_unsaid : (s : Status) (old mid new : Outside) (lines lines' : Lines) (counts counts' : TurnCounts) (session : Session) (h : Served old mid lines counts session) → is_cut_off s ≡ true → ((xs : List Exchange) → Begins s old (opened h.first) xs)
-    → Unsaid s h.known mid new lines lines' counts counts' (state_in session h.repository h.view) → ((taken : Bytes) → Row s old new taken) → Serves old new s
-serves_unsaid s old mid new lines lines' counts counts' session h cut opened_so u row =
+serves_unsaid : (rule : Rule) (decisive : Bool) (s : Status) (old mid new : Outside) (lines lines' : Lines) (counts counts' : TurnCounts) (session : Session) (h : Served rule decisive old mid lines counts session) → is_cut_off s ≡ true → ((xs : List Exchange) → Begins s old (opened h.first) xs)
+    → Unsaid rule s h.known mid new lines lines' counts counts' (state_in session h.repository h.view) → ((taken : Bytes) → Row decisive s old new taken) → Serves rule decisive old new s
+serves_unsaid rule decisive s old mid new lines lines' counts counts' session h cut opened_so u row =
     let first = opened h.first in
     let x = u.exchange in
     let t = u.turned in
     let xs = h.exchanges ++ x ∷ [] in
-    let known : IsTrue old.ground_tells → NothingPending old.told → IsTrue h.known = λ b order. h.known_so (b, owns_pending old.told order) in
+    let known : IsTrue old.ground_tells → IsTrue decisive → NothingPending old.told → IsTrue h.known = λ b d order. h.known_so ((b, owns_pending old.told order), d) in
     let done = h.done ++ (x.line ++ line_feed ∷ []) in
     let then_lines : (tail : Bytes) → whole_lines (done ++ tail) ≡ lines_in xs ++ whole_lines tail = λ tail. ap whole_lines (sym (regroup h.done x.line tail)) ∙ (h.lines_then (x.line ++ line_feed ∷ tail) ∙ (ap (λ u. lines_in h.exchanges ++ u) (whole_lines-line x.line tail t.no_line_feed) ∙ (sym (append_assoc (lines_in h.exchanges) (x.line ∷ []) (whole_lines tail)) ∙ ap (λ u. u ++ whole_lines tail) (sym (map-append (λ x. x.line) h.exchanges (x ∷ [])))))) in
     record {
@@ -405,23 +408,23 @@ serves_unsaid s old mid new lines lines' counts counts' session h cut opened_so 
         bytes = λ b. h.bytes b ∙ (ap (λ (u : Bytes). h.done ++ u) (t.front (told_before _ _ h.goes_on.source_tells b)) ∙ (regroup h.done x.line (pending lines' ++ new.left) ∙ sym (append_assoc done (pending lines') new.left)));
         begun = (whole_lines (pending lines'), then_lines (pending lines'), λ c. absurd (cc (c, cut)));
         short = subst (All IsShort) (sym (map-append (λ x. x.line) h.exchanges (x ∷ []))) (All-append IsShort (lines_in h.exchanges) (x.line ∷ []) h.short (All-cons IsShort x.line [] t.short (All-nil IsShort)));
-        run = λ b. let is = h.known_so b in run_more no_rules first (state_in session h.repository h.view) h.exchanges x (h.now_at is) (h.run is) (t.step is);
-        placed = λ b slot live. record { whole = h.exchanges; cut = x ∷ []; all = refl; one = omega arith; none = λ c. absurd (cc (c, cut)); last = session.store.slot; view = h.view; places = placed_from old mid lines counts session h b slot live };
+        run = λ b. let is = h.known_so b in run_more rule first (state_in session h.repository h.view) h.exchanges x (h.now_at is) (h.run is) (t.step is);
+        placed = λ b slot live. record { whole = h.exchanges; cut = x ∷ []; all = refl; one = omega arith; none = λ c. absurd (cc (c, cut)); last = session.store.slot; view = h.view; places = placed_from rule decisive old mid lines counts session h b slot live };
         said_part = λ b. let is = h.known_so b in let p = u.part is in record { whole = h.exchanges; cut = x ∷ []; part = p.0; unsaid = p.1; all = refl; one = omega arith; some = λ _ _ none. absurd (cc none); text = p.2 ∙ sym (append_nil (reply_text x.reply)); said_is = p.3 ∙ ap (λ (v : Bytes). v ++ p.0) (h.said is); silent = u.silent is };
         said_all = λ b c. absurd (cc (c, cut));
       };
       reopens = record {
-        any_moment = λ b r stands order. let is = known b order in of_opened (IsBehindOpening s xs) (h.opened_at is) old new h.first xs (h.began is) r stands
+        any_moment = λ b d r stands order. let is = known b d order in of_opened (IsBehindOpening s xs) (h.opened_at is) old new h.first xs (h.began (h.tells is)) r stands
             (let was = h.over is in let later = (t.files is).goes.later in omega (arith, was, later))
             (headline_turn (h.opened_at is) old.told mid.told new.told first h.exchanges x (h.headline is order) (t.files is).goes (h.over is) (h.said is)
             h.repository x.after.repository (ap (λ (state : State). state.repository) (h.now_at is)) refl (u.turning is (h.nothing_pending is order)));
-        again = λ b may. let is = known b may.nothing_pending in u.again is (h.nothing_pending is may.nothing_pending);
+        again = λ b d may. let is = known b d may.nothing_pending in u.again is (h.nothing_pending is may.nothing_pending);
         stands = λ b whole began. subst (λ (state : State). StandsFor new.told.held state.repository) (sym (after_more first h.exchanges x)) (u.stands (h.known_so b) whole);
         files = λ g. keeps_on old.told mid.told new.told (h.files (h.known_so g)) (t.files (h.known_so g));
       };
       notes = record {
         noted = λ l. t.noted l ∙ (ap (λ u. u ++ x.turn ∷ []) (h.noted (t.goes_on.log_tells l)) ∙ (append_assoc old.turns (turns_in h.exchanges) (x.turn ∷ []) ∙ ap (λ u. old.turns ++ u) (sym (map-append (λ x. x.turn) h.exchanges (x ∷ [])))));
-        follow = λ behind. subst (λ (e : TurnCounts). Follow (turn_counts old.counts) (turns_in xs) e) t.until (follow_turn old mid lines counts counts' session h x t.begins_at t.ends_at t.rises);
+        follow = λ behind. subst (λ (e : TurnCounts). Follow (turn_counts old.counts) (turns_in xs) e) t.until (follow_turn rule decisive old mid lines counts counts' session h x t.begins_at t.ends_at t.rises);
         counted = subst (λ (c : GroundCounts). CountsOf s c new.counts) h.no_fault u.counted;
         reads = λ other. t.reads ∙ h.reads;
       };
@@ -429,20 +432,20 @@ serves_unsaid s old mid new lines lines' counts counts' session h cut opened_so 
     }
 
 -- how a run ends
-pub serves_stop : (s : Status) (old mid new : Outside) (lines lines' : Lines) (counts counts' : TurnCounts) (session : Session) (h : Served old mid lines counts session) → Stops s h.known mid new lines lines' counts counts' (state_in session h.repository h.view) → Serves old new s
-serves_stop status.SayFault old mid new lines lines' counts counts' session h u = serves_unsaid status.SayFault old mid new lines lines' counts counts' session h refl (λ xs b. h.began (h.known_so b)) u (λ taken. tt)
-serves_stop status.GroundFault old mid new lines lines' counts counts' session h u = serves_unsaid status.GroundFault old mid new lines lines' counts counts' session h refl (λ xs. inr (λ b. h.began (h.known_so b))) u (λ taken. tt)
-serves_stop (status.DamagedRecord at) old mid new lines lines' counts counts' session h u = serves_unsaid (status.DamagedRecord at) old mid new lines lines' counts counts' session h refl (λ xs b. h.began (h.known_so b)) u.0 (λ taken b. u.1 (h.known_so b))
-serves_stop (status.DamagedName at want got) old mid new lines lines' counts counts' session h u = serves_unsaid (status.DamagedName at want got) old mid new lines lines' counts counts' session h refl (λ xs b. h.began (h.known_so b)) u.0 (λ taken b. u.1 (h.known_so b))
-serves_stop status.Done old mid new lines lines' counts counts' session h u = serves_stopped status.Done old mid new lines lines' counts counts' session h u
-serves_stop status.Unfinished old mid new lines lines' counts counts' session h u = serves_stopped status.Unfinished old mid new lines lines' counts counts' session h u
-serves_stop (status.Limit l) old mid new lines lines' counts counts' session h u = serves_stopped (status.Limit l) old mid new lines lines' counts counts' session h u
-serves_stop status.ReadFault old mid new lines lines' counts counts' session h u = serves_stopped status.ReadFault old mid new lines lines' counts counts' session h u
-serves_stop status.Usage old mid new lines lines' counts counts' session h u = serves_stopped status.Usage old mid new lines lines' counts counts' session h u
-serves_stop status.NoStore old mid new lines lines' counts counts' session h u = serves_stopped status.NoStore old mid new lines lines' counts counts' session h u
-serves_stop (status.Damaged file at) old mid new lines lines' counts counts' session h u = serves_stopped (status.Damaged file at) old mid new lines lines' counts counts' session h u
-serves_stop status.Memory old mid new lines lines' counts counts' session h u = serves_stopped status.Memory old mid new lines lines' counts counts' session h u
-serves_stop status.Exists old mid new lines lines' counts counts' session h u = serves_stopped status.Exists old mid new lines lines' counts counts' session h u
+pub serves_stop : (rule : Rule) (decisive : Bool) (s : Status) (old mid new : Outside) (lines lines' : Lines) (counts counts' : TurnCounts) (session : Session) (h : Served rule decisive old mid lines counts session) → Stops rule s h.known mid new lines lines' counts counts' (state_in session h.repository h.view) → Serves rule decisive old new s
+serves_stop rule decisive status.SayFault old mid new lines lines' counts counts' session h u = serves_unsaid rule decisive status.SayFault old mid new lines lines' counts counts' session h refl (λ xs b. h.began b) u (λ taken. tt)
+serves_stop rule decisive status.GroundFault old mid new lines lines' counts counts' session h u = serves_unsaid rule decisive status.GroundFault old mid new lines lines' counts counts' session h refl (λ xs. inr h.began) u (λ taken. tt)
+serves_stop rule decisive (status.DamagedRecord at) old mid new lines lines' counts counts' session h u = serves_unsaid rule decisive (status.DamagedRecord at) old mid new lines lines' counts counts' session h refl (λ xs b. h.began b) u.0 (λ taken b. u.1 (h.known_so b))
+serves_stop rule decisive (status.DamagedName at want got) old mid new lines lines' counts counts' session h u = serves_unsaid rule decisive (status.DamagedName at want got) old mid new lines lines' counts counts' session h refl (λ xs b. h.began b) u.0 (λ taken b. u.1 (h.known_so b))
+serves_stop rule decisive status.Done old mid new lines lines' counts counts' session h u = serves_stopped rule decisive status.Done old mid new lines lines' counts counts' session h u
+serves_stop rule decisive status.Unfinished old mid new lines lines' counts counts' session h u = serves_stopped rule decisive status.Unfinished old mid new lines lines' counts counts' session h u
+serves_stop rule decisive (status.Limit l) old mid new lines lines' counts counts' session h u = serves_stopped rule decisive (status.Limit l) old mid new lines lines' counts counts' session h u
+serves_stop rule decisive status.ReadFault old mid new lines lines' counts counts' session h u = serves_stopped rule decisive status.ReadFault old mid new lines lines' counts counts' session h u
+serves_stop rule decisive status.Usage old mid new lines lines' counts counts' session h u = serves_stopped rule decisive status.Usage old mid new lines lines' counts counts' session h u
+serves_stop rule decisive status.NoStore old mid new lines lines' counts counts' session h u = serves_stopped rule decisive status.NoStore old mid new lines lines' counts counts' session h u
+serves_stop rule decisive (status.Damaged file at) old mid new lines lines' counts counts' session h u = serves_stopped rule decisive (status.Damaged file at) old mid new lines lines' counts counts' session h u
+serves_stop rule decisive status.Memory old mid new lines lines' counts counts' session h u = serves_stopped rule decisive status.Memory old mid new lines lines' counts counts' session h u
+serves_stop rule decisive status.Exists old mid new lines lines' counts counts' session h u = serves_stopped rule decisive status.Exists old mid new lines lines' counts counts' session h u
 
 -- ---- the store that is opened
 
@@ -454,17 +457,17 @@ stands_open image r stands none =
     absurd (cc (is_none, is))
 
 -- its row, or what was counted, excludes each status but those of its script
-pub ends_by_script : (s : Status) (old new : Outside) (taken : Bytes) → Row s old new taken → CountsOf s old.counts new.counts → EndsWhereAllIsWell old new s
-ends_by_script status.Done old new taken r n told stands calm = tt
-ends_by_script status.Unfinished old new taken r n told stands calm = tt
-ends_by_script (status.Limit b) old new taken r n told stands calm = tt
-ends_by_script status.Memory old new taken r n told stands calm = tt
-ends_by_script status.Usage old new taken r n told stands calm = r
-ends_by_script status.Exists old new taken r n told stands calm = r
-ends_by_script status.NoStore old new taken r n told stands calm = absurd (stands_open old.told.held stands.0 stands.1 (r.1 told.0))
-ends_by_script (status.Damaged file at) old new taken r n told stands calm = absurd (not_damaged old.told.held stands.1.standing file at (r.1 told))
-ends_by_script (status.DamagedRecord at) old new taken r n told stands calm = absurd (r told)
-ends_by_script (status.DamagedName at want got) old new taken r n told stands calm = absurd (r told)
-ends_by_script status.ReadFault old new taken r n told stands calm = absurd (calm.read r.1)
-ends_by_script status.SayFault old new taken r n told stands calm = absurd (calm.say n.rose)
-ends_by_script status.GroundFault old new taken r n told stands calm = absurd (calm.file n.rose)
+pub ends_by_script : (decisive : Bool) → IsTrue decisive → (s : Status) (old new : Outside) (taken : Bytes) → Row decisive s old new taken → CountsOf s old.counts new.counts → EndsWhereAllIsWell old new s
+ends_by_script decisive sure status.Done old new taken r n told stands calm = tt
+ends_by_script decisive sure status.Unfinished old new taken r n told stands calm = tt
+ends_by_script decisive sure (status.Limit b) old new taken r n told stands calm = tt
+ends_by_script decisive sure status.Memory old new taken r n told stands calm = tt
+ends_by_script decisive sure status.Usage old new taken r n told stands calm = r
+ends_by_script decisive sure status.Exists old new taken r n told stands calm = r
+ends_by_script decisive sure status.NoStore old new taken r n told stands calm = absurd (stands_open old.told.held stands.0 stands.1 (r.1 told.0))
+ends_by_script decisive sure (status.Damaged file at) old new taken r n told stands calm = absurd (not_damaged old.told.held stands.1.standing file at (r.1 told))
+ends_by_script decisive sure (status.DamagedRecord at) old new taken r n told stands calm = absurd (r (told, sure))
+ends_by_script decisive sure (status.DamagedName at want got) old new taken r n told stands calm = absurd (r (told, sure))
+ends_by_script decisive sure status.ReadFault old new taken r n told stands calm = absurd (calm.read r.1)
+ends_by_script decisive sure status.SayFault old new taken r n told stands calm = absurd (calm.say n.rose)
+ends_by_script decisive sure status.GroundFault old new taken r n told stands calm = absurd (calm.file n.rose)

@@ -13,6 +13,7 @@ use Rattle.ip_ground.proofs.Spans.{only_more, said_now}
 use Rattle.ip_image.specs.declared.counts.TurnCounts.{TurnCounts}
 use Rattle.ip_spec.specs.declared.met.Met.{Met}
 use Rattle.ip_spec.specs.declared.reply.Reply.{Reply}
+use Rattle.ip_spec.specs.Merge.{Rule}
 use Rattle.ip_spec.specs.Path.{Bytes}
 use Rattle.ip_spec.specs.Machine.{State}
 use Rattle.ip_script.specs.Served.{IsServedLine}
@@ -26,7 +27,6 @@ use Rattle.ip_app.specs.declared.statuses.Status.TheVariants as status
 use Rattle.ip_app.specs.Pending.{pending}
 use Rattle.ip_app.specs.Reading.{GetsLine}
 use Rattle.ip_app.specs.Exchanges.{Exchange}
-use Rattle.ip_session.specs.Session.{no_rules}
 use Rattle.ip_app.specs.Outside.{Outside, GoesOn, KeepsFiles}
 use Rattle.ip_session.specs.declared.session.Session.{Session}
 use Rattle.ip_session.specs.Session.{state_in, IsWorking, conditions_of, ChangedIn, TouchedIn, EndsBy, IsViewIn, GoesIn, CutIn}
@@ -43,20 +43,20 @@ use Rattle.ip_app.proofs.RunLemmas.{append_nil, keeps_on, keeps_two, keeps_said,
 abbrev pub exchange_of : Bytes → Met → TurnCounts → TurnCounts → Reply → State → Exchange
 exchange_of line met before later reply after = record { line = line; turn = record { met = met; before = before; after = later }; difference = None; reply = reply; after = after }
 
-pub turned_of : (known : Bool) (old new : Outside) (lines lines' : Lines) (counts counts' : TurnCounts) (state after : State) (line read : Bytes) (met told_met : Met) (reply : Reply) (mid : GroundCounts) → GoesOn old new → (IsTrue known → KeepsFiles old.told new.told)
+pub turned_of : (rule : Rule) (known : Bool) (old new : Outside) (lines lines' : Lines) (counts counts' : TurnCounts) (state after : State) (line read : Bytes) (met told_met : Met) (reply : Reply) (mid : GroundCounts) → GoesOn old new → (IsTrue known → KeepsFiles old.told new.told)
     → GetsLine line old.source_tells (pending lines ++ old.left) (pending lines' ++ new.left) → lines'.taken + length (pending lines) ≡ lines.taken + (length line + 1) + length (pending lines') → new.read_faults ≡ old.read_faults
-    → (IsTrue known → LineStep IsServedLine no_rules state read (conditions_of met) reply after) → read ≡ line → told_met ≡ met
+    → (IsTrue known → LineStep IsServedLine rule state read (conditions_of met) reply after) → read ≡ line → told_met ≡ met
     → (IsTrue new.log_tells → new.turns ≡ old.turns ++ record { met = told_met; before = counts; after = counts' } ∷ [])
     → counts' ≡ turn_counts mid → counts ≡ turn_counts old.counts → NoneFalls old.counts mid → turn_counts mid ≡ turn_counts new.counts
-    → Turned known old new lines lines' counts counts' state (exchange_of line told_met counts counts' reply after)
-turned_of known old new lines lines' counts counts' state after line read met told_met reply mid g files gets count reads step same same_met noted counted before falls still = record {
+    → Turned rule known old new lines lines' counts counts' state (exchange_of line told_met counts counts' reply after)
+turned_of rule known old new lines lines' counts counts' state after line read met told_met reply mid g files gets count reads step same same_met noted counted before falls still = record {
   goes_on = g;
   files = files;
   front = gets.front;
   no_line_feed = gets.no_line_feed;
   short = gets.short;
   count = count;
-  step = λ is. subst (λ (k : Bytes). LineStep IsServedLine no_rules state k (conditions_of told_met) reply after) same (subst (λ (m : Met). LineStep IsServedLine no_rules state read (conditions_of m) reply after) (sym same_met) (step is));
+  step = λ is. subst (λ (k : Bytes). LineStep IsServedLine rule state k (conditions_of told_met) reply after) same (subst (λ (m : Met). LineStep IsServedLine rule state read (conditions_of m) reply after) (sym same_met) (step is));
   noted = noted;
   begins_at = refl;
   ends_at = refl;
@@ -86,12 +86,12 @@ module _ (old mid new : Told) (line : Bytes) (given : Reply) (only : ChangesOnly
 abbrev pub nothing_said : (old new : Told) (reply : Bytes) → ChangesOnly IsOfStore old new → SaysPart reply (said old) (said new)
 nothing_said old new reply only = ([], reply, refl, said_now old new only.goes only.said ∙ sym (append_nil (said old)))
 
-pub stops_reading : (s : Status) (known : Bool) (old new : Outside) (lines lines' : Lines) (counts counts' : TurnCounts) (state : State) → Stopped s known old new lines lines' counts counts' state → Stops s known old new lines lines' counts counts' state
-stops_reading status.SayFault known old new lines lines' counts counts' state t = absurd t.ends
-stops_reading status.GroundFault known old new lines lines' counts counts' state t = absurd t.ends
-stops_reading (status.DamagedRecord at) known old new lines lines' counts counts' state t = absurd t.ends
-stops_reading (status.DamagedName at want got) known old new lines lines' counts counts' state t = absurd t.ends
-stops_reading _ known old new lines lines' counts counts' state t = t
+pub stops_reading : (rule : Rule) (s : Status) (known : Bool) (old new : Outside) (lines lines' : Lines) (counts counts' : TurnCounts) (state : State) → Stopped s known old new lines lines' counts counts' state → Stops rule s known old new lines lines' counts counts' state
+stops_reading rule status.SayFault known old new lines lines' counts counts' state t = absurd t.ends
+stops_reading rule status.GroundFault known old new lines lines' counts counts' state t = absurd t.ends
+stops_reading rule (status.DamagedRecord at) known old new lines lines' counts counts' state t = absurd t.ends
+stops_reading rule (status.DamagedName at want got) known old new lines lines' counts counts' state t = absurd t.ends
+stops_reading rule _ known old new lines lines' counts counts' state t = t
 
 -- a session's end cut the command short
 pub ended_short : (end : SessionEnd) → is_cut_short (ended_status end) ≡ true
@@ -99,14 +99,14 @@ ended_short SessionEnd.Ground = refl
 ended_short (SessionEnd.Damaged at None) = refl
 ended_short (SessionEnd.Damaged at (Some (want, got))) = refl
 
-pub stops_ended : (end : SessionEnd) (s : Status) (known : Bool) (held : Type 0) (old new : Outside) (lines lines' : Lines) (counts counts' : TurnCounts) (state : State) → s ≡ ended_status end → Unsaid (ended_status end) known old new lines lines' counts counts' state
-    → (IsTrue known → held) → EndsBy held end → Stops s known old new lines lines' counts counts' state
-stops_ended end s known held old new lines lines' counts counts' state e unsaid holds ends = subst (λ (t : Status). Stops t known old new lines lines' counts counts' state) (sym e) (by_end end unsaid ends)
+pub stops_ended : (rule : Rule) (end : SessionEnd) (s : Status) (known : Bool) (held : Type 0) (old new : Outside) (lines lines' : Lines) (counts counts' : TurnCounts) (state : State) → s ≡ ended_status end → Unsaid rule (ended_status end) known old new lines lines' counts counts' state
+    → (IsTrue known → held) → (IsTrue known → EndsBy held end) → Stops rule s known old new lines lines' counts counts' state
+stops_ended rule end s known held old new lines lines' counts counts' state e unsaid holds ends = subst (λ (t : Status). Stops rule t known old new lines lines' counts counts' state) (sym e) (by_end end unsaid ends)
   where
-    by_end : (end : SessionEnd) → Unsaid (ended_status end) known old new lines lines' counts counts' state → EndsBy held end → Stops (ended_status end) known old new lines lines' counts counts' state
+    by_end : (end : SessionEnd) → Unsaid rule (ended_status end) known old new lines lines' counts counts' state → (IsTrue known → EndsBy held end) → Stops rule (ended_status end) known old new lines lines' counts counts' state
     by_end SessionEnd.Ground u h = u
-    by_end (SessionEnd.Damaged at None) u h = (u, λ is. h (holds is))
-    by_end (SessionEnd.Damaged at (Some (want, got))) u h = (u, λ is. h (holds is))
+    by_end (SessionEnd.Damaged at None) u h = (u, λ is. h is (holds is))
+    by_end (SessionEnd.Damaged at (Some (want, got))) u h = (u, λ is. h is (holds is))
 
 -- ---- what a session did is known only where it works
 
@@ -116,26 +116,26 @@ settled P true given found = let y = found refl in (y.0, λ is. y.1)
 settled P false given found = (given, λ is. absurd (cc is))
 
 -- a session ran a line and is in this repository then, and its work's tree has this view
-pub record GoesTo (old new : Told) (s s' : Session) (r : Repository) (v : View) (line : Bytes) (reply : Reply) (x : Repository × View) : Type 0 where
-  pub gives : LineStep IsServedLine no_rules (state_in s r v) line (conditions_of s'.met) reply (state_in s' x.0 x.1)
+pub record GoesTo (rule : Rule) (old new : Told) (s s' : Session) (r : Repository) (v : View) (line : Bytes) (reply : Reply) (x : Repository × View) : Type 0 where
+  pub gives : LineStep IsServedLine rule (state_in s r v) line (conditions_of s'.met) reply (state_in s' x.0 x.1)
   pub working : IsWorking new s' x.0 x.1
   pub seen : IsViewIn r v line reply x.1
   pub only : ChangesOnly (ChangedIn old.held line reply) old new
   pub atomic : NothingPending old → IsAtomic old new r x.0
   pub nothing_pending : NothingPending old → NothingPending new
 
-pub went_to : (known : Bool) (old new : Told) (s s' : Session) (r : Repository) (v : View) (line : Bytes) (reply : Reply) → (IsTrue known → GoesIn old new s s' r v line reply)
-    → (x : Repository × View) × (IsTrue known → GoesTo old new s s' r v line reply x)
-went_to known old new s s' r v line reply goes = settled (GoesTo old new s s' r v line reply) known (r, v)
+pub went_to : (rule : Rule) (known : Bool) (old new : Told) (s s' : Session) (r : Repository) (v : View) (line : Bytes) (reply : Reply) → (IsTrue known → GoesIn rule old new s s' r v line reply)
+    → (x : Repository × View) × (IsTrue known → GoesTo rule old new s s' r v line reply x)
+went_to rule known old new s s' r v line reply goes = settled (GoesTo rule old new s s' r v line reply) known (r, v)
     (λ is. let h = goes is in ((h.after, h.view), record { gives = h.gives; working = h.is_at; seen = h.seen; only = h.only; atomic = h.atomic; nothing_pending = h.nothing_pending }))
 
 -- or it was cut short, with this reply and this state of the machine
-pub record CutTo (old new : Told) (s s' : Session) (r : Repository) (v : View) (line : Bytes) (x : Reply × State) : Type 0 where
-  pub gives : LineStep IsServedLine no_rules (state_in s r v) line (conditions_of s'.met) x.0 x.1
+pub record CutTo (rule : Rule) (old new : Told) (s s' : Session) (r : Repository) (v : View) (line : Bytes) (x : Reply × State) : Type 0 where
+  pub gives : LineStep IsServedLine rule (state_in s r v) line (conditions_of s'.met) x.0 x.1
   pub only : ChangesOnly IsOfStore old new
   pub atomic : NothingPending old → IsAtomic old new r x.1.repository
 
-pub cut_to : (known : Bool) (old new : Told) (s s' : Session) (r : Repository) (v : View) (line : Bytes) → (IsTrue known → CutIn old new s s' r v line)
-    → (x : Reply × State) × (IsTrue known → CutTo old new s s' r v line x)
-cut_to known old new s s' r v line cut = settled (CutTo old new s s' r v line) known (Reply.Accepted, state_in s r v)
+pub cut_to : (rule : Rule) (known : Bool) (old new : Told) (s s' : Session) (r : Repository) (v : View) (line : Bytes) → (IsTrue known → CutIn rule old new s s' r v line)
+    → (x : Reply × State) × (IsTrue known → CutTo rule old new s s' r v line x)
+cut_to rule known old new s s' r v line cut = settled (CutTo rule old new s s' r v line) known (Reply.Accepted, state_in s r v)
     (λ is. let h = cut is in ((h.reply, h.after), record { gives = h.gives; only = only_more old new (TouchedIn old.held line) IsOfStore (λ file touched. of_store old.held file touched.2.1) h.only; atomic = h.atomic }))

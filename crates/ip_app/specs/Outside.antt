@@ -1,6 +1,6 @@
 -- What a source, a ground and a log tell at a moment.
 --     Outside, outside      the record, and how the traits' ghost members make it
---     Tells outside      the ground tells its content, and no child changes the live pair
+--     Tells outside      the ground tells its content, and no child changes the live pair.      Knows decisive outside      and the rules of merges are known to be decisive
 --     GoesOn old new      what no call changes: who tells, and that no count falls. A log may tell no more
 --     KeepsFiles old new      at no moment has a file changed but the chunks and the control file, or was synced, and none was lent or settled
 use Rattle.std.specs.Prelude.{ℕ, ◌≤◌, ◌≡◌, Bool, IsTrue, List}
@@ -38,6 +38,9 @@ outside source_tells left read_faults ground_tells told_of counts_of log_tells t
 
 abbrev pub Tells : Outside → Type 0
 Tells outside = IsTrue outside.ground_tells × OwnsLive outside.told
+
+abbrev pub Knows : (decisive : Bool) → Outside → Type 0
+Knows decisive outside = Tells outside × IsTrue decisive
 
 pub record GoesOn (old new : Outside) : Type 0 where
   pub source_tells : new.source_tells ≡ old.source_tells

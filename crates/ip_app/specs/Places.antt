@@ -1,19 +1,20 @@
 -- Where the records of a run come to lie, which parts of the work's tree are known between its commands, and which of them meet a limit.
---     Places slot s v exchanges slot' v'      from this slot, state and view on, over exchanges that were answered whole, up to this slot and view
---     PlacesIn is_cut_off slot first exchanges      so of the exchanges of a run: of all, or of all but the last one
+--     Places rule slot s v exchanges slot' v'      from this slot, state and view on, over exchanges that were answered whole, up to this slot and view
+--     PlacesIn rule is_cut_off slot first exchanges      so of the exchanges of a run: of all, or of all but the last one
 use Rattle.std.specs.Prelude.{◌≡◌, ◌≤◌, Bool, false, List, [], ◌∷◌, ◌++◌, length}
 use Rattle.ip_spec.specs.Machine.{State}
+use Rattle.ip_spec.specs.Merge.{Rule}
 use Rattle.ip_spec.specs.View.{View, no_view}
 use Rattle.ip_image.specs.declared.slot.Slot.{Slot}
 use Rattle.ip_session.specs.Placing.{PlacedIn}
 use Rattle.ip_session.specs.Session.{IsViewIn}
 use Rattle.ip_app.specs.Exchanges.{Exchange}
 
-abbrev pub Places : Slot → State → View → List Exchange → Slot → View → Type 0
-Places slot s v [] slot' v' = (slot' ≡ slot) × (v' ≡ v)
-Places slot s v (x ∷ exchanges) slot' v' = (next : Slot) × (view : View) × (x.after.work.tree ≡ view.map) × IsViewIn s.repository v x.line x.reply view × PlacedIn slot next s v x.line x.reply × Places next x.after view exchanges slot' v'
+abbrev pub Places : Rule → Slot → State → View → List Exchange → Slot → View → Type 0
+Places rule slot s v [] slot' v' = (slot' ≡ slot) × (v' ≡ v)
+Places rule slot s v (x ∷ exchanges) slot' v' = (next : Slot) × (view : View) × (x.after.work.tree ≡ view.map) × IsViewIn s.repository v x.line x.reply view × PlacedIn rule slot next s v x.line x.reply × Places rule next x.after view exchanges slot' v'
 
-pub record PlacesIn (is_cut_off : Bool) (slot : Slot) (first : State) (exchanges : List Exchange) : Type 0 where
+pub record PlacesIn (rule : Rule) (is_cut_off : Bool) (slot : Slot) (first : State) (exchanges : List Exchange) : Type 0 where
   pub whole : List Exchange
   pub cut : List Exchange
   pub all : whole ++ cut ≡ exchanges
@@ -21,4 +22,4 @@ pub record PlacesIn (is_cut_off : Bool) (slot : Slot) (first : State) (exchanges
   pub none : is_cut_off ≡ false → cut ≡ []
   pub last : Slot
   pub view : View
-  pub places : Places slot first no_view whole last view
+  pub places : Places rule slot first no_view whole last view

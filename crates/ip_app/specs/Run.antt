@@ -1,5 +1,6 @@
 -- What a call of the program does, from what is told when it begins to what is told when it returns.
---     Inits, Serves      one record for each call; its last field is the row of the status
+--     Inits, Serves      one record for each call; its last field is the row of the status. Of replies and states it is said where the rules of merges are known to be
+--         decisive, for what such a merge makes of the files is one thing alone: where `decisive` is true
 --     Replies, Reopens, Notes      of a serving call: its replies, what its files stand for, and its log and counts
 --     EndsAsBytes, EndsWhereAllIsWell      of a serving call: the source's bytes give the status; and which statuses need a fault
 --     LeavesAll      of a call that is refused: nothing changes
@@ -13,6 +14,7 @@ use Rattle.ip_image.specs.Slot.{live_index}
 use Rattle.ip_image.specs.Standing.{StandsFor, NoStore, DamagedAt}
 use Rattle.ip_image.specs.Pending.{HasLive, NothingPending}
 use Rattle.ip_image.specs.Headline.{MayServe, Headline}
+use Rattle.ip_spec.specs.Merge.{Rule}
 use Rattle.ip_spec.specs.Path.{Bytes}
 use Rattle.ip_spec.specs.Repository.{Repository, no_repository}
 use Rattle.ip_spec.specs.Machine.{State, opened}
@@ -28,11 +30,10 @@ use Rattle.ip_app.specs.Lines.{longest_line, last_piece}
 use Rattle.ip_app.specs.Reading.{EndsReading}
 use Rattle.ip_app.specs.Ending.{ending_of, IsOfBytes}
 use Rattle.ip_app.specs.Exchanges.{Exchange, answer_of, Run, lines_in, turns_in, texts_in, after_all}
-use Rattle.ip_session.specs.Session.{no_rules}
 use Rattle.ip_app.specs.Serving.{is_cut_short, CountsOf}
 use Rattle.ip_app.specs.Places.{PlacesIn}
 use Rattle.ip_app.specs.Turns.{turn_counts, Follow}
-use Rattle.ip_app.specs.Outside.{Outside, Tells, GoesOn, KeepsFiles}
+use Rattle.ip_app.specs.Outside.{Outside, Tells, Knows, GoesOn, KeepsFiles}
 
 -- ---- opening
 
@@ -107,21 +108,21 @@ abbrev pub ReadingEnds : Status → Outside → Outside → Bytes → Type 0
 ReadingEnds status old new taken = EndsReading status (length (last_piece taken)) (length taken) (IsTrue old.source_tells → new.left ≡ [])
 
 -- the row of each status: what it says of the bytes taken and the files
-abbrev pub Row : Status → Outside → Outside → Bytes → Type 0
-Row Status.Done old new taken = ReadingEnds Status.Done old new taken
-Row Status.Unfinished old new taken = ReadingEnds Status.Unfinished old new taken
-Row (Status.Limit bound) old new taken = ReadingEnds (Status.Limit bound) old new taken
-Row Status.ReadFault old new taken = ReadingEnds Status.ReadFault old new taken × Rose old.read_faults new.read_faults
-Row Status.SayFault old new taken = Unit {0}
-Row Status.GroundFault old new taken = Unit {0}
-Row Status.NoStore old new taken = IsUntouched old new taken × (IsTrue old.ground_tells → NoStore old.told.held)
-Row (Status.Damaged file at) old new taken = IsUntouched old new taken × (Tells old → DamagedAt old.told.held file at)
--- of the files that a call reads: never where the ground tells its content, and no child changes the live pair
-Row (Status.DamagedRecord at) old new taken = ¬ Tells old
-Row (Status.DamagedName at want got) old new taken = ¬ Tells old
-Row Status.Memory old new taken = IsUntouched old new taken
-Row Status.Usage old new taken = ⊥
-Row Status.Exists old new taken = ⊥
+abbrev pub Row : (decisive : Bool) → Status → Outside → Outside → Bytes → Type 0
+Row decisive Status.Done old new taken = ReadingEnds Status.Done old new taken
+Row decisive Status.Unfinished old new taken = ReadingEnds Status.Unfinished old new taken
+Row decisive (Status.Limit bound) old new taken = ReadingEnds (Status.Limit bound) old new taken
+Row decisive Status.ReadFault old new taken = ReadingEnds Status.ReadFault old new taken × Rose old.read_faults new.read_faults
+Row decisive Status.SayFault old new taken = Unit {0}
+Row decisive Status.GroundFault old new taken = Unit {0}
+Row decisive Status.NoStore old new taken = IsUntouched old new taken × (IsTrue old.ground_tells → NoStore old.told.held)
+Row decisive (Status.Damaged file at) old new taken = IsUntouched old new taken × (Tells old → DamagedAt old.told.held file at)
+-- of the files that a call reads: never where the ground tells its content, no child changes the live pair, and the rules are decisive
+Row decisive (Status.DamagedRecord at) old new taken = ¬ Knows decisive old
+Row decisive (Status.DamagedName at want got) old new taken = ¬ Knows decisive old
+Row decisive Status.Memory old new taken = IsUntouched old new taken
+Row decisive Status.Usage old new taken = ⊥
+Row decisive Status.Exists old new taken = ⊥
 
 -- the store was opened
 abbrev pub IsBehindOpening : Status → List Exchange → Type 0
@@ -132,31 +133,31 @@ IsBehindOpening Status.GroundFault exchanges = exchanges ≢ []
 IsBehindOpening status exchanges = Unit {0}
 
 -- What was read, and what was replied.
-pub record Replies (old new : Outside) (status : Status) (taken : Bytes) (exchanges : List Exchange) (first : State) : Type 0 where
+pub record Replies (rule : Rule) (decisive : Bool) (old new : Outside) (status : Status) (taken : Bytes) (exchanges : List Exchange) (first : State) : Type 0 where
   -- the bytes taken from the source, in whatever pieces
   pub bytes : IsTrue old.source_tells → old.left ≡ taken ++ new.left
   -- the commands begun are those of their lines, in order, and of all of them unless one cut the call short
   pub begun : (more : List Bytes) × (whole_lines taken ≡ lines_in exchanges ++ more) × (is_cut_off status ≡ false → more ≡ [])
   pub short : All (λ line. length line ≤ longest_line) (lines_in exchanges)
   -- and are a run of the machine, each with what it met. What is read of records is known only where the ground tells its content
-  pub run : Tells old → Run no_rules first exchanges
+  pub run : Knows decisive old → Run rule first exchanges
   -- What each of them appends comes to lie behind what the live slot says, and a limit of space or of the sequence is met by that alone.
-  pub placed : Tells old → (slot : Slot) → HasLive slot old.told.held → PlacesIn (is_cut_off status) slot first exchanges
+  pub placed : Knows decisive old → (slot : Slot) → HasLive slot old.told.held → PlacesIn rule (is_cut_off status) slot first exchanges
   -- what was said grows by the replies' texts
-  pub said_part : Tells old → SaysUpTo status (taken ≢ []) exchanges (said old.told) (said new.told)
-  pub said_all : Tells old → is_cut_off status ≡ false → said new.told ≡ said old.told ++ texts_in exchanges
+  pub said_part : Knows decisive old → SaysUpTo status (taken ≢ []) exchanges (said old.told) (said new.told)
+  pub said_all : Knows decisive old → is_cut_off status ≡ false → said new.told ≡ said old.told ++ texts_in exchanges
 
 -- What the files stand for.
-pub record Reopens (old new : Outside) (status : Status) (exchanges : List Exchange) (first : State) : Type 0 where
+pub record Reopens (decisive : Bool) (old new : Outside) (status : Status) (exchanges : List Exchange) (first : State) : Type 0 where
   -- At every moment from the first sync of opening on, where the ground was in order: what had been said was a front of the replies' texts, and whatever a crash leaves
   -- stands for the repository after some first commands, all acknowledged ones among them.
-  pub any_moment : IsTrue old.ground_tells → (r : Repository) → StandsFor old.told.held r → NothingPending old.told → (since : ℕ) × (IsBehindOpening status exchanges → since ≤ new.told.moment) × Headline since old.told new.told (opened r) (map answer_of exchanges)
+  pub any_moment : IsTrue old.ground_tells → IsTrue decisive → (r : Repository) → StandsFor old.told.held r → NothingPending old.told → (since : ℕ) × (IsBehindOpening status exchanges → since ≤ new.told.moment) × Headline since old.told new.told (opened r) (map answer_of exchanges)
   -- and the ground that is left may be served again, however this run ended
-  pub again : IsTrue old.ground_tells → MayServe old.told → MayServe new.told
+  pub again : IsTrue old.ground_tells → IsTrue decisive → MayServe old.told → MayServe new.told
   -- in the end the files stand for the repository after all of them, unless a fault of the ground or of its files cut the last one short
-  pub stands : Tells old → is_cut_short status ≡ false → StandsFor old.told.held first.repository → StandsFor new.told.held (after_all first exchanges).repository
+  pub stands : Knows decisive old → is_cut_short status ≡ false → StandsFor old.told.held first.repository → StandsFor new.told.held (after_all first exchanges).repository
   -- at no moment does a file change but the chunks and the control file, and nothing is lent
-  pub files : Tells old → KeepsFiles old.told new.told
+  pub files : Knows decisive old → KeepsFiles old.told new.told
 
 -- What was noted in the log, and what was counted.
 pub record Notes (old new : Outside) (status : Status) (exchanges : List Exchange) : Type 0 where
@@ -168,7 +169,7 @@ pub record Notes (old new : Outside) (status : Status) (exchanges : List Exchang
   pub reads : status ≢ Status.ReadFault → new.read_faults ≡ old.read_faults
 
 -- Of these bytes taken, and these exchanges from this state on.
-pub record Serves (old new : Outside) (status : Status) : Type 0 where
+pub record Serves (rule : Rule) (decisive : Bool) (old new : Outside) (status : Status) : Type 0 where
   pub taken : Bytes
   pub exchanges : List Exchange
   pub first : State
@@ -176,11 +177,11 @@ pub record Serves (old new : Outside) (status : Status) : Type 0 where
   -- they begin with the repository that was opened
   pub begins : Begins status old first exchanges
   pub first_is : first ≡ opened first.repository
-  pub replies : Replies old new status taken exchanges first
-  pub reopens : Reopens old new status exchanges first
+  pub replies : Replies rule decisive old new status taken exchanges first
+  pub reopens : Reopens decisive old new status exchanges first
   pub notes : Notes old new status exchanges
   -- why it ends so
-  pub row : Row status old new taken
+  pub row : Row decisive status old new taken
 
 -- where the source tells its bytes, these alone give the status, in whatever pieces they came
 abbrev pub EndsAsBytes : Outside → Status → Type 0

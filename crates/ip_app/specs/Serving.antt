@@ -1,5 +1,5 @@
 -- How serving a script goes on, line by line.
---     Works tells told s r v      the ground tells its content, and the session works over it
+--     Works rule tells told s r v      the ground tells its content, the session works over it, and the rule of merges is decisive
 --     Turned      a line was taken, its command run and noted.      TurnedIn      and its reply said, by a session in a repository
 --     ended_status      the status of a session's end.      CountsOf      the faults that were counted then.      Stops      why there is no further line
 --     Served      so far: the whole lines that were taken, what came of them, and the repository that the session is in
@@ -13,10 +13,12 @@ use Rattle.ip_image.specs.Standing.{StandsFor}
 use Rattle.ip_image.specs.declared.slot.Slot.{Slot}
 use Rattle.ip_image.specs.Pending.{HasLive, NothingPending}
 use Rattle.ip_image.specs.Headline.{MayServe, Turning, Headline}
+use Rattle.ip_spec.specs.Merge.{Rule}
 use Rattle.ip_spec.specs.Path.{Bytes, line_feed}
 use Rattle.ip_spec.specs.Machine.{State, opened}
 use Rattle.ip_spec.specs.Repository.{Repository}
 use Rattle.ip_spec.specs.View.{View, no_view}
+use Rattle.ip_merge.specs.Rules.{IsDecisive}
 use Rattle.ip_script.specs.Served.{IsServedLine}
 use Rattle.ip_spec.specs.Script.{whole_lines, LineStep}
 use Rattle.ip_spec.specs.Text.{reply_text}
@@ -29,28 +31,27 @@ use Rattle.ip_app.specs.Pending.{pending}
 use Rattle.ip_app.specs.Reading.{EndsReading, IsCaused}
 use Rattle.ip_app.specs.Exchanges.{Exchange, conditions, answer_of, Run, lines_in, turns_in, texts_in, after_all}
 use Rattle.ip_session.specs.Placing.{PlacedIn}
-use Rattle.ip_session.specs.Session.{no_rules}
 use Rattle.ip_app.specs.Places.{Places}
 use Rattle.ip_app.specs.Turns.{turn_counts, IsLater, Follow}
-use Rattle.ip_app.specs.Outside.{Outside, Tells, GoesOn, KeepsFiles}
+use Rattle.ip_app.specs.Outside.{Outside, Tells, Knows, GoesOn, KeepsFiles}
 use Rattle.ip_session.specs.Session.{IsServing, IsWorking, state_in, IsViewIn}
 
 -- what was said grew by a part from the front of the bytes
 abbrev pub SaysPart : Bytes → Bytes → Bytes → Type 0
 SaysPart bytes old new = (part : Bytes) × (rest : Bytes) × (part ++ rest ≡ bytes) × (new ≡ old ++ part)
 
--- the ground tells its content, and the session works over it in this repository
-abbrev pub Works : Bool → Told → Session → Repository → View → Type 0
-Works tells told s r v = IsTrue tells × IsWorking told s r v
+-- the ground tells its content, the session works over it in this repository, and a merge comes to one thing alone
+abbrev pub Works : Rule → Bool → Told → Session → Repository → View → Type 0
+Works rule tells told s r v = IsTrue tells × IsWorking told s r v × IsDecisive rule
 
-pub record Turned (known : Bool) (old new : Outside) (lines lines' : Lines) (counts counts' : TurnCounts) (state : State) (x : Exchange) : Type 0 where
+pub record Turned (rule : Rule) (known : Bool) (old new : Outside) (lines lines' : Lines) (counts counts' : TurnCounts) (state : State) (x : Exchange) : Type 0 where
   pub goes_on : GoesOn old new
   pub files : IsTrue known → KeepsFiles old.told new.told
   pub front : IsTrue old.source_tells → pending lines ++ old.left ≡ x.line ++ line_feed ∷ (pending lines' ++ new.left)
   pub no_line_feed : HasNoLineFeed x.line
   pub short : length x.line ≤ longest_line
   pub count : lines'.taken + length (pending lines) ≡ lines.taken + (length x.line + 1) + length (pending lines')
-  pub step : IsTrue known → LineStep IsServedLine no_rules state x.line (conditions x) x.reply x.after
+  pub step : IsTrue known → LineStep IsServedLine rule state x.line (conditions x) x.reply x.after
   pub noted : IsTrue new.log_tells → new.turns ≡ old.turns ++ x.turn ∷ []
   pub begins_at : x.turn.before ≡ counts
   pub ends_at : x.turn.after ≡ counts'
@@ -58,14 +59,14 @@ pub record Turned (known : Bool) (old new : Outside) (lines lines' : Lines) (cou
   pub until : counts' ≡ turn_counts new.counts
   pub reads : new.read_faults ≡ old.read_faults
 
-pub record TurnedIn (known : Bool) (old new : Outside) (lines lines' : Lines) (counts counts' : TurnCounts) (s s' : Session) (r : Repository) (v : View) : Type 0 where
+pub record TurnedIn (rule : Rule) (known : Bool) (old new : Outside) (lines lines' : Lines) (counts counts' : TurnCounts) (s s' : Session) (r : Repository) (v : View) : Type 0 where
   pub exchange : Exchange
   pub after : Repository
   pub view : View
-  pub turned : Turned known old new lines lines' counts counts' (state_in s r v) exchange
+  pub turned : Turned rule known old new lines lines' counts counts' (state_in s r v) exchange
   pub now_at : IsTrue known → exchange.after ≡ state_in s' after view
   pub seen : IsTrue known → IsViewIn r v exchange.line exchange.reply view
-  pub placed : IsTrue known → PlacedIn s.store.slot s'.store.slot (state_in s r v) v exchange.line exchange.reply
+  pub placed : IsTrue known → PlacedIn rule s.store.slot s'.store.slot (state_in s r v) v exchange.line exchange.reply
   pub no_fault : new.counts ≡ old.counts
   pub serving : IsServing s'
   pub working : IsTrue known → IsWorking new.told s' after view
@@ -112,9 +113,9 @@ CountsOf _ old new = new ≡ old
 
 -- The line was the last: its reply was not said, or only a part of it. Of a command that a fault of the ground or of its
 -- files cuts short, the reply and the state are those that it has where none of its writes fails.
-pub record Unsaid (status : Status) (known : Bool) (old new : Outside) (lines lines' : Lines) (counts counts' : TurnCounts) (state : State) : Type 0 where
+pub record Unsaid (rule : Rule) (status : Status) (known : Bool) (old new : Outside) (lines lines' : Lines) (counts counts' : TurnCounts) (state : State) : Type 0 where
   pub exchange : Exchange
-  pub turned : Turned known old new lines lines' counts counts' state exchange
+  pub turned : Turned rule known old new lines lines' counts counts' state exchange
   -- of the ground a fault was counted, where the status says so, and of no other kind
   pub counted : CountsOf status old.counts new.counts
   pub part : IsTrue known → SaysPart (reply_text exchange.reply) (said old.told) (said new.told)
@@ -124,17 +125,18 @@ pub record Unsaid (status : Status) (known : Bool) (old new : Outside) (lines li
   pub turning : IsTrue known → NothingPending old.told → Turning old.told new.told (reply_text exchange.reply) state.repository exchange.after.repository
   pub again : IsTrue known → NothingPending old.told → MayServe new.told
 
-abbrev pub Stops : Status → (known : Bool) → Outside → Outside → Lines → Lines → TurnCounts → TurnCounts → State → Type 0
-Stops Status.SayFault known old new lines lines' counts counts' state = Unsaid Status.SayFault known old new lines lines' counts counts' state
-Stops Status.GroundFault known old new lines lines' counts counts' state = Unsaid Status.GroundFault known old new lines lines' counts counts' state
-Stops (Status.DamagedRecord at) known old new lines lines' counts counts' state = Unsaid (Status.DamagedRecord at) known old new lines lines' counts counts' state × (¬ IsTrue known)
-Stops (Status.DamagedName at want got) known old new lines lines' counts counts' state = Unsaid (Status.DamagedName at want got) known old new lines lines' counts counts' state × (¬ IsTrue known)
-Stops status known old new lines lines' counts counts' state = Stopped status known old new lines lines' counts counts' state
+abbrev pub Stops : Rule → Status → (known : Bool) → Outside → Outside → Lines → Lines → TurnCounts → TurnCounts → State → Type 0
+Stops rule Status.SayFault known old new lines lines' counts counts' state = Unsaid rule Status.SayFault known old new lines lines' counts counts' state
+Stops rule Status.GroundFault known old new lines lines' counts counts' state = Unsaid rule Status.GroundFault known old new lines lines' counts counts' state
+Stops rule (Status.DamagedRecord at) known old new lines lines' counts counts' state = Unsaid rule (Status.DamagedRecord at) known old new lines lines' counts counts' state × (¬ IsTrue known)
+Stops rule (Status.DamagedName at want got) known old new lines lines' counts counts' state = Unsaid rule (Status.DamagedName at want got) known old new lines lines' counts counts' state × (¬ IsTrue known)
+Stops rule status known old new lines lines' counts counts' state = Stopped status known old new lines lines' counts counts' state
 
-pub record Served (old now : Outside) (lines : Lines) (counts : TurnCounts) (session : Session) : Type 0 where
+pub record Served (rule : Rule) (decisive : Bool) (old now : Outside) (lines : Lines) (counts : TurnCounts) (session : Session) : Type 0 where
   pub known : Bool
-  pub known_so : Tells old → IsTrue known
-  pub tells : IsTrue known → IsTrue old.ground_tells
+  pub known_so : Knows decisive old → IsTrue known
+  pub tells : IsTrue known → Tells old
+  pub is_decisive : IsTrue known → IsDecisive rule
   pub done : Bytes
   pub exchanges : List Exchange
   pub first : Repository
@@ -147,12 +149,12 @@ pub record Served (old now : Outside) (lines : Lines) (counts : TurnCounts) (ses
   pub rest_then : (tail : Bytes) → last_piece (done ++ tail) ≡ last_piece tail
   pub short : All (λ line. length line ≤ longest_line) (lines_in exchanges)
   pub count : lines.taken ≡ length done + length (pending lines)
-  pub began : IsTrue known → StandsFor old.told.held first
-  pub run : IsTrue known → Run no_rules (opened first) exchanges
+  pub began : Tells old → StandsFor old.told.held first
+  pub run : IsTrue known → Run rule (opened first) exchanges
   pub now_at : IsTrue known → state_in session repository view ≡ after_all (opened first) exchanges
   pub slot : Slot
   pub live : IsTrue known → HasLive slot old.told.held
-  pub places : IsTrue known → Places slot (opened first) no_view exchanges session.store.slot view
+  pub places : IsTrue known → Places rule slot (opened first) no_view exchanges session.store.slot view
   pub serving : IsServing session
   pub working : IsTrue known → IsWorking now.told session repository view
   pub said : IsTrue known → said now.told ≡ said old.told ++ texts_in exchanges

@@ -1,8 +1,9 @@
 // The program's calls.
-ghost use Rattle.std.specs.Prelude.{◌≡◌, ◌⊎◌, ℕ, IsTrue};
+ghost use Rattle.std.specs.Prelude.{◌≡◌, ◌⊎◌, ℕ, Bool, IsTrue};
 ghost use Rattle.ip_ground.specs.declared.names.FileName.TheVariants.{Control};
 ghost use Rattle.ip_ground.specs.Counts.{NoneFalls};
 ghost use Rattle.ip_ground.specs.Told.{ChangesOnly, Only};
+ghost use Rattle.ip_merge.specs.Rules.{IsDecisive};
 ghost use Rattle.ip_spec.specs.Path.{Bytes};
 ghost use Rattle.ip_image.specs.Slot.{IsChunkSize};
 ghost use Rattle.ip_words.specs.Words.{Asked, making, serving, Asks, AsksNothing, texts_of};
@@ -14,6 +15,7 @@ use crate::serve::serve;
 use crate::statuses::Status;
 use crate::turn_log::Log;
 use ip_ground::Ground;
+use ip_merge::Decides;
 use ip_script::Source;
 use ip_store::{InitFault, Store};
 use ip_words::{Call, asked};
@@ -47,12 +49,13 @@ fn init<G: Ground>(folder: &str, chunk: u64, ground: &mut G) -> Status
 }
 
 /// Does what the words ask for, the program's name first: `init DIR [--chunk N]` makes a store in the folder DIR, with chunks of N bytes
-/// (1048576 where N is not given). `serve DIR` opens the one there, runs each line of the source and says each reply.
-pub fn run<S: Source, G: Ground, L: Log>(
+/// (1048576 where N is not given). `serve DIR` opens the one there, runs each line of the source, a merge by these rules, and says each reply.
+pub fn run<S: Source, G: Ground, D: Decides, L: Log>(
     alloc: Global,
     words: &[String],
     source: &mut S,
     ground: &mut G,
+    rules: &D,
     log: &mut L,
 ) -> Status
     // Only where the words ask for nothing that the program does; and where they do, it is this, or want of memory, and nothing is changed.
@@ -63,16 +66,17 @@ pub fn run<S: Source, G: Ground, L: Log>(
     ensures init { let told = outside S.tells S.left S.read_faults G.tells G.told G.counts_of L.tells L.turns in
         (folder : Bytes) (chunk : ℕ) → Asks (texts_of words.now) (making folder chunk) →
         Inits chunk (told source.old ground.old log.old) (told source.new ground.new log.new) result }
+    // Of replies and states it speaks where the rules are known to be decisive, which `decisive` says.
     ensures serve { let told = outside S.tells S.left S.read_faults G.tells G.told G.counts_of L.tells L.turns in
-        (folder : Bytes) → Asks (texts_of words.now) (serving folder) →
-        Serves (told source.old ground.old log.old) (told source.new ground.new log.new) result }
+        (folder : Bytes) → Asks (texts_of words.now) (serving folder) → (decisive : Bool) → (IsTrue decisive → IsDecisive (D.rule rules.now)) →
+        Serves (D.rule rules.now) decisive (told source.old ground.old log.old) (told source.new ground.new log.new) result }
     // Where the source tells its bytes, these alone give the status, in whatever pieces they came.
     ensures bytes { let told = outside S.tells S.left S.read_faults G.tells G.told G.counts_of L.tells L.turns in
         (folder : Bytes) → Asks (texts_of words.now) (serving folder) →
         EndsAsBytes (told source.old ground.old log.old) result }
     // Where no fault is counted and the store stands, it ends by the script, or for want of memory.
     ensures complete { let told = outside S.tells S.left S.read_faults G.tells G.told G.counts_of L.tells L.turns in
-        (folder : Bytes) → Asks (texts_of words.now) (serving folder) →
+        (folder : Bytes) → Asks (texts_of words.now) (serving folder) → IsDecisive (D.rule rules.now) →
         EndsWhereAllIsWell (told source.old ground.old log.old) (told source.new ground.new log.new) result }
 {
     let call = match asked(alloc, words) {
@@ -82,6 +86,6 @@ pub fn run<S: Source, G: Ground, L: Log>(
     };
     match call {
         Call::Init { folder, chunk } => init(folder, chunk, ground),
-        Call::Serve { folder } => serve(alloc, folder, source, ground, log),
+        Call::Serve { folder } => serve(alloc, folder, source, ground, rules, log),
     }
 }

@@ -4,11 +4,13 @@
 mod calls;
 mod lines;
 mod program;
+mod rules;
 mod serve;
 mod statuses;
 mod turn_log;
 
 pub use calls::run;
 pub use program::run_program;
+pub use rules::program_rules;
 pub use statuses::{Bound, Status};
 pub use turn_log::{Kept, Log, Silent, Turn};

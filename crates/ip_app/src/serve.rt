@@ -2,6 +2,7 @@
 ghost use Rattle.std.specs.Prelude.{◌≡◌, ◌-◌, ◌^◌, ◌≤◌, [], Bool, IsTrue, OnOk, IfOk, IfErr};
 ghost use Rattle.ip_ground.specs.Told.{SyncsOnly, Only};
 ghost use Rattle.ip_ground.specs.declared.names.FileName.TheVariants.{Control};
+ghost use Rattle.ip_merge.specs.Rules.{IsDecisive};
 ghost use Rattle.ip_spec.specs.Repository.{Repository};
 ghost use Rattle.ip_spec.specs.View.{View};
 ghost use Rattle.ip_store.specs.Opening.{RecoversOnceOpen};
@@ -17,6 +18,7 @@ use crate::turn_log::{Log, Turn, turn_counts};
 use ip_base::Memory;
 use ip_ground::Ground;
 use ip_image::counts::TurnCounts;
+use ip_merge::Decides;
 use ip_script::Source;
 use ip_session::{Session, SessionEnd};
 use ip_store::{OpenFault, Store};
@@ -52,12 +54,13 @@ impl LineRoom {
     }
 
     // Takes a line, runs its command, notes it and says its reply. `Err` says why there is no further turn.
-    fn turn<S: Source, G: Ground, L: Log>(
+    fn turn<S: Source, G: Ground, D: Decides, L: Log>(
         &mut self,
         session: &mut Session,
         counts: &mut TurnCounts,
         source: &mut S,
         ground: &mut G,
+        rules: &D,
         log: &mut L,
     ) -> Result<(), Status>
         requires roomy { IsRoomy self.old }
@@ -66,11 +69,11 @@ impl LineRoom {
         requires tables { IsServing session.old }
         ensures roomy { IsRoomy self.new }
         ensures turned { let told = outside S.tells S.left S.read_faults G.tells G.told G.counts_of L.tells L.turns in
-            (known : Bool) (r : Repository) (v : View) → (IsTrue known → Works G.tells (G.told ground.old) session.old r v) →
-            OnOk result (TurnedIn known (told source.old ground.old log.old) (told source.new ground.new log.new) self.old.lines self.new.lines counts.old counts.new session.old session.new r v) }
+            (known : Bool) (r : Repository) (v : View) → (IsTrue known → Works (D.rule rules.now) G.tells (G.told ground.old) session.old r v) →
+            OnOk result (TurnedIn (D.rule rules.now) known (told source.old ground.old log.old) (told source.new ground.new log.new) self.old.lines self.new.lines counts.old counts.new session.old session.new r v) }
         ensures stops { let told = outside S.tells S.left S.read_faults G.tells G.told G.counts_of L.tells L.turns in
-            (known : Bool) (r : Repository) (v : View) → (IsTrue known → Works G.tells (G.told ground.old) session.old r v) →
-            IfErr result (λ status. Stops status known (told source.old ground.old log.old) (told source.new ground.new log.new) self.old.lines self.new.lines counts.old counts.new (state_in session.old r v)) }
+            (known : Bool) (r : Repository) (v : View) → (IsTrue known → Works (D.rule rules.now) G.tells (G.told ground.old) session.old r v) →
+            IfErr result (λ status. Stops (D.rule rules.now) status known (told source.old ground.old log.old) (told source.new ground.new log.new) self.old.lines self.new.lines counts.old counts.new (state_in session.old r v)) }
     {
         self.line.clear();
         self.text.clear();
@@ -78,7 +81,7 @@ impl LineRoom {
             return Err(status);
         }
         let before = *counts;
-        let answered = session.answer(ground, &self.line, &mut self.text);
+        let answered = session.answer(ground, &self.line, rules, &mut self.text);
         *counts = turn_counts(ground.counts());
         log.note(&Turn {
             met: session.met(),
@@ -139,22 +142,24 @@ fn open_in<G: Ground>(alloc: Global, folder: &str, ground: &mut G) -> Result<Sto
     }
 }
 
-/// Opens the store, runs each line of the source and says each reply.
-pub fn serve<S: Source, G: Ground, L: Log>(
+/// Opens the store, runs each line of the source, a merge by these rules, and says each reply.
+pub fn serve<S: Source, G: Ground, D: Decides, L: Log>(
     alloc: Global,
     folder: &str,
     source: &mut S,
     ground: &mut G,
+    rules: &D,
     log: &mut L,
 ) -> Status
     ensures serves { let told = outside S.tells S.left S.read_faults G.tells G.told G.counts_of L.tells L.turns in
-        Serves (told source.old ground.old log.old) (told source.new ground.new log.new) result }
+        (decisive : Bool) → (IsTrue decisive → IsDecisive (D.rule rules.now)) →
+        Serves (D.rule rules.now) decisive (told source.old ground.old log.old) (told source.new ground.new log.new) result }
     // Where the source tells its bytes, these alone give the status, in whatever pieces they came.
     ensures bytes { let told = outside S.tells S.left S.read_faults G.tells G.told G.counts_of L.tells L.turns in
         EndsAsBytes (told source.old ground.old log.old) result }
     // Where no fault is counted and the store stands, it ends by the script, or for want of memory.
     ensures complete { let told = outside S.tells S.left S.read_faults G.tells G.told G.counts_of L.tells L.turns in
-        EndsWhereAllIsWell (told source.old ground.old log.old) (told source.new ground.new log.new) result }
+        IsDecisive (D.rule rules.now) → EndsWhereAllIsWell (told source.old ground.old log.old) (told source.new ground.new log.new) result }
 {
     let mut counts = turn_counts(ground.counts());
     let store = match open_in(alloc, folder, ground) {
@@ -166,7 +171,7 @@ pub fn serve<S: Source, G: Ground, L: Log>(
     };
     let mut session = Session::new(alloc, store);
     'lines: loop {
-        if let Err(status) = room.turn(&mut session, &mut counts, source, ground, log) {
+        if let Err(status) = room.turn(&mut session, &mut counts, source, ground, rules, log) {
             return status;
         }
     }

@@ -1,7 +1,8 @@
 // Calls of the program: stores are made and served.
-use ip_app::{Log, Silent, Status, run};
+use ip_app::{Log, Silent, Status, program_rules, run};
 use ip_base::Blob;
 use ip_ground::{Bench, Ground};
+use ip_merge::{Decides, Rules};
 use ip_script::{Bytes, Source};
 use std::alloc::{AllocError, Global};
 use std::test::Fail;
@@ -27,32 +28,54 @@ pub fn source(alloc: Global, script: &[u8], fails: &[u64]) -> Result<Bytes, Allo
     Ok(Bytes::new(script, Vec::from_slice(alloc, fails)?))
 }
 
+/// The program's rules.
+pub fn rules(alloc: Global) -> Result<Rules, AllocError> {
+    match program_rules(alloc) {
+        Ok(rules) => Ok(rules),
+        Err(_) => Err(AllocError),
+    }
+}
+
 /// Makes a store by `init`, which takes four calls of the ground.
 pub fn init(alloc: Global, ground: &mut Bench) -> Result<Status, AllocError> {
     let words = words(alloc, &["ipstore", "init", "mem"])?;
     let mut none = source(alloc, b"", &[])?;
-    Ok(run(alloc, &words, &mut none, ground, &mut Silent))
+    let rules = rules(alloc)?;
+    Ok(run(alloc, &words, &mut none, ground, &rules, &mut Silent))
 }
 
 /// Makes a store with chunks of this size, a number of bytes as it is written, by four calls of the ground.
 pub fn init_with(alloc: Global, ground: &mut Bench, size: &str) -> Result<(), Fail> {
     let words = words(alloc, &["ipstore", "init", "mem", "--chunk", size])?;
     let mut none = source(alloc, b"", &[])?;
-    match run(alloc, &words, &mut none, ground, &mut Silent) {
+    let rules = rules(alloc)?;
+    match run(alloc, &words, &mut none, ground, &rules, &mut Silent) {
         Status::Done => Ok(()),
         _ => Err("not made")?,
     }
 }
 
-/// Serves a source. How that ends.
+/// Serves a source by the program's rules. How that ends.
 pub fn serve<S: Source, G: Ground, L: Log>(
     alloc: Global,
     source: &mut S,
     ground: &mut G,
     log: &mut L,
 ) -> Result<Status, AllocError> {
+    let rules = rules(alloc)?;
+    serve_by(alloc, source, ground, &rules, log)
+}
+
+/// Serves a source by these rules. How that ends.
+pub fn serve_by<S: Source, G: Ground, D: Decides, L: Log>(
+    alloc: Global,
+    source: &mut S,
+    ground: &mut G,
+    rules: &D,
+    log: &mut L,
+) -> Result<Status, AllocError> {
     let words = words(alloc, &["ipstore", "serve", "mem"])?;
-    Ok(run(alloc, &words, source, ground, log))
+    Ok(run(alloc, &words, source, ground, rules, log))
 }
 
 /// Serves a script. How that ends.

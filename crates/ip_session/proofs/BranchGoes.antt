@@ -26,7 +26,7 @@ use Rattle.ip_store.specs.Store.{IsOf, Holds}
 use Rattle.ip_store.specs.Work.{AreParents, IsAt, work_at, session}
 use Rattle.ip_store.specs.Views.{IsViewAfter}
 use Rattle.ip_session.specs.declared.session.Session.{Session}
-use Rattle.ip_session.specs.Session.{no_rules, IsServing, IsWorking, state_in, met_only, conditions_of, IsDurable, ChangedBy, GoesBy, CutBy}
+use Rattle.ip_session.specs.Session.{unasked, IsServing, IsWorking, state_in, met_only, conditions_of, IsDurable, ChangedBy, GoesBy, CutBy}
 use Rattle.ip_session.proofs.SessionLemmas.{at, plainly, ok_is_short, branch_refused, branch_rm_refused}
 use Rattle.ip_session.proofs.Referring.{IsUnnamed, NamesNone, names_none}
 use Rattle.ip_session.proofs.SessionGoes.{still_goes}
@@ -114,7 +114,7 @@ module _ (r : Repository) (w : MachineWork) (name : Bytes) (target : Target) whe
     unfolding chain_of
     roomy room = ap (λ (t : Turned). t.1.repository) (answer_is (met_only false) ∙ ap (λ (g : Refused (Unit {0})). or_refused s (chain g false false (put_at n))) room)
 
-  unnamed : (reply : Reply) → resolve r target ≡ Err reply → Step no_rules s set (conditions_of (met_only false)) reply s
+  unnamed : (reply : Reply) → resolve r target ≡ Err reply → Step unasked s set (conditions_of (met_only false)) reply s
   unnamed reply is = (plainly r w set false reply (λ h. absurd (cc h)), sym (set_turn (met_only false) (Err reply) is))
 
 -- no reference is answered `ok`
@@ -123,9 +123,9 @@ never_accepted Reply.Accepted un is = un
 never_accepted _ un is = absurd is
 
 pub unnamed_goes : (a : Told) (s : Session) (met : Met) (r : Repository) (v : View) (here : IsWorking a s r v) (name : Bytes) (target : Target) (reply : Reply) → met ≡ met_only false → resolve r target ≡ Err reply
-    → GoesBy a a s (record s { met = met }) r v (Command.Branch name target) reply
-unnamed_goes a s met r v here name target reply e none = still_goes a s met r v here (ChangedBy a.held (Command.Branch name target)) (Step no_rules (state_in s r v) (Command.Branch name target)) (IsViewAfter r v (Command.Branch name target)) reply
-    (subst (λ (m : Met). Step no_rules (state_in s r v) (Command.Branch name target) (conditions_of m) reply (state_in s r v)) (sym e) (unnamed r (work_at s.work v) name target reply none))
+    → GoesBy unasked a a s (record s { met = met }) r v (Command.Branch name target) reply
+unnamed_goes a s met r v here name target reply e none = still_goes a s met r v here (ChangedBy a.held (Command.Branch name target)) (Step unasked (state_in s r v) (Command.Branch name target)) (IsViewAfter r v (Command.Branch name target)) reply
+    (subst (λ (m : Met). Step unasked (state_in s r v) (Command.Branch name target) (conditions_of m) reply (state_in s r v)) (sym e) (unnamed r (work_at s.work v) name target reply none))
     refl
     (λ long. branch_refused name target r (work_at s.work v))
     (λ file changed. never_accepted reply (subst NamesNone none (names_none r target)) (accepted_set name target reply changed.0))
@@ -153,7 +153,7 @@ module _ (a b : Told) (s : Session) (store : Store) (met : Met) (r : Repository)
   set_to = with_branch r name n
 
   pub set_goes : (reply : Reply) → met ≡ store.met → branch_reply made ≡ Some reply → IfSome (branch_reply made) (AnswersSet r name n store.met store)
-      → GoesBy a b s (record s { store = store; met = met }) r v setting reply
+      → GoesBy unasked a b s (record s { store = store; met = met }) r v setting reply
   set_goes reply m e A = reply_so a b s store s.work r set_to v here setting whole met (branch_reply made) reply m e (by made A (works_on a b s store r set_to v made (omega arith) does works) does)
     where
       whole : IsWhole r (work_at s.work v) setting set_to
@@ -164,7 +164,7 @@ module _ (a b : Told) (s : Session) (store : Store) (met : Met) (r : Repository)
       by (Ok u) A stays does = done_so a b s store s.work r set_to v here setting whole u Reply.Accepted tt ok_is_short (turn_of b s store r v setting Reply.Accepted refl here.lawful.parents (A target named) (stays tt)) does
       by (Err fault) A stays does = fault_so a b s store s.work r set_to v here setting whole fault (IfSome_then (fault_reply fault) A (λ reply x has. turn_of b s store r v setting reply refl here.lawful.parents (x target named) (stays has))) does
 
-  pub set_cut : met ≡ met_only false → room_for_branch r name ≡ Ok tt → CutBy a b s (record s { store = store; met = met }) r v setting
+  pub set_cut : met ≡ met_only false → room_for_branch r name ≡ Ok tt → CutBy unasked a b s (record s { store = store; met = met }) r v setting
   set_cut e room = cut_so a b s store s.work r set_to v here setting (whole_set r (work_at s.work v) name target n named) made met e refl (roomy r (work_at s.work v) name target n named room) does
 
 pub is_ground_set : (made : Result (Unit {0}) StoreFault) → IsUndamaged made → branch_reply made ≡ None → IsErrOf made StoreFault.Ground
@@ -224,7 +224,7 @@ module _ (a b : Told) (s : Session) (store : Store) (met : Met) (r : Repository)
   removed_to = without_branch r name
 
   pub remove_goes : (reply : Reply) → met ≡ store.met → removed_reply name made ≡ Some reply → (made ≡ Ok false → b ≡ a) → IfSome (removed_reply name made) (AnswersRemove r name store.met store)
-      → GoesBy a b s (record s { store = store; met = met }) r v removing reply
+      → GoesBy unasked a b s (record s { store = store; met = met }) r v removing reply
   remove_goes reply m e absent A = reply_so a b s store s.work r removed_to v here removing whole met (removed_reply name made) reply m e (by made A absent (works_on a b s store r removed_to v made (omega arith) does works) does)
     where
       whole : IsWhole r (work_at s.work v) removing removed_to
@@ -247,7 +247,7 @@ module _ (a b : Told) (s : Session) (store : Store) (met : Met) (r : Repository)
       by (Ok false) A absent stays_so does = refused_so a b s store s.work r removed_to v here removing whole (Reply.NoBranch name) (λ h. h) (turn_of b s store r v removing (Reply.NoBranch name) refl here.lawful.parents A (stays_so tt)) (as_before A (absent refl) does)
       by (Err fault) A absent stays_so does = fault_so a b s store s.work r removed_to v here removing whole fault (IfSome_then (fault_reply fault) A (λ reply x has. turn_of b s store r v removing reply refl here.lawful.parents x (stays_so has))) does
 
-  pub remove_cut : met ≡ met_only false → IsSome (head r name) → CutBy a b s (record s { store = store; met = met }) r v removing
+  pub remove_cut : met ≡ met_only false → IsSome (head r name) → CutBy unasked a b s (record s { store = store; met = met }) r v removing
   remove_cut e there = cut_so a b s store s.work r removed_to v here removing (whole_removed r (work_at s.work v) name) made met e refl
       (ap (λ (t : Turned). t.1.repository) (removed_turn r (work_at s.work v) name (met_only false)) ∙ found r (work_at s.work v) name (head r name) there) does
 

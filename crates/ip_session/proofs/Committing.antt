@@ -24,7 +24,7 @@ use Rattle.ip_store.specs.Changes.{HasAnswer}
 use Rattle.ip_store.specs.Commits.{fault_reply, met_nothing, reply_to, Answers, repository_after, Commits}
 use Rattle.ip_store.specs.Work.{work_at, session}
 use Rattle.ip_session.specs.declared.session.Session.{Session}
-use Rattle.ip_session.specs.Session.{IsWorking, met_only, conditions_of, IsLong, IsDurable, GoesBy, CutBy}
+use Rattle.ip_session.specs.Session.{unasked, IsWorking, met_only, conditions_of, IsLong, IsDurable, GoesBy, CutBy}
 use Rattle.ip_session.proofs.SessionLemmas.{at, commit_refused, hex_long}
 use Rattle.ip_session.proofs.DurableGoes.{IsWhole, IsTurn, turned_by, fault_so, done_so, reply_so, cut_so, Went, answered}
 
@@ -124,7 +124,7 @@ module _ (a b : Told) (s : Session) (store : Store) (work : Work) (met : Met) (r
 
   -- the store answered the commit
   pub commit_goes : (reply : Reply) → met ≡ store.met → reply_to made ≡ Some reply → IfOk made (λ name. length name ≡ 32) → IfSome (reply_to made) Machine
-      → GoesBy a b s (record s { store = store; work = work; met = met }) r v committing reply
+      → GoesBy unasked a b s (record s { store = store; work = work; met = met }) r v committing reply
   commit_goes reply m e long A = reply_so a b s store work r committed_to v here committing (whole r (work_at s.work v) branch info) met (reply_to made) reply m e (by made long A does)
     where
       by : (made : Result Hash StoreFault) → IfOk made (λ name. length name ≡ 32) → IfSome (reply_to made) Machine → Commits r s.work v branch info made store a b
@@ -132,7 +132,7 @@ module _ (a b : Told) (s : Session) (store : Store) (work : Work) (met : Met) (r
       by (Ok name) long A does = done_so a b s store work r committed_to v here committing (whole r (work_at s.work v) branch info) name (Reply.Committed name) tt (name_is_short name long) (turn_of (Reply.Committed name) A) does
       by (Err fault) long A does = fault_so a b s store work r committed_to v here committing (whole r (work_at s.work v) branch info) fault (IfSome_then (fault_reply fault) A (λ reply x has. turn_of reply x)) does
 
-  pub commit_cut : met ≡ met_only false → CutBy a b s (record s { store = store; work = work; met = met }) r v committing
+  pub commit_cut : met ≡ met_only false → CutBy unasked a b s (record s { store = store; work = work; met = met }) r v committing
   commit_cut e = cut_so a b s store work r committed_to v here committing (whole r (work_at s.work v) branch info) made met e refl (after_is r (work_at s.work v) branch info met_nothing refl) does
 
 pub has_answer : (made : Result Hash StoreFault) (reply : Reply) → reply_to made ≡ Some reply → HasAnswer made

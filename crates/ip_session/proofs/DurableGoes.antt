@@ -32,7 +32,7 @@ use Rattle.ip_store.specs.Work.{work_at, session, IsAt}
 use Rattle.ip_store.specs.Publishing.{MayChange}
 use Rattle.ip_store.proofs.Recovering.{recovers_since}
 use Rattle.ip_session.specs.declared.session.Session.{Session}
-use Rattle.ip_session.specs.Session.{no_rules, IsWorking, state_in, met_only, conditions_of, IsLong, is_durable, IsDurable, ChangedBy, TouchedBy, GoesBy, CutBy}
+use Rattle.ip_session.specs.Session.{unasked, IsWorking, state_in, met_only, conditions_of, IsLong, is_durable, IsDurable, ChangedBy, TouchedBy, GoesBy, CutBy}
 use Rattle.ip_session.proofs.SessionLemmas.{at, plainly, Refusable}
 
 pub keeps_still : (store : Store) (r after : Repository) (a b : Told) → Holds store a r → NothingPending a → ChangesOnly NoFile a b → IsAtomic a b r after
@@ -48,7 +48,7 @@ module _ (r : Repository) (w : MachineWork) (command : Command) where
   pub record IsWhole (after : Repository) : Type 0 where
     pub quiet : (met : Met) → ¬ IsDurable (answer s command (conditions_of met)).0 command → (answer s command (conditions_of met)).1 ≡ s
     pub done : (met : Met) → IsDurable (answer s command (conditions_of met)).0 command → (answer s command (conditions_of met)).1.repository ≡ after
-    pub plain : (met : Conditions) (t : Turned) → t ≡ answer s command met → Turns no_rules s command met t
+    pub plain : (met : Conditions) (t : Turned) → t ≡ answer s command met → Turns unasked s command met t
     pub refusable : Refusable command
     pub durable : is_durable command ≡ true
 
@@ -71,10 +71,10 @@ module _ (r : Repository) (w : MachineWork) (command : Command) where
     made : IsDurable reply command → s'.repository ≡ after
     made = unless_refused (λ x t. IsDurable x command → t.repository ≡ after) (λ done. absurd done) (whole.done met)
 
-    step_of : IsMet s command (conditions_of met) reply → Step no_rules s command (conditions_of met) reply s'
+    step_of : IsMet s command (conditions_of met) reply → Step unasked s command (conditions_of met) reply s'
     step_of is_met = (is_met, by met.refused refl)
       where
-        by : (b : Bool) → met.refused ≡ b → MatchBool b ((reply ≡ Reply.Memory) × (s' ≡ s)) (Turns no_rules s command (conditions_of met) (reply, s'))
+        by : (b : Bool) → met.refused ≡ b → MatchBool b ((reply ≡ Reply.Memory) × (s' ≡ s)) (Turns unasked s command (conditions_of met) (reply, s'))
         by true is = let same = sym e ∙ turned_by met true is in (ap (λ (t : Turned). t.0) same, ap (λ (t : Turned). t.1) same)
         by false is = whole.plain (conditions_of met) (reply, s') (sym e ∙ turned_by met false is)
 
@@ -82,6 +82,7 @@ module _ (r : Repository) (w : MachineWork) (command : Command) where
 kept_view : (r : Repository) (v : View) (command : Command) (reply : Reply) (view : View) → is_durable command ≡ true → ¬ IsDurable reply command → IsViewAfter r v command reply view → view ≡ v
 kept_view r v (Command.Commit branch info) (Reply.Committed name) view durable quiet seen = absurd (quiet tt)
 kept_view r v (Command.Commit branch info) _ view durable quiet seen = seen
+kept_view r v (Command.Merge target branch info) reply view durable quiet seen = seen
 kept_view r v (Command.Branch name target) reply view durable quiet seen = seen
 kept_view r v (Command.BranchRm name) reply view durable quiet seen = seen
 kept_view r v _ reply view durable quiet seen = absurd (cc durable)
@@ -98,7 +99,7 @@ module _ (a b : Told) (s : Session) (store : Store) (work : Work) (r after : Rep
   after_it = record s { store = store; work = work; met = store.met }
 
   abbrev pub Went : Reply → Type 0
-  Went = GoesBy a b s after_it r v command
+  Went = GoesBy unasked a b s after_it r v command
 
   abbrev pub Turn : Reply → Type 0
   Turn = IsTurn b s store work r v command
@@ -146,19 +147,19 @@ module _ (a b : Told) (s : Session) (store : Store) (work : Work) (r after : Rep
       }
 
   -- the store tells what was met
-  pub reply_so : (met : Met) (o : Option Reply) (reply : Reply) → met ≡ store.met → o ≡ Some reply → IfSome o Went → GoesBy a b s (record s { store = store; work = work; met = met }) r v command reply
+  pub reply_so : (met : Met) (o : Option Reply) (reply : Reply) → met ≡ store.met → o ≡ Some reply → IfSome o Went → GoesBy unasked a b s (record s { store = store; work = work; met = met }) r v command reply
   reply_so met o reply m e went =
-      subst (λ (x : Met). GoesBy a b s (record s { store = store; work = work; met = x }) r v command reply) (sym m) (subst (λ (x : Option Reply). IfSome x Went) e went)
+      subst (λ (x : Met). GoesBy unasked a b s (record s { store = store; work = work; met = x }) r v command reply) (sym m) (subst (λ (x : Option Reply). IfSome x Went) e went)
 
   -- what the machine gives where nothing was met
   pub cut_so : {A : Type 0} (result : Result A StoreFault) (met : Met) → met ≡ met_only false → is_durable command ≡ true → (answer (state_in s r v) command (conditions_of (met_only false))).1.repository ≡ after → Changes {A = A} r after result store a b
-      → CutBy a b s (record s { store = store; work = work; met = met }) r v command
+      → CutBy unasked a b s (record s { store = store; work = work; met = met }) r v command
   cut_so result met e durable repository does =
       let t = answer (state_in s r v) command (conditions_of (met_only false)) in
       record {
         reply = t.0;
         after = t.1;
-        gives = subst (λ (m : Met). Step no_rules (state_in s r v) command (conditions_of m) t.0 t.1) (sym e) (plainly r (work_at s.work v) command false t.0 (λ h. absurd (cc h)), whole.plain (conditions_of (met_only false)) t refl);
+        gives = subst (λ (m : Met). Step unasked (state_in s r v) command (conditions_of m) t.0 t.1) (sym e) (plainly r (work_at s.work v) command false t.0 (λ h. absurd (cc h)), whole.plain (conditions_of (met_only false)) t refl);
         only = only_more a b (MayChange a.held) (TouchedBy a.held command) (λ file changed. (durable, changed)) does.only;
         atomic = λ order. subst (λ (q : Repository). IsAtomic a b r q) (sym repository) (does.atomic order);
       }

@@ -9,4 +9,5 @@ pub mod BranchGoes
 pub mod ReadGoes
 pub mod Beginning
 pub mod Placing
+pub mod MergeGoes
 mod Running

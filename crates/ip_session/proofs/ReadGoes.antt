@@ -1,6 +1,7 @@
 -- What a session does that ran a command which may only read.
+--     by_any_rule      the step of a command that is no merge is the same by any rule
 --     read_serves      the session goes on serving, whatever is told.      read_goes      it is answered.      read_cut      a fault of the ground or of its files cut it short
-use Rattle.std.proofs.Common.{◌≡◌, ℕ, Bool, false, refl, sym, ◌∙◌, subst, Option, Ok, Err, IsTrue}
+use Rattle.std.proofs.Common.{◌≡◌, ℕ, Bool, true, false, refl, sym, ◌∙◌, subst, Option, Ok, Err, IsTrue}
 use Rattle.std.specs.Prelude.{Result, IfOk, OnErr}
 use Rattle.ip_ground.specs.Told.{Told, NoFile}
 use Rattle.ip_ground.proofs.Spans.{only_more}
@@ -10,6 +11,7 @@ use Rattle.ip_spec.specs.declared.met.Met.{Met}
 use Rattle.ip_spec.specs.declared.record.Record.{Record}
 use Rattle.ip_spec.specs.declared.reply.Reply.{Reply}
 use Rattle.ip_spec.specs.Machine.{State, Conditions}
+use Rattle.ip_spec.specs.Merge.{Rule}
 use Rattle.ip_spec.specs.Repository.{Repository}
 use Rattle.ip_spec.specs.Step.{Turns, Step, answer}
 use Rattle.ip_spec.specs.View.{View}
@@ -18,48 +20,54 @@ use Rattle.ip_store.specs.Trees.{OnlyLooks}
 use Rattle.ip_store.specs.Work.{IsLawful, work_at}
 use Rattle.ip_session.specs.declared.session.Session.{Session}
 use Rattle.ip_session.specs.declared.session.SessionEnd.{SessionEnd}
-use Rattle.ip_session.specs.Session.{no_rules, IsServing, IsWorking, state_in, met_only, conditions_of, HasWords, is_durable, IsDurable, ChangedBy, TouchedBy, IsAnswered, HasRead, GoesBy, CutBy}
+use Rattle.ip_session.specs.Session.{unasked, IsServing, IsWorking, state_in, met_only, conditions_of, is_durable, IsDurable, ChangedBy, TouchedBy, IsAnswered, HasRead, GoesBy, CutBy}
 use Rattle.ip_session.proofs.SessionLemmas.{plainly}
 use Rattle.ip_session.proofs.DurableGoes.{keeps_still}
 
 pub none_durable : (reply : Reply) (command : Command) → is_durable command ≡ false → ¬ IsDurable reply command
 none_durable (Reply.Committed hash) (Command.Commit branch info) e h = absurd (cc e)
+none_durable (Reply.Forward hash) (Command.Merge target branch info) e h = absurd (cc e)
+none_durable (Reply.Merged hash) (Command.Merge target branch info) e h = absurd (cc e)
 none_durable Reply.Accepted (Command.Branch name target) e h = absurd (cc e)
 none_durable Reply.Accepted (Command.BranchRm name) e h = absurd (cc e)
 none_durable _ _ e h = absurd h
 
 -- the turns of all commands but merges are the machine's one answer
-plain : (s : State) (command : Command) (met : Conditions) → HasWords command → Turns no_rules s command met (answer s command met)
-plain s (Command.Merge target branch info) met words = absurd words
-plain s _ met words = refl
+plain : (rule : Rule) (s : State) (command : Command) (met : Conditions) → is_durable command ≡ false → Turns rule s command met (answer s command met)
+plain rule s (Command.Merge target branch info) met quiet = absurd (cc quiet)
+plain rule s _ met quiet = refl
 
-module _ (a b : Told) (s s' : Session) (r : Repository) (v : View) (here : IsWorking a s r v) (looks : OnlyLooks a b s.store s'.store) (command : Command) (quiet : is_durable command ≡ false) where
+by_any_rule : (rule : Rule) (s : State) (command : Command) (met : Conditions) (reply : Reply) (s' : State) → is_durable command ≡ false → Step unasked s command met reply s' → Step rule s command met reply s'
+by_any_rule rule s (Command.Merge target branch info) met reply s' quiet step = absurd (cc quiet)
+by_any_rule rule s _ met reply s' quiet step = step
+
+module _ (rule : Rule) (a b : Told) (s s' : Session) (r : Repository) (v : View) (here : IsWorking a s r v) (looks : OnlyLooks a b s.store s'.store) (command : Command) (quiet : is_durable command ≡ false) where
   -- the store holds the repository over the same records
-  goes : (reply : Reply) → IsAnswered (image_records here.holds) s s' r v command reply → GoesBy a b s s' r v command reply
+  goes : (reply : Reply) → IsAnswered (image_records here.holds) s s' r v command reply → GoesBy rule a b s s' r v command reply
   goes reply A =
       let holds : Holds s'.store b r = looks.holds r here.holds in
       record {
         after = r;
         view = A.view;
-        gives = A.gives;
+        gives = by_any_rule rule (state_in s r v) command (conditions_of s'.met) reply (state_in s' r A.view) quiet A.gives;
         seen = A.seen;
         is_at = record { holds = holds; lawful = subst (λ (records : ℕ → Option Record). IsLawful records r s'.work A.view) (sym (looks.records r here.holds holds)) A.lawful };
         only = only_more a b NoFile (ChangedBy a.held command reply) (λ file none. absurd none) looks.reads.only;
         atomic = λ order. keeps_still s.store r r a b here.holds order looks.reads.only;
         nothing_pending = λ order. pending_passes a b looks.reads.only.goes (λ file. looks.reads.only.others file (λ none. none)) looks.reads.only.lending order;
-        spared = A.spared;
+        spared = λ long. let x = A.spared long in record { same = x.same; seen = x.seen; refused = by_any_rule rule (state_in s r v) command (conditions_of (met_only true)) Reply.Memory (state_in s r v) quiet x.refused };
         still = λ long file changed. none_durable reply command quiet changed.0;
       }
 
   -- the machine's answer, where nothing was met
-  cut : HasWords command → s'.met ≡ met_only false → CutBy a b s s' r v command
-  cut words e =
+  cut : s'.met ≡ met_only false → CutBy rule a b s s' r v command
+  cut e =
       let t = answer (state_in s r v) command (conditions_of (met_only false)) in
       record {
         reply = t.0;
         after = t.1;
-        gives = subst (λ (m : Met). Step no_rules (state_in s r v) command (conditions_of m) t.0 t.1) (sym e)
-            (plainly r (work_at s.work v) command false t.0 (λ h. absurd (cc h)), plain (state_in s r v) command (conditions_of (met_only false)) words);
+        gives = subst (λ (m : Met). Step rule (state_in s r v) command (conditions_of m) t.0 t.1) (sym e)
+            (plainly r (work_at s.work v) command false t.0 (λ h. absurd (cc h)), plain rule (state_in s r v) command (conditions_of (met_only false)) quiet);
         only = only_more a b NoFile (TouchedBy a.held command) (λ file none. absurd none) looks.reads.only;
         atomic = λ order. keeps_still s.store r t.1.repository a b here.holds order looks.reads.only;
       }
@@ -68,11 +76,11 @@ pub read_serves : (tells : Bool) (a b : Told) (s s' : Session) (command : Comman
 read_serves tells a b s s' command (Ok reply) (r, is) has = (r, has.tables r is)
 read_serves tells a b s s' command (Err end) serving has = tt
 
-module _ (tells : Bool) (a b : Told) (s s' : Session) (command : Command) (told : IsTrue tells) (r : Repository) (v : View) (here : IsWorking a s r v) where
-  pub read_goes : (result : Result Reply SessionEnd) → is_durable command ≡ false → HasRead tells a b s s' command result → IfOk result (GoesBy a b s s' r v command)
-  read_goes (Ok reply) quiet has = goes a b s s' r v here (has.looks told) command quiet reply (has.answered told r v here)
+module _ (rule : Rule) (tells : Bool) (a b : Told) (s s' : Session) (command : Command) (told : IsTrue tells) (r : Repository) (v : View) (here : IsWorking a s r v) where
+  pub read_goes : (result : Result Reply SessionEnd) → is_durable command ≡ false → HasRead tells a b s s' command result → IfOk result (GoesBy rule a b s s' r v command)
+  read_goes (Ok reply) quiet has = goes rule a b s s' r v here (has.looks told) command quiet reply (has.answered told r v here)
   read_goes (Err end) quiet has = tt
 
-  pub read_cut : (result : Result Reply SessionEnd) → is_durable command ≡ false → HasWords command → s.met ≡ met_only false → HasRead tells a b s s' command result → OnErr result (CutBy a b s s' r v command)
-  read_cut (Ok reply) quiet words e has = tt
-  read_cut (Err end) quiet words e has = cut a b s s' r v here (has.looks told) command quiet words (has.unmet refl ∙ e)
+  pub read_cut : (result : Result Reply SessionEnd) → is_durable command ≡ false → s.met ≡ met_only false → HasRead tells a b s s' command result → OnErr result (CutBy rule a b s s' r v command)
+  read_cut (Ok reply) quiet e has = tt
+  read_cut (Err end) quiet e has = cut rule a b s s' r v here (has.looks told) command quiet (has.unmet refl ∙ e)

@@ -52,7 +52,7 @@ use Rattle.ip_store.proofs.Editing.{short_put, short_removed}
 use Rattle.ip_store.proofs.Stepping.{same_tables}
 use Rattle.ip_session.specs.declared.session.Session.{Session}
 use Rattle.ip_session.specs.declared.session.SessionEnd.{SessionEnd}
-use Rattle.ip_session.specs.Session.{no_rules, IsIn, IsWorking, state_in, met_only, conditions_of, IsLong, IsAnswered, HasRead, IsHeld, EndsBy, Fails, tree_fault}
+use Rattle.ip_session.specs.Session.{unasked, IsIn, IsWorking, state_in, met_only, conditions_of, IsLong, IsAnswered, HasRead, IsHeld, EndsBy, Fails, tree_fault}
 use Rattle.ip_session.proofs.SessionLemmas.{at, NoneGivenUp, Refusable, stat_of, empty_done, set_done, set_long, set_wide, rm_done, rm_absent, get_done, list_done, stat_done, hash_done, hash_refused, ok_is_short, at_is_short, memory_is_short, stat_is_short}
 use Rattle.ip_session.proofs.Seeing.{memory_seen, limit_seen}
 use Rattle.ip_session.proofs.Referring.{not_below, checkout_done, cat_done, graft_absent, graft_deep, graft_wide, graft_done, parent_done, show_done}
@@ -60,24 +60,24 @@ use Rattle.ip_session.proofs.Referring.{not_below, checkout_done, cat_done, graf
 -- ---- what was met, and what stays
 
 -- what the command met
-met_as : (s : State) (command : Command) (met met' : Met) (reply : Reply) (s' : State) → met ≡ met' → Step no_rules s command (conditions_of met') reply s' → Step no_rules s command (conditions_of met) reply s'
-met_as s command met met' reply s' e h = subst (λ (m : Met). Step no_rules s command (conditions_of m) reply s') (sym e) h
+met_as : (s : State) (command : Command) (met met' : Met) (reply : Reply) (s' : State) → met ≡ met' → Step unasked s command (conditions_of met') reply s' → Step unasked s command (conditions_of met) reply s'
+met_as s command met met' reply s' e h = subst (λ (m : Met). Step unasked s command (conditions_of m) reply s') (sym e) h
 
 module _ (records : ℕ → Option Record) (s s' : Session) (r : Repository) (v : View) (command : Command) (same : work_at s'.work v ≡ work_at s.work v) (lawful : IsLawful records r s'.work v) where
   state : state_in s' r v ≡ state_in s r v
   state = ap (state_at r) same
 
-  pub plainly_answered : (reply : Reply) → s'.met ≡ met_only false → Step no_rules (state_in s r v) command (conditions_of (met_only false)) reply (state_in s r v)
+  pub plainly_answered : (reply : Reply) → s'.met ≡ met_only false → Step unasked (state_in s r v) command (conditions_of (met_only false)) reply (state_in s r v)
       → IsViewAfter r v command reply v → (IsLong reply → Refusable command) → IsAnswered records s s' r v command reply
   plainly_answered reply e step seen spared = record {
     view = v;
-    gives = met_as (state_in s r v) command s'.met (met_only false) reply (state_in s' r v) e (subst (Step no_rules (state_in s r v) command (conditions_of (met_only false)) reply) (sym state) step);
+    gives = met_as (state_in s r v) command s'.met (met_only false) reply (state_in s' r v) e (subst (Step unasked (state_in s r v) command (conditions_of (met_only false)) reply) (sym state) step);
     lawful = lawful;
     seen = seen;
     spared = λ long. record { same = state; seen = refl; refused = spared long r (work_at s.work v) };
   }
 
-  pub still_answered : (reply : Reply) → s'.met ≡ met_only false → Step no_rules (state_in s r v) command (conditions_of (met_only false)) reply (state_in s r v)
+  pub still_answered : (reply : Reply) → s'.met ≡ met_only false → Step unasked (state_in s r v) command (conditions_of (met_only false)) reply (state_in s r v)
       → IsViewAfter r v command reply v → Refusable command → IsAnswered records s s' r v command reply
   still_answered reply e step seen refusable = plainly_answered reply e step seen (λ long. refusable)
 
@@ -85,7 +85,7 @@ module _ (records : ℕ → Option Record) (s s' : Session) (r : Repository) (v 
   memory_answered e refusable = record {
     view = v;
     gives = met_as (state_in s r v) command s'.met (met_only true) Reply.Memory (state_in s' r v) e
-        (subst (Step no_rules (state_in s r v) command (conditions_of (met_only true)) Reply.Memory) (sym state) (refusable r (work_at s.work v)));
+        (subst (Step unasked (state_in s r v) command (conditions_of (met_only true)) Reply.Memory) (sym state) (refusable r (work_at s.work v)));
     lawful = lawful;
     seen = memory_seen r v command;
     spared = λ long. absurd (omega (arith, long, memory_is_short));
@@ -122,7 +122,7 @@ same_on store mid now one two = record {
 
 -- the machine refuses the command so; of a call that fetched, where the records are told
 abbrev pub Refuses : State → Command → StoreFault → Type 0
-Refuses s command (StoreFault.Limit limit) = Step no_rules s command (conditions_of (met_only false)) (Reply.Limit limit) s
+Refuses s command (StoreFault.Limit limit) = Step unasked s command (conditions_of (met_only false)) (Reply.Limit limit) s
 Refuses s command StoreFault.Ground = Unit {0}
 Refuses s command StoreFault.Memory = Unit {0}
 Refuses s command fault = ⊥
@@ -185,7 +185,7 @@ module _ (tells : Bool) (old new : Told) (s s' : Session) (command : Command) (t
   module _ (same : (v : View) → work_at s'.work v ≡ work_at s.work v) (e : s.met ≡ met_only false) (refusable : Refusable command) where
     pub still_read : (reply : Reply) → s'.met ≡ s.met
         → ((r : Repository) (v : View) → IsOf s.store r → IsViewAfter r v command reply v)
-        → (IsTrue tells → (r : Repository) (v : View) (here : IsWorking old s r v) → IsLawful (image_records here.holds) r s'.work v × Step no_rules (state_in s r v) command (conditions_of (met_only false)) reply (state_in s r v)) → Did (Ok reply)
+        → (IsTrue tells → (r : Repository) (v : View) (here : IsWorking old s r v) → IsLawful (image_records here.holds) r s'.work v × Step unasked (state_in s r v) command (conditions_of (met_only false)) reply (state_in s r v)) → Did (Ok reply)
     still_read reply met seen does = answered_read reply (λ told r v here. let x = does told r v here in still_answered (image_records here.holds) s s' r v command (same v) x.0 reply (met ∙ e) x.1 (seen r v here.holds.tables) refusable)
 
     pub fault_read : (fault : StoreFault) (result : Result Reply SessionEnd) → Fails fault s.met s'.met result
@@ -200,7 +200,7 @@ module _ (tells : Bool) (old new : Told) (s s' : Session) (command : Command) (t
 -- it looked at nothing, and nothing changed but what was met
 pub unread : (tells : Bool) (a : Told) (s : Session) (met : Met) (command : Command) (reply : Reply) → met ≡ met_only false → Refusable command
     → ((r : Repository) (v : View) → IsOf s.store r → IsViewAfter r v command reply v)
-    → ((r : Repository) (v : View) → IsOf s.store r → NoneGivenUp r (work_at s.work v) → Step no_rules (state_in s r v) command (conditions_of (met_only false)) reply (state_in s r v))
+    → ((r : Repository) (v : View) → IsOf s.store r → NoneGivenUp r (work_at s.work v) → Step unasked (state_in s r v) command (conditions_of (met_only false)) reply (state_in s r v))
     → HasRead tells a a s (record s { met = met }) command (Ok reply)
 unread tells a s met command reply e refusable seen gives = answered_read tells a a s (record s { met = met }) command (λ r is. is) (λ told. looks_nowhere a s.store) reply
     (λ told r v here. still_answered (image_records here.holds) s (record s { met = met }) r v command refl here.lawful reply e (gives r v here.holds.tables here.lawful.retained) (seen r v here.holds.tables) refusable)
@@ -320,7 +320,7 @@ module _ (records : ℕ → Option Record) (s : Session) (store : Store) (met : 
   graft_answered tree target from to n at_root low spelled named retained less short is = record {
     view = graft_view v (stored_view records n at_root (tree_at r n)) from to;
     gives = met_as (state_in s r v) (Command.Graft target from to) met (met_only false) Reply.Accepted _ e
-        (subst (λ (o : Option ℕ). Step no_rules (state_in s r v) (Command.Graft target from to) (conditions_of (met_only false)) Reply.Accepted (at r (record (work_at s.work v) { tree = graft v.map (tree_at r n) from to; least = o }))) (sym less)
+        (subst (λ (o : Option ℕ). Step unasked (state_in s r v) (Command.Graft target from to) (conditions_of (met_only false)) Reply.Accepted (at r (record (work_at s.work v) { tree = graft v.map (tree_at r n) from to; least = o }))) (sym less)
         (graft_done r (work_at s.work v) target from to n l.retained named (some_grafted (is_empty (subtree (tree_at r n) from)) is.found) (is.shallow refl) (is.narrow refl)));
     lawful = record {
       tree = is.view;
@@ -342,8 +342,8 @@ module _ (records : ℕ → Option Record) (s : Session) (store : Store) (met : 
   checkout_answered tree parents target n name one named retained is_name long_name t = record {
     view = stored_view records n t.at (tree_at r n);
     gives = met_as (state_in s r v) (Command.Checkout target) met (met_only false) (Reply.At name) _ e
-        (subst (λ (ps : List ℕ). Step no_rules (state_in s r v) (Command.Checkout target) (conditions_of (met_only false)) (Reply.At name) (at r (record { tree = tree_at r n; parents = ps; least = Some n }))) (sym one)
-        (subst (λ (x : Bytes). Step no_rules (state_in s r v) (Command.Checkout target) (conditions_of (met_only false)) (Reply.At x) (at r (record { tree = tree_at r n; parents = n ∷ []; least = Some n }))) (sym is_name)
+        (subst (λ (ps : List ℕ). Step unasked (state_in s r v) (Command.Checkout target) (conditions_of (met_only false)) (Reply.At name) (at r (record { tree = tree_at r n; parents = ps; least = Some n }))) (sym one)
+        (subst (λ (x : Bytes). Step unasked (state_in s r v) (Command.Checkout target) (conditions_of (met_only false)) (Reply.At x) (at r (record { tree = tree_at r n; parents = n ∷ []; least = Some n }))) (sym is_name)
         (checkout_done r (work_at s.work v) target n named)));
     lawful = record {
       tree = t.view;
@@ -385,7 +385,7 @@ module _ (records : ℕ → Option Record) (s : Session) (r : Repository) (v : V
   empty_answered work met e lawful empty = record {
     view = no_view;
     gives = met_as (state_in s r v) Command.Empty met (met_only false) Reply.Accepted (state_at r (work_at work no_view)) e
-        (subst (λ (w : Machine.Work). Step no_rules (state_in s r v) Command.Empty (conditions_of (met_only false)) Reply.Accepted (state_at r w)) (sym empty) (empty_done r (work_at s.work v)));
+        (subst (λ (w : Machine.Work). Step unasked (state_in s r v) Command.Empty (conditions_of (met_only false)) Reply.Accepted (state_at r w)) (sym empty) (empty_done r (work_at s.work v)));
     lawful = lawful;
     seen = refl;
     spared = λ long. absurd (ok_is_short long);
@@ -405,8 +405,8 @@ module _ (records : ℕ → Option Record) (s : Session) (r : Repository) (v : V
   parent_answered parents low met target n e named retained new few added less = record {
     view = v;
     gives = met_as (state_in s r v) (Command.Parent target) met (met_only false) Reply.Accepted _ e
-        (subst (λ (ps : List ℕ). Step no_rules (state_in s r v) (Command.Parent target) (conditions_of (met_only false)) Reply.Accepted (at r (record (work_at s.work v) { parents = ps; least = Some low }))) (sym added)
-        (subst (λ (o : Option ℕ). Step no_rules (state_in s r v) (Command.Parent target) (conditions_of (met_only false)) Reply.Accepted (at r (record (work_at s.work v) { parents = s.work.parents ++ n ∷ []; least = o }))) (sym less)
+        (subst (λ (ps : List ℕ). Step unasked (state_in s r v) (Command.Parent target) (conditions_of (met_only false)) Reply.Accepted (at r (record (work_at s.work v) { parents = ps; least = Some low }))) (sym added)
+        (subst (λ (o : Option ℕ). Step unasked (state_in s r v) (Command.Parent target) (conditions_of (met_only false)) Reply.Accepted (at r (record (work_at s.work v) { parents = s.work.parents ++ n ∷ []; least = o }))) (sym less)
         (parent_done r (work_at s.work v) target n l.retained named new few)));
     lawful = record {
       tree = l.tree;
@@ -461,7 +461,7 @@ module _ (tells : Bool) (old new : Told) (s : Session) (store : Store) (same : S
 
   -- over the same view
   pub same_read : (tree : lazy.Tree) (command : Command) (reply : Reply) → Refusable command → ((r : Repository) (v : View) → IsOf s.store r → IsViewAfter r v command reply v)
-      → (IsTrue tells → (r : Repository) (v : View) (here : IsWorking old s r v) → IsView (image_records here.holds) tree v × Step no_rules (state_in s r v) command (conditions_of (met_only false)) reply (state_in s r v))
+      → (IsTrue tells → (r : Repository) (v : View) (here : IsWorking old s r v) → IsView (image_records here.holds) tree v × Step unasked (state_in s r v) command (conditions_of (met_only false)) reply (state_in s r v))
       → HasRead tells old new s (after tree s.met) command (Ok reply)
   same_read tree command reply refusable seen does = still_read tells old new s (after tree s.met) command (kept_in s (after tree s.met) same refl) looks (λ v. refl) e refusable reply refl seen
       (λ told r v here. let x = does told r v here in (lawful_with (image_records here.holds) r s.work v tree here.lawful x.0, x.1))
@@ -478,28 +478,28 @@ fails_as fault called met met' result e f = subst (λ (x : StoreFault). Fails x 
 
 -- ---- what was answered is the machine's
 
-pub got_gives : (r : Repository) (w : Machine.Work) (path : Path) (got : Got) (reply : Reply) → NoneGivenUp r w → reply ≡ got_reply got → got ≡ got_at w.tree path → Step no_rules (at r w) (Command.Get path) (conditions_of (met_only false)) reply (at r w)
-got_gives r w path got reply kept is_reply is_got = subst (λ (x : Reply). Step no_rules (at r w) (Command.Get path) (conditions_of (met_only false)) x (at r w)) (sym (is_reply ∙ ap got_reply is_got)) (get_done r w kept path)
+pub got_gives : (r : Repository) (w : Machine.Work) (path : Path) (got : Got) (reply : Reply) → NoneGivenUp r w → reply ≡ got_reply got → got ≡ got_at w.tree path → Step unasked (at r w) (Command.Get path) (conditions_of (met_only false)) reply (at r w)
+got_gives r w path got reply kept is_reply is_got = subst (λ (x : Reply). Step unasked (at r w) (Command.Get path) (conditions_of (met_only false)) x (at r w)) (sym (is_reply ∙ ap got_reply is_got)) (get_done r w kept path)
 
 pub listed_gives : (r : Repository) (w : Machine.Work) (path : Path) (listed : Listed) (reply : Reply) → NoneGivenUp r w → reply ≡ listed_reply listed → listed ≡ listed_at w.tree path
-    → Step no_rules (at r w) (Command.List path) (conditions_of (met_only false)) reply (at r w)
-listed_gives r w path listed reply kept is_reply is_listed = subst (λ (x : Reply). Step no_rules (at r w) (Command.List path) (conditions_of (met_only false)) x (at r w)) (sym (is_reply ∙ ap listed_reply is_listed)) (list_done r w kept path)
+    → Step unasked (at r w) (Command.List path) (conditions_of (met_only false)) reply (at r w)
+listed_gives r w path listed reply kept is_reply is_listed = subst (λ (x : Reply). Step unasked (at r w) (Command.List path) (conditions_of (met_only false)) x (at r w)) (sym (is_reply ∙ ap listed_reply is_listed)) (list_done r w kept path)
 
 pub cat_gives : (r : Repository) (w : Machine.Work) (target : Target) (path : Path) (n : ℕ) (got : Got) (reply : Reply) → resolve r target ≡ Ok n → reply ≡ got_reply got → got ≡ got_at (tree_at r n) path
-    → Step no_rules (at r w) (Command.Cat target path) (conditions_of (met_only false)) reply (at r w)
+    → Step unasked (at r w) (Command.Cat target path) (conditions_of (met_only false)) reply (at r w)
 cat_gives r w target path n got reply named is_reply is_got =
-    subst (λ (x : Reply). Step no_rules (at r w) (Command.Cat target path) (conditions_of (met_only false)) x (at r w)) (sym (is_reply ∙ ap got_reply is_got)) (cat_done r w target path n named)
+    subst (λ (x : Reply). Step unasked (at r w) (Command.Cat target path) (conditions_of (met_only false)) x (at r w)) (sym (is_reply ∙ ap got_reply is_got)) (cat_done r w target path n named)
 
 pub shown_gives : (r : Repository) (w : Machine.Work) (target : Target) (n : ℕ) (shown reply : Reply) → resolve r target ≡ Ok n → reply ≡ shown → commit_reply r n ≡ shown
-    → Step no_rules (at r w) (Command.Show target) (conditions_of (met_only false)) reply (at r w)
+    → Step unasked (at r w) (Command.Show target) (conditions_of (met_only false)) reply (at r w)
 shown_gives r w target n shown reply named is_reply is_shown =
-    subst (λ (x : Reply). Step no_rules (at r w) (Command.Show target) (conditions_of (met_only false)) x (at r w)) (is_shown ∙ sym is_reply) (show_done r w target n named)
+    subst (λ (x : Reply). Step unasked (at r w) (Command.Show target) (conditions_of (met_only false)) x (at r w)) (is_shown ∙ sym is_reply) (show_done r w target n named)
 
 none_there : (b : Bool) → false ≡ not b → b ≡ true
 none_there true e = refl
 none_there false e = absurd (cc e)
 
-pub absent_gives : (r : Repository) (w : Machine.Work) (path : Path) → NoneGivenUp r w → false ≡ not (is_empty (subtree w.tree path)) → Step no_rules (at r w) (Command.Rm path) (conditions_of (met_only false)) Reply.Absent (at r w)
+pub absent_gives : (r : Repository) (w : Machine.Work) (path : Path) → NoneGivenUp r w → false ≡ not (is_empty (subtree w.tree path)) → Step unasked (at r w) (Command.Rm path) (conditions_of (met_only false)) Reply.Absent (at r w)
 absent_gives r w path kept none = rm_absent r w kept path (none_there (is_empty (subtree w.tree path)) none)
 
 -- the reply is known by another name
@@ -549,5 +549,5 @@ unfetched_ends s old n tells command met fault result retained f read = ends fau
     (λ (told, (r, v, here)). (state_in s r v, fetched_refuses (IsTreeOf (image_records here.holds) r n) (state_in s r v) command fault (read told r here.holds (retained r here.holds.tables))))
 
 pub ungrafted_gives : (r : Repository) (w : Machine.Work) (target : Target) (from to : Path) (n : ℕ) → NoneGivenUp r w → resolve r target ≡ Ok n → false ≡ not (is_empty (subtree (tree_at r n) from))
-    → Step no_rules (at r w) (Command.Graft target from to) (conditions_of (met_only false)) Reply.Absent (at r w)
+    → Step unasked (at r w) (Command.Graft target from to) (conditions_of (met_only false)) Reply.Absent (at r w)
 ungrafted_gives r w target from to n kept named none = graft_absent r w target from to n kept named (none_there (is_empty (subtree (tree_at r n) from)) none)

@@ -21,7 +21,7 @@ use Rattle.ip_spec.specs.Machine.{Work, State}
 use Rattle.ip_spec.specs.Step.{Refused, present, ◌>>=◌, ◌>>◌, refuse_if, or_refused, Turned, not_given_up, parents_limit, entries_limit, steps_limit, resolve, with_parent, graft_turn, least_with, head_of, commit_reply, got_reply, Step, outcome}
 use Rattle.ip_store.specs.declared.store.Store.{Store}
 use Rattle.ip_store.specs.Store.{IsOf}
-use Rattle.ip_session.specs.Session.{no_rules, met_only, conditions_of}
+use Rattle.ip_session.specs.Session.{unasked, met_only, conditions_of}
 use Rattle.ip_session.proofs.SessionLemmas.{at, plainly, NoneGivenUp, still_there, behind, tested as refused_by_test, passes, stays_in}
 
 -- ---- what names no commit
@@ -93,7 +93,7 @@ module _ (r : Repository) (w : Work) where
   s = at r w
 
   abbrev Gives : Command → Reply → State → Type 0
-  Gives command reply s' = Step no_rules s command (conditions_of (met_only false)) reply s'
+  Gives command reply s' = Step unasked s command (conditions_of (met_only false)) reply s'
 
   -- ---- parents
 

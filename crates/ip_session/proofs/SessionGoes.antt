@@ -13,17 +13,19 @@ use Rattle.ip_spec.specs.declared.command.Command.{Command}
 use Rattle.ip_spec.specs.declared.met.Met.{Met}
 use Rattle.ip_spec.specs.declared.reply.Reply.{Reply}
 use Rattle.ip_spec.specs.Line.{IsBadAt}
+use Rattle.ip_spec.specs.Merge.{Rule}
 use Rattle.ip_spec.specs.Path.{Bytes}
 use Rattle.ip_spec.specs.Repository.{Repository}
 use Rattle.ip_spec.specs.Machine.{State, Conditions}
 use Rattle.ip_spec.specs.Script.{LineStep}
 use Rattle.ip_spec.specs.Text.{reply_text}
 use Rattle.ip_spec.specs.View.{View}
+use Rattle.ip_merge.specs.Rules.{IsDecisive}
 use Rattle.ip_script.specs.Served.{IsServedLine}
 use Rattle.ip_session.specs.declared.session.Session.{Session}
 use Rattle.ip_session.specs.declared.session.SessionEnd.{SessionEnd}
 use Rattle.ip_store.specs.Views.{IsViewAfter}
-use Rattle.ip_session.specs.Session.{no_rules, IsWorking, state_in, met_only, conditions_of, IsLong, Writes, IsDurable, ChangedBy, ChangedIn, TouchedBy, TouchedIn, IsViewIn, Goes, GoesBy, GoesIn, CutBy, CutIn}
+use Rattle.ip_session.specs.Session.{IsWorking, state_in, met_only, conditions_of, IsLong, Writes, IsDurable, ChangedBy, ChangedIn, TouchedBy, TouchedIn, IsViewIn, Goes, GoesBy, GoesIn, CutBy, CutIn}
 use Rattle.ip_session.proofs.Seeing.{memory_seen, bad_seen}
 use Rattle.ip_session.specs.Placing.{PlacedIn}
 use Rattle.ip_session.proofs.Placing.{memory_placed}
@@ -48,9 +50,9 @@ still_goes a s met r v here Changed Gives Views reply gives seen refused none = 
 -- ---- lines
 
 -- the line that spells the command, and no other one; what was met before does not matter
-lined : (a b : Told) (s s' : Session) (met : Met) (r : Repository) (v : View) (command : Command) (line : Bytes) (reply : Reply) → IsServedLine command line → ((other : Command) → IsServedLine other line → other ≡ command)
-    → GoesBy a b (record s { met = met }) s' r v command reply → GoesIn a b s s' r v line reply
-lined a b s s' met r v command line reply served one h = record {
+lined : (rule : Rule) (a b : Told) (s s' : Session) (met : Met) (r : Repository) (v : View) (command : Command) (line : Bytes) (reply : Reply) → IsServedLine command line → ((other : Command) → IsServedLine other line → other ≡ command)
+    → GoesBy rule a b (record s { met = met }) s' r v command reply → GoesIn rule a b s s' r v line reply
+lined rule a b s s' met r v command line reply served one h = record {
   after = h.after;
   view = h.view;
   gives = inl (command, served, h.gives);
@@ -63,25 +65,25 @@ lined a b s s' met r v command line reply served one h = record {
   still = λ long file (other, spelled, changed). h.still long file (subst (λ (c : Command). ChangedBy a.held c reply file) (one other spelled) changed);
 }
 
-pub lined_ok : (a b : Told) (s s' : Session) (met : Met) (r : Repository) (v : View) (command : Command) (line : Bytes) (result : Result Reply SessionEnd) → IsServedLine command line → ((other : Command) → IsServedLine other line → other ≡ command)
-    → IfOk result (GoesBy a b (record s { met = met }) s' r v command) → IfOk result (GoesIn a b s s' r v line)
-lined_ok a b s s' met r v command line (Ok reply) served one h = lined a b s s' met r v command line reply served one h
-lined_ok a b s s' met r v command line (Err end) served one h = tt
+pub lined_ok : (rule : Rule) (a b : Told) (s s' : Session) (met : Met) (r : Repository) (v : View) (command : Command) (line : Bytes) (result : Result Reply SessionEnd) → IsServedLine command line → ((other : Command) → IsServedLine other line → other ≡ command)
+    → IfOk result (GoesBy rule a b (record s { met = met }) s' r v command) → IfOk result (GoesIn rule a b s s' r v line)
+lined_ok rule a b s s' met r v command line (Ok reply) served one h = lined rule a b s s' met r v command line reply served one h
+lined_ok rule a b s s' met r v command line (Err end) served one h = tt
 
-pub lined_cut : (a b : Told) (s s' : Session) (met : Met) (r : Repository) (v : View) (command : Command) (line : Bytes) (result : Result Reply SessionEnd) → IsServedLine command line
-    → OnErr result (CutBy a b (record s { met = met }) s' r v command) → OnErr result (CutIn a b s s' r v line)
-lined_cut a b s s' met r v command line (Ok reply) served h = tt
-lined_cut a b s s' met r v command line (Err end) served h = record { reply = h.reply; after = h.after; gives = inl (command, served, h.gives); only = only_more a b (TouchedBy a.held command) (TouchedIn a.held line) (λ file touched. (command, served, touched)) h.only; atomic = h.atomic }
+pub lined_cut : (rule : Rule) (a b : Told) (s s' : Session) (met : Met) (r : Repository) (v : View) (command : Command) (line : Bytes) (result : Result Reply SessionEnd) → IsServedLine command line
+    → OnErr result (CutBy rule a b (record s { met = met }) s' r v command) → OnErr result (CutIn rule a b s s' r v line)
+lined_cut rule a b s s' met r v command line (Ok reply) served h = tt
+lined_cut rule a b s s' met r v command line (Err end) served h = record { reply = h.reply; after = h.after; gives = inl (command, served, h.gives); only = only_more a b (TouchedBy a.held command) (TouchedIn a.held line) (λ file touched. (command, served, touched)) h.only; atomic = h.atomic }
 
 -- a reply that none of the durable commands has
 none_changed : (image : Image) (line : Bytes) (reply : Reply) → ((command : Command) → ¬ IsDurable reply command) → (file : FileName) → ¬ ChangedIn image line reply file
 none_changed image line reply none file changed = none changed.0 changed.2.0
 
 -- a line that is no command
-pub bad_goes : (a : Told) (s : Session) (met : Met) (r : Repository) (v : View) (here : IsWorking a s r v) (line : Bytes) (place : ℕ) → met ≡ met_only false → IsBadAt IsServedLine line place → length line < 2 ^ 64
-    → GoesIn a a s (record s { met = met }) r v line (Reply.Bad place)
-bad_goes a s met r v here line place e bad small = still_goes a s met r v here (ChangedIn a.held line) (LineStep IsServedLine no_rules (state_in s r v) line) (IsViewIn r v line) (Reply.Bad place)
-    (subst (λ (m : Met). LineStep IsServedLine no_rules (state_in s r v) line (conditions_of m) (Reply.Bad place) (state_in s r v)) (sym e) (bad_line (state_in s r v) line place bad))
+pub bad_goes : (rule : Rule) (a : Told) (s : Session) (met : Met) (r : Repository) (v : View) (here : IsWorking a s r v) (line : Bytes) (place : ℕ) → met ≡ met_only false → IsBadAt IsServedLine line place → length line < 2 ^ 64
+    → GoesIn rule a a s (record s { met = met }) r v line (Reply.Bad place)
+bad_goes rule a s met r v here line place e bad small = still_goes a s met r v here (ChangedIn a.held line) (LineStep IsServedLine rule (state_in s r v) line) (IsViewIn r v line) (Reply.Bad place)
+    (subst (λ (m : Met). LineStep IsServedLine rule (state_in s r v) line (conditions_of m) (Reply.Bad place) (state_in s r v)) (sym e) (bad_line rule (state_in s r v) line place bad))
     (record { command = λ command served. bad_seen r v command place; none = λ none. refl })
     (λ long. absurd (bad_is_short place line bad.in_line small long))
     (none_changed a.held line (Reply.Bad place) (λ command h. h))
@@ -90,12 +92,12 @@ refused_in : (r : Repository) (v : View) (line : Bytes) → IsViewIn r v line Re
 refused_in r v line = record { command = λ command served. memory_seen r v command; none = λ none. refl }
 
 -- a line that was refused memory
-pub refused_goes : (a : Told) (s : Session) (met : Met) (r : Repository) (v : View) (here : IsWorking a s r v) (line : Bytes) (reply : Reply) → met ≡ met_only true → reply ≡ Reply.Memory
-    → LineStep IsServedLine no_rules (state_in s r v) line (conditions_of (met_only true)) Reply.Memory (state_in s r v)
-    → GoesIn a a s (record s { met = met }) r v line reply
-refused_goes a s met r v here line reply e is_memory gives = subst (GoesIn a a s (record s { met = met }) r v line) (sym is_memory)
-    (still_goes a s met r v here (ChangedIn a.held line) (LineStep IsServedLine no_rules (state_in s r v) line) (IsViewIn r v line) Reply.Memory
-    (subst (λ (m : Met). LineStep IsServedLine no_rules (state_in s r v) line (conditions_of m) Reply.Memory (state_in s r v)) (sym e) gives)
+pub refused_goes : (rule : Rule) (a : Told) (s : Session) (met : Met) (r : Repository) (v : View) (here : IsWorking a s r v) (line : Bytes) (reply : Reply) → met ≡ met_only true → reply ≡ Reply.Memory
+    → LineStep IsServedLine rule (state_in s r v) line (conditions_of (met_only true)) Reply.Memory (state_in s r v)
+    → GoesIn rule a a s (record s { met = met }) r v line reply
+refused_goes rule a s met r v here line reply e is_memory gives = subst (GoesIn rule a a s (record s { met = met }) r v line) (sym is_memory)
+    (still_goes a s met r v here (ChangedIn a.held line) (LineStep IsServedLine rule (state_in s r v) line) (IsViewIn r v line) Reply.Memory
+    (subst (λ (m : Met). LineStep IsServedLine rule (state_in s r v) line (conditions_of m) Reply.Memory (state_in s r v)) (sym e) gives)
     (refused_in r v line)
     (λ long. gives)
     (none_changed a.held line Reply.Memory (λ command h. h)))
@@ -119,22 +121,22 @@ memory_instead a b s s' met r v Changed Gives Views reply h long e seen none = r
 }
 
 -- of what the ground tells
-abbrev Tells : (tells : Bool) (a b : Told) (s s' : Session) (line : Bytes) (reply : Reply) → Type 0
-Tells tells a b s s' line reply = IsTrue tells → (r : Repository) (v : View) → IsWorking a s r v → GoesIn a b s s' r v line reply
+abbrev Tells : (tells : Bool) (rule : Rule) (a b : Told) (s s' : Session) (line : Bytes) (reply : Reply) → Type 0
+Tells tells rule a b s s' line reply = IsTrue tells → IsDecisive rule → (r : Repository) (v : View) → IsWorking a s r v → GoesIn rule a b s s' r v line reply
 
-abbrev Places : (tells : Bool) (a : Told) (s s' : Session) (line : Bytes) (reply : Reply) → Type 0
-Places tells a s s' line reply = IsTrue tells → (r : Repository) (v : View) → IsWorking a s r v → PlacedIn s.store.slot s'.store.slot (state_in s r v) v line reply
+abbrev Places : (tells : Bool) (rule : Rule) (a : Told) (s s' : Session) (line : Bytes) (reply : Reply) → Type 0
+Places tells rule a s s' line reply = IsTrue tells → IsDecisive rule → (r : Repository) (v : View) → IsWorking a s r v → PlacedIn rule s.store.slot s'.store.slot (state_in s r v) v line reply
 
 -- what was written of its reply
-pub written_goes : (tells : Bool) (a b : Told) (s s' : Session) (met : Met) (line : Bytes) (reply : Reply) (text : Bytes) → Tells tells a b s s' line reply → Writes reply s'.met met text
-    → Places tells a s s' line reply → (written : Reply) × (text ≡ reply_text written) × (IsTrue tells → (r : Repository) (v : View) → IsWorking a s r v → GoesIn a b s (record s' { met = met }) r v line written × PlacedIn s.store.slot s'.store.slot (state_in s r v) v line written)
-written_goes tells a b s s' met line reply text goes (inl whole) placed =
-    (reply, whole.1, λ told r v here. (subst (λ (m : Met). GoesIn a b s (record s' { met = m }) r v line reply) (sym whole.0) (goes told r v here), placed told r v here))
-written_goes tells a b s s' met line reply text goes (inr refused) placed = (
+pub written_goes : (tells : Bool) (rule : Rule) (a b : Told) (s s' : Session) (met : Met) (line : Bytes) (reply : Reply) (text : Bytes) → Tells tells rule a b s s' line reply → Writes reply s'.met met text
+    → Places tells rule a s s' line reply → (written : Reply) × (text ≡ reply_text written) × (IsTrue tells → IsDecisive rule → (r : Repository) (v : View) → IsWorking a s r v → GoesIn rule a b s (record s' { met = met }) r v line written × PlacedIn rule s.store.slot s'.store.slot (state_in s r v) v line written)
+written_goes tells rule a b s s' met line reply text goes (inl whole) placed =
+    (reply, whole.1, λ told decisive r v here. (subst (λ (m : Met). GoesIn rule a b s (record s' { met = m }) r v line reply) (sym whole.0) (goes told decisive r v here), placed told decisive r v here))
+written_goes tells rule a b s s' met line reply text goes (inr refused) placed = (
   Reply.Memory,
   refused.2,
-  λ told r v here. (
-    memory_instead a b s s' met r v (ChangedIn a.held line) (LineStep IsServedLine no_rules (state_in s r v) line) (IsViewIn r v line) reply (goes told r v here) refused.0 refused.1 (refused_in r v line) (none_changed a.held line Reply.Memory (λ command h. h)),
-    memory_placed s.store.slot s'.store.slot (state_in s r v) v line reply (λ command served done. (goes told r v here).still refused.0 Control (command, served, (done, inl refl))) (placed told r v here),
+  λ told decisive r v here. (
+    memory_instead a b s s' met r v (ChangedIn a.held line) (LineStep IsServedLine rule (state_in s r v) line) (IsViewIn r v line) reply (goes told decisive r v here) refused.0 refused.1 (refused_in r v line) (none_changed a.held line Reply.Memory (λ command h. h)),
+    memory_placed rule s.store.slot s'.store.slot (state_in s r v) v line reply (λ command served done. (goes told decisive r v here).still refused.0 Control (command, served, (done, inl refl))) (placed told decisive r v here),
   ),
 )

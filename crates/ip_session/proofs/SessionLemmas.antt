@@ -18,6 +18,7 @@ use Rattle.ip_spec.specs.declared.command.Target.{Target}
 use Rattle.ip_spec.specs.declared.command.LineFault.{LineFault}
 use Rattle.ip_spec.specs.declared.reply.Reply.{Reply}
 use Rattle.ip_spec.specs.Map.{len}
+use Rattle.ip_spec.specs.Merge.{Rule}
 use Rattle.ip_spec.specs.Path.{Bytes, Path, space}
 use Rattle.ip_spec.specs.Tree.{Tree, put, remove, subtree, is_empty, got_at, listed_at, widest}
 use Rattle.ip_spec.specs.Repository.{Repository, next}
@@ -30,7 +31,7 @@ use Rattle.ip_spec.specs.Record.{Hash}
 use Rattle.ip_spec.specs.Text.{reply_text, hex_text}
 use Rattle.ip_store.specs.Store.{IsOf}
 use Rattle.ip_store.specs.declared.store.Store.{Store}
-use Rattle.ip_session.specs.Session.{no_rules, met_only, conditions_of, IsLong}
+use Rattle.ip_session.specs.Session.{unasked, met_only, conditions_of, IsLong}
 
 abbrev pub at : Repository → Work → State
 at r w = record { repository = r; phase = Phase.Idle; work = w }
@@ -75,7 +76,7 @@ tested s reply y b b' e = ap (λ (x : Bool). or_refused s (refuse_if x reply >> 
 
 -- ---- what the machine gives to each command
 
-pub empty_done : (r : Repository) (w : Work) → Step no_rules (at r w) Command.Empty (conditions_of (met_only false)) Reply.Accepted (at r empty_work)
+pub empty_done : (r : Repository) (w : Work) → Step unasked (at r w) Command.Empty (conditions_of (met_only false)) Reply.Accepted (at r empty_work)
 unfolding outcome
 empty_done r w = (plainly r w Command.Empty false Reply.Accepted (λ h. absurd (cc h)), refl)
 
@@ -84,7 +85,7 @@ module _ (r : Repository) (w : Work) (kept : NoneGivenUp r w) where
   s = at r w
 
   abbrev Gives : Command → Reply → State → Type 0
-  Gives command reply s' = Step no_rules s command (conditions_of (met_only false)) reply s'
+  Gives command reply s' = Step unasked s command (conditions_of (met_only false)) reply s'
 
   abbrev with_map : Tree → State
   with_map tree = at r (record w { tree = tree })
@@ -154,21 +155,21 @@ module _ (r : Repository) (w : Work) (kept : NoneGivenUp r w) where
     sym (behind s (not_given_up s) (Ok (listed_reply (listed_at w.tree path), s)) (still_there r w kept)),
   )
 
-pub hash_done : (r : Repository) (w : Work) (bytes : Bytes) → Step no_rules (at r w) (Command.Hash bytes) (conditions_of (met_only false)) (Reply.Hash (sha256 bytes)) (at r w)
+pub hash_done : (r : Repository) (w : Work) (bytes : Bytes) → Step unasked (at r w) (Command.Hash bytes) (conditions_of (met_only false)) (Reply.Hash (sha256 bytes)) (at r w)
 unfolding outcome
 hash_done r w bytes = (plainly r w (Command.Hash bytes) false (Reply.Hash (sha256 bytes)) (λ h. absurd (cc h)), refl)
 
 abbrev pub stat_of : Repository → Reply
 stat_of r = Reply.Stat r.floor (next r) (len r.branches) None
 
-pub stat_done : (r : Repository) (w : Work) → Step no_rules (at r w) Command.Stat (conditions_of (met_only false)) (stat_of r) (at r w)
+pub stat_done : (r : Repository) (w : Work) → Step unasked (at r w) Command.Stat (conditions_of (met_only false)) (stat_of r) (at r w)
 unfolding outcome
 stat_done r w = (plainly r w Command.Stat false (stat_of r) (λ h. absurd (cc h)), refl)
 
 -- ---- want of memory
 
 abbrev pub Refusable : Command → Type 0
-Refusable command = (r : Repository) (w : Work) → Step no_rules (at r w) command (conditions_of (met_only true)) Reply.Memory (at r w)
+Refusable command = (r : Repository) (w : Work) → Step unasked (at r w) command (conditions_of (met_only true)) Reply.Memory (at r w)
 
 pub set_refused : (path : Path) (bytes : Bytes) → Refusable (Command.Set path bytes)
 set_refused path bytes r w = (plainly r w (Command.Set path bytes) true Reply.Memory (λ h. tt), (refl, refl))
@@ -218,6 +219,9 @@ lcas_refused one other r w = (plainly r w (Command.Lcas one other) true Reply.Me
 pub commit_refused : (branch : Bytes) (info : Info) → Refusable (Command.Commit branch info)
 commit_refused branch info r w = (plainly r w (Command.Commit branch info) true Reply.Memory (λ h. tt), (refl, refl))
 
+pub merge_refused : (target : Target) (branch : Bytes) (info : Info) → Refusable (Command.Merge target branch info)
+merge_refused target branch info r w = (plainly r w (Command.Merge target branch info) true Reply.Memory (λ h. tt), (refl, refl))
+
 -- ---- texts that are short
 
 pub ok_is_short : IsLong Reply.Accepted → ⊥
@@ -261,35 +265,36 @@ stat_is_short store r is long =
 -- ---- lines
 
 -- a place where the line goes wrong
-pub bad_line : (s : State) (line : Bytes) (place : ℕ) → IsBadAt IsServedLine line place → LineStep IsServedLine no_rules s line (conditions_of (met_only false)) (Reply.Bad place) s
-bad_line s line place bad = inr (record { at = place; bad = bad; unasked = refl; refused = λ h. absurd (cc h); reply_is = refl; same = refl })
+pub bad_line : (rule : Rule) (s : State) (line : Bytes) (place : ℕ) → IsBadAt IsServedLine line place → LineStep IsServedLine rule s line (conditions_of (met_only false)) (Reply.Bad place) s
+bad_line rule s line place bad = inr (record { at = place; bad = bad; unasked = refl; refused = λ h. absurd (cc h); reply_is = refl; same = refl })
 
 abbrev pub has_space : Bytes → Bool
 has_space line = list_any (λ b. b == space) line
 
 -- a line of more than one word may be refused memory
-pub line_refused : (r : Repository) (w : Work) (line : Bytes) → ((command : Command) × IsServedLine command line) ⊎ ((place : ℕ) × IsBadAt IsServedLine line place) → has_space line ≡ true
-    → LineStep IsServedLine no_rules (at r w) line (conditions_of (met_only true)) Reply.Memory (at r w)
-line_refused r w line (inr (place, bad)) words = inr (record { at = place; bad = bad; unasked = refl; refused = λ h. words; reply_is = refl; same = refl })
-line_refused r w line (inl (Command.Empty, is)) words = let one : has_space line ≡ false = ap has_space is.1 in absurd (cc (one, words))
-line_refused r w line (inl (Command.Stat, is)) words = let one : has_space line ≡ false = ap has_space is.1 in absurd (cc (one, words))
-line_refused r w line (inl (Command.Set path bytes, is)) words = inl (Command.Set path bytes, is, set_refused path bytes r w)
-line_refused r w line (inl (Command.Get path, is)) words = inl (Command.Get path, is, get_refused path r w)
-line_refused r w line (inl (Command.Checkout target, is)) words = inl (Command.Checkout target, is, checkout_refused target r w)
-line_refused r w line (inl (Command.Rm path, is)) words = inl (Command.Rm path, is, rm_refused path r w)
-line_refused r w line (inl (Command.Graft target from to, is)) words = inl (Command.Graft target from to, is, graft_refused target from to r w)
-line_refused r w line (inl (Command.List path, is)) words = inl (Command.List path, is, list_refused path r w)
-line_refused r w line (inl (Command.Cat target path, is)) words = inl (Command.Cat target path, is, cat_refused target path r w)
-line_refused r w line (inl (Command.Commit branch info, is)) words = inl (Command.Commit branch info, is, commit_refused branch info r w)
-line_refused r w line (inl (Command.Parent target, is)) words = inl (Command.Parent target, is, parent_refused target r w)
-line_refused r w line (inl (Command.Branch name target, is)) words = inl (Command.Branch name target, is, branch_refused name target r w)
-line_refused r w line (inl (Command.BranchRm name, is)) words = inl (Command.BranchRm name, is, branch_rm_refused name r w)
-line_refused r w line (inl (Command.Branches, is)) words = inl (Command.Branches, is, branches_refused r w)
-line_refused r w line (inl (Command.Show target, is)) words = inl (Command.Show target, is, show_refused target r w)
-line_refused r w line (inl (Command.Log target, is)) words = inl (Command.Log target, is, log_refused target r w)
-line_refused r w line (inl (Command.Lcas one other, is)) words = inl (Command.Lcas one other, is, lcas_refused one other r w)
-line_refused r w line (inl (Command.Hash bytes, is)) words = inl (Command.Hash bytes, is, hash_refused bytes r w)
-line_refused r w line (inl (_, is)) words = absurd is.0
+pub line_refused : (rule : Rule) (r : Repository) (w : Work) (line : Bytes) → ((command : Command) × IsServedLine command line) ⊎ ((place : ℕ) × IsBadAt IsServedLine line place) → has_space line ≡ true
+    → LineStep IsServedLine rule (at r w) line (conditions_of (met_only true)) Reply.Memory (at r w)
+line_refused rule r w line (inr (place, bad)) words = inr (record { at = place; bad = bad; unasked = refl; refused = λ h. words; reply_is = refl; same = refl })
+line_refused rule r w line (inl (Command.Empty, is)) words = let one : has_space line ≡ false = ap has_space is.1 in absurd (cc (one, words))
+line_refused rule r w line (inl (Command.Stat, is)) words = let one : has_space line ≡ false = ap has_space is.1 in absurd (cc (one, words))
+line_refused rule r w line (inl (Command.Set path bytes, is)) words = inl (Command.Set path bytes, is, set_refused path bytes r w)
+line_refused rule r w line (inl (Command.Get path, is)) words = inl (Command.Get path, is, get_refused path r w)
+line_refused rule r w line (inl (Command.Checkout target, is)) words = inl (Command.Checkout target, is, checkout_refused target r w)
+line_refused rule r w line (inl (Command.Rm path, is)) words = inl (Command.Rm path, is, rm_refused path r w)
+line_refused rule r w line (inl (Command.Graft target from to, is)) words = inl (Command.Graft target from to, is, graft_refused target from to r w)
+line_refused rule r w line (inl (Command.List path, is)) words = inl (Command.List path, is, list_refused path r w)
+line_refused rule r w line (inl (Command.Cat target path, is)) words = inl (Command.Cat target path, is, cat_refused target path r w)
+line_refused rule r w line (inl (Command.Commit branch info, is)) words = inl (Command.Commit branch info, is, commit_refused branch info r w)
+line_refused rule r w line (inl (Command.Merge target branch info, is)) words = inl (Command.Merge target branch info, is, merge_refused target branch info r w)
+line_refused rule r w line (inl (Command.Parent target, is)) words = inl (Command.Parent target, is, parent_refused target r w)
+line_refused rule r w line (inl (Command.Branch name target, is)) words = inl (Command.Branch name target, is, branch_refused name target r w)
+line_refused rule r w line (inl (Command.BranchRm name, is)) words = inl (Command.BranchRm name, is, branch_rm_refused name r w)
+line_refused rule r w line (inl (Command.Branches, is)) words = inl (Command.Branches, is, branches_refused r w)
+line_refused rule r w line (inl (Command.Show target, is)) words = inl (Command.Show target, is, show_refused target r w)
+line_refused rule r w line (inl (Command.Log target, is)) words = inl (Command.Log target, is, log_refused target r w)
+line_refused rule r w line (inl (Command.Lcas one other, is)) words = inl (Command.Lcas one other, is, lcas_refused one other r w)
+line_refused rule r w line (inl (Command.Hash bytes, is)) words = inl (Command.Hash bytes, is, hash_refused bytes r w)
+line_refused rule r w line (inl (_, is)) words = absurd is.0
 
 -- memory was refused, so there was more than one word
 pub has_words : (line : Bytes) (fault : LineFault) → fault ≡ LineFault.Memory → (IsFalse (has_space line) → ◌≢◌ {A = Result Command LineFault} (Err fault) (Err LineFault.Memory)) → has_space line ≡ true

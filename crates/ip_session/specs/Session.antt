@@ -1,7 +1,7 @@
 -- A session: the repository that it is in, and what its commands meet.
 --     IsIn session r      the store's tables are the repository's, and the work goes on from commits of it.      IsServing session      so it is in some repository
 --     IsWorking told session r v      the store holds the repository, and the work's tree has this view.      state_in session r v      the machine's state then
---     no_rules      the merge rules of a session that is handed none
+--     unasked      a rule for commands that ask none
 --     met_only refused      what a command meets that changes no file: nothing but want of memory, if that
 --     is_durable command      it may change files.      IsDurable reply command      and with this reply it did
 --     HasWords command      it is served, with the words that its line may have
@@ -12,11 +12,12 @@
 --     IsViewIn r v line reply view      the view of the work's tree after a line with this reply
 --     Goes old new s s' r v Changed Gives Views reply      a command or a line was run, of which they say the files changed, what the machine gives, and the view after it
 --     Cut old new s s' r v Touched Gives      a fault of the ground or of its files cut it short
---     GoesBy, CutBy .. command, GoesIn, CutIn .. line      so of a command, and of a line
+--     GoesBy, CutBy rule .. command, GoesIn, CutIn rule .. line      so of a command, and of a line, by the rules of merges
 --     IsHeld tells told session      the ground tells what the store holds, and the session works over it
 --     EndsBy held end      why a session has ended.      ground_end end      by a fault of the ground
 --     Fails fault met met' result      what comes of a call of the store that failed
---     tree_fault fault      a call on a tree fails as one of the store
+--     tree_fault fault      a call on a tree fails as one of the store.      end_of fault, IsEndOf fault end, EndsBecause made end      the session ends by it, or by what a call failed with
+--     IsNamed reply      a commit's name that a merge is answered with is no longer than a name
 --     IsLong reply      the text of such a reply may take memory.      Writes reply met met' text      it was written, or want of it
 use Rattle.std.specs.Prelude.{◌≡◌, ◌⊎◌, ◌<◌, ℕ, Bool, true, false, length, Option, IsTrue, IfOk, IsErr, Result, Ok, Err}
 use Rattle.ip_ground.specs.declared.names.FileName.{FileName}
@@ -30,7 +31,7 @@ use Rattle.ip_spec.specs.declared.met.Met.{Met}
 use Rattle.ip_spec.specs.declared.reply.Reply.{Reply}
 use Rattle.ip_spec.specs.Path.{Bytes, IsPath}
 use Rattle.ip_spec.specs.Machine.{State, Conditions}
-use Rattle.ip_spec.specs.Merge.{Rule, same_means}
+use Rattle.ip_spec.specs.Merge.{Rule}
 use Rattle.ip_spec.specs.Record.{IsBranchName, IsInfo}
 use Rattle.ip_spec.specs.Script.{LineStep}
 use Rattle.ip_spec.specs.Step.{Step}
@@ -63,8 +64,9 @@ IsWorking told s r v = IsAt told s.store r s.work v
 abbrev pub state_in : Session → Repository → View → State
 state_in s r v = session r s.work v
 
-abbrev pub no_rules : Rule
-no_rules path = same_means
+-- it has no answer: the steps of all commands but `merge` are the same by any rule
+abbrev pub unasked : Rule
+unasked path o a b merged = ⊥
 
 abbrev pub met_only : Bool → Met
 met_only refused = record met_nothing { refused = refused }
@@ -74,6 +76,7 @@ HasWords (Command.Set path bytes) = IsPath path
 HasWords (Command.Rm path) = IsPath path
 HasWords (Command.Graft target from to) = IsPath to
 HasWords (Command.Commit branch info) = IsBranchName branch × IsInfo info
+HasWords (Command.Merge target branch info) = IsBranchName branch × IsInfo info
 HasWords (Command.Branch name target) = IsBranchName name
 HasWords (Command.BranchRm name) = IsBranchName name
 HasWords command = IsServed command
@@ -88,12 +91,15 @@ Writes reply met met' text = ((met' ≡ met) × (text ≡ reply_text reply)) ⊎
 
 abbrev pub is_durable : Command → Bool
 is_durable (Command.Commit branch info) = true
+is_durable (Command.Merge target branch info) = true
 is_durable (Command.Branch name target) = true
 is_durable (Command.BranchRm name) = true
 is_durable command = false
 
 abbrev pub IsDurable : Reply → Command → Type 0
 IsDurable (Reply.Committed hash) (Command.Commit branch info) = Unit {0}
+IsDurable (Reply.Forward hash) (Command.Merge target branch info) = Unit {0}
+IsDurable (Reply.Merged hash) (Command.Merge target branch info) = Unit {0}
 IsDurable Reply.Accepted (Command.Branch name target) = Unit {0}
 IsDurable Reply.Accepted (Command.BranchRm name) = Unit {0}
 IsDurable reply command = ⊥
@@ -121,10 +127,10 @@ pub record IsSpared (s s' : State) (v view : View) (Gives : Conditions → Reply
 -- over the records of the store, which stay
 pub record IsAnswered (records : ℕ → Option Record) (s s' : Session) (r : Repository) (v : View) (command : Command) (reply : Reply) : Type 0 where
   pub view : View
-  pub gives : Step no_rules (state_in s r v) command (conditions_of s'.met) reply (state_in s' r view)
+  pub gives : Step unasked (state_in s r v) command (conditions_of s'.met) reply (state_in s' r view)
   pub lawful : IsLawful records r s'.work view
   pub seen : IsViewAfter r v command reply view
-  pub spared : IsLong reply → IsSpared (state_in s r v) (state_in s' r view) v view (Step no_rules (state_in s r v) command)
+  pub spared : IsLong reply → IsSpared (state_in s r v) (state_in s' r view) v view (Step unasked (state_in s r v) command)
 
 pub record HasRead (tells : Bool) (old new : Told) (s s' : Session) (command : Command) (result : Result Reply SessionEnd) : Type 0 where
   pub tables : (r : Repository) → IsIn s r → IsIn s' r
@@ -158,17 +164,17 @@ pub record Cut (old new : Told) (s s' : Session) (r : Repository) (v : View) (To
   pub only : ChangesOnly Touched old new
   pub atomic : NothingPending old → IsAtomic old new r after.repository
 
-abbrev pub GoesBy : Told → Told → Session → Session → Repository → View → Command → Reply → Type 0
-GoesBy old new s s' r v command = Goes old new s s' r v (ChangedBy old.held command) (Step no_rules (state_in s r v) command) (IsViewAfter r v command)
+abbrev pub GoesBy : Rule → Told → Told → Session → Session → Repository → View → Command → Reply → Type 0
+GoesBy rule old new s s' r v command = Goes old new s s' r v (ChangedBy old.held command) (Step rule (state_in s r v) command) (IsViewAfter r v command)
 
-abbrev pub GoesIn : Told → Told → Session → Session → Repository → View → Bytes → Reply → Type 0
-GoesIn old new s s' r v line = Goes old new s s' r v (ChangedIn old.held line) (LineStep IsServedLine no_rules (state_in s r v) line) (IsViewIn r v line)
+abbrev pub GoesIn : Rule → Told → Told → Session → Session → Repository → View → Bytes → Reply → Type 0
+GoesIn rule old new s s' r v line = Goes old new s s' r v (ChangedIn old.held line) (LineStep IsServedLine rule (state_in s r v) line) (IsViewIn r v line)
 
-abbrev pub CutBy : Told → Told → Session → Session → Repository → View → Command → Type 0
-CutBy old new s s' r v command = Cut old new s s' r v (TouchedBy old.held command) (Step no_rules (state_in s r v) command)
+abbrev pub CutBy : Rule → Told → Told → Session → Session → Repository → View → Command → Type 0
+CutBy rule old new s s' r v command = Cut old new s s' r v (TouchedBy old.held command) (Step rule (state_in s r v) command)
 
-abbrev pub CutIn : Told → Told → Session → Session → Repository → View → Bytes → Type 0
-CutIn old new s s' r v line = Cut old new s s' r v (TouchedIn old.held line) (LineStep IsServedLine no_rules (state_in s r v) line)
+abbrev pub CutIn : Rule → Told → Told → Session → Session → Repository → View → Bytes → Type 0
+CutIn rule old new s s' r v line = Cut old new s s' r v (TouchedIn old.held line) (LineStep IsServedLine rule (state_in s r v) line)
 
 abbrev pub IsHeld : Bool → Told → Session → Type 0
 IsHeld tells told s = IsTrue tells × ((r : Repository) × (v : View) × IsWorking told s r v)
@@ -196,3 +202,22 @@ abbrev pub tree_fault : TreeFault → StoreFault
 tree_fault (TreeFault.Limit limit) = StoreFault.Limit limit
 tree_fault (TreeFault.Fetch fault) = fault_from fault
 tree_fault TreeFault.Memory = StoreFault.Memory
+
+abbrev pub end_of : StoreFault → SessionEnd
+end_of (StoreFault.Damaged at names) = SessionEnd.Damaged at names
+end_of fault = SessionEnd.Ground
+
+-- a fault that has no reply
+abbrev pub IsEndOf : StoreFault → SessionEnd → Type 0
+IsEndOf StoreFault.Ground end = end ≡ SessionEnd.Ground
+IsEndOf (StoreFault.Damaged at names) end = end ≡ SessionEnd.Damaged at names
+IsEndOf fault end = ⊥
+
+abbrev pub EndsBecause : {A : Type 0} → Result A StoreFault → SessionEnd → Type 0
+EndsBecause (Ok x) end = ⊥
+EndsBecause (Err fault) end = IsEndOf fault end
+
+abbrev pub IsNamed : Reply → Type 0
+IsNamed (Reply.Forward name) = length name ≡ 32
+IsNamed (Reply.Merged name) = length name ≡ 32
+IsNamed reply = Unit {0}

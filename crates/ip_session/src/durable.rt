@@ -1,16 +1,18 @@
 // The commands that may change files.
-ghost use Rattle.std.specs.Prelude.{◌≡◌, false, IfErr};
+ghost use Rattle.std.specs.Prelude.{◌≡◌, false, IsTrue, IfErr};
 ghost use Rattle.ip_ground.specs.Counts.{Counts};
 ghost use Rattle.ip_spec.specs.declared.command.Target.{Target};
 ghost use Rattle.ip_spec.specs.declared.command.Command.TheVariants as Command;
 ghost use Rattle.ip_spec.specs.Record.{IsBranchName, IsInfo};
+ghost use Rattle.ip_merge.specs.Rules.{IsDecisive};
 ghost use Rattle.ip_session.specs.Running.{Runs};
-ghost use Rattle.ip_session.specs.Session.{ground_end, met_only, IsHeld, EndsBy};
+ghost use Rattle.ip_session.specs.Session.{ground_end, met_only, unasked, IsHeld, EndsBy};
 
-use crate::replies::{branch_reply, removed_reply, reply_to};
+use crate::replies::{branch_reply, merge_answer, removed_reply, reply_to};
 use crate::session::{Session, SessionEnd, resolve};
 use ip_base::{Blob, Info};
 use ip_ground::Ground;
+use ip_merge::Decides;
 use ip_script::{Reply, Target};
 
 impl Session {
@@ -27,7 +29,7 @@ impl Session {
         requires info { IsInfo info }
         requires met { self.old.met ≡ met_only false }
         requires tables { IsServing self.old }
-        ensures runs { Runs G.tells (G.told ground.old) (G.told ground.new) self.old self.new (Command.Commit branch.now info) result }
+        ensures runs { Runs (IsTrue G.tells) unasked (G.told ground.old) (G.told ground.new) self.old self.new (Command.Commit branch.now info) result }
         ensures counts { Counts ground_end result (G.counts_of ground.old) (G.counts_of ground.new) }
         ensures cause { IfErr result (EndsBy (IsHeld G.tells (G.told ground.old) self.old)) }
     {
@@ -43,6 +45,39 @@ impl Session {
         }
     }
 
+    // Merges the commit that a reference names into a branch, by these rules. The work stays as it is.
+    pub(crate) fn merge<G: Ground, D: Decides>(
+        &mut self,
+        ground: &mut G,
+        target: Target,
+        branch: Blob,
+        info: Info,
+        rules: &D,
+    ) -> Result<Reply, SessionEnd>
+        requires branch { IsBranchName branch }
+        requires info { IsInfo info }
+        requires met { self.old.met ≡ met_only false }
+        requires tables { IsServing self.old }
+        ensures runs { Runs (IsTrue G.tells × IsDecisive (D.rule rules.now)) (D.rule rules.now) (G.told ground.old) (G.told ground.new) self.old self.new (Command.Merge target branch info) result }
+        ensures counts { Counts ground_end result (G.counts_of ground.old) (G.counts_of ground.new) }
+        ensures cause { IsDecisive (D.rule rules.now) → IfErr result (EndsBy (IsHeld G.tells (G.told ground.old) self.old)) }
+    {
+        let number = match resolve(&self.store, target) {
+            Ok(number) => number,
+            Err(reply) => return Ok(reply),
+        };
+        let made = self
+            .store
+            .merge_into(self.alloc, ground, number, branch.as_slice(), info, rules);
+        match merge_answer(branch, made) {
+            Ok(reply) => {
+                self.met = self.store.met();
+                Ok(reply)
+            }
+            Err(end) => Err(end),
+        }
+    }
+
     // Puts a branch at the commit that a reference names.
     pub(crate) fn set_branch<G: Ground>(
         &mut self,
@@ -53,7 +88,7 @@ impl Session {
         requires name { IsBranchName name.now }
         requires met { self.old.met ≡ met_only false }
         requires tables { IsServing self.old }
-        ensures runs { Runs G.tells (G.told ground.old) (G.told ground.new) self.old self.new (Command.Branch name.now target) result }
+        ensures runs { Runs (IsTrue G.tells) unasked (G.told ground.old) (G.told ground.new) self.old self.new (Command.Branch name.now target) result }
         ensures counts { Counts ground_end result (G.counts_of ground.old) (G.counts_of ground.new) }
         ensures cause { IfErr result (EndsBy (IsHeld G.tells (G.told ground.old) self.old)) }
     {
@@ -80,7 +115,7 @@ impl Session {
         requires name { IsBranchName name }
         requires met { self.old.met ≡ met_only false }
         requires tables { IsServing self.old }
-        ensures runs { Runs G.tells (G.told ground.old) (G.told ground.new) self.old self.new (Command.BranchRm name) result }
+        ensures runs { Runs (IsTrue G.tells) unasked (G.told ground.old) (G.told ground.new) self.old self.new (Command.BranchRm name) result }
         ensures counts { Counts ground_end result (G.counts_of ground.old) (G.counts_of ground.new) }
         ensures cause { IfErr result (EndsBy (IsHeld G.tells (G.told ground.old) self.old)) }
     {

@@ -1,18 +1,19 @@
 // What a session answers, and what it meets.
-ghost use Rattle.std.specs.Prelude.{◌≡◌, ◌≤◌, [], true, IfOk, length};
+ghost use Rattle.std.specs.Prelude.{◌≡◌, ◌≤◌, [], true, IfOk, IfErr, length};
 ghost use Rattle.std.specs.Vec.{vec_capacity};
 ghost use Rattle.ip_spec.specs.declared.reply.Reply.TheVariants as Reply;
 ghost use Rattle.ip_spec.specs.Step.{got_reply, listed_reply};
 ghost use Rattle.ip_store.specs.Commits.{fault_reply, reply_to};
+ghost use Rattle.ip_store.specs.Merging.{merge_reply};
 ghost use Rattle.ip_store.specs.Naming.{branch_reply, removed_reply};
-ghost use Rattle.ip_session.specs.Session.{met_only, Writes, Fails, tree_fault};
+ghost use Rattle.ip_session.specs.Session.{met_only, Writes, Fails, tree_fault, end_of, IsEndOf, EndsBecause, IsNamed};
 
 use crate::session::SessionEnd;
 use ip_base::{Blob, Hash};
 use ip_script::{Reply, reply_text};
 use ip_spec::met::{Child, Met};
 use ip_spec::tree::{Got, Listed};
-use ip_store::{Shown, StoreFault};
+use ip_store::{Merge, Shown, StoreFault};
 use ip_tree::TreeFault;
 
 // Nothing is met outside the session, and memory was refused or not.
@@ -117,6 +118,69 @@ pub(crate) fn removed_reply(name: Blob, made: &Result<bool, StoreFault>) -> Opti
         Ok(true) => Some(Reply::Accepted),
         Ok(false) => Some(Reply::NoBranch(name)),
         Err(refusal) => fault_reply(refusal),
+    }
+}
+
+// What a merge into the branch of this name is answered with, or why the session ends.
+pub(crate) fn merge_answer(
+    branch: Blob,
+    made: Result<Merge, StoreFault>,
+) -> Result<Reply, SessionEnd>
+    ensures reply { IfOk result (λ reply. merge_reply branch made ≡ Some reply) }
+    ensures end { IfErr result (EndsBecause made) }
+    ensures long { IfOk result IsNamed }
+{
+    match made {
+        Ok(merge) => Ok(merged_reply(branch, merge)),
+        Err(fault) => fault_answer(fault),
+    }
+}
+
+// What a call of the store is answered with that was not done, or why the session ends.
+fn fault_answer(fault: StoreFault) -> Result<Reply, SessionEnd>
+    ensures reply { IfOk result (λ reply. fault_reply fault ≡ Some reply) }
+    ensures end { IfErr result (IsEndOf fault) }
+    ensures long { IfOk result IsNamed }
+{
+    match fault_reply(&fault) {
+        Some(reply) => Ok(reply),
+        None => Err(end_of(fault)),
+    }
+}
+
+// Why the session ends by a fault that has no answer.
+fn end_of(fault: StoreFault) -> SessionEnd
+    ensures { result ≡ end_of fault }
+{
+    match fault {
+        StoreFault::Damaged { at, names } => SessionEnd::Damaged { at, names },
+        StoreFault::Ground
+        | StoreFault::HeadMoved(_)
+        | StoreFault::Existing(_)
+        | StoreFault::Limit(_)
+        | StoreFault::Memory => SessionEnd::Ground,
+    }
+}
+
+// What a merge that came to this is answered with.
+fn merged_reply(branch: Blob, merge: Merge) -> Reply
+    ensures reply { merge_reply branch (Ok merge) ≡ Some result }
+    ensures long { IsNamed result }
+{
+    match merge {
+        Merge::Current(name) => Reply::Current(name),
+        Merge::Forward(name) => {
+            // It says how long a name is.
+            name.as_slice();
+            Reply::Forward(name)
+        }
+        Merge::Merged(name) => {
+            name.as_slice();
+            Reply::Merged(name)
+        }
+        Merge::NoBranch => Reply::NoBranch(branch),
+        Merge::Bases(count) => Reply::Bases(count),
+        Merge::Conflict(path) => Reply::Conflict(path),
     }
 }
 

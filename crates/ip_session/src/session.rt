@@ -16,6 +16,7 @@ ghost use Rattle.ip_spec.specs.Text.{reply_text};
 ghost use Rattle.ip_store.specs.Commits.{met_nothing};
 ghost use Rattle.ip_store.specs.Store.{IsOf};
 ghost use Rattle.ip_store.specs.Work.{IsLawful};
+ghost use Rattle.ip_merge.specs.Rules.{IsDecisive};
 ghost use Rattle.ip_session.specs.Placing.{PlacedIn};
 ghost use Rattle.ip_session.specs.Running.{Runs};
 ghost use Rattle.ip_session.specs.Session.{ground_end, met_only, IsHeld, EndsBy};
@@ -24,6 +25,7 @@ use crate::replies::{met_only, put_reply, refuse};
 use ip_base::limit::PARENTS_MAX;
 use ip_base::{Hash, Items, Limit, Number};
 use ip_ground::Ground;
+use ip_merge::Decides;
 use ip_script::{Command, LineFault, Reply, Target, read_line};
 use ip_spec::met::{Met, Phase};
 use ip_store::{Store, Work};
@@ -217,13 +219,18 @@ impl Session {
     }
 
     // Runs a command.
-    fn run<G: Ground>(&mut self, ground: &mut G, command: Command) -> Result<Reply, SessionEnd>
+    fn run<G: Ground, D: Decides>(
+        &mut self,
+        ground: &mut G,
+        command: Command,
+        rules: &D,
+    ) -> Result<Reply, SessionEnd>
         requires words { HasWords command }
         requires met { self.old.met ≡ met_only false }
         requires tables { IsServing self.old }
-        ensures runs { Runs G.tells (G.told ground.old) (G.told ground.new) self.old self.new command result }
+        ensures runs { Runs (IsTrue G.tells × IsDecisive (D.rule rules.now)) (D.rule rules.now) (G.told ground.old) (G.told ground.new) self.old self.new command result }
         ensures counts { Counts ground_end result (G.counts_of ground.old) (G.counts_of ground.new) }
-        ensures cause { IfErr result (EndsBy (IsHeld G.tells (G.told ground.old) self.old)) }
+        ensures cause { IsDecisive (D.rule rules.now) → IfErr result (EndsBy (IsHeld G.tells (G.told ground.old) self.old)) }
     {
         match command {
             // It asks nothing of the ground.
@@ -248,6 +255,11 @@ impl Session {
             Command::Show(target) => self.show(ground, target),
             // It may change files.
             Command::Commit { branch, info } => self.commit(ground, branch.as_slice(), info),
+            Command::Merge {
+                target,
+                branch,
+                info,
+            } => self.merge(ground, target, branch, info, rules),
             Command::Branch { name, target } => self.set_branch(ground, name.as_slice(), target),
             Command::BranchRm(name) => self.remove_branch(ground, name),
             // No other is served.
@@ -255,34 +267,40 @@ impl Session {
         }
     }
 
-    /// Runs a line's command. At `Err` a fault of the ground or of its files cut it short, and the session has ended.
-    pub fn step<G: Ground>(&mut self, ground: &mut G, line: &[u8]) -> Result<Reply, SessionEnd>
+    /// Runs a line's command, a merge by these rules. At `Err` a fault of the ground or of its files cut it short, and the session has ended.
+    pub fn step<G: Ground, D: Decides>(
+        &mut self,
+        ground: &mut G,
+        line: &[u8],
+        rules: &D,
+    ) -> Result<Reply, SessionEnd>
         requires tables { IsServing self.old }
         ensures tables { IfOk result (λ reply. IsServing self.new) }
-        ensures goes { IsTrue G.tells → (r : Repository) (v : View) → IsWorking (G.told ground.old) self.old r v →
-            IfOk result (GoesIn (G.told ground.old) (G.told ground.new) self.old self.new r v line.now) }
-        ensures placed { IsTrue G.tells → (r : Repository) (v : View) → IsWorking (G.told ground.old) self.old r v →
-            IfOk result (PlacedIn self.old.store.slot self.new.store.slot (state_in self.old r v) v line.now) }
-        ensures cut { IsTrue G.tells → (r : Repository) (v : View) → IsWorking (G.told ground.old) self.old r v →
-            OnErr result (CutIn (G.told ground.old) (G.told ground.new) self.old self.new r v line.now) }
+        ensures goes { IsTrue G.tells → IsDecisive (D.rule rules.now) → (r : Repository) (v : View) → IsWorking (G.told ground.old) self.old r v →
+            IfOk result (GoesIn (D.rule rules.now) (G.told ground.old) (G.told ground.new) self.old self.new r v line.now) }
+        ensures placed { IsTrue G.tells → IsDecisive (D.rule rules.now) → (r : Repository) (v : View) → IsWorking (G.told ground.old) self.old r v →
+            IfOk result (PlacedIn (D.rule rules.now) self.old.store.slot self.new.store.slot (state_in self.old r v) v line.now) }
+        ensures cut { IsTrue G.tells → IsDecisive (D.rule rules.now) → (r : Repository) (v : View) → IsWorking (G.told ground.old) self.old r v →
+            OnErr result (CutIn (D.rule rules.now) (G.told ground.old) (G.told ground.new) self.old self.new r v line.now) }
         ensures counts { Counts ground_end result (G.counts_of ground.old) (G.counts_of ground.new) }
-        ensures cause { IfErr result (EndsBy (IsHeld G.tells (G.told ground.old) self.old)) }
+        ensures cause { IsDecisive (D.rule rules.now) → IfErr result (EndsBy (IsHeld G.tells (G.told ground.old) self.old)) }
     {
         self.met = met_only(false);
         match read_line(self.alloc, line) {
-            Ok(command) => self.run(ground, command),
+            Ok(command) => self.run(ground, command, rules),
             Err(LineFault::Bad(at)) => Ok(Reply::Bad(at)),
             Err(LineFault::Memory) => Ok(refuse(&mut self.met)),
         }
     }
 
-    /// Runs a line's command, and writes its reply's text into an empty one. There is room for 4096 bytes; a longer text
+    /// Runs a line's command, a merge by these rules, and writes its reply's text into an empty one. There is room for 4096 bytes; a longer text
     /// may be refused memory, and then the reply is that. At `Err` a fault of the ground or of its files cut the command
     /// short: it has no text, and the session has ended.
-    pub fn answer<G: Ground>(
+    pub fn answer<G: Ground, D: Decides>(
         &mut self,
         ground: &mut G,
         line: &[u8],
+        rules: &D,
         text: &mut Vec<u8>,
     ) -> Result<(), SessionEnd>
         requires empty { text.old.items ≡ [] }
@@ -291,15 +309,15 @@ impl Session {
         ensures room { vec_capacity text.old ≤ vec_capacity text.new }
         ensures silent { OnErr result (text.new.items ≡ []) }
         ensures tables { OnOk result (IsServing self.new) }
-        ensures goes { OnOk result ((reply : Reply) × (text.new.items ≡ reply_text reply) × (IsTrue G.tells → (r : Repository) (v : View) → IsWorking (G.told ground.old) self.old r v →
-            GoesIn (G.told ground.old) (G.told ground.new) self.old self.new r v line.now reply
-            × PlacedIn self.old.store.slot self.new.store.slot (state_in self.old r v) v line.now reply)) }
-        ensures cut { IsTrue G.tells → (r : Repository) (v : View) → IsWorking (G.told ground.old) self.old r v →
-            OnErr result (CutIn (G.told ground.old) (G.told ground.new) self.old self.new r v line.now) }
+        ensures goes { OnOk result ((reply : Reply) × (text.new.items ≡ reply_text reply) × (IsTrue G.tells → IsDecisive (D.rule rules.now) → (r : Repository) (v : View) → IsWorking (G.told ground.old) self.old r v →
+            GoesIn (D.rule rules.now) (G.told ground.old) (G.told ground.new) self.old self.new r v line.now reply
+            × PlacedIn (D.rule rules.now) self.old.store.slot self.new.store.slot (state_in self.old r v) v line.now reply)) }
+        ensures cut { IsTrue G.tells → IsDecisive (D.rule rules.now) → (r : Repository) (v : View) → IsWorking (G.told ground.old) self.old r v →
+            OnErr result (CutIn (D.rule rules.now) (G.told ground.old) (G.told ground.new) self.old self.new r v line.now) }
         ensures counts { Counts ground_end result (G.counts_of ground.old) (G.counts_of ground.new) }
-        ensures cause { IfErr result (EndsBy (IsHeld G.tells (G.told ground.old) self.old)) }
+        ensures cause { IsDecisive (D.rule rules.now) → IfErr result (EndsBy (IsHeld G.tells (G.told ground.old) self.old)) }
     {
-        match self.step(ground, line) {
+        match self.step(ground, line, rules) {
             Err(end) => Err(end),
             Ok(reply) => {
                 put_reply(&reply, &mut self.met, text);

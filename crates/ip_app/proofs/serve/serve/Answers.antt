@@ -1,27 +1,33 @@
-use Rattle.std.proofs.Common.{rules, ℕ, ◌-◌, ◌^◌, ◌≤◌, arith, refl, sym, ap, ◌∙◌, subst}
+use Rattle.std.proofs.Common.{rules, true, false, IsTrue, ℕ, ◌-◌, ◌^◌, ◌≤◌, arith, refl, sym, ap, ◌∙◌, subst}
 use Rattle.std.proofs.Math.Nat.{le_refl}
 use Rattle.ip_ground.specs.declared.names.GroundCounts.{GroundCounts}
 use Rattle.ip_image.specs.declared.counts.TurnCounts.{TurnCounts}
+use Rattle.ip_spec.specs.Merge.{Rule}
+use Rattle.ip_merge.specs.Rules.{IsDecisive}
 use Rattle.ip_app.specs.declared.statuses.Status.TheVariants as status
 use Rattle.ip_app.specs.Turns.{turn_counts}
 use Rattle.ip_app.proofs.Counting.{falls_same, falls_of}
 use Rattle.ip_app.proofs.EndingLaw.{ends_as_bytes}
-use Rattle.ip_app.proofs.LivePair.{live_in, known_or_not}
+use Rattle.ip_app.proofs.LivePair.{live_in, known_or_not, with_flag}
 use Rattle.ip_app.proofs.RunLemmas.{serves_stop, served_first, served_more, ends_by_script, begins_unopened}
 use Rattle.ip_spec.specs.View.{no_view}
 use Rattle.ip_session.proofs.Beginning.{begins_working}
 use Rattle.ip_app.proofs.serve.serve.Goals as goal
 
+-- of rules that are not known to be decisive
+undecided : (rule : Rule) → IsTrue false → IsDecisive rule
+undecided rule h = absurd (cc h)
+
 pub returns-in-Err-clause-serves : goal.returns-in-Err-clause-serves
-returns-in-Err-clause-serves g c =
+returns-in-Err-clause-serves g c decisive by_rule =
     let files : c.counts.result.file_faults ≤ 2 ^ 64 - 1 = search rules in
     let says : c.counts.result.say_faults ≤ 2 ^ 64 - 1 = search rules in
     let falls = falls_of c.in-Err.status _ _ (subst (λ (n : GroundCounts). n.file_faults ≤ 2 ^ 64 - 1) c.counts.ensures files) (subst (λ (n : GroundCounts). n.say_faults ≤ 2 ^ 64 - 1) c.counts.ensures says) c.in-Err.ensures.counted in
-    begins_unopened _ _ _ (record { source_tells = refl; ground_tells = refl; log_tells = λ t. t; read_faults = le_refl (g.S.Source.read_faults c.args.source.now); counts = falls })
+    begins_unopened _ decisive _ _ _ (record { source_tells = refl; ground_tells = refl; log_tells = λ t. t; read_faults = le_refl (g.S.Source.read_faults c.args.source.now); counts = falls })
     c.open_in.ensures.only c.open_in.ensures.opening refl refl refl c.in-Err.ensures.refused c.in-Err.ensures.counted
 
 pub returns-in_default-clause-serves : goal.returns-in_default-clause-serves
-returns-in_default-clause-serves g c = begins_unopened _ _ status.Memory (record { source_tells = refl; ground_tells = refl; log_tells = λ t. t; read_faults = le_refl (g.S.Source.read_faults c.args.source.now); counts = falls_same _ _ c.in-Ok.ensures.no_fault })
+returns-in_default-clause-serves g c decisive by_rule = begins_unopened _ decisive _ _ status.Memory (record { source_tells = refl; ground_tells = refl; log_tells = λ t. t; read_faults = le_refl (g.S.Source.read_faults c.args.source.now); counts = falls_same _ _ c.in-Ok.ensures.no_fault })
     c.open_in.ensures.only c.open_in.ensures.opening refl refl refl tt c.in-Ok.ensures.no_fault
 
 pub lines-init : goal.lines-init
@@ -29,7 +35,7 @@ lines-init g c =
     let opened = c.in-Ok.ensures.opened in
     record {
       roomy = c.in-Ok-new.ensures.roomy;
-      served = served_first _ _ c.in-Ok-new.room.lines c.turn_counts-counts.result c.new-session.result opened.repository no_view refl (known_or_not g.G.Ground.tells _ (λ told owns. live_in _ _ (opened.stands told owns))) (opened.repository, c.new-session.ensures.is_in opened.repository opened.tables) (c.new-session.ensures.state opened.repository)
+      served = λ decisive by_rule. served_first _ decisive by_rule _ _ c.in-Ok-new.room.lines c.turn_counts-counts.result c.new-session.result opened.repository no_view refl (with_flag _ decisive (known_or_not g.G.Ground.tells _ (λ told owns. live_in _ _ (opened.stands told owns)))) (opened.repository, c.new-session.ensures.is_in opened.repository opened.tables) (c.new-session.ensures.state opened.repository)
           (λ tells. begins_working _ c.new-session.result _ opened.repository c.new-session.ensures.store c.new-session.ensures.lawful (opened.holds tells.0 tells.1)) (λ tells. opened.stands tells.0 tells.1) opened.opening (λ tells. opened.over tells.0 tells.1) (c.turn_counts-counts.ensures ∙ ap turn_counts c.counts.ensures) c.in-Ok.ensures.no_fault refl
           (record { source_tells = refl; ground_tells = refl; log_tells = λ t. t; read_faults = le_refl (g.S.Source.read_faults c.args.source.now); counts = falls_same _ _ c.in-Ok.ensures.no_fault })
           c.open_in.ensures.only refl refl c.in-Ok-new.ensures.pending c.in-Ok-new.ensures.taken;
@@ -37,7 +43,7 @@ lines-init g c =
 
 pub turn-requires : goal.turn-requires
 turn-requires g c =
-    let served = c.lines.invariant.served in
+    let served = c.lines.invariant.served false (undecided _) in
     let told : c.counts.result.file_faults ≤ 2 ^ 64 - 1 = search rules in
     record {
       roomy = c.lines.invariant.roomy;
@@ -47,38 +53,37 @@ turn-requires g c =
     }
 
 pub returns-in-Err-turn-clause-serves : goal.returns-in-Err-turn-clause-serves
-returns-in-Err-turn-clause-serves g c =
-    let served = c.lines.invariant.served in
-    serves_stop c.in-Err-turn.status _ _ _ c.lines.room.lines c.turn.new.self.lines c.lines.counts c.turn.new.counts c.lines.session served (c.in-Err-turn.ensures.stops served.known served.repository served.view (λ is. (served.tells is, served.working is)))
+returns-in-Err-turn-clause-serves g c decisive by_rule =
+    let served = c.lines.invariant.served decisive by_rule in
+    serves_stop _ decisive c.in-Err-turn.status _ _ _ c.lines.room.lines c.turn.new.self.lines c.lines.counts c.turn.new.counts c.lines.session served (c.in-Err-turn.ensures.stops served.known served.repository served.view (λ is. ((served.tells is).0, served.working is, served.is_decisive is)))
 
 pub lines-preserved : goal.lines-preserved
 lines-preserved g c =
-    let served = c.lines.invariant.served in
     record {
       roomy = c.turn.ensures.roomy;
-      served = served_more _ _ _ c.lines.room.lines c.turn.new.self.lines c.lines.counts c.turn.new.counts c.lines.session c.turn.new.session served (c.in_default-turn.ensures.turned served.known served.repository served.view (λ is. (served.tells is, served.working is)));
+      served = λ decisive by_rule. let served = c.lines.invariant.served decisive by_rule in served_more _ decisive _ _ _ c.lines.room.lines c.turn.new.self.lines c.lines.counts c.turn.new.counts c.lines.session c.turn.new.session served (c.in_default-turn.ensures.turned served.known served.repository served.view (λ is. ((served.tells is).0, served.working is, served.is_decisive is)));
     }
 
 pub lines-smaller : goal.lines-smaller
 lines-smaller g c =
-    let served = c.lines.invariant.served in
-    let turned = (c.in_default-turn.ensures.turned served.known served.repository served.view (λ is. (served.tells is, served.working is))).turned in
+    let served = c.lines.invariant.served false (undecided _) in
+    let turned = (c.in_default-turn.ensures.turned served.known served.repository served.view (λ is. ((served.tells is).0, served.working is, served.is_decisive is))).turned in
     omega (arith, turned.count, c.turn.ensures.roomy.ready.few, served.count)
 
 pub returns-in-Err-clause-complete : goal.returns-in-Err-clause-complete
-returns-in-Err-clause-complete g c = let done = returns-in-Err-clause-serves g c in ends_by_script _ _ _ done.taken done.row done.notes.counted
+returns-in-Err-clause-complete g c decisive = let done = returns-in-Err-clause-serves g c true (λ is. decisive) in ends_by_script true refl _ _ _ done.taken done.row done.notes.counted
 
 pub returns-in_default-clause-complete : goal.returns-in_default-clause-complete
-returns-in_default-clause-complete g c = let done = returns-in_default-clause-serves g c in ends_by_script status.Memory _ _ done.taken done.row done.notes.counted
+returns-in_default-clause-complete g c decisive = let done = returns-in_default-clause-serves g c true (λ is. decisive) in ends_by_script true refl status.Memory _ _ done.taken done.row done.notes.counted
 
 pub returns-in-Err-turn-clause-complete : goal.returns-in-Err-turn-clause-complete
-returns-in-Err-turn-clause-complete g c = let done = returns-in-Err-turn-clause-serves g c in ends_by_script _ _ _ done.taken done.row done.notes.counted
+returns-in-Err-turn-clause-complete g c decisive = let done = returns-in-Err-turn-clause-serves g c true (λ is. decisive) in ends_by_script true refl _ _ _ done.taken done.row done.notes.counted
 
 pub returns-in-Err-clause-bytes : goal.returns-in-Err-clause-bytes
-returns-in-Err-clause-bytes g c = ends_as_bytes _ _ _ (returns-in-Err-clause-serves g c)
+returns-in-Err-clause-bytes g c = ends_as_bytes _ false _ _ _ (returns-in-Err-clause-serves g c false (undecided _))
 
 pub returns-in_default-clause-bytes : goal.returns-in_default-clause-bytes
-returns-in_default-clause-bytes g c = ends_as_bytes _ _ status.Memory (returns-in_default-clause-serves g c)
+returns-in_default-clause-bytes g c = ends_as_bytes _ false _ _ status.Memory (returns-in_default-clause-serves g c false (undecided _))
 
 pub returns-in-Err-turn-clause-bytes : goal.returns-in-Err-turn-clause-bytes
-returns-in-Err-turn-clause-bytes g c = ends_as_bytes _ _ _ (returns-in-Err-turn-clause-serves g c)
+returns-in-Err-turn-clause-bytes g c = ends_as_bytes _ false _ _ _ (returns-in-Err-turn-clause-serves g c false (undecided _))

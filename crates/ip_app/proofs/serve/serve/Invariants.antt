@@ -1,4 +1,5 @@
-use Rattle.std.proofs.Common.{◌-◌, ◌^◌, length}
+use Rattle.std.proofs.Common.{◌-◌, ◌^◌, length, Bool, IsTrue}
+use Rattle.ip_merge.specs.Rules.{IsDecisive}
 use Rattle.ip_app.specs.Outside.{outside}
 use Rattle.ip_app.specs.Serving.{Served}
 use Rattle.ip_app.specs.Rooms.{IsRoomy}
@@ -10,7 +11,7 @@ invariant-lines g l =
     let told = outside g.S.Source.tells g.S.Source.left g.S.Source.read_faults g.G.Ground.tells g.G.Ground.told g.G.Ground.counts_of g.L.Log.tells g.L.Log.turns in
     record {
       roomy : IsRoomy l.room;
-      served : Served (told l.fn.source l.fn.ground l.fn.log) (told l.source l.ground l.log) l.room.lines l.counts l.session;
+      served : (decisive : Bool) → (IsTrue decisive → IsDecisive (g.D.Decides.rule l.fn.rules)) → Served (g.D.Decides.rule l.fn.rules) decisive (told l.fn.source l.fn.ground l.fn.log) (told l.source l.ground l.log) l.room.lines l.counts l.session;
     }
 
 abbrev pub decreases-lines : goal.decreases-lines

@@ -17,7 +17,7 @@ use Rattle.ip_app.proofs.TurnLemmas.{exchange_of, turned_of, files_of, said_of, 
 use Rattle.ip_app.proofs.serve.LineRoom.turn.Goals as goal
 
 pub returns-in-Err-clause-stops : goal.returns-in-Err-clause-stops
-returns-in-Err-clause-stops g c known r v works = stops_reading c.in-Err.status known _ _ _ _ _ _ (state_in c.args.session.now r v) (record {
+returns-in-Err-clause-stops g c known r v works = stops_reading _ c.in-Err.status known _ _ _ _ _ _ (state_in c.args.session.now r v) (record {
   rest = c.next_line.new.line.items;
   goes_on = record { source_tells = refl; ground_tells = refl; log_tells = λ tells. tells; read_faults = c.next_line.ensures.faults; counts = falls_itself (g.G.Ground.counts_of c.args.ground.now) };
   files = keeps_itself (g.G.Ground.told c.args.ground.now);
@@ -38,7 +38,7 @@ returns-in-Err-clause-stops g c known r v works = stops_reading c.in-Err.status 
 pub returns-in-Ok-say-clause-turned : goal.returns-in-Ok-say-clause-turned
 returns-in-Ok-say-clause-turned g c known r v works =
     let answered = c.in-Ok.ensures.goes in
-    let went = went_to known _ _ c.args.session.now c.answer-answered.new.self r v c.deref.result.now answered.0 (λ is. let w = works is in (answered.2 w.0 r v w.1).0) in
+    let went = went_to _ known _ _ c.args.session.now c.answer-answered.new.self r v c.deref.result.now answered.0 (λ is. let w = works is in (answered.2 w.0 w.2 r v w.1).0) in
     let goes = went.1 in
     let text = c.deref-in-Ok.ensures.value ∙ answered.1 in
     let same = c.in-Ok-say.ensures.counts ∙ c.in-Ok.ensures.counts in
@@ -46,13 +46,13 @@ returns-in-Ok-say-clause-turned g c known r v works =
       exchange = exchange_of c.next_line.new.line.items c.met.result c.args.counts.now c.turn_counts.result answered.0 (state_in c.answer-answered.new.self went.0.0 went.0.1);
       after = went.0.0;
       view = went.0.1;
-      turned = turned_of known _ _ _ _ _ _ _ _ _ _ _ _ answered.0 (g.G.Ground.counts_of c.answer-answered.new.ground)
+      turned = turned_of _ known _ _ _ _ _ _ _ _ _ _ _ _ answered.0 (g.G.Ground.counts_of c.answer-answered.new.ground)
           (record { source_tells = refl; ground_tells = refl; log_tells = c.note.ensures.told; read_faults = c.next_line.ensures.faults; counts = falls_same _ _ same })
           (λ is. files_of _ _ _ c.deref.result.now answered.0 (goes is).only _ _ (c.say.ensures.does (works is).0))
           c.in_default.ensures.ok c.in_default.ensures.count c.in_default.ensures.still (λ is. (goes is).gives) c.deref.ensures.value c.met.ensures c.note.ensures.noted (c.turn_counts.ensures ∙ ap turn_counts c.counts.ensures) c.requires.counted (falls_same _ _ c.in-Ok.ensures.counts) (ap turn_counts (sym c.in-Ok-say.ensures.counts));
       now_at = λ is. refl;
       seen = λ is. subst (λ (line : Bytes). IsViewIn r v line answered.0 went.0.1) c.deref.ensures.value (goes is).seen;
-      placed = λ is. let w = works is in subst (λ (line : Bytes). PlacedIn c.args.session.now.store.slot c.answer-answered.new.self.store.slot (state_in c.args.session.now r v) v line answered.0) c.deref.ensures.value (answered.2 w.0 r v w.1).1;
+      placed = λ is. let w = works is in subst (λ (line : Bytes). PlacedIn (g.D.Decides.rule c.args.rules.now) c.args.session.now.store.slot c.answer-answered.new.self.store.slot (state_in c.args.session.now r v) v line answered.0) c.deref.ensures.value (answered.2 w.0 w.2 r v w.1).1;
       no_fault = same;
       serving = c.in-Ok.ensures.tables;
       working = λ is. working_along _ _ c.answer-answered.new.self went.0.0 went.0.1 (c.say.ensures.does (works is).0).goes (c.say.ensures.does (works is).0).files (goes is).working;
@@ -64,7 +64,7 @@ returns-in-Ok-say-clause-turned g c known r v works =
 pub returns-in-Err-say-clause-stops : goal.returns-in-Err-say-clause-stops
 returns-in-Err-say-clause-stops g c known r v works =
     let answered = c.in-Ok.ensures.goes in
-    let went = went_to known _ _ c.args.session.now c.answer-answered.new.self r v c.deref.result.now answered.0 (λ is. let w = works is in (answered.2 w.0 r v w.1).0) in
+    let went = went_to _ known _ _ c.args.session.now c.answer-answered.new.self r v c.deref.result.now answered.0 (λ is. let w = works is in (answered.2 w.0 w.2 r v w.1).0) in
     let goes = went.1 in
     let text = c.deref-in-Ok.ensures.value ∙ answered.1 in
     let same = c.in-Ok.ensures.counts in
@@ -73,7 +73,7 @@ returns-in-Err-say-clause-stops g c known r v works =
     let small = subst (λ (n : GroundCounts). n.say_faults ≤ 2 ^ 64 - 1) c.counts.ensures told in
     record {
       exchange = exchange_of c.next_line.new.line.items c.met.result c.args.counts.now c.turn_counts.result answered.0 (state_in c.answer-answered.new.self went.0.0 went.0.1);
-      turned = turned_of known _ _ _ _ _ _ _ _ _ _ _ _ answered.0 (g.G.Ground.counts_of c.answer-answered.new.ground)
+      turned = turned_of _ known _ _ _ _ _ _ _ _ _ _ _ _ answered.0 (g.G.Ground.counts_of c.answer-answered.new.ground)
           (record { source_tells = refl; ground_tells = refl; log_tells = c.note.ensures.told; read_faults = c.next_line.ensures.faults; counts = none_falls_on _ _ _ (falls_same _ _ same) (say_falls _ _ small fault) })
           (λ is. files_of _ _ _ c.deref.result.now answered.0 (goes is).only _ _ (c.say.ensures.does (works is).0))
           c.in_default.ensures.ok c.in_default.ensures.count c.in_default.ensures.still (λ is. (goes is).gives) c.deref.ensures.value c.met.ensures c.note.ensures.noted (c.turn_counts.ensures ∙ ap turn_counts c.counts.ensures) c.requires.counted (falls_same _ _ c.in-Ok.ensures.counts) (counts_same (g.G.Ground.counts_of c.answer-answered.new.ground) (g.G.Ground.counts_of c.say.new.self) fault.file_faults fault.remove_faults);
@@ -91,12 +91,12 @@ returns-in-Err-say-clause-stops g c known r v works =
 
 pub returns-in-Err-answered-clause-stops : goal.returns-in-Err-answered-clause-stops
 returns-in-Err-answered-clause-stops g c known r v works =
-    let ended = cut_to known _ _ c.args.session.now c.answer-answered.new.self r v c.deref.result.now (λ is. let w = works is in c.in-Err-answered.ensures.cut w.0 r v w.1) in
+    let ended = cut_to _ known _ _ c.args.session.now c.answer-answered.new.self r v c.deref.result.now (λ is. let w = works is in c.in-Err-answered.ensures.cut w.0 w.2 r v w.1) in
     let cut = ended.1 in
     let falls = falls_if (ground_end c.in-Err-answered.end) _ _ (subst (λ (n : TurnCounts). n.file_faults ≤ 2 ^ 64 - 1) c.requires.counted c.requires.small) c.in-Err-answered.ensures.counts in
-    stops_ended c.in-Err-answered.end _ known _ _ _ _ _ _ _ (state_in c.args.session.now r v) c.ended_status.ensures (record {
+    stops_ended _ c.in-Err-answered.end _ known _ _ _ _ _ _ _ (state_in c.args.session.now r v) c.ended_status.ensures (record {
       exchange = exchange_of c.next_line.new.line.items c.met.result c.args.counts.now c.turn_counts.result ended.0.0 ended.0.1;
-      turned = turned_of known _ _ _ _ _ _ _ _ _ _ _ _ ended.0.0 (g.G.Ground.counts_of c.answer-answered.new.ground)
+      turned = turned_of _ known _ _ _ _ _ _ _ _ _ _ _ _ ended.0.0 (g.G.Ground.counts_of c.answer-answered.new.ground)
           (record { source_tells = refl; ground_tells = refl; log_tells = c.note.ensures.told; read_faults = c.next_line.ensures.faults; counts = falls })
           (λ is. keeps_two _ _ (cut is).only)
           c.in_default.ensures.ok c.in_default.ensures.count c.in_default.ensures.still (λ is. (cut is).gives) c.deref.ensures.value c.met.ensures c.note.ensures.noted (c.turn_counts.ensures ∙ ap turn_counts c.counts.ensures) c.requires.counted falls refl;
@@ -106,4 +106,4 @@ returns-in-Err-answered-clause-stops g c known r v works =
       stands = λ is whole. absurd (cc (whole, ended_short c.in-Err-answered.end));
       turning = λ is order. turns_quietly (g.G.Ground.told c.args.ground.now) (g.G.Ground.told c.answer-answered.new.ground) _ r ended.0.1.repository (cut is).only.said ((cut is).atomic order);
       again = λ is order. cut_again _ r ended.0.1.repository _ _ (works is).1.holds order (cut is).only.goes ((cut is).atomic order) (g.met.G.Ground.possible c.answer-answered.new.ground (works is).0);
-    }) (λ is. ((works is).0, (r, v, (works is).1))) c.in-Err-answered.ensures.cause
+    }) (λ is. ((works is).0, (r, v, (works is).1))) (λ is. c.in-Err-answered.ensures.cause (works is).2)

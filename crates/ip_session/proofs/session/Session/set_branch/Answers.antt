@@ -4,6 +4,7 @@ use Rattle.ip_spec.specs.declared.command.Command.TheVariants as Command
 use Rattle.ip_spec.specs.declared.reply.Reply.{Reply}
 use Rattle.ip_store.specs.Naming.{AnswersSet}
 use Rattle.ip_store.proofs.Works.{works_stay}
+use Rattle.ip_session.specs.Session.{state_in}
 use Rattle.ip_session.proofs.BranchGoes.{unnamed_goes, serves, set_goes, set_cut, is_ground_set}
 use Rattle.ip_session.proofs.Placing.{unnamed_placed, set_placed}
 use Rattle.ip_session.proofs.session.Session.set_branch.Goals as goal
@@ -17,7 +18,7 @@ pub returns-in-Err-clause-runs : goal.returns-in-Err-clause-runs
 returns-in-Err-clause-runs g c = record {
   serving = c.requires.tables;
   goes = λ told r v here. unnamed_goes _ c.args.self.now c.args.self.now.met r v here c.args.name.now c.args.target c.in-Err.reply c.requires.met (sym (c.in-Err.ensures.number r here.holds.tables));
-  placed = λ told r v here. unnamed_placed _ _ v c.args.name.now c.args.target c.in-Err.reply (sym (c.in-Err.ensures.number r here.holds.tables));
+  placed = λ told r v here. unnamed_placed _ (state_in c.args.self.now r v) v c.args.name.now c.args.target c.in-Err.reply (sym (c.in-Err.ensures.number r here.holds.tables));
   cut = λ told r v here. tt;
 }
 

@@ -17,27 +17,27 @@ pub returns-in-Ok-clause-tables : goal.returns-in-Ok-clause-tables
 returns-in-Ok-clause-tables g c = c.run.ensures.runs.serving
 
 pub returns-in-Ok-clause-goes : goal.returns-in-Ok-clause-goes
-returns-in-Ok-clause-goes g c told r v here = lined_ok _ _ c.args.self.now c.run.new.self c.met_only-self.result r v c.in-Ok.command c.args.line.now c.run.result c.in-Ok.ensures.reads
-    (λ other spelled. one_command c.args.line.now other c.in-Ok.command spelled c.in-Ok.ensures.reads) (c.run.ensures.runs.goes told r v here)
+returns-in-Ok-clause-goes g c told decisive r v here = lined_ok _ _ _ c.args.self.now c.run.new.self c.met_only-self.result r v c.in-Ok.command c.args.line.now c.run.result c.in-Ok.ensures.reads
+    (λ other spelled. one_command c.args.line.now other c.in-Ok.command spelled c.in-Ok.ensures.reads) (c.run.ensures.runs.goes (told, decisive) r v here)
 
 pub returns-in-Ok-clause-cut : goal.returns-in-Ok-clause-cut
-returns-in-Ok-clause-cut g c told r v here = lined_cut _ _ c.args.self.now c.run.new.self c.met_only-self.result r v c.in-Ok.command c.args.line.now c.run.result c.in-Ok.ensures.reads (c.run.ensures.runs.cut told r v here)
+returns-in-Ok-clause-cut g c told decisive r v here = lined_cut _ _ _ c.args.self.now c.run.new.self c.met_only-self.result r v c.in-Ok.command c.args.line.now c.run.result c.in-Ok.ensures.reads (c.run.ensures.runs.cut (told, decisive) r v here)
 
 pub returns-in-Err-Bad-clause-goes : goal.returns-in-Err-Bad-clause-goes
-returns-in-Err-Bad-clause-goes g c told r v here = bad_goes _ c.args.self.now c.met_only-self.result r v here c.args.line.now c.in-Err-Bad.at c.met_only-self.ensures
+returns-in-Err-Bad-clause-goes g c told decisive r v here = bad_goes _ _ c.args.self.now c.met_only-self.result r v here c.args.line.now c.in-Err-Bad.at c.met_only-self.ensures
     (subst (λ (f : LineFault). Reads IsServedLine c.args.line.now (Err f)) c.in-Err-Bad.field-0-is c.in-Err-Bad.ensures.reads) (search rules)
 
 pub returns-in-Err-Memory-clause-goes : goal.returns-in-Err-Memory-clause-goes
-returns-in-Err-Memory-clause-goes g c told r v here = refused_goes _ c.args.self.now c.refuse.new.met r v here c.args.line.now c.refuse.result c.refuse.ensures.met c.refuse.ensures.reply
-    (line_refused r (work_at c.args.self.now.work v) c.args.line.now (each_line c.args.line.now) (has_words c.args.line.now c.in-Err-Memory.field-0 c.in-Err-Memory.field-0-is c.in-Err-Memory.ensures.one_word))
+returns-in-Err-Memory-clause-goes g c told decisive r v here = refused_goes _ _ c.args.self.now c.refuse.new.met r v here c.args.line.now c.refuse.result c.refuse.ensures.met c.refuse.ensures.reply
+    (line_refused (g.D.Decides.rule c.args.rules.now) r (work_at c.args.self.now.work v) c.args.line.now (each_line c.args.line.now) (has_words c.args.line.now c.in-Err-Memory.field-0 c.in-Err-Memory.field-0-is c.in-Err-Memory.ensures.one_word))
 
 pub returns-in-Ok-clause-placed : goal.returns-in-Ok-clause-placed
-returns-in-Ok-clause-placed g c told r v here = lined_placed _ _ _ v c.in-Ok.command c.args.line.now c.run.result c.in-Ok.ensures.reads
-    (λ other spelled. one_command c.args.line.now other c.in-Ok.command spelled c.in-Ok.ensures.reads) (c.run.ensures.runs.placed told r v here)
+returns-in-Ok-clause-placed g c told decisive r v here = lined_placed _ _ _ _ v c.in-Ok.command c.args.line.now c.run.result c.in-Ok.ensures.reads
+    (λ other spelled. one_command c.args.line.now other c.in-Ok.command spelled c.in-Ok.ensures.reads) (c.run.ensures.runs.placed (told, decisive) r v here)
 
 pub returns-in-Err-Bad-clause-placed : goal.returns-in-Err-Bad-clause-placed
-returns-in-Err-Bad-clause-placed g c told r v here = quiet_placed _ _ v c.args.line.now (Reply.Bad c.in-Err-Bad.at) (λ command h. h) (λ l is. absurd (cc is))
+returns-in-Err-Bad-clause-placed g c told decisive r v here = quiet_placed _ _ _ v c.args.line.now (Reply.Bad c.in-Err-Bad.at) (λ command h. h) (λ l is. absurd (cc is))
 
 pub returns-in-Err-Memory-clause-placed : goal.returns-in-Err-Memory-clause-placed
-returns-in-Err-Memory-clause-placed g c told r v here =
-    subst (PlacedIn c.args.self.now.store.slot c.args.self.now.store.slot (state_in c.args.self.now r v) v c.args.line.now) (sym c.refuse.ensures.reply) (quiet_placed _ _ v c.args.line.now Reply.Memory (λ command h. h) (λ l is. absurd (cc is)))
+returns-in-Err-Memory-clause-placed g c told decisive r v here =
+    subst (PlacedIn (g.D.Decides.rule c.args.rules.now) c.args.self.now.store.slot c.args.self.now.store.slot (state_in c.args.self.now r v) v c.args.line.now) (sym c.refuse.ensures.reply) (quiet_placed _ _ _ v c.args.line.now Reply.Memory (λ command h. h) (λ l is. absurd (cc is)))

@@ -1,0 +1,279 @@
+-- What a session does that ran a merge.
+--     merge_goes      the store answered it.      merge_cut      a fault of the ground or of its files cut it short
+--     unmerged_goes      no commit has the name that was given.      merge_serves      the session goes on serving, whatever is told
+--     merge_placed, unmerged_placed      where its records lie
+--     has_reply      what has a reply is an answer.      fault_ends, fault_named      a fault that has none, and one that has      merge_ends, merge_counts, answer_counts      what comes of one that has none, and which faults were counted
+use Rattle.std.proofs.Common.{◌≡◌, ◌≢◌, ℕ, ◌≤◌, ◌*◌, Bool, true, false, [], ◌∷◌, ◌++◌, length, refl, sym, ap, ◌∙◌, subst, arith, Option, Some, None, Ok, Err, length-append}
+use Rattle.std.specs.Prelude.{Result, MatchResult, IfSome, codes}
+use Rattle.ip_base.specs.declared.info.Info.{Info}
+use Rattle.ip_base.specs.declared.limit.Limit.TheVariants as Limit
+use Rattle.ip_ground.specs.declared.names.GroundCounts.{GroundCounts}
+use Rattle.ip_ground.specs.Counts.{FileFault, CountsIf, Counts}
+use Rattle.ip_ground.specs.Told.{Told, NoFile, ChangesOnly}
+use Rattle.ip_ground.proofs.Spans.{only_more}
+use Rattle.ip_image.specs.Headline.{IsAtomic}
+use Rattle.ip_image.proofs.HeadlineLaws.{pending_passes}
+use Rattle.ip_image.proofs.OneRepository.{one_repository}
+use Rattle.ip_spec.specs.declared.command.Command.{Command}
+use Rattle.ip_spec.specs.declared.command.Target.{Target}
+use Rattle.ip_spec.specs.declared.met.Met.{Met}
+use Rattle.ip_spec.specs.declared.reply.Reply.{Reply}
+use Rattle.ip_spec.specs.Merge.{Rule}
+use Rattle.ip_spec.specs.Path.{Bytes, space}
+use Rattle.ip_spec.specs.Record.{Hash}
+use Rattle.ip_spec.specs.Repository.{Repository, head}
+use Rattle.ip_spec.specs.Machine.{Work as MachineWork, State}
+use Rattle.ip_spec.specs.Step.{Refused, ◌>>=◌, present, resolve, both_named, MergesInto, Step}
+use Rattle.ip_spec.specs.Text.{reply_text, hex_text}
+use Rattle.ip_spec.specs.View.{View}
+use Rattle.ip_image.specs.declared.slot.Slot.{Slot}
+use Rattle.ip_store.specs.declared.committing.StoreFault.{StoreFault}
+use Rattle.ip_store.specs.declared.merging.Merge.{Merge}
+use Rattle.ip_store.specs.declared.store.Store.{Store}
+use Rattle.ip_store.specs.Changes.{HasAnswer, IsUndamaged, Changes}
+use Rattle.ip_store.specs.Commits.{fault_reply}
+use Rattle.ip_store.specs.Faults.{ground_store}
+use Rattle.ip_store.specs.Merging.{merge_reply, GoesOnFrom, AnswersMerge, MergesAtMoments, AppendsMerge, LimitsMerge}
+use Rattle.ip_store.specs.Publishing.{MayChange}
+use Rattle.ip_store.specs.Store.{Holds, SameTables, image_records}
+use Rattle.ip_store.specs.Trees.{RecordsStay}
+use Rattle.ip_store.specs.Views.{IsViewAfter}
+use Rattle.ip_store.specs.Work.{AreParents, IsAt, work_at, state_at}
+use Rattle.ip_store.proofs.Stepping.{still_holds}
+use Rattle.ip_store.proofs.Works.{works_stay}
+use Rattle.ip_session.specs.declared.session.Session.{Session}
+use Rattle.ip_session.specs.declared.session.SessionEnd.{SessionEnd}
+use Rattle.ip_session.specs.Placing.{IsAppended, PlacedBy}
+use Rattle.ip_session.specs.Session.{ground_end, IsServing, IsWorking, state_in, met_only, conditions_of, IsLong, IsDurable, ChangedBy, TouchedBy, GoesBy, CutBy, EndsBy, end_of, IsEndOf, EndsBecause, IsNamed}
+use Rattle.ip_session.proofs.SessionLemmas.{at, plainly, hex_long, merge_refused}
+use Rattle.ip_session.proofs.Referring.{IsUnnamed, NamesNone, names_none}
+use Rattle.ip_session.proofs.SessionGoes.{still_goes}
+use Rattle.ip_session.proofs.DurableGoes.{keeps_still, answered}
+use Rattle.ip_session.proofs.Placing.{unmoved}
+
+-- ---- texts of names
+
+forward_is_short : (name : Hash) → length name ≡ 32 → IsLong (Reply.Forward name) → ⊥
+unfolding reply_text
+forward_is_short name long_name long =
+    omega (arith, long, long_name, hex_long name, length-append (codes "forward" ++ space ∷ hex_text name) (10 ∷ []), length-append (codes "forward") (space ∷ hex_text name))
+
+merged_is_short : (name : Hash) → length name ≡ 32 → IsLong (Reply.Merged name) → ⊥
+unfolding reply_text
+merged_is_short name long_name long =
+    omega (arith, long, long_name, hex_long name, length-append (codes "merged" ++ space ∷ hex_text name) (10 ∷ []), length-append (codes "merged") (space ∷ hex_text name))
+
+-- ---- what the store answered
+
+pub has_reply : (branch : Bytes) (made : Result Merge StoreFault) (reply : Reply) → merge_reply branch made ≡ Some reply → HasAnswer made
+has_reply branch (Ok merge) reply e = tt
+has_reply branch (Err fault) reply e = answered Merge fault reply e
+
+pub fault_ends : (fault : StoreFault) → fault_reply fault ≡ None → IsEndOf fault (end_of fault)
+fault_ends StoreFault.Ground none = refl
+fault_ends (StoreFault.Damaged at_ names) none = refl
+fault_ends _ none = absurd (cc none)
+
+pub fault_named : (fault : StoreFault) (reply : Reply) → fault_reply fault ≡ Some reply → IsNamed reply
+fault_named (StoreFault.HeadMoved name) reply e = let is : Reply.HeadMoved name ≡ reply = cc e in subst IsNamed is tt
+fault_named (StoreFault.Existing name) reply e = let is : Reply.Existing name ≡ reply = cc e in subst IsNamed is tt
+fault_named (StoreFault.Limit limit) reply e = let is : Reply.Limit limit ≡ reply = cc e in subst IsNamed is tt
+fault_named StoreFault.Memory reply e = let is : Reply.Memory ≡ reply = cc e in subst IsNamed is tt
+fault_named StoreFault.Ground reply e = absurd (cc e)
+fault_named (StoreFault.Damaged at_ names) reply e = absurd (cc e)
+
+-- files that others changed are never met where it is known what the store holds
+pub merge_ends : (made : Result Merge StoreFault) (end : SessionEnd) (held : Type 0) → EndsBecause made end → (held → IsUndamaged made) → EndsBy held end
+merge_ends (Ok merge) end held is sound = absurd is
+merge_ends (Err StoreFault.Ground) end held is sound = subst (EndsBy held) (sym is) tt
+merge_ends (Err (StoreFault.Damaged at_ names)) end held is sound = subst (EndsBy held) (sym is) sound
+merge_ends (Err _) end held is sound = absurd is
+
+pub merge_counts : (made : Result Merge StoreFault) (end : SessionEnd) (old new : GroundCounts) → EndsBecause made end → Counts ground_store made old new → CountsIf FileFault (ground_end end) old new
+merge_counts (Ok merge) end old new is counts = absurd is
+merge_counts (Err StoreFault.Ground) end old new is counts = subst (λ (e : SessionEnd). CountsIf FileFault (ground_end e) old new) (sym is) counts
+merge_counts (Err (StoreFault.Damaged at_ names)) end old new is counts = subst (λ (e : SessionEnd). CountsIf FileFault (ground_end e) old new) (sym is) counts
+merge_counts (Err _) end old new is counts = absurd is
+
+pub answer_counts : (branch : Bytes) (made : Result Merge StoreFault) (reply : Reply) (old new : GroundCounts) → merge_reply branch made ≡ Some reply → Counts ground_store made old new → new ≡ old
+answer_counts branch (Ok merge) reply old new e counts = counts
+answer_counts branch (Err StoreFault.Ground) reply old new e counts = absurd (cc e)
+answer_counts branch (Err (StoreFault.Damaged at_ names)) reply old new e counts = absurd (cc e)
+answer_counts branch (Err _) reply old new e counts = counts
+
+pub merge_serves : (r : Repository) (s : Session) (store : Store) (met : Met) → AreParents r s.work.parents → (after : Repository) × GoesOnFrom r store after → IsServing (record s { store = store; met = met })
+merge_serves r s store met parents (after, on) = (after, (on.tables, on.parents s.work.parents parents))
+
+-- ---- no commit has the name
+
+module _ (target : Target) (branch : Bytes) (info : Info) where
+  abbrev merging : Command
+  merging = Command.Merge target branch info
+
+  never_made : (reply : Reply) → IsUnnamed reply → ¬ IsDurable reply merging
+  never_made (Reply.Forward name) un done = un
+  never_made (Reply.Merged name) un done = un
+  never_made _ un done = done
+
+  unnamed_step : (rule : Rule) (r : Repository) (w : MachineWork) (reply : Reply) → resolve r target ≡ Err reply → Step rule (at r w) merging (conditions_of (met_only false)) reply (at r w)
+  unnamed_step rule r w reply is =
+      let named : both_named (at r w) target branch ≡ Err reply = ap (λ (x : Refused ℕ). x >>= λ number. present (head r branch) (Reply.NoBranch branch) >>= λ n. Ok (number, n)) is in (
+        plainly r w merging false reply (λ h. absurd (cc h)),
+        (Err reply, refl, subst (λ (x : Refused (ℕ × ℕ)). MatchResult x (λ both. MergesInto rule (at r w) (conditions_of (met_only false)) both.0 branch both.1 info (Err reply)) (λ other. ◌≡◌ {A = Refused (Reply × State)} (Err reply) (Err other))) (sym named) refl),
+      )
+
+  pub unmerged_goes : (rule : Rule) (a : Told) (s : Session) (met : Met) (r : Repository) (v : View) (here : IsWorking a s r v) (reply : Reply) → met ≡ met_only false → resolve r target ≡ Err reply → GoesBy rule a a s (record s { met = met }) r v merging reply
+  unmerged_goes rule a s met r v here reply e none = still_goes a s met r v here (ChangedBy a.held merging) (Step rule (state_in s r v) merging) (IsViewAfter r v merging) reply
+      (subst (λ (m : Met). Step rule (state_in s r v) merging (conditions_of m) reply (state_in s r v)) (sym e) (unnamed_step rule r (work_at s.work v) reply none))
+      refl
+      (λ long. merge_refused target branch info r (work_at s.work v))
+      (λ file changed. never_made reply (subst NamesNone none (names_none r target)) changed.0)
+
+  pub unmerged_placed : (rule : Rule) (slot : Slot) (s : State) (v : View) (reply : Reply) → resolve s.repository target ≡ Err reply → PlacedBy rule slot slot s v merging reply
+  unmerged_placed rule slot s v reply is = by reply (subst NamesNone is (names_none s.repository target))
+    where
+      by : (reply : Reply) → IsUnnamed reply → PlacedBy rule slot slot s v merging reply
+      by (Reply.NoBranch other) un = unmoved slot slot s v merging (Reply.NoBranch other) rule (λ h. h) (λ l e. absurd (cc e)) refl
+      by (Reply.NoCommit hash) un = unmoved slot slot s v merging (Reply.NoCommit hash) rule (λ h. h) (λ l e. absurd (cc e)) refl
+      by _ un = absurd un
+
+-- ---- the command
+
+module _ (rule : Rule) (a b : Told) (s : Session) (store : Store) (r : Repository) (v : View) (here : IsWorking a s r v) (target : Target) (branch : Bytes) (info : Info) (number : ℕ) (named : resolve r target ≡ Ok number) where
+  abbrev command : Command
+  command = Command.Merge target branch info
+
+  abbrev Went : Reply → Type 0
+  Went = GoesBy rule a b s (record s { store = store; met = store.met }) r v command
+
+  abbrev Answered : Reply → Type 0
+  Answered reply = AnswersMerge rule b r number branch info store.met reply store
+
+  abbrev Stays : Type 0
+  Stays = (q : Repository) (now : Holds store b q) → RecordsStay (image_records here.holds) (image_records now)
+
+  -- the image stands for what it stood for
+  stood : ChangesOnly NoFile a b → Holds s.store b r
+  stood only = still_holds s.store s.store (record { index = refl; slot = refl; names = refl; places = refl; branches = refl; history = refl; space = refl }) r a b only here.holds
+
+  works : Stays → (reply : Reply) (A : Answered reply) → IsAt b store A.after s.work v
+  works stay reply A = record {
+    holds = A.holds;
+    lawful = works_stay (image_records here.holds) (image_records A.holds) r A.after s.work v here.lawful (stay A.after A.holds) (let same = A.floor in omega (arith, same)) (A.goes_on.parents s.work.parents here.lawful.parents);
+  }
+
+  quiet_so : (reply : Reply) → ¬ IsDurable reply command → Answered reply → Stays → ChangesOnly NoFile a b → Went reply
+  quiet_so reply quiet A stay only =
+      let same : A.after ≡ r = one_repository b.held A.after r A.holds.stands (stood only).stands in
+      record {
+        after = A.after;
+        view = v;
+        gives = A.turns (work_at s.work v) target named;
+        is_at = works stay reply A;
+        seen = refl;
+        only = only_more a b NoFile (ChangedBy a.held command reply) (λ file none. absurd none) only;
+        atomic = λ order. keeps_still s.store r A.after a b here.holds order only;
+        nothing_pending = λ order. pending_passes a b only.goes (λ file. only.others file (λ none. none)) only.lending order;
+        spared = λ long. record { same = ap (λ (q : Repository). state_at q (work_at s.work v)) same; seen = refl; refused = merge_refused target branch info r (work_at s.work v) };
+        still = λ long file changed. quiet changed.0;
+      }
+
+  done_so : (reply : Reply) → IsDurable reply command → ¬ IsLong reply → Answered reply → Stays → (merge : Merge) (after : Repository) → Changes r after (Ok merge) store a b → Went reply
+  done_so reply done short A stay merge after does =
+      let same : after ≡ A.after = one_repository b.held after A.after does.ok.stands A.holds.stands in
+      record {
+        after = A.after;
+        view = v;
+        gives = A.turns (work_at s.work v) target named;
+        is_at = works stay reply A;
+        seen = refl;
+        only = only_more a b _ (ChangedBy a.held command reply) (λ file changed. (done, changed)) does.only;
+        atomic = λ order. subst (λ (q : Repository). IsAtomic a b r q) same (does.atomic order);
+        nothing_pending = λ order. does.nothing_pending order tt;
+        spared = λ long. absurd (short long);
+        still = λ long. absurd (short long);
+      }
+
+  went : (made : Result Merge StoreFault) → MergesAtMoments rule r number branch info made store a b → (HasAnswer made → Stays) → IfSome (merge_reply branch made) Answered → IfSome (merge_reply branch made) (λ reply. IsNamed reply → Went reply)
+  went (Ok (Merge.Current name)) M stay A = λ n. quiet_so (Reply.Current name) (λ h. h) A (stay tt) (M.unmoved tt)
+  went (Ok (Merge.Forward name)) M stay A = λ n. done_so (Reply.Forward name) tt (forward_is_short name n) A (stay tt) (Merge.Forward name) M.after M.changes
+  went (Ok (Merge.Merged name)) M stay A = λ n. done_so (Reply.Merged name) tt (merged_is_short name n) A (stay tt) (Merge.Merged name) M.after M.changes
+  went (Ok Merge.NoBranch) M stay A = λ n. quiet_so (Reply.NoBranch branch) (λ h. h) A (stay tt) (M.unmoved tt)
+  went (Ok (Merge.Bases count)) M stay A = λ n. quiet_so (Reply.Bases count) (λ h. h) A (stay tt) (M.unmoved tt)
+  went (Ok (Merge.Conflict path)) M stay A = λ n. quiet_so (Reply.Conflict path) (λ h. h) A (stay tt) (M.unmoved tt)
+  went (Err (StoreFault.HeadMoved name)) M stay A = λ n. quiet_so (Reply.HeadMoved name) (λ h. h) A (stay tt) (M.changes.refused (refl, tt)).0
+  went (Err (StoreFault.Existing name)) M stay A = λ n. quiet_so (Reply.Existing name) (λ h. h) A (stay tt) (M.changes.refused (refl, tt)).0
+  went (Err (StoreFault.Limit limit)) M stay A = λ n. quiet_so (Reply.Limit limit) (λ h. h) A (stay tt) (M.changes.refused (refl, tt)).0
+  went (Err StoreFault.Memory) M stay A = λ n. quiet_so Reply.Memory (λ h. h) A (stay tt) (M.changes.refused (refl, tt)).0
+  went (Err StoreFault.Ground) M stay A = tt
+  went (Err (StoreFault.Damaged at_ names)) M stay A = tt
+
+  pub merge_goes : (met : Met) (made : Result Merge StoreFault) (reply : Reply) → met ≡ store.met → merge_reply branch made ≡ Some reply → IsNamed reply → MergesAtMoments rule r number branch info made store a b → (HasAnswer made → Stays) → IfSome (merge_reply branch made) Answered
+      → GoesBy rule a b s (record s { store = store; met = met }) r v command reply
+  merge_goes met made reply e is short M stay A =
+      subst (λ (m : Met). GoesBy rule a b s (record s { store = store; met = m }) r v command reply) (sym e) (subst (λ (o : Option Reply). IfSome o (λ x. IsNamed x → Went x)) is (went made M stay A) short)
+
+  pub merge_cut : (met : Met) (made : Result Merge StoreFault) → met ≡ met_only false → MergesAtMoments rule r number branch info made store a b → CutBy rule a b s (record s { store = store; met = met }) r v command
+  merge_cut met made e M = record {
+    reply = M.reply;
+    after = state_at M.after (work_at s.work v);
+    gives = subst (λ (m : Met). Step rule (state_in s r v) command (conditions_of m) M.reply (state_at M.after (work_at s.work v))) (sym e) (M.turns (work_at s.work v) target named);
+    only = only_more a b (MayChange a.held) (TouchedBy a.held command) (λ file changed. (refl, changed)) M.changes.only;
+    atomic = M.changes.atomic;
+  }
+
+  abbrev At : Reply → Type 0
+  At reply = PlacedBy rule s.store.slot store.slot (state_in s r v) v command reply
+
+  abbrev Appended : Result Merge StoreFault → Type 0
+  Appended made = AppendsMerge rule (image_records here.holds) r number branch info made s.store store a b
+
+  abbrev Limits : Result Merge StoreFault → Type 0
+  Limits made = LimitsMerge rule (image_records here.holds) r number branch info made s.store
+
+  still_at : (reply : Reply) → ¬ IsDurable reply command → ((l : _) → reply ≢ Reply.Limit l) → store.slot ≡ s.store.slot → At reply
+  still_at reply not none same = unmoved s.store.slot store.slot (state_in s r v) v command reply rule not none same
+
+  placed : (made : Result Merge StoreFault) → Appended made → Limits made → IfSome (merge_reply branch made) At
+  placed (Ok (Merge.Current name)) A L = still_at (Reply.Current name) (λ h. h) (λ l is. absurd (cc is)) (A tt)
+  placed (Ok (Merge.Forward name)) A L = record {
+    done = λ _. record { more = A.more; commits = A.commits; are = (number, named, image_records here.holds, A.are); so = (A.appends.slot, A.room, A.sequence) };
+    quiet = λ quiet. absurd (quiet tt);
+    space = λ _ is. absurd (cc is);
+    sequence = λ _ is. absurd (cc is);
+  }
+  placed (Ok (Merge.Merged name)) A L = record {
+    done = λ _. record { more = A.more; commits = A.commits; are = (number, named, image_records here.holds, A.are); so = (A.appends.slot, A.room, A.sequence) };
+    quiet = λ quiet. absurd (quiet tt);
+    space = λ _ is. absurd (cc is);
+    sequence = λ _ is. absurd (cc is);
+  }
+  placed (Ok Merge.NoBranch) A L = still_at (Reply.NoBranch branch) (λ h. h) (λ l is. absurd (cc is)) (A tt)
+  placed (Ok (Merge.Bases count)) A L = still_at (Reply.Bases count) (λ h. h) (λ l is. absurd (cc is)) (A tt)
+  placed (Ok (Merge.Conflict path)) A L = still_at (Reply.Conflict path) (λ h. h) (λ l is. absurd (cc is)) (A tt)
+  placed (Err (StoreFault.HeadMoved name)) A L = still_at (Reply.HeadMoved name) (λ h. h) (λ l is. absurd (cc is)) (A tt)
+  placed (Err (StoreFault.Existing name)) A L = still_at (Reply.Existing name) (λ h. h) (λ l is. absurd (cc is)) (A tt)
+  placed (Err (StoreFault.Limit Limit.Space)) A L = record {
+    done = λ done. absurd done;
+    quiet = λ _. A tt;
+    space = λ _ is. record { more = L.more; commits = L.commits; are = (number, named, image_records here.holds, L.are); so = L.short };
+    sequence = λ _ is. absurd (cc is);
+  }
+  placed (Err (StoreFault.Limit Limit.Sequence)) A L = record {
+    done = λ done. absurd done;
+    quiet = λ _. A tt;
+    space = λ _ is. absurd (cc is);
+    sequence = λ _ is. record { more = L.more; commits = L.commits; are = (number, named, image_records here.holds, L.are); so = L.short };
+  }
+  placed (Err (StoreFault.Limit _)) A L = record {
+    done = λ done. absurd done;
+    quiet = λ _. A tt;
+    space = λ _ is. absurd (cc is);
+    sequence = λ _ is. absurd (cc is);
+  }
+  placed (Err StoreFault.Memory) A L = still_at Reply.Memory (λ h. h) (λ l is. absurd (cc is)) (A tt)
+  placed (Err StoreFault.Ground) A L = tt
+  placed (Err (StoreFault.Damaged at_ names)) A L = tt
+
+  pub merge_placed : (made : Result Merge StoreFault) (reply : Reply) → merge_reply branch made ≡ Some reply → Appended made → Limits made → At reply
+  merge_placed made reply is A L = subst (λ (o : Option Reply). IfSome o At) is (placed made A L)
