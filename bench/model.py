@@ -1,7 +1,8 @@
 """A plain model of a store, for the tests of this folder: what each line is answered, with the names of docs/FORMAT.md. It knows
-the lines that the tests give, and directories of at most 32 entries."""
+the lines that the tests give, and merges by the program's rules."""
 
 import hashlib
+import re
 import struct
 
 
@@ -41,16 +42,26 @@ def entries(tree, place):
     return {path[depth]: len(path) > depth + 1 for path in tree if len(path) > depth and is_under(path, place)}
 
 
+def part_name(told, depth=0):
+    """The name of a part of a directory, of which each step is told with what it leads to: a leaf, or an inode over its children."""
+    if len(told) <= 32 or depth == 51:
+        entries = b"".join(short(step) + told[step] for step in sorted(told))
+        return sha(b"\x02" + struct.pack("<I", len(told)) + entries)
+    children = {}
+    for step in told:
+        place = int.from_bytes(sha(step.encode("latin-1")), "big") >> (251 - 5 * depth) & 31
+        children.setdefault(place, {})[step] = told[step]
+    bitmap = sum(1 << place for place in children)
+    below = b"".join(struct.pack("<I", len(children[place])) + part_name(children[place], depth + 1) for place in sorted(children))
+    return sha(b"\x03" + bytes([depth]) + struct.pack("<I", bitmap) + below)
+
+
 def root_name(tree, place=()):
     """The name of the directory at a place."""
-    found = entries(tree, place)
-    text = b"\x02" + struct.pack("<I", len(found))
-    for step in sorted(found):
-        if found[step]:
-            text += short(step) + b"\x02" + root_name(tree, place + (step,))
-        else:
-            text += short(step) + b"\x01" + sha(tree[place + (step,)])
-    return sha(text)
+    told = {}
+    for step, directory in entries(tree, place).items():
+        told[step] = b"\x02" + root_name(tree, place + (step,)) if directory else b"\x01" + sha(tree[place + (step,)])
+    return part_name(told)
 
 
 def said(tree, path):
@@ -73,6 +84,67 @@ def listed(tree, place):
 
 def bytes_of(word):
     return b"" if word == "-" else bytes.fromhex(word)
+
+
+class Conflict(Exception):
+    """A merger has no answer."""
+
+
+def number_of(data):
+    """The number that some bytes spell."""
+    if not re.fullmatch(rb"0|-?[1-9][0-9]*", data) or not -(2**63) <= int(data) < 2**63:
+        raise Conflict
+    return int(data)
+
+
+def counted(base, left, right):
+    """Numbers: what both sides add to the ancestor's, which counts 0 where there is none."""
+    if left is None or right is None:
+        raise Conflict
+    total = number_of(left) + number_of(right) - number_of(b"0" if base is None else base)
+    if not -(2**63) <= total < 2**63:
+        raise Conflict
+    return b"%d" % total
+
+
+def lines_of(data):
+    return set(data.removesuffix(b"\n").split(b"\n")) if data else set()
+
+
+def joined(base, left, right):
+    """Sets of lines: those of both sides, and those of one that the ancestor has not."""
+    if left is None or right is None:
+        raise Conflict
+    old, one, other = lines_of(base or b""), lines_of(left), lines_of(right)
+    return b"".join(line + b"\n" for line in sorted((one & other) | ((one | other) - old)))
+
+
+def decided(path, base, left, right):
+    """What a merge has at a path, by the program's rules."""
+    if left == right or right == base:
+        return left
+    if left == base:
+        return right
+    if path[0] == "count":
+        return counted(base, left, right)
+    if path[0] == "lines":
+        return joined(base, left, right)
+    raise Conflict
+
+
+def merged(base, left, right):
+    """The merge of two trees, or the least path that conflicts."""
+    tree, conflicts = {}, []
+    for path in sorted(set(base) | set(left) | set(right)):
+        try:
+            value = decided(path, base.get(path), left.get(path), right.get(path))
+        except Conflict:
+            conflicts.append(path)
+        else:
+            if value is not None:
+                tree[path] = value
+    conflicts += {path[:depth] for path in tree for depth in range(1, len(path))} & set(tree)
+    return tree, min(conflicts, default=None)
 
 
 class Commit:
@@ -191,13 +263,44 @@ class Model:
         head = self.branches.get(branch)
         if head is not None and head not in self.parents:
             raise Refused("head-moved " + head.name)
-        commit = Commit(len(self.commits), self.tree, self.parents, int(date), author, " ".join(message))
+        commit = self.add(branch, Commit(len(self.commits), self.tree, self.parents, int(date), author, " ".join(message)))
+        self.parents = [commit]
+        return "committed " + commit.name
+
+    def do_lcas(self, one, other):
+        found = self.bases(self.at(one), self.at(other))
+        return " ".join([f"lcas {len(found)}"] + [commit.name for commit in found])
+
+    def bases(self, one, other):
+        """The least common ancestors of two commits, ascending by number."""
+        others = other.ancestors()
+        common = [commit for commit in one.ancestors() if commit in others]
+        above = {commit for below in common for commit in below.ancestors() if commit is not below}
+        return [commit for commit in reversed(common) if commit not in above]
+
+    def do_merge(self, ref, branch, date, author, *message):
+        commit = self.at(ref)
+        head = self.at(branch)
+        if commit in head.ancestors():
+            return "current " + head.name
+        if head in commit.ancestors():
+            self.branches[branch] = commit
+            return "forward " + commit.name
+        bases = self.bases(head, commit)
+        if len(bases) > 1:
+            raise Refused(f"bases {len(bases)}")
+        tree, conflict = merged(bases[0].tree if bases else {}, head.tree, commit.tree)
+        if conflict is not None:
+            raise Refused("conflict " + "/".join(conflict))
+        return "merged " + self.add(branch, Commit(len(self.commits), tree, [head, commit], int(date), author, " ".join(message))).name
+
+    def add(self, branch, commit):
+        """Puts a branch at a new commit."""
         if commit.name in self.names:
             raise Refused("existing " + commit.name)
         self.commits.append(commit)
         self.names[commit.name] = self.branches[branch] = commit
-        self.parents = [commit]
-        return "committed " + commit.name
+        return commit
 
     def do_branch(self, name, ref):
         self.branches[name] = self.at(ref)
