@@ -1,0 +1,5 @@
+//! Tests of merges.
+#![tactic(auto)]
+
+#[cfg(test)]
+mod tests;
