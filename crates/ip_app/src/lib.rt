@@ -11,6 +11,6 @@ mod turn_log;
 
 pub use calls::run;
 pub use program::run_program;
-pub use rules::program_rules;
+pub use rules::run_by_program_rules;
 pub use statuses::{Bound, Status};
 pub use turn_log::{Kept, Log, Silent, Turn};

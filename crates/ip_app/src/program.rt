@@ -1,6 +1,5 @@
 // The program: its words, its folder, standard input and output.
-use crate::calls::run;
-use crate::rules::program_rules;
+use crate::rules::run_by_program_rules;
 use crate::statuses::Status;
 use crate::turn_log::Silent;
 use ip_host::{Folder, Stdin};
@@ -27,19 +26,9 @@ fn called(rt: &HostRuntime) -> Status {
         Ok(words) => words,
         Err(status) => return status,
     };
-    let Ok(rules) = program_rules(rt.alloc()) else {
-        return Status::Memory;
-    };
     let mut source = Stdin::new(rt.stdin());
     let mut folder = Folder::new(rt, rt.alloc());
-    run(
-        rt.alloc(),
-        &words,
-        &mut source,
-        &mut folder,
-        &rules,
-        &mut Silent,
-    )
+    run_by_program_rules(rt.alloc(), &words, &mut source, &mut folder, &mut Silent)
 }
 
 /// The program `ipstore`: runs the call that its words ask for over a folder of the system, standard input and standard output, and writes the line of

@@ -1,8 +1,8 @@
 // Calls of the program: stores are made and served.
-use ip_app::{Log, Silent, Status, program_rules, run};
+use ip_app::{Log, Silent, Status, run, run_by_program_rules};
 use ip_base::Blob;
 use ip_ground::{Bench, Ground};
-use ip_merge::{Decides, Rules};
+use ip_merge::Decides;
 use ip_script::{Bytes, Source};
 use std::alloc::{AllocError, Global};
 use std::test::Fail;
@@ -28,28 +28,18 @@ pub fn source(alloc: Global, script: &[u8], fails: &[u64]) -> Result<Bytes, Allo
     Ok(Bytes::new(script, Vec::from_slice(alloc, fails)?))
 }
 
-/// The program's rules.
-pub fn rules(alloc: Global) -> Result<Rules, AllocError> {
-    match program_rules(alloc) {
-        Ok(rules) => Ok(rules),
-        Err(_) => Err(AllocError),
-    }
-}
-
 /// Makes a store by `init`, which takes four calls of the ground.
 pub fn init(alloc: Global, ground: &mut Bench) -> Result<Status, AllocError> {
     let words = words(alloc, &["ipstore", "init", "mem"])?;
     let mut none = source(alloc, b"", &[])?;
-    let rules = rules(alloc)?;
-    Ok(run(alloc, &words, &mut none, ground, &rules, &mut Silent))
+    Ok(run_by_program_rules(alloc, &words, &mut none, ground, &mut Silent))
 }
 
 /// Makes a store with chunks of this size, a number of bytes as it is written, by four calls of the ground.
 pub fn init_with(alloc: Global, ground: &mut Bench, size: &str) -> Result<(), Fail> {
     let words = words(alloc, &["ipstore", "init", "mem", "--chunk", size])?;
     let mut none = source(alloc, b"", &[])?;
-    let rules = rules(alloc)?;
-    match run(alloc, &words, &mut none, ground, &rules, &mut Silent) {
+    match run_by_program_rules(alloc, &words, &mut none, ground, &mut Silent) {
         Status::Done => Ok(()),
         _ => Err("not made")?,
     }
@@ -62,8 +52,8 @@ pub fn serve<S: Source, G: Ground, L: Log>(
     ground: &mut G,
     log: &mut L,
 ) -> Result<Status, AllocError> {
-    let rules = rules(alloc)?;
-    serve_by(alloc, source, ground, &rules, log)
+    let words = words(alloc, &["ipstore", "serve", "mem"])?;
+    Ok(run_by_program_rules(alloc, &words, source, ground, log))
 }
 
 /// Serves a source by these rules. How that ends.

@@ -456,14 +456,20 @@ fn joined(alloc: Global, three: &Three) -> Result<Merged, Memory> {
     }
 }
 
-// At `joined` and under it values are joined by a closure.
-fn rules_of_a_closure(alloc: Global) -> Result<Rules, Memory> {
+// A path of one step.
+fn path_of(alloc: Global, step: &[u8]) -> Result<Path, Memory> {
+    let mut steps = Items::empty(alloc);
+    steps.push(Step::of(Blob::of(Vec::from_slice(alloc, step)?)))?;
+    Ok(Path::of(steps))
+}
+
+// Serves a script by rules of which the one at `joined` is a closure.
+fn serve_joined(alloc: Global, ground: &mut Bench, script: &[u8]) -> Result<Status, Memory> {
     let mut rules = Rules::new(alloc);
-    let mut at = Items::empty(alloc);
-    at.push(Step::of(Blob::of(Vec::from_slice(alloc, b"joined")?)))?;
     let both: Answer = Box::new(alloc, move |three: &Three| joined(alloc, three))?;
-    rules.add_call(Path::of(at), Call::new(both))?;
-    Ok(rules)
+    rules.add_call(path_of(alloc, b"joined")?, Call::new(both))?;
+    let mut lines = source(alloc, script, &[])?;
+    Ok(serve_by(alloc, &mut lines, ground, &rules, &mut Silent)?)
 }
 
 const JOINED: Case = Case {
@@ -495,14 +501,12 @@ forward C
 #[test]
 fn a_callers_rule_is_asked(rt: HostRuntime) -> Result<(), Fail> {
     let alloc = rt.alloc();
-    let Ok(rules) = rules_of_a_closure(alloc) else {
-        return Err("no rules")?;
-    };
     let transcript = JOINED.text(alloc)?;
     let mut ground = bench(alloc, &[])?;
     assert_eq!(rt; init(alloc, &mut ground)?, Status::Done);
-    let mut lines = source(alloc, &script_of(alloc, &transcript)?, &[])?;
-    let status = serve_by(alloc, &mut lines, &mut ground, &rules, &mut Silent)?;
+    let Ok(status) = serve_joined(alloc, &mut ground, &script_of(alloc, &transcript)?) else {
+        return Err("no memory")?;
+    };
     assert_eq!(rt; status, Status::Done);
     assert_eq!(rt; ground.said(alloc)?, replies_of(alloc, &transcript)?);
     Ok(())
