@@ -3,12 +3,13 @@
 --     joined_is      what comes of merging the three trees.      joined_of      as the store has it
 --     join_outcome, join_view, join_lawful      of the merged tree: the machine's outcome, its view, and that the work is lawful
 --     join_parents      the parents of the commit.      goes_on_from      who goes on from commits of a repository goes on from them
---     course_is      how two commits stand to each other, by their least common ancestors
+--     course_is, course_ok      how two commits stand to each other, by their least common ancestors.      join_from      whose trees are merged then
 use Rattle.std.proofs.Common.{◌≡◌, ◌≢◌, ℕ, zero, suc, ◌<◌, ◌≤◌, Bool, true, false, List, [], ◌∷◌, length, Option, Some, None, refl, sym, ◌∙◌, ap, subst, arith}
 use Rattle.std.specs.Prelude.{Result, Ok, Err, All, AllPairs, IsTrue, IfSome, IfOk, min, not, ◌&&◌, ◌||◌, ◌==◌, nat_le, nat_lt, if◌then◌else◌}
 use Rattle.std.specs.List.{AllByRecursion, list_any}
 use Rattle.std.proofs.lemmas.List.Elements.{All-from_recursion}
 use Rattle.std.proofs.lemmas.Bool.Decides.{nat_tests}
+use Rattle.std.proofs.lemmas.Result.{IfOk-weaker}
 use Rattle.ip_base.specs.declared.limit.Limit.{Limit}
 use Rattle.ip_ground.specs.Files.{number_itself}
 use Rattle.ip_history.proofs.LeastAlone.{ancestor_meets, proper_meets}
@@ -23,7 +24,7 @@ use Rattle.ip_spec.specs.Map.{get}
 use Rattle.ip_spec.specs.Merge.{Rule, IsOneAnswer, Merges, Outcome, merged, conflict_at}
 use Rattle.ip_spec.specs.MergeModel.{base_of}
 use Rattle.ip_spec.specs.Path.{Bytes, Path}
-use Rattle.ip_spec.specs.Repository.{Repository, next, is_retained, tree_at}
+use Rattle.ip_spec.specs.Repository.{Repository, next, head, is_retained, tree_at}
 use Rattle.ip_spec.specs.Step.{contents_limit, entries_limit, longest_value, within_limits, refuse_if, Refused, ◌>>◌, least_with}
 use Rattle.ip_spec.specs.Tree.{Tree, widest}
 use Rattle.ip_spec.specs.View.{View, no_view, least}
@@ -46,7 +47,7 @@ use Rattle.ip_store.specs.Showing.{fault_from}
 use Rattle.ip_store.specs.Store.{IsOf}
 use Rattle.ip_store.specs.Trees.{IsTreeOf}
 use Rattle.ip_store.specs.Work.{AreParents, IsLawful, least_of}
-use Rattle.ip_store.proofs.Histories.{shows_of}
+use Rattle.ip_store.proofs.Histories.{shows_of, common_retained}
 use Rattle.ip_store.proofs.MergedMaps.{short_merged, long_merged, longest_short, made_map}
 
 -- ---- limits
@@ -296,3 +297,22 @@ course_is store r of head number there here cs e course is = by course is
       (false_by (is_ancestor r number head) (λ t. not_number (one_of base number (sym is ∙ above t))), false_by (is_proper_ancestor r head number) (λ t. not_head (one_of base head (sym is ∙ below t)))),
       sym e ∙ is,
     )
+
+pub course_ok : (store : Store) (r : Repository) → IsOf store r → (head number : ℕ) → IsTrue (is_retained r head) → IsTrue (is_retained r number) → (cs : List ℕ) → cs ≡ lcas r head number → {E : Type 0} (res : Result Course E) → IfOk res (IsCourseBy cs head number) → IfOk res (IsCourse r head number)
+course_ok store r of head number there here cs e res is = IfOk-weaker res (IsCourseBy cs head number) (IsCourse r head number) (course_is store r of head number there here cs e) is
+
+-- ---- the three commits
+
+base_retained : (r : Repository) (head number : ℕ) (base : Option ℕ) → lcas r head number ≡ bases_of base → IfSome base (λ n. IsTrue (is_retained r n))
+base_retained r head number None e = tt
+base_retained r head number (Some c) e = subst (All (λ n. IsTrue (is_retained r n))) e (common_retained r (head ∷ []) number) 0 0 (omega arith)
+
+pub join_from : (r : Repository) (branch : Bytes) (at number : ℕ) (base : Option ℕ) → head r branch ≡ Some at → IsTrue (is_retained r at) → IsTrue (is_retained r number) → IsCourse r at number (Course.Join base) → IsJoin r branch (record { base = base; head = at; number = number })
+join_from r branch at number base is_head there here course = record {
+  is_head = is_head;
+  head_retained = there;
+  number_retained = here;
+  base_retained = base_retained r at number base course.1;
+  apart = course.0;
+  least = course.1;
+}

@@ -25,6 +25,9 @@ mod JoinAnswers
 mod JoinedTrees
 mod MergeExits
 mod JoinDone
+mod JoinedCalls
+mod MergeStill
+mod Forwarding
 mod Numbered
 mod Histories
 mod Removed

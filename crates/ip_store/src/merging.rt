@@ -127,11 +127,13 @@ impl Store {
         // Files that others changed are never met where the ground tells what the store holds.
         ensures undamaged { IsTrue G.tells → IsDecisive (D.rule rules.now) → (r : Repository) → Holds self.old (G.told outside.old) r → IsTrue (is_retained r number) → IsUndamaged result }
     {
-        let Some(head) = self.head(branch) else {
-            return self.noted(Ok(Merge::NoBranch));
+        let head = match self.head(branch) {
+            Some(head) => head,
+            None => return self.noted(Ok(Merge::NoBranch)),
         };
-        let Ok(course) = self.course(alloc, head, number) else {
-            return self.noted(Err(StoreFault::Memory));
+        let course = match self.course(alloc, head, number) {
+            Ok(course) => course,
+            Err(Memory) => return self.noted(Err(StoreFault::Memory)),
         };
         match course {
             Course::Current => {
@@ -180,8 +182,9 @@ impl Store {
         ensures counts { Counts ground_store result (G.counts_of outside.old) (G.counts_of outside.new) }
     {
         let name = self.retained_name(number);
-        let Ok(rec) = set_record(alloc, branch, number) else {
-            return Err(StoreFault::Memory);
+        let rec = match set_record(alloc, branch, number) {
+            Ok(rec) => rec,
+            Err(Memory) => return Err(StoreFault::Memory),
         };
         match self.append_branch_record(alloc, outside, rec) {
             Ok(()) => Ok(Merge::Forward(name)),
@@ -221,8 +224,9 @@ impl Store {
             Ok(Joined::Conflict(path)) => return self.noted(Ok(Merge::Conflict(path))),
             Err(fault) => return self.noted(Err(fault)),
         };
-        let Ok(parents) = both(alloc, sides.head, sides.number) else {
-            return self.noted(Err(StoreFault::Memory));
+        let parents = match both(alloc, sides.head, sides.number) {
+            Ok(parents) => parents,
+            Err(Memory) => return self.noted(Err(StoreFault::Memory)),
         };
         let least = tree.oldest;
         let mut work = Work {
