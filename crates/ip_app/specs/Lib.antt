@@ -6,6 +6,7 @@ pub mod Pending
 pub mod Places
 pub mod Reading
 pub mod Rooms
+pub mod Rules
 pub mod Run
 pub mod Serving
 pub mod Statuses

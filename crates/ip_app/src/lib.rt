@@ -11,6 +11,6 @@ mod turn_log;
 
 pub use calls::run;
 pub use program::run_program;
-pub use rules::run_by_program_rules;
+pub use rules::{ProgramRules, program_rules_decide};
 pub use statuses::{Bound, Status};
 pub use turn_log::{Kept, Log, Silent, Turn};

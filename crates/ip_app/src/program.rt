@@ -1,5 +1,6 @@
 // The program: its words, its folder, standard input and output.
-use crate::rules::run_by_program_rules;
+use crate::calls::run;
+use crate::rules::ProgramRules;
 use crate::statuses::Status;
 use crate::turn_log::Silent;
 use ip_host::{Folder, Stdin};
@@ -28,7 +29,14 @@ fn called(rt: &HostRuntime) -> Status {
     };
     let mut source = Stdin::new(rt.stdin());
     let mut folder = Folder::new(rt, rt.alloc());
-    run_by_program_rules(rt.alloc(), &words, &mut source, &mut folder, &mut Silent)
+    run(
+        rt.alloc(),
+        &words,
+        &mut source,
+        &mut folder,
+        &ProgramRules,
+        &mut Silent,
+    )
 }
 
 /// The program `ipstore`: runs the call that its words ask for over a folder of the system, standard input and standard output, and writes the line of

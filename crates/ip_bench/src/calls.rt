@@ -1,5 +1,5 @@
 // Calls of the program: stores are made and served.
-use ip_app::{Log, Silent, Status, run, run_by_program_rules};
+use ip_app::{Log, ProgramRules, Silent, Status, run};
 use ip_base::Blob;
 use ip_ground::{Bench, Ground};
 use ip_merge::Decides;
@@ -32,14 +32,14 @@ pub fn source(alloc: Global, script: &[u8], fails: &[u64]) -> Result<Bytes, Allo
 pub fn init(alloc: Global, ground: &mut Bench) -> Result<Status, AllocError> {
     let words = words(alloc, &["ipstore", "init", "mem"])?;
     let mut none = source(alloc, b"", &[])?;
-    Ok(run_by_program_rules(alloc, &words, &mut none, ground, &mut Silent))
+    Ok(run(alloc, &words, &mut none, ground, &ProgramRules, &mut Silent))
 }
 
 /// Makes a store with chunks of this size, a number of bytes as it is written, by four calls of the ground.
 pub fn init_with(alloc: Global, ground: &mut Bench, size: &str) -> Result<(), Fail> {
     let words = words(alloc, &["ipstore", "init", "mem", "--chunk", size])?;
     let mut none = source(alloc, b"", &[])?;
-    match run_by_program_rules(alloc, &words, &mut none, ground, &mut Silent) {
+    match run(alloc, &words, &mut none, ground, &ProgramRules, &mut Silent) {
         Status::Done => Ok(()),
         _ => Err("not made")?,
     }
@@ -52,8 +52,7 @@ pub fn serve<S: Source, G: Ground, L: Log>(
     ground: &mut G,
     log: &mut L,
 ) -> Result<Status, AllocError> {
-    let words = words(alloc, &["ipstore", "serve", "mem"])?;
-    Ok(run_by_program_rules(alloc, &words, source, ground, log))
+    serve_by(alloc, source, ground, &ProgramRules, log)
 }
 
 /// Serves a source by these rules. How that ends.

@@ -1,7 +1,7 @@
 //! Lines and their replies, the words of calls, limits and statuses.
 ghost use Rattle.std.specs.Prelude.{[], false};
 
-use ip_app::{Bound, Kept, Silent, Status, run_by_program_rules};
+use ip_app::{Bound, Kept, ProgramRules, Silent, Status, run};
 use ip_base::Hash;
 use ip_bench::{
     answers, answers_on, bench, fresh_control, init, play, replies_of, script_of, serve, source,
@@ -216,7 +216,7 @@ fn a_store_has_chunks_of_the_size_that_is_asked_for(rt: HostRuntime) -> Result<(
         let mut bench = bench(alloc, &[])?;
         let mut none = source(alloc, b"", &[])?;
         let words = words(alloc, given)?;
-        let status = run_by_program_rules(alloc, &words, &mut none, &mut bench, &mut Silent);
+        let status = run(alloc, &words, &mut none, &mut bench, &ProgramRules, &mut Silent);
         assert_eq!(rt; status, Status::Done);
         let mut slot = [0; 4];
         assert_eq!(rt; bench.read(FileName::Control, 24, &mut slot), Ok(4));
@@ -241,7 +241,7 @@ fn words_that_ask_for_nothing(rt: HostRuntime) -> Result<(), Fail> {
         let mut bench = bench(alloc, &[])?;
         let mut none = source(alloc, b"", &[])?;
         let words = words(alloc, given)?;
-        let status = run_by_program_rules(alloc, &words, &mut none, &mut bench, &mut Silent);
+        let status = run(alloc, &words, &mut none, &mut bench, &ProgramRules, &mut Silent);
         assert_eq!(rt; status, Status::Usage);
     }
     Ok(())

@@ -19,7 +19,7 @@ use crate::{Store, StoreFault, Work};
 use ip_base::{Hash, Info, Memory, Number, Numbers, Path};
 use ip_ground::Ground;
 use ip_merge::Decides;
-use ip_three::merge::{ThreeFault, merge_trees};
+use ip_three::{ThreeFault, merge_trees};
 use ip_tree::Tree;
 use std::alloc::Global;
 
