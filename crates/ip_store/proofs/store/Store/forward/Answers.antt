@@ -1,0 +1,58 @@
+use Rattle.std.proofs.Common.{◌≡◌, sym, subst}
+use Rattle.std.specs.Prelude.{Ok, Err}
+use Rattle.ip_spec.specs.Record.{Fits}
+use Rattle.ip_spec.specs.Step.{with_branch}
+use Rattle.ip_image.specs.Appending.{MayName, renamed}
+use Rattle.ip_store.specs.declared.committing.StoreFault.TheVariants as StoreFault
+use Rattle.ip_store.specs.declared.merging.Merge.TheVariants as Merge
+use Rattle.ip_store.specs.Changes.{Changes}
+use Rattle.ip_store.specs.Naming.{Renames}
+use Rattle.ip_store.proofs.BranchTurns.{set_may, set_fits}
+use Rattle.ip_store.proofs.Forwarding.{forward_comes, forward_goes, moved_goes, forward_room, limits_value, limits_fault}
+use Rattle.ip_store.proofs.MergeExits.{goes_itself}
+use Rattle.ip_store.proofs.Stepping.{itself, changes_none, stays_still, with_value, with_fault}
+use Rattle.ip_store.proofs.store.Store.forward.Goals as goal
+
+-- ---- the record's bytes could not be taken
+
+pub returns-in-Err-clause-tables : goal.returns-in-Err-clause-tables
+returns-in-Err-clause-tables g c r of forward has = (r, goes_itself r c.args.self.now of)
+
+pub returns-in-Err-clause-any_moment : goal.returns-in-Err-clause-any_moment
+returns-in-Err-clause-any_moment g c told r held forward =
+    changes_none r (with_branch r c.args.branch.now c.args.number) StoreFault.Memory c.args.self.now c.args.self.now (g.G.Ground.told c.args.outside.now) (itself c.args.self.now) held
+
+pub returns-in-Err-clause-records_stay : goal.returns-in-Err-clause-records_stay
+returns-in-Err-clause-records_stay g c told has r q held now = stays_still c.args.self.now c.args.self.now (itself c.args.self.now) r q (g.G.Ground.told c.args.outside.now) held now
+
+-- ---- the record is appended, or a limit or a fault came
+
+pub append_branch_record-requires-clause-tables : goal.append_branch_record-requires-clause-tables
+append_branch_record-requires-clause-tables g c =
+    let r = c.requires.tables.0 in
+    let of = c.requires.tables.1 in
+    let forward = c.requires.tables.2 in
+    (r, of, subst (MayName r) (sym c.in-Ok.ensures) (set_may r c.args.branch.now c.args.number c.args.self.now of forward.retained (forward_room r c.args.branch.now c.args.number forward)))
+
+pub append_branch_record-requires-clause-fits : goal.append_branch_record-requires-clause-fits
+append_branch_record-requires-clause-fits g c = subst (Fits 1) (sym c.in-Ok.ensures) (set_fits c.requires.tables.0 c.args.branch.now c.args.number c.args.self.now c.requires.tables.1 c.requires.tables.2.retained c.requires.branch)
+
+pub returns-in-Ok-append_branch_record-clause-tables :
+    goal.returns-in-Ok-append_branch_record-clause-tables
+returns-in-Ok-append_branch_record-clause-tables g c r of forward has = ?
+
+pub returns-in-Ok-append_branch_record-clause-any_moment :
+    goal.returns-in-Ok-append_branch_record-clause-any_moment
+returns-in-Ok-append_branch_record-clause-any_moment g c told r held forward = ?
+
+pub returns-in-Err-append_branch_record-clause-comes :
+    goal.returns-in-Err-append_branch_record-clause-comes
+returns-in-Err-append_branch_record-clause-comes g c r of forward = ?
+
+pub returns-in-Err-append_branch_record-clause-tables :
+    goal.returns-in-Err-append_branch_record-clause-tables
+returns-in-Err-append_branch_record-clause-tables g c r of forward has = ?
+
+pub returns-in-Err-append_branch_record-clause-any_moment :
+    goal.returns-in-Err-append_branch_record-clause-any_moment
+returns-in-Err-append_branch_record-clause-any_moment g c told r held forward = ?
