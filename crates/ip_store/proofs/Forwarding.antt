@@ -1,5 +1,5 @@
 -- A branch that moves on: what comes of its record.
---     forward_comes, forward_goes      where it was not appended.      moved_goes      where it was
+--     forward_comes, forward_goes      where it was not appended.      moved_goes      where it was.      forward_undamaged      no file of others was met
 --     limits_value, limits_fault      which limit is met, of the answer of another call.      forward_room      there is room for its record
 use Rattle.std.proofs.Common.{◌≡◌, ℕ, ◌<◌, ◌≤◌, ◌^◌, refl, ap, Some}
 use Rattle.std.specs.Prelude.{Result, Ok, Err, IsErrOf, is_some, not, ◌&&◌, nat_le, Option}
@@ -13,7 +13,7 @@ use Rattle.ip_spec.specs.Step.{refuse_if, room_for_branch, branches_limit, with_
 use Rattle.ip_store.specs.declared.committing.StoreFault.{StoreFault}
 use Rattle.ip_store.specs.declared.merging.Merge.{Merge}
 use Rattle.ip_store.specs.declared.store.Store.{Store}
-use Rattle.ip_store.specs.Changes.{HasAnswer, LimitsSpace}
+use Rattle.ip_store.specs.Changes.{HasAnswer, IsUndamaged, LimitsSpace}
 use Rattle.ip_store.specs.Merging.{GoesOnFrom, IsForward, IsForwarded}
 use Rattle.ip_store.specs.Naming.{Renames}
 use Rattle.ip_store.specs.Store.{IsOf}
@@ -52,6 +52,15 @@ module _ (r : Repository) (branch : Bytes) (number : ℕ) where
 
   pub forward_room : IsForward r branch number → room_for_branch r branch ≡ Ok tt
   forward_room forward = ap (λ (o : Option ℕ). refuse_if (not (is_some o) && nat_le branches_limit (len r.branches)) (Reply.Limit Limit.Branches)) forward.is_head
+
+pub forward_undamaged : (r : Repository) (number : ℕ) (result : Result Merge StoreFault) → IsForwarded r number result → IsUndamaged result
+forward_undamaged r number (Ok x) is = tt
+forward_undamaged r number (Err (StoreFault.Limit limit)) is = tt
+forward_undamaged r number (Err StoreFault.Memory) is = tt
+forward_undamaged r number (Err StoreFault.Ground) is = tt
+forward_undamaged r number (Err (StoreFault.HeadMoved name)) is = tt
+forward_undamaged r number (Err (StoreFault.Existing name)) is = tt
+forward_undamaged r number (Err (StoreFault.Damaged at names)) is = is
 
 pub limits_value : {A B : Type 0} (x : A) (y : B) (end : ℕ) (store : Store) → LimitsSpace end (Ok x) store → LimitsSpace end (Ok y) store
 limits_value x y end store limits = record { space = λ e. absurd (cc (e)); sequence = λ e. absurd (cc (e)); enough = limits.enough }

@@ -1,9 +1,10 @@
 -- The trees of a merge as views over the records of an image, and the work that commits their merge.
 --     within_good, within_long, within_wide      whether a merge's tree is within the limits
---     joined_is      what comes of merging the three trees.      joined_of      as the store has it
+--     joined_is      what comes of merging the three trees.      joined_of      as the store has it.      counts_stopped      and what is counted where they are not merged
 --     join_outcome, join_view, join_lawful      of the merged tree: the machine's outcome, its view, and that the work is lawful
 --     join_parents      the parents of the commit.      goes_on_from      who goes on from commits of a repository goes on from them
---     course_is, course_ok      how two commits stand to each other, by their least common ancestors.      join_from      whose trees are merged then
+--     course_is, course_ok      how two commits stand to each other, by their least common ancestors.      join_from      whose trees are merged then.      forward_from      which branch moves on
+--     at_head      a branch's commit is there
 use Rattle.std.proofs.Common.{◌≡◌, ◌≢◌, ℕ, zero, suc, ◌<◌, ◌≤◌, Bool, true, false, List, [], ◌∷◌, length, Option, Some, None, refl, sym, ◌∙◌, ap, subst, arith}
 use Rattle.std.specs.Prelude.{Result, Ok, Err, All, AllPairs, IsTrue, IfSome, IfOk, min, not, ◌&&◌, ◌||◌, ◌==◌, nat_le, nat_lt, if◌then◌else◌}
 use Rattle.std.specs.List.{AllByRecursion, list_any}
@@ -11,6 +12,8 @@ use Rattle.std.proofs.lemmas.List.Elements.{All-from_recursion}
 use Rattle.std.proofs.lemmas.Bool.Decides.{nat_tests}
 use Rattle.std.proofs.lemmas.Result.{IfOk-weaker}
 use Rattle.ip_base.specs.declared.limit.Limit.{Limit}
+use Rattle.ip_ground.specs.declared.names.GroundCounts.{GroundCounts}
+use Rattle.ip_ground.specs.Counts.{Counts, CountsIf, FileFault}
 use Rattle.ip_ground.specs.Files.{number_itself}
 use Rattle.ip_history.proofs.LeastAlone.{ancestor_meets, proper_meets}
 use Rattle.ip_history.proofs.Parents.{parents_first}
@@ -32,7 +35,7 @@ use Rattle.ip_save.specs.Batches.{HasShortContents}
 use Rattle.ip_tree.specs.TreeView.{IsView, stored_view}
 use Rattle.ip_tree.specs.declared.tree.Tree as lazy
 use Rattle.ip_three.specs.Merging.{of_left, of_right}
-use Rattle.ip_three.specs.Answered.{MergesTrees, MergedView, whole, edited}
+use Rattle.ip_three.specs.Answered.{MergesTrees, MergedView, ground_three, whole, edited}
 use Rattle.ip_three.specs.declared.merge.ThreeFault.{ThreeFault}
 use Rattle.ip_three.specs.declared.merge.ThreeFault.TheVariants as three
 use Rattle.ip_store.specs.declared.committing.StoreFault.{StoreFault}
@@ -42,12 +45,13 @@ use Rattle.ip_store.specs.declared.merging.Sides.{Sides}
 use Rattle.ip_store.specs.declared.store.Store.{Store}
 use Rattle.ip_store.specs.declared.work.Work.{Work}
 use Rattle.ip_store.specs.Changes.{KeepsNumbers}
-use Rattle.ip_store.specs.Merging.{GoesOnFrom, IsStoredAs, IsBase, IsMergeView, IsCourseBy, IsCourse, bases_of, IsJoin, IsBaseTree, IsOutcome, IsJoinedTree, IsJoined}
-use Rattle.ip_store.specs.Showing.{fault_from}
+use Rattle.ip_store.specs.Faults.{ground_store}
+use Rattle.ip_store.specs.Merging.{GoesOnFrom, IsStoredAs, IsBase, IsMergeView, IsCourseBy, IsCourse, bases_of, IsForward, IsJoin, IsBaseTree, IsOutcome, IsJoinedTree, IsJoined, stopped_by}
 use Rattle.ip_store.specs.Store.{IsOf}
 use Rattle.ip_store.specs.Trees.{IsTreeOf}
 use Rattle.ip_store.specs.Work.{AreParents, IsLawful, least_of}
 use Rattle.ip_store.proofs.Histories.{shows_of, common_retained}
+use Rattle.ip_store.proofs.Tables.{head_retained}
 use Rattle.ip_store.proofs.MergedMaps.{short_merged, long_merged, longest_short, made_map}
 
 -- ---- limits
@@ -109,10 +113,16 @@ same_merges rule o p a b l q m first second third is = subst (λ (t : Tree). Mer
 -- what the store makes of the merge of the trees
 abbrev pub joined_of : Result lazy.Tree ThreeFault → Result Joined StoreFault
 joined_of (Ok tree) = Ok (Joined.Tree tree)
-joined_of (Err (three.Conflict path)) = Ok (Joined.Conflict path)
-joined_of (Err (three.Limit limit)) = Err (StoreFault.Limit limit)
-joined_of (Err (three.Fetch fault)) = Err (fault_from fault)
-joined_of (Err three.Memory) = Err StoreFault.Memory
+joined_of (Err fault) = stopped_by fault
+
+pub counts_stopped : (fault : ThreeFault) (old new : GroundCounts) → CountsIf FileFault (ground_three fault) old new → Counts ground_store (stopped_by fault) old new
+counts_stopped (three.Conflict path) old new is = is
+counts_stopped (three.Limit limit) old new is = is
+counts_stopped (three.Fetch fetch.Ground) old new is = is
+counts_stopped (three.Fetch (fetch.Form at fault)) old new is = is
+counts_stopped (three.Fetch (fetch.Name at want got)) old new is = is
+counts_stopped (three.Fetch fetch.Memory) old new is = is
+counts_stopped three.Memory old new is = is
 
 module _ (rule : Rule) (decides : IsDecisive rule) (records : ℕ → Option Record) (r : Repository) (sides : Sides) (base left right : lazy.Tree)
     (base_is : IsBaseTree records r sides.base base) (left_is : IsTreeOf records r sides.head left) (right_is : IsTreeOf records r sides.number right) where
@@ -316,3 +326,9 @@ join_from r branch at number base is_head there here course = record {
   apart = course.0;
   least = course.1;
 }
+
+pub forward_from : (r : Repository) (branch : Bytes) (at number : ℕ) → head r branch ≡ Some at → IsTrue (is_retained r number) → IsCourse r at number Course.Forward → IsForward r branch number
+forward_from r branch at number is_head here course = record { at = at; is_head = is_head; retained = here; not_current = course.0; forward = course.1 }
+
+pub at_head : (store : Store) (r : Repository) → IsOf store r → (branch : Bytes) (found : Option ℕ) (n : ℕ) → found ≡ head r branch → found ≡ Some n → (head r branch ≡ Some n) × IsTrue (is_retained r n)
+at_head store r of branch found n same is = (sym same ∙ is, head_retained store r of branch n (ap (λ m. get m branch) (sym of.branches) ∙ sym same ∙ is))

@@ -1,7 +1,7 @@
 -- What a merge answers where nothing was merged, and where the branch moved on.
 --     slot_still      the slot where no file was changed
 --     answers_looked, moments_looked, moments_failed      the store only looked, and did nothing or failed
---     join_failed, join_conflicts      the trees were not merged
+--     join_failed, conflict      the trees were not merged
 --     forwarded, forward_moments, forward_appends, forward_limits      the branch moved on
 --     same_merged, same_moments, same_appended      of a store with the same tables.      noted_merged, noted_moments, noted_appended      once it is noted what was met
 use Rattle.std.proofs.Common.{◌≡◌, ℕ, ◌+◌, ◌^◌, ◌<◌, ◌≤◌, true, false, List, [], ◌∷◌, ◌++◌, length, Option, Some, None, inl, refl, sym, ◌∙◌, ap, subst, arith, append-nil}
@@ -259,11 +259,5 @@ module _ (rule : Rule) (r : Repository) (branch : Bytes) (info : Info) (sides : 
   join_undamaged A (StoreFault.HeadMoved name) outcome = tt
   join_undamaged A (StoreFault.Existing name) outcome = tt
 
-  conflict : (path : Path) → IsOutcome rule r sides (conflict_at path) → IsQuiet rule r sides.number branch info (Reply.Conflict path) r
+  pub conflict : (path : Path) → IsOutcome rule r sides (conflict_at path) → IsQuiet rule r sides.number branch info (Reply.Conflict path) r
   conflict path outcome = turn_conflict rule r sides.number branch info sides.head is.is_head is.apart.0 is.apart.1 sides.base is.least path outcome
-
-  pub conflict_answers : (path : Path) → IsOutcome rule r sides (conflict_at path) → AnswersMerge rule b r sides.number branch info met_nothing (Reply.Conflict path) store'
-  conflict_answers path outcome = looked met_nothing (Reply.Conflict path) (conflict path outcome).turns
-
-  pub conflict_moments : (path : Path) → IsOutcome rule r sides (conflict_at path) → MergesAtMoments rule r sides.number branch info (Ok (Merge.Conflict path)) store' a b
-  conflict_moments path outcome = moments_looked rule r sides.number branch info store a held b only store' now (Merge.Conflict path) (Reply.Conflict path) (conflict path outcome) refl

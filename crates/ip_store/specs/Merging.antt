@@ -11,7 +11,7 @@
 --     AppendsMerge .. result store now old new      where they lie.      LimitsMerge .. result store      which limit is met
 --     IsCourse r head number course      how two commits stand to each other, by the tests of ancestors.      IsCourseBy      by their least common ancestors
 --     IsForward r branch number, IsJoin r branch sides      a branch moves on to a commit, or the trees of three commits are merged
---     IsForwarded r number result, IsJoined rule records r sides result      what comes of that
+--     IsForwarded r number result, IsJoined rule records r sides result      what comes of that.      stopped_by fault      of trees that were not merged
 use Rattle.std.specs.Prelude.{◌≡◌, ◌≢◌, ◌⊎◌, ℕ, ◌+◌, ◌^◌, ◌<◌, ◌≤◌, true, false, List, [], ◌∷◌, length, Option, Some, None, Result, Ok, Err, OnOk, IfSome, IsTrue}
 use Rattle.ip_base.specs.declared.info.Info.{Info}
 use Rattle.ip_base.specs.declared.limit.Limit.TheVariants as Limit
@@ -36,8 +36,11 @@ use Rattle.ip_save.specs.Batches.{HasShortContents}
 use Rattle.ip_tree.specs.TreeView.{IsView, stored_view}
 use Rattle.ip_tree.specs.declared.tree.Tree as lazy
 use Rattle.ip_three.specs.Answered.{MergedView}
+use Rattle.ip_three.specs.declared.merge.ThreeFault.{ThreeFault}
+use Rattle.ip_three.specs.declared.merge.ThreeFault.TheVariants as three
 use Rattle.ip_store.specs.Changes.{Appends, Changes, HasAnswer}
 use Rattle.ip_store.specs.Commits.{conditions_of, fault_reply, met_nothing}
+use Rattle.ip_store.specs.Showing.{fault_from}
 use Rattle.ip_store.specs.Store.{IsOf, Holds}
 use Rattle.ip_store.specs.Trees.{IsTreeOf}
 use Rattle.ip_store.specs.Work.{AreParents, state_at}
@@ -225,6 +228,13 @@ IsForwarded r number result = ⊥
 abbrev pub IsBaseTree : (ℕ → Option Record) → Repository → Option ℕ → lazy.Tree → Type 0
 IsBaseTree records r None tree = IsView records tree no_view
 IsBaseTree records r (Some base) tree = IsTreeOf records r base tree
+
+-- of trees that were not merged
+abbrev pub stopped_by : ThreeFault → Result Joined StoreFault
+stopped_by (three.Conflict path) = Ok (Joined.Conflict path)
+stopped_by (three.Limit limit) = Err (StoreFault.Limit limit)
+stopped_by (three.Fetch fault) = Err (fault_from fault)
+stopped_by three.Memory = Err StoreFault.Memory
 
 -- the outcome is one of the machine's
 abbrev pub IsOutcome : Rule → Repository → Sides → Outcome → Type 0

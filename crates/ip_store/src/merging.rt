@@ -9,7 +9,7 @@ ghost use Rattle.ip_spec.specs.Repository.{Repository, is_retained};
 ghost use Rattle.ip_spec.specs.Step.{with_branch};
 ghost use Rattle.ip_store.specs.Changes.{Appends, Changes, HasAnswer, IsUndamaged, LimitsSpace};
 ghost use Rattle.ip_store.specs.Faults.{ground_store};
-ghost use Rattle.ip_store.specs.Merging.{merge_reply, AnswersMerge, AppendsMerge, GoesOnFrom, LimitsMerge, MergesAtMoments, IsCourse, IsCourseBy, IsBaseTree, IsJoin, IsJoined, IsForward, IsForwarded};
+ghost use Rattle.ip_store.specs.Merging.{merge_reply, AnswersMerge, AppendsMerge, GoesOnFrom, LimitsMerge, MergesAtMoments, IsCourse, IsCourseBy, IsBaseTree, IsJoin, IsJoined, IsForward, IsForwarded, stopped_by};
 ghost use Rattle.ip_store.specs.Showing.{IsFetchedOr};
 ghost use Rattle.ip_store.specs.Store.{IsOf, Holds, SameTables, image_records};
 ghost use Rattle.ip_store.specs.Trees.{OnlyLooks, RecordsStay};
@@ -94,6 +94,18 @@ fn both(alloc: Global, one: Number, other: Number) -> Result<Numbers, Memory>
     numbers.push(one)?;
     numbers.push(other)?;
     Ok(numbers)
+}
+
+// What comes of trees that were not merged.
+fn stopped_by(fault: ThreeFault) -> Result<Joined, StoreFault>
+    ensures { result ≡ stopped_by fault }
+{
+    match fault {
+        ThreeFault::Conflict(path) => Ok(Joined::Conflict(path)),
+        ThreeFault::Limit(limit) => Err(StoreFault::Limit(limit)),
+        ThreeFault::Fetch(fault) => Err(StoreFault::from(fault)),
+        ThreeFault::Memory => Err(StoreFault::Memory),
+    }
 }
 
 impl Store {
@@ -268,10 +280,7 @@ impl Store {
             rules,
         ) {
             Ok(tree) => Ok(Joined::Tree(tree)),
-            Err(ThreeFault::Conflict(path)) => Ok(Joined::Conflict(path)),
-            Err(ThreeFault::Limit(limit)) => Err(StoreFault::Limit(limit)),
-            Err(ThreeFault::Fetch(fault)) => Err(StoreFault::from(fault)),
-            Err(ThreeFault::Memory) => Err(StoreFault::Memory),
+            Err(fault) => stopped_by(fault),
         }
     }
 

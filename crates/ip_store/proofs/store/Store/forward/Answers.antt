@@ -39,20 +39,42 @@ append_branch_record-requires-clause-fits g c = subst (Fits 1) (sym c.in-Ok.ensu
 
 pub returns-in-Ok-append_branch_record-clause-tables :
     goal.returns-in-Ok-append_branch_record-clause-tables
-returns-in-Ok-append_branch_record-clause-tables g c r of forward has = ?
+returns-in-Ok-append_branch_record-clause-tables g c r of forward has =
+    let may = subst (MayName r) (sym c.in-Ok.ensures) (set_may r c.args.branch.now c.args.number c.args.self.now of forward.retained (forward_room r c.args.branch.now c.args.number forward)) in
+    moved_goes r c.args.branch.now c.args.number c.append_branch_record.new.self
+    (subst (λ x. Renames r x (Ok tt) c.append_branch_record.new.self) c.in-Ok.ensures (c.in-Ok-append_branch_record.ensures.tables r of may))
 
 pub returns-in-Ok-append_branch_record-clause-any_moment :
     goal.returns-in-Ok-append_branch_record-clause-any_moment
-returns-in-Ok-append_branch_record-clause-any_moment g c told r held forward = ?
+returns-in-Ok-append_branch_record-clause-any_moment g c told r held forward =
+    let of = held.tables in
+    let may = subst (MayName r) (sym c.in-Ok.ensures) (set_may r c.args.branch.now c.args.number c.args.self.now of forward.retained (forward_room r c.args.branch.now c.args.number forward)) in
+    with_value c.in-Ok-append_branch_record.field-0 (Merge.Forward c.retained_name-name.result) r (with_branch r c.args.branch.now c.args.number) c.append_branch_record.new.self (g.G.Ground.told c.args.outside.now) (g.G.Ground.told c.append_branch_record.new.outside)
+    (subst (λ x. Changes {A = Unit {0}} r (renamed r x) (Ok c.in-Ok-append_branch_record.field-0) c.append_branch_record.new.self (g.G.Ground.told c.args.outside.now) (g.G.Ground.told c.append_branch_record.new.outside)) c.in-Ok.ensures
+    (c.in-Ok-append_branch_record.ensures.any_moment told r held may))
 
 pub returns-in-Err-append_branch_record-clause-comes :
     goal.returns-in-Err-append_branch_record-clause-comes
-returns-in-Err-append_branch_record-clause-comes g c r of forward = ?
+returns-in-Err-append_branch_record-clause-comes g c r of forward =
+    let may = subst (MayName r) (sym c.in-Ok.ensures) (set_may r c.args.branch.now c.args.number c.args.self.now of forward.retained (forward_room r c.args.branch.now c.args.number forward)) in
+    let fault = c.in-Err-append_branch_record.fault in
+    forward_comes r c.args.branch.now c.args.number c.append_branch_record.new.self fault
+    (subst (λ x. Renames r x (Err fault) c.append_branch_record.new.self) c.in-Ok.ensures (c.in-Err-append_branch_record.ensures.tables r of may))
 
 pub returns-in-Err-append_branch_record-clause-tables :
     goal.returns-in-Err-append_branch_record-clause-tables
-returns-in-Err-append_branch_record-clause-tables g c r of forward has = ?
+returns-in-Err-append_branch_record-clause-tables g c r of forward has =
+    let may = subst (MayName r) (sym c.in-Ok.ensures) (set_may r c.args.branch.now c.args.number c.args.self.now of forward.retained (forward_room r c.args.branch.now c.args.number forward)) in
+    let fault = c.in-Err-append_branch_record.fault in
+    forward_goes r c.args.branch.now c.args.number c.append_branch_record.new.self fault
+    (subst (λ x. Renames r x (Err fault) c.append_branch_record.new.self) c.in-Ok.ensures (c.in-Err-append_branch_record.ensures.tables r of may)) has
 
 pub returns-in-Err-append_branch_record-clause-any_moment :
     goal.returns-in-Err-append_branch_record-clause-any_moment
-returns-in-Err-append_branch_record-clause-any_moment g c told r held forward = ?
+returns-in-Err-append_branch_record-clause-any_moment g c told r held forward =
+    let of = held.tables in
+    let may = subst (MayName r) (sym c.in-Ok.ensures) (set_may r c.args.branch.now c.args.number c.args.self.now of forward.retained (forward_room r c.args.branch.now c.args.number forward)) in
+    let fault = c.in-Err-append_branch_record.fault in
+    with_fault fault r (with_branch r c.args.branch.now c.args.number) c.append_branch_record.new.self (g.G.Ground.told c.args.outside.now) (g.G.Ground.told c.append_branch_record.new.outside)
+    (subst (λ x. Changes {A = Unit {0}} r (renamed r x) (Err fault) c.append_branch_record.new.self (g.G.Ground.told c.args.outside.now) (g.G.Ground.told c.append_branch_record.new.outside)) c.in-Ok.ensures
+    (c.in-Err-append_branch_record.ensures.any_moment told r held may))
