@@ -96,11 +96,10 @@ module _ (rule : Rule) (r : Repository) (number : ℕ) (branch : Bytes) (info : 
     turn_into : (met : Met) (reply : Reply) (after : Repository) → met.refused ≡ false → MayMeet met reply → ((work : Work) → (refused : Refused Turned) × ((reply, state_at after work) ≡ or_refused (state_at r work) refused) × Into met work refused)
         → IsTurnOf met reply after
     turn_into met reply after unrefused meets of work target is =
-        let (refused, same, into) = of work in
-        (
+        let (refused, same, into) = of work in (
           meets work target,
           when_false met.refused _ (Merging rule (state_at r work) target branch info (conditions_of met) (reply, state_at after work)) unrefused
-          (refused, same, subst (λ (both : Refused (ℕ × ℕ)). MatchResult both (λ both. MergesInto rule (state_at r work) (conditions_of met) both.0 branch both.1 info refused) (λ reply. refused ≡ Err reply)) (sym (named work target is)) into),
+              (refused, same, subst (λ (both : Refused (ℕ × ℕ)). MatchResult both (λ both. MergesInto rule (state_at r work) (conditions_of met) both.0 branch both.1 info refused) (λ reply. refused ≡ Err reply)) (sym (named work target is)) into),
         )
 
     pub turn_current : is_ancestor r number at ≡ true → IsQuiet (Reply.Current (name_at r at)) r

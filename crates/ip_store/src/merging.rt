@@ -270,15 +270,7 @@ impl Store {
         let base = self.base_tree(alloc, outside, sides.base)?;
         let left = self.tree_of(outside, sides.head)?;
         let right = self.tree_of(outside, sides.number)?;
-        match merge_trees(
-            alloc,
-            outside,
-            &mut self.space,
-            &base,
-            &left,
-            &right,
-            rules,
-        ) {
+        match merge_trees(alloc, outside, &mut self.space, &base, &left, &right, rules) {
             Ok(tree) => Ok(Joined::Tree(tree)),
             Err(fault) => stopped_by(fault),
         }
