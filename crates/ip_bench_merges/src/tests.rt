@@ -11,6 +11,7 @@ use std::alloc::{AllocError, Global};
 use std::test::Fail;
 
 // A transcript, in which letters stand for names of commits and of their roots. The names come from bench/replies.py.
+#[derive(Drop)]
 struct Case {
     names: &'static [&'static str],
     transcript: &'static str,
@@ -191,7 +192,7 @@ value 34
 };
 
 // Sets of lines are joined: a line that one side took away goes, and one that a side has new comes.
-const LINES: Case = Case {
+const SETS_OF_LINES: Case = Case {
     names: &[
         "18dc2cf6d32f8d77b8ef0eff0b36bb1df8f115ad7502a0c2fcc7804c7dc19b6a",
         "b6935be82fb056bfef468359478dcac0c56348565734b7b592559a1aee2a5a14",
@@ -432,7 +433,7 @@ fn merges_are_answered(rt: HostRuntime) -> Result<(), Fail> {
         NUMBERS,
         A_SUM_THAT_IS_TOO_GREAT,
         NO_NUMBER,
-        LINES,
+        SETS_OF_LINES,
         ONE_PATH_UNDER_ANOTHER,
         CRISS_CROSS,
         EDITS_OF_BOTH_SIDES,
