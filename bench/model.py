@@ -1,5 +1,5 @@
 """A plain model of a store, for the tests of this folder: what each line is answered, with the names of docs/FORMAT.md. It knows
-the lines that the tests give, and merges by the program's rules."""
+the lines that the tests give, and merges by the program's rules or by others."""
 
 import hashlib
 import re
@@ -119,25 +119,38 @@ def joined(base, left, right):
     return b"".join(line + b"\n" for line in sorted((one & other) | ((one | other) - old)))
 
 
-def decided(path, base, left, right):
-    """What a merge has at a path, by the program's rules."""
+def unmerged(base, left, right):
+    """Sides that differ conflict."""
+    raise Conflict
+
+
+# The program's rules: each is for the path and all under it.
+PROGRAM = {("count",): counted, ("lines",): joined}
+
+
+def rule_of(rules, path):
+    """The rule of the longest path that is this one or lies above it."""
+    for depth in range(len(path), -1, -1):
+        if path[:depth] in rules:
+            return rules[path[:depth]]
+    return unmerged
+
+
+def decided(rules, path, base, left, right):
+    """What a merge has at a path."""
     if left == right or right == base:
         return left
     if left == base:
         return right
-    if path[0] == "count":
-        return counted(base, left, right)
-    if path[0] == "lines":
-        return joined(base, left, right)
-    raise Conflict
+    return rule_of(rules, path)(base, left, right)
 
 
-def merged(base, left, right):
+def merged(rules, base, left, right):
     """The merge of two trees, or the least path that conflicts."""
     tree, conflicts = {}, []
     for path in sorted(set(base) | set(left) | set(right)):
         try:
-            value = decided(path, base.get(path), left.get(path), right.get(path))
+            value = decided(rules, path, base.get(path), left.get(path), right.get(path))
         except Conflict:
             conflicts.append(path)
         else:
@@ -188,7 +201,8 @@ class Refused(Exception):
 class Model:
     """A store and its work."""
 
-    def __init__(self):
+    def __init__(self, rules=PROGRAM):
+        self.rules = rules
         self.commits = []
         self.names = {}
         self.branches = {}
@@ -196,7 +210,7 @@ class Model:
 
     def copy(self):
         """A model that goes its own way."""
-        other = Model()
+        other = Model(self.rules)
         other.commits, other.names, other.branches = list(self.commits), dict(self.names), dict(self.branches)
         other.tree, other.parents = self.tree, self.parents
         return other
@@ -250,6 +264,16 @@ class Model:
         self.tree = without(self.tree, steps_of(path))
         return "ok"
 
+    def do_graft(self, ref, place, target):
+        source, target = () if place == "/" else steps_of(place), steps_of(target)
+        found = {target + path[len(source):]: its for path, its in self.at(ref).tree.items() if is_under(path, source)}
+        if not found:
+            raise Refused("absent")
+        if max(map(len, found)) > 64:
+            raise Refused("limit depth")
+        self.tree = {path: its for path, its in self.tree.items() if not is_under(path, target) and not is_under(target, path)} | found
+        return "ok"
+
     def do_get(self, path):
         return said(self.tree, steps_of(path))
 
@@ -289,7 +313,7 @@ class Model:
         bases = self.bases(head, commit)
         if len(bases) > 1:
             raise Refused(f"bases {len(bases)}")
-        tree, conflict = merged(bases[0].tree if bases else {}, head.tree, commit.tree)
+        tree, conflict = merged(self.rules, bases[0].tree if bases else {}, head.tree, commit.tree)
         if conflict is not None:
             raise Refused("conflict " + "/".join(conflict))
         return "merged " + self.add(branch, Commit(len(self.commits), tree, [head, commit], int(date), author, " ".join(message))).name
