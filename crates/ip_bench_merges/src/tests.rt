@@ -1,36 +1,7 @@
-//! Merges: transcripts, a caller's rule, directories of many entries, and a ground that stops at each call.
-use ip_app::{Silent, Status};
-use ip_base::{Blob, Items, Memory, Path, Step};
-use ip_bench::{
-    answers, answers_on, bench, count_lines, fresh_control, init, play, replies_of, script_of,
-    serve_by, source, told_after,
-};
-use ip_ground::{Bench, FileName, Ground};
-use ip_merge::{Answer, Call, Merged, Rules, Three};
-use std::alloc::{AllocError, Global};
+//! Merges: how the commits stand to each other, and what a merge is that they make.
+use crate::cases::Case;
+use ip_bench::play;
 use std::test::Fail;
-
-// A transcript, in which letters stand for names of commits and of their roots. The names come from bench/replies.py.
-#[derive(Drop)]
-struct Case {
-    names: &'static [&'static str],
-    transcript: &'static str,
-}
-
-impl Case {
-    // The transcript with its names.
-    fn text(&self, alloc: Global) -> Result<String, AllocError> {
-        let mut out = String::new(alloc);
-        for letter in self.transcript.chars() {
-            let place = (letter as usize).wrapping_sub('A' as usize);
-            match self.names.get(place) {
-                Some(name) => out.push_str(name)?,
-                None => out.push(letter)?,
-            }
-        }
-        Ok(out)
-    }
-}
 
 // Both sides have the same contents at each path, and no common ancestor.
 const EQUAL_SIDES: Case = Case {
@@ -92,162 +63,26 @@ stat 0 2 2 idle
 ",
 };
 
-// What both sides add to the number of the ancestor is added up.
-const NUMBERS: Case = Case {
+const NOTHING_TO_MERGE: Case = Case {
     names: &[
-        "1b9eb091890248c59eadace5e04353d503d8b1f0b0117c5b2e9ded08e7d6e394",
-        "83f4b60e443b96215ea0bf2d0b48c43efee1cc69b88be93ae8f241ba420b8cb5",
-        "11150f066c3ed129257d4c7ab0e8295fef63a73e0a67c1d619b2d16b4dc5ebc9",
-        "ab234bac678ef5ccf5d471711ba85f86796978a1ab535e68e9413e4748672245",
+        "363243354106fe784e750f162f5147ec8fd3d66a3f3b58508b264639b524e93c",
+        "571ffe90a283223a2d630b786eff9b4c1fe990a15307903ee35e5d7d8fb3ecf8",
     ],
     transcript: "\
-> set count/n 3130
-ok
+> merge main dev 0 a m
+no-branch main
 > commit main 0 a m
 committed A
-> branch dev main
-ok
-> set count/n 3133
-ok
-> commit main 1 a m
-committed B
-> checkout dev
-at A
-> set count/n 38
-ok
-> commit dev 2 a m
-committed C
-> merge dev main 3 a m
-merged D
-> cat main count/n
-value 3131
-> log main
-log 4 D C B A
-",
-};
-
-const A_SUM_THAT_IS_TOO_GREAT: Case = Case {
-    names: &[
-        "79763fe59740006a03bfd17dad026f1c6fbbcfc212121d2d984a507039f98d61",
-        "20e4f934076dc05b6f4086924060b65e2bdd7a87ac553c950aeb1142fc508b31",
-        "8b5a744337410f5541e6d7513bcbf8ad918d190cbc2a4295b8b598ebcfc5886f",
-    ],
-    transcript: "\
-> set count/n 30
-ok
-> commit main 0 a m
-committed A
-> branch dev main
-ok
-> set count/n 39323233333732303336383534373735383037
-ok
-> commit main 1 a m
-committed B
-> checkout dev
-at A
-> set count/n 31
-ok
-> commit dev 2 a m
-committed C
-> merge dev main 3 a m
-conflict count/n
-> merge main dev 3 a m
-conflict count/n
+> merge @A dev 1 a m
+no-branch dev
+> merge dev main 1 a m
+no-branch dev
+> merge @B dev 1 a m
+no-commit B
+> merge main main 1 a m
+current A
 > branches
-branches 2 dev C main B
-",
-};
-
-const NO_NUMBER: Case = Case {
-    names: &[
-        "f0dc85189cea30c2ab495b33d35a50b0995b0573ec6ee05db40ffc2d4beb0eab",
-        "52d4b0ab47773b742413d902790bf44264476a2a596a34b2b7a378e6dc2340c9",
-        "fd74dd55907ef815304da427dac193db26e479b73a7e6098e9f4dde07eb64b87",
-        "29907a55a2a363ce190eaa394bd1dff4f5741da1ce95c08d173175365915f456",
-    ],
-    transcript: "\
-> set count 3031
-ok
-> commit main 0 a m
-committed A
-> empty
-ok
-> set count 31
-ok
-> commit dev 1 a m
-committed B
-> merge dev main 2 a m
-conflict count
-> empty
-ok
-> set count 33
-ok
-> commit one 2 a m
-committed C
-> merge dev one 3 a m
-merged D
-> cat one count
-value 34
-",
-};
-
-// Sets of lines are joined: a line that one side took away goes, and one that a side has new comes.
-const SETS_OF_LINES: Case = Case {
-    names: &[
-        "18dc2cf6d32f8d77b8ef0eff0b36bb1df8f115ad7502a0c2fcc7804c7dc19b6a",
-        "b6935be82fb056bfef468359478dcac0c56348565734b7b592559a1aee2a5a14",
-        "b48b277c6a1b77edf181157e1dde3529a511a454c95b1cb01b277bb77723771e",
-        "98f55834af507af30d1ca1b6ebe8281ae26417dbdc25d1187eb7a13963de5930",
-    ],
-    transcript: "\
-> set lines/x 620a610a
-ok
-> commit main 0 a m
-committed A
-> branch dev main
-ok
-> set lines/x 610a
-ok
-> set lines/y 7a
-ok
-> commit main 1 a m
-committed B
-> checkout dev
-at A
-> set lines/x 630a620a610a
-ok
-> commit dev 2 a m
-committed C
-> merge dev main 3 a m
-merged D
-> cat main lines/x
-value 610a630a
-> cat main lines/y
-value 7a
-",
-};
-
-// One side has contents where the other one has a directory.
-const ONE_PATH_UNDER_ANOTHER: Case = Case {
-    names: &[
-        "da267306044e5f45350fe52ae5ff610a2ea2c11cca90ab7a85cb3685893e192b",
-        "d37aa23f19579c26f47202f735ad80594a7c1c91fad552b01fdfe7929ee42b8b",
-    ],
-    transcript: "\
-> set a 01
-ok
-> commit main 0 a m
-committed A
-> empty
-ok
-> set a/b 01
-ok
-> commit dev 1 a m
-committed B
-> merge dev main 2 a m
-conflict a
-> merge main dev 2 a m
-conflict a
+branches 1 main A
 ",
 };
 
@@ -296,6 +131,157 @@ commit D 3 F 3 a 2 B C m
 log 4 D C B A
 > branches
 branches 3 dev E main D old D
+",
+};
+
+// Crossed merges of three branches.
+const SEVERAL_LEAST_ANCESTORS: Case = Case {
+    names: &[
+        "363243354106fe784e750f162f5147ec8fd3d66a3f3b58508b264639b524e93c",
+        "7c9bcd64703d389ab536c8ac2bc4853afbbbe6080c2bf1db62a14071dcbd37e8",
+        "739bdcb404e6f9a6061155eb9d3b52b824b3d9e939738f66768e7ea04718d2cc",
+        "a4420eefba5925efb97b8f0ab98da4317e0d1d0b09073f790b432bd4f44b6465",
+        "f20f83a8e6dd3577816a7c4d0c94ee3d08edcd80128191b7b772a41f07f2d3dc",
+        "221f1533a45866eed59815d1fadd74fd183dd2d708b0e8896736dc46cf540aff",
+        "83908b4d27cf82edb5cb9822bece3e0ab779720ff2c8ca84d6a0f100c2aa613f",
+        "b60656b3a389a37406b1c8783c8fa1bd577feeb54ca47cbe1c5cbf27c398acc2",
+    ],
+    transcript: "\
+> commit one 0 a m
+committed A
+> branch two one
+ok
+> branch three one
+ok
+> set a 01
+ok
+> commit one 1 a m
+committed B
+> checkout two
+at A
+> set b 01
+ok
+> commit two 2 a m
+committed C
+> checkout three
+at A
+> set c 01
+ok
+> commit three 3 a m
+committed D
+> branch a one
+ok
+> branch b two
+ok
+> branch c three
+ok
+> merge b one 4 a m
+merged E
+> merge c one 5 a m
+merged F
+> merge a two 6 a m
+merged G
+> merge c two 7 a m
+merged H
+> lcas one two
+lcas 3 B C D
+> merge two one 8 a m
+bases 3
+> merge one two 8 a m
+bases 3
+> lcas three one
+lcas 1 D
+> merge three one 9 a m
+current F
+> merge one three 9 a m
+forward F
+> merge two one 10 a m
+bases 3
+",
+};
+
+// The same merge again, on a branch that is where the first one was, would get the same name.
+const A_NAME_THAT_IS_THERE: Case = Case {
+    names: &[
+        "571ffe90a283223a2d630b786eff9b4c1fe990a15307903ee35e5d7d8fb3ecf8",
+        "b7a07986363e841eef280a60142d79a3fe542c8675a0645f6d272ebf9afc3d2b",
+        "c96ca222058e3daa7e64888e83978539ab7130f5796cf3ca85a05ce3649e7e9f",
+        "cd1c388a75dda460eadfe3ad79c82d297df412a1f2f56e7925fa1dcc61778abe",
+    ],
+    transcript: "\
+> set k 01
+ok
+> commit main 0 a m
+committed A
+> empty
+ok
+> set l 01
+ok
+> commit dev 1 a m
+committed B
+> branch old main
+ok
+> merge dev main 2 a m
+merged C
+> merge dev old 2 a m
+existing C
+> merge dev old 3 a m
+merged D
+",
+};
+
+// The work goes on from the commit that the branch was at, and keeps its tree and its parents.
+const THE_WORK_STAYS: Case = Case {
+    names: &[
+        "da267306044e5f45350fe52ae5ff610a2ea2c11cca90ab7a85cb3685893e192b",
+        "63559135a5b425a2db7b2ca905a496b3496f1202bf815a5b20de09d55d424090",
+        "1995e9907fb7fd0348f0f8d61aa7e93b5e89e9722c92e35d5c84325aac622d07",
+        "8ba8a4a664aeb4b6f92d829b18e7c1d44beec6eecbe4866d83536634a68fc46e",
+        "67b5d21188d5d485996f8cab32b6da2767d5e814d4b12d019ebf06de094111de",
+        "89ba5c442475d73474d2e2d1714225b0a8aaf9789c7557d0fd6d1b0e88160891",
+        "b754e6959776a3605827dbebdce1dfb6ba187f346376b4444fd1499d23a761d3",
+    ],
+    transcript: "\
+> set a 01
+ok
+> commit main 0 a m
+committed A
+> branch dev main
+ok
+> set b 01
+ok
+> commit dev 1 a m
+committed B
+> checkout main
+at A
+> set c 01
+ok
+> commit main 2 a m
+committed C
+> set d 01
+ok
+> merge dev main 3 a m
+merged D
+> list /
+list 3 c:a c:c c:d
+> commit main 4 a m
+head-moved D
+> commit other 4 a m
+committed E
+> show other
+commit E 4 F 4 a 1 C m
+> parent main
+ok
+> commit main 5 a m
+committed G
+> show main
+commit G 5 F 5 a 2 E D m
+> merge main dev 6 a m
+forward G
+> merge @D dev 6 a m
+current G
+> merge dev other 6 a m
+forward G
 ",
 };
 
@@ -371,56 +357,209 @@ lcas 1 C
 ",
 };
 
-const NOTHING_TO_MERGE: Case = Case {
+// A directory that a merge leaves without entries is gone, also where each side left one; the root stays.
+const NOTHING_IS_LEFT: Case = Case {
     names: &[
-        "363243354106fe784e750f162f5147ec8fd3d66a3f3b58508b264639b524e93c",
-        "571ffe90a283223a2d630b786eff9b4c1fe990a15307903ee35e5d7d8fb3ecf8",
+        "2bc4db244353d92a4d1bd9a1da3a6bc8508749ee6526a4b7e898d113c9325596",
+        "cc98c555c585505adad918e3901feca4ab6458ea2951792e1b3cefc93b7ff0f4",
+        "fa34ba32d4b7969ef2f263bf74dee6629920f18c05939dc1d99414bf8b2c705f",
+        "a19a88cd561ef3be076c3c49dc68574cfc618aea05d978cdce57296df0844b92",
+        "395c2f5598a1643a205154c6f4c46ce36895b28e6c35660a95e5c6fd5ef9aeab",
+        "21b50ef1dc24465450863307f0e99151c2fda3d1dc7c8d3fcdb4f30600c4e39a",
+        "732c196ab982e7ccfe98b59ab6cd4f3fcd7b8639bbed472ae0d8eecdc712b041",
     ],
     transcript: "\
-> merge main dev 0 a m
-no-branch main
+> set d/x 01
+ok
+> set d/y 01
+ok
 > commit main 0 a m
 committed A
-> merge @A dev 1 a m
-no-branch dev
-> merge dev main 1 a m
-no-branch dev
-> merge @B dev 1 a m
-no-commit B
-> merge main main 1 a m
-current A
-> branches
-branches 1 main A
+> branch dev main
+ok
+> rm d/x
+ok
+> commit main 1 a m
+committed B
+> checkout dev
+at A
+> rm d/y
+ok
+> commit dev 2 a m
+committed C
+> merge dev main 3 a m
+merged D
+> show main
+commit D 3 E 3 a 2 B C m
+> checkout main
+at D
+> list /
+list 0
+> get d
+absent
+> empty
+ok
+> commit main 4 a m
+head-moved D
+> empty
+ok
+> commit none 4 a other
+committed F
+> merge none main 5 a m
+merged G
+> show main
+commit G 5 E 5 a 2 D F m
 ",
 };
 
-// The same merge again, on a branch that is where the first one was, would get the same name.
-const A_NAME_THAT_IS_THERE: Case = Case {
+// Values count, and not the records that they stand in: bytes that are set again have not changed, and bytes that both sides set are the same.
+const BYTES_THAT_ARE_SET_AGAIN: Case = Case {
     names: &[
-        "571ffe90a283223a2d630b786eff9b4c1fe990a15307903ee35e5d7d8fb3ecf8",
-        "b7a07986363e841eef280a60142d79a3fe542c8675a0645f6d272ebf9afc3d2b",
-        "c96ca222058e3daa7e64888e83978539ab7130f5796cf3ca85a05ce3649e7e9f",
-        "cd1c388a75dda460eadfe3ad79c82d297df412a1f2f56e7925fa1dcc61778abe",
+        "3b8671cf203b8eede40204bc55bc51a682d4b0f30c87b4b26a09b3427265da91",
+        "0f6f67cb950c2b569a3f1402bd62df28defb00be2d68c2389ca5a06b3af8858d",
+        "2958ab6574586a0501aaefb869253512e904fdd93c61026ebf56d52022618e12",
+        "61d6ee2cd5dbd4a90b55798630f98fb59b2d86ed74e629fcb2f21b154a38006d",
+        "765dc2b80e20885572711ac22fe3cc81770c235937437907a8b877e7d1e4a6bc",
+        "8c6a67b7b4593ac5c15e2c4df756a4514f5b83ad8a8ea1feb563b57e7d06e64d",
     ],
     transcript: "\
 > set k 01
 ok
+> set l 01
+ok
+> set count/n 31
+ok
+> set d/x 01
+ok
+> set d/y 01
+ok
 > commit main 0 a m
 committed A
-> empty
+> branch dev main
+ok
+> set k 02
 ok
 > set l 01
 ok
-> commit dev 1 a m
-committed B
-> branch old main
+> set count/n 32
 ok
-> merge dev main 2 a m
-merged C
-> merge dev old 2 a m
-existing C
-> merge dev old 3 a m
+> rm d
+ok
+> set e/x 05
+ok
+> set e/y 06
+ok
+> graft @A d f
+ok
+> commit main 1 a m
+committed B
+> checkout dev
+at A
+> set k 01
+ok
+> set l 03
+ok
+> set count/n 31
+ok
+> set d/x 01
+ok
+> set d/y 01
+ok
+> set e/y 06
+ok
+> set e/x 05
+ok
+> graft @A / g
+ok
+> rm g/k
+ok
+> rm g/l
+ok
+> rm g/count
+ok
+> graft @A d f
+ok
+> commit dev 2 a m
+committed C
+> merge dev main 3 a m
 merged D
+> show main
+commit D 3 E 3 a 2 B C m
+> cat main k
+value 02
+> cat main l
+value 03
+> cat main count/n
+value 32
+> cat main d
+absent
+> cat main e/x
+value 05
+> cat main f
+dir 2
+> cat main g/d
+dir 2
+> merge @B dev 4 a m
+merged F
+> show dev
+commit F 4 E 4 a 2 C B m
+",
+};
+
+// A commit that changes nothing has the tree of the one before it.
+const TREES_OF_ONE_RECORD: Case = Case {
+    names: &[
+        "d9e85b2b74f2f2481b1a83755b9cbc50449e67f651730b61232207c7a55794b7",
+        "f4c7d531a00490d3350b44ba20ec870dfbd02b25f096746518e365be30dfe4c7",
+        "b4d42274ab4743209ac497a06606128a7719070c655e7bb3c5198f23a668f271",
+        "32dd7cb72ab79d01670a54087f529f1627704e6a32aaeda80a2d666d3c484967",
+        "6ec943d210f563d3274a0f3b70595a764231f912879a2f803b338de772e62aaf",
+        "f8a0457430a65b04bd5a53303a93938383fb3d6b3f62eb513927b2f00db6bd6e",
+        "a257cf8a239abb0a2c542e00fa337e892c0aafbd9f4ee93866ea233d2d51ca76",
+        "02dd77b57360298f81e22ef96241defc0dddb5ef7cdaf003921d4aea0b44f757",
+        "994ecc2f0840f75ae481981fbcd34ff2e13e64d8ec742ee9376dcb605758b91f",
+    ],
+    transcript: "\
+> set a 01
+ok
+> set d/x 01
+ok
+> commit main 0 a m
+committed A
+> branch dev main
+ok
+> branch same main
+ok
+> commit main 1 a m
+committed B
+> checkout same
+at A
+> commit same 2 a m
+committed C
+> checkout dev
+at A
+> set d/y 02
+ok
+> rm a
+ok
+> commit dev 3 a m
+committed D
+> merge same main 4 a m
+merged E
+> show main
+commit E 4 F 4 a 2 B C m
+> merge dev main 5 a m
+merged G
+> show main
+commit G 5 H 5 a 2 E D m
+> cat main a
+absent
+> cat main d/y
+value 02
+> merge @C dev 6 a m
+merged I
+> show dev
+commit I 6 H 6 a 2 D C m
 ",
 };
 
@@ -430,212 +569,17 @@ fn merges_are_answered(rt: HostRuntime) -> Result<(), Fail> {
     for case in [
         EQUAL_SIDES,
         SIDES_THAT_DIFFER,
-        NUMBERS,
-        A_SUM_THAT_IS_TOO_GREAT,
-        NO_NUMBER,
-        SETS_OF_LINES,
-        ONE_PATH_UNDER_ANOTHER,
-        CRISS_CROSS,
-        EDITS_OF_BOTH_SIDES,
         NOTHING_TO_MERGE,
+        CRISS_CROSS,
+        SEVERAL_LEAST_ANCESTORS,
         A_NAME_THAT_IS_THERE,
+        THE_WORK_STAYS,
+        EDITS_OF_BOTH_SIDES,
+        NOTHING_IS_LEFT,
+        BYTES_THAT_ARE_SET_AGAIN,
+        TREES_OF_ONE_RECORD,
     ] {
         play(alloc, &case.text(alloc)?)?;
     }
-    Ok(())
-}
-
-// The left bytes and the right ones behind them, where both sides have some.
-fn joined(alloc: Global, three: &Three) -> Result<Merged, Memory> {
-    match (&three.left, &three.right) {
-        (Some(left), Some(right)) => {
-            let mut all = Vec::from_slice(alloc, left.as_slice())?;
-            all.extend_from_slice(right.as_slice())?;
-            Ok(Merged::Keep(Some(Blob::of(all))))
-        }
-        _ => Ok(Merged::Conflict),
-    }
-}
-
-// A path of one step.
-fn path_of(alloc: Global, step: &[u8]) -> Result<Path, Memory> {
-    let mut steps = Items::empty(alloc);
-    steps.push(Step::of(Blob::of(Vec::from_slice(alloc, step)?)))?;
-    Ok(Path::of(steps))
-}
-
-// Serves a script by rules of which the one at `joined` is a closure.
-fn serve_joined(alloc: Global, ground: &mut Bench, script: &[u8]) -> Result<Status, Memory> {
-    let mut rules = Rules::new(alloc);
-    let both: Answer = Box::new(alloc, move |three: &Three| joined(alloc, three))?;
-    rules.add_call(path_of(alloc, b"joined")?, Call::new(both))?;
-    let mut lines = source(alloc, script, &[])?;
-    Ok(serve_by(alloc, &mut lines, ground, &rules, &mut Silent)?)
-}
-
-const JOINED: Case = Case {
-    names: &[
-        "ce872989962db7dbb032f99cb808bbbad20d68aca459a24dfbdee2d4220f5099",
-        "8d03a41818a35df550925ead62407e50633869bf27fdcf0b5aec910cd8a49944",
-        "dd7004f68621221c213976060a791ae722ca18d584e30e390194a29b60a424df",
-    ],
-    transcript: "\
-> set joined/x 01
-ok
-> commit main 0 a m
-committed A
-> empty
-ok
-> set joined/x 02
-ok
-> commit dev 1 a m
-committed B
-> merge dev main 2 a m
-merged C
-> cat main joined/x
-value 0102
-> merge main dev 3 a m
-forward C
-",
-};
-
-#[test]
-fn a_callers_rule_is_asked(rt: HostRuntime) -> Result<(), Fail> {
-    let alloc = rt.alloc();
-    let transcript = JOINED.text(alloc)?;
-    let mut ground = bench(alloc, &[])?;
-    assert_eq!(rt; init(alloc, &mut ground)?, Status::Done);
-    let Ok(status) = serve_joined(alloc, &mut ground, &script_of(alloc, &transcript)?) else {
-        return Err("no memory")?;
-    };
-    assert_eq!(rt; status, Status::Done);
-    assert_eq!(rt; ground.said(alloc)?, replies_of(alloc, &transcript)?);
-    Ok(())
-}
-
-// Puts a line for each of these steps: `set k00 01` and so on.
-fn push_sets(
-    script: &mut Vec<u8>,
-    steps: impl Iterator<Item = u8> + Drop,
-) -> Result<(), AllocError> {
-    for step in steps {
-        script.extend_from_slice(b"set k")?;
-        script.push(b'0' + step / 10 % 10)?;
-        script.push(b'0' + step % 10)?;
-        script.extend_from_slice(b" 01\n")?;
-    }
-    Ok(())
-}
-
-// The root of 60 entries has one name, whether a merge made it of 40 and 40, or a work one by one from the last to the first.
-const WIDE: &str = "\
-merged b76fa9b1df68e92b3b8252545fe14ccd63151334ecd4c2db0ad3d318a7828cab
-ok
-";
-
-const WIDE_SHOWN: &str = "\
-committed 4640035fd0aed1eee2a4fae093693e86eaff5f0ab71bdd9c032264ca8b756f89
-commit b76fa9b1df68e92b3b8252545fe14ccd63151334ecd4c2db0ad3d318a7828cab 2 d783baa9be9634b8843030773e6bb229140b7c618eb055d7226785ce04e098e0 2 a 2 da04a2cb6c41acf3aec0d3e9d864041e2fcca394ab6f4cbaea3066e41ce9f9b3 eb30d6e5ce16cc59e95d46a9c0f9bd335ed463a53e4bedfb71f1398f245e6970 m
-commit 4640035fd0aed1eee2a4fae093693e86eaff5f0ab71bdd9c032264ca8b756f89 3 d783baa9be9634b8843030773e6bb229140b7c618eb055d7226785ce04e098e0 3 a 0 m
-";
-
-#[test]
-fn directories_of_many_entries_are_merged(rt: HostRuntime) -> Result<(), Fail> {
-    let alloc = rt.alloc();
-    let mut script = Vec::new(alloc);
-    push_sets(&mut script, 0..40)?;
-    script.extend_from_slice(b"commit main 0 a m\nempty\n")?;
-    push_sets(&mut script, 20..60)?;
-    script.extend_from_slice(b"commit dev 1 a m\nmerge dev main 2 a m\nempty\n")?;
-    push_sets(&mut script, (0..60).rev())?;
-    script.extend_from_slice(b"commit all 3 a m\nshow main\nshow all\n")?;
-    let (status, said) = answers(alloc, &script, &[], &[])?;
-    assert_eq!(rt; status, Status::Done);
-    let Ok(said) = str::from_utf8(&said) else {
-        return Err("no text")?;
-    };
-    assert!(rt; said.contains(WIDE));
-    assert!(rt; said.ends_with(WIDE_SHOWN));
-    Ok(())
-}
-
-// How serving a script ends over a store that was just made, what was said, and the ground then, which may stop at a call. The control file takes
-// calls 0 and 1.
-fn cut_off(
-    alloc: Global,
-    script: &[u8],
-    stop: Option<u64>,
-) -> Result<(Status, Vec<u8>, Bench), AllocError> {
-    let mut bench = Bench::new(alloc, Vec::new(alloc), stop, Vec::new(alloc));
-    let _ = bench.write(FileName::Control, 0, &fresh_control());
-    let _ = bench.sync(FileName::Control);
-    let status = answers_on(alloc, &mut bench, script)?;
-    let said = bench.said(alloc)?;
-    Ok((status, said, bench))
-}
-
-// Both sides have changed contents and directories of their own; then one branch moves on to the merge, and is there already.
-const LINES: [&str; 13] = [
-    "set k 01\n",
-    "commit main 0 a m\n",
-    "branch dev main\n",
-    "set k 02\n",
-    "set d/x 01\n",
-    "commit main 1 a m\n",
-    "checkout dev\n",
-    "set l 03\n",
-    "set e/y 04\n",
-    "commit dev 2 a m\n",
-    "merge dev main 3 a m\n",
-    "merge main dev 4 a m\n",
-    "merge main dev 5 a m\n",
-];
-
-// What tells one front of these lines from another, once they were cut off.
-const ASKED: &[u8] =
-    b"branches\nlog main\ncat main k\ncat main d/x\ncat main l\ncat main e/y\ncat dev k\n";
-
-// The first lines.
-fn first_lines(alloc: Global, count: usize) -> Result<Vec<u8>, AllocError> {
-    let mut script = Vec::new(alloc);
-    for line in LINES.iter().take(count) {
-        script.extend_from_slice(line.as_bytes())?;
-    }
-    Ok(script)
-}
-
-// What is told after each number of lines, none of which was cut off.
-fn all_told(alloc: Global) -> Result<Vec<Vec<u8>>, AllocError> {
-    let mut all = Vec::new(alloc);
-    for count in 0..=LINES.len() {
-        let (_, _, bench) = cut_off(alloc, &first_lines(alloc, count)?, None)?;
-        let (_, told) = told_after(alloc, bench, true, ASKED)?;
-        all.push(told)?;
-    }
-    Ok(all)
-}
-
-// Of the lines of a script that was cut off all are kept that were answered, and of one that was not, all or nothing.
-fn is_kept(all: &[Vec<u8>], said: &[u8], told: &Vec<u8>) -> bool {
-    let answered = count_lines(said);
-    all.get(answered) == Some(told) || all.get(answered.saturating_add(1)) == Some(told)
-}
-
-#[test]
-fn merges_are_stopped_at_each_call(rt: HostRuntime) -> Result<(), Fail> {
-    let alloc = rt.alloc();
-    let script = first_lines(alloc, LINES.len())?;
-    let all = all_told(alloc)?;
-    let mut done = false;
-    for stop in 2..200 {
-        for keep in [false, true] {
-            let (status, said, bench) = cut_off(alloc, &script, Some(stop))?;
-            done = status == Status::Done;
-            let (_, told) = told_after(alloc, bench, keep, ASKED)?;
-            assert!(rt; is_kept(&all, &said, &told), "{stop}");
-        }
-    }
-    // The calls that were stopped are all of them.
-    assert!(rt; done);
     Ok(())
 }
