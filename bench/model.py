@@ -5,6 +5,9 @@ import hashlib
 import re
 import struct
 
+# The greatest number of bytes that contents may have.
+CONTENTS = 1048576
+
 
 def sha(data):
     return hashlib.sha256(data).digest()
@@ -316,6 +319,8 @@ class Model:
         tree, conflict = merged(self.rules, bases[0].tree if bases else {}, head.tree, commit.tree)
         if conflict is not None:
             raise Refused("conflict " + "/".join(conflict))
+        if any(len(its) > CONTENTS for its in tree.values()):
+            raise Refused("limit contents")
         return "merged " + self.add(branch, Commit(len(self.commits), tree, [head, commit], int(date), author, " ".join(message))).name
 
     def add(self, branch, commit):

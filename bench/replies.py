@@ -7,7 +7,8 @@ A word that begins with $ and a number stands for the name of the commit with th
 such a word is written out. Transcripts of tests have their names from here, and not from the program.
 
 Merges go by the program's rules, or by those that are given, each for its path and all under it. KIND is same, counter, lines, seq
-(a counter, and lines where that conflicts) or call (the left side's bytes and the right one's behind them, where both have some)."""
+(a counter, and lines where that conflicts), call (the left side's bytes and the right one's behind them, where both have some),
+none (no contents), most or more (so many bytes as contents may have, or one more)."""
 
 import argparse
 import re
@@ -29,12 +30,19 @@ def left_and_right(base, left, right):
     return left + right
 
 
+def nothing(base, left, right):
+    return None
+
+
 KINDS = {
     "same": model.unmerged,
     "counter": model.counted,
     "lines": model.joined,
     "seq": counted_or_joined,
     "call": left_and_right,
+    "none": nothing,
+    "most": lambda base, left, right: bytes(model.CONTENTS),
+    "more": lambda base, left, right: bytes(model.CONTENTS + 1),
 }
 
 
