@@ -10,4 +10,4 @@ pub use calls::{
     words,
 };
 pub use files::{bytes_of, count_lines, fresh_control, put_value, slot_after_one_commit};
-pub use transcript::{play, play_on, replies_of, script_of};
+pub use transcript::{play, play_by, play_on, replies_of, script_of};

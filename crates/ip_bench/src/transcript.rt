@@ -1,7 +1,8 @@
 // Transcripts: texts in which each line of a script stands behind `> `, and its reply below it.
-use crate::calls::{answers_on, bench, init};
-use ip_app::Status;
+use crate::calls::{bench, init, serve_by, source};
+use ip_app::{ProgramRules, Silent, Status};
 use ip_ground::Bench;
+use ip_merge::Decides;
 use std::alloc::{AllocError, Global};
 use std::test::Fail;
 
@@ -59,11 +60,22 @@ fn another_reply(transcript: &str, said: &[u8], status: Status) -> Fail {
     Fail::new("there are more replies than the transcript has")
 }
 
-/// Plays a transcript over a ground with a store: its script is served to its end, and each line has the reply that stands below it. A failure
-/// names the transcript's first line in place of which another reply came.
+/// Plays a transcript over a ground with a store, by the program's rules.
 pub fn play_on(alloc: Global, ground: &mut Bench, transcript: &str) -> Result<(), Fail> {
+    play_by(alloc, ground, &ProgramRules, transcript)
+}
+
+/// Plays a transcript over a ground with a store, by these rules: its script is served to its end, and each line has the reply that stands below it. A
+/// failure names the transcript's first line in place of which another reply came.
+pub fn play_by<D: Decides>(
+    alloc: Global,
+    ground: &mut Bench,
+    rules: &D,
+    transcript: &str,
+) -> Result<(), Fail> {
     let before = ground.said(alloc)?.len();
-    let status = answers_on(alloc, ground, &script_of(alloc, transcript)?)?;
+    let mut script = source(alloc, &script_of(alloc, transcript)?, &[])?;
+    let status = serve_by(alloc, &mut script, ground, rules, &mut Silent)?;
     let said = ground.said(alloc)?;
     let said = said.get(before..).unwrap_or(&[]);
     if said != replies_of(alloc, transcript)?.as_slice() {

@@ -1,8 +1,6 @@
 //! What a merge has at each path by the program's rules, and which path conflicts.
 use crate::cases::Case;
-use ip_app::Status;
-use ip_bench::{answers, play};
-use std::alloc::{AllocError, Global};
+use ip_bench::play;
 use std::test::Fail;
 
 // What both sides add to the number of the ancestor is added up.
@@ -650,55 +648,6 @@ fn each_path_is_decided(rt: HostRuntime) -> Result<(), Fail> {
         PATHS_OF_64_STEPS,
     ] {
         play(alloc, &case.text(alloc)?)?;
-    }
-    Ok(())
-}
-
-// Puts a line that sets `lines/x` to so many bytes of one kind, of which these are the digits.
-fn put_long(script: &mut Vec<u8>, digits: &[u8], count: usize) -> Result<(), AllocError> {
-    script.extend_from_slice(b"set lines/x ")?;
-    for _ in 0..count {
-        script.extend_from_slice(digits)?;
-    }
-    Ok(script.push(b'\n')?)
-}
-
-// Two sides of one long line, and a third one with a path that conflicts besides.
-fn long_sides(alloc: Global, count: usize) -> Result<Vec<u8>, AllocError> {
-    let mut script = Vec::new(alloc);
-    put_long(&mut script, b"61", count)?;
-    script.extend_from_slice(b"set k 01\ncommit main 0 a m\nempty\n")?;
-    put_long(&mut script, b"62", count)?;
-    script.extend_from_slice(b"commit dev 1 a m\nset k 02\ncommit more 2 a m\n")?;
-    script.extend_from_slice(b"merge more main 3 a m\nmerge dev main 3 a m\n")?;
-    Ok(script)
-}
-
-// Each line has its line feed besides. 524287 is the greatest length of two lines that have no more than 1048576 bytes together.
-const LONG: [(usize, &str); 2] = [
-    (
-        524287,
-        "\
-conflict k
-merged 0a08cc61222bb9316862be07dc7cb09cac5b2ca7e9ac22bd459c9865b3af2037
-",
-    ),
-    (
-        524288,
-        "\
-conflict k
-limit contents
-",
-    ),
-];
-
-#[test]
-fn contents_that_a_rule_gives_have_a_limit(rt: HostRuntime) -> Result<(), Fail> {
-    let alloc = rt.alloc();
-    for (count, replies) in LONG {
-        let (status, said) = answers(alloc, &long_sides(alloc, count)?, &[], &[])?;
-        assert_eq!(rt; status, Status::Done);
-        assert!(rt; said.ends_with(replies.as_bytes()), "{count}");
     }
     Ok(())
 }

@@ -1,9 +1,8 @@
 //! Merges by a caller's rules: each of the mergers, at several depths, one below another.
 use crate::cases::Case;
-use ip_app::{Silent, Status};
+use ip_app::Status;
 use ip_base::{Blob, Items, Memory, Path, Step};
-use ip_bench::{bench, init, replies_of, script_of, serve_by, source};
-use ip_ground::Bench;
+use ip_bench::{bench, init, play_by};
 use ip_merge::{Answer, Call, Counter, LineSet, Merged, Rules, Same, Seq, Three};
 use std::alloc::Global;
 use std::test::Fail;
@@ -253,6 +252,149 @@ conflict m
 ",
 };
 
+// A rule may answer that there are no contents, which conflict with nothing then.
+const NONE_IS_ANSWERED: Case = Case {
+    names: &[
+        "94af6ea05d692c0a692f5f74179d3a7911929f7dd67de829a02787dd997267d3",
+        "87229d6d72344dfd085c6b06a708e7e79fb71a54db2d3b48c44540c71b073109",
+        "bf84016b10d13b51cb57009b55c5a44bafd36fc918823a5f91c1ddd873d441e4",
+        "fa9a217ac06e1d2aed64d34bde10f0ca01e4ce6f52a3523d474a78f33221e5e1",
+        "241ad7b90ae09225c1c9e02c1e9b0943c6baf957e47a0d3b8d033fcb876164b1",
+        "5d4780ccc32ad410f63f7af6b94a0f697da4c4bcf186c5c9d6ef4838213ab178",
+        "2d8880e36ee6f189ad4cf6c55e5abecf717b36cabcec0772956929e73d3cadc5",
+        "933e01d50499dcb45654b3da89592fb69c20ea2d8a39f375049c0b3fd2e0a85f",
+        "2a5525813ad86b08f8491060feca5b47a44e213b5becf6b1dc584247f89d41da",
+        "93f8a2512627b7a0cdcbe297645203f023ab906161b0d96763d93e4e492eb7a8",
+        "617cc6c7e372ceb41aa8eaa9c4eeb9b9de2857fac1e68d9723b499b7b249f4d4",
+        "b7c31e41834afb9d01bfbf5e251becd325f95942797fe8456601356e9ff6c6c3",
+    ],
+    transcript: "\
+> set gone/x 01
+ok
+> set gone/z 00
+ok
+> commit main 0 a m
+committed A
+> empty
+ok
+> set gone/x 02
+ok
+> set gone/y 03
+ok
+> commit dev 1 a m
+committed B
+> merge dev main 2 a m
+merged C
+> show main
+commit C 2 D 2 a 2 A B m
+> cat main gone/x
+absent
+> list gone
+list 2 c:x c:y
+> empty
+ok
+> set gone 00
+ok
+> commit base 3 a m
+committed E
+> branch more base
+ok
+> set gone 01
+ok
+> commit base 4 a m
+committed F
+> checkout more
+at E
+> set gone/y 02
+ok
+> commit more 5 a m
+committed G
+> merge more base 6 a m
+merged H
+> cat base gone/y
+value 02
+> merge @F more 7 a m
+merged I
+> cat more gone/y
+value 02
+> checkout main
+at C
+> rm gone
+ok
+> set gone 04
+ok
+> commit main 8 a m
+committed J
+> empty
+ok
+> set gone 05
+ok
+> commit last 9 a m
+committed K
+> merge last main 10 a m
+merged L
+> checkout main
+at L
+> list /
+list 0
+",
+};
+
+// The rules at `most` and `more` give as many bytes as contents may have, and one more. A path that conflicts is told before that.
+const CONTENTS_OF_A_RULE_HAVE_A_LIMIT: Case = Case {
+    names: &[
+        "2558b219383304fda4f2493afbb26ae811d512e6f49e8077597f0fe6838a2d9c",
+        "559ced78689d6cf0fd6c0854ee6d144a09575ab9ae8792b8276f88a3ec1c9b99",
+        "3c256284f5778b2a6da2235da2844a2e73a5f9f7fe4c893a4b7bc48997ca4114",
+        "ed718e7e7ef28d2f6ec22ccafb66dcfbb092a89b6f3acc411c3920f6d1cee474",
+        "acb3d8a986fe6344d12761df7248c5d24b1088f6ef9188265f8a32001a20538f",
+        "ebe65480ea3cfcae11c14465d5ae3a3c99396c5ccfa2523b5dad697c7d190c05",
+        "8a73e0fe6430fc978ce41a24321208be66ca1a63784e23348c9340c7009e7094",
+    ],
+    transcript: "\
+> set most/x 01
+ok
+> commit main 0 a m
+committed A
+> empty
+ok
+> set most/x 02
+ok
+> commit dev 1 a m
+committed B
+> merge dev main 2 a m
+merged C
+> show main
+commit C 2 D 2 a 2 A B m
+> empty
+ok
+> set more/x 01
+ok
+> set z 01
+ok
+> commit one 3 a m
+committed E
+> empty
+ok
+> set more/x 02
+ok
+> set y 01
+ok
+> commit two 4 a m
+committed F
+> merge two one 5 a m
+limit contents
+> set z 02
+ok
+> commit two 6 a m
+committed G
+> merge two one 7 a m
+conflict z
+> branches
+branches 4 dev B main C one E two G
+",
+};
+
 // The left bytes and the right ones behind them, where both sides have some.
 fn joined(alloc: Global, three: &Three) -> Result<Merged, Memory> {
     match (&three.left, &three.right) {
@@ -265,6 +407,11 @@ fn joined(alloc: Global, three: &Three) -> Result<Merged, Memory> {
     }
 }
 
+// So many bytes.
+fn long(alloc: Global, count: usize) -> Result<Merged, Memory> {
+    Ok(Merged::Keep(Some(Blob::of(vec![in alloc; 0; count]?))))
+}
+
 fn path_of(alloc: Global, text: &str) -> Result<Path, Memory> {
     let mut steps = Items::empty(alloc);
     for step in text.as_bytes().split(|byte| *byte == b'/') {
@@ -273,9 +420,15 @@ fn path_of(alloc: Global, text: &str) -> Result<Path, Memory> {
     Ok(Path::of(steps))
 }
 
-// Serves a script by these rules, of which some stand below others.
-fn serve_by_rules(alloc: Global, ground: &mut Bench, script: &[u8]) -> Result<Status, Memory> {
+// Plays a transcript over a new store, by rules of which some stand below others.
+fn play_by_rules(alloc: Global, transcript: &str) -> Result<(), Fail> {
     let mut rules = Rules::new(alloc);
+    let none: Answer = Box::new(alloc, |_: &Three| Ok(Merged::Keep(None)))?;
+    rules.add_call(path_of(alloc, "gone")?, Call::new(none))?;
+    for (at, count) in [("most", 1048576), ("more", 1048577)] {
+        let many: Answer = Box::new(alloc, move |_: &Three| long(alloc, count))?;
+        rules.add_call(path_of(alloc, at)?, Call::new(many))?;
+    }
     for at in ["joined", "deep/er/joined", "n/set/a/b"] {
         let both: Answer = Box::new(alloc, move |three: &Three| joined(alloc, three))?;
         rules.add_call(path_of(alloc, at)?, Call::new(both))?;
@@ -290,23 +443,24 @@ fn serve_by_rules(alloc: Global, ground: &mut Bench, script: &[u8]) -> Result<St
         second: LineSet,
     };
     rules.add(path_of(alloc, "q")?, Box::new(alloc, number_or_lines)?)?;
-    let mut lines = source(alloc, script, &[])?;
-    Ok(serve_by(alloc, &mut lines, ground, &rules, &mut Silent)?)
+    let mut ground = bench(alloc, &[])?;
+    if init(alloc, &mut ground)? != Status::Done {
+        return Err("no store was made")?;
+    }
+    play_by(alloc, &mut ground, &rules, transcript)
 }
 
 #[test]
 fn a_callers_rules_are_asked(rt: HostRuntime) -> Result<(), Fail> {
     let alloc = rt.alloc();
-    for case in [JOINED, JOINED_DEEP_DOWN, RULES_BELOW_RULES] {
-        let transcript = case.text(alloc)?;
-        let mut ground = bench(alloc, &[])?;
-        assert_eq!(rt; init(alloc, &mut ground)?, Status::Done);
-        let Ok(status) = serve_by_rules(alloc, &mut ground, &script_of(alloc, &transcript)?) else {
-            return Err("no memory")?;
-        };
-        assert_eq!(rt; status, Status::Done);
-        let said = ground.said(alloc)?;
-        assert_eq!(rt; said, replies_of(alloc, &transcript)?, "{transcript}");
+    for case in [
+        JOINED,
+        JOINED_DEEP_DOWN,
+        RULES_BELOW_RULES,
+        NONE_IS_ANSWERED,
+        CONTENTS_OF_A_RULE_HAVE_A_LIMIT,
+    ] {
+        play_by_rules(alloc, &case.text(alloc)?)?;
     }
     Ok(())
 }

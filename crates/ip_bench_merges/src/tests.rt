@@ -563,6 +563,70 @@ commit I 6 H 6 a 2 D C m
 ",
 };
 
+// What one side left alone goes with all under it where the other side took it away, or put contents in its place.
+const DIRECTORIES_THAT_GO: Case = Case {
+    names: &[
+        "b33800263185b0b9af1bc875bfa5465db7bc3817d6d3eef3545712e7667b30f3",
+        "e90a3ad38ae1ee355836196ce1d7d8a13dca9d532cb26cbd8578efb745786393",
+        "82edbcadfc5005a8ad7c7c90d02a8c325083aa6de72e37fcde32e4fa72a981c7",
+        "f3c087ccb94bccb263b14f5cf3a549709aeecc13407451b408289e54e344a6b1",
+        "b4d96c922283d8d387f238f83af83927e6f1f531c098b28178aa266584f77bb8",
+        "2d3734eca694a4938fd6c8be5b9d7484af72a2b469d41b430952e8b8c26e8852",
+    ],
+    transcript: "\
+> set c/d/e 01
+ok
+> set c/d/f 01
+ok
+> set c/g 01
+ok
+> set h/i 01
+ok
+> set m/n 01
+ok
+> set o 01
+ok
+> commit main 0 a m
+committed A
+> branch dev main
+ok
+> set k 01
+ok
+> commit main 1 a m
+committed B
+> checkout dev
+at A
+> rm c/d
+ok
+> rm h
+ok
+> set m 05
+ok
+> set o/p/q 06
+ok
+> commit dev 2 a m
+committed C
+> merge dev main 3 a m
+merged D
+> show main
+commit D 3 E 3 a 2 B C m
+> merge @B dev 4 a m
+merged F
+> show dev
+commit F 4 E 4 a 2 C B m
+> checkout main
+at D
+> list /
+list 4 d:c c:k c:m d:o
+> list c
+list 1 c:g
+> cat main m
+value 05
+> cat main o/p/q
+value 06
+",
+};
+
 #[test]
 fn merges_are_answered(rt: HostRuntime) -> Result<(), Fail> {
     let alloc = rt.alloc();
@@ -575,6 +639,7 @@ fn merges_are_answered(rt: HostRuntime) -> Result<(), Fail> {
         A_NAME_THAT_IS_THERE,
         THE_WORK_STAYS,
         EDITS_OF_BOTH_SIDES,
+        DIRECTORIES_THAT_GO,
         NOTHING_IS_LEFT,
         BYTES_THAT_ARE_SET_AGAIN,
         TREES_OF_ONE_RECORD,
