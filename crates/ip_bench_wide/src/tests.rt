@@ -80,7 +80,7 @@ fn the_33rd_entry_makes_an_inode_and_goes_again(rt: HostRuntime) -> Result<(), F
 }
 
 // A store of one commit, of a directory `d` of the steps of so many numbers, each with one byte.
-fn wide_store(alloc: Global, count: u32) -> Result<Bench, Fail> {
+pub(crate) fn wide_store(alloc: Global, count: u32) -> Result<Bench, Fail> {
     let mut script = Vec::new(alloc);
     put_sets(&mut script, b"d/", 0..count, 6)?;
     script.extend_from_slice(b"commit main 0 a m\n")?;
@@ -109,7 +109,7 @@ fn defined_name(alloc: Global, count: u32) -> Result<Hash, Fail> {
 }
 
 // What `show` says of the commit: behind its own name and number the root's name.
-fn shown(alloc: Global, ground: &mut Bench) -> Result<Vec<u8>, Fail> {
+pub(crate) fn shown(alloc: Global, ground: &mut Bench) -> Result<Vec<u8>, Fail> {
     let start = ground.said(alloc)?.len();
     if answers_on(alloc, ground, b"show main\n")? != Status::Done {
         return Err("not served")?;
@@ -118,7 +118,7 @@ fn shown(alloc: Global, ground: &mut Bench) -> Result<Vec<u8>, Fail> {
     Ok(Vec::from_slice(alloc, said.get(start..).unwrap_or(&[]))?)
 }
 
-fn has_root(said: &[u8], name: &Hash) -> bool {
+pub(crate) fn has_root(said: &[u8], name: &Hash) -> bool {
     let mut digits = [b'0'; 64];
     let is_hex = hex::encode_to_slice(name.as_slice(), &mut digits).is_ok();
     let root = said.split(|byte| *byte == b' ').nth(3);
@@ -149,7 +149,7 @@ fn reads(ground: &Bench) -> u64 {
 }
 
 // How many bytes the chunks have.
-fn length(ground: &mut Bench) -> Result<u64, Fail> {
+pub(crate) fn length(ground: &mut Bench) -> Result<u64, Fail> {
     let mut bytes: u64 = 0;
     for chunk in 0..CHUNKS {
         match ground.length(FileName::Chunk(chunk)) {
