@@ -1,4 +1,5 @@
 // Scripts that are drawn, with the replies of the model's machine.
+use ip_app::ProgramRules;
 use ip_base::Hash;
 use ip_model::Machine;
 use ip_script::{Command, Reply, read_line, reply_text};
@@ -47,17 +48,33 @@ impl Drawn {
         let Ok(command) = read_line(self.alloc, line.as_slice()) else {
             return Err("no command")?;
         };
-        self.answer(&command)
+        self.answer(command)
     }
 
-    pub fn answer(&mut self, command: &Command) -> Result<(), Fail> {
-        let Some(reply) = self.machine.step(self.alloc, command)? else {
-            return Err("not in the model")?;
-        };
-        if let Reply::Committed(name) = &reply {
+    fn answer(&mut self, command: Command) -> Result<(), Fail> {
+        let reply = self.reply_to(command)?;
+        if let Reply::Committed(name) | Reply::Merged(name) = &reply {
             self.commits.push(*name)?;
         }
         Ok(reply_text(&reply, &mut self.replies)?)
+    }
+
+    fn reply_to(&mut self, command: Command) -> Result<Reply, Fail> {
+        if let Command::Merge {
+            target,
+            branch,
+            info,
+        } = command
+        {
+            return Ok(
+                self.machine
+                    .merge(self.alloc, &target, branch, info, &ProgramRules)?,
+            );
+        }
+        match self.machine.step(self.alloc, &command)? {
+            Some(reply) => Ok(reply),
+            None => Err("not in the model")?,
+        }
     }
 
     pub fn branch(&mut self) -> [u8; 1] {
@@ -90,7 +107,7 @@ impl Drawn {
 
     // A path of up to three steps, of two that there are, seldom of 40.
     pub fn path(&mut self) -> Result<Vec<u8>, Fail> {
-        let count = if self.draw(30) == 0 {
+        let count = if self.draw(25) == 0 {
             40
         } else {
             1 + self.draw(3) % 3

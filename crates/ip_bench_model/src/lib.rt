@@ -6,4 +6,6 @@ mod border_tests;
 #[cfg(test)]
 mod drawn;
 #[cfg(test)]
+mod merge_tests;
+#[cfg(test)]
 mod tests;

@@ -38,7 +38,7 @@ fn put_commit(drawn: &mut Drawn, branch: [u8; 1]) -> Result<(), Fail> {
 }
 
 // A commit of its own: first from where the branch is, then from others.
-fn put_merge(drawn: &mut Drawn) -> Result<(), Fail> {
+fn put_commit_of_parents(drawn: &mut Drawn) -> Result<(), Fail> {
     let branch = drawn.branch();
     drawn.put(&[b"empty"])?;
     drawn.put(&[b"parent", &branch])?;
@@ -47,9 +47,16 @@ fn put_merge(drawn: &mut Drawn) -> Result<(), Fail> {
     put_commit(drawn, branch)
 }
 
+// Any commit into any branch.
+fn put_merge(drawn: &mut Drawn) -> Result<(), Fail> {
+    let target = drawn.target()?;
+    let branch = drawn.branch();
+    drawn.put(&[b"merge", &target, &branch, b"8", b"me", b"of two"])
+}
+
 // A command that changes the work or the branches, or a few that make a commit.
 fn put_change(drawn: &mut Drawn) -> Result<(), Fail> {
-    match drawn.draw(18) {
+    match drawn.draw(20) {
         0 => drawn.put(&[b"empty"]),
         1 | 2 => {
             let target = drawn.target()?;
@@ -80,7 +87,8 @@ fn put_change(drawn: &mut Drawn) -> Result<(), Fail> {
             let branch = drawn.branch();
             put_commit(drawn, branch)
         }
-        _ => put_merge(drawn),
+        14..16 => put_merge(drawn),
+        _ => put_commit_of_parents(drawn),
     }
 }
 
@@ -122,15 +130,20 @@ fn put_history(drawn: &mut Drawn) -> Result<(), Fail> {
 }
 
 // The replies that are drawn, among others, from the line feed before them on.
-const REPLIES: [&[u8]; 22] = [
+const REPLIES: [&[u8]; 28] = [
     b"\nabsent\n",
     b"\nat ",
+    b"\nbases 2\n",
     b"\nbranches ",
     b"\ncommit ",
     b"\ncommitted ",
+    b"\nconflict x\n",
+    b"\nconflict y/",
     b"\ncontents\n",
+    b"\ncurrent ",
     b"\ndir ",
     b"\nexisting ",
+    b"\nforward ",
     b"\nhash ",
     b"\nhead-moved ",
     b"\nlcas 0\n",
@@ -141,6 +154,7 @@ const REPLIES: [&[u8]; 22] = [
     b"\nlist 0\n",
     b"\nlist 2 ",
     b"\nlog ",
+    b"\nmerged ",
     b"\nno-branch ",
     b"\nno-commit ",
     b"\nstat ",
@@ -151,7 +165,7 @@ const REPLIES: [&[u8]; 22] = [
 fn drawn_scripts_are_answered_as_the_model_answers_them(rt: HostRuntime) -> Result<(), Fail> {
     let alloc = rt.alloc();
     let mut met = Vec::from_slice(alloc, b"\n")?;
-    for seed in 0..300 {
+    for seed in 0..220 {
         let mut drawn = Drawn::new(alloc, seed);
         for _ in 0..20 + seed % 60 {
             put_change(&mut drawn)?;
@@ -171,10 +185,10 @@ fn drawn_scripts_are_answered_as_the_model_answers_them(rt: HostRuntime) -> Resu
     Ok(())
 }
 
-// Up to four sessions of a store with chunks of 4096 bytes, each behind a stop. A session begins with `empty`, and with contents of about a chunk.
+// Up to five sessions of a store with chunks of 4096 bytes, each behind a stop. A session begins with `empty`, and with contents of about a chunk.
 fn put_sessions(drawn: &mut Drawn) -> Result<Vec<Vec<u8>>, Fail> {
     let mut sessions = Vec::new(drawn.alloc);
-    for _ in 0..1 + drawn.draw(4) % 4 {
+    for _ in 0..1 + drawn.draw(5) % 5 {
         let start = drawn.script.len();
         drawn.put(&[b"empty"])?;
         let mut value = Vec::new(drawn.alloc);
