@@ -238,7 +238,7 @@ fn a_word_has_so_many_bytes_at_most(rt: HostRuntime) -> Result<(), Fail> {
     ];
     for (front, size, back, want) in rows {
         let mut line = Vec::from_slice(alloc, front)?;
-        line.resize(line.len() + size, b's')?;
+        line.resize(line.len().saturating_add(size), b's')?;
         line.extend_from_slice(back)?;
         assert_eq!(rt; bad_at(alloc, &line), want, "{front:?}");
     }
