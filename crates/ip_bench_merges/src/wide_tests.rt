@@ -5,16 +5,18 @@ use ip_bench::{answers, replies_of, script_of};
 use std::alloc::{AllocError, Global};
 use std::test::Fail;
 
-// Puts a line for each of these steps: `set k00 01` and so on.
-fn push_sets(
-    script: &mut Vec<u8>,
-    steps: impl Iterator<Item = u8> + Drop,
-) -> Result<(), AllocError> {
-    for step in steps {
-        script.extend_from_slice(b"set k")?;
-        script.push(b'0' + step / 10 % 10)?;
-        script.push(b'0' + step % 10)?;
-        script.extend_from_slice(b" 01\n")?;
+// Puts a line for a step: `set k07 01` and so on.
+fn push_set(script: &mut Vec<u8>, step: u8) -> Result<(), AllocError> {
+    script.extend_from_slice(b"set k")?;
+    script.push(b'0' + step / 10 % 10)?;
+    script.push(b'0' + step % 10)?;
+    script.extend_from_slice(b" 01\n")
+}
+
+// Puts a line for each step from one on, ascending, below another.
+fn push_sets(script: &mut Vec<u8>, from: u8, below: u8) -> Result<(), AllocError> {
+    for step in from..below {
+        push_set(script, step)?;
     }
     Ok(())
 }
@@ -35,11 +37,13 @@ commit 4640035fd0aed1eee2a4fae093693e86eaff5f0ab71bdd9c032264ca8b756f89 3 d783ba
 fn directories_of_many_entries_are_merged(rt: HostRuntime) -> Result<(), Fail> {
     let alloc = rt.alloc();
     let mut script = Vec::new(alloc);
-    push_sets(&mut script, 0..40)?;
+    push_sets(&mut script, 0, 40)?;
     script.extend_from_slice(b"commit main 0 a m\nempty\n")?;
-    push_sets(&mut script, 20..60)?;
+    push_sets(&mut script, 20, 60)?;
     script.extend_from_slice(b"commit dev 1 a m\nmerge dev main 2 a m\nempty\n")?;
-    push_sets(&mut script, (0..60).rev())?;
+    for step in (0..60).rev() {
+        push_set(&mut script, step)?;
+    }
     script.extend_from_slice(b"commit all 3 a m\nshow main\nshow all\n")?;
     let (status, said) = answers(alloc, &script, &[], &[])?;
     assert_eq!(rt; status, Status::Done);
@@ -130,10 +134,10 @@ commit K 8 I 8 a 1 J m
 // Plays a transcript behind sets of these steps, and then another one.
 fn play_behind_sets(alloc: Global, then: &str, again: &str) -> Result<(), Fail> {
     let mut script = Vec::new(alloc);
-    push_sets(&mut script, 0..34)?;
+    push_sets(&mut script, 0, 34)?;
     script.extend_from_slice(&script_of(alloc, then)?)?;
     script.extend_from_slice(b"empty\n")?;
-    push_sets(&mut script, 1..33)?;
+    push_sets(&mut script, 1, 33)?;
     script.extend_from_slice(&script_of(alloc, again)?)?;
     let mut replies = Vec::new(alloc);
     for _ in 0..34 {
