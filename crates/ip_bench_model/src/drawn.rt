@@ -60,18 +60,22 @@ impl Drawn {
     }
 
     fn reply_to(&mut self, command: Command) -> Result<Reply, Fail> {
-        if let Command::Merge {
-            target,
-            branch,
-            info,
-        } = command
-        {
-            return Ok(
+        match command {
+            Command::Merge {
+                target,
+                branch,
+                info,
+            } => Ok(
                 self.machine
                     .merge(self.alloc, &target, branch, info, &ProgramRules)?,
-            );
+            ),
+            command => self.step(&command),
         }
-        match self.machine.step(self.alloc, &command)? {
+    }
+
+    // The reply to a line that asks no rules.
+    fn step(&mut self, command: &Command) -> Result<Reply, Fail> {
+        match self.machine.step(self.alloc, command)? {
             Some(reply) => Ok(reply),
             None => Err("not in the model")?,
         }
