@@ -216,7 +216,14 @@ fn a_store_has_chunks_of_the_size_that_is_asked_for(rt: HostRuntime) -> Result<(
         let mut bench = bench(alloc, &[])?;
         let mut none = source(alloc, b"", &[])?;
         let words = words(alloc, given)?;
-        let status = run(alloc, &words, &mut none, &mut bench, &ProgramRules, &mut Silent);
+        let status = run(
+            alloc,
+            &words,
+            &mut none,
+            &mut bench,
+            &ProgramRules,
+            &mut Silent,
+        );
         assert_eq!(rt; status, Status::Done);
         let mut slot = [0; 4];
         assert_eq!(rt; bench.read(FileName::Control, 24, &mut slot), Ok(4));
@@ -241,7 +248,14 @@ fn words_that_ask_for_nothing(rt: HostRuntime) -> Result<(), Fail> {
         let mut bench = bench(alloc, &[])?;
         let mut none = source(alloc, b"", &[])?;
         let words = words(alloc, given)?;
-        let status = run(alloc, &words, &mut none, &mut bench, &ProgramRules, &mut Silent);
+        let status = run(
+            alloc,
+            &words,
+            &mut none,
+            &mut bench,
+            &ProgramRules,
+            &mut Silent,
+        );
         assert_eq!(rt; status, Status::Usage);
     }
     Ok(())
