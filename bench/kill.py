@@ -3,11 +3,11 @@
 
     bench/kill.py [PROGRAM] [--folder DIR] [--rounds N] [--seed N] [--chunk BYTES]
 
-Each round opens the store, asks it for what it holds, gives it seeded lines (`set`, `rm`, `commit`, `branch`, `branch-rm`
-and more), and kills it (SIGKILL): after some time, behind some number of replies, within one command that writes, or while
-it opens the store. A plain model says what each line is answered. What the store holds when it is opened again must be what the
-model holds after the lines that were answered, or after one more. That no damage is found, and that the contents of
-commits are those of the model, is asked in each round of what is new, and in the end of all.
+Each round opens the store, asks it for what it holds, gives it seeded lines (`set`, `rm`, `commit`, `merge`, `branch`,
+`branch-rm` and more), and kills it (SIGKILL): after some time, behind some number of replies, within one command that
+writes, or while it opens the store. A plain model says what each line is answered. What the store holds when it is opened
+again must be what the model holds after the lines that were answered, or after one more. That no damage is found, and that
+the contents of commits are those of the model, is asked in each round of what is new, and in the end of all.
 
 A kill leaves what the system has in memory: so this tests the order of writes and replies, and not the syncs. The seed
 fixes lines and the kind of each moment; the moments themselves follow the machine's time. Exit status 0, or 1 with the folder kept.
@@ -21,9 +21,9 @@ import time
 import common
 from model import Model
 
-STEPS = ["a", "b", "c", "d", "e", "f", "g", "h"]
+STEPS = ["a", "b", "c", "d", "e", "f", "g", "lines"]
 BRANCHES = ["main", "dev", "old", "x", "y"]
-DURABLE = ("commit", "branch", "branch-rm")
+DURABLE = ("commit", "merge", "branch", "branch-rm")
 
 # Lines of a round at most, and bytes of a large value.
 LINES = 60
@@ -61,6 +61,11 @@ def draw_ref(draw, model):
     """A branch, mostly one that is there, or a commit."""
     if model.commits and draw.random() < 0.2:
         return "@" + draw.choice(model.commits).name
+    return draw_branch_there(draw, model)
+
+
+def draw_branch_there(draw, model):
+    """A branch, mostly one that is there."""
     there = sorted(model.branches)
     return draw.choice(there if there and draw.random() < 0.9 else BRANCHES)
 
@@ -74,12 +79,14 @@ def draw_branch(draw, model):
 def draw_line(draw, model, tag):
     """A line that may do something to this model. The tag makes its commit one of its own."""
     kind = draw.choices(
-        ["set", "rm", "commit", "branch", "branch-rm", "checkout", "parent", "get"], [30, 4, 30, 8, 4, 8, 3, 3]
+        ["set", "rm", "commit", "merge", "branch", "branch-rm", "checkout", "parent", "get"], [30, 4, 30, 12, 8, 4, 8, 3, 3]
     )[0]
     if kind == "set":
         return f"set {draw_path(draw)} {draw_value(draw)}"
     if kind == "commit":
         return f"commit {draw_branch(draw, model)} {draw.randrange(2 ** 64)} someone {tag}"
+    if kind == "merge":
+        return f"merge {draw_ref(draw, model)} {draw_branch_there(draw, model)} {draw.randrange(2 ** 64)} someone {tag}"
     if kind == "branch":
         return f"branch {draw.choice(BRANCHES)} {draw_ref(draw, model)}"
     if kind == "branch-rm":
@@ -102,7 +109,7 @@ def draw_script(draw, model, turn):
 
 def writes(line, reply):
     """Whether a line that is answered so has changed the files."""
-    return line.split(" ")[0] in DURABLE and reply.split(" ")[0] in ("ok", "committed")
+    return line.split(" ")[0] in DURABLE and reply.split(" ")[0] in ("ok", "committed", "merged", "forward")
 
 
 # Moments
