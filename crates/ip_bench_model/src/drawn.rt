@@ -1,6 +1,7 @@
 // Scripts that are drawn, with the replies of the model's machine.
 use ip_app::ProgramRules;
 use ip_base::Hash;
+use ip_merge::Decides;
 use ip_model::Machine;
 use ip_script::{Command, Reply, read_line, reply_text};
 use std::alloc::Global;
@@ -42,24 +43,29 @@ impl Drawn {
 
     // Puts a line of these words, and the model's reply.
     pub fn put(&mut self, words: &[&[u8]]) -> Result<(), Fail> {
+        self.put_by(words, &ProgramRules)
+    }
+
+    // The same, where a merge goes by these rules.
+    pub fn put_by<D: Decides>(&mut self, words: &[&[u8]], rules: &D) -> Result<(), Fail> {
         let line = line_of(self.alloc, words)?;
         self.script.extend_from_slice(line.as_slice())?;
         self.script.push(b'\n')?;
         let Ok(command) = read_line(self.alloc, line.as_slice()) else {
             return Err("no command")?;
         };
-        self.answer(command)
+        self.answer(command, rules)
     }
 
-    fn answer(&mut self, command: Command) -> Result<(), Fail> {
-        let reply = self.reply_to(command)?;
+    fn answer<D: Decides>(&mut self, command: Command, rules: &D) -> Result<(), Fail> {
+        let reply = self.reply_to(command, rules)?;
         if let Reply::Committed(name) | Reply::Merged(name) = &reply {
             self.commits.push(*name)?;
         }
         Ok(reply_text(&reply, &mut self.replies)?)
     }
 
-    fn reply_to(&mut self, command: Command) -> Result<Reply, Fail> {
+    fn reply_to<D: Decides>(&mut self, command: Command, rules: &D) -> Result<Reply, Fail> {
         match command {
             Command::Merge {
                 target,
@@ -67,7 +73,7 @@ impl Drawn {
                 info,
             } => Ok(
                 self.machine
-                    .merge(self.alloc, &target, branch, info, &ProgramRules)?,
+                    .merge(self.alloc, &target, branch, info, rules)?,
             ),
             command => self.step(&command),
         }

@@ -1,7 +1,11 @@
-//! Branches that are drawn and merged by the program's rules: each reply is the one of the model's machine.
+//! Branches that are drawn and merged by the program's rules, and by a caller's: each reply is the one of the model's machine.
 use crate::drawn::Drawn;
-use ip_app::Status;
-use ip_bench::answers;
+use ip_app::{ProgramRules, Silent, Status};
+use ip_base::{Blob, Items, Memory, Path, Step};
+use ip_bench::{bench, init, serve_by, source};
+use ip_ground::Ground;
+use ip_merge::{Answer, Call, Counter, Decides, LineSet, Merged, Rules, Same, Seq, Three};
+use std::alloc::Global;
 use std::test::Fail;
 
 const FIRST_STEPS: [&[u8]; 4] = [b"count", b"lines", b"a", b"b"];
@@ -82,15 +86,15 @@ fn put_branch(drawn: &mut Drawn) -> Result<(), Fail> {
 }
 
 // Merges a branch, or seldom any commit, into a branch, which is shown then, with a path.
-fn put_merge(drawn: &mut Drawn) -> Result<(), Fail> {
+fn put_merge<D: Decides>(drawn: &mut Drawn, rules: &D) -> Result<(), Fail> {
     let branch = branch_of(drawn);
     let other = branch_of(drawn);
     let date = [b'0' + (drawn.draw(9) % 9) as u8];
     if drawn.draw(4) == 0 {
         let target = drawn.target()?;
-        drawn.put(&[b"merge", &target, &branch, &date, b"me", b"m"])?;
+        drawn.put_by(&[b"merge", &target, &branch, &date, b"me", b"m"], rules)?;
     } else {
-        drawn.put(&[b"merge", &other, &branch, &date, b"me", b"m"])?;
+        drawn.put_by(&[b"merge", &other, &branch, &date, b"me", b"m"], rules)?;
     }
     drawn.put(&[b"show", &branch])?;
     let path = path_of(drawn)?;
@@ -108,11 +112,11 @@ fn put_branches(drawn: &mut Drawn) -> Result<(), Fail> {
     drawn.put(&[b"commit", b"d", b"1", b"me", b"m"])
 }
 
-fn put_round(drawn: &mut Drawn) -> Result<(), Fail> {
+fn put_round<D: Decides>(drawn: &mut Drawn, rules: &D) -> Result<(), Fail> {
     match drawn.draw(8) {
         0 => put_branch(drawn),
         1..4 => put_commit(drawn),
-        _ => put_merge(drawn),
+        _ => put_merge(drawn, rules),
     }
 }
 
@@ -122,6 +126,28 @@ fn count_lines(replies: &[u8], word: &[u8]) -> usize {
         .split(|byte| *byte == b'\n')
         .filter(|line| line.starts_with(word))
         .count()
+}
+
+// What is said to the scripts of so many seeds, merged by these rules. It has to be what the model replies.
+fn said_by<D: Decides>(alloc: Global, seeds: u64, rules: &D) -> Result<Vec<u8>, Fail> {
+    let mut met = Vec::new(alloc);
+    for seed in 0..seeds {
+        let mut drawn = Drawn::new(alloc, seed);
+        put_branches(&mut drawn)?;
+        for _ in 0..40 {
+            put_round(&mut drawn, rules)?;
+        }
+        let mut ground = bench(alloc, &[])?;
+        let _ = init(alloc, &mut ground)?;
+        let mut lines = source(alloc, &drawn.script, &[])?;
+        let status = serve_by(alloc, &mut lines, &mut ground, rules, &mut Silent)?;
+        let said = ground.said(alloc)?;
+        if status != Status::Done || said != drawn.replies {
+            return Err("other replies")?;
+        }
+        met.extend_from_slice(&said)?;
+    }
+    Ok(met)
 }
 
 // How a merge is answered, and how often that is to come at least.
@@ -136,22 +162,53 @@ const MET: [(&[u8], usize); 6] = [
 
 #[test]
 fn merges_are_answered_as_the_model_answers_them(rt: HostRuntime) -> Result<(), Fail> {
-    let alloc = rt.alloc();
-    let mut met = Vec::new(alloc);
-    for seed in 0..60 {
-        let mut drawn = Drawn::new(alloc, seed);
-        put_branches(&mut drawn)?;
-        for _ in 0..40 {
-            put_round(&mut drawn)?;
-        }
-        let (status, said) = answers(alloc, &drawn.script, &[], &[])?;
-        assert_eq!(rt; status, Status::Done);
-        assert_eq!(rt; said, drawn.replies, "{seed}");
-        met.extend_from_slice(&said)?;
-    }
+    let met = said_by(rt.alloc(), 60, &ProgramRules)?;
     for (word, least) in MET {
         let count = count_lines(&met, word);
         assert!(rt; count >= least, "{word:?} {count}");
+    }
+    Ok(())
+}
+
+fn rule_at(alloc: Global, steps: &[&[u8]]) -> Result<Path, Memory> {
+    let mut path = Items::empty(alloc);
+    for step in steps {
+        path.push(Step::of(Blob::copy_of(alloc, step)?))?;
+    }
+    Ok(Path::of(path))
+}
+
+// What the right side has.
+fn right_of(alloc: Global, three: &Three) -> Result<Merged, Memory> {
+    match &three.right {
+        Some(right) => Ok(Merged::Keep(Some(Blob::copy_of(alloc, right.as_slice())?))),
+        None => Ok(Merged::Keep(None)),
+    }
+}
+
+#[test]
+fn merges_by_a_callers_rules_are_too(rt: HostRuntime) -> Result<(), Fail> {
+    let alloc = rt.alloc();
+    let mut rules = Rules::new(alloc);
+    rules.add(rule_at(alloc, &[b"a"])?, Box::new(alloc, Counter)?)?;
+    rules.add(rule_at(alloc, &[b"a", b"a"])?, Box::new(alloc, LineSet)?)?;
+    rules.add(rule_at(alloc, &[b"a", b"a", b"a"])?, Box::new(alloc, Same)?)?;
+    let number_or_lines = Seq {
+        first: Counter,
+        second: LineSet,
+    };
+    rules.add(rule_at(alloc, &[b"b"])?, Box::new(alloc, number_or_lines)?)?;
+    let right: Answer = Box::new(alloc, move |three: &Three| right_of(alloc, three))?;
+    rules.add_call(rule_at(alloc, &[b"b", b"b"])?, Call::new(right))?;
+    let met = said_by(alloc, 40, &rules)?;
+    for word in [
+        b"merged ".as_slice(),
+        b"conflict ",
+        b"forward ",
+        b"current ",
+        b"bases ",
+    ] {
+        assert!(rt; count_lines(&met, word) >= 10, "{word:?}");
     }
     Ok(())
 }
