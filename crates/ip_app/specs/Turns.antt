@@ -4,7 +4,7 @@
 --     Follow first turns last      each turn begins with the counts that the one before it ended with; no fault of the ground was counted in any but the last
 use Rattle.std.specs.Prelude.{◌≡◌, ◌≢◌, ◌≤◌, List, [], ◌∷◌}
 use Rattle.ip_ground.specs.declared.names.GroundCounts.{GroundCounts}
-use Rattle.ip_image.specs.declared.counts.SpawnCounts.{SpawnCounts}
+use Rattle.ip_spawn.specs.declared.spawner.SpawnCounts.{SpawnCounts}
 use Rattle.ip_image.specs.declared.counts.TurnCounts.{TurnCounts}
 use Rattle.ip_app.specs.declared.turn_log.Turn.{Turn}
 

@@ -6,7 +6,8 @@ ghost use Rattle.ip_app.specs.Turns.{turn_counts};
 
 use ip_base::Memory;
 use ip_ground::GroundCounts;
-use ip_image::counts::{SpawnCounts, TurnCounts};
+use ip_image::counts::TurnCounts;
+use ip_spawn::SpawnCounts;
 use ip_spec::met::Met;
 use std::alloc::Global;
 

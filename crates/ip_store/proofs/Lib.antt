@@ -1,6 +1,5 @@
 mod Reading
 mod Making
-mod Sizes
 mod Spelling
 mod Keyed
 mod Steps

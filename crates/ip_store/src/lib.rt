@@ -19,5 +19,6 @@ pub use committing::StoreFault;
 pub use merging::Merge;
 pub use opening::OpenFault;
 pub use show::Shown;
-pub use store::{InitFault, Store, chunk_allowed};
+pub use ip_spawn::chunk_allowed;
+pub use store::{InitFault, Store};
 pub use work::Work;

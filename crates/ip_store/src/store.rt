@@ -23,13 +23,6 @@ use ip_spec::met::{Met, Phase};
 use ip_spec::reply::{Head, Heads};
 use std::alloc::Global;
 
-/// Whether a store may have chunks of so many bytes: a power of two from 4096 to 2^30.
-pub fn chunk_allowed(chunk: u64) -> bool
-    ensures { IsTrue result ↔ IsChunkSize chunk }
-{
-    chunk >= 4096 && chunk <= 1 << 30 && chunk.is_power_of_two()
-}
-
 /// Why no store was made.
 #[derive(Clone, Copy, Debug, PartialEq, Eq)]
 pub enum InitFault {
@@ -229,19 +222,6 @@ mod tests {
             Some(Store::init(bench, chunk))
         } else {
             None
-        }
-    }
-
-    #[test]
-    fn chunks_are_powers_of_two(rt: HostRuntime) {
-        for (chunk, allowed) in [
-            (4095, false),
-            (4096, true),
-            (6144, false),
-            (1 << 30, true),
-            (1 << 31, false),
-        ] {
-            assert_eq!(rt; chunk_allowed(chunk), allowed, "{chunk}");
         }
     }
 

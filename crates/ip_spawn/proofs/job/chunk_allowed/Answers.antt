@@ -1,7 +1,7 @@
 use Rattle.std.proofs.Common.{sym, ◌∙◌}
-use Rattle.ip_store.proofs.Sizes.{from_test, tested, too_small, too_large, at_most, not_small}
-use Rattle.ip_store.proofs.store.chunk_allowed.Goals.{then-chunk-ge4096, else-chunk-ge4096}
-use Rattle.ip_store.proofs.store.chunk_allowed.Goals as goal
+use Rattle.ip_spawn.proofs.Sizes.{from_test, tested, too_small, too_large, at_most, not_small}
+use Rattle.ip_spawn.proofs.job.chunk_allowed.Goals.{then-chunk-ge4096, else-chunk-ge4096}
+use Rattle.ip_spawn.proofs.job.chunk_allowed.Goals as goal
 
 pub returns-then-chunk : goal.returns-then-chunk
 returns-then-chunk c = elim c.if-chunk-ge4096.branch [

@@ -7,7 +7,7 @@ use Rattle.std.proofs.lemmas.Bool.{cases_eq, cases_lt}
 use Rattle.std.proofs.lemmas.Bool.Decides.{nat_tests}
 use Rattle.std.proofs.lemmas.Nat.{zero_from_ones, ones_le_self}
 use lib.Count.{ones_step}
-use Rattle.ip_image.specs.Slot.{IsChunkSize}
+use Rattle.ip_spawn.specs.Sizes.{IsChunkSize}
 
 one_bit : (d n : ℕ) → n ≤ d → count_ones n ≡ 1 → (k : ℕ) × (n ≡ 2 ^ k)
 one_bit zero n le one = absurd (omega (arith, ones_le_self n))

@@ -1,0 +1,5 @@
+pub mod Sizes
+pub mod Spelling
+pub mod Jobs
+pub mod Counts
+pub mod Children
