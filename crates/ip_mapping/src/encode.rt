@@ -34,7 +34,8 @@ pub fn build(alloc: Global, horizon: u64, end: u64, runs: &[Run]) -> Result<Blob
     Ok(Blob::of(out))
 }
 
-fn put_head(out: &mut Vec<u8>, head: &Head) -> Result<(), Memory>
+/// Appends the head of a mapping's file, 32 bytes.
+pub fn put_head(out: &mut Vec<u8>, head: &Head) -> Result<(), Memory>
     ensures { OnOk result (out.new.items ≡ out.old.items ++ head_bytes head.now) }
 {
     out.extend_from_slice(b"IPMAP001")?;
@@ -44,7 +45,8 @@ fn put_head(out: &mut Vec<u8>, head: &Head) -> Result<(), Memory>
     Ok(())
 }
 
-fn put_row(out: &mut Vec<u8>, row: &Row) -> Result<(), Memory>
+/// Appends a row of a mapping's file, 24 bytes.
+pub fn put_row(out: &mut Vec<u8>, row: &Row) -> Result<(), Memory>
     ensures { OnOk result (out.new.items ≡ out.old.items ++ row_bytes row.now) }
 {
     out.extend_from_slice(&row.at.to_le_bytes())?;

@@ -17,7 +17,7 @@ mod reader;
 #[cfg(test)]
 mod tests;
 
-pub use encode::build;
+pub use encode::{build, put_head, put_row};
 pub use fault::MappingFault;
 pub use head::Head;
 pub use ip_image::run::{Row, Run};

@@ -5,14 +5,14 @@
 --     IsBecause read result      the fault of the form says why.      Blames r result      what a fault says of the reference, whatever is told
 --     Refers rec r result      what comes of a record that was read there
 --     ReadsOne read result      what reading the record at a place answers.      BlamesPlace at result      what a fault says of the place
---     ReadsRecord read result      the record that the bytes at a place are read as, or why they are none.      FindsRecord records at result      the record there, or that there is none
+--     FindsRecord records at result      the record at a place, with its length, or that there is none
 --     IsReadFault result      of the bytes nothing is said
-use Rattle.std.specs.Prelude.{◌≡◌, ◌≢◌, ℕ, length, Option, Some, None, Result, Ok, Err}
+use Rattle.std.specs.Prelude.{◌≡◌, ◌≢◌, ℕ, Option, Some, None, Result, Ok, Err}
 use Rattle.ip_base.specs.declared.hash.Hash.{Hash}
 use Rattle.ip_spec.specs.declared.record.Record.{Record}
 use Rattle.ip_spec.specs.declared.record.Ref.{Ref}
 use Rattle.ip_spec.specs.declared.record.RecordFault.{RecordFault}
-use Rattle.ip_spec.specs.Record.{kind_of, name_of, reference_kind, spelling}
+use Rattle.ip_spec.specs.Record.{kind_of, name_of, reference_kind}
 use Rattle.ip_space.specs.declared.fault.FetchFault.{FetchFault}
 use Rattle.ip_space.specs.declared.fault.FetchFault.TheVariants.{Ground, Form, Name, Memory}
 
@@ -88,15 +88,8 @@ ReadsOne read (Err (Form at fault)) = read ≡ Err fault
 ReadsOne read (Err (Name at want got)) = ⊥
 ReadsOne read (Err Memory) = Unit {0}
 
-abbrev pub ReadsRecord : Result (Record × ℕ) RecordFault → Result Record FetchFault → Type 0
-ReadsRecord read (Ok found) = read ≡ Ok (found, length (spelling found))
-ReadsRecord read (Err Ground) = Unit {0}
-ReadsRecord read (Err (Form at fault)) = read ≡ Err fault
-ReadsRecord read (Err (Name at want got)) = ⊥
-ReadsRecord read (Err Memory) = Unit {0}
-
-abbrev pub FindsRecord : (ℕ → Option Record) → ℕ → Result Record FetchFault → Type 0
-FindsRecord records place (Ok found) = records place ≡ Some found
+abbrev pub FindsRecord : (ℕ → Option Record) → ℕ → Result (Record × ℕ) FetchFault → Type 0
+FindsRecord records place (Ok found) = records place ≡ Some found.0
 FindsRecord records place (Err Ground) = Unit {0}
 FindsRecord records place (Err (Form at fault)) = records place ≡ None
 FindsRecord records place (Err (Name at want got)) = ⊥

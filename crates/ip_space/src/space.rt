@@ -1,13 +1,14 @@
 // The space of a store's records.
-ghost use Rattle.std.specs.Prelude.{◌≡◌, ◌≢◌, ℕ, ◌+◌, ◌<◌, ◌≤◌, ◌^◌, ◌==◌, [], map, take, slice_get, IfSome, IsTrue, IfOk, IsOk, IsErrOf, if◌then◌else◌};
+ghost use Rattle.std.specs.Prelude.{◌≡◌, ◌≢◌, ℕ, ◌+◌, ◌<◌, ◌≤◌, ◌^◌, ◌==◌, [], length, map, take, slice_get, IfSome, IsTrue, IfOk, IsOk, IsErrOf, if◌then◌else◌};
 ghost use Rattle.ip_space.specs.Faults.{ground_fetch, ground_space};
-ghost use Rattle.ip_ground.specs.Counts.{Counts};
+ghost use Rattle.ip_ground.specs.Counts.{Counts, CountsAs, FileFault};
 ghost use Rattle.ip_ground.specs.Told.{NoFile, ChangesOnly};
-ghost use Rattle.ip_spec.specs.Record.{Fits};
+ghost use Rattle.ip_spec.specs.Record.{Fits, spelling};
 ghost use Rattle.ip_image.specs.Slot.{newest_version, IsChunkSize};
 ghost use Rattle.ip_image.specs.Virtual.{run_of, placed, RowsFit, lies_at};
 ghost use Rattle.ip_space.specs.SpaceView.{grown, stretches_of, AreBelow, IsLayout, OnlyReads, IsReadable, records_of, read_at, byte_at};
-ghost use Rattle.ip_space.specs.Fetching.{Blames, BlamesPlace, Fetches, FindsRecord, IsBecause, Meets, ReadsRecord, Refers};
+ghost use Rattle.ip_space.specs.Ahead.{ReadsBytes};
+ghost use Rattle.ip_space.specs.Fetching.{Blames, BlamesPlace, Fetches, FindsRecord, IsBecause, Meets, ReadsOne, Refers};
 ghost use Rattle.ip_space.specs.Pair.{IsOwnPair, FindsSpace};
 ghost use Rattle.ip_space.specs.Scanning.{IsWhole};
 ghost use Rattle.ip_space.specs.ScanView.{ScanView};
@@ -20,7 +21,7 @@ use crate::source::Source;
 use crate::{FetchFault, Scan, SpaceFault};
 use ip_base::Memory;
 use ip_chunks::Chunks;
-use ip_ground::{FileName, Ground};
+use ip_ground::{FileName, Ground, GroundFault};
 use ip_image::layout::Layout;
 use ip_image::run::Run;
 use ip_mapping::Mapping;
@@ -193,34 +194,58 @@ impl Space {
         ensures counts { Counts ground_fetch result (G.counts_of outside.old) (G.counts_of outside.new) }
     {
         let rec = match self.record_at(outside, reference.at) {
-            Ok(rec) => rec,
+            Ok((rec, _)) => rec,
             Err(fault) => return Err(fault),
         };
         referred(rec, &reference)
     }
 
-    /// The record at an offset, whatever it is. It makes two reads at most of the file in which the record begins, and one of each file into which
+    /// The record at an offset, whatever it is, and its length in bytes. It makes two reads at most of the file in which the record begins, and one of each file into which
     /// the record goes on. They go into a buffer that is used again, and memory is taken for what the record holds.
-    pub fn record_at<G: Ground>(&mut self, outside: &mut G, at: u64) -> Result<Record, FetchFault>
+    pub fn record_at<G: Ground>(
+        &mut self,
+        outside: &mut G,
+        at: u64,
+    ) -> Result<(Record, u64), FetchFault>
         ensures reads { IsTrue G.tells → OnlyReads (G.told outside.old) (G.told outside.new) self.old self.new }
         ensures found { IsTrue G.tells → IsReadable (G.told outside.old) self.old → FindsRecord (records_of (G.told outside.old) self.old) at result }
-        ensures because { IsTrue G.tells → IsReadable (G.told outside.old) self.old → ReadsRecord (read_at (G.told outside.old) self.old at) result }
-        ensures whole { IsTrue G.tells → IsReadable (G.told outside.old) self.old → IfOk result (IsWhole (byte_at (G.told outside.new) self.old) self.old.layout.end at) }
+        ensures because { IsTrue G.tells → IsReadable (G.told outside.old) self.old → ReadsOne (read_at (G.told outside.old) self.old at) result }
+        ensures whole { IsTrue G.tells → IsReadable (G.told outside.old) self.old → IfOk result (λ found. IsWhole (byte_at (G.told outside.new) self.old) self.old.layout.end at found.0) }
         ensures blames { BlamesPlace at result }
-        ensures bounds { IfOk result (λ found. Fits newest_version found) }
+        ensures bounds { IfOk result (λ found. Fits newest_version found.0) }
+        ensures length { IfOk result (λ found. found.1 ≡ length (spelling found.0)) }
+        ensures inside { IfOk result (λ found. at + found.1 ≤ self.old.layout.end) }
         ensures layout { self.new.layout ≡ self.old.layout }
         ensures runs { self.new.runs ≡ self.old.runs }
         ensures counts { Counts ground_fetch result (G.counts_of outside.old) (G.counts_of outside.new) }
     {
         self.ahead.clear();
-        let (rec, _) = match self
+        let found = match self
             .ahead
             .read_one(self.alloc, &self.source, outside, at, PAGE, u64::MAX)
         {
             Ok(found) => found,
             Err(fault) => return Err(fault),
         };
-        Ok(rec)
+        Ok(found)
+    }
+
+    /// Copies the bytes from an offset on into `out`, up to the first that is missing, and says how many. Each file in which they lie is read
+    /// once, and nothing is kept of them.
+    pub fn read<G: Ground>(
+        &self,
+        outside: &mut G,
+        at: u64,
+        out: &mut [u8],
+    ) -> Result<usize, GroundFault>
+        requires room { at + length out.old ≤ self.now.layout.end }
+        ensures reads { IsTrue G.tells → IsReadable (G.told outside.old) self.now →
+            ReadsBytes (byte_at (G.told outside.old) self.now) at (length out.old) out.new result }
+        ensures fits { IfOk result (λ n. n ≤ length out.old) }
+        ensures only { IsTrue G.tells → ChangesOnly NoFile (G.told outside.old) (G.told outside.new) }
+        ensures counts { CountsAs FileFault result (G.counts_of outside.old) (G.counts_of outside.new) }
+    {
+        self.source.read(outside, at, out)
     }
 
     /// A walk over the records between two offsets, of which none was read yet. Each is to be the offset of a record, or the end.

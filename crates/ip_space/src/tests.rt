@@ -73,7 +73,12 @@ fn shown(rec: Record) -> u8 {
     }
 }
 
-fn form(at: u64, fault: RecordFault) -> Result<u8, FetchFault> {
+// The kind that a record has, and its length.
+fn shown_with((rec, length): (Record, u64)) -> (u8, u64) {
+    (shown(rec), length)
+}
+
+fn form<T>(at: u64, fault: RecordFault) -> Result<T, FetchFault> {
     Err(FetchFault::Form { at, fault })
 }
 
@@ -357,10 +362,10 @@ fn records_are_found_in_their_runs(rt: HostRuntime) -> Result<(), Fail> {
     let alloc = rt.alloc();
     let mapping = mapping_of(alloc, &[59, 164, 2, 10, 13, 0, 51, 8, 13])?;
     let rows = [
-        (10, Ok(1), Some((PREFIX, 0)), (1, 0)),
-        (16, Ok(1), Some((PREFIX, 6)), (1, 0)),
-        (51, Ok(1), Some((PREFIX, 13)), (1, 0)),
-        (59, Ok(5), Some((CHUNK, 59)), (0, 1)),
+        (10, Ok((1, 6)), Some((PREFIX, 0)), (1, 0)),
+        (16, Ok((1, 7)), Some((PREFIX, 6)), (1, 0)),
+        (51, Ok((1, 8)), Some((PREFIX, 13)), (1, 0)),
+        (59, Ok((5, 18)), Some((CHUNK, 59)), (0, 1)),
         (9, form(9, RecordFault::Short), None, (0, 0)),
         (23, form(23, RecordFault::Short), None, (0, 0)),
         (50, form(50, RecordFault::Short), None, (0, 0)),
@@ -371,7 +376,7 @@ fn records_are_found_in_their_runs(rt: HostRuntime) -> Result<(), Fail> {
             return Err("no space")?;
         };
         assert_eq!(rt;
-            space.record_at(&mut bench, at).map(shown),
+            space.record_at(&mut bench, at).map(shown_with),
             answer,
             "at {at}"
         );
@@ -415,12 +420,20 @@ fn a_space_over_given_runs(rt: HostRuntime) -> Result<(), Fail> {
         (copy.stretch_at(2), copy.stretch_at(3)),
         (Some(last), None)
     );
-    assert_eq!(rt; copy.record_at(&mut bench, 16).map(shown), Ok(1));
+    assert_eq!(rt; copy.record_at(&mut bench, 16).map(shown_with), Ok((1, 7)));
     assert_eq!(rt;
-        copy.record_at(&mut bench, 59).map(shown),
+        copy.record_at(&mut bench, 59).map(shown_with),
         form(59, RecordFault::Short)
     );
-    assert_eq!(rt; space.record_at(&mut bench, 59).map(shown), Ok(5));
+    assert_eq!(rt;
+        space.record_at(&mut bench, 59).map(shown_with),
+        Ok((5, 18))
+    );
+    let mut bytes = [0; 24];
+    assert_eq!(rt; space.read(&mut bench, 51, &mut bytes), Ok(24));
+    assert_eq!(rt; bytes[..8], KEPT[13..]);
+    assert_eq!(rt; bytes[8..], BRANCH[..16]);
+    assert_eq!(rt; space.read(&mut bench, 16, &mut bytes), Ok(7));
     assert_eq!(rt; bench.reads(MAPPING), 0);
     Ok(())
 }

@@ -1,12 +1,13 @@
-use Rattle.std.proofs.Common.{◌≡◌, ◌+◌, refl, subst}
+use Rattle.std.proofs.Common.{◌≡◌, ◌+◌, ◌≤◌, refl, subst, arith, length}
 use Rattle.std.specs.Prelude.{Some, Ok, Err}
+use Rattle.ip_spec.specs.Record.{spelling}
 use Rattle.ip_space.specs.SpaceView.{SpaceView, records_of, read_at, byte_at}
 use Rattle.ip_space.specs.ScanView.{ScanView}
 use Rattle.ip_space.specs.Viewed.{view_of}
 use Rattle.ip_space.specs.Ahead.{held_in, Shows}
 use Rattle.ip_space.specs.Scanning.{Finds, FindsWhole}
 use Rattle.ip_space.proofs.Stayed.{only_reads}
-use Rattle.ip_space.proofs.Answered.{record_there, whole_there, found_err, found_ok, passed_shows, shows_same, begun, readable_of}
+use Rattle.ip_space.proofs.Answered.{record_there, whole_there, found_err, found_ok, some_bytes, passed_shows, shows_same, begun, readable_of}
 use Rattle.ip_space.proofs.scan.Scan.step.Goals as goal
 
 pub returns-in-Ok-clause-reads : goal.returns-in-Ok-clause-reads
@@ -60,3 +61,11 @@ returns-in-Ok-clause-whole g c told readable current =
     subst (λ (v : ScanView). FindsWhole (byte_at after c.args.space.now) c.args.space.now.layout.end v.next (Ok (Some (at, c.in-Ok.rec)))) c.self.view_is
     (subst (λ (s : SpaceView). FindsWhole (byte_at after s) s.layout.end at (Ok (Some (at, c.in-Ok.rec)))) c.space.view_is
     (whole_there (byte_at after space) space.layout.end at c.in-Ok.rec (held_in c.read_one.new.self) (c.in-Ok.ensures.shows told (readable_of c.space.view_is readable) shows) c.in-Ok.ensures.spelled))
+
+pub returns-in-Ok-clause-inside : goal.returns-in-Ok-clause-inside
+returns-in-Ok-clause-inside g c =
+    let room = c.in-Ok.ensures.room in
+    let spelled = c.in-Ok.ensures.found.1 in
+    let most = c.in-Ok.ensures.found.2 in
+    let some = some_bytes c.in-Ok.rec in
+    subst (λ (s : SpaceView). c.self.inside.next + length (spelling c.in-Ok.rec) ≤ s.layout.end) c.space.view_is (omega (arith, room, spelled, most, some))
