@@ -8,7 +8,7 @@ use Rattle.std.specs.Prelude.{ℕ, ◌≤◌, ◌≡◌, ◌≢◌, ◌⊎◌, B
 use Rattle.ip_ground.specs.declared.names.FileName.TheVariants.{Control}
 use Rattle.ip_ground.specs.Counts.{Rose}
 use Rattle.ip_ground.specs.Custody.{own}
-use Rattle.ip_ground.specs.Told.{Told, said, lending, ChangesOnly, SyncsOnly, Only, NoFile, IsKept, EachImageNow}
+use Rattle.ip_ground.specs.Told.{Told, said, lending, ChangesOnly, SyncsOnly, Only, NoFile, IsSynced, EachImageNow}
 use Rattle.ip_image.specs.declared.slot.Slot.{Slot}
 use Rattle.ip_image.specs.Slot.{live_index}
 use Rattle.ip_image.specs.Standing.{StandsFor, NoStore, DamagedAt}
@@ -216,7 +216,7 @@ init_status (Err InitFault.Ground) = Status.GroundFault
 pub record IsMade (chunk : ℕ) (old new : Told) : Type 0 where
   pub closed : live_index (control_in old.held) ≡ None
   pub fresh : IsFresh chunk new.held
-  pub kept : IsKept new Control
+  pub kept : IsSynced new Control
   pub stands : EachImageNow new (λ image. StandsFor image no_repository)
   pub nothing_pending : ((attempt : ℕ) → lending old attempt ≡ own) → NothingPending new
 

@@ -12,7 +12,7 @@ use Rattle.ip_ground.specs.declared.names.FileName.{FileName}
 use Rattle.ip_ground.specs.declared.names.FileName.TheVariants.{Chunk}
 use Rattle.ip_ground.specs.declared.names.GroundFault.{GroundFault}
 use Rattle.ip_ground.specs.Contents.{Content, Image}
-use Rattle.ip_ground.specs.Told.{Told, said, KeepsPast, SyncsAtMost, KeepsSaid, EachSince, EachImage, EachImageNow, IsAbout, IsPossibleNow, IsKept}
+use Rattle.ip_ground.specs.Told.{Told, said, KeepsPast, SyncsAtMost, KeepsSaid, EachSince, EachImage, EachImageNow, IsAbout, IsPossibleNow, IsSynced}
 use Rattle.ip_ground.proofs.Exits.{Exit, exit_ok, exit_holds}
 use Rattle.ip_ground.proofs.Spans.{goes_on, only_on, each_on, each_synced, each_steps, left_now}
 use Rattle.ip_image.specs.Slot.{IsChunkSize}
@@ -43,7 +43,7 @@ module _ (size at : ℕ) (bytes : List ℕ) where
   stand_from told possible leaves k lt = leaves k lt (told.held (chunk_file size (at + k))) (possible (chunk_file size (at + k)))
 
   -- and where nothing of their chunks is pending, a crash leaves what they read as
-  pub leaves_from_kept : (told : Told) → ((k : ℕ) → k < length bytes → IsKept told (chunk_file size (at + k))) → Holds size at bytes told.held → Leaves size at bytes told
+  pub leaves_from_kept : (told : Told) → ((k : ℕ) → k < length bytes → IsSynced told (chunk_file size (at + k))) → Holds size at bytes told.held → Leaves size at bytes told
   unfolding chunk_byte
   leaves_from_kept told kept holds k lt content may = ap (byte_in size (at + k)) (kept k lt content may) ∙ holds k lt
 
@@ -148,7 +148,7 @@ module _ (size from end : ℕ) (front bytes : List ℕ) (ends : from + length fr
       since_on size from front a b c syncs.only.changes.goes first (leaves_stay size from front b c stays (leaves_on size from front a b appends.only.goes leaves first))
 
   -- of a place in front a crash leaves what it left, of one behind what its synced chunk reads as
-  both_left : Leaves size from front a → ((file : FileName) → IsChunkBetween size end (end + length bytes) file → IsKept c file) → Leaves size from (front ++ bytes) c
+  both_left : Leaves size from front a → ((file : FileName) → IsChunkBetween size end (end + length bytes) file → IsSynced c file) → Leaves size from (front ++ bytes) c
   unfolding chunk_byte
   both_left leaves kept k lt content may = elim (cases_lt k (length front)) [
     | inl early ↦ leaves_on size from front a c (goes_on a b c appends.only.goes syncs.only.changes.goes) leaves (since_both leaves) k early content may ∙ sym (same_front front bytes k early)

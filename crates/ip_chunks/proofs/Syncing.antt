@@ -6,7 +6,7 @@ use Rattle.std.proofs.lemmas.Result.{IfOk-from_err}
 use Rattle.ip_ground.specs.declared.names.FileName.{FileName}
 use Rattle.ip_ground.specs.declared.names.FileName.TheVariants.{Chunk}
 use Rattle.ip_ground.specs.declared.names.GroundFault.{GroundFault}
-use Rattle.ip_ground.specs.Told.{Told, KeepsPast, SyncsAtMost, IsKept, Only, SyncsOnly}
+use Rattle.ip_ground.specs.Told.{Told, KeepsPast, SyncsAtMost, IsSynced, Only, SyncsOnly}
 use Rattle.ip_ground.specs.Calls.{Syncs}
 use Rattle.ip_ground.proofs.Durable.{IsOwn, sync_syncs}
 use Rattle.ip_ground.proofs.Spans.{only_more, syncs_on, each_synced, left_now}
@@ -20,13 +20,13 @@ own_chunk : (number : ℕ) → IsOwn (Chunk number)
 own_chunk number = record { own = λ told x. x; firm = λ told x. x; unmarked = λ attempt custody i. custody }
 
 -- nothing of a chunk is pending, and a sync of another does not change that
-still_kept : (number : ℕ) (b c : Told) → KeepsPast b c → SyncsAtMost b c (Chunk number) → IsKept b (Chunk number) → IsKept c (Chunk number)
+still_kept : (number : ℕ) (b c : Told) → KeepsPast b c → SyncsAtMost b c (Chunk number) → IsSynced b (Chunk number) → IsSynced c (Chunk number)
 still_kept number b c goes stays kept content may =
     left_now b c (Chunk number) (λ x. x ≡ b.held (Chunk number)) goes kept (each_synced b c (Chunk number) (λ x. x ≡ b.held (Chunk number)) (λ x. x) stays kept) content may ∙ sym (stays.held (λ x. x))
 
 -- of chunks by their numbers
 abbrev pub AllKept : Told → ℕ → ℕ → Type 0
-AllKept told from to = (number : ℕ) → from ≤ number → number < to → IsKept told (Chunk number)
+AllKept told from to = (number : ℕ) → from ≤ number → number < to → IsSynced told (Chunk number)
 
 module _ (size from to : ℕ) (some : 0 < size) (some_place : from < to) (number : ℕ) (high : chunk_of size from ≤ number) (low : number ≤ chunk_of size (to - 1)) (a b c : Told) (before : SyncsOnly (IsChunkBetween size from to) a b)
     (r : Result (Unit {0}) GroundFault) (syncs : Syncs (Chunk number) r b c) where
@@ -45,14 +45,14 @@ module _ (size from to : ℕ) (some : 0 < size) (some_place : from < to) (number
 pub one_kept : (first number : ℕ) (b c : Told) → Syncs (Chunk number) (Ok tt) b c → AllKept b first number → AllKept c first (number + 1)
 one_kept first number b c syncs kept other high low = elim (cases_lt other number) [
   | inl earlier ↦ still_kept other b c syncs.goes (syncs.files (Chunk other)) (kept other high earlier)
-  | inr it ↦ let same : other ≡ number = omega (arith, it, low) in subst (λ (n : ℕ). IsKept c (Chunk n)) (sym same) (syncs.ok (λ x. x))
+  | inr it ↦ let same : other ≡ number = omega (arith, it, low) in subst (λ (n : ℕ). IsSynced c (Chunk n)) (sym same) (syncs.ok (λ x. x))
 ]
 
 pub all_synced : (size from to end : ℕ) → 0 < size → chunk_of size (to - 1) < end → (a b : Told) → SyncsOnly (IsChunkBetween size from to) a b → AllKept b (chunk_of size from) end → SyncsRange size from to (Ok tt) a b
 all_synced size from to end some past a b only kept = record { only = only; ok = each }
   where
-    each : (file : FileName) → IsChunkBetween size from to file → IsKept b file
+    each : (file : FileName) → IsChunkBetween size from to file → IsSynced b file
     each file is =
         let low = chunk_up size some from is.0 is.1.0 in
         let high = chunk_up size some is.0 (to - 1) (omega (arith, is.1.1)) in
-        subst (λ f. IsKept b f) (sym is.2) (kept (chunk_of size is.0) low (omega (arith, high, past)))
+        subst (λ f. IsSynced b f) (sym is.2) (kept (chunk_of size is.0) low (omega (arith, high, past)))

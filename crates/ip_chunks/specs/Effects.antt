@@ -6,7 +6,7 @@ use Rattle.ip_ground.specs.declared.names.FileName.{FileName}
 use Rattle.ip_ground.specs.declared.names.FileName.TheVariants.{Chunk}
 use Rattle.ip_ground.specs.declared.names.GroundFault.{GroundFault}
 use Rattle.ip_ground.specs.Contents.{Content}
-use Rattle.ip_ground.specs.Told.{Told, ChangesLeft, IsKept, NoFile, ChangesOnly, SyncsOnly}
+use Rattle.ip_ground.specs.Told.{Told, ChangesLeft, IsSynced, NoFile, ChangesOnly, SyncsOnly}
 use Rattle.ip_image.specs.Virtual.{Stands, chunk_of}
 use Rattle.ip_chunks.specs.Places.{byte_in, chunk_byte, IsBetween, IsChunkBetween, IsChunkNumbered}
 
@@ -40,7 +40,7 @@ pub record ReadsAt (size at : ℕ) (out filled : List ℕ) (result : Result ℕ 
 -- other is synced.
 pub record SyncsRange (size from to : ℕ) (result : Result (Unit {0}) GroundFault) (old new : Told) : Type 0 where
   pub only : SyncsOnly (IsChunkBetween size from to) old new
-  pub ok : OnOk result ((file : FileName) → IsChunkBetween size from to file → IsKept new file)
+  pub ok : OnOk result ((file : FileName) → IsChunkBetween size from to file → IsSynced new file)
 
 -- A removal that failed may have left its chunk or not, and a crash may leave a chunk of the range as before or none. No other file
 -- changes, nor any byte of a chunk that is left.

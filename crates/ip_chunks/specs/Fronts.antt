@@ -10,7 +10,7 @@ use Rattle.std.specs.List.{range_with_len}
 use Rattle.ip_ground.specs.declared.names.FileName.{FileName}
 use Rattle.ip_ground.specs.declared.names.GroundFault.{GroundFault}
 use Rattle.ip_ground.specs.Contents.{Image}
-use Rattle.ip_ground.specs.Told.{Told, EachSince, EachNow, IsKept, ChangesOnly}
+use Rattle.ip_ground.specs.Told.{Told, EachSince, EachNow, IsSynced, ChangesOnly}
 use Rattle.ip_image.specs.Virtual.{Stands}
 use Rattle.ip_chunks.specs.Places.{chunk_file, byte_in, chunk_byte, IsChunkBetween}
 
@@ -38,6 +38,6 @@ LeavesSince size at bytes old new = (k : ℕ) → k < length bytes → EachByteS
 pub record AppendsKept (size from end : ℕ) (front bytes : List ℕ) (result : Result (Unit {0}) GroundFault) (old new : Told) : Type 0 where
   pub only : ChangesOnly (IsChunkBetween size end (end + length bytes)) old new
   pub held : OnOk result (Holds size from (front ++ bytes) new.held)
-  pub synced : OnOk result ((file : FileName) → IsChunkBetween size end (end + length bytes) file → IsKept new file)
+  pub synced : OnOk result ((file : FileName) → IsChunkBetween size end (end + length bytes) file → IsSynced new file)
   pub since : Leaves size from front old → LeavesSince size from front old new
   pub kept : Leaves size from front old → OnOk result (Leaves size from (front ++ bytes) new)

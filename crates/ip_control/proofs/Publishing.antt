@@ -8,7 +8,7 @@ use Rattle.std.proofs.lemmas.Result.{on_ok_weaker}
 use Rattle.ip_ground.specs.declared.names.FileName.TheVariants.{Control}
 use Rattle.ip_ground.specs.declared.names.GroundFault.{GroundFault}
 use Rattle.ip_ground.specs.Contents.{size_of}
-use Rattle.ip_ground.specs.Told.{Told, KeepsPast, KeepsFile, EachSince, IsKept, IsPossibleNow}
+use Rattle.ip_ground.specs.Told.{Told, KeepsPast, KeepsFile, EachSince, IsSynced, IsPossibleNow}
 use Rattle.ip_ground.proofs.Spans.{each_stays, each_on, each_weaker, left_now, held_since}
 use Rattle.ip_ground.proofs.Durable.{now_from_kept}
 use Rattle.ip_image.specs.declared.slot.Slot.{Slot}
@@ -22,7 +22,7 @@ module _ (slot : ℕ) (b c : Told) (goes : KeepsPast b c) (stays : KeepsFile b c
   pub held_stays : control c ≡ control b
   held_stays = stays.held (own.own b)
 
-  pub kept_stays : IsKept b Control → IsKept c Control
+  pub kept_stays : IsSynced b Control → IsSynced c Control
   kept_stays kept x left =
       left_now b c Control (λ content. content ≡ control b) goes kept (each_stays b c Control (λ content. content ≡ control b) (own.firm b) stays kept) x left ∙ sym held_stays
 

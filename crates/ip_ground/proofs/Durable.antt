@@ -5,7 +5,7 @@ use Rattle.ip_ground.specs.declared.names.FileName.{FileName}
 use Rattle.ip_ground.specs.declared.names.GroundFault.{GroundFault}
 use Rattle.ip_ground.specs.Contents.{Content, written, Torn}
 use Rattle.ip_ground.specs.Custody.{Custody, after_sync}
-use Rattle.ip_ground.specs.Told.{Told, lending, IsForeign, IsLoose, KeepsFile, KeepsCustody, EachSince, EachNow, IsKept, Only, NoFile, ChangesOnly, SyncsOnly}
+use Rattle.ip_ground.specs.Told.{Told, lending, IsForeign, IsLoose, KeepsFile, KeepsCustody, EachSince, EachNow, IsSynced, Only, NoFile, ChangesOnly, SyncsOnly}
 use Rattle.ip_ground.specs.Calls.{Writes, Syncs}
 use Rattle.ip_ground.proofs.Spans.{only_on, each_on, each_stays, each_synced, each_from_kept, each_weaker, left_now, now_from_since}
 
@@ -49,14 +49,14 @@ module _ (file : FileName) (own : IsOwn file) (a b : Told) (passes : ChangesOnly
   pub now_passes : (P : Content → Type 0) → EachNow a file P → EachNow b file P
   now_passes P now = left_now a b file P passes.goes now (each_passes P now)
 
-  pub kept_passes : IsKept a file → IsKept b file
+  pub kept_passes : IsSynced a file → IsSynced b file
   kept_passes kept x left = now_passes (λ content. content ≡ a.held file) kept x left ∙ sym held_passes
 
 -- what holds of what is held holds of what a crash leaves, where nothing is pending
-pub now_from_kept : (file : FileName) (a : Told) (P : Content → Type 0) → IsKept a file → P (a.held file) → EachNow a file P
+pub now_from_kept : (file : FileName) (a : Told) (P : Content → Type 0) → IsSynced a file → P (a.held file) → EachNow a file P
 now_from_kept file a P kept here x left = subst P (sym (kept x left)) here
 
-module _ (file : FileName) (own : IsOwn file) (at : ℕ) (bytes : List ℕ) (a b : Told) (kept : IsKept a file) where
+module _ (file : FileName) (own : IsOwn file) (at : ℕ) (bytes : List ℕ) (a b : Told) (kept : IsSynced a file) where
   -- since the write each content is what was held, cut short or not
   pub write_leaves : (result : Result (Unit {0}) GroundFault) → Writes file at bytes result a b → (P : Content → Type 0) → ((x : Content) → Torn at (length bytes) (a.held file) x → P x) → EachSince a b file P
   write_leaves result writes P so = each_weaker a b file (Torn at (length bytes) (a.held file)) P (each_from_kept a b file (Torn at (length bytes)) (writes.left (own.firm a)) kept) so

@@ -4,7 +4,7 @@ use Rattle.std.proofs.Common.{Bool, true, false, refl, ◌≡◌, inl, inr, ℕ,
 use Rattle.std.proofs.lemmas.Bool.{cases_lt}
 use Rattle.ip_ground.specs.declared.names.FileName.{FileName}
 use Rattle.ip_ground.specs.Contents.{Content, Image}
-use Rattle.ip_ground.specs.Told.{Told, said, lending, IsLoose, KeepsPast, ChangesLeft, SyncsAtMost, KeepsFile, KeepsSaid, KeepsCustody, EachSince, EachNow, EachImage, EachImageNow, IsAbout, IsPossible, IsKept, IsPossibleNow, NoFile, ChangesOnly, SyncsOnly}
+use Rattle.ip_ground.specs.Told.{Told, said, lending, IsLoose, KeepsPast, ChangesLeft, SyncsAtMost, KeepsFile, KeepsSaid, KeepsCustody, EachSince, EachNow, EachImage, EachImageNow, IsAbout, IsPossible, IsSynced, IsPossibleNow, NoFile, ChangesOnly, SyncsOnly}
 
 pub goes_nowhere : (a : Told) → KeepsPast a a
 goes_nowhere a = record {
@@ -87,7 +87,7 @@ module _ (a b : Told) where
       from was.0 x (before was.0 was.1) was.2
 
   -- from a file of which nothing is pending, a step leaves what it makes of what is held
-  pub each_from_kept : (f : FileName) (step : Content → Content → Type 0) → ChangesLeft step a b f → IsKept a f → EachSince a b f (step (a.held f))
+  pub each_from_kept : (f : FileName) (step : Content → Content → Type 0) → ChangesLeft step a b f → IsSynced a f → EachSince a b f (step (a.held f))
   each_from_kept f step steps kept t x after le left =
       let was = steps t x after le left in
       subst (λ y. step y x) (kept was.0 was.1) was.2

@@ -10,7 +10,7 @@ use Rattle.ip_ground.specs.Contents.{Content, Image}
 use Rattle.ip_ground.specs.Custody.{is_same_file}
 use Rattle.ip_ground.specs.Files.{no_true}
 use Rattle.ip_ground.specs.Replay.{State, with_held, after, blank, replayed, told_by, durable_by, keeps_files, keeps_durable}
-use Rattle.ip_ground.specs.Map.{content_in, IsTied, IsSynced}
+use Rattle.ip_ground.specs.Map.{content_in, IsTied, KeepsSynced}
 use Rattle.ip_ground.proofs.Replays.{replayed_push, held_new}
 
 abbrev Files : Type 0
@@ -68,29 +68,29 @@ durable_new log event f = ap (λ (s : State). s.durable f) (replayed_push blank 
 pub durable_pushed : (log grown : List Event) (event : Event) → grown ≡ log ++ event ∷ [] → keeps_durable event ≡ true → (f : FileName) → durable_by grown f ≡ durable_by log f
 durable_pushed log grown event is kept f = ap (λ l. durable_by l f) is ∙ durable_new log event f ∙ durable_kept event (replayed blank log) kept f
 
-pub synced_still : (kept : Files) (log grown : List Event) → ((f : FileName) → durable_by grown f ≡ durable_by log f) → IsSynced kept log → IsSynced kept grown
+pub synced_still : (kept : Files) (log grown : List Event) → ((f : FileName) → durable_by grown f ≡ durable_by log f) → KeepsSynced kept log → KeepsSynced kept grown
 synced_still kept log grown same tied f = tied f ∙ sym (same f)
 
 -- after a sync
-module _ (files kept later : Files) (log grown : List Event) (file : FileName) (is : grown ≡ log ++ Synced file ∷ []) (tied : IsTied files log) (synced : IsSynced kept log) where
+module _ (files kept later : Files) (log grown : List Event) (file : FileName) (is : grown ≡ log ++ Synced file ∷ []) (tied : IsTied files log) (synced : KeepsSynced kept log) where
   pub tied_synced : IsTied files grown
   tied_synced = tied_still files files log grown (Synced file) is tied (λ f. refl) (λ f. refl)
 
-  pub synced_made : (x : Content) → ((f : FileName) → content_in later f ≡ with_held file x (content_in kept) f) → x ≡ content_in files file → IsSynced later grown
+  pub synced_made : (x : Content) → ((f : FileName) → content_in later f ≡ with_held file x (content_in kept) f) → x ≡ content_in files file → KeepsSynced later grown
   synced_made x made same f =
       made f ∙ with_held_same file x ((replayed blank log).held file) (content_in kept) (replayed blank log).durable (same ∙ tied file) synced f
       ∙ sym (durable_new log (Synced file) f) ∙ ap (λ l. durable_by l f) (sym is)
 
 -- after a stop that keeps all, or keeps what was synced
-module _ (files kept later : Files) (log grown : List Event) (tied : IsTied files log) (synced : IsSynced kept log) where
+module _ (files kept later : Files) (log grown : List Event) (tied : IsTied files log) (synced : KeepsSynced kept log) where
   pub tied_kept_all : grown ≡ log ++ Stopped true ∷ [] → IsTied files grown
   tied_kept_all is = tied_still files files log grown (Stopped true) is tied (λ f. refl) (λ f. refl)
 
-  pub synced_kept_all : grown ≡ log ++ Stopped true ∷ [] → IsSynced kept grown
+  pub synced_kept_all : grown ≡ log ++ Stopped true ∷ [] → KeepsSynced kept grown
   synced_kept_all is f = synced f ∙ sym (durable_new log (Stopped true) f) ∙ ap (λ l. durable_by l f) (sym is)
 
   pub tied_lost : grown ≡ log ++ Stopped false ∷ [] → ((f : FileName) → content_in later f ≡ content_in kept f) → IsTied later grown
   tied_lost is same f = same f ∙ synced f ∙ sym (held_new log (Stopped false) f) ∙ ap (λ l. (told_by l).held f) (sym is)
 
-  pub synced_lost : grown ≡ log ++ Stopped false ∷ [] → IsSynced kept grown
+  pub synced_lost : grown ≡ log ++ Stopped false ∷ [] → KeepsSynced kept grown
   synced_lost is f = synced f ∙ sym (durable_new log (Stopped false) f) ∙ ap (λ l. durable_by l f) (sym is)

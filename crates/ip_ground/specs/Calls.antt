@@ -5,7 +5,7 @@ use Rattle.ip_ground.specs.declared.names.FileName.{FileName}
 use Rattle.ip_ground.specs.declared.names.GroundFault.{GroundFault}
 use Rattle.ip_ground.specs.Contents.{bytes_of, size_of, written, Torn}
 use Rattle.ip_ground.specs.Custody.{lent, IsOfAttempt, after_sync, after_settle}
-use Rattle.ip_ground.specs.Told.{Told, said, lending, IsForeign, IsLoose, KeepsPast, ChangesLeft, SyncsAtMost, KeepsFile, KeepsSaid, KeepsCustody, TurnsCustody, IsKept, Only, NoFile, ChangesOnly}
+use Rattle.ip_ground.specs.Told.{Told, said, lending, IsForeign, IsLoose, KeepsPast, ChangesLeft, SyncsAtMost, KeepsFile, KeepsSaid, KeepsCustody, TurnsCustody, IsSynced, Only, NoFile, ChangesOnly}
 
 -- A call that changes no file and says nothing.
 pub record Passes (result : Result (Unit {0}) GroundFault) (old new : Told) : Type 0 where
@@ -39,7 +39,7 @@ pub record Syncs (file : FileName) (result : Result (Unit {0}) GroundFault) (old
   pub goes : KeepsPast old new
   pub files : (any : FileName) → SyncsAtMost old new any
   pub others : (other : FileName) → other ≢ file → KeepsFile old new other
-  pub ok : ¬ IsForeign old file → OnOk result (IsKept new file)
+  pub ok : ¬ IsForeign old file → OnOk result (IsSynced new file)
   pub firm : ¬ IsForeign old file → OnOk result (¬ IsLoose new file)
   pub refused : OnErr result (ChangesOnly NoFile old new)
   pub turns : (attempt : ℕ) → TurnsCustody old new attempt

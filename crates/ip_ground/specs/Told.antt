@@ -87,8 +87,8 @@ abbrev pub EachNow : Told → FileName → (Content → Type 0) → Type 0
 EachNow told file P = (content : Content) → told.may_leave told.moment file content → P content
 
 -- Nothing of the file is pending: a crash leaves what it reads as.
-abbrev pub IsKept : Told → FileName → Type 0
-IsKept told file = EachNow told file (λ content. content ≡ told.held file)
+abbrev pub IsSynced : Told → FileName → Type 0
+IsSynced told file = EachNow told file (λ content. content ≡ told.held file)
 
 -- an image that a crash may leave at a moment: file by file
 abbrev pub IsPossible : Told → ℕ → Image → Type 0
@@ -139,7 +139,7 @@ pub record SyncsOnly (these : FileName → Type 0) (old new : Told) : Type 0 whe
 -- No file is there, a crash leaves none, nothing was said, and no attempt was ever lent.
 pub record IsBlank (told : Told) : Type 0 where
   pub held : (file : FileName) → told.held file ≡ None
-  pub kept : (file : FileName) → IsKept told file
+  pub kept : (file : FileName) → IsSynced told file
   pub said : said told ≡ []
   pub lending : (moment attempt : ℕ) → moment ≤ told.moment → told.lending_at moment attempt ≡ own
 

@@ -5,7 +5,7 @@ ghost use Rattle.ip_ground.specs.Calls.{Writes};
 ghost use Rattle.ip_ground.specs.Custody.{custody_of, lent};
 ghost use Rattle.ip_ground.specs.Replay.{told_by, durable_by, said_after, lent_after, keeps_files, keeps_durable};
 ghost use Rattle.ip_ground.specs.Acting.{Acts, Plays};
-ghost use Rattle.ip_ground.specs.Map.{content_in, IsTied, IsSynced};
+ghost use Rattle.ip_ground.specs.Map.{content_in, IsTied, KeepsSynced};
 ghost use Rattle.ip_ground.specs.declared.event.Event.TheVariants.{Wrote, Removed, Synced, Said, Changed};
 
 use crate::contents::{Files, copied, discard, replace, write_over};
@@ -233,9 +233,9 @@ pub fn note_sync(
     file: FileName,
 ) -> Result<(), AllocError>
     requires tied { IsTied files.now log.old.items }
-    requires synced { IsSynced kept.old log.old.items }
+    requires synced { KeepsSynced kept.old log.old.items }
     ensures tied { IsTied files.now log.new.items }
-    ensures synced { IsSynced kept.new log.new.items }
+    ensures synced { KeepsSynced kept.new log.new.items }
     ensures ok { OnOk result (log.new.items ≡ log.old.items ++ Synced file ∷ []) }
     ensures err { OnErr result (log.new.items ≡ log.old.items) }
 {
@@ -293,9 +293,9 @@ pub fn play(
 // A stop after which all that was written is there, though it may still be lost.
 pub fn stop_with_all(files: &Files, kept: &Files, log: &mut Vec<Event>) -> Result<(), AllocError>
     requires tied { IsTied files.now log.old.items }
-    requires synced { IsSynced kept.now log.old.items }
+    requires synced { KeepsSynced kept.now log.old.items }
     ensures tied { IsTied files.now log.new.items }
-    ensures synced { IsSynced kept.now log.new.items }
+    ensures synced { KeepsSynced kept.now log.new.items }
     ensures reopens { OnOk result (Reopens (told_by log.old.items) (told_by log.new.items)) }
     ensures all { OnOk result ((file : _) → (told_by log.new.items).held file ≡ (told_by log.old.items).held file) }
 {
@@ -312,9 +312,9 @@ pub fn stop_with_synced(
     log: &mut Vec<Event>,
 ) -> Result<(), AllocError>
     requires tied { IsTied files.old log.old.items }
-    requires synced { IsSynced kept.now log.old.items }
+    requires synced { KeepsSynced kept.now log.old.items }
     ensures tied { IsTied files.new log.new.items }
-    ensures synced { IsSynced kept.now log.new.items }
+    ensures synced { KeepsSynced kept.now log.new.items }
     ensures reopens { OnOk result (Reopens (told_by log.old.items) (told_by log.new.items)) }
     ensures last { OnOk result ((file : _) → ¬ IsLoose (told_by log.old.items) file → IsSyncedAs (told_by log.old.items) file ((told_by log.new.items).held file)) }
 {

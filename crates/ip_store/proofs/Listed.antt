@@ -13,7 +13,7 @@ use Rattle.std.proofs.lemmas.List.Elements.{filter_map-append, recursion_from_Al
 use Rattle.ip_ground.specs.declared.names.FileName.{FileName}
 use Rattle.ip_ground.specs.declared.names.FileName.TheVariants.{Control, Chunk, Mapping, Prefix}
 use Rattle.ip_ground.specs.Contents.{Content, Image, bytes_of}
-use Rattle.ip_ground.specs.Told.{Told, IsForeign, IsKept}
+use Rattle.ip_ground.specs.Told.{Told, IsForeign, IsSynced}
 use Rattle.ip_spec.specs.declared.record.Record.{Record}
 use Rattle.ip_spec.specs.declared.record.CommitRecord.{CommitRecord}
 use Rattle.ip_spec.specs.Record.{Fits, reference_kind, spelling, spelling_of}
@@ -329,7 +329,7 @@ module _ (store : Store) (told : Told) (r : Repository) (holds : Holds store tol
         records_go_on told.held new.held store.slot store.slot [] A B has has_new (same_generation_itself store.slot) refl (λ k d low. absurd (omega (arith, low)))
         (record { same = same; added = λ k low. absurd (omega (arith, low)) }) ∙ append-nil A.records
 
-    pub holds_on : IsKept new Control → OwnsPair new store.slot → Holds store new r
+    pub holds_on : IsSynced new Control → OwnsPair new store.slot → Holds store new r
     holds_on kept owns =
         let stands : StandsFor new.held r = stands_still told.held new.held r store.slot store.slot holds.stands has has_new (same_generation_itself store.slot) refl refl same in
         record {

@@ -11,7 +11,7 @@ use Rattle.ip_ground.specs.declared.names.FileName.{FileName}
 use Rattle.ip_ground.specs.declared.names.FileName.TheVariants.{Control, Prefix, Mapping}
 use Rattle.ip_ground.specs.declared.names.GroundFault.{GroundFault}
 use Rattle.ip_ground.specs.Contents.{Content}
-use Rattle.ip_ground.specs.Told.{Told, NoFile, Only, KeepsFile, ChangesOnly, SyncsOnly, IsKept}
+use Rattle.ip_ground.specs.Told.{Told, NoFile, Only, KeepsFile, ChangesOnly, SyncsOnly, IsSynced}
 use Rattle.ip_ground.specs.Calls.{Syncs}
 use Rattle.ip_ground.proofs.Spans.{only_nowhere, only_on, syncs_none, syncs_on}
 use Rattle.ip_ground.proofs.Durable.{sync_syncs, kept_passes}
@@ -98,7 +98,7 @@ module _ (index : ℕ) (s : Slot) (is : IsSlot s) (below : index < 2) (found : F
       }
 
   pub holds_of : (told : Told) → IsLive (control_in told.held) index s → (rows : List Row) → Generation told.held (layout_of s) rows → (space : SpaceView) → IsSpaceOf s space → space.runs ≡ map run_of rows
-      → RunByRun (byte_at told space) (stretches_of space) records → store.space ≡ space → IsKept told Control → OwnsPair told s → Holds store told (repository_of s records tells.good)
+      → RunByRun (byte_at told space) (stretches_of space) records → store.space ≡ space → IsSynced told Control → OwnsPair told s → Holds store told (repository_of s records tells.good)
   holds_of told live rows generation space of runs fill space_is kept owns = record {
     tables = tables_of;
     stands = record {
@@ -181,7 +181,7 @@ module _ (a b c d : Told) (passes : ChangesOnly NoFile a b) (syncs : Syncs Contr
   finds r found = record {
     only = syncs_on a c d (Only Control) (sync_only a b c (Ok tt) passes syncs) (syncs_none c d (Only Control) reads);
     finds = found;
-    kept = on_ok r (IsKept d Control) (kept_passes Control own c d reads (syncs.ok (λ x. x)));
+    kept = on_ok r (IsSynced d Control) (kept_passes Control own c d reads (syncs.ok (λ x. x)));
     since = c.moment;
     begins = (let later = passes.goes.later in let next = syncs.advances in omega (arith, later, next));
     reached = λ answered some. reads.goes.later;

@@ -5,7 +5,7 @@ use Rattle.std.proofs.lemmas.List.{length-take, get_or-take, take_at}
 use Rattle.std.proofs.lemmas.Grind.{same_number_lists}
 use Rattle.ip_ground.specs.Contents.{Content, bytes_of, written}
 use Rattle.ip_ground.specs.declared.names.FileName.TheVariants.{Control}
-use Rattle.ip_ground.specs.Told.{Told, NoFile, ChangesOnly, IsKept, EachImageNow}
+use Rattle.ip_ground.specs.Told.{Told, NoFile, ChangesOnly, IsSynced, EachImageNow}
 use Rattle.ip_ground.specs.Calls.{Reads}
 use Rattle.ip_ground.proofs.Durable.{IsOwn, held_passes}
 use Rattle.ip_spec.specs.Path.{Bytes}
@@ -61,7 +61,7 @@ some_fresh : (chunk : ℕ) → take 256 [] ≢ fresh_control chunk
 some_fresh chunk is = let e = ap length is in absurd (omega (arith, e, fresh_size chunk))
 
 -- where nothing is pending, each image stands for the repository without commits
-pub fresh_now : (chunk : ℕ) → IsChunkSize chunk → (told : Told) → IsFresh chunk told.held → IsKept told Control → EachImageNow told (λ image. StandsFor image no_repository)
+pub fresh_now : (chunk : ℕ) → IsChunkSize chunk → (told : Told) → IsFresh chunk told.held → IsSynced told Control → EachImageNow told (λ image. StandsFor image no_repository)
 fresh_now chunk size told is kept image possible = by (image Control) refl
   where
     fresh : take 256 (control_in image) ≡ fresh_control chunk

@@ -3,7 +3,7 @@
 --     Finishes index s found result      what makes a store of it, and of what was found
 use Rattle.std.specs.Prelude.{◌≡◌, ◌≢◌, ℕ, ◌*◌, ◌<◌, ◌≤◌, List, map, Result, Ok, Err, OnOk, IsSome}
 use Rattle.ip_ground.specs.declared.names.FileName.TheVariants.{Control}
-use Rattle.ip_ground.specs.Told.{Told, SyncsOnly, Only, IsKept}
+use Rattle.ip_ground.specs.Told.{Told, SyncsOnly, Only, IsSynced}
 use Rattle.ip_ground.specs.Contents.{Content, Image}
 use Rattle.ip_spec.specs.Record.{Names}
 use Rattle.ip_spec.specs.TreeAt.{Records}
@@ -40,7 +40,7 @@ IsReached result = Unit {0}
 pub record FindsSlot (result : Result (ℕ × Slot) OpenFault) (old new : Told) : Type 0 where
   pub only : SyncsOnly (Only Control) old new
   pub finds : FoundIn new.held result
-  pub kept : OnOk result (IsKept new Control)
+  pub kept : OnOk result (IsSynced new Control)
   -- the moment of the sync: from then on a crash leaves the control file that is read
   pub since : ℕ
   pub begins : old.moment < since

@@ -3,7 +3,7 @@ use Rattle.std.specs.Prelude.{◌≡◌, ℕ, ◌<◌, ◌≤◌, None, IsSome, 
 use Rattle.ip_ground.specs.declared.names.FileName.{FileName}
 use Rattle.ip_ground.specs.declared.names.FileName.TheVariants.{Control}
 use Rattle.ip_ground.specs.Custody.{own}
-use Rattle.ip_ground.specs.Told.{Told, lending, ChangesOnly, SyncsOnly, Only, NoFile, IsKept, EachImageNow}
+use Rattle.ip_ground.specs.Told.{Told, lending, ChangesOnly, SyncsOnly, Only, NoFile, IsSynced, EachImageNow}
 use Rattle.ip_spec.specs.Repository.{Repository, no_repository}
 use Rattle.ip_image.specs.Slot.{live_index}
 use Rattle.ip_image.specs.Standing.{StandsFor, NoStore, DamagedAt}
@@ -25,7 +25,7 @@ pub record Makes (chunk : ℕ) (result : Result (Unit {0}) InitFault) (old new :
   pub unchanged : IsErrOf result InitFault.Existing → ChangesOnly NoFile old new
   -- a crash leaves a store without commits
   pub made : OnOk result (IsFresh chunk new.held)
-  pub kept : OnOk result (IsKept new Control)
+  pub kept : OnOk result (IsSynced new Control)
   pub stands : OnOk result (EachImageNow new (λ image. StandsFor image no_repository))
   -- and nothing is pending, where no attempt was ever lent
   pub nothing_pending : ((attempt : ℕ) → lending old attempt ≡ own) → OnOk result (NothingPending new)

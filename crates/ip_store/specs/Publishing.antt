@@ -9,7 +9,7 @@ use Rattle.ip_ground.specs.declared.names.FileName.{FileName}
 use Rattle.ip_ground.specs.declared.names.FileName.TheVariants.{Control}
 use Rattle.ip_ground.specs.declared.names.GroundFault.{GroundFault}
 use Rattle.ip_ground.specs.Contents.{Image}
-use Rattle.ip_ground.specs.Told.{Told, EachImage, ChangesOnly, IsKept}
+use Rattle.ip_ground.specs.Told.{Told, EachImage, ChangesOnly, IsSynced}
 use Rattle.ip_image.specs.declared.slot.Slot.{Slot}
 use Rattle.ip_image.specs.Slot.{slot_bytes}
 use Rattle.ip_image.specs.Pending.{HasLive}
@@ -49,7 +49,7 @@ pub record MakesStep (end : ℕ) (bytes : List ℕ) (slot : ℕ) (fields : Slot)
   pub only : ChangesOnly (IsWritten fields.chunk end) old new
   -- Ok: the records are there, the slot is live, nothing of the control file is pending, and a crash leaves the records where it left those before
   pub held : OnOk result (StandsAs fields.chunk fields.horizon (live_slot slot (slot_bytes fields)) (front_in fields end old.held ++ bytes) new.held)
-  pub kept : OnOk result (IsKept new Control)
+  pub kept : OnOk result (IsSynced new Control)
   pub front : Leaves fields.chunk fields.horizon (front_in fields end old.held) old → OnOk result (Leaves fields.chunk fields.horizon (front_in fields end old.held ++ bytes) new)
   -- where nothing of the records was pending, each image at each moment is as before or as after
   pub images : Leaves fields.chunk fields.horizon (front_in fields end old.held) old

@@ -6,7 +6,7 @@
 --     image_records holds      the records of the image that it holds, which are among those of its space
 use Rattle.std.specs.Prelude.{◌≡◌, ◌≢◌, ℕ, ◌-◌, ◌<◌, length, map, All, Option, slice_get}
 use Rattle.ip_ground.specs.declared.names.FileName.TheVariants.{Control}
-use Rattle.ip_ground.specs.Told.{Told, IsKept}
+use Rattle.ip_ground.specs.Told.{Told, IsSynced}
 use Rattle.ip_spec.specs.Record.{IsHash}
 use Rattle.ip_spec.specs.declared.record.Record.{Record}
 use Rattle.ip_spec.specs.Repository.{Repository, next}
@@ -46,7 +46,7 @@ pub record Holds (store : Store) (told : Told) (r : Repository) : Type 0 where
   pub tables : IsOf store r
   pub stands : StandsFor told.held r
   pub live : IsLive (control_in told.held) store.index store.slot
-  pub kept : IsKept told Control
+  pub kept : IsSynced told Control
   pub pair : OwnsPair told store.slot
   pub runs : store.space.runs ≡ map run_of stands.standing.rows
   -- the records of the image are those of the space, so that there each commit's record stands at its place, and its tree where that says
