@@ -1,5 +1,6 @@
 // What is remembered of a leaf and of an inode.
 ghost use Rattle.std.specs.Prelude.{◌≡◌, ◌≤◌, ◌<◌, ℕ, Some, IfSome, None, All, map, fold, max, suc, take, length};
+ghost use Rattle.ip_base.specs.declared.limit.TheConstants.{ENTRIES_MAX};
 ghost use Rattle.ip_spec.specs.declared.record.InodeChild.{InodeChild};
 ghost use Rattle.ip_spec.specs.declared.record.LeafEntry.{LeafEntry};
 ghost use Rattle.ip_spec.specs.Record.{IsLeafEntry};
@@ -41,8 +42,8 @@ pub fn inode_height(children: &[InodeChild]) -> u8
 
 /// How many entries the children of an inode have by their counts, or None where that is more than the format allows.
 pub fn counted(children: &[InodeChild]) -> Option<u64>
-    ensures some { IfSome result (λ n. (n ≡ counts_of children.now) × (n ≤ 1048576)) }
-    ensures none { result ≡ None → 1048576 < counts_of children.now }
+    ensures some { IfSome result (λ n. (n ≡ counts_of children.now) × (n ≤ ENTRIES_MAX)) }
+    ensures none { result ≡ None → ENTRIES_MAX < counts_of children.now }
 {
     let mut total: u64 = 0;
     for child in children {

@@ -1,5 +1,6 @@
 // The list of bytes, and its four calls.
-ghost use Rattle.std.specs.Prelude.{◌≡◌, ◌+◌, ◌-◌, ◌^◌, ◌<◌, ◌≤◌, min, Ok, IsTrue, IfOk, OnErr, length};
+ghost use Rattle.std.specs.Prelude.{◌≡◌, ◌+◌, ◌-◌, ◌<◌, ◌≤◌, min, Ok, IsTrue, IfOk, OnErr, length};
+ghost use Rattle.ip_base.specs.declared.limit.TheConstants.{OFFSET_MAX};
 ghost use Rattle.ip_ground.specs.Counts.{CountsAs, CountsLeft, FileFault};
 ghost use Rattle.ip_image.specs.Slot.{IsChunkSize};
 ghost use Rattle.ip_image.specs.Virtual.{place_in_chunk};
@@ -8,7 +9,7 @@ ghost use Rattle.ip_chunks.specs.Effects.{Appends, ReadsAt, SyncsRange, Sweeps};
 
 use ip_ground::{FileName, Ground, GroundFault};
 
-/// The chunk files of a store as one list of bytes. The size of a chunk, in bytes, is a power of two from 4096 to 2^30; each call
+/// The chunk files of a store as one list of bytes. The size of a chunk, in bytes, is a power of two from `CHUNK_MIN` to `CHUNK_MAX`; each call
 /// asks for such a one.
 #[derive(Clone, Copy, Debug, PartialEq, Eq)]
 pub struct Chunks {
@@ -43,7 +44,7 @@ impl Chunks {
         bytes: &[u8],
     ) -> Result<(), GroundFault>
         requires allowed { IsChunkSize self.now.size }
-        requires room { end + length bytes.now ≤ 2 ^ 62 }
+        requires room { end + length bytes.now ≤ OFFSET_MAX }
         ensures does { IsTrue G.tells → NoGap self.now.size (G.told outside.old).held (chunk_start self.now.size end) end → Appends self.now.size end bytes.now result (G.told outside.old) (G.told outside.new) }
         ensures empty { length bytes.now ≡ 0 → (result ≡ Ok tt) × (outside.new ≡ outside.old) }
         ensures counts { CountsAs FileFault result (G.counts_of outside.old) (G.counts_of outside.new) }
@@ -66,7 +67,7 @@ impl Chunks {
         bytes: &[u8],
     ) -> Result<(), GroundFault>
         requires allowed { IsChunkSize self.now.size }
-        requires room { at + length bytes.now ≤ 2 ^ 62 }
+        requires room { at + length bytes.now ≤ OFFSET_MAX }
         requires some { 0 < length bytes.now }
         requires within { length bytes.now ≤ self.now.size - place_in_chunk self.now.size at }
         ensures does { IsTrue G.tells → NoGap self.now.size (G.told outside.old).held (chunk_start self.now.size at) at → Appends self.now.size at bytes.now result (G.told outside.old) (G.told outside.new) }
@@ -85,7 +86,7 @@ impl Chunks {
         out: &mut [u8],
     ) -> Result<usize, GroundFault>
         requires allowed { IsChunkSize self.now.size }
-        requires room { at + length out.old ≤ 2 ^ 62 }
+        requires room { at + length out.old ≤ OFFSET_MAX }
         ensures does { IsTrue G.tells → ReadsAt self.now.size at out.old out.new result (G.told outside.old) (G.told outside.new) }
         ensures fits { IfOk result (λ n. n ≤ length out.old) }
         ensures counts { CountsAs FileFault result (G.counts_of outside.old) (G.counts_of outside.new) }
@@ -111,7 +112,7 @@ impl Chunks {
         out: &mut [u8],
     ) -> Result<usize, GroundFault>
         requires allowed { IsChunkSize self.now.size }
-        requires room { at + length out.old ≤ 2 ^ 62 }
+        requires room { at + length out.old ≤ OFFSET_MAX }
         requires within { length out.old ≤ self.now.size - place_in_chunk self.now.size at }
         ensures does { IsTrue G.tells → ReadsAt self.now.size at out.old out.new result (G.told outside.old) (G.told outside.new) }
         ensures fits { IfOk result (λ n. n ≤ length out.old) }
@@ -130,7 +131,7 @@ impl Chunks {
         to: u64,
     ) -> Result<(), GroundFault>
         requires allowed { IsChunkSize self.now.size }
-        requires room { to ≤ 2 ^ 62 }
+        requires room { to ≤ OFFSET_MAX }
         ensures does { IsTrue G.tells → SyncsRange self.now.size from to result (G.told outside.old) (G.told outside.new) }
         ensures none { to ≤ from → (result ≡ Ok tt) × (outside.new ≡ outside.old) }
         ensures counts { CountsAs FileFault result (G.counts_of outside.old) (G.counts_of outside.new) }

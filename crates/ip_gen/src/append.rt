@@ -1,6 +1,7 @@
 // Records behind those that are present.
-ghost use Rattle.std.specs.Prelude.{◌≡◌, ℕ, ◌^◌, ◌<◌, ◌≤◌, ◌↔◌, ◌++◌, IsTrue, true, false, Ok, OnErr, IfOk, length, take};
+ghost use Rattle.std.specs.Prelude.{◌≡◌, ℕ, ◌<◌, ◌≤◌, ◌↔◌, ◌++◌, IsTrue, true, false, Ok, OnErr, IfOk, length, take};
 ghost use Rattle.std.specs.List.{AllByRecursion};
+ghost use Rattle.ip_base.specs.declared.limit.TheConstants.{OFFSET_MAX};
 ghost use Rattle.ip_spec.specs.Core.{AreInOrder, IsPresent, Stays, Follows, FollowOn, end_of};
 ghost use Rattle.ip_gen.specs.Phases.{phase_of};
 
@@ -25,7 +26,7 @@ fn refs_allowed(records: &[CoreRecord], phase: &Phase, before: u64, refs: &[u64]
 
 fn follows(records: &[CoreRecord], phase: &Phase, next: &CoreRecord) -> bool
     requires order { AreInOrder 0 records.now }
-    requires room { end_of records.now ≤ 2 ^ 62 }
+    requires room { end_of records.now ≤ OFFSET_MAX }
     ensures { IsTrue result ↔ Follows records.now (phase_of phase.now) next.now }
 {
     let end = end(records);
@@ -53,7 +54,7 @@ fn append_while(
     more: &[CoreRecord],
 ) -> Result<bool, Memory>
     requires order { AreInOrder 0 records.old.items }
-    requires room { end_of records.old.items ≤ 2 ^ 62 }
+    requires room { end_of records.old.items ≤ OFFSET_MAX }
     ensures begun { (n : ℕ) × (records.new.items ≡ records.old.items ++ take n more.now) }
     ensures taken { result ≡ Ok true → FollowOn records.old.items (phase_of phase.now) more.now × (records.new.items ≡ records.old.items ++ more.now) }
     ensures refused { result ≡ Ok false → ¬ (FollowOn records.old.items (phase_of phase.now) more.now) }
@@ -75,7 +76,7 @@ pub(crate) fn append(
     more: &[CoreRecord],
 ) -> Result<bool, Memory>
     requires order { AreInOrder 0 records.old.items }
-    requires room { end_of records.old.items ≤ 2 ^ 62 }
+    requires room { end_of records.old.items ≤ OFFSET_MAX }
     ensures taken { result ≡ Ok true → FollowOn records.old.items (phase_of phase.now) more.now × (records.new.items ≡ records.old.items ++ more.now) }
     ensures refused { result ≡ Ok false → ¬ (FollowOn records.old.items (phase_of phase.now) more.now) × (records.new.items ≡ records.old.items) }
     ensures memory { OnErr result (records.new.items ≡ records.old.items) }

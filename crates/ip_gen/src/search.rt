@@ -1,5 +1,6 @@
 // Places in the records, which ascend by offset.
-ghost use Rattle.std.specs.Prelude.{◌≡◌, ◌^◌, ◌≤◌, ◌↔◌, Contains, IfSome, IfNone, IsTrue};
+ghost use Rattle.std.specs.Prelude.{◌≡◌, ◌≤◌, ◌↔◌, Contains, IfSome, IfNone, IsTrue};
+ghost use Rattle.ip_base.specs.declared.limit.TheConstants.{OFFSET_MAX};
 ghost use Rattle.ip_spec.specs.Core.{AreInOrder, IsPresent, end_of};
 ghost use Rattle.ip_gen.specs.Laws.{HasCommit};
 
@@ -7,7 +8,7 @@ use ip_spec::event::CoreRecord;
 
 /// Where the last record ends.
 pub(crate) fn end(records: &[CoreRecord]) -> u64
-    requires { end_of records.now ≤ 2 ^ 62 }
+    requires { end_of records.now ≤ OFFSET_MAX }
     ensures { result ≡ end_of records.now }
 {
     match records {

@@ -7,6 +7,7 @@
 --     MayName r x, renamed r x      a record that changes the branches, or a table of them as they are, and the repository after it
 --     StandsStill, StandsGrown, StandsRenamed      the laws.      RecordsGoOn      the records of an image that goes on
 use Rattle.std.specs.Prelude.{◌≡◌, ◌≢◌, ℕ, ◌+◌, ◌≤◌, List, ◌++◌, length, map, All, AllPairs, None, IsTrue}
+use Rattle.ip_base.specs.declared.limit.TheConstants.{PARENTS_MAX, BRANCHES_MAX}
 use Rattle.ip_base.specs.declared.info.Info.{Info}
 use Rattle.ip_ground.specs.Contents.{Image}
 use Rattle.ip_spec.specs.Map.{insert, len}
@@ -48,11 +49,11 @@ pub record MayGrow (r : Repository) (tree : Tree) (parents : List ℕ) (info : I
   pub narrow : widest tree ≤ entries_limit
   pub retained : All (λ n. IsTrue (is_retained r n)) parents
   pub distinct : AllPairs (λ m n. m ≢ n) parents
-  pub few : length parents ≤ 16
+  pub few : length parents ≤ PARENTS_MAX
   pub is_info : IsInfo info
   pub is_branch : IsBranchName branch
   pub new_name : number_named r (new_commit r tree parents info).name ≡ None
-  pub room : len (insert r.branches branch (next r)) ≤ 4096
+  pub room : len (insert r.branches branch (next r)) ≤ BRANCHES_MAX
 
 abbrev pub fields_of : Repository → List ℕ → Info → Bytes → CommitFields
 fields_of r parents info branch = record { number = next r; parents = map (λ n. record { number = n; name = name_at r n }) parents; info = info; branch = branch }
@@ -73,7 +74,7 @@ AreWithin version records = All (λ (x : ℕ × Record). Fits version x.1 × IsS
 
 -- a record that sets a branch, takes one away, or says all of them as they are, and may stand behind those of a repository
 abbrev pub MayName : Repository → Record → Type 0
-MayName r (Record.BranchSet number name) = IsTrue (is_retained r number) × (len (insert r.branches name number) ≤ 4096)
+MayName r (Record.BranchSet number name) = IsTrue (is_retained r number) × (len (insert r.branches name number) ≤ BRANCHES_MAX)
 MayName r (Record.BranchRemove name) = Unit {0}
 MayName r (Record.BranchTable rows) = map row_of rows ≡ r.branches.entries
 MayName r _ = ⊥

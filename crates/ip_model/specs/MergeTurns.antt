@@ -7,6 +7,7 @@
 --     kept_after, added_after      the answer where the trees are merged, and where their merge is within the limits
 --     HasShortSteps t      each step has at most 255 bytes
 use Rattle.std.specs.Prelude.{◌≡◌, ◌≤◌, ℕ, [], ◌∷◌, length, All, IsSome, Ok, Err, MatchResult}
+use Rattle.ip_base.specs.declared.limit.TheConstants.{STEP_BYTES_MAX}
 use Rattle.ip_spec.specs.declared.reply.Reply.{Reply}
 use Rattle.ip_spec.specs.declared.command.Target.{Target}
 use Rattle.ip_spec.specs.Map.{get}
@@ -24,7 +25,7 @@ abbrev pub OneAnswers : Rule → Type 0
 OneAnswers rule = (p : Path) → IsOneAnswer (rule p)
 
 abbrev pub HasShortSteps : Tree → Type 0
-HasShortSteps t = (path : Path) → IsSome (get t path) → All (λ step. length step ≤ 255) path
+HasShortSteps t = (path : Path) → IsSome (get t path) → All (λ step. length step ≤ STEP_BYTES_MAX) path
 
 abbrev pub ComesTo : State → (Refused Turned → Type 0) → Reply → Kept.Machine → Type 0
 ComesTo s P reply m = (refused : Refused Turned) × P refused × TurnsTo (or_refused s refused) reply m

@@ -1,6 +1,7 @@
 // Commits as they were made, and what is told of them.
 ghost use Rattle.std.specs.Prelude.{◌≡◌, ℕ, ◌<◌, ◌≤◌, ◌++◌, [], ◌∷◌, length, map, reverse, option_map, position, slice_get, All, IfOk};
 ghost use Rattle.std.specs.List.{list_any};
+ghost use Rattle.ip_base.specs.declared.limit.TheConstants.{PARENTS_MAX};
 ghost use Rattle.ip_spec.specs.declared.reply.Reply.TheVariants as Reply;
 ghost use Rattle.ip_spec.specs.Path.{same_bytes};
 ghost use Rattle.ip_spec.specs.Record.{IsInfo};
@@ -68,7 +69,7 @@ impl Commits {
         parents: &[Number],
         info: Info,
     ) -> Result<Reply, Memory>
-        ensures { (r : Repository) (tree : Tree) → IsInfo info → length parents.now ≤ 16 → All (λ n. n < length self.old) parents.now → root.now ≡ root_name tree → IsOf self.old r →
+        ensures { (r : Repository) (tree : Tree) → IsInfo info → length parents.now ≤ PARENTS_MAX → All (λ n. n < length self.old) parents.now → root.now ≡ root_name tree → IsOf self.old r →
             IfOk result (λ reply. IsNext r (new_commit r tree parents.now info) reply self.new) }
     {
         let parents = self.parents_of(alloc, parents)?;

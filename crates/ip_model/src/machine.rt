@@ -1,6 +1,7 @@
 // The machine over whole maps, while no collection runs and no commit was given up: one command after another, with nothing met.
 ghost use Rattle.std.specs.Prelude.{◌≡◌, ◌<◌, ◌++◌, [], ◌∷◌, ◌&&◌, cond, not, is_some, nat_le, length, map, option_map, slice_get, Some, IfOk, OnOk};
 ghost use Rattle.std.specs.FinMap.Entries.{find, put, where_key};
+ghost use Rattle.ip_base.specs.declared.limit.TheConstants.{BRANCHES_MAX};
 ghost use Rattle.ip_spec.specs.Path.{bytes_cmp, same_bytes};
 ghost use Rattle.ip_spec.specs.Record.{IsInfo};
 ghost use Rattle.ip_spec.specs.Machine.{State, opened};
@@ -17,7 +18,7 @@ ghost use Rattle.ip_model.specs.Working.{IsState, IsSound, TurnsTo, StepsTo, Has
 
 use crate::commits::Commits;
 use crate::work::{Work, got_reply};
-use ip_base::limit::CONTENTS_MAX;
+use ip_base::limit::{BRANCHES_MAX, CONTENTS_MAX};
 use ip_base::{Blob, Info, Items, Limit, Memory, Number, Step};
 use ip_merge::Decides;
 use ip_model_trees::{Joined, Tree, contents_name, count_of, put};
@@ -405,10 +406,10 @@ impl Machine {
 
     // Whether there is no room for a branch.
     fn is_full(&self, name: &Blob) -> bool
-        ensures { result ≡ (not (is_some (find bytes_cmp name.now self.now.branches.items)) && nat_le 4096 (length self.now.branches.items)) }
+        ensures { result ≡ (not (is_some (find bytes_cmp name.now self.now.branches.items)) && nat_le BRANCHES_MAX (length self.now.branches.items)) }
     {
         let branches = self.branches.as_slice();
-        number_of(branches, name).is_none() && branches.len() >= 4096
+        number_of(branches, name).is_none() && branches.len() >= BRANCHES_MAX
     }
 
     // `branch-rm` of a branch.

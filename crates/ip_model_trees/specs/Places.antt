@@ -7,6 +7,7 @@
 use Rattle.std.specs.Prelude.{◌≡◌, ℕ, ◌<◌, ◌≤◌, ◌-◌, ◌*◌, ◌/◌, ◌%◌, ◌^◌, ◌==◌, List, ◌++◌, length, map, filter, nat_lt, All}
 use Rattle.std.specs.List.{range_with_len}
 use Rattle.sha2.specs.Sha256.{sha256}
+use Rattle.ip_base.specs.declared.limit.TheConstants.{STEP_BYTES_MAX}
 use Rattle.ip_spec.specs.Path.{Bytes, Step}
 use Rattle.ip_spec.specs.Record.{Child as Named, u32}
 use Rattle.ip_spec.specs.Shape.{number_of, part_name}
@@ -29,7 +30,7 @@ IsPlaced p = p.digest ≡ sha256 p.entry.now.step
 
 pub record ArePlaced (ps : List Placed) : Type 0 where
   pub count : length ps < 2 ^ 32
-  pub short : All (λ p. length p.entry.now.step ≤ 255) ps
+  pub short : All (λ p. length p.entry.now.step ≤ STEP_BYTES_MAX) ps
   pub digests : All IsPlaced ps
 
 abbrev pub entries_at : ℕ → ℕ → List Placed → List Placed

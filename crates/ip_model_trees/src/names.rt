@@ -2,6 +2,7 @@
 ghost use Rattle.std.specs.Prelude.{◌≡◌, ◌<◌, ◌≤◌, ◌^◌, ◌-◌, ℕ, List, ◌∷◌, ◌++◌, length, map, flat_map, sum_by, nat_le, ◌||◌, false, All, IfOk};
 ghost use Rattle.sha2.specs.Sha256.{sha256};
 ghost use Rattle.sha2.specs.Hashers.{Holds256};
+ghost use Rattle.ip_base.specs.declared.limit.TheConstants.{LEAF_ENTRIES_MAX, STEP_BYTES_MAX, AUTHOR_MAX, MESSAGE_MAX, PARENTS_MAX};
 ghost use Rattle.ip_spec.specs.Record.{hashed_commit, info_spelling, short_text, u8, u32};
 ghost use Rattle.ip_spec.specs.Repository.{CommitParent, commit_name};
 ghost use Rattle.ip_spec.specs.Shape.{deepest, part_name, entries_name};
@@ -9,7 +10,7 @@ ghost use Rattle.ip_model_trees.specs.Names.{paired, hashed_entry};
 ghost use Rattle.ip_model_trees.specs.Places.{ArePlaced, pair_of};
 
 use crate::places::{Child, Placed, children, place_all};
-use ip_base::limit::LEAF_ENTRIES_MAX;
+use ip_base::limit::{LEAF_ENTRIES_MAX, MESSAGE_MAX, PARENTS_MAX, STEP_BYTES_MAX};
 use ip_base::{Hash, Info, Memory, Step};
 use sha2::{Digest, Sha256};
 use std::alloc::Global;
@@ -30,7 +31,7 @@ pub struct Entry {
 
 /// The name of a directory, from its entries, ascending by step. It takes memory for each of them.
 pub fn entries_name(alloc: Global, entries: &[Entry]) -> Result<Hash, Memory>
-    ensures { length entries.now < 2 ^ 32 → All (λ e. length e.step ≤ 255) entries.now → IfOk result (λ name. name ≡ entries_name (map paired entries.now)) }
+    ensures { length entries.now < 2 ^ 32 → All (λ e. length e.step ≤ STEP_BYTES_MAX) entries.now → IfOk result (λ name. name ≡ entries_name (map paired entries.now)) }
 {
     let placed = place_all(alloc, entries)?;
     part_name(alloc, placed.as_slice(), 0)
@@ -38,7 +39,7 @@ pub fn entries_name(alloc: Global, entries: &[Entry]) -> Result<Hash, Memory>
 
 /// The name of a commit, from its root's name, the names of its parents in order, and its info.
 pub fn commit_name(root: &Hash, parents: &[Hash], info: &Info) -> Hash
-    ensures { (ps : List CommitParent) → length parents.now ≤ 16 → length info.now.author ≤ 255 → length info.now.message ≤ 4096 → map (λ p. p.name) ps ≡ parents.now → result ≡ commit_name root.now ps info.now }
+    ensures { (ps : List CommitParent) → length parents.now ≤ PARENTS_MAX → length info.now.author ≤ AUTHOR_MAX → length info.now.message ≤ MESSAGE_MAX → map (λ p. p.name) ps ≡ parents.now → result ≡ commit_name root.now ps info.now }
 {
     hash_of_commit(root, parents, info)
 }
@@ -53,12 +54,12 @@ pub fn contents_name(bytes: &[u8]) -> Hash
 }
 
 fn hash_of_commit(root: &Hash, parents: &[Hash], info: &Info) -> Hash
-    ensures { length parents.now ≤ 16 → length info.now.author ≤ 255 → length info.now.message ≤ 4096 → result ≡ sha256 (hashed_commit root.now parents.now info.now) }
+    ensures { length parents.now ≤ PARENTS_MAX → length info.now.author ≤ AUTHOR_MAX → length info.now.message ≤ MESSAGE_MAX → result ≡ sha256 (hashed_commit root.now parents.now info.now) }
 {
     let mut hasher = Sha256::new();
     hasher.update(&[4]);
     hasher.update(root.as_slice());
-    hasher.update(&[parents.len().min(16) as u8]);
+    hasher.update(&[parents.len().min(PARENTS_MAX) as u8]);
     hash_names(&mut hasher, parents);
     hash_info(&mut hasher, info);
     Hash(hasher.finalize())
@@ -83,7 +84,7 @@ fn part_name(alloc: Global, entries: &[Placed], depth: u8) -> Result<Hash, Memor
 }
 
 fn is_leaf(entries: &[Placed], depth: u8) -> bool
-    ensures is { result ≡ (nat_le (length entries.now) 32 || nat_le 51 depth) }
+    ensures is { result ≡ (nat_le (length entries.now) LEAF_ENTRIES_MAX || nat_le 51 depth) }
     ensures above { result ≡ false → depth < 51 }
 {
     entries.len() <= LEAF_ENTRIES_MAX || depth >= DEEPEST
@@ -100,7 +101,7 @@ fn leaf_name(entries: &[Placed]) -> Hash
 }
 
 fn hash_entries<D: Digest>(hasher: &mut D, entries: &[Placed])
-    ensures { (m : List ℕ) → All (λ p. length p.entry.now.step ≤ 255) entries.now → D.holds hasher.old m → D.holds hasher.new (m ++ flat_map (λ p. hashed_entry p.entry.now) entries.now) }
+    ensures { (m : List ℕ) → All (λ p. length p.entry.now.step ≤ STEP_BYTES_MAX) entries.now → D.holds hasher.old m → D.holds hasher.new (m ++ flat_map (λ p. hashed_entry p.entry.now) entries.now) }
 {
     for placed in entries {
         hash_entry(hasher, placed.entry);
@@ -108,7 +109,7 @@ fn hash_entries<D: Digest>(hasher: &mut D, entries: &[Placed])
 }
 
 fn hash_entry<D: Digest>(hasher: &mut D, entry: &Entry)
-    ensures { (m : List ℕ) → length entry.now.step ≤ 255 → D.holds hasher.old m → D.holds hasher.new (m ++ hashed_entry entry.now) }
+    ensures { (m : List ℕ) → length entry.now.step ≤ STEP_BYTES_MAX → D.holds hasher.old m → D.holds hasher.new (m ++ hashed_entry entry.now) }
 {
     hash_short(hasher, entry.step.bytes());
     hasher.update(&[if entry.is_directory { 2 } else { 1 }]);
@@ -156,17 +157,17 @@ fn hash_names<D: Digest>(hasher: &mut D, names: &[Hash])
 }
 
 fn hash_info<D: Digest>(hasher: &mut D, info: &Info)
-    ensures { (m : List ℕ) → length info.now.author ≤ 255 → length info.now.message ≤ 4096 → D.holds hasher.old m → D.holds hasher.new (m ++ info_spelling info.now) }
+    ensures { (m : List ℕ) → length info.now.author ≤ AUTHOR_MAX → length info.now.message ≤ MESSAGE_MAX → D.holds hasher.old m → D.holds hasher.new (m ++ info_spelling info.now) }
 {
     hasher.update(&info.date.to_le_bytes());
     hash_short(hasher, info.author.as_slice());
-    hasher.update(&(info.message.len().min(4096) as u16).to_le_bytes());
+    hasher.update(&(info.message.len().min(MESSAGE_MAX) as u16).to_le_bytes());
     hasher.update(info.message.as_slice());
 }
 
 fn hash_short<D: Digest>(hasher: &mut D, text: &[u8])
-    ensures { (m : List ℕ) → length text.now ≤ 255 → D.holds hasher.old m → D.holds hasher.new (m ++ short_text text.now) }
+    ensures { (m : List ℕ) → length text.now ≤ STEP_BYTES_MAX → D.holds hasher.old m → D.holds hasher.new (m ++ short_text text.now) }
 {
-    hasher.update(&[text.len().min(255) as u8]);
+    hasher.update(&[text.len().min(STEP_BYTES_MAX) as u8]);
     hasher.update(text);
 }

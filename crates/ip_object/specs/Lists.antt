@@ -13,6 +13,7 @@ use Rattle.ip_spec.specs.declared.record.Parent.{Parent}
 use Rattle.ip_spec.specs.declared.record.Branch.{Branch}
 use Rattle.ip_spec.specs.Reading.{Fields, Left, ◌>>=◌, done, number_where, text_field, hash_field, is_name, any, child_fields, bits_of, row_fields}
 use Rattle.std.specs.Int.{w8, w16, w32, w64}
+use Rattle.ip_base.specs.declared.limit.TheConstants.{BRANCHES_MAX}
 
 -- the step of the last entry
 abbrev pub last_step : List LeafEntry → Option Bytes
@@ -74,7 +75,7 @@ set_field = do
 
 -- the rows of a table, behind their number
 abbrev pub rows_field : Fields (List Branch)
-rows_field = number_where w16 (λ n. nat_le n 4096) >>= λ count. row_fields count None
+rows_field = number_where w16 (λ n. nat_le n BRANCHES_MAX) >>= λ count. row_fields count None
 
 -- the record of a commit whose root is at the reference
 abbrev pub commit_of : ℕ → Ref → List Parent → Info → CommitRecord

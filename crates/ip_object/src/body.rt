@@ -2,11 +2,12 @@
 ghost use Rattle.std.specs.Prelude.{◌≡◌, ◌≤◌, ◌<◌, ◌&&◌, ℕ, Bool, true, length, IfOk, IfErr, Option, nat_lt, nat_le, ◌||◌, ◌==◌, Ok, Err};
 ghost use Rattle.std.specs.Option.{option_copied};
 ghost use Rattle.std.specs.Int.{w8, w16, w32, w64};
-ghost use Rattle.ip_spec.specs.Path.{is_word_byte};
+ghost use Rattle.ip_base.specs.declared.limit.TheConstants.{MESSAGE_MAX, BRANCHES_MAX};
 ghost use Rattle.ip_spec.specs.Reading.{bytes_where, number_where, any, hash_field, is_step, is_name, is_author, is_message, begins_with_at, is_behind, text_field};
 ghost use Rattle.ip_object.specs.Body.{left_in, IsFault, Takes, IsInside, is_text};
 
-use ip_base::{Blob, Cursor, Hash, Step};
+use ip_base::limit::{BRANCHES_MAX, MESSAGE_MAX};
+use ip_base::{Blob, Cursor, Hash, Step, is_step_byte, is_word_byte};
 use ip_spec::kind;
 use ip_spec::record::RecordFault;
 use std::alloc::Global;
@@ -95,11 +96,11 @@ pub fn take_up_to(body: &mut Body<'_>, most: u8) -> Result<u8, RecordFault>
 pub fn take_table_length(body: &mut Body<'_>) -> Result<u16, RecordFault>
     requires inside { IsInside body.old }
     ensures inside { IsInside body.new }
-    ensures takes { Takes (number_where w16 (λ n. nat_le n 4096) (left_in body.old)) result (left_in body.new) }
+    ensures takes { Takes (number_where w16 (λ n. nat_le n BRANCHES_MAX) (left_in body.old)) result (left_in body.new) }
 {
     let at = body.at();
     match body.left.take_u16() {
-        Some(n) if n <= 4096 => Ok(n),
+        Some(n) if n <= BRANCHES_MAX as u16 => Ok(n),
         _ => Err(RecordFault::Form(at)),
     }
 }
@@ -108,11 +109,11 @@ pub fn take_table_length(body: &mut Body<'_>) -> Result<u16, RecordFault>
 pub fn take_message_length(body: &mut Body<'_>) -> Result<u16, RecordFault>
     requires inside { IsInside body.old }
     ensures inside { IsInside body.new }
-    ensures takes { Takes (number_where w16 (λ n. nat_lt 0 n && nat_le n 4096) (left_in body.old)) result (left_in body.new) }
+    ensures takes { Takes (number_where w16 (λ n. nat_lt 0 n && nat_le n MESSAGE_MAX) (left_in body.old)) result (left_in body.new) }
 {
     let at = body.at();
     match body.left.take_u16() {
-        Some(n) if n > 0 && n <= 4096 => Ok(n),
+        Some(n) if n > 0 && n <= MESSAGE_MAX as u16 => Ok(n),
         _ => Err(RecordFault::Form(at)),
     }
 }
@@ -172,7 +173,7 @@ fn are_step_bytes(bytes: &[u8]) -> bool
     ensures { result ≡ is_step bytes.now }
 {
     for b in bytes {
-        if !is_word_byte(*b) || *b == b'/' {
+        if !is_step_byte(*b) {
             return false;
         }
     }
@@ -217,12 +218,6 @@ fn is_text(text: Text, bytes: &[u8]) -> bool
         Text::Author => are_word_bytes(bytes),
         Text::Message => are_message_bytes(bytes),
     }
-}
-
-fn is_word_byte(b: u8) -> bool
-    ensures { result ≡ is_word_byte b }
-{
-    b != b' ' && b != b'\n' && b != 0
 }
 
 // Whether the bytes stand behind those before.

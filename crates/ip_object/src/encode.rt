@@ -1,5 +1,6 @@
 // Records as bytes.
 ghost use Rattle.std.specs.Prelude.{◌≡◌, ◌++◌, ◌+◌, ◌*◌, ◌≤◌, ◌<◌, ◌^◌, ℕ, length, flat_map, All, OnOk, OnErr};
+ghost use Rattle.ip_base.specs.declared.limit.TheConstants.{STEP_BYTES_MAX, NAME_MAX, AUTHOR_MAX, MESSAGE_MAX};
 ghost use Rattle.ip_object.specs.Lists.{Extends, commit_of};
 ghost use Rattle.ip_spec.specs.declared.record.Record.TheVariants as Record;
 ghost use Rattle.ip_spec.specs.Record.{IsCommitRecord, kind_of, IsLeafEntry, IsBranchName, IsU64, Fits, spelling, body, short_text, long_text, info_spelling, entry_spelling, child_spelling, u64, bitmap};
@@ -10,7 +11,7 @@ use ip_spec::record::{Branch, InodeChild, LeafEntry, Parent, Record, Ref};
 
 #[tactic(auto, using(crate::proofs::PutLemmas::extends_same, crate::proofs::PutLemmas::extends_on))]
 fn put_short(text: &[u8], out: &mut Vec<u8>) -> Result<(), Memory>
-    requires { length text.now ≤ 255 }
+    requires { length text.now ≤ STEP_BYTES_MAX }
     ensures ok { OnOk result (out.new.items ≡ out.old.items ++ short_text text.now) }
     ensures err { OnErr result (Extends out.old.items out.new.items) }
 {
@@ -20,7 +21,7 @@ fn put_short(text: &[u8], out: &mut Vec<u8>) -> Result<(), Memory>
 
 #[tactic(auto, using(crate::proofs::PutLemmas::extends_same, crate::proofs::PutLemmas::extends_on))]
 fn put_long(text: &[u8], out: &mut Vec<u8>) -> Result<(), Memory>
-    requires { length text.now ≤ 4096 }
+    requires { length text.now ≤ MESSAGE_MAX }
     ensures ok { OnOk result (out.new.items ≡ out.old.items ++ long_text text.now) }
     ensures err { OnErr result (Extends out.old.items out.new.items) }
 {
@@ -30,8 +31,8 @@ fn put_long(text: &[u8], out: &mut Vec<u8>) -> Result<(), Memory>
 
 #[tactic(auto, using(crate::proofs::PutLemmas::extends_same, crate::proofs::PutLemmas::extends_on))]
 fn put_info(info: &Info, out: &mut Vec<u8>) -> Result<(), Memory>
-    requires author { length info.now.author ≤ 255 }
-    requires message { length info.now.message ≤ 4096 }
+    requires author { length info.now.author ≤ AUTHOR_MAX }
+    requires message { length info.now.message ≤ MESSAGE_MAX }
     ensures ok { OnOk result (out.new.items ≡ out.old.items ++ info_spelling info.now) }
     ensures err { OnErr result (Extends out.old.items out.new.items) }
 {
@@ -42,7 +43,7 @@ fn put_info(info: &Info, out: &mut Vec<u8>) -> Result<(), Memory>
 
 #[tactic(auto, using(crate::proofs::PutLemmas::extends_same, crate::proofs::PutLemmas::extends_on))]
 fn put_entry(entry: &LeafEntry, out: &mut Vec<u8>) -> Result<(), Memory>
-    requires { length entry.now.step ≤ 255 }
+    requires { length entry.now.step ≤ STEP_BYTES_MAX }
     ensures ok { OnOk result (out.new.items ≡ out.old.items ++ entry_spelling entry.now) }
     ensures err { OnErr result (Extends out.old.items out.new.items) }
 {
@@ -298,7 +299,7 @@ pub fn encode_commit(
 /// is. Where memory is refused, a part of the spelling may stand there.
 #[tactic(auto, unfolding(ip_spec::specs::Record::body, ip_spec::specs::Record::spelling), using(crate::proofs::PutLemmas::extends_same, crate::proofs::PutLemmas::extends_on))]
 pub fn encode_branch(number: Number, name: &[u8], out: &mut Vec<u8>) -> Result<(), Memory>
-    requires { length name.now ≤ 255 }
+    requires { length name.now ≤ NAME_MAX }
     ensures ok { OnOk result (out.new.items ≡ out.old.items ++ spelling (Record.BranchSet number name.now)) }
     ensures err { OnErr result (Extends out.old.items out.new.items) }
 {

@@ -1,6 +1,7 @@
 // The names of records: the SHA-256 (FIPS 180-4) of what they hold, without offsets, heights and commit numbers.
 ghost use Rattle.std.specs.Prelude.{◌≡◌, ◌++◌, ◌∷◌, ◌≤◌, ◌<◌, ◌^◌, List, ℕ, Some, length, flat_map, All};
 ghost use Rattle.sha2.specs.Sha256.{sha256};
+ghost use Rattle.ip_base.specs.declared.limit.TheConstants.{STEP_BYTES_MAX, AUTHOR_MAX, MESSAGE_MAX, PARENTS_MAX};
 ghost use Rattle.ip_spec.specs.declared.record.Record.TheVariants as Record;
 ghost use Rattle.ip_spec.specs.Record.{Fits, IsLeafEntry, IsCommitRecord, name_of, short_text, info_spelling, u8, u32, bitmap};
 ghost use Rattle.ip_object.specs.Lists.{commit_of, hashed_entry, hashed_child};
@@ -19,7 +20,7 @@ pub fn hash_contents(bytes: &[u8]) -> Hash
 }
 
 fn hash_short<D: Digest>(hasher: &mut D, text: &[u8])
-    requires { length text.now ≤ 255 }
+    requires { length text.now ≤ STEP_BYTES_MAX }
     ensures { (m : List ℕ) → D.holds hasher.old m → D.holds hasher.new (m ++ short_text text.now) }
 {
     hasher.update(&[text.len() as u8]);
@@ -27,8 +28,8 @@ fn hash_short<D: Digest>(hasher: &mut D, text: &[u8])
 }
 
 fn hash_info<D: Digest>(hasher: &mut D, info: &Info)
-    requires author { length info.now.author ≤ 255 }
-    requires message { length info.now.message ≤ 4096 }
+    requires author { length info.now.author ≤ AUTHOR_MAX }
+    requires message { length info.now.message ≤ MESSAGE_MAX }
     ensures { (m : List ℕ) → D.holds hasher.old m → D.holds hasher.new (m ++ info_spelling info.now) }
 {
     hasher.update(&info.date.to_le_bytes());
@@ -38,7 +39,7 @@ fn hash_info<D: Digest>(hasher: &mut D, info: &Info)
 }
 
 fn hash_entry<D: Digest>(hasher: &mut D, entry: &LeafEntry)
-    requires { length entry.now.step ≤ 255 }
+    requires { length entry.now.step ≤ STEP_BYTES_MAX }
     ensures { (m : List ℕ) → D.holds hasher.old m → D.holds hasher.new (m ++ hashed_entry entry.now) }
 {
     hash_short(hasher, entry.step.bytes());
@@ -104,9 +105,9 @@ fn inode_name(depth: u8, children: &[InodeChild]) -> Hash
 
 /// The name of a commit, whatever its number and the place of its root. It takes no memory.
 pub fn commit_name(root: &Ref, parents: &[Parent], info: &Info) -> Hash
-    requires few { length parents.now ≤ 16 }
-    requires author { length info.now.author ≤ 255 }
-    requires message { length info.now.message ≤ 4096 }
+    requires few { length parents.now ≤ PARENTS_MAX }
+    requires author { length info.now.author ≤ AUTHOR_MAX }
+    requires message { length info.now.message ≤ MESSAGE_MAX }
     ensures { (number : ℕ) → name_of (Record.Commit (commit_of number root.now parents.now info.now)) ≡ Some result }
 {
     let mut hasher = Sha256::new();

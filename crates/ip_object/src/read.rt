@@ -13,6 +13,7 @@ use crate::body::{
 };
 use crate::lists::{owned, take_info, take_short};
 use crate::loops::{take_children, take_entries, take_parents, take_rows};
+use ip_base::limit::{CONTENTS_MAX, CONTENTS_MAX_VERSION_2, PARENTS_MAX};
 use ip_base::{Blob, Cursor, Number};
 use ip_spec::kind;
 use ip_spec::record::{Branches, CommitRecord, Record, RecordFault};
@@ -58,7 +59,7 @@ fn take_commit(alloc: Global, body: &mut Body<'_>) -> Result<Record, RecordFault
     let number = Number(take_u64(body)?);
     let root_name = take_hash(body)?;
     let root_at = take_u64(body)?;
-    let count = take_up_to(body, 16)?;
+    let count = take_up_to(body, PARENTS_MAX as u8)?;
     let parents = take_parents(alloc, body, count)?;
     let info = take_info(alloc, body)?;
     Ok(Record::Commit(CommitRecord {
@@ -166,7 +167,11 @@ fn is_known(version: u32, kind: u8) -> bool
 fn contents_limit(version: u32) -> u32
     ensures { result ≡ contents_limit version }
 {
-    if version >= 2 { 16777216 } else { 1048576 }
+    if version >= 2 {
+        CONTENTS_MAX_VERSION_2 as u32
+    } else {
+        CONTENTS_MAX as u32
+    }
 }
 
 // The record whose body these bytes are, all of them.

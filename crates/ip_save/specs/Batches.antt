@@ -5,7 +5,8 @@
 --     commit_record f root      the record of a commit whose root is at the reference
 --     IsBatch v f end batch      the records of the commit at this offset
 --     IsSaveFault v f end fault      the limit exactly where they pass the greatest end
-use Rattle.std.specs.Prelude.{◌≡◌, ℕ, ◌+◌, ◌^◌, ◌<◌, ◌≤◌, All, Some, length}
+use Rattle.std.specs.Prelude.{◌≡◌, ℕ, ◌+◌, ◌<◌, ◌≤◌, All, Some, length}
+use Rattle.ip_base.specs.declared.limit.TheConstants.{OFFSET_MAX, PARENTS_MAX}
 use Rattle.ip_base.specs.declared.limit.Limit.TheVariants.{Space}
 use Rattle.ip_spec.specs.Map.{get}
 use Rattle.ip_spec.specs.Path.{Bytes, Path}
@@ -29,7 +30,7 @@ fields_told f = record { number = f.number; parents = f.parents; info = f.info; 
 
 pub record AreFields (f : Batches.CommitFields) : Type 0 where
   pub number : IsU64 f.number
-  pub few : length f.parents ≤ 16
+  pub few : length f.parents ≤ PARENTS_MAX
   pub each : All (λ p. IsU64 p.number × IsHash p.name) f.parents
   pub is_info : IsInfo f.info
   pub is_branch : IsBranchName f.branch
@@ -38,7 +39,7 @@ abbrev pub HasShortContents : Tree → Type 0
 HasShortContents t = (p : Path) (bytes : Bytes) → get t p ≡ Some bytes → length bytes ≤ contents_limit
 
 abbrev pub greatest_end : ℕ
-greatest_end = 2 ^ 62
+greatest_end = OFFSET_MAX
 
 abbrev pub commit_record : Batches.CommitFields → Ref → Record
 commit_record f root = Record.Commit (commit_of f.number root f.parents f.info)

@@ -12,6 +12,7 @@
 use Rattle.std.specs.Prelude.{◌≡◌, ℕ, zero, suc, ◌+◌, ◌<◌, ◌≤◌, ◌^◌, ◌==◌, cond, max, min, List, [], ◌∷◌, ◌++◌, length, map, flat_map, Option, Some, None}
 use Rattle.std.specs.List.{AllByRecursion}
 use Rattle.sha2.specs.Sha256.{sha256}
+use Rattle.ip_base.specs.declared.limit.TheConstants.{OFFSET_MAX}
 use Rattle.ip_base.specs.declared.limit.Limit.TheVariants.{Contents, Depth, Entries}
 use Rattle.ip_spec.specs.Path.{Bytes, Step, same_bytes}
 use Rattle.ip_spec.specs.declared.record.Record.{Record}
@@ -245,7 +246,7 @@ pub record IsReady (dir : Dir code.Node Stored) (from : ℕ) (table : List Start
   pub ascend : AreSteps (steps_in (nodes_in dir))
   pub starts : AreStarts (nodes_in dir) from table
   pub room : from + size_of (fresh_among (nodes_in dir)) < 2 ^ 64
-  pub low : end ≤ 2 ^ 62
+  pub low : end ≤ OFFSET_MAX
 
 -- ---- what the walks do
 

@@ -1,5 +1,6 @@
 // What a commit appends.
-ghost use Rattle.std.specs.Prelude.{◌≡◌, ◌<◌, ◌≤◌, ◌^◌, ℕ, length, Option, IfOk, MatchResult};
+ghost use Rattle.std.specs.Prelude.{◌≡◌, ◌<◌, ◌≤◌, ℕ, length, Option, IfOk, MatchResult};
+ghost use Rattle.ip_base.specs.declared.limit.TheConstants.{OFFSET_MAX};
 ghost use Rattle.ip_save.specs.Batches.{AreFields, HasShortContents, IsBatch, IsSaveFault, fields_told};
 ghost use Rattle.ip_spec.specs.declared.record.Record.{Record};
 ghost use Rattle.ip_spec.specs.View.{View};
@@ -75,7 +76,7 @@ impl Batch {
         end: u64,
     ) -> Result<Batch, SaveFault>
         requires fields { AreFields (fields_told fields.now) }
-        requires end { end ≤ 2 ^ 62 }
+        requires end { end ≤ OFFSET_MAX }
         ensures made { (records : ℕ → Option Record) (v : View) → IsView records tree.now v → HasShortContents v.map
             → MatchResult result (IsBatch v (fields_told fields.now) end) (IsSaveFault v (fields_told fields.now) end) }
         ensures some { IfOk result (λ batch. 0 < length batch.bytes.items) }

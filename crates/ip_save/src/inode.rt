@@ -7,8 +7,7 @@ ghost use Rattle.ip_spec.specs.declared.record.Record.TheVariants as Record;
 ghost use Rattle.ip_tree.specs.declared.node.Stored.{Stored as TheStored};
 
 use crate::SaveFault;
-use crate::leaf::see_name;
-use ip_base::{Limit, Memory};
+use ip_base::{Limit, Memory, see_name};
 use ip_spec::record::{InodeChild, InodeChildren};
 use ip_tree::Stored;
 

@@ -1,5 +1,6 @@
 // The records of directories that no record is known to spell.
 ghost use Rattle.std.specs.Prelude.{◌≡◌, ◌≢◌, ◌+◌, ◌-◌, ◌++◌, ◌≤◌, ◌<◌, ◌^◌, ℕ, length, Option, Some, None, IfErr, IfOk, OnOk, MatchResult, IsOkAnd, IsSomeAnd};
+ghost use Rattle.ip_base.specs.declared.limit.TheConstants.{OFFSET_MAX};
 ghost use Rattle.ip_save.specs.Laid.{IsHighFault, IsLaid, IsLaidRoot, IsLayFault, IsReady, IsRootFault, IsRow, IsRowFault};
 ghost use Rattle.ip_save.specs.Laid.{breadth, breadth_among, contents_at, count_of, fresh, fresh_root, height_above, height_over, lay, lay_at, lay_children, lay_part, lay_steps, new_inode, new_leaf, nodes_in, record_of, size_of};
 ghost use Rattle.ip_spec.specs.Record.{Fits, spelling};
@@ -27,7 +28,7 @@ use std::alloc::Global;
 /// Puts the records of the directories of a tree behind those of its new contents, which alone are there and lie from the offset `end` on,
 /// and answers the root.
 pub fn put_root(alloc: Global, root: &Root, end: u64, out: &mut Vec<u8>) -> Result<Ref, SaveFault>
-    requires end { end ≤ 2 ^ 62 }
+    requires end { end ≤ OFFSET_MAX }
     requires contents { length out.old.items ≡ size_of (fresh_root (shown_root root.now)) }
     ensures laid { MatchResult result (IsLaidRoot end (shown_root root.now) out.old.items out.new.items) (IsRootFault end (shown_root root.now) out.old.items) }
 {
@@ -50,7 +51,7 @@ fn put_node(
     end: u64,
     out: &mut Vec<u8>,
 ) -> Result<Stored, SaveFault>
-    ensures laid { end ≤ 2 ^ 62 → from + size_of (fresh (shown node.now)) < 2 ^ 64
+    ensures laid { end ≤ OFFSET_MAX → from + size_of (fresh (shown node.now)) < 2 ^ 64
         → MatchResult result (IsLaid end (lay (shown node.now) from) out.old.items out.new.items) (IsLayFault (breadth (shown node.now)) end (lay (shown node.now) from) out.old.items) }
 {
     match node {
@@ -83,7 +84,7 @@ fn put_directory(
     end: u64,
     out: &mut Vec<u8>,
 ) -> Result<Stored, SaveFault>
-    ensures laid { end ≤ 2 ^ 62 → from + size_of (fresh (shown_directory dir.now)) < 2 ^ 64
+    ensures laid { end ≤ OFFSET_MAX → from + size_of (fresh (shown_directory dir.now)) < 2 ^ 64
         → MatchResult result (IsLaid end (lay (shown_directory dir.now) from) out.old.items out.new.items) (IsLayFault (breadth (shown_directory dir.now)) end (lay (shown_directory dir.now) from) out.old.items) }
 {
     let root = dir.root();
@@ -251,7 +252,7 @@ fn put_some(
 // Puts the record of a leaf with these entries, and answers what refers to it.
 fn put_new_leaf(leaf: LeafEntries, end: u64, out: &mut Vec<u8>) -> Result<Stored, SaveFault>
     ensures bytes { OnOk result (out.new.items ≡ out.old.items ++ spelling (Record.Leaf leaf)) }
-    ensures stands { end ≤ 2 ^ 62 → IfOk result (λ stored. stored ≡ new_leaf leaf (end + length out.old.items)) }
+    ensures stands { end ≤ OFFSET_MAX → IfOk result (λ stored. stored ≡ new_leaf leaf (end + length out.old.items)) }
     ensures fits { OnOk result (Fits 1 (Record.Leaf leaf)) }
     ensures cause { IfErr result (IsHighFault (height_above leaf)) }
 {
@@ -278,7 +279,7 @@ fn put_new_inode(
     out: &mut Vec<u8>,
 ) -> Result<Stored, SaveFault>
     ensures bytes { OnOk result (out.new.items ≡ out.old.items ++ spelling (Record.Inode depth row)) }
-    ensures stands { end ≤ 2 ^ 62 → IfOk result (λ stored. stored ≡ new_inode depth row (end + length out.old.items)) }
+    ensures stands { end ≤ OFFSET_MAX → IfOk result (λ stored. stored ≡ new_inode depth row (end + length out.old.items)) }
     ensures fits { OnOk result (Fits 1 (Record.Inode depth row)) }
     ensures cause { IfErr result (IsHighFault (height_over row)) }
 {

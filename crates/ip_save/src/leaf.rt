@@ -1,13 +1,13 @@
 // The entries of a leaf, and whether they may stand in its record.
 ghost use Rattle.std.specs.Prelude.{◌≡◌, ◌≤◌, ◌<◌, length, map, All, IsTrue, IfNone, IfOk, IfSome};
 ghost use Rattle.ip_save.specs.Laid.{IsHighFault, field_for, height_above};
-ghost use Rattle.ip_spec.specs.Path.{AreBytes, IsStep};
-ghost use Rattle.ip_spec.specs.Record.{Fits, IsHash, IsLeafEntry, are_rising};
+ghost use Rattle.ip_spec.specs.Path.{IsStep};
+ghost use Rattle.ip_spec.specs.Record.{Fits, IsLeafEntry, are_rising};
 ghost use Rattle.ip_spec.specs.declared.record.Record.TheVariants as Record;
 
 use crate::SaveFault;
-use ip_base::limit::ENTRIES_MAX;
-use ip_base::{Hash, Limit, Memory, Step};
+use ip_base::limit::{ENTRIES_MAX, STEP_BYTES_MAX};
+use ip_base::{Limit, Memory, Step, is_step_byte, see_name};
 use ip_spec::kind::{CONTENTS, DIRECTORY};
 use ip_spec::record::LeafEntry;
 use ip_tree::Stored;
@@ -67,28 +67,15 @@ fn is_entry(entry: &LeafEntry) -> bool
         && entry.height <= HEIGHT_LIMIT
 }
 
-// A law, which does nothing when it is called: a name has 32 bytes.
-pub fn see_name(name: &Hash)
-    ensures { IsHash name.now }
-{
-    see_bytes(name.as_slice());
-}
-
-fn see_bytes(bytes: &[u8])
-    ensures { AreBytes bytes.now }
-{
-    let _bytes = bytes;
-}
-
 // Whether bytes may be a step.
 fn is_step(bytes: &[u8]) -> bool
     ensures { IsTrue result → IsStep bytes.now }
 {
-    if bytes.is_empty() || bytes.len() > 255 {
+    if bytes.is_empty() || bytes.len() > STEP_BYTES_MAX {
         return false;
     }
     for byte in bytes {
-        if *byte == b'/' || *byte == b' ' || *byte == b'\n' || *byte == 0 {
+        if !is_step_byte(*byte) {
             return false;
         }
     }

@@ -7,9 +7,9 @@ ghost use Rattle.ip_spec.specs.Record.{Fits, name_of, spelling};
 ghost use Rattle.ip_spec.specs.declared.record.Record.TheVariants as Record;
 
 use crate::inode::inode_fault;
-use crate::leaf::{leaf_fault, see_name};
+use crate::leaf::leaf_fault;
 use crate::{CommitFields, SaveFault};
-use ip_base::{Hash, Memory};
+use ip_base::{Hash, Memory, see_name};
 use ip_object::{commit_name, encode_branch, encode_commit, encode_into, name_of_record};
 use ip_spec::record::{InodeChildren, LeafEntries, Record, Ref};
 

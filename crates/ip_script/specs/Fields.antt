@@ -5,6 +5,7 @@
 use Rattle.std.specs.Prelude.{ℕ, ◌+◌, ◌-◌, ◌%◌, ◌==◌, Bool, true, false, ◌&&◌, ◌||◌, not, nat_lt, nat_le, if◌then◌else◌, List, [], ◌∷◌, length, drop, get_or, min, Option, Some, None}
 use Rattle.std.specs.List.{prefix_len}
 use Rattle.hex.specs.Hex.{is_hex_digit}
+use Rattle.ip_base.specs.declared.limit.TheConstants.{STEPS_MAX, STEP_BYTES_MAX, NAME_MAX, AUTHOR_MAX, MESSAGE_MAX}
 use Rattle.ip_spec.specs.Path.{Bytes}
 use Rattle.ip_script.specs.declared.field.Field.{Field}
 use Rattle.ip_script.specs.declared.field.Field.TheVariants.{Path, Place, Hex, Name, Reference, Date, Author, Message}
@@ -25,9 +26,9 @@ is_step_byte b = is_word_byte b && not (b == 47)
 -- A slash ends a step that has a byte and is not the 64th; another byte goes on with a step of fewer than 255.
 abbrev pub with_byte : Open → ℕ → Option Open
 with_byte path b =
-    if b == 47 && (nat_lt 0 path.size && nat_lt path.steps 63)
+    if b == 47 && (nat_lt 0 path.size && nat_lt path.steps (STEPS_MAX - 1))
     then Some (record { steps = path.steps + 1; size = 0 })
-    else (if is_step_byte b && nat_lt path.size 255
+    else (if is_step_byte b && nat_lt path.size STEP_BYTES_MAX
     then Some (record { steps = path.steps; size = path.size + 1 })
     else None)
 
@@ -50,12 +51,12 @@ field_length Place (b ∷ text) = if b == 47 then 1 else path_length (b ∷ text
 field_length Hex [] = 0
 field_length Hex (b ∷ text) = if b == 45 then 1 else prefix_len is_hex_digit (b ∷ text)
 field_length Name [] = 0
-field_length Name (b ∷ text) = if b == 64 then 0 else min 255 (prefix_len is_word_byte (b ∷ text))
+field_length Name (b ∷ text) = if b == 64 then 0 else min NAME_MAX (prefix_len is_word_byte (b ∷ text))
 field_length Reference [] = 0
-field_length Reference (b ∷ text) = if b == 64 then 1 + min 64 (prefix_len is_hex_digit text) else min 255 (prefix_len is_word_byte (b ∷ text))
+field_length Reference (b ∷ text) = if b == 64 then 1 + min 64 (prefix_len is_hex_digit text) else min NAME_MAX (prefix_len is_word_byte (b ∷ text))
 field_length Date text = date_length text
-field_length Author text = min 255 (prefix_len is_word_byte text)
-field_length Message text = min 4096 (prefix_len is_message_byte text)
+field_length Author text = min AUTHOR_MAX (prefix_len is_word_byte text)
+field_length Message text = min MESSAGE_MAX (prefix_len is_message_byte text)
 
 abbrev pub is_whole_field : Field → Bytes → ℕ → Bool
 is_whole_field Path text n = ends_in_step text n

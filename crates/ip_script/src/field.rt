@@ -5,6 +5,7 @@ ghost use Rattle.hex.specs.Hex.{is_hex_digit};
 ghost use Rattle.ip_script.specs.Fields.{is_message_byte, is_word_byte, is_step_byte, with_byte, path_length, ends_in_step, field_length, is_whole_field};
 
 use crate::date::date_at;
+use ip_base::limit::{AUTHOR_MAX, MESSAGE_MAX, NAME_MAX, STEP_BYTES_MAX, STEPS_MAX};
 
 /// What a word may say. A path has 1 to 64 steps, and a place is a path or `/`, the root. A reference is a name, or `@` and the 64 digits
 /// of a commit's name. The bytes of a message are the rest of its line, so nothing stands behind it.
@@ -71,13 +72,13 @@ struct Open {
 fn with_byte(path: Open, byte: u8) -> Option<Open>
     ensures { result ≡ with_byte path byte }
 {
-    if byte == b'/' && path.size > 0 && path.steps < 63 {
+    if byte == b'/' && path.size > 0 && path.steps < STEPS_MAX - 1 {
         return Some(Open {
             steps: path.steps + 1,
             size: 0,
         });
     }
-    if is_step_byte(byte) && path.size < 255 {
+    if is_step_byte(byte) && path.size < STEP_BYTES_MAX {
         return Some(Open {
             steps: path.steps,
             size: path.size + 1,
@@ -133,15 +134,15 @@ pub fn field_length(field: Field, text: &[u8]) -> usize
         },
         Field::Name => match text {
             [] | [b'@', ..] => 0,
-            _ => word_length(text).min(255),
+            _ => word_length(text).min(NAME_MAX),
         },
         Field::Reference => match text {
             [b'@', digits @ ..] => 1 + digits_length(digits).min(64),
-            _ => word_length(text).min(255),
+            _ => word_length(text).min(NAME_MAX),
         },
         Field::Date => date_at(text).length,
-        Field::Author => word_length(text).min(255),
-        Field::Message => message_length(text).min(4096),
+        Field::Author => word_length(text).min(AUTHOR_MAX),
+        Field::Message => message_length(text).min(MESSAGE_MAX),
     }
 }
 

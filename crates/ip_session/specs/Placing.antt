@@ -5,6 +5,7 @@
 --     Placed slot slot' Appended command reply      the slot before and after a command with this reply, by which records it appends
 --     PlacedBy rule slot slot' s v command reply, PlacedIn rule slot slot' s v line reply      so of a command, and of a line
 use Rattle.std.specs.Prelude.{◌≡◌, ℕ, Option, ◌+◌, ◌^◌, ◌<◌, ◌≤◌, true, length, [], ◌∷◌, Result, Ok, Err}
+use Rattle.ip_base.specs.declared.limit.TheConstants.{OFFSET_MAX}
 use Rattle.ip_base.specs.declared.limit.Limit.{Limit}
 use Rattle.ip_spec.specs.declared.command.Command.{Command}
 use Rattle.ip_spec.specs.declared.record.Record.{Record}
@@ -51,10 +52,10 @@ pub record OfRecords (Appended : Records → ℕ → Type 0) (Says : (length com
 
 -- A place is below 2^62, and so is a sequence before a durable command: no other reply of the two limits comes, and none where they are kept.
 pub record Placed (slot slot' : Slot) (Appended : Records → ℕ → Type 0) (command : Command) (reply : Reply) : Type 0 where
-  pub done : IsDurable reply command → OfRecords Appended (λ length commits. (slot' ≡ next_slot slot length commits) × (slot.end + length ≤ 2 ^ 62) × (slot.sequence < 2 ^ 62))
+  pub done : IsDurable reply command → OfRecords Appended (λ length commits. (slot' ≡ next_slot slot length commits) × (slot.end + length ≤ OFFSET_MAX) × (slot.sequence < 2 ^ 62))
   pub quiet : ¬ IsDurable reply command → slot' ≡ slot
-  pub space : is_durable command ≡ true → reply ≡ Reply.Limit Limit.Space → OfRecords Appended (λ length commits. 2 ^ 62 < slot.end + length)
-  pub sequence : is_durable command ≡ true → reply ≡ Reply.Limit Limit.Sequence → OfRecords Appended (λ length commits. (slot.end + length ≤ 2 ^ 62) × (slot.sequence ≡ 2 ^ 62))
+  pub space : is_durable command ≡ true → reply ≡ Reply.Limit Limit.Space → OfRecords Appended (λ length commits. OFFSET_MAX < slot.end + length)
+  pub sequence : is_durable command ≡ true → reply ≡ Reply.Limit Limit.Sequence → OfRecords Appended (λ length commits. (slot.end + length ≤ OFFSET_MAX) × (slot.sequence ≡ 2 ^ 62))
 
 abbrev pub PlacedBy : Rule → Slot → Slot → State → View → Command → Reply → Type 0
 PlacedBy rule slot slot' s v command reply = Placed slot slot' (IsAppended rule slot s v command) command reply

@@ -7,8 +7,9 @@
 --     IsLayout layout      what a layout is
 --     IsReadable told space      what is read stays so: nobody else changes the files
 --     OnlyReads old new space now      a call changed no file at any moment, and the records stay
-use Rattle.std.specs.Prelude.{◌≡◌, ◌≢◌, ℕ, ◌+◌, ◌-◌, ◌^◌, ◌<◌, ◌≤◌, List, [], ◌∷◌, ◌++◌, Option, Result}
+use Rattle.std.specs.Prelude.{◌≡◌, ◌≢◌, ℕ, ◌+◌, ◌-◌, ◌<◌, ◌≤◌, List, [], ◌∷◌, ◌++◌, Option, Result}
 use Rattle.std.specs.List.{AllByRecursion}
+use Rattle.ip_base.specs.declared.limit.TheConstants.{OFFSET_MAX}
 use Rattle.ip_ground.specs.declared.names.FileName.TheVariants.{Prefix}
 use Rattle.ip_ground.specs.Contents.{Image}
 use Rattle.ip_ground.specs.Told.{Told, IsForeign, NoFile, ChangesOnly}
@@ -60,7 +61,7 @@ read_at told space at = reading newest_version (bytes_from (byte_at told space) 
 pub record IsLayout (layout : Layout) : Type 0 where
   pub chunk : IsChunkSize layout.chunk
   pub order : layout.horizon ≤ layout.end
-  pub ends : layout.end ≤ 2 ^ 62
+  pub ends : layout.end ≤ OFFSET_MAX
   pub nothing_below : layout.live ≡ 0 → layout.horizon ≡ 0
 
 -- the live prefix is no child's, and where none is live there are no runs

@@ -112,6 +112,7 @@ impl Source {
     }
 
     // Copies bytes from the chunks.
+    #[tactic(auto, using(ip_chunks::proofs::Bytes::virtual_bytes))]
     fn read_chunks<G: Ground>(
         &self,
         outside: &mut G,
@@ -126,7 +127,6 @@ impl Source {
         ensures only { IsTrue G.tells → ChangesOnly NoFile (G.told outside.old) (G.told outside.new) }
         ensures counts { CountsAs FileFault result (G.counts_of outside.old) (G.counts_of outside.new) }
     {
-        ip_chunks::places();
         let chunks = Chunks {
             size: self.layout.chunk,
         };

@@ -1,5 +1,5 @@
 -- The sizes that a chunk may have, by the test of one bit.
-use Rattle.std.proofs.Common.{inl, inr, ◌≡◌, ℕ, zero, suc, ◌/◌, ◌%◌, ◌<◌, ◌≤◌, ◌^◌, Bool, true, false, eqb, leb, sym, ◌∙◌, ap, subst, arith, lit<}
+use Rattle.std.proofs.Common.{inl, inr, ◌≡◌, ◌⊎◌, ℕ, zero, suc, ◌/◌, ◌%◌, ◌<◌, ◌≤◌, ◌^◌, true, eqb, sym, ◌∙◌, ap, subst, arith, lit<}
 use Rattle.std.specs.Prelude.{count_ones}
 use Rattle.std.specs.Int.{is_power_of_two}
 use Rattle.std.proofs.Math.Nat.{pow-le-pow_right}
@@ -62,23 +62,9 @@ same a b e = grind (arith, nat_tests)
 test_eq : (a b : ℕ) → a ≡ b → eqb a b ≡ true
 test_eq a b l = grind (arith, nat_tests)
 
-pub at_most : (a b : ℕ) → leb a b ≡ true → a ≤ b
-at_most a b e = grind (arith, nat_tests)
-
-above : (a b : ℕ) → leb a b ≡ false → b < a
-above a b e = grind (arith, nat_tests)
-
-pub not_small : (size : ℕ) → size < 4096 → leb 4096 size ≡ true → ⊥
-not_small size small e = let l = at_most 4096 size e in omega (arith, small, l)
-
-no_both : (b : Bool) → b ≡ false → b ≡ true → ⊥
-no_both b p q = cc
-
-pub too_large : (size : ℕ) (b : Bool) → b ≡ false → leb size 1073741824 ≡ false → (b ≡ true → IsChunkSize size) × (IsChunkSize size → b ≡ true)
-too_large size b is_no e = (λ yes. absurd (no_both b is_no yes), λ is. let l = above size 1073741824 e in let m = most_of size is in absurd (omega (arith, l, m)))
-
-pub too_small : (size : ℕ) (b : Bool) → b ≡ false → size < 4096 → (b ≡ true → IsChunkSize size) × (IsChunkSize size → b ≡ true)
-too_small size b is_no small = (λ yes. absurd (no_both b is_no yes), λ is. let l = least_of size is in absurd (omega (arith, l, small)))
+pub out_of_bounds : (size : ℕ) → IsChunkSize size → (size < 4096) ⊎ ((4096 ≤ size) × (1073741824 < size)) → ⊥
+out_of_bounds size is (inl small) = let l = least_of size is in omega (arith, l, small)
+out_of_bounds size is (inr (_, large)) = let m = most_of size is in omega (arith, m, large)
 
 -- the test of one bit, within the bounds
 pub tested : (size : ℕ) → IsChunkSize size → is_power_of_two size ≡ true

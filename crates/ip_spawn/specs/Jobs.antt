@@ -1,5 +1,6 @@
 -- Which jobs a collector may be given.
-use Rattle.std.specs.Prelude.{◌≡◌, ◌↔◌, ℕ, ◌<◌, ◌≤◌, ◌^◌, List, [], ◌∷◌}
+use Rattle.std.specs.Prelude.{◌≡◌, ◌↔◌, ℕ, ◌<◌, ◌≤◌, List, [], ◌∷◌}
+use Rattle.ip_base.specs.declared.limit.TheConstants.{OFFSET_MAX}
 use Rattle.ip_spawn.specs.Sizes.{IsChunkSize}
 use Rattle.ip_spawn.specs.declared.job.Job.{Job}
 
@@ -9,7 +10,7 @@ pub record IsValid (job : Job) : Type 0 where
   pub live : job.live < job.attempt
   pub horizon : job.old_horizon ≤ job.horizon
   pub some : job.horizon < job.end
-  pub most : job.end ≤ 2 ^ 62
+  pub most : job.end ≤ OFFSET_MAX
   pub served : (job.live ≡ 0) ↔ (job.old_horizon ≡ 0)
 
 abbrev pub numbers_of : Job → List ℕ

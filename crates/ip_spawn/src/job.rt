@@ -3,11 +3,16 @@ ghost use Rattle.std.specs.Prelude.{◌≡◌, ◌↔◌, IsTrue, IfSome, IfNone
 ghost use Rattle.ip_spawn.specs.Sizes.{IsChunkSize};
 ghost use Rattle.ip_spawn.specs.Spelling.{Spells};
 
-/// Whether a store may have chunks of so many bytes: a power of two from 4096 to 2^30.
+use ip_base::limit::{CHUNK_MAX, CHUNK_MIN, OFFSET_MAX};
+
+/// Whether a store may have chunks of so many bytes: a power of two from `CHUNK_MIN` to `CHUNK_MAX`.
 pub fn chunk_allowed(chunk: u64) -> bool
     ensures { IsTrue result ↔ IsChunkSize chunk }
 {
-    chunk >= 4096 && chunk <= 1 << 30 && chunk.is_power_of_two()
+    if chunk < CHUNK_MIN || chunk > CHUNK_MAX {
+        return false;
+    }
+    chunk.is_power_of_two()
 }
 
 /// What a collector reads, and where it writes.
@@ -55,7 +60,7 @@ impl Job {
             && self.live < self.attempt
             && self.old_horizon <= self.horizon
             && self.horizon < self.end
-            && self.end <= 1 << 62
+            && self.end <= OFFSET_MAX
             && (self.live == 0) == (self.old_horizon == 0)
     }
 

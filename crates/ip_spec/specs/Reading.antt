@@ -4,6 +4,7 @@ use Rattle.std.specs.Prelude.{ℕ, zero, suc, ◌+◌, ◌/◌, ◌%◌, ◌^◌
 use Rattle.std.specs.List.{list_all, range_with_len}
 use Rattle.std.specs.Int.{Width, w8, w16, w32, w64, byte_len, from_le_bytes}
 use Rattle.std.specs.Ordering.{is_lt}
+use Rattle.ip_base.specs.declared.limit.TheConstants.{MESSAGE_MAX, PARENTS_MAX, BRANCHES_MAX}
 use Rattle.ip_spec.specs.Path.{Bytes, Step, bytes_cmp, slash, line_feed, is_word_byte}
 use Rattle.ip_spec.specs.Record.{Record, Names, name_set, name_remove, name_table, LeafEntry, InodeChild, Parent, Branch, Info, Hash, contents_limit}
 pub use Rattle.ip_spec.specs.declared.record.RecordFault.{RecordFault}
@@ -112,7 +113,7 @@ abbrev pub info_fields : Fields Info
 info_fields = do
   date ← number_where w64 any
   author ← text_field is_author None
-  length ← number_where w16 (λ n. nat_lt 0 n && nat_le n 4096)
+  length ← number_where w16 (λ n. nat_lt 0 n && nat_le n MESSAGE_MAX)
   message ← bytes_where length is_message
   done (record { date = date; author = author; message = message })
 
@@ -142,7 +143,7 @@ commit_fields = do
   number ← number_where w64 any
   root_name ← hash_field
   root_at ← number_where w64 any
-  count ← number_where w8 (λ n. nat_le n 16)
+  count ← number_where w8 (λ n. nat_le n PARENTS_MAX)
   parents ← parent_fields count
   info ← info_fields
   done (Record.Commit (record { number = number; root_name = root_name; root_at = root_at; parents = parents; info = info }))
@@ -160,7 +161,7 @@ remove_fields names = do
 
 abbrev pub table_fields : Names → Fields Record
 table_fields names = do
-  count ← number_where w16 (λ n. nat_le n 4096)
+  count ← number_where w16 (λ n. nat_le n BRANCHES_MAX)
   rows ← row_fields count None
   done (name_table names rows)
 

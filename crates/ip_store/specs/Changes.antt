@@ -6,7 +6,8 @@
 --     KeepsNumbers store now      no commit is given up, and none is taken back
 --     LimitsSpace end result store      which limit is met
 --     Appends more commits store now old new      these records stand behind those that there were, and the slot says so
-use Rattle.std.specs.Prelude.{◌≡◌, ℕ, ◌+◌, ◌^◌, ◌<◌, ◌≤◌, ◌++◌, length, IsErr, IsErrOf, Result, Ok, Err, OnOk}
+use Rattle.std.specs.Prelude.{◌≡◌, ℕ, ◌+◌, ◌<◌, ◌≤◌, ◌++◌, length, IsErr, IsErrOf, Result, Ok, Err, OnOk}
+use Rattle.ip_base.specs.declared.limit.TheConstants.{OFFSET_MAX}
 use Rattle.ip_base.specs.declared.limit.Limit.{Limit}
 use Rattle.ip_ground.specs.Told.{Told, NoFile, ChangesOnly}
 use Rattle.ip_spec.specs.Repository.{Repository}
@@ -53,9 +54,9 @@ abbrev pub next_slot : Slot → ℕ → ℕ → Slot
 next_slot s length commits = record s { sequence = s.sequence + 1; end = s.end + length; next = s.next + commits }
 
 abbrev pub IsNextSlot : Slot → ℕ → ℕ → Result Slot StoreFault → Type 0
-IsNextSlot s length commits (Ok next) = (next ≡ next_slot s length commits) × (s.end + length ≤ 2 ^ 62) × (s.sequence < 2 ^ 62)
-IsNextSlot s length commits (Err (StoreFault.Limit Limit.Space)) = 2 ^ 62 < s.end + length
-IsNextSlot s length commits (Err (StoreFault.Limit Limit.Sequence)) = (s.end + length ≤ 2 ^ 62) × (2 ^ 62 ≤ s.sequence)
+IsNextSlot s length commits (Ok next) = (next ≡ next_slot s length commits) × (s.end + length ≤ OFFSET_MAX) × (s.sequence < OFFSET_MAX)
+IsNextSlot s length commits (Err (StoreFault.Limit Limit.Space)) = OFFSET_MAX < s.end + length
+IsNextSlot s length commits (Err (StoreFault.Limit Limit.Sequence)) = (s.end + length ≤ OFFSET_MAX) × (OFFSET_MAX ≤ s.sequence)
 IsNextSlot s length commits (Err fault) = ⊥
 
 -- each commit that is retained is so still
@@ -64,9 +65,9 @@ KeepsNumbers store now = (now.slot.floor ≡ store.slot.floor) × (store.slot.ne
 
 -- the place after the call's records would pass the greatest one, or the slot's sequence is the greatest
 pub record LimitsSpace {A : Type 0} (end : ℕ) (result : Result A StoreFault) (store : Store) : Type 0 where
-  pub space : IsErrOf result (StoreFault.Limit Limit.Space) → 2 ^ 62 < end
-  pub sequence : IsErrOf result (StoreFault.Limit Limit.Sequence) → (end ≤ 2 ^ 62) × (store.slot.sequence ≡ 2 ^ 62)
-  pub enough : OnOk result ((end ≤ 2 ^ 62) × (store.slot.sequence < 2 ^ 62))
+  pub space : IsErrOf result (StoreFault.Limit Limit.Space) → OFFSET_MAX < end
+  pub sequence : IsErrOf result (StoreFault.Limit Limit.Sequence) → (end ≤ OFFSET_MAX) × (store.slot.sequence ≡ OFFSET_MAX)
+  pub enough : OnOk result ((end ≤ OFFSET_MAX) × (store.slot.sequence < OFFSET_MAX))
 
 -- Of a call that is Ok: these records, and none else, and no number of the slot but its sequence, its end and the next commit's has changed.
 pub record Appends (more : Records) (commits : ℕ) (store now : Store) (old new : Told) : Type 0 where

@@ -6,7 +6,8 @@
 --     Commits r work v branch info result store' old new      what it does to what a ground tells
 --     GoesOn store work      the store's tables are some repository's, and the work goes on from commits of it
 --     IsSaved records tree n map      a tree with this map, read from the records of commit n
-use Rattle.std.specs.Prelude.{◌≡◌, ℕ, ◌+◌, ◌^◌, ◌<◌, ◌≤◌, [], ◌∷◌, length, true, false, Option, Some, None, IfSome, Result, Ok, Err}
+use Rattle.std.specs.Prelude.{◌≡◌, ℕ, ◌+◌, ◌<◌, ◌≤◌, [], ◌∷◌, length, true, false, Option, Some, None, IfSome, Result, Ok, Err}
+use Rattle.ip_base.specs.declared.limit.TheConstants.{OFFSET_MAX, BRANCHES_MAX}
 use Rattle.ip_base.specs.declared.info.Info.{Info}
 use Rattle.ip_ground.specs.Told.{Told}
 use Rattle.ip_spec.specs.declared.met.Met.{Met}
@@ -112,7 +113,7 @@ IsPastTheEnd r v f fault = ⊥
 abbrev pub IsNewBatch : Repository → View → Batches.CommitFields → ℕ → Result Batch StoreFault → Type 0
 IsNewBatch r v f end (Ok b) = IsBatch v f end b
 IsNewBatch r v f end (Err (StoreFault.Existing name)) = not_existing r (Batches.batch_name v f) ≡ Err (Reply.Existing name)
-IsNewBatch r v f end (Err (StoreFault.Limit Limit.Space)) = (not_existing r (Batches.batch_name v f) ≡ Ok tt) × (2 ^ 62 < grown_end v f end)
+IsNewBatch r v f end (Err (StoreFault.Limit Limit.Space)) = (not_existing r (Batches.batch_name v f) ≡ Ok tt) × (OFFSET_MAX < grown_end v f end)
 IsNewBatch r v f end (Err StoreFault.Memory) = Unit {0}
 IsNewBatch r v f end (Err fault) = ⊥
 
@@ -134,12 +135,12 @@ pub record IsNext (r : Repository) (branch : Bytes) (store : Store) (plan : Plan
   pub is_name : IsHash plan.batch.name
   pub new_name : not_existing r plan.batch.name ≡ Ok tt
   pub same_branch : plan.branch ≡ branch
-  pub room : len (insert r.branches branch (next r)) ≤ 4096
+  pub room : len (insert r.branches branch (next r)) ≤ BRANCHES_MAX
   pub parents : plan.parents ≡ next r ∷ []
   pub some : 0 < length plan.batch.bytes.items
   pub slot : plan.slot ≡ next_slot store.slot (length plan.batch.bytes.items) 1
-  pub ends : store.slot.end + length plan.batch.bytes.items ≤ 2 ^ 62
-  pub sequence : store.slot.sequence < 2 ^ 62
+  pub ends : store.slot.end + length plan.batch.bytes.items ≤ OFFSET_MAX
+  pub sequence : store.slot.sequence < OFFSET_MAX
 
 -- and where the tree has this view
 pub record IsPlan (r : Repository) (work : Work) (v : View) (branch : Bytes) (info : Info) (store : Store) (plan : Plan) : Type 0 where

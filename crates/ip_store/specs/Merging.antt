@@ -12,7 +12,8 @@
 --     IsCourse r head number course      how two commits stand to each other, by the tests of ancestors.      IsCourseBy      by their least common ancestors
 --     IsForward r branch number, IsJoin r branch sides      a branch moves on to a commit, or the trees of three commits are merged
 --     IsForwarded r number result, IsJoined rule records r sides result      what comes of that.      stopped_by fault      of trees that were not merged
-use Rattle.std.specs.Prelude.{◌≡◌, ◌≢◌, ◌⊎◌, ℕ, ◌+◌, ◌^◌, ◌<◌, ◌≤◌, true, false, List, [], ◌∷◌, length, Option, Some, None, Result, Ok, Err, OnOk, IfSome, IsTrue}
+use Rattle.std.specs.Prelude.{◌≡◌, ◌≢◌, ◌⊎◌, ℕ, ◌+◌, ◌<◌, ◌≤◌, true, false, List, [], ◌∷◌, length, Option, Some, None, Result, Ok, Err, OnOk, IfSome, IsTrue}
+use Rattle.ip_base.specs.declared.limit.TheConstants.{OFFSET_MAX}
 use Rattle.ip_base.specs.declared.info.Info.{Info}
 use Rattle.ip_base.specs.declared.limit.Limit.TheVariants as Limit
 use Rattle.ip_ground.specs.Told.{Told, NoFile, ChangesOnly}
@@ -154,8 +155,8 @@ pub record HasAppended (rule : Rule) (records : ℕ → Option Record) (r : Repo
   pub commits : ℕ
   pub are : MergeAppends rule records r number branch info store.slot.end more commits
   pub appends : Appends more commits store now old new
-  pub room : store.slot.end + length (bytes_of_records more) ≤ 2 ^ 62
-  pub sequence : store.slot.sequence < 2 ^ 62
+  pub room : store.slot.end + length (bytes_of_records more) ≤ OFFSET_MAX
+  pub sequence : store.slot.sequence < OFFSET_MAX
 
 pub record IsShortOf (rule : Rule) (records : ℕ → Option Record) (r : Repository) (number : ℕ) (branch : Bytes) (info : Info) (store : Store) (Short : ℕ → Type 0) : Type 0 where
   pub more : Records
@@ -171,8 +172,8 @@ AppendsMerge rule records r number branch info result store now old new = HasAns
 
 -- the place after them would pass the greatest one, or the slot's sequence is the greatest
 abbrev pub LimitsMerge : Rule → (ℕ → Option Record) → Repository → ℕ → Bytes → Info → Result Merge StoreFault → Store → Type 0
-LimitsMerge rule records r number branch info (Err (StoreFault.Limit Limit.Space)) store = IsShortOf rule records r number branch info store (λ end. 2 ^ 62 < end)
-LimitsMerge rule records r number branch info (Err (StoreFault.Limit Limit.Sequence)) store = IsShortOf rule records r number branch info store (λ end. (end ≤ 2 ^ 62) × (store.slot.sequence ≡ 2 ^ 62))
+LimitsMerge rule records r number branch info (Err (StoreFault.Limit Limit.Space)) store = IsShortOf rule records r number branch info store (λ end. OFFSET_MAX < end)
+LimitsMerge rule records r number branch info (Err (StoreFault.Limit Limit.Sequence)) store = IsShortOf rule records r number branch info store (λ end. (end ≤ OFFSET_MAX) × (store.slot.sequence ≡ OFFSET_MAX))
 LimitsMerge rule records r number branch info result store = Unit {0}
 
 -- ---- how the commits stand to each other

@@ -5,6 +5,7 @@
 --     IsLawful records r work v      the work's tree has this view over the records, and the work goes on from commits of the repository
 --     IsAt told store r work v      the store holds the repository, and so it is over the records of its image
 use Rattle.std.specs.Prelude.{◌≡◌, ◌≢◌, ℕ, ◌≤◌, List, length, fold, All, AllPairs, IsTrue, Option, IfSome}
+use Rattle.ip_base.specs.declared.limit.TheConstants.{PARENTS_MAX}
 use Rattle.ip_ground.specs.Told.{Told}
 use Rattle.ip_spec.specs.declared.record.Record.{Record}
 use Rattle.ip_spec.specs.Machine as Machine
@@ -33,7 +34,7 @@ session r work v = state_at r (work_at work v)
 pub record AreParents (r : Repository) (parents : List ℕ) : Type 0 where
   pub retained : All (λ n. IsTrue (is_retained r n)) parents
   pub distinct : AllPairs (λ m n. m ≢ n) parents
-  pub few : length parents ≤ 16
+  pub few : length parents ≤ PARENTS_MAX
 
 pub record IsLawful (records : ℕ → Option Record) (r : Repository) (work : Work) (v : View) : Type 0 where
   pub tree : IsView records work.tree v

@@ -1,13 +1,14 @@
 // Committing a work: its refusals, its records, and the durable step.
-ghost use Rattle.std.specs.Prelude.{◌≡◌, ◌≢◌, ◌++◌, [], ◌∷◌, ◌==◌, ◌≤◌, ◌<◌, ◌^◌, ℕ, Option, Ok, Err, None, map, position, All, length, vec_len, IsTrue, IfSome, IfOk, IfErr, OnOk, OnErr, IsErrOf};
+ghost use Rattle.std.specs.Prelude.{◌≡◌, ◌≢◌, ◌++◌, [], ◌∷◌, ◌==◌, ◌≤◌, ◌<◌, ℕ, Option, Ok, Err, None, map, position, All, length, vec_len, IsTrue, IfSome, IfOk, IfErr, OnOk, OnErr, IsErrOf};
 ghost use Rattle.std.specs.Vec.{vec_capacity};
 ghost use Rattle.std.specs.List.{list_any};
+ghost use Rattle.ip_base.specs.declared.limit.TheConstants.{OFFSET_MAX, PARENTS_MAX};
 ghost use Rattle.ip_store.specs.Faults.{ground_store};
 ghost use Rattle.ip_ground.specs.Counts.{Counts};
 ghost use Rattle.ip_spec.specs.declared.command.Command.TheVariants as Command;
 ghost use Rattle.ip_spec.specs.declared.reply.Reply.TheVariants as Reply;
 ghost use Rattle.ip_spec.specs.Map.{insert};
-ghost use Rattle.ip_spec.specs.Path.{same_bytes, AreBytes};
+ghost use Rattle.ip_spec.specs.Path.{same_bytes};
 ghost use Rattle.ip_base.specs.declared.limit.Limit.TheVariants as Limit;
 ghost use Rattle.ip_spec.specs.Record.{IsBranchName, IsInfo, IsHash, IsU64};
 ghost use Rattle.ip_spec.specs.Repository.{Repository, head, is_retained, name_at, next};
@@ -30,7 +31,7 @@ use crate::opening::nothing_met;
 use crate::publish::durable_step;
 use crate::{Branches, Store, Work};
 use ip_base::limit::{BRANCHES_MAX, OFFSET_MAX};
-use ip_base::{Blob, Hash, Info, Limit, Memory, Number, Numbers};
+use ip_base::{Blob, Hash, Info, Limit, Memory, Number, Numbers, see_name};
 use ip_control::Slot;
 use ip_ground::{Ground, GroundFault};
 use ip_history::Table;
@@ -313,17 +314,6 @@ impl Store {
     }
 }
 
-// A law, which does nothing when it is called: a name has 32 bytes.
-fn see_name(name: &Hash)
-    ensures { IsHash name.now }
-{
-    see_bytes(name.as_slice());
-}
-
-fn see_bytes(bytes: &[u8])
-    ensures { AreBytes bytes.now }
-{}
-
 impl Store {
     /// Commits the work's tree to a branch, and answers the commit's name. Afterwards the work goes on from that commit, and its tree is the
     /// one that was stored. Once it is `Ok` the commit is there for good. After `Ground` the store may not be used any more. It reads nothing.
@@ -402,9 +392,9 @@ impl Store {
         ensures coming { (r : Repository) → IsOf self.now r → IfOk result (IsNext r branch.now self.now) }
         ensures refused { (records : ℕ → Option Record) (r : Repository) (v : View) → IsOf self.now r → IsLawful records r work.now v → IfErr result (IsRefusal r work.now v branch.now info) }
         ensures planned { (records : ℕ → Option Record) (r : Repository) (v : View) → IsOf self.now r → IsLawful records r work.now v → IfOk result (IsPlan r work.now v branch.now info self.now) }
-        ensures space { (records : ℕ → Option Record) (r : Repository) (v : View) → IsOf self.now r → IsLawful records r work.now v → IsErrOf result (StoreFault.Limit Limit.Space) → 2 ^ 62 < end_of r work.now v branch.now info self.now }
+        ensures space { (records : ℕ → Option Record) (r : Repository) (v : View) → IsOf self.now r → IsLawful records r work.now v → IsErrOf result (StoreFault.Limit Limit.Space) → OFFSET_MAX < end_of r work.now v branch.now info self.now }
         ensures sequence { (records : ℕ → Option Record) (r : Repository) (v : View) → IsOf self.now r → IsLawful records r work.now v → IsErrOf result (StoreFault.Limit Limit.Sequence) →
-            (end_of r work.now v branch.now info self.now ≤ 2 ^ 62) × (self.now.slot.sequence ≡ 2 ^ 62) }
+            (end_of r work.now v branch.now info self.now ≤ OFFSET_MAX) × (self.now.slot.sequence ≡ OFFSET_MAX) }
         ensures no_fault { IsErrOf result StoreFault.Ground → ⊥ }
         ensures undamaged { IsUndamaged result }
     {
@@ -434,7 +424,7 @@ impl Store {
         requires branch { IsBranchName branch.now }
         requires info { IsInfo info }
         requires tables { (r : Repository) × IsOf self.now r × All (λ n. IsTrue (is_retained r n)) parents.now }
-        requires few { length parents.now ≤ 16 }
+        requires few { length parents.now ≤ PARENTS_MAX }
         ensures fields { (r : Repository) → IsOf self.now r → All (λ n. IsTrue (is_retained r n)) parents.now →
             IfOk result (λ fields. fields_told fields ≡ fields_of r parents.now info branch.now) }
         ensures within { IfOk result (λ fields. AreFields (fields_told fields)) }

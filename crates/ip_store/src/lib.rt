@@ -16,9 +16,9 @@ mod work;
 
 pub use branches::Branches;
 pub use committing::StoreFault;
+pub use ip_spawn::chunk_allowed;
 pub use merging::Merge;
 pub use opening::OpenFault;
 pub use show::Shown;
-pub use ip_spawn::chunk_allowed;
 pub use store::{InitFault, Store};
 pub use work::Work;

@@ -5,7 +5,8 @@
 //   4. The slot that is not live is closed and synced, unless it is whole and closed; its other bytes are written and synced.
 //   5. Its gate is opened, by one byte, and synced. What a crash in that write leaves has the old slot live, or the new one.
 //   6. The caller answers only behind that.
-ghost use Rattle.std.specs.Prelude.{◌+◌, ◌^◌, ◌<◌, ◌≤◌, length, IsTrue, OnErr};
+ghost use Rattle.std.specs.Prelude.{◌+◌, ◌<◌, ◌≤◌, length, IsTrue, OnErr};
+ghost use Rattle.ip_base.specs.declared.limit.TheConstants.{OFFSET_MAX};
 ghost use Rattle.ip_ground.specs.Counts.{CountsAs, FileFault};
 ghost use Rattle.ip_image.specs.Slot.{IsChunkSize};
 ghost use Rattle.ip_store.specs.Publishing.{CanStep, MakesStep};
@@ -25,7 +26,7 @@ pub fn durable_step<G: Ground>(
 ) -> Result<(), GroundFault>
     requires which { slot < 2 }
     requires chunk { IsChunkSize fields.now.chunk }
-    requires room { end + length bytes.now ≤ 2 ^ 62 }
+    requires room { end + length bytes.now ≤ OFFSET_MAX }
     ensures does { IsTrue G.tells → CanStep end slot fields.now (G.told outside.old) → MakesStep end bytes.now slot fields.now result (G.told outside.old) (G.told outside.new) }
     ensures counts { CountsAs FileFault result (G.counts_of outside.old) (G.counts_of outside.new) }
 {

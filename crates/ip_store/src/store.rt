@@ -14,6 +14,7 @@ ghost use Rattle.ip_store.specs.Store.{IsOf};
 
 use crate::Branches;
 use ip_audit::Names;
+use ip_base::limit::BRANCHES_MAX;
 use ip_base::{Blob, Hash, Items, Memory, Number};
 use ip_control::{GATE_OPEN, Slot};
 use ip_ground::{FileName, Ground, GroundFault};
@@ -112,7 +113,7 @@ impl Store {
     pub fn branch_count(&self) -> u32
         ensures { (r : Repository) → IsOf self.now r → result ≡ len r.branches }
     {
-        self.branches.len().min(4096) as u32
+        self.branches.len().min(BRANCHES_MAX) as u32
     }
 
     /// The branch at a place, counted from 0 in the order of the names' bytes, and the number of the commit that it is at.
