@@ -9,10 +9,6 @@ use Rattle.ip_spec.specs.declared.record.InodeChild.{InodeChild}
 use Rattle.ip_spec.specs.Record.{kind_of}
 use Rattle.ip_spec.specs.Shape.{Entries, place}
 
-pub case : (b : Bool) → (b ≡ true) ⊎ (b ≡ false)
-case true = inl refl
-case false = inr refl
-
 pub no_true : {X : Type 0} (b : Bool) → b ≡ false → b ≡ true → X
 no_true b f t = cc
 

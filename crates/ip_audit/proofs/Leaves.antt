@@ -7,6 +7,7 @@ use Rattle.std.specs.Option.{option_and_then}
 use Rattle.std.specs.FinMap.Entries as Entries
 use Rattle.std.proofs.lemmas.List.{length-take-le}
 use Rattle.std.specs.Cmp.Lexicographic.{nat_list_cmp_total}
+use Rattle.std.proofs.lemmas.Bool.{cases_Bool}
 use Rattle.sha2.specs.Sha256.{sha256}
 use Rattle.ip_spec.specs.Map.{Map, get, empty, insert, checked}
 use Rattle.ip_spec.specs.Path.{Step, Path, Bytes, bytes_cmp}
@@ -20,7 +21,7 @@ use Rattle.ip_spec.specs.TreeAt.{EntryAt, EntriesAt, PartAt, contents_at, direct
 use Rattle.ip_spec.specs.Step.{entries_limit}
 use Rattle.ip_image.specs.Standing.{AreTogether, IsSomePart}
 use Rattle.ip_spec.proofs.SameDirectory.{get-below}
-use Rattle.ip_audit.proofs.Basics.{case, no_true, bytes_antisymmetric, same_fields, leaf_or_inode}
+use Rattle.ip_audit.proofs.Basics.{no_true, bytes_antisymmetric, same_fields, leaf_or_inode}
 use Rattle.ip_audit.specs.Memory.{Part, Kept, kept_contents, kept_part, Look, leaf_part, inode_part, kept_by, AtDepth, EntryIs, EntryPasses, LeafPasses, common_of, places}
 use Rattle.ip_audit.proofs.Trees.{In, first_in, found_in, a_directory, height_entries, some_entry, some_below, below_in}
 use Rattle.ip_spec.proofs.Naming.{root_name-entries}
@@ -119,7 +120,7 @@ module _ (look : Look) (records : ℕ → Option Record) (at : ℕ) (rem : Remem
       let same : fs ≡ fields = same_fields (records at) fs fields is here in
       subst (λ gs. LeafPasses look at gs) same record {
         each = each_passes refl each;
-        few = few depth es leaf t each (case (nat_le (length es) leaf_limit));
+        few = few depth es leaf t each (cases_Bool (nat_le (length es) leaf_limit));
         bounded = let n = entries_count records each in omega (arith, n, small);
       }
     where

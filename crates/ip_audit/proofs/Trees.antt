@@ -9,6 +9,7 @@ use Rattle.std.specs.Cmp.{IsTotalOrder, tied_itself}
 use Rattle.std.specs.FinMap.{IsAntisymmetric}
 use Rattle.std.specs.Cmp.Lexicographic.{nat_list_cmp_total}
 use Rattle.std.specs.FinMap.Entries as Entries
+use Rattle.std.proofs.lemmas.Bool.{cases_Bool}
 use Rattle.ip_spec.specs.Map.{get, insert, empty, insert_all, get-insert}
 use Rattle.ip_spec.specs.Path.{Bytes, Step, Path, path_cmp, bytes_cmp, same_path, same_bytes}
 use Rattle.ip_spec.specs.Tree.{no_tree, Tree, subtree, entries_of, height, is_contents, is_empty}
@@ -17,7 +18,7 @@ use Rattle.ip_spec.proofs.TreeLaws.{path_total, path_antisymmetric}
 use Rattle.ip_spec.proofs.Subtrees.{get-subtree, get-entries_of, entry_found, same_tree, get-no_tree, same_step, same_as}
 use Rattle.ip_spec.proofs.SameDirectory.{get-below}
 use Rattle.ip_spec.proofs.Naming.{entry_height}
-use Rattle.ip_audit.proofs.Basics.{case, no_true, bytes_antisymmetric, or_else, first_wins}
+use Rattle.ip_audit.proofs.Basics.{no_true, bytes_antisymmetric, or_else, first_wins}
 
 -- ---- the greatest of a list
 
@@ -65,7 +66,7 @@ module _ {K X : Type 0} {R : K → K → Ordering} (o : IsTotalOrder R) (same : 
   pub found_in : (q : K) (v : X) (es : List (K × X)) → Entries.find R q es ≡ Some v → In (q, v) es
   unfolding In
   found_in q v [] h = cc
-  found_in q v (e ∷ es) h = by (case (is_eq (R q e.0))) (found_in q v es)
+  found_in q v (e ∷ es) h = by (cases_Bool (is_eq (R q e.0))) (found_in q v es)
     where
       value : X → Option X → X
       value d None = d
@@ -100,7 +101,7 @@ module _ {K X : Type 0} {R : K → K → Ordering} (o : IsTotalOrder R) (same : 
   unfolding In
   in_found q v [] h i = absurd i
   in_found q v (e ∷ es) h (inl is) = ap (λ b. cond b (Some e.1) (Entries.find R q es)) (ap (λ k. is_eq (R k e.0)) (ap (λ x. x.0) is) ∙ ap is_eq (tied_itself o e.0)) ∙ ap (λ x. Some x.1) (sym is)
-  in_found q v (e ∷ es) h (inr i) = by (case (is_eq (R q e.0))) (in_found q v es (rest_sorted e es h) i)
+  in_found q v (e ∷ es) h (inr i) = by (cases_Bool (is_eq (R q e.0))) (in_found q v es (rest_sorted e es h) i)
     where
       by : (is_eq (R q e.0) ≡ true) ⊎ (is_eq (R q e.0) ≡ false) → Entries.find R q es ≡ Some v → Entries.find R q (e ∷ es) ≡ Some v
       by (inl t) later = let k : q ≡ e.0 = same q e.0 (by_equal (R q e.0) t) in absurd (none_some (Entries.find R q es) v (ap (λ x. Entries.find R x es) k ∙ first_once e es h) later)
@@ -154,7 +155,7 @@ at_step [] h s p = refl
 at_step (e ∷ es) h s p =
     under_all e.0 e.1.entries e.1.sorted (directory es) s p
     ∙ ap (λ x. cond (same_bytes s e.0) (or_else (get e.1 p) x) x) (at_step es (rest_sorted nat_list_cmp_total bytes_antisymmetric e es h) s p)
-    ∙ by (case (same_bytes s e.0))
+    ∙ by (cases_Bool (same_bytes s e.0))
   where
     or_none : (o : Option Bytes) → or_else o None ≡ o
     or_none (Some x) = refl

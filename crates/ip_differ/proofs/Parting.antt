@@ -6,7 +6,7 @@
 --     held_child      a child of a part that was read
 --     not_deep_unread      the record of an inode stands above the deepest leaves
 use Rattle.std.proofs.Common.{◌≡◌, ◌≢◌, ℕ, suc, ◌+◌, ◌-◌, ◌<◌, ◌≤◌, Bool, true, false, List, [], ◌∷◌, ◌++◌, append_assoc, length, refl, sym, ap, subst, ◌∙◌, Option, Some, None, arith, cond, rules}
-use Rattle.std.proofs.lemmas.Bool.{false≢true, ne_eqb}
+use Rattle.std.proofs.lemmas.Bool.{false≢true, ne_eqb, and_parts}
 use Rattle.std.proofs.lemmas.List.{append-nil}
 use Rattle.std.specs.Global.{Global}
 use Rattle.std.specs.Option.{option_or}
@@ -52,13 +52,9 @@ use Rattle.ip_differ.specs.Pieces as pieces
 use Rattle.ip_differ.proofs.Indexed.{leads_deeper, long_deeper, way_behind}
 use Rattle.ip_differ.proofs.Standing.{as_stored, none_read}
 
-both_true : (a b : Bool) → (a && b) ≡ true → (a ≡ true) × (b ≡ true)
-both_true true b e = (refl, e)
-both_true false b e = absurd (false≢true e)
-
 pub here_deeper : (is : List ℕ) (i : ℕ) (s : Step) → leads 0 (is ++ i ∷ []) s ≡ true → (leads 0 is s ≡ true) × (place s (length is) ≡ i)
 here_deeper is i s e =
-    let both = both_true (leads 0 is s) (place s (length is) == i) (sym (leads_deeper is i s) ∙ e) in
+    let both = and_parts (leads 0 is s) (place s (length is) == i) (sym (leads_deeper is i s) ∙ e) in
     (both.0, let f = both.1 in grind arith)
 
 pub none_long : length {A = ℕ} [] ≤ deepest

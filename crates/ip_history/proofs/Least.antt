@@ -3,12 +3,13 @@ use Rattle.std.proofs.Common.{◌≡◌, ◌⊎◌, inl, inr, ℕ, ◌+◌, ◌-
 use Rattle.std.specs.Prelude.{◌&&◌, not, Contains, filter, reverse}
 use Rattle.std.specs.List.{range_with_len, list_any}
 use Rattle.std.proofs.lemmas.List.{reverse-reverse}
+use Rattle.std.proofs.lemmas.Bool.{and_from}
 use Rattle.ip_spec.specs.Repository.{Repository}
 use Rattle.ip_spec.specs.History.{parents_at, Ancestor, itself, of_parent, is_common, is_proper_ancestor, retained, common}
 use Rattle.ip_history.specs.History.{History, HasParentsFirst, Holds, Shows, AboveOneOf}
 use Rattle.ip_history.specs.Frontier.{Commits, at, flagged, passed, is_least, Passes, IsTaken, IsHeads, IsSettled}
 use Rattle.ip_history.specs.declared.frontier.Flags.{Flags}
-use Rattle.ip_history.proofs.Lists.{no_true, both, both_first, both_second, same_test, same_number, number_same, has_from, has_to, filter_filter}
+use Rattle.ip_history.proofs.Lists.{no_true, both_first, both_second, same_test, same_number, number_same, has_from, has_to, filter_filter}
 use Rattle.ip_history.proofs.Parents.{through, parent_through}
 use Rattle.ip_history.proofs.Walk.{IsFollowed, follow, not_between, has_flag, flag_says, not_above}
 use Rattle.ip_history.proofs.Found.{from, none_found, found_more, found_all}
@@ -79,7 +80,7 @@ module _ (h : History) (r : Repository) (shows : Shows h r) (first : HasParentsF
     stale_both : f.stale ≡ true → (f.own && f.listed) ≡ true
     stale_both t =
         let (c, high, own, (m, in_list, up), below) = is_stale t in
-        both f.own f.listed (own_flag (through r n c below own)) (listed_flag (m, in_list, through r n c below up))
+        and_from f.own f.listed (own_flag (through r n c below own)) (listed_flag (m, in_list, through r n c below up))
 
     stale_keeps : (a : ℕ) → IsStale r ns head bound a → IsStale r ns head n a
     stale_keeps a (c, high, own, listed, up) = let less = low in (c, omega (arith, high, less), own, listed, up)
@@ -104,7 +105,7 @@ module _ (h : History) (r : Repository) (shows : Shows h r) (first : HasParentsF
 
         by : (bound ≤ c) ⊎ ((c ≡ n) ⊎ ((n < c) × (c < bound)) ⊎ (c < n)) → IsStale r ns head bound a ⊎ (((f.own && f.listed) ≡ true) × Ancestor r a n)
         by (inl far) = inl (c, far, own, listed, up)
-        by (inr (inl e)) = inr (both f.own f.listed (own_flag (subst (λ m. Ancestor r m head) e own)) (listed_flag (subst (AboveOneOf r ns) e listed)), subst (Ancestor r a) e up)
+        by (inr (inl e)) = inr (and_from f.own f.listed (own_flag (subst (λ m. Ancestor r m head) e own)) (listed_flag (subst (AboveOneOf r ns) e listed)), subst (Ancestor r a) e up)
         by (inr (inr (inl (more, under)))) = absurd (none_open c more under own)
         by (inr (inr (inr under))) = absurd (omega (arith, under, high))
 
@@ -117,7 +118,7 @@ module _ (h : History) (r : Repository) (shows : Shows h r) (first : HasParentsF
             let own = own_flag (result_own h r shows first ns head held n t) in
             let listed = listed_flag (result_listed h r shows first ns head held n t) in
             let fresh : f.stale ≡ false = is_false f.stale (λ old. by (is_stale old)) in
-            both (f.own && f.listed) (not f.stale) (both f.own f.listed own listed) (not_false f.stale fresh)
+            and_from (f.own && f.listed) (not f.stale) (and_from f.own f.listed own listed) (not_false f.stale fresh)
           where
             by : IsStale r ns head bound n → ⊥
             by (c, high, own, listed, up) =

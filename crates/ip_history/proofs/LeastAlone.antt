@@ -3,10 +3,11 @@ use Rattle.std.proofs.Common.{◌≡◌, ◌≢◌, ℕ, ◌+◌, ◌-◌, ◌�
 use Rattle.std.specs.Prelude.{◌↔◌, ◌&&◌, ◌==◌, not, Contains, filter, IsTrue, nat_le, nat_lt}
 use Rattle.std.specs.List.{list_any}
 use Rattle.std.proofs.lemmas.Bool.Decides.{nat_tests}
+use Rattle.std.proofs.lemmas.Bool.{and_from}
 use Rattle.ip_spec.specs.Repository.{Repository, next, is_retained}
 use Rattle.ip_spec.specs.History.{Ancestor, itself, ParentsFirst, is_ancestor, is_proper_ancestor, is_common, retained, common, lcas}
 use Rattle.ip_spec.proofs.HistoryLaws.{ancestor_test, test_ancestor}
-use Rattle.ip_history.proofs.Lists.{no_true, both, both_first, both_second, number_same, one, only, filtered, of_filtered, any_at, at_any, filter_filter, range_has}
+use Rattle.ip_history.proofs.Lists.{no_true, both_first, both_second, number_same, one, only, filtered, of_filtered, any_at, at_any, filter_filter, range_has}
 use Rattle.ip_history.proofs.Parents.{not_greater}
 use Rattle.ip_history.proofs.Found.{one_found}
 use Rattle.ip_history.proofs.Results.{not_true, not_false, was_false, is_false}
@@ -27,7 +28,7 @@ module _ (r : Repository) (first : ParentsFirst r) (a b : ℕ) where
       (ancestor_test r first x a (both_first (is_ancestor r x a) (list_any (λ m. is_ancestor r x m) (b ∷ [])) t), subst (Ancestor r x) (sym (only b m c)) (ancestor_test r first x m is))
 
   is_shared : (x : ℕ) → Ancestor r x a → Ancestor r x b → shared x ≡ true
-  is_shared x own other = both (is_ancestor r x a) (list_any (λ m. is_ancestor r x m) (b ∷ [])) (test_ancestor r first x a own) (any_at (λ m. is_ancestor r x m) (b ∷ []) b (one b) (test_ancestor r first x b other))
+  is_shared x own other = and_from (is_ancestor r x a) (list_any (λ m. is_ancestor r x m) (b ∷ [])) (test_ancestor r first x a own) (any_at (λ m. is_ancestor r x m) (b ∷ []) b (one b) (test_ancestor r first x b other))
 
   least_is : lcas r b a ≡ filter (λ x. shared x && free x) (retained r)
   unfolding common
@@ -72,10 +73,10 @@ module _ (r : Repository) (first : ParentsFirst r) (a b : ℕ) where
         below t =
             let ways = shared_by x (both_first (shared x) (free x) t) in
             let differs : (x == m) ≡ false = grind arith in
-            any_at (is_proper_ancestor r x) all m in_all (both (is_ancestor r x m) (not (x == m)) (test_ancestor r first x m (above x ways.0 ways.1)) (not_false (x == m) differs))
+            any_at (is_proper_ancestor r x) all m in_all (and_from (is_ancestor r x m) (not (x == m)) (test_ancestor r first x m (above x ways.0 ways.1)) (not_false (x == m) differs))
 
     least_alone : lcas r b a ≡ m ∷ []
-    least_alone = least_is ∙ one_found (λ x. shared x && free x) r.floor (length r.commits) m low high (both (shared m) (free m) (is_shared m own other) m_free) others_fail
+    least_alone = least_is ∙ one_found (λ x. shared x && free x) r.floor (length r.commits) m low high (and_from (shared m) (free m) (is_shared m own other) m_free) others_fail
 
 pub ancestor_meets : (r : Repository) → ParentsFirst r → (a b : ℕ) → IsTrue (is_retained r a) → IsTrue (is_ancestor r a b) ↔ (lcas r b a ≡ a ∷ [])
 ancestor_meets r first a b held = (
@@ -89,7 +90,7 @@ proper_meets r first a b held = (
     λ e. no_true (b == a) (was_false (b == a) (both_second (is_ancestor r b a) (not (b == a)) t)) (number_same b a e),
     least_alone r first a b b held (ancestor_test r first b a (both_first (is_ancestor r b a) (not (b == a)) t)) itself (λ x own other. other),
   ),
-  λ (apart, is). both (is_ancestor r b a) (not (b == a)) (test_ancestor r first b a (least_shared r first a b b is).0) (differs apart),
+  λ (apart, is). and_from (is_ancestor r b a) (not (b == a)) (test_ancestor r first b a (least_shared r first a b b is).0) (differs apart),
 )
   where
     differs : b ≢ a → not (b == a) ≡ true

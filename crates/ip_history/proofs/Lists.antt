@@ -3,16 +3,8 @@ use Rattle.std.proofs.Common.{◌≡◌, ◌⊎◌, inl, inr, ℕ, zero, suc, �
 use Rattle.std.specs.Prelude.{◌||◌, ◌&&◌, ◌==◌, Contains, filter}
 use Rattle.std.specs.List.{list_any, range_with_len}
 
-pub case : (b : Bool) → (b ≡ true) ⊎ (b ≡ false)
-case true = inl refl
-case false = inr refl
-
 pub no_true : {X : Type 0} (b : Bool) → b ≡ false → b ≡ true → X
 no_true b f t = cc
-
-pub both : (b c : Bool) → b ≡ true → c ≡ true → (b && c) ≡ true
-both true c h k = k
-both false c h k = absurd (no_true false refl h)
 
 pub both_first : (b c : Bool) → (b && c) ≡ true → b ≡ true
 both_first true c h = refl

@@ -2,12 +2,13 @@
 use Rattle.std.proofs.Common.{◌≡◌, ◌≢◌, ◌⊎◌, inl, inr, ℕ, ◌+◌, ◌-◌, ◌<◌, ◌≤◌, List, [], ◌∷◌, ◌++◌, length, refl, sym, ap, subst, ◌∙◌, true, false, cond, arith}
 use Rattle.std.specs.Prelude.{◌||◌, ◌&&◌, Contains, filter, reverse, Option, Some, None, IsSome}
 use Rattle.std.specs.List.{range_with_len}
+use Rattle.std.proofs.lemmas.Bool.{and_from}
 use Rattle.ip_spec.specs.Repository.{Repository}
 use Rattle.ip_spec.specs.History.{Ancestor, itself, is_ancestor, ancestors}
 use Rattle.ip_history.specs.History.{History, HasParentsFirst, Holds, Shows}
 use Rattle.ip_history.specs.Frontier.{Commits, at, flagged, is_parent, Passes, IsTaken, IsHeads}
 use Rattle.ip_history.specs.declared.frontier.Flags.{Flags}
-use Rattle.ip_history.proofs.Lists.{no_true, none, both, same_number, number_same}
+use Rattle.ip_history.proofs.Lists.{no_true, none, same_number, number_same}
 use Rattle.ip_history.proofs.Parents.{parent_through}
 use Rattle.ip_history.proofs.Flagged.{IsFlag, apart_or_same, first_true, second_true, parent_within, passes_there, passes_flag}
 use Rattle.ip_history.proofs.Walk.{IsFollowed, follow, not_between}
@@ -126,7 +127,7 @@ module _ (h : History) (r : Repository) (shows : Shows h r) (first : HasParentsF
 
         by : (k : ℕ) → IsSome (at taken k) ⊎ (is_parent h n k ≡ true) → (flagged (λ g. g.own) (at taken k) || (is_parent h n k && f.own)) ≡ true
         by k (inl there) = first_true (flagged (λ g. g.own) (at taken k)) (is_parent h n k && f.own) (kept k (apart_or_same k n) there)
-        by k (inr t) = second_true (flagged (λ g. g.own) (at taken k)) (is_parent h n k && f.own) (both (is_parent h n k) f.own t f_own)
+        by k (inr t) = second_true (flagged (λ g. g.own) (at taken k)) (is_parent h n k && f.own) (and_from (is_parent h n k) f.own t f_own)
 
   pub logged_all : (numbers : List ℕ) (cs : Commits) (count bound : ℕ) → IsWithin h cs count bound → IsLogged h r head numbers cs bound → ((n : ℕ) → at cs n ≡ None) → numbers ≡ reverse (ancestors r head)
   unfolding ancestors

@@ -6,10 +6,11 @@ use Rattle.std.proofs.lemmas.List.{get_or-drop}
 use Rattle.std.proofs.lemmas.List.Elements.{All-contains}
 use Rattle.std.proofs.Math.ListN.{get_or-append}
 use Rattle.std.proofs.Math.Seq.{get_or-append_seam}
+use Rattle.std.proofs.lemmas.Bool.{cases_Bool}
 use Rattle.ip_spec.specs.Repository.{Repository, commit_at}
 use Rattle.ip_spec.specs.History.{parents_at, Ancestor, itself, of_parent, ParentsFirst}
 use Rattle.ip_history.specs.History.{History, HasParentsFirst, Shows}
-use Rattle.ip_history.proofs.Lists.{case, none, filtered, of_filtered}
+use Rattle.ip_history.proofs.Lists.{none, filtered, of_filtered}
 
 -- the ancestors of an ancestor
 pub through : (r : Repository) (a m : ℕ) {n : ℕ} → Ancestor r a m → Ancestor r m n → Ancestor r a n
@@ -58,7 +59,7 @@ within_list (xs ∷ xss) (suc k) p c = let low = within_list xss k p c in omega 
 
 -- parents are those of a retained commit
 retained_parents : (r : Repository) (n p : ℕ) → Contains (parents_at r n) p → (r.floor ≤ n) × (n < r.floor + length r.commits)
-retained_parents r n p c = by (case (nat_le r.floor n)) (case (nat_lt (n - r.floor) (length r.commits)))
+retained_parents r n p c = by (cases_Bool (nat_le r.floor n)) (cases_Bool (nat_lt (n - r.floor) (length r.commits)))
   where
     by : (nat_le r.floor n ≡ true) ⊎ (nat_le r.floor n ≡ false) → (nat_lt (n - r.floor) (length r.commits) ≡ true) ⊎ (nat_lt (n - r.floor) (length r.commits) ≡ false) → (r.floor ≤ n) × (n < r.floor + length r.commits)
     by (inl low) (inl high) = (le_fact r.floor n low, grind (arith, nat_tests))

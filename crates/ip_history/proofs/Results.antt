@@ -2,11 +2,12 @@
 use Rattle.std.proofs.Common.{◌≡◌, ◌⊎◌, inl, inr, ℕ, ◌+◌, ◌-◌, ◌<◌, ◌≤◌, List, length, refl, ap, subst, ◌∙◌, Bool, true, false, arith}
 use Rattle.std.specs.Prelude.{◌↔◌, ◌&&◌, ◌==◌, not, Contains, filter}
 use Rattle.std.specs.List.{list_any, range_with_len}
+use Rattle.std.proofs.lemmas.Bool.{cases_Bool, and_from}
 use Rattle.ip_spec.specs.Repository.{Repository}
 use Rattle.ip_spec.specs.History.{Ancestor, is_ancestor, is_proper_ancestor, is_common, retained}
 use Rattle.ip_spec.proofs.HistoryLaws.{ancestor_test, test_ancestor}
 use Rattle.ip_history.specs.History.{History, HasParentsFirst, Holds, Shows, AboveOneOf}
-use Rattle.ip_history.proofs.Lists.{case, no_true, both, both_first, both_second, filtered, of_filtered, any_at, at_any, range_has}
+use Rattle.ip_history.proofs.Lists.{no_true, both_first, both_second, filtered, of_filtered, any_at, at_any, range_has}
 use Rattle.ip_history.proofs.Parents.{parents_first}
 use Rattle.ip_history.proofs.Walk.{not_above}
 
@@ -61,7 +62,7 @@ module _ (h : History) (r : Repository) (shows : Shows h r) (first : HasParentsF
     result_listed a t = common_listed a (both_first (is_common r ns n a) (free a) t)
 
     is_common_one : (a : ℕ) → Ancestor r a n → AboveOneOf r ns a → is_common r ns n a ≡ true
-    is_common_one a own listed = both (is_ancestor r a n) (list_any (λ m. is_ancestor r a m) ns) (to_test a n own) ((above_some a ns).0 listed)
+    is_common_one a own listed = and_from (is_ancestor r a n) (list_any (λ m. is_ancestor r a m) ns) (to_test a n own) ((above_some a ns).0 listed)
 
     -- an ancestor of a common one with a greater number is no result
     pub no_result : (a c : ℕ) → a < c → h.floor ≤ c → Ancestor r c n → AboveOneOf r ns c → Ancestor r a c → is_result a ≡ true → ⊥
@@ -73,16 +74,16 @@ module _ (h : History) (r : Repository) (shows : Shows h r) (first : HasParentsF
         let kept : Contains (retained r) c = subst (λ f. Contains (range_with_len f (length r.commits)) c) shows.floor (subst (λ q. Contains (range_with_len h.floor q) c) shows.count (subst (Contains (range_with_len h.floor (length h.parents))) e in_range)) in
         let in_all = filtered (is_common r ns n) (retained r) c kept (is_common_one c own listed) in
         let apart : (a == c) ≡ false = grind arith in
-        let proper = both (is_ancestor r a c) (not (a == c)) (to_test a c up) (not_false (a == c) apart) in
+        let proper = and_from (is_ancestor r a c) (not (a == c)) (to_test a c up) (not_false (a == c) apart) in
         let some = any_at (is_proper_ancestor r a) all c in_all proper in
         no_true (free a) (not_true (list_any (is_proper_ancestor r a) all) some) (both_second (is_common r ns n a) (free a) t)
 
     -- a common one is a result, or an ancestor of a common one with a greater number
     pub result_or : (a : ℕ) → Ancestor r a n → AboveOneOf r ns a → (is_result a ≡ true) ⊎ ((c : ℕ) × (a < c) × Ancestor r c n × AboveOneOf r ns c × Ancestor r a c)
-    result_or a own listed = by (case (list_any (is_proper_ancestor r a) all))
+    result_or a own listed = by (cases_Bool (list_any (is_proper_ancestor r a) all))
       where
         by : (list_any (is_proper_ancestor r a) all ≡ true) ⊎ (list_any (is_proper_ancestor r a) all ≡ false) → (is_result a ≡ true) ⊎ ((c : ℕ) × (a < c) × Ancestor r c n × AboveOneOf r ns c × Ancestor r a c)
-        by (inr f) = inl (both (is_common r ns n a) (free a) (is_common_one a own listed) (not_false (list_any (is_proper_ancestor r a) all) f))
+        by (inr f) = inl (and_from (is_common r ns n a) (free a) (is_common_one a own listed) (not_false (list_any (is_proper_ancestor r a) all) f))
         by (inl t) =
             let (c, in_all, proper) = at_any (is_proper_ancestor r a) all t in
             let is = (of_filtered (is_common r ns n) (retained r) c in_all).1 in

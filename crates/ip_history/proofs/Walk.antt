@@ -2,12 +2,13 @@
 use Rattle.std.proofs.Common.{◌≡◌, ◌≢◌, ◌⊎◌, inl, inr, ℕ, ◌+◌, ◌-◌, ◌<◌, ◌≤◌, [], sym, ap, subst, ◌∙◌, Bool, true, arith}
 use Rattle.std.proofs.lemmas.Bool.Decides.{nat_tests}
 use Rattle.std.specs.Prelude.{◌&&◌, Contains, slice_index_or, nat_le}
+use Rattle.std.proofs.lemmas.Bool.{and_from}
 use Rattle.ip_spec.specs.Repository.{Repository}
 use Rattle.ip_spec.specs.History.{parents_at, Ancestor, itself, of_parent}
 use Rattle.ip_history.specs.History.{History, HasParentsFirst, Shows}
 use Rattle.ip_history.specs.Frontier.{Commits, at, flagged, is_parent, Passes, IsTaken}
 use Rattle.ip_history.specs.declared.frontier.Flags.{Flags}
-use Rattle.ip_history.proofs.Lists.{no_true, both, both_first, both_second, has, has_from, has_to}
+use Rattle.ip_history.proofs.Lists.{no_true, both_first, both_second, has, has_from, has_to}
 use Rattle.ip_history.proofs.Parents.{not_greater, parent_in, parent_out, parents_first}
 use Rattle.ip_history.proofs.Flagged.{IsFlag, or_true, first_true, second_true, flagged_there, apart_or_same, passes_flag}
 
@@ -25,7 +26,7 @@ module _ (h : History) (r : Repository) (shows : Shows h r) (first : HasParentsF
   parent_test n p c =
       let (k, is, less, in_table, low) = parent_out h r shows n p c in
       let e : k ≡ n - h.floor = omega (arith, is) in
-      both (nat_le h.floor p) (has (slice_index_or h.parents (n - h.floor) []) p) (grind (arith, nat_tests)) (has_from (slice_index_or h.parents (n - h.floor) []) p (subst (λ j. Contains (slice_index_or h.parents j []) p) e in_table))
+      and_from (nat_le h.floor p) (has (slice_index_or h.parents (n - h.floor) []) p) (grind (arith, nat_tests)) (has_from (slice_index_or h.parents (n - h.floor) []) p (subst (λ j. Contains (slice_index_or h.parents j []) p) e in_table))
 
   test_parent : (n p : ℕ) → h.floor ≤ n → is_parent h n p ≡ true → Contains (parents_at r n) p
   test_parent n p held t =
@@ -57,7 +58,7 @@ module _ (h : History) (r : Repository) (shows : Shows h r) (first : HasParentsF
 
       by_parent : (a : ℕ) → a < n → K g ≡ true → Ancestor r a n → (k : ℕ) × (flagged K (at new k) ≡ true) × Ancestor r a k
       by_parent a less t itself = absurd (omega (arith, less))
-      by_parent a less t (of_parent p c up) = (p, passes_flag K joins h n g taken new pass p ∙ second_true (flagged K (at taken p)) (is_parent h n p && K g) (both (is_parent h n p) (K g) (parent_test n p c) t), up)
+      by_parent a less t (of_parent p c up) = (p, passes_flag K joins h n g taken new pass p ∙ second_true (flagged K (at taken p)) (is_parent h n p && K g) (and_from (is_parent h n p) (K g) (parent_test n p c) t), up)
 
       module _ (P Q : ℕ → Type 0) where
         pub follow : IsFollowed r K cs bound P → (K f ≡ true → K g ≡ true) → ((a : ℕ) → P a → Q a) → ((p : ℕ) → K g ≡ true → Contains (parents_at r n) p → Q p) → ((a : ℕ) → a < n → Q a → P a ⊎ ((K g ≡ true) × Ancestor r a n)) → IsFollowed r K new n Q

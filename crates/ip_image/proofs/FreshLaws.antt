@@ -8,6 +8,7 @@ use Rattle.std.specs.Int.{w64, from_le_bytes}
 use Rattle.std.specs.Prelude.{◌&&◌, ◌||◌, ◌==◌, nat_le, is_some, slice_index, if◌then◌else◌}
 use Rattle.std.proofs.lemmas.List.{length-take, get_or-take, get_or-drop, drop-take, take-take}
 use Rattle.std.proofs.lemmas.Bool.Decides.{nat_tests}
+use Rattle.std.proofs.lemmas.Bool.{leb-true}
 use Rattle.ip_ground.specs.Contents.{Image}
 use Rattle.ip_ground.specs.declared.names.FileName.TheVariants.{Control}
 use Rattle.ip_spec.specs.Path.{Bytes}
@@ -21,9 +22,6 @@ test_eq a b l = grind (arith, nat_tests)
 
 test_ne : (a b : ℕ) → (a ≡ b → ⊥) → eqb a b ≡ false
 test_ne a b l = grind (arith, nat_tests)
-
-at_most : (a b : ℕ) → leb a b ≡ true → a ≤ b
-at_most a b e = grind (arith, nat_tests)
 
 above : (a b : ℕ) → leb a b ≡ false → b < a
 above a b e = grind (arith, nat_tests)
@@ -39,7 +37,7 @@ open_slot control i = by (nat_le (128 * i + 128) (length control)) refl
 
     by : (b : Bool) → nat_le (128 * i + 128) (length control) ≡ b → is_open control i ≡ (b && (slice_index control (128 * i) == open_gate))
     by true e =
-        let l = at_most _ _ e in
+        let l = leb-true _ _ e in
         ap (λ (b : Bool). b && (slice_index (slot_at control i) 0 == open_gate)) (test_eq _ _ (omega (arith, long, l))) ∙ ap (λ (n : ℕ). n == open_gate) first
     by false e =
         let l = above _ _ e in

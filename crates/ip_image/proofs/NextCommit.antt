@@ -4,7 +4,7 @@
 --     commit_fits      the record of the next commit fits
 --     spells_next      and spells it
 use Rattle.std.proofs.Common.{◌≡◌, ◌≢◌, inl, ℕ, zero, suc, ◌+◌, ◌-◌, ◌<◌, ◌≤◌, List, [], ◌∷◌, refl, sym, ap, subst, ◌∙◌, Option, Some, None, Bool, true, false, cond, length, arith, map}
-use Rattle.std.proofs.lemmas.Bool.{false≢true, true≢false}
+use Rattle.std.proofs.lemmas.Bool.{false≢true, true≢false, leb-true}
 use Rattle.std.proofs.lemmas.Bool.Decides.{nat_tests}
 use Rattle.std.proofs.lemmas.List.{get_or-map, length-map}
 use Rattle.std.proofs.lemmas.List.Elements.{All-map, All-from_recursion, recursion_from_All}
@@ -34,9 +34,6 @@ use Rattle.ip_image.proofs.InChunk.{InChunk}
 use Rattle.ip_image.proofs.TreeBatch.{commit_record}
 
 -- ---- tests
-
-at_most : (a b : ℕ) → nat_le a b ≡ true → a ≤ b
-at_most a b e = grind (arith, nat_tests)
 
 below : (a b : ℕ) → nat_lt a b ≡ true → a < b
 below a b e = grind (arith, nat_tests)
@@ -139,7 +136,7 @@ module _ (s : Slot) (image : Image) (r : Repository) (fields : IsSlot s) (chunk 
   retained_low n is = below n (next r) (both_second (nat_le r.floor n) _ is)
 
   retained_above : (n : ℕ) → IsTrue (is_retained r n) → s.floor ≤ n
-  retained_above n is = let low = at_most r.floor n (both_first (nat_le r.floor n) _ is) in let floor = chunk.floor in omega (arith, low, floor)
+  retained_above n is = let low = leb-true r.floor n (both_first (nat_le r.floor n) _ is) in let floor = chunk.floor in omega (arith, low, floor)
 
   module _ (tree : Tree) (parents : List ℕ) (info : Info) (branch : Bytes) (may : MayGrow r tree parents info branch) (root : ℕ) where
     abbrev c : CommitRecord

@@ -1,6 +1,6 @@
 -- The order of paths is total, and two paths that tie in it are one.
 use Rattle.std.proofs.Common.{◌≡◌, ◌∙◌, ℕ, ◌≤◌, zero, suc, Bool, true, false, ◌&&◌, [], ◌∷◌, length, take, refl, ap, arith}
-use Rattle.std.proofs.lemmas.Bool.{false≢true}
+use Rattle.std.proofs.lemmas.Bool.{false≢true, and_parts}
 use Rattle.std.proofs.lemmas.Cmp.{nat_list_cmp_total, lists_total, tied_itself}
 use Rattle.std.specs.Cmp.{IsTotalOrder}
 use Rattle.std.specs.FinMap.{slice_cmp-IsAntisymmetric, nat_cmp-IsAntisymmetric}
@@ -24,16 +24,12 @@ greater_than p q h = paths_total.antisymm q p ∙ ap ordering_reverse h
 pub less_than : (p q : Path) → path_cmp p q ≡ Greater → path_cmp q p ≡ Less
 less_than p q h = paths_total.antisymm q p ∙ ap ordering_reverse h
 
-both_true : (a b : Bool) → (a && b) ≡ true → (a ≡ true) × (b ≡ true)
-both_true true b h = (refl, h)
-both_true false b h = absurd (false≢true h)
-
 -- a prefix is the steps up to its length, and all of these are prefixes
 pub prefix_steps : (q p : Path) → is_prefix q p ≡ true → (length q ≤ length p) × (q ≡ take (length q) p)
 prefix_steps [] p h = (omega arith, refl)
 prefix_steps (s ∷ q) [] h = absurd (false≢true h)
 prefix_steps (s ∷ q) (r ∷ p) h =
-    let parts = both_true (same_bytes s r) (is_prefix q p) h in
+    let parts = and_parts (same_bytes s r) (is_prefix q p) h in
     let rest = prefix_steps q p parts.1 in
     (omega (arith, rest.0), λ i. same_text s r parts.0 i ∷ rest.1 i)
 

@@ -3,11 +3,12 @@ use Rattle.std.proofs.Common.{◌≡◌, ◌≢◌, ◌⊎◌, inl, inr, ℕ, su
 use Rattle.std.specs.Fmt.{decimal}
 use Rattle.std.proofs.lemmas.Bool.Decides.{nat_tests}
 use Rattle.std.proofs.lemmas.Fmt.{decimal_digit, decimal_step, decimal_by_steps, decimal_nonempty, first_decimal}
+use Rattle.std.proofs.lemmas.Bool.{cases_Bool}
 use Rattle.ip_spec.specs.Path.{Bytes}
 use Rattle.ip_script.specs.declared.field.Field.TheVariants.{Date}
 use Rattle.ip_script.specs.Dates.{next_value, digits_on, value_on, date_length, date_value}
 use Rattle.ip_script.specs.Fields.{field_length}
-use Rattle.ip_script.proofs.Prefix.{either, positive, positive_test, equal_by, no_more}
+use Rattle.ip_script.proofs.Prefix.{positive, positive_test, equal_by, no_more}
 use Rattle.ip_script.proofs.Values.{IsField}
 use Rattle.ip_script.proofs.FieldLaw.{FieldLaw, EndsWord}
 use Rattle.ip_script.proofs.RunLaw.{whole_begins}
@@ -137,7 +138,7 @@ number_read (suc n) rest small e =
 date_within : (text : Bytes) → date_length text ≤ length text
 date_within [] = omega arith
 date_within (b ∷ text) =
-    elim (either (b == 48)) [
+    elim (cases_Bool (b == 48)) [
       | inl h ↦ omega (arith, length_by b text true h)
       | inr h ↦ omega (arith, length_by b text false h, digits_within 0 (b ∷ text))
     ]
@@ -146,7 +147,7 @@ date_decided : (text : Bytes) (m : ℕ) (more : Bytes) → date_length text < m 
 date_decided [] m more h l = absurd (omega arith)
 date_decided (b ∷ text) zero more h l = absurd (omega arith)
 date_decided (b ∷ text) (suc m) more h l =
-    elim (either (b == 48)) [
+    elim (cases_Bool (b == 48)) [
       | inl e ↦ length_by b (take m text ++ more) true e ∙ sym (length_by b text true e)
       | inr e ↦
           let same = digits_decided 0 (b ∷ text) (suc m) more (omega (arith, length_by b text false e, h)) l in
@@ -174,7 +175,7 @@ spelled b next text other h =
 date_whole : (text : Bytes) → nat_lt 0 (date_length text) ≡ true → IsField Date (take (date_length text) text)
 date_whole [] w = absurd (cc)
 date_whole (b ∷ text) w =
-    elim (either (b == 48)) [
+    elim (cases_Bool (b == 48)) [
       | inl h ↦ (0, (omega arith, ap (λ k. take k (b ∷ text)) (length_by b text true h) ∙ (ap (λ (x : ℕ). x ∷ []) (equal_by b 48 h) ∙ sym zero_written)))
       | inr h ↦ elim (none_or_next (next_value 0 b)) [
         | inl none ↦ absurd (omega (arith, positive _ w, length_by b text false h, counts 0 b text None none))

@@ -3,11 +3,12 @@ use Rattle.std.proofs.Common.{◌≡◌, ◌≢◌, ℕ, suc, zero, ◌+◌, ◌
 use Rattle.std.proofs.Math.Seq.{take-add}
 use Rattle.std.proofs.lemmas.List.{drop_at, take-append-drop}
 use Rattle.std.proofs.lemmas.Bool.Decides.{nat_tests}
+use Rattle.std.proofs.lemmas.Bool.{cases_Bool}
 use Rattle.ip_script.specs.declared.line.Fit.{Fit}
 use Rattle.ip_script.specs.declared.field.Field.{Field}
 use Rattle.ip_script.specs.declared.field.Field.TheVariants.{Path, Place, Hex, Name, Reference, Date, Author, Message}
 use Rattle.ip_script.specs.Fields.{field_length, is_whole_field, reach_fields, reach_from}
-use Rattle.ip_script.proofs.Prefix.{pick_true, pick_false, either, equal_by, length_taken}
+use Rattle.ip_script.proofs.Prefix.{pick_true, pick_false, equal_by, length_taken}
 use Rattle.ip_script.proofs.Values.{AreFields, IsForm}
 use Rattle.ip_script.proofs.FieldLaw.{FieldLaw, Ends, EndsWord}
 use Rattle.ip_script.proofs.RunLaw.{name_law, author_law, message_law}
@@ -183,9 +184,9 @@ fields_reach [] at (b ∷ text) o = record { k = 0; at_is = omega arith; high = 
     longest (suc m) h l more s = cc
 fields_reach (f ∷ fields) at [] o = record { k = 0; at_is = omega arith; high = omega arith; whole = λ h. absurd (cc); is_whole = λ s. absurd (cc s.4); begins = sample (f ∷ fields); longest = λ m h l more s. absurd (omega arith) }
 fields_reach (f ∷ fields) at (b ∷ text) o =
-    elim (either (b == 32)) [
+    elim (cases_Bool (b == 32)) [
       | inr other ↦ subst (Reaches (AreFields (f ∷ fields)) at (b ∷ text)) (sym (pick_false (b == 32) _ _ other)) (stuck f fields at b text (not_space b other))
-      | inl space ↦ subst (Reaches (AreFields (f ∷ fields)) at (b ∷ text)) (sym (pick_true (b == 32) _ _ space)) (elim (either (is_whole_field f text (field_length f text))) [
+      | inl space ↦ subst (Reaches (AreFields (f ∷ fields)) at (b ∷ text)) (sym (pick_true (b == 32) _ _ space)) (elim (cases_Bool (is_whole_field f text (field_length f text))) [
         | inr part ↦ subst (Reaches (AreFields (f ∷ fields)) at (b ∷ text)) (sym (pick_false (is_whole_field f text (field_length f text)) _ _ part)) (short_field f fields at b text o (equal_by b 32 space) part)
         | inl is ↦ subst (Reaches (AreFields (f ∷ fields)) at (b ∷ text)) (sym (pick_true (is_whole_field f text (field_length f text)) _ _ is)) (next_field f fields at b text _ o (equal_by b 32 space) is (fields_reach fields (at + 1 + field_length f text) (drop (field_length f text) text) (ordered_rest f fields o)))
       ])
@@ -256,7 +257,7 @@ word_reach (w ∷ word) fields at [] o = record {
   longest = λ m h l more s. absurd (omega arith);
 }
 word_reach (w ∷ word) fields at (b ∷ text) o =
-    elim (either (nat_eq w b)) [
+    elim (cases_Bool (nat_eq w b)) [
       | inr other ↦ subst (Reaches (IsForm (w ∷ word) fields) at (b ∷ text)) (sym (pick_false (nat_eq w b) _ _ other)) (off_word w word fields at b text (unequal_bytes w b other))
       | inl same ↦ subst (Reaches (IsForm (w ∷ word) fields) at (b ∷ text)) (sym (pick_true (nat_eq w b) _ _ same)) (on_word w word fields at b text _ (equal_bytes w b same) (word_reach word fields (at + 1) text o))
     ]

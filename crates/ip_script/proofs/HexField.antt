@@ -3,11 +3,12 @@ use Rattle.std.proofs.Common.{◌≡◌, ◌⊎◌, inl, inr, ℕ, suc, zero, �
 use Rattle.std.specs.List.{list_all, prefix_len}
 use Rattle.std.proofs.lemmas.List.Folds.{list_all-append}
 use Rattle.std.proofs.lemmas.Bool.Decides.{nat_tests}
+use Rattle.std.proofs.lemmas.Bool.{cases_Bool, and_from}
 use Rattle.hex.specs.Hex.{is_hex_digit}
 use Rattle.ip_spec.specs.Path.{Bytes}
 use Rattle.ip_script.specs.declared.field.Field.TheVariants.{Hex}
 use Rattle.ip_script.specs.Fields.{field_length, is_whole_field}
-use Rattle.ip_script.proofs.Prefix.{either, prefix_within, prefix_stops, prefix_decided, all_in_prefix, Stops, and_parts, both_true, positive, positive_test, equal_by, length_taken, no_more, none_or_some}
+use Rattle.ip_script.proofs.Prefix.{prefix_within, prefix_stops, prefix_decided, all_in_prefix, Stops, and_parts, positive, positive_test, equal_by, length_taken, no_more, none_or_some}
 use Rattle.ip_script.proofs.Values.{IsField}
 use Rattle.ip_script.proofs.FieldLaw.{FieldLaw, EndsWord}
 use Rattle.ip_script.proofs.HexLaw.{ArePairs, hex_of, field_of_hex, contents_read}
@@ -21,7 +22,7 @@ hex_whole b text n d h = ap (λ e. e || (nat_lt 0 n && n % 2 == 0)) h
 within : (text : Bytes) → field_length Hex text ≤ length text
 within [] = omega arith
 within (b ∷ text) =
-    elim (either (b == 45)) [
+    elim (cases_Bool (b == 45)) [
       | inl h ↦ omega (arith, hex_step b text true h)
       | inr h ↦ omega (arith, hex_step b text false h, prefix_within is_hex_digit (b ∷ text))
     ]
@@ -29,7 +30,7 @@ within (b ∷ text) =
 whole : (text : Bytes) → is_whole_field Hex text (field_length Hex text) ≡ true → IsField Hex (take (field_length Hex text) text)
 whole [] w = absurd (cc)
 whole (b ∷ text) w =
-    elim (either (b == 45)) [
+    elim (cases_Bool (b == 45)) [
       | inl h ↦ hex_of _ (inl (ap (λ n. take n (b ∷ text)) (hex_step b text true h) ∙ ap (λ (x : ℕ). x ∷ []) (equal_by b 45 h)))
       | inr h ↦
           let n = field_length Hex (b ∷ text) in
@@ -45,7 +46,7 @@ stops (x ∷ rest) h = ap is_hex_digit h
 
 no_dash : (b : ℕ) → is_hex_digit b ≡ true → (b == 45) ≡ false
 no_dash b h =
-    elim (either (b == 45)) [
+    elim (cases_Bool (b == 45)) [
       | inl e ↦ absurd (dash_no_digit (sym (ap is_hex_digit (equal_by b 45 e)) ∙ h))
       | inr e ↦ e
     ]
@@ -63,13 +64,13 @@ taken (b ∷ value) rest (inr pairs) e =
     let other : (b == 45) ≡ false = no_dash b (and_parts (is_hex_digit b) (list_all is_hex_digit value) pairs.each).0 in
     let n : field_length Hex (b ∷ (value ++ rest)) ≡ length (b ∷ value) = hex_step b (value ++ rest) false other ∙ prefix_stops is_hex_digit (b ∷ value) rest pairs.each (stops rest e) in
     let k = field_length Hex (b ∷ (value ++ rest)) in
-    (n, hex_whole b (value ++ rest) k false other ∙ both_true _ _ (positive_test k (omega (arith, n))) (zero_test (k % 2) (ap (λ j. j % 2) n ∙ pairs.even)))
+    (n, hex_whole b (value ++ rest) k false other ∙ and_from _ _ (positive_test k (omega (arith, n))) (zero_test (k % 2) (ap (λ j. j % 2) n ∙ pairs.even)))
 
 decided : (text : Bytes) (m : ℕ) (more : Bytes) → field_length Hex text < m → m ≤ length text → (field_length Hex (take m text ++ more) ≡ field_length Hex text) × (is_whole_field Hex (take m text ++ more) (field_length Hex text) ≡ is_whole_field Hex text (field_length Hex text))
 decided [] m more h l = absurd (omega arith)
 decided (b ∷ text) zero more h l = absurd (omega arith)
 decided (b ∷ text) (suc m) more h l =
-    elim (either (b == 45)) [
+    elim (cases_Bool (b == 45)) [
       | inl e ↦ (hex_step b (take m text ++ more) true e ∙ sym (hex_step b text true e), refl)
       | inr e ↦
           let same = prefix_decided is_hex_digit (b ∷ text) (suc m) (suc m) more (omega (arith, hex_step b text false e, h)) l in
@@ -85,7 +86,7 @@ begins [] = (45 ∷ [], hex_of _ (inl refl))
 begins (b ∷ text) =
     let n = field_length Hex (b ∷ text) in
     let long : length (take n (b ∷ text)) ≡ n = length_taken n (b ∷ text) (within (b ∷ text)) in
-    elim (either (b == 45)) [
+    elim (cases_Bool (b == 45)) [
       | inl dash ↦ ([], hex_of _ (inl (no_more (take n (b ∷ text)) ∙ (ap (λ k. take k (b ∷ text)) (hex_step b text true dash) ∙ ap (λ (x : ℕ). x ∷ []) (equal_by b 45 dash)))))
       | inr other ↦
           let digits : IsTrue (list_all is_hex_digit (take n (b ∷ text))) = all_in_prefix is_hex_digit (b ∷ text) n (omega (arith, hex_step b text false other)) in

@@ -3,13 +3,14 @@ use Rattle.std.proofs.Common.{◌≡◌, ◌⊎◌, inl, inr, ℕ, ◌+◌, ◌*
 use Rattle.std.specs.List.{list_all}
 use Rattle.std.specs.Result.{result_unwrap_or}
 use Rattle.std.proofs.lemmas.List.Sums.{AllPass-from_list_all}
+use Rattle.std.proofs.lemmas.Bool.{and_from}
 use Rattle.hex.specs.Hex.{hex_digit_value, is_hex_digit, digit_or_error, value_at, ◌>>=◌, pair_value, decode_pairs, decode_of}
 use Rattle.hex.specs.declared.error.FromHexError.{FromHexError}
 use Rattle.hex.proofs.HexLemmas.{decode_of-even, decode_of-digits, decode_of-ok}
 use Rattle.ip_spec.specs.Path.{Bytes}
 use Rattle.ip_spec.specs.Line.{IsHexDigit, IsHexPairs, IsHexText}
 use Rattle.ip_script.specs.Words.{contents_of}
-use Rattle.ip_script.proofs.Prefix.{lt_or_ge, both_true}
+use Rattle.ip_script.proofs.Prefix.{lt_or_ge}
 
 -- one or more pairs of digits
 pub record ArePairs (text : Bytes) : Type 0 where
@@ -116,7 +117,7 @@ pairs_of (b ∷ bytes) [] p = absurd p
 pairs_of (b ∷ bytes) (c ∷ []) p = absurd p
 pairs_of (b ∷ bytes) (c ∷ d ∷ text) (high, low, p) =
     let rest = pairs_of bytes text p in
-    (omega (arith, rest.0), both_true (is_hex_digit c) _ (is_digit (b / 16) c high) (both_true (is_hex_digit d) _ (is_digit (b % 16) d low) rest.1))
+    (omega (arith, rest.0), and_from (is_hex_digit c) _ (is_digit (b / 16) c high) (and_from (is_hex_digit d) _ (is_digit (b % 16) d low) rest.1))
 
 pub field_of_hex : (bytes text : Bytes) → IsHexText bytes text → (text ≡ codes "-") ⊎ ArePairs text
 field_of_hex [] text e = inl e

@@ -4,12 +4,13 @@ use Rattle.std.specs.Prelude.{All}
 use Rattle.std.proofs.lemmas.Bool.Decides.{nat_tests}
 use Rattle.std.proofs.lemmas.List.{get_or_append_left, get_or-take, get_or-append-add}
 use Rattle.std.proofs.lemmas.List.Elements.{All-cons, All-nil, All-head, All-tail, All-get_or}
+use Rattle.std.proofs.lemmas.Bool.{cases_Bool}
 use Rattle.ip_base.specs.PathText.{slash, IsStep, IsPath, path_text}
 use Rattle.ip_spec.specs.Path.{Bytes}
 use Rattle.ip_script.specs.declared.field.Field.TheVariants.{Path}
 use Rattle.ip_script.specs.declared.field.Open.{Open}
 use Rattle.ip_script.specs.Fields.{is_step_byte, with_byte, path_on, path_length, ends_in_step}
-use Rattle.ip_script.proofs.Prefix.{either, none_or_some, length_taken, positive_test}
+use Rattle.ip_script.proofs.Prefix.{none_or_some, length_taken, positive_test}
 use Rattle.ip_script.proofs.Values.{IsField}
 use Rattle.ip_script.proofs.FieldLaw.{FieldLaw, EndsWord}
 use Rattle.ip_script.proofs.PathWords.{IsOfStep, text_with, path_says}
@@ -54,9 +55,9 @@ chosen o b s t h g = ap (λ (x : Bool). choose o x (is_step_byte b && nat_lt o.s
 kinds : (o : Open) (b : ℕ) → IsSlash o b ⊎ (IsByte o b ⊎ (with_byte o b ≡ None))
 unfolding choose
 kinds o b =
-    elim (either (b == 47 && (nat_lt 0 o.size && nat_lt o.steps 63))) [
+    elim (cases_Bool (b == 47 && (nat_lt 0 o.size && nat_lt o.steps 63))) [
       | inl h ↦ let is = slash_test o b h in inl (is.0, is.1, is.2, chosen o b true (is_step_byte b && nat_lt o.size 255) h refl)
-      | inr h ↦ elim (either (is_step_byte b && nat_lt o.size 255)) [
+      | inr h ↦ elim (cases_Bool (is_step_byte b && nat_lt o.size 255)) [
         | inl g ↦ let is = byte_test o b g in inr (inl (of_step b is.0, is.1, chosen o b false true h g))
         | inr g ↦ inr (inr (chosen o b false false h g))
       ]

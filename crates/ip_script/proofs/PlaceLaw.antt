@@ -1,11 +1,12 @@
 -- The field of a place: a path, or `/` for the root.
 use Rattle.std.proofs.Common.{◌≡◌, ◌⊎◌, inl, inr, ℕ, suc, zero, ◌<◌, ◌≤◌, Bool, true, false, ◌||◌, ◌==◌, List, [], ◌∷◌, ◌++◌, length, take, refl, sym, ap, ◌∙◌, subst, arith, if◌then◌else◌}
+use Rattle.std.proofs.lemmas.Bool.{cases_Bool}
 use Rattle.ip_spec.specs.Path.{Bytes}
 use Rattle.ip_spec.specs.Line.{IsPlaceText}
 use Rattle.ip_script.specs.declared.field.Field.TheVariants.{Path, Place}
 use Rattle.ip_script.specs.Fields.{path_length, ends_in_step, field_length, is_whole_field}
 use Rattle.ip_script.specs.Words.{path_at, place_at}
-use Rattle.ip_script.proofs.Prefix.{either, pick_false, equal_by}
+use Rattle.ip_script.proofs.Prefix.{pick_false, equal_by}
 use Rattle.ip_script.proofs.Values.{IsField}
 use Rattle.ip_script.proofs.FieldLaw.{FieldLaw, EndsWord}
 use Rattle.ip_script.proofs.PathLaw.{path_law}
@@ -32,7 +33,7 @@ kinds text (step ∷ path, is) = inr (step ∷ path, is)
 -- a path does not begin with a slash
 no_slash : (b : ℕ) (word : Bytes) → IsField Path (b ∷ word) → (b == 47) ≡ false
 no_slash b word is =
-    elim (either (b == 47)) [
+    elim (cases_Bool (b == 47)) [
       | inl h ↦
           let t = path_law.taken (b ∷ word) [] is tt in
           let none : path_length (b ∷ (word ++ [])) ≡ 0 = ap (λ (x : ℕ). path_length (x ∷ (word ++ []))) (equal_by b 47 h) in
@@ -53,7 +54,7 @@ one (step ∷ path) text is = path_law.one (step ∷ path) text is ∙ as_path t
 within : (text : Bytes) → field_length Place text ≤ length text
 within [] = omega arith
 within (b ∷ text) =
-    elim (either (b == 47)) [
+    elim (cases_Bool (b == 47)) [
       | inl h ↦ omega (arith, length_by b text true h)
       | inr h ↦ omega (arith, length_by b text false h, path_law.within (b ∷ text))
     ]
@@ -61,7 +62,7 @@ within (b ∷ text) =
 whole : (text : Bytes) → is_whole_field Place text (field_length Place text) ≡ true → IsField Place (take (field_length Place text) text)
 whole [] w = absurd (cc)
 whole (b ∷ text) w =
-    elim (either (b == 47)) [
+    elim (cases_Bool (b == 47)) [
       | inl h ↦ subst (λ (k : ℕ). IsField Place (take k (b ∷ text))) (sym (length_by b text true h)) (subst (λ (x : ℕ). IsField Place (x ∷ [])) (sym (equal_by b 47 h)) root)
       | inr h ↦
           let same = length_by b text false h in
@@ -95,7 +96,7 @@ decided : (text : Bytes) (m : ℕ) (more : Bytes) → field_length Place text < 
 decided [] m more h l = absurd (omega arith)
 decided (b ∷ text) zero more h l = absurd (omega arith)
 decided (b ∷ text) (suc m) more h l =
-    elim (either (b == 47)) [
+    elim (cases_Bool (b == 47)) [
       | inl e ↦ (
         length_by b (take m text ++ more) true e ∙ sym (length_by b text true e),
         whole_by b (take m text ++ more) (field_length Place (b ∷ text)) true e ∙ sym (whole_by b text (field_length Place (b ∷ text)) true e),
@@ -111,7 +112,7 @@ decided (b ∷ text) (suc m) more h l =
 begins : (text : Bytes) → (more : Bytes) × IsField Place (take (field_length Place text) text ++ more)
 begins [] = (47 ∷ [], root)
 begins (b ∷ text) =
-    elim (either (b == 47)) [
+    elim (cases_Bool (b == 47)) [
       | inl h ↦ ([], subst (λ (k : ℕ). IsField Place (take k (b ∷ text) ++ [])) (sym (length_by b text true h)) (subst (λ (x : ℕ). IsField Place (x ∷ [])) (sym (equal_by b 47 h)) root))
       | inr h ↦
           let more = path_law.begins (b ∷ text) in

@@ -3,16 +3,13 @@ use Rattle.std.proofs.Common.{◌≡◌, ◌⊎◌, inl, inr, ℕ, suc, zero, �
 use Rattle.std.specs.List.{list_all, prefix_len}
 use Rattle.std.proofs.lemmas.List.{length-take}
 use Rattle.std.proofs.lemmas.Bool.Decides.{nat_tests}
+use Rattle.std.proofs.lemmas.Bool.{cases_Bool}
 
 pub pick_true : {A : Type 0} (b : Bool) (x y : A) → b ≡ true → cond b x y ≡ x
 pick_true b x y h = ap (λ b. cond b x y) h
 
 pub pick_false : {A : Type 0} (b : Bool) (x y : A) → b ≡ false → cond b x y ≡ y
 pick_false b x y h = ap (λ b. cond b x y) h
-
-pub either : (b : Bool) → (b ≡ true) ⊎ (b ≡ false)
-either true = inl refl
-either false = inr refl
 
 -- ---- the bytes in front that pass a test
 
@@ -22,7 +19,7 @@ len_step p x xs b h = ap (λ b. cond b (1 + prefix_len p xs) 0) h
 pub prefix_within : (p : ℕ → Bool) (xs : List ℕ) → prefix_len p xs ≤ length xs
 prefix_within p [] = omega arith
 prefix_within p (x ∷ xs) =
-    elim (either (p x)) [
+    elim (cases_Bool (p x)) [
       | inl h ↦ omega (arith, len_step p x xs true h, prefix_within p xs)
       | inr h ↦ omega (arith, len_step p x xs false h)
     ]
@@ -47,7 +44,7 @@ pub all_in_prefix : (p : ℕ → Bool) (xs : List ℕ) (n : ℕ) → n ≤ prefi
 all_in_prefix p xs zero h = refl
 all_in_prefix p [] (suc n) h = refl
 all_in_prefix p (x ∷ xs) (suc n) h =
-    elim (either (p x)) [
+    elim (cases_Bool (p x)) [
       | inl e ↦ ap (λ b. b && list_all p (take n xs)) e ∙ all_in_prefix p xs n (omega (arith, len_step p x xs true e))
       | inr e ↦ absurd (omega (arith, len_step p x xs false e))
     ]
@@ -58,15 +55,12 @@ prefix_decided p xs k zero more h l = absurd (omega arith)
 prefix_decided p [] k (suc m) more h l = absurd (omega arith)
 prefix_decided p (x ∷ xs) zero (suc m) more h l = omega arith
 prefix_decided p (x ∷ xs) (suc k) (suc m) more h l =
-    elim (either (p x)) [
+    elim (cases_Bool (p x)) [
       | inl e ↦ omega (arith, len_step p x xs true e, len_step p x (take m xs ++ more) true e, prefix_decided p xs k m more (omega (arith, len_step p x xs true e)) (omega arith))
       | inr e ↦ omega (arith, len_step p x xs false e, len_step p x (take m xs ++ more) false e)
     ]
 
 -- ---- tests
-
-pub both_true : (a b : Bool) → a ≡ true → b ≡ true → (a && b) ≡ true
-both_true a b h k = cc
 
 pub lt_or_ge : (m n : ℕ) → (m < n) ⊎ (n ≤ m)
 lt_or_ge m n = elim (tested (nat_le n m) refl) [ inl h ↦ inr (grind (arith, nat_tests)) | inr h ↦ inl (grind (arith, nat_tests)) ]

@@ -4,6 +4,7 @@ use Rattle.std.specs.List.{list_any}
 use Rattle.std.specs.Ordering.{ord_max, nat_cmp}
 use Rattle.std.proofs.lemmas.Bool.Decides.{nat_tests}
 use Rattle.std.proofs.lemmas.List.Folds.{list_any-append}
+use Rattle.std.proofs.lemmas.Bool.{cases_Bool}
 use Rattle.ip_spec.specs.Path.{Bytes, same_bytes}
 use Rattle.ip_spec.specs.declared.command.Command.{Command}
 use Rattle.ip_spec.specs.Line.{Begins, IsBadAt}
@@ -14,7 +15,7 @@ use Rattle.ip_script.specs.declared.line.Fit.{Fit}
 use Rattle.ip_script.specs.declared.line.TheConstants.{FORMS}
 use Rattle.ip_script.specs.Fields.{reach}
 use Rattle.ip_script.specs.Forms.{word_of, fields_of, command_at}
-use Rattle.ip_script.proofs.Prefix.{either, lt_or_ge}
+use Rattle.ip_script.proofs.Prefix.{lt_or_ge}
 use Rattle.ip_script.proofs.Values.{AreFields, IsOf}
 use Rattle.ip_script.proofs.FormLaw.{Reaches, word_reach}
 use Rattle.ip_script.proofs.LineLaw.{said_by, command_in, form_in, ordered}
@@ -99,7 +100,7 @@ pub whole_is : (form : Form) (line : Bytes) (fit : Fit) → fit ≡ reach (word_
 whole_is form line fit e w = (reached form line fit e).whole w
 
 max_either : (a b : ℕ) → (max a b ≡ a) ⊎ (max a b ≡ b)
-max_either a b = elim (either (nat_le a b)) [ inl h ↦ inr (larger a b h) | inr h ↦ inl (smaller a b h) ]
+max_either a b = elim (cases_Bool (nat_le a b)) [ inl h ↦ inr (larger a b h) | inr h ↦ inl (smaller a b h) ]
   where
     larger : (a b : ℕ) → nat_le a b ≡ true → max a b ≡ b
     larger a b h = grind (arith, nat_tests)
@@ -163,7 +164,7 @@ each_line line = from (length FORMS) 0 0 refl (tried_none line)
     from (suc left) i most e t =
         let form = form_at i in
         let fit = reach (word_of form) (fields_of form) line in
-        elim (either fit.whole) [
+        elim (cases_Bool fit.whole) [
           | inl whole ↦ inl (said_by form line, command_in form line (whole_is form line fit refl whole))
           | inr part ↦ from left (i + 1) (ord_max nat_cmp most fit.at) (omega (arith, e)) (tried_more line i most (ord_max nat_cmp most fit.at) form fit t refl refl part refl)
         ]

@@ -7,6 +7,7 @@ use Rattle.std.proofs.lemmas.List.{length-replicate}
 use Rattle.std.proofs.lemmas.List.Elements.{All-cons, All-nil, All-replicate}
 use Rattle.std.proofs.lemmas.List.Sums.{AllPass-from_list_all, list_all-from_AllPass}
 use Rattle.std.proofs.lemmas.List.Folds.{list_all-append}
+use Rattle.std.proofs.lemmas.Bool.{cases_Bool}
 use Rattle.hex.specs.Hex.{is_hex_digit, decode_of, decode_sized, decode_pairs}
 use Rattle.hex.specs.declared.error.FromHexError.{FromHexError}
 use Rattle.hex.specs.declared.error.FromHexError.TheVariants.{OddLength, InvalidStringLength}
@@ -18,7 +19,7 @@ use Rattle.ip_spec.specs.Line.{IsHexDigit, IsHexPairs, IsHexText, IsTargetText}
 use Rattle.ip_script.specs.declared.field.Field.TheVariants.{Name, Reference}
 use Rattle.ip_script.specs.Fields.{is_word_byte, field_length, is_whole_field}
 use Rattle.ip_script.specs.Words.{hash_of, target_of}
-use Rattle.ip_script.proofs.Prefix.{either, prefix_within, prefix_stops, prefix_decided, all_in_prefix, equal_by, length_taken}
+use Rattle.ip_script.proofs.Prefix.{prefix_within, prefix_stops, prefix_decided, all_in_prefix, equal_by, length_taken}
 use Rattle.ip_script.proofs.Values.{IsField}
 use Rattle.ip_script.proofs.FieldLaw.{FieldLaw, EndsWord}
 use Rattle.ip_script.proofs.RunLaw.{name_law, name_length}
@@ -91,7 +92,7 @@ name_field text (name, is) = (Target.Branch name, is)
 name_says : (name : Bytes) → IsBranchName name → target_of name ≡ Target.Branch name
 name_says [] is = refl
 name_says (b ∷ name) is =
-    elim (either (b == 64)) [
+    elim (cases_Bool (b == 64)) [
       | inl h ↦ absurd (is.no_reference (ap Some (equal_by b 64 h)))
       | inr h ↦ ap (λ (d : Bool). if d then Target.Commit (hash_of name) else Target.Branch (b ∷ name)) h
     ]
@@ -115,7 +116,7 @@ as_name b text h = length_by b text false h ∙ sym (name_length b text false h)
 within : (text : Bytes) → field_length Reference text ≤ length text
 within [] = omega arith
 within (b ∷ text) =
-    elim (either (b == 64)) [
+    elim (cases_Bool (b == 64)) [
       | inl h ↦ omega (arith, length_by b text true h, prefix_within is_hex_digit text)
       | inr h ↦ omega (arith, as_name b text h, name_law.within (b ∷ text))
     ]
@@ -127,7 +128,7 @@ whole : (text : Bytes) → is_whole_field Reference text (field_length Reference
 whole [] w = absurd (cc)
 whole (b ∷ text) w =
     let n = field_length Reference (b ∷ text) in
-    elim (either (b == 64)) [
+    elim (cases_Bool (b == 64)) [
       | inl h ↦
           let all : n ≡ 65 = equal_by n 65 (sym (whole_by b text n true h) ∙ w) in
           let long : 64 ≤ prefix_len is_hex_digit text = omega (arith, all, length_by b text true h) in
@@ -143,7 +144,7 @@ whole (b ∷ text) w =
 -- a name does not begin as a commit's name does
 not_at : (b : ℕ) (word : Bytes) → IsField Name (b ∷ word) → (b == 64) ≡ false
 not_at b word (name, (is, e)) =
-    elim (either (b == 64)) [
+    elim (cases_Bool (b == 64)) [
       | inl h ↦ absurd ((subst IsBranchName (sym e) is).no_reference (ap Some (equal_by b 64 h)))
       | inr h ↦ h
     ]
@@ -178,7 +179,7 @@ decided : (text : Bytes) (m : ℕ) (more : Bytes) → field_length Reference tex
 decided [] m more h l = absurd (omega arith)
 decided (b ∷ text) zero more h l = absurd (omega arith)
 decided (b ∷ text) (suc m) more h l =
-    elim (either (b == 64)) [
+    elim (cases_Bool (b == 64)) [
       | inl e ↦
           let same = prefix_decided is_hex_digit text 64 m more (omega (arith, length_by b text true e, h)) (omega (arith, l)) in
           (length_by b (take m text ++ more) true e ∙ (ap (λ (k : ℕ). 1 + k) same ∙ sym (length_by b text true e)), refl)
@@ -200,7 +201,7 @@ filled digits n left few each = record {
 begins : (text : Bytes) → (more : Bytes) × IsField Reference (take (field_length Reference text) text ++ more)
 begins [] = let name = name_law.begins [] in (name.0, name_field name.0 name.1)
 begins (b ∷ text) =
-    elim (either (b == 64)) [
+    elim (cases_Bool (b == 64)) [
       | inl h ↦
           let k = min 64 (prefix_len is_hex_digit text) in
           let fits = prefix_within is_hex_digit text in

@@ -4,6 +4,7 @@ use Rattle.std.specs.Prelude.{All, slice_get}
 use Rattle.std.specs.List.{list_all, prefix_len}
 use Rattle.std.proofs.lemmas.Bool.Decides.{nat_tests}
 use Rattle.std.proofs.lemmas.List.Sums.{AllPass-from_list_all, list_all-from_AllPass}
+use Rattle.std.proofs.lemmas.Bool.{cases_Bool}
 use Rattle.ip_base.specs.PathText.{IsWordByte}
 use Rattle.ip_spec.specs.Path.{Bytes}
 use Rattle.ip_spec.specs.Record.{IsBranchName}
@@ -11,7 +12,7 @@ use Rattle.ip_script.specs.declared.field.Field.{Field}
 use Rattle.ip_script.specs.declared.field.Field.TheVariants.{Name, Author, Message}
 use Rattle.ip_script.specs.Fields.{is_message_byte, is_word_byte, field_length}
 use Rattle.ip_script.proofs.Values.{IsField}
-use Rattle.ip_script.proofs.Prefix.{either, prefix_within, prefix_stops, prefix_decided, all_in_prefix, Stops, positive, positive_test, equal_by, length_taken, no_more, none_or_some}
+use Rattle.ip_script.proofs.Prefix.{prefix_within, prefix_stops, prefix_decided, all_in_prefix, Stops, positive, positive_test, equal_by, length_taken, no_more, none_or_some}
 use Rattle.ip_script.proofs.FieldLaw.{FieldLaw, EndsWord}
 
 -- one or more bytes that pass the test
@@ -138,7 +139,7 @@ name_whole : (text : Bytes) → nat_lt 0 (field_length Name text) ≡ true → I
 name_whole [] w = absurd (cc)
 name_whole (b ∷ text) w =
     let some = positive (field_length Name (b ∷ text)) w in
-    elim (either (b == 64)) [
+    elim (cases_Bool (b == 64)) [
       | inl h ↦ absurd (omega (arith, some, name_length b text true h))
       | inr h ↦
           let n = min 255 (prefix_len is_word_byte (b ∷ text)) in
@@ -150,7 +151,7 @@ name_whole (b ∷ text) w =
 name_within : (text : Bytes) → field_length Name text ≤ length text
 name_within [] = omega arith
 name_within (b ∷ text) =
-    elim (either (b == 64)) [
+    elim (cases_Bool (b == 64)) [
       | inl h ↦ omega (arith, name_length b text true h)
       | inr h ↦ omega (arith, name_length b text false h, run_within is_word_byte 255 (b ∷ text))
     ]
@@ -161,7 +162,7 @@ field_name text (name, (is, e)) = subst IsBranchName (sym e) is
 name_taken : (word rest : Bytes) → IsBranchName word → EndsWord rest → (field_length Name (word ++ rest) ≡ length word) × (nat_lt 0 (field_length Name (word ++ rest)) ≡ true)
 name_taken [] rest is ends = absurd (omega (arith, is.some))
 name_taken (b ∷ word) rest is ends =
-    elim (either (b == 64)) [
+    elim (cases_Bool (b == 64)) [
       | inl h ↦ absurd (is.no_reference (ap Some (equal_by b 64 h)))
       | inr h ↦
           let run = run_taken is_word_byte 255 (b ∷ word) rest (record { some = is.some; short = is.short; each = words_pass (b ∷ word) is.each }) (word_stops is_word_byte refl rest ends) in
@@ -173,7 +174,7 @@ name_decided : (text : Bytes) (m : ℕ) (more : Bytes) → field_length Name tex
 name_decided [] m more h l = absurd (omega arith)
 name_decided (b ∷ text) zero more h l = absurd (omega arith)
 name_decided (b ∷ text) (suc m) more h l =
-    elim (either (b == 64)) [
+    elim (cases_Bool (b == 64)) [
       | inl e ↦ name_length b (take m text ++ more) true e ∙ sym (name_length b text true e)
       | inr e ↦
           let same = prefix_decided is_word_byte (b ∷ text) 255 (suc m) more (omega (arith, name_length b text false e, h)) l in

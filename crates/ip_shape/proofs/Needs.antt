@@ -2,7 +2,7 @@
 use Rattle.std.proofs.Common.{◌≡◌, ◌≢◌, ◌<◌, ◌-◌, ◌+◌, ℕ, suc, Bool, true, false, List, [], ◌∷◌, ◌++◌, length, sym, ap, ◌∙◌, refl, arith, Option, Some, None, inl, inr, ◌⊎◌, reverse}
 use Rattle.std.specs.Prelude.{cond, ◌==◌, ◌&&◌, ◌||◌, is_some, is_none, option_and_then, option_map, slice_get, Vec}
 use Rattle.std.specs.Global.{Global}
-use Rattle.std.proofs.lemmas.Bool.{false≢true, eq-eqb, ne_eqb, eqb-true}
+use Rattle.std.proofs.lemmas.Bool.{false≢true, eq-eqb, ne_eqb, eqb-true, and_parts}
 use Rattle.std.proofs.lemmas.List.{reverse-append}
 use Rattle.ip_spec.specs.Path.{Step}
 use Rattle.ip_spec.specs.Shape.{place, deepest}
@@ -22,10 +22,6 @@ under_map k j (Some front) is = elim (k == j) as (λ c. is_some (cond c (behind 
 not_here : (k : ℕ) (o : Option (List ℕ)) → is_under (option_map (λ front. k ∷ front) o) [] ≡ false
 not_here k None = refl
 not_here k (Some front) = refl
-
-both : (a b : Bool) → (a && b) ≡ true → (a ≡ true) × (b ≡ true)
-both true b e = (refl, e)
-both false b e = absurd (false≢true e)
 
 pub turned : (xs new : List ℕ) (i : ℕ) → new ≡ xs ++ i ∷ [] → reverse new ≡ i ∷ reverse xs
 turned xs new i e = ap reverse e ∙ reverse-append xs (i ∷ [])
@@ -63,7 +59,7 @@ module _ {R : Type 0} where
     pub none_to_join : IsToJoin join child None → IsToJoin (option_map (λ front. i ∷ front) join) part None
     none_to_join none [] r under e = false≢true (sym (not_here i join) ∙ under)
     none_to_join none (j ∷ w) r under e =
-        let two = both (i == j) (is_under join w) (sym (under_map i j join w) ∙ under) in
+        let two = and_parts (i == j) (is_under join w) (sym (under_map i j join w) ∙ under) in
         none w r two.1 (into_child known n parts i w r part child is read (ap (λ k. unread_in (k ∷ w) part) (eqb-true i j two.0) ∙ e))
 
     at_child : (w : List ℕ) → unread_in (i ∷ w) part ≡ unread_in w child
@@ -86,7 +82,7 @@ module _ {R : Type 0} where
     λ is r needed e. elim (or_either (is_under (Some is) (way_to s)) (has s steps && is_under (join_of deepest 0 s steps) is) needed) [
       | inl on ↦ false≢true (sym (cut_off is (way_to s) r root e on) ∙ ap is_none none)
       | inr below ↦
-          let two = both (has s steps) (is_under (join_of deepest 0 s steps) is) below in
+          let two = and_parts (has s steps) (is_under (join_of deepest 0 s steps) is) below in
           join two.0 is r two.1 e
     ],
   )

@@ -9,11 +9,12 @@ use Rattle.std.proofs.lemmas.List.{take_at}
 use Rattle.std.proofs.lemmas.Nat.{from_le_bytes-to_le_bytes_4}
 use Rattle.std.proofs.Math.Nat.{pow-le-pow_right, one-le-pow}
 use Rattle.std.specs.Int.{w8, w16, w32, w64}
+use Rattle.std.proofs.lemmas.Bool.{and_from}
 use Rattle.ip_spec.specs.Path.{Bytes, bytes_cmp, IsWordByte, is_word_byte}
 use Rattle.ip_spec.specs.Record.{Record, Names, name_set, name_remove, name_table, Branch, body, spelling, kind_of, Fits, LeafEntry, IsLeafEntry, InodeChild, IsInodeChild, IsInode, bitmap, child_spelling, CommitRecord, IsCommitRecord, Parent, Info, IsInfo, info_spelling, IsHash, IsU64, IsBranchName, IsTable, short_text, long_text, u8, u16, u32, u64, contents_limit}
 use Rattle.ip_spec.specs.Reading.{Fields, ◌>>=◌, done, bytes_where, number_where, text_field, is_behind, is_name, begins_with_at, is_author, is_message, hash_field, any, child_field, child_fields, inode_fields, parent_fields, info_fields, commit_fields, set_fields, remove_fields, row_fields, table_fields, leaf_fields, fields_of, reading, RecordFault, known, whole, body_of, bits_of}
 use Rattle.ip_spec.proofs.BitmapLaws.{Within, added, bits_of_sum}
-use Rattle.ip_spec.proofs.ReadingLaws.{Reads, reads_as, reads_done, reads_then, reads_last, reads_bytes, reads_u8, reads_u16, reads_u32, reads_u64, reads_text, reads_leaf, Behind, both, test_all, apart, neither, negated, word_byte, le_test, lt_test}
+use Rattle.ip_spec.proofs.ReadingLaws.{Reads, reads_as, reads_done, reads_then, reads_last, reads_bytes, reads_u8, reads_u16, reads_u32, reads_u64, reads_text, reads_leaf, Behind, test_all, apart, neither, negated, word_byte, le_test, lt_test}
 
 -- ---- children of inodes
 
@@ -127,7 +128,7 @@ at_test [] n = refl
 at_test (b ∷ t) n = apart b 64 (λ e. n (ap Some e))
 
 name_test : (t : Bytes) → IsBranchName t → is_name t ≡ true
-name_test t is = both (list_all is_word_byte t) (not (begins_with_at t)) (test_all IsWordByte is_word_byte word_byte t is.each) (negated (begins_with_at t) (at_test t is.no_reference))
+name_test t is = and_from (list_all is_word_byte t) (not (begins_with_at t)) (test_all IsWordByte is_word_byte word_byte t is.each) (negated (begins_with_at t) (at_test t is.no_reference))
 
 abbrev pub s_number : Names → ℕ → Fields Record
 s_number names number = text_field is_name None >>= λ name. done (name_set names number name)
@@ -200,7 +201,7 @@ message_test t a = test_all (λ b. (b < 256) × (b ≢ 10) × (b ≢ 0)) (λ b. 
 reads_info : (i : Info) → IsInfo i → Reads info_fields (info_spelling i) i
 reads_info i is =
     let at_length : Reads (from_length i.date i.author (length i.message)) i.message i = reads_last (bytes_where (length i.message) is_message) (λ message. record { date = i.date; author = i.author; message = message }) i.message i.message (reads_bytes (length i.message) is_message i.message refl (message_test i.message is.message)) in
-    let at_author : Reads (from_author i.date i.author) (long_text i.message) i = reads_then (number_where w16 (λ n. nat_lt 0 n && nat_le n 4096)) (from_length i.date i.author) (u16 (length i.message)) i.message (length i.message) i (reads_u16 (λ n. nat_lt 0 n && nat_le n 4096) (length i.message) (let s = is.message_short in omega (arith, s)) (both (nat_lt 0 (length i.message)) (nat_le (length i.message) 4096) (lt_test 0 (length i.message) is.message_some) (le_test (length i.message) 4096 is.message_short))) at_length in
+    let at_author : Reads (from_author i.date i.author) (long_text i.message) i = reads_then (number_where w16 (λ n. nat_lt 0 n && nat_le n 4096)) (from_length i.date i.author) (u16 (length i.message)) i.message (length i.message) i (reads_u16 (λ n. nat_lt 0 n && nat_le n 4096) (length i.message) (let s = is.message_short in omega (arith, s)) (and_from (nat_lt 0 (length i.message)) (nat_le (length i.message) 4096) (lt_test 0 (length i.message) is.message_some) (le_test (length i.message) 4096 is.message_short))) at_length in
     let at_date : Reads (from_date i.date) (short_text i.author ++ long_text i.message) i = reads_then (text_field is_author None) (from_author i.date) (short_text i.author) (long_text i.message) i.author i (reads_text is_author None i.author is.author_some (test_all IsWordByte is_word_byte word_byte i.author is.author) refl) at_author in
     reads_as info_fields (u64 i.date ++ (short_text i.author ++ long_text i.message)) (info_spelling i) i (sym (append_assoc (u64 i.date) (short_text i.author) (long_text i.message)))
     (reads_then (number_where w64 any) from_date (u64 i.date) (short_text i.author ++ long_text i.message) i.date i (reads_u64 any i.date is.date refl) at_date)
@@ -355,14 +356,14 @@ exact_by v k r rest f kind is_known fits small has gives =
     ∙ ap (λ n. Ok (r, n)) (five (length (body r)))
 
 known_low : (v k : ℕ) → 0 < k → k ≤ 7 → known v k ≡ true
-known_low v k low high = both (nat_lt 0 k) _ (lt_test 0 k low) (by (nat_le 2 v))
+known_low v k low high = and_from (nat_lt 0 k) _ (lt_test 0 k low) (by (nat_le 2 v))
   where
     by : (b : Bool) → nat_le k (if b then 10 else 7) ≡ true
     by true = le_test k 10 (omega (arith, high))
     by false = le_test k 7 high
 
 known_high : (v k : ℕ) → 0 < k → k ≤ 10 → 2 ≤ v → known v k ≡ true
-known_high v k low high two = both (nat_lt 0 k) _ (lt_test 0 k low) (ap (λ b. nat_le k (if b then 10 else 7)) (le_test 2 v two) ∙ le_test k 10 high)
+known_high v k low high two = and_from (nat_lt 0 k) _ (lt_test 0 k low) (ap (λ b. nat_le k (if b then 10 else 7)) (le_test 2 v two) ∙ le_test k 10 high)
 
 -- What is spelled is read, whatever follows.
 pub reading_exact : (v : ℕ) (r : Record) (rest : Bytes) → Fits v r → reading v (spelling r ++ rest) ≡ Ok (r, length (spelling r))

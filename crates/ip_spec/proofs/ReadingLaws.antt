@@ -6,6 +6,7 @@ use Rattle.std.proofs.lemmas.List.Elements.{recursion_from_All}
 use Rattle.std.proofs.lemmas.List.{take_at, drop_at}
 use Rattle.std.proofs.lemmas.Nat.{from_le_bytes-to_le_bytes_2, from_le_bytes-to_le_bytes_4, from_le_bytes-to_le_bytes_8}
 use Rattle.std.specs.Int.{Width, w8, w16, w32, w64, byte_len, from_le_bytes, to_le_bytes}
+use Rattle.std.proofs.lemmas.Bool.{and_from}
 use Rattle.ip_spec.specs.Path.{Bytes, IsWordByte, IsStep, is_word_byte}
 use Rattle.ip_spec.specs.Record.{Record, body, LeafEntry, IsLeafEntry, entry_spelling, short_text, u8, u16, u32, u64}
 use Rattle.ip_spec.specs.Reading.{after, Fields, Left, ◌>>=◌, done, bytes_where, number_where, text_field, is_behind, is_name, is_step, hash_field, any, entry_field, entry_fields, leaf_fields}
@@ -48,14 +49,10 @@ fits t rest n l = le_test n (length (t ++ rest)) (let e = length_both t rest in 
     le_test : (m n : ℕ) → m ≤ n → nat_le m n ≡ true
     le_test m n h = grind arith
 
-pub both : (c d : Bool) → c ≡ true → d ≡ true → (c && d) ≡ true
-both true d h g = g
-both false d h g = h
-
 pub reads_bytes : (n : ℕ) (test : Bytes → Bool) (t : Bytes) → length t ≡ n → test t ≡ true → Reads (bytes_where n test) t t
 reads_bytes n test t l pass at rest =
     let head : take n (t ++ rest) ≡ t = take_at t rest n l in
-    let passes : (nat_le n (length (t ++ rest)) && test (take n (t ++ rest))) ≡ true = both _ _ (fits t rest n l) (ap test head ∙ pass) in
+    let passes : (nat_le n (length (t ++ rest)) && test (take n (t ++ rest))) ≡ true = and_from _ _ (fits t rest n l) (ap test head ∙ pass) in
     λ i. taken at (passes i) (head i) (sym l i) (drop_at t rest n l i)
 
 pub reads_number : (w : Width) (test : ℕ → Bool) (n : ℕ) → length (to_le_bytes w n) ≡ byte_len w → from_le_bytes w (to_le_bytes w n) ≡ n → test n ≡ true → Reads (number_where w test) (to_le_bytes w n) n
@@ -79,7 +76,7 @@ reads_u64 test n l pass = reads_number w64 test n refl (from_le_bytes-to_le_byte
 pub reads_text : (test : Bytes → Bool) (before : Option Bytes) (t : Bytes) → 0 < length t → test t ≡ true → is_behind before t ≡ true → Reads (text_field test before) (short_text t) t
 reads_text test before t some pass behind =
     reads_then (number_where w8 (λ n. nat_lt 0 n)) (λ n. bytes_where n (λ bytes. test bytes && is_behind before bytes)) (u8 (length t)) t (length t) t
-    (reads_u8 (λ n. nat_lt 0 n) (length t) (lt_test (length t) some)) (reads_bytes (length t) (λ bytes. test bytes && is_behind before bytes) t refl (both (test t) (is_behind before t) pass behind))
+    (reads_u8 (λ n. nat_lt 0 n) (length t) (lt_test (length t) some)) (reads_bytes (length t) (λ bytes. test bytes && is_behind before bytes) t refl (and_from (test t) (is_behind before t) pass behind))
   where
     lt_test : (n : ℕ) → 0 < n → nat_lt 0 n ≡ true
     lt_test n l = grind arith
@@ -92,7 +89,7 @@ reads_name t rest at some pass = reads_text is_name None t some pass refl at res
 
 pub all_test : {X : Type 0} (P : X → Type 0) (p : X → Bool) → ((x : X) → P x → p x ≡ true) → (xs : List X) → AllByRecursion P xs → list_all p xs ≡ true
 all_test P p h [] a = refl
-all_test P p h (x ∷ xs) a = both (p x) (list_all p xs) (h x a.0) (all_test P p h xs a.1)
+all_test P p h (x ∷ xs) a = and_from (p x) (list_all p xs) (h x a.0) (all_test P p h xs a.1)
 
 pub test_all : {X : Type 0} (P : X → Type 0) (p : X → Bool) → ((x : X) → P x → p x ≡ true) → (xs : List X) → All P xs → list_all p xs ≡ true
 test_all P p h xs a = all_test P p h xs (recursion_from_All P xs a)
@@ -112,7 +109,7 @@ pub word_byte : (b : ℕ) → IsWordByte b → is_word_byte b ≡ true
 word_byte b w = negated (b == 32 || b == 10 || b == 0) (neither (b == 32 || b == 10) (b == 0) (neither (b == 32) (b == 10) (apart b 32 w.1) (apart b 10 w.2)) (apart b 0 w.3))
 
 step_test : (s : Bytes) → IsStep s → is_step s ≡ true
-step_test s is = test_all (λ b. IsWordByte b × (b ≢ 47)) (λ b. is_word_byte b && not (b == 47)) (λ b w. both (is_word_byte b) (not (b == 47)) (word_byte b w.0) (negated (b == 47) (apart b 47 w.1))) s is.each
+step_test s is = test_all (λ b. IsWordByte b × (b ≢ 47)) (λ b. is_word_byte b && not (b == 47)) (λ b w. and_from (is_word_byte b) (not (b == 47)) (word_byte b w.0) (negated (b == 47) (apart b 47 w.1))) s is.each
 
 pub le_test : (m n : ℕ) → m ≤ n → nat_le m n ≡ true
 le_test m n l = grind arith

@@ -13,6 +13,7 @@ use Rattle.std.specs.FinMap.Entries.{find, where_key}
 use Rattle.std.proofs.lemmas.Bool.Decides.{nat_tests}
 use Rattle.std.proofs.lemmas.List.Elements.{recursion_from_All, All-from_recursion}
 use Rattle.std.proofs.lemmas.Map.Views.{All-found}
+use Rattle.std.proofs.lemmas.Bool.{and_from}
 use Rattle.ip_spec.specs.Map.{Map, empty, get, insert, remove, retain_keys, len, from_entries, entries-insert, same_entries_map}
 use Rattle.ip_spec.specs.Path.{Bytes, bytes_cmp}
 use Rattle.ip_store.specs.Entries.{step_cmp, branches_of}
@@ -58,10 +59,6 @@ split : (a b : Bool) → (a && b) ≡ true → (a ≡ true) × (b ≡ true)
 split true b e = (refl, e)
 split false b e = absurd (cc (e))
 
-both_true : (a b : Bool) → a ≡ true → b ≡ true → (a && b) ≡ true
-both_true true b e f = f
-both_true false b e f = absurd (cc (e))
-
 module _ (low high : ℕ) where
   all_named : (es : Pairs ℕ) → list_all (is_within low high) (values_of es) ≡ true → (name : Bytes) → IfSome (find bytes_cmp name (told es)) (IsWithin low high)
   all_named [] all name = tt
@@ -77,7 +74,7 @@ module _ (low high : ℕ) where
   all_valued m all [] found = refl
   all_valued m all (e ∷ es) (f, fs) =
       let at : find bytes_cmp e.0.items (told m.entries) ≡ Some e.1 = sym (find_in e.0.items m.entries) ∙ f in
-      both_true _ _ (test_within low high e.1 (subst (λ (o : Option ℕ). IfSome o (IsWithin low high)) at (all e.0.items))) (all_valued m all es fs)
+      and_from _ _ (test_within low high e.1 (subst (λ (o : Option ℕ). IfSome o (IsWithin low high)) at (all e.0.items))) (all_valued m all es fs)
 
 -- ---- the functions of branches, over what is kept
 
