@@ -1,6 +1,5 @@
 // How a call of the program ends.
 ghost use Rattle.std.specs.Prelude.{◌≡◌, ◌++◌, ◌∷◌, OnOk, OnErr};
-ghost use Rattle.std.specs.Fmt.{decimal};
 ghost use Rattle.ip_spec.specs.Path.{space};
 ghost use Rattle.hex.specs.Hex.{encode_lower};
 ghost use Rattle.ip_host.specs.Names.{file_text};
@@ -9,7 +8,7 @@ ghost use Rattle.ip_app.specs.Statuses.{code_of, names_text, status_line};
 use ip_base::{Hash, Memory};
 use ip_ground::FileName;
 use ip_host::file_name;
-use itoa::Buffer;
+use ip_script::put_number;
 
 /// What a source has too much of.
 #[derive(Clone, Copy, Debug, PartialEq, Eq)]
@@ -95,13 +94,6 @@ impl Status {
         };
         Ok(out.extend_from_slice(text)?)
     }
-}
-
-fn put_number(n: u64, out: &mut Vec<u8>) -> Result<(), Memory>
-    ensures { OnOk result (out.new.items ≡ out.old.items ++ decimal n) }
-{
-    let mut buffer = Buffer::new();
-    Ok(out.extend_from_slice(buffer.format(n).as_bytes())?)
 }
 
 fn put_file(file: FileName, out: &mut Vec<u8>) -> Result<(), Memory>

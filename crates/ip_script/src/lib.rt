@@ -13,5 +13,5 @@ mod words;
 pub use ip_spec::command::{Command, LineFault, Target};
 pub use ip_spec::reply::Reply;
 pub use line::{grammar, read_line};
-pub use reply::reply_text;
+pub use reply::{put_number, reply_text};
 pub use source::{Bytes, Source, SourceCounts, SourceFault};

@@ -49,7 +49,8 @@ fn put_value(bytes: &[u8], out: &mut Vec<u8>) -> Result<(), Memory>
     }
 }
 
-fn put_number(n: u64, out: &mut Vec<u8>) -> Result<(), Memory>
+/// Writes a number in decimal digits at the end of a text. It takes no memory where they fit into what is spare.
+pub fn put_number(n: u64, out: &mut Vec<u8>) -> Result<(), Memory>
     ensures ok { OnOk result (out.new.items ≡ out.old.items ++ decimal n) }
     ensures room { OnErr result (vec_capacity out.old < vec_len out.old + length (decimal n)) }
     ensures capacity { vec_capacity out.old ≤ vec_capacity out.new }
