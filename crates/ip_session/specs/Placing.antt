@@ -50,12 +50,12 @@ pub record OfRecords (Appended : Records → ℕ → Type 0) (Says : (length com
   pub are : Appended more commits
   pub so : Says (length (bytes_of_records more)) commits
 
--- A place is below 2^62, and so is a sequence before a durable command: no other reply of the two limits comes, and none where they are kept.
+-- A place is at most the greatest offset, and so is a sequence before a durable command: no other reply of the two limits comes, and none where they are kept.
 pub record Placed (slot slot' : Slot) (Appended : Records → ℕ → Type 0) (command : Command) (reply : Reply) : Type 0 where
-  pub done : IsDurable reply command → OfRecords Appended (λ length commits. (slot' ≡ next_slot slot length commits) × (slot.end + length ≤ OFFSET_MAX) × (slot.sequence < 2 ^ 62))
+  pub done : IsDurable reply command → OfRecords Appended (λ length commits. (slot' ≡ next_slot slot length commits) × (slot.end + length ≤ OFFSET_MAX) × (slot.sequence < OFFSET_MAX))
   pub quiet : ¬ IsDurable reply command → slot' ≡ slot
   pub space : is_durable command ≡ true → reply ≡ Reply.Limit Limit.Space → OfRecords Appended (λ length commits. OFFSET_MAX < slot.end + length)
-  pub sequence : is_durable command ≡ true → reply ≡ Reply.Limit Limit.Sequence → OfRecords Appended (λ length commits. (slot.end + length ≤ OFFSET_MAX) × (slot.sequence ≡ 2 ^ 62))
+  pub sequence : is_durable command ≡ true → reply ≡ Reply.Limit Limit.Sequence → OfRecords Appended (λ length commits. (slot.end + length ≤ OFFSET_MAX) × (slot.sequence ≡ OFFSET_MAX))
 
 abbrev pub PlacedBy : Rule → Slot → Slot → State → View → Command → Reply → Type 0
 PlacedBy rule slot slot' s v command reply = Placed slot slot' (IsAppended rule slot s v command) command reply
