@@ -4,7 +4,7 @@
 --     OfRecords Appended Says      of some that it appends this is so, by how many bytes and how many commits they are
 --     Placed slot slot' Appended command reply      the slot before and after a command with this reply, by which records it appends
 --     PlacedBy rule slot slot' s v command reply, PlacedIn rule slot slot' s v line reply      so of a command, and of a line
-use Rattle.std.specs.Prelude.{◌≡◌, ℕ, Option, ◌+◌, ◌^◌, ◌<◌, ◌≤◌, true, length, [], ◌∷◌, Result, Ok, Err}
+use Rattle.std.specs.Prelude.{◌≡◌, ℕ, Option, ◌+◌, ◌<◌, ◌≤◌, true, length, [], ◌∷◌, Result, Ok, Err}
 use Rattle.ip_base.specs.declared.limit.TheConstants.{OFFSET_MAX}
 use Rattle.ip_base.specs.declared.limit.Limit.{Limit}
 use Rattle.ip_spec.specs.declared.command.Command.{Command}
@@ -50,7 +50,7 @@ pub record OfRecords (Appended : Records → ℕ → Type 0) (Says : (length com
   pub are : Appended more commits
   pub so : Says (length (bytes_of_records more)) commits
 
--- A place is at most the greatest offset, and so is a sequence before a durable command: no other reply of the two limits comes, and none where they are kept.
+-- A place is at most the greatest offset, and a sequence before a durable command is below it: no other reply of the two limits comes, and none where they are kept.
 pub record Placed (slot slot' : Slot) (Appended : Records → ℕ → Type 0) (command : Command) (reply : Reply) : Type 0 where
   pub done : IsDurable reply command → OfRecords Appended (λ length commits. (slot' ≡ next_slot slot length commits) × (slot.end + length ≤ OFFSET_MAX) × (slot.sequence < OFFSET_MAX))
   pub quiet : ¬ IsDurable reply command → slot' ≡ slot
