@@ -1,7 +1,6 @@
 pub mod Placing
 pub mod Basics
 pub mod Trees
-pub mod PartNames
 pub mod Children
 pub mod Parts
 pub mod Common

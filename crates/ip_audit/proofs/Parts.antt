@@ -15,7 +15,7 @@ use Rattle.ip_spec.specs.TreeAt.{EntryAt, EntriesAt, ChildrenAt, PartAt, content
 use Rattle.ip_audit.proofs.Basics.{no_true}
 use Rattle.ip_audit.specs.Memory.{Part, Kept, kept_contents, kept_part, Look, leaf_part, inode_part, kept_by, AtDepth}
 use Rattle.ip_audit.proofs.Trees.{In, top_from, AllSome}
-use Rattle.ip_audit.proofs.PartNames.{leaf_name, name_of_inode, true_name}
+use Rattle.ip_shape.proofs.PartNames.{leaf_name, name_of_inode, true_name}
 use Rattle.ip_audit.proofs.Children.{total, sum_total, size_of, counts, heights, entry_child, place_in}
 
 -- what is remembered below an offset is that of the records there

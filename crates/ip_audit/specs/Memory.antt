@@ -16,10 +16,11 @@ use Rattle.ip_spec.specs.declared.record.Record.{Record}
 use Rattle.ip_spec.specs.declared.record.CommitRecord.{CommitRecord}
 use Rattle.ip_spec.specs.declared.record.LeafEntry.{LeafEntry}
 use Rattle.ip_spec.specs.declared.record.InodeChild.{InodeChild}
-use Rattle.ip_spec.specs.Record.{Hash, hashed_commit, hashed_leaf, hashed_inode}
+use Rattle.ip_spec.specs.Record.{Hash, hashed_commit}
 use Rattle.ip_spec.specs.Shape.{place, leaf_limit, deepest}
 use Rattle.ip_spec.specs.TreeAt.{Records, present}
 use Rattle.ip_image.specs.declared.terms.Terms.{Terms}
+use Rattle.ip_shape.specs.PartNames.{inode_name, leaf_name}
 use Rattle.ip_spec.specs.Step.{entries_limit}
 use Rattle.ip_image.specs.Standing.{IsSomePart, IsEarlier, outside, commits_in}
 
@@ -65,7 +66,7 @@ leaf_part fields = record {
   depth = None;
   count = length fields;
   height = fold (λ n e. max n (suc e.height)) 0 fields;
-  name = sha256 (hashed_leaf (map (λ e. (e.step, (e.kind, e.name))) fields));
+  name = leaf_name fields;
   common = common_of (map (λ e. e.step) fields);
 }
 
@@ -84,7 +85,7 @@ inode_part look depth children = record {
   depth = Some depth;
   count = sum_by (λ c. c.count) children;
   height = fold (λ n c. max n c.height) 0 children;
-  name = sha256 (hashed_inode depth (map (λ c. (c.index, c.count, c.name)) children));
+  name = inode_name depth children;
   common = ways look depth children;
 }
 

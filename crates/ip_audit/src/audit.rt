@@ -12,11 +12,12 @@ ghost use Rattle.ip_audit.specs.declared.audit.AuditFault.TheVariants as AuditFa
 
 use crate::Names;
 use crate::kept::{DIRECTORY_ENTRIES, Kept, LEAF_ENTRIES, Part};
-use crate::measures::{counted, inode_height, leaf_height, leaf_places};
+use crate::measures::{counted, leaf_places};
 use crate::parents::{all_distinct, all_earlier, all_named};
 use ip_base::{Hash, Memory};
 use ip_image::terms::Terms;
 use ip_object::name_of_record;
+use ip_shape::height::{inode_height, leaf_height};
 use ip_shape::places::{DEEPEST, Places};
 use ip_spec::kind::{CONTENTS, DIRECTORY};
 use ip_spec::record::{CommitRecord, InodeChild, LeafEntry, Record};

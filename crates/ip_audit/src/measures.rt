@@ -1,9 +1,8 @@
 // What is remembered of a leaf and of an inode.
-ghost use Rattle.std.specs.Prelude.{◌≡◌, ◌≤◌, ◌<◌, ℕ, Some, IfSome, None, All, map, fold, max, suc, take, length};
+ghost use Rattle.std.specs.Prelude.{◌≡◌, ◌≤◌, ◌<◌, IfSome, None, map, take};
 ghost use Rattle.ip_base.specs.declared.limit.TheConstants.{ENTRIES_MAX};
 ghost use Rattle.ip_spec.specs.declared.record.InodeChild.{InodeChild};
 ghost use Rattle.ip_spec.specs.declared.record.LeafEntry.{LeafEntry};
-ghost use Rattle.ip_spec.specs.Record.{IsLeafEntry};
 ghost use Rattle.ip_audit.specs.Memory.{common_of, common_with};
 ghost use Rattle.ip_audit.specs.View.{counts_of, places_in};
 
@@ -12,33 +11,6 @@ use ip_base::{Blob, Step};
 use ip_shape::places::{DEEPEST, Places};
 use ip_spec::record::{InodeChild, LeafEntry};
 use std::alloc::Global;
-
-/// The height of a leaf.
-pub fn leaf_height(entries: &[LeafEntry]) -> u8
-    requires { All IsLeafEntry entries.now }
-    ensures { result ≡ fold (λ n (e : LeafEntry). max n (suc e.height)) 0 entries.now }
-{
-    let mut height = 0;
-    for entry in entries {
-        if entry.height >= height {
-            height = entry.height + 1;
-        }
-    }
-    height
-}
-
-/// The height of an inode.
-pub fn inode_height(children: &[InodeChild]) -> u8
-    ensures { result ≡ fold (λ n (c : InodeChild). max n c.height) 0 children.now }
-{
-    let mut height = 0;
-    for child in children {
-        if child.height > height {
-            height = child.height;
-        }
-    }
-    height
-}
 
 /// How many entries the children of an inode have by their counts, or None where that is more than the format allows.
 pub fn counted(children: &[InodeChild]) -> Option<u64>

@@ -34,9 +34,10 @@ use Rattle.ip_tree.specs.Meaning.{SpellsPart, steps_of}
 use Rattle.ip_tree.specs.declared.node.Stored.{Stored}
 use Rattle.ip_tree.proofs.Indexes.{no_some, some_same}
 use Rattle.ip_tree.proofs.PartEntries.{found_at, ordered_steps}
-use Rattle.ip_tree.proofs.PartNames.{leaf_name, name_of_inode, true_name}
+use Rattle.ip_shape.proofs.PartNames.{leaf_name, name_of_inode, true_name}
 use Rattle.ip_tree.proofs.PartWays.{inode_test}
-use Rattle.ip_save.specs.Laid.{Laid, LaidRow, behind_inode, behind_leaf, child_for, count_of, field_for, height_above, height_over, in_front, lay_children, lay_new, lay_nothing, lay_part, lay_steps, raised, record_in, record_of}
+use Rattle.ip_save.specs.Laid.{Laid, LaidRow, behind_inode, behind_leaf, child_for, count_of, field_for, in_front, lay_children, lay_new, lay_nothing, lay_part, lay_steps, record_in, record_of}
+use Rattle.ip_shape.specs.Heights.{inode_height, leaf_height, raised}
 use Rattle.ip_save.proofs.Laying.{known_laid, last_laid, new_laid}
 use Rattle.ip_save.proofs.Tallest.{highest, height_is_highest, tallest, tallest_is_highest}
 
@@ -154,7 +155,7 @@ module _ (child : Step → ℕ → Laid) (f : ℕ → Entries) (one : ℕ × Ent
   record RowAgrees (i : ℕ) (cs : List (Part Stored)) (at : ℕ) : Type 0 where
     row : spell_children one (suc depth) (among f i (length cs)) at ≡ row_by (lay_children child deeper i cs at)
     pairs : map child_told (lay_children child deeper i cs at).fields ≡ map (true_name depth) (among f i (length cs))
-    high : height_over (lay_children child deeper i cs at).fields ≡ tallest f i (length cs)
+    high : inode_height (lay_children child deeper i cs at).fields ≡ tallest f i (length cs)
 
   -- one that is empty is absent
   empty_row : (i : ℕ) (c : Part Stored) (cs : List (Part Stored)) (at : ℕ) → nat_lt 0 (length (f i)) ≡ false → ChildAgrees i c → RowAgrees (suc i) cs at → RowAgrees i (c ∷ cs) at
@@ -167,7 +168,7 @@ module _ (child : Step → ℕ → Laid) (f : ℕ → Entries) (one : ℕ × Ent
       record {
         row = ap (λ (xs : List (ℕ × Entries)). spell_children one (suc depth) xs at) told ∙ rest.row ∙ ap row_by (sym laid);
         pairs = ap (λ (r : LaidRow InodeChild). map child_told r.fields) laid ∙ rest.pairs ∙ ap (map (true_name depth)) (sym told);
-        high = ap (λ (r : LaidRow InodeChild). height_over r.fields) laid ∙ rest.high ∙ (let all : tallest f (suc i) (length cs) ≡ max (highest (f i)) (tallest f (suc i) (length cs)) = omega (arith, low) in all);
+        high = ap (λ (r : LaidRow InodeChild). inode_height r.fields) laid ∙ rest.high ∙ (let all : tallest f (suc i) (length cs) ≡ max (highest (f i)) (tallest f (suc i) (length cs)) = omega (arith, low) in all);
       }
 
   some_row : (i : ℕ) (c : Part Stored) (cs : List (Part Stored)) (at : ℕ) → nat_lt 0 (length (f i)) ≡ true → ChildAgrees i c → RowAgrees (suc i) cs (deeper c at).next → RowAgrees i (c ∷ cs) at
@@ -194,8 +195,8 @@ module _ (child : Step → ℕ → Laid) (f : ℕ → Entries) (one : ℕ × Ent
             ∙ ap (λ (y : ℕ × ℕ × Hash). y ∷ map child_told (lay_children child deeper (suc i) cs x.next).fields) pair
             ∙ ap (λ (l : List (ℕ × ℕ × Hash)). true_name depth (i, f i) ∷ l) rest.pairs
             ∙ ap (map (true_name depth)) (sym told);
-        high = ap (λ (r : LaidRow InodeChild). height_over r.fields) laid
-            ∙ ap (λ (n : ℕ). max n (height_over (lay_children child deeper (suc i) cs x.next).fields)) high
+        high = ap (λ (r : LaidRow InodeChild). inode_height r.fields) laid
+            ∙ ap (λ (n : ℕ). max n (inode_height (lay_children child deeper (suc i) cs x.next).fields)) high
             ∙ ap (max (highest (f i))) rest.high;
       }
 
@@ -235,14 +236,14 @@ module _ (v : View) (offset : Path → ℕ) (deeper : Path → Tree → ℕ → 
       let names = (each.0.0 at).1 in
       (λ i. (e.0, names.child i) ∷ map field_pair (lay_steps child (steps_of es) x.next).fields) ∙ ap (λ l. tree_pair e ∷ l) (pairs_agree es each.1 x.next)
 
-  heights_agree : (es : Entries) → AllByRecursion AgreesLow es → (at : ℕ) → height_above (lay_steps child (steps_of es) at).fields ≡ highest es
+  heights_agree : (es : Entries) → AllByRecursion AgreesLow es → (at : ℕ) → leaf_height (lay_steps child (steps_of es) at).fields ≡ highest es
   heights_agree [] each at = refl
   heights_agree (e ∷ es) each at =
       let x = child e.0 at in
       let same = (each.0.0 at).1.high in
       let low = each.0.1 in
       let one : raised x.stands.height ≡ suc (height e.1) = omega (arith, same, low) in
-      ap (λ n. max n (height_above (lay_steps child (steps_of es) x.next).fields)) one ∙ ap (max (suc (height e.1))) (heights_agree es each.1 x.next)
+      ap (λ n. max n (leaf_height (lay_steps child (steps_of es) x.next).fields)) one ∙ ap (max (suc (height e.1))) (heights_agree es each.1 x.next)
 
   -- ---- one part
 

@@ -22,7 +22,8 @@ use Rattle.ip_tree.specs.Node.{Node, Nodes, stored, contents, directory, none, f
 use Rattle.ip_tree.specs.declared.node.Stored.{Stored}
 use Rattle.ip_save.specs.declared.batch.SaveFault.{SaveFault}
 use Rattle.ip_save.specs.declared.batch.SaveFault.TheVariants.{Limit, Memory}
-use Rattle.ip_save.specs.Laid.{AllFit, IsCause, IsHighFault, IsLaid, IsLayFault, IsRow, IsRowFault, Laid, LaidRow, behind, behind_bytes, behind_inode, behind_leaf, bytes_of, child_for, count_of, field_for, fresh, height_above, height_over, in_front, known_or, lay, lay_at, lay_children, lay_layer, lay_new, lay_nothing, lay_part, lay_steps, new_inode, new_leaf, no_row, raised, record_of, size_of, there}
+use Rattle.ip_save.specs.Laid.{AllFit, IsCause, IsHighFault, IsLaid, IsLayFault, IsRow, IsRowFault, Laid, LaidRow, behind, behind_bytes, behind_inode, behind_leaf, bytes_of, child_for, count_of, field_for, fresh, in_front, known_or, lay, lay_at, lay_children, lay_layer, lay_new, lay_nothing, lay_part, lay_steps, new_inode, new_leaf, no_row, record_of, size_of, there}
+use Rattle.ip_shape.specs.Heights.{inode_height, leaf_height, raised}
 
 -- ---- bytes of records
 
@@ -195,30 +196,30 @@ cause_up b h c k (Limit Sequence) bc hk is = is
 cause_up b h c k (Limit Attempt) bc hk is = is
 cause_up b h c k Memory bc hk is = is
 
-above_at : (row : List LeafEntry) (e : LeafEntry) (more : List LeafEntry) → raised e.height ≤ height_above (row ++ e ∷ more)
+above_at : (row : List LeafEntry) (e : LeafEntry) (more : List LeafEntry) → raised e.height ≤ leaf_height (row ++ e ∷ more)
 above_at [] e more = omega arith
 above_at (x ∷ row) e more = let l = above_at row e more in omega arith
 
-over_at : (row : List InodeChild) (c : InodeChild) (more : List InodeChild) → c.height ≤ height_over (row ++ c ∷ more)
+over_at : (row : List InodeChild) (c : InodeChild) (more : List InodeChild) → c.height ≤ inode_height (row ++ c ∷ more)
 over_at [] c more = omega arith
 over_at (x ∷ row) c more = let l = over_at row c more in omega arith
 
 -- one thing of a leaf, and of an inode, gives the cause of all
 pub entry_cause : (breadth end : ℕ) (s : Step) (one : ℕ → Laid) (later all : ℕ → LaidRow LeafEntry) (out before : Bytes) (row : List LeafEntry) → RowsOn end (first_of one (field_for s) later) all out before row → (f : SaveFault)
-    → IsLayFault breadth end one out f → IsRowFault height_above breadth end all before f
+    → IsLayFault breadth end one out f → IsRowFault leaf_height breadth end all before f
 entry_cause breadth end s one later all out before row now f is =
     let x = one (behind_bytes end out) in
-    let low : raised x.stands.height ≤ height_above (all (behind_bytes end before)).fields =
-    subst (λ (l : List LeafEntry). raised x.stands.height ≤ height_above l) now.fields (above_at row (field_for s x.stands) (later x.next).fields) in
-    cause_up breadth x.stands.height breadth (height_above (all (behind_bytes end before)).fields) f (omega arith) (λ high. omega (arith, high, low)) is
+    let low : raised x.stands.height ≤ leaf_height (all (behind_bytes end before)).fields =
+    subst (λ (l : List LeafEntry). raised x.stands.height ≤ leaf_height l) now.fields (above_at row (field_for s x.stands) (later x.next).fields) in
+    cause_up breadth x.stands.height breadth (leaf_height (all (behind_bytes end before)).fields) f (omega arith) (λ high. omega (arith, high, low)) is
 
 pub child_cause : (breadth end i n : ℕ) (one : ℕ → Laid) (later all : ℕ → LaidRow InodeChild) (out before : Bytes) (row : List InodeChild) → RowsOn end (first_of one (child_for i n) later) all out before row → (f : SaveFault)
-    → IsLayFault breadth end one out f → IsRowFault height_over breadth end all before f
+    → IsLayFault breadth end one out f → IsRowFault inode_height breadth end all before f
 child_cause breadth end i n one later all out before row now f is =
     let x = one (behind_bytes end out) in
-    let low : x.stands.height ≤ height_over (all (behind_bytes end before)).fields =
-    subst (λ (l : List InodeChild). x.stands.height ≤ height_over l) now.fields (over_at row (child_for i n x.stands) (later x.next).fields) in
-    cause_up breadth x.stands.height breadth (height_over (all (behind_bytes end before)).fields) f (omega arith) (λ high. omega (arith, high, low)) is
+    let low : x.stands.height ≤ inode_height (all (behind_bytes end before)).fields =
+    subst (λ (l : List InodeChild). x.stands.height ≤ inode_height l) now.fields (over_at row (child_for i n x.stands) (later x.next).fields) in
+    cause_up breadth x.stands.height breadth (inode_height (all (behind_bytes end before)).fields) f (omega arith) (λ high. omega (arith, high, low)) is
 
 -- ---- the record behind a row
 

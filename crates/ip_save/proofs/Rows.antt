@@ -19,7 +19,8 @@ use Rattle.ip_shape.specs.declared.part.Part.TheViews as view
 use Rattle.ip_shape.specs.declared.part.Part.TheOpen as open_part
 use Rattle.ip_tree.specs.declared.node.Stored.{Stored}
 use Rattle.ip_save.specs.declared.batch.SaveFault.{SaveFault}
-use Rattle.ip_save.specs.Laid.{AllFit, IsLaid, IsLayFault, IsRow, IsRowFault, Laid, LaidRow, behind_bytes, behind_inode, behind_leaf, bytes_of, child_for, count_of, field_for, height_above, height_over, in_front, lay_children, lay_new, lay_nothing, lay_part, lay_steps, record_of}
+use Rattle.ip_save.specs.Laid.{AllFit, IsLaid, IsLayFault, IsRow, IsRowFault, Laid, LaidRow, behind_bytes, behind_inode, behind_leaf, bytes_of, child_for, count_of, field_for, in_front, lay_children, lay_new, lay_nothing, lay_part, lay_steps, record_of}
+use Rattle.ip_shape.specs.Heights.{inode_height, leaf_height}
 use Rattle.ip_save.proofs.Laying.{Ends, RowsOn, cause_up, child_cause, entry_cause, first_of, last_laid, new_laid, rows_last, rows_more}
 
 pub drop_first : {A : Type 0} (xs : List A) (i : ℕ) (x : A) → i < length xs → x ≡ get_or xs i x → drop i xs ≡ x ∷ drop (i + 1) xs
@@ -76,7 +77,7 @@ module _ (end : ℕ) (child : Step → ℕ → Laid) (each : (s : Step) → Ends
     pub step_more : (after : Bytes) (x : Stored) → IsLaid end (child s) out after x → (longer : List LeafEntry) → longer ≡ row ++ field_for s x ∷ [] → RowsOn end later all after before longer
     step_more after x laid longer pushed = rows_more end (child s) (each s) (field_for s) later all out before row step_on after x laid longer pushed
 
-    pub step_cause : (breadth : ℕ) (f : SaveFault) → IsLayFault breadth end (child s) out f → IsRowFault height_above breadth end all before f
+    pub step_cause : (breadth : ℕ) (f : SaveFault) → IsLayFault breadth end (child s) out f → IsRowFault leaf_height breadth end all before f
     step_cause breadth f fault = entry_cause breadth end s (child s) later all out before row step_on f fault
 
 -- ---- children
@@ -131,7 +132,7 @@ module _ (end : ℕ) (child : Step → ℕ → Laid) (deeper : Part Stored → �
             subst (λ (o : Bytes). RowsOn end rest all o before longer) (sym stays.1) (subst (λ (l : List InodeChild). RowsOn end rest all out before l) (sym (same stays.0)) (absent_on none))
         by false e = let some = eqb-false (count_of c) 0 e in put_one after stored longer some (laid some) added
 
-    pub child_failed : (breadth : ℕ) (f : SaveFault) → (count_of c ≡ 0 → ⊥) → (count_of c ≢ 0 → IsLayFault breadth end (deeper c) out f) → IsRowFault height_over breadth end all before f
+    pub child_failed : (breadth : ℕ) (f : SaveFault) → (count_of c ≡ 0 → ⊥) → (count_of c ≢ 0 → IsLayFault breadth end (deeper c) out f) → IsRowFault inode_height breadth end all before f
     child_failed breadth f some fault = child_cause breadth end i (count_of c) (deeper c) rest all out before row (some_on some) f (fault some)
 
 -- ---- parts of the code

@@ -2,14 +2,13 @@
 --     fresh n      the new contents, in the order of their paths.      contents_bytes bs      the bytes of their records.      size_of bs      how many these are
 --     longest n      the greatest length of the new contents.      breadth n      the most entries of a directory that was loaded
 --     count_of part      how many entries a part has.      record_of part      the record that spells it, where one is known
---     raised h      a height one step further up, where 255 stands for all above.      height_above, height_over      of a leaf, and of an inode
 --     lay n from at      the records of the directories that are to be written, from the offset `at` on, where the new contents below the node lie from `from` on
 --     lay_at ns from s at      of the node at a step, where those below the first node lie from `from` on.      start_in ns from s      where those at the step begin
 --     lay_part child levels depth part at      of a part, where `child` lays what stands at a step
 --     fresh_root, longest_root, breadth_root, lay_root      of a root
 --     AreStarts ns from starts, IsReady dir from table end      a table of where the new contents of each entry begin
 --     IsLaid, IsRow, IsLaidRoot      what the walk over directories does.      IsCause l b h fault      a limit only where one of the three is passed
-use Rattle.std.specs.Prelude.{◌≡◌, ℕ, zero, suc, ◌+◌, ◌<◌, ◌≤◌, ◌^◌, ◌==◌, cond, max, min, List, [], ◌∷◌, ◌++◌, length, map, flat_map, Option, Some, None}
+use Rattle.std.specs.Prelude.{◌≡◌, ℕ, zero, suc, ◌+◌, ◌<◌, ◌≤◌, ◌^◌, ◌==◌, cond, max, List, [], ◌∷◌, ◌++◌, length, map, flat_map, Option, Some, None}
 use Rattle.std.specs.List.{AllByRecursion}
 use Rattle.sha2.specs.Sha256.{sha256}
 use Rattle.ip_base.specs.declared.limit.TheConstants.{OFFSET_MAX}
@@ -19,10 +18,12 @@ use Rattle.ip_spec.specs.declared.record.Record.{Record}
 use Rattle.ip_spec.specs.declared.record.LeafEntry.{LeafEntry}
 use Rattle.ip_spec.specs.declared.record.InodeChild.{InodeChild}
 use Rattle.ip_spec.specs.declared.record.Ref.{Ref}
-use Rattle.ip_spec.specs.Record.{Hash, Fits, spelling, spelling_of, hashed_leaf, hashed_inode}
+use Rattle.ip_spec.specs.Record.{Hash, Fits, spelling, spelling_of}
 use Rattle.ip_spec.specs.Shape.{deepest}
 use Rattle.ip_spec.specs.Step.{contents_limit, entries_limit, steps_limit}
 use Rattle.ip_spec.specs.TreeAt.{Records}
+use Rattle.ip_shape.specs.Heights.{inode_height, leaf_height}
+use Rattle.ip_shape.specs.PartNames.{inode_name, leaf_name}
 use Rattle.ip_shape.specs.Shape.{AreSteps, count_in}
 use Rattle.ip_shape.specs.declared.dir.Dir.{Dir}
 use Rattle.ip_shape.specs.declared.part.Part.{Part, out-Part}
@@ -108,23 +109,6 @@ field_for s x = record { step = s; kind = x.reference.kind; height = x.height; n
 abbrev pub child_for : ℕ → ℕ → Stored → InodeChild
 child_for i n x = record { index = i; count = n; height = x.height; name = x.reference.name; at = x.reference.at }
 
-abbrev pub raised : ℕ → ℕ
-raised h = min 255 (h + 1)
-
-abbrev pub height_above : List LeafEntry → ℕ
-height_above [] = 0
-height_above (e ∷ es) = max (raised e.height) (height_above es)
-
-abbrev pub height_over : List InodeChild → ℕ
-height_over [] = 0
-height_over (c ∷ cs) = max c.height (height_over cs)
-
-abbrev pub leaf_name : List LeafEntry → Hash
-leaf_name fields = sha256 (hashed_leaf (map (λ e. (e.step, (e.kind, e.name))) fields))
-
-abbrev pub inode_name : ℕ → List InodeChild → Hash
-inode_name depth fields = sha256 (hashed_inode depth (map (λ c. (c.index, c.count, c.name)) fields))
-
 -- contents whose record lies there
 abbrev pub contents_at : Bytes → ℕ → Stored
 contents_at bytes at = record { reference = record { at = at; name = sha256 bytes; kind = 1 }; height = 0 }
@@ -134,10 +118,10 @@ abbrev pub part_at : ℕ → Hash → ℕ → Stored
 part_at height name at = record { reference = record { at = at; name = name; kind = 2 }; height = height }
 
 abbrev pub new_leaf : List LeafEntry → ℕ → Stored
-new_leaf fields at = part_at (height_above fields) (leaf_name fields) at
+new_leaf fields at = part_at (leaf_height fields) (leaf_name fields) at
 
 abbrev pub new_inode : ℕ → List InodeChild → ℕ → Stored
-new_inode depth fields at = part_at (height_over fields) (inode_name depth fields) at
+new_inode depth fields at = part_at (inode_height fields) (inode_name depth fields) at
 
 -- what a record spells is only referred to
 abbrev pub there : Stored → ℕ → Laid

@@ -1,13 +1,15 @@
 // The children of an inode, and whether they may stand in its record.
 ghost use Rattle.std.specs.Prelude.{◌≡◌, ◌++◌, ◌≤◌, ◌<◌, [], ◌∷◌, ℕ, map, All, IsTrue, IfNone, IfOk, IfSome, None, OnOk, Some};
 ghost use Rattle.std.specs.List.Sorted.{IsStrictlyIncreasing};
-ghost use Rattle.ip_save.specs.Laid.{IsHighFault, child_for, height_over};
+ghost use Rattle.ip_save.specs.Laid.{IsHighFault, child_for};
+ghost use Rattle.ip_shape.specs.Heights.{inode_height};
 ghost use Rattle.ip_spec.specs.Record.{Fits, IsInodeChild};
 ghost use Rattle.ip_spec.specs.declared.record.Record.TheVariants as Record;
 ghost use Rattle.ip_tree.specs.declared.node.Stored.{Stored as TheStored};
 
 use crate::SaveFault;
 use ip_base::{Limit, Memory, see_name};
+use ip_shape::height::inode_height;
 use ip_spec::record::{InodeChild, InodeChildren};
 use ip_tree::Stored;
 
@@ -23,9 +25,9 @@ const HEIGHT_MAX: u8 = 64;
 /// Why these may not be the children of an inode at a depth. A tree that is read or made by edits gives no cause.
 pub fn inode_fault(depth: u8, children: &[InodeChild]) -> Option<SaveFault>
     ensures none { IfNone result (Fits 1 (Record.Inode depth children.now)) }
-    ensures cause { IfSome result (IsHighFault (height_over children.now)) }
+    ensures cause { IfSome result (IsHighFault (inode_height children.now)) }
 {
-    if height_over(children) > HEIGHT_MAX {
+    if inode_height(children) > HEIGHT_MAX {
         return Some(SaveFault::Limit(Limit::Depth));
     }
     if depth > DEPTH_MAX || children.is_empty() || children.len() > CHILDREN_MAX {
@@ -35,17 +37,6 @@ pub fn inode_fault(depth: u8, children: &[InodeChild]) -> Option<SaveFault>
         return Some(SaveFault::Memory);
     }
     None
-}
-
-/// The greatest number of steps of what these children lead to.
-pub fn height_over(children: &[InodeChild]) -> u8
-    ensures { result ≡ height_over children.now }
-{
-    let mut height = 0u8;
-    for child in children {
-        height = height.max(child.height);
-    }
-    height
 }
 
 fn are_children(children: &[InodeChild]) -> bool

@@ -2,15 +2,16 @@
 ghost use Rattle.std.specs.Prelude.{◌≡◌, ◌≢◌, ◌+◌, ◌-◌, ◌++◌, ◌≤◌, ◌<◌, ◌^◌, ℕ, length, Option, Some, None, IfErr, IfOk, OnOk, MatchResult, IsOkAnd, IsSomeAnd};
 ghost use Rattle.ip_base.specs.declared.limit.TheConstants.{OFFSET_MAX};
 ghost use Rattle.ip_save.specs.Laid.{IsHighFault, IsLaid, IsLaidRoot, IsLayFault, IsReady, IsRootFault, IsRow, IsRowFault};
-ghost use Rattle.ip_save.specs.Laid.{breadth, breadth_among, contents_at, count_of, fresh, fresh_root, height_above, height_over, lay, lay_at, lay_children, lay_part, lay_steps, new_inode, new_leaf, nodes_in, record_of, size_of};
+ghost use Rattle.ip_save.specs.Laid.{breadth, breadth_among, contents_at, count_of, fresh, fresh_root, lay, lay_at, lay_children, lay_part, lay_steps, new_inode, new_leaf, nodes_in, record_of, size_of};
+ghost use Rattle.ip_shape.specs.Heights.{inode_height, leaf_height};
 ghost use Rattle.ip_spec.specs.Record.{Fits, spelling};
 ghost use Rattle.ip_spec.specs.Shape.{deepest};
 ghost use Rattle.ip_spec.specs.declared.record.Record.TheVariants as Record;
 ghost use Rattle.ip_tree.specs.Shown.{shown, shown_directory, shown_root};
 
 use crate::SaveFault;
-use crate::inode::{add_child, height_over};
-use crate::leaf::{height_above, leaf_entry};
+use crate::inode::add_child;
+use crate::leaf::leaf_entry;
 use crate::measure::record_of;
 use crate::records::{put_inode, put_leaf};
 use crate::starts::{Start, start_at, starts_of};
@@ -18,6 +19,7 @@ use ip_base::limit::ENTRIES_MAX;
 use ip_base::{Items, Limit, Step};
 use ip_object::hash_contents;
 use ip_shape::dir::find;
+use ip_shape::height::{inode_height, leaf_height};
 use ip_shape::part::Part;
 use ip_shape::places::DEEPEST;
 use ip_spec::kind::{CONTENTS, DIRECTORY};
@@ -163,7 +165,7 @@ fn put_entries(
 ) -> Result<LeafEntries, SaveFault>
     ensures row { (from : ℕ) → IsReady dir.now from starts.now end
         → MatchResult result (IsRow end (lay_steps (lay_at (nodes_in dir.now) from) steps.now) out.old.items out.new.items)
-        (IsRowFault height_above (breadth_among (nodes_in dir.now)) end (lay_steps (lay_at (nodes_in dir.now) from) steps.now) out.old.items) }
+        (IsRowFault leaf_height (breadth_among (nodes_in dir.now)) end (lay_steps (lay_at (nodes_in dir.now) from) steps.now) out.old.items) }
 {
     let mut leaf = Items::of(Vec::with_capacity(alloc, steps.len())?);
     for step in steps {
@@ -210,7 +212,7 @@ fn put_children(
 ) -> Result<InodeChildren, SaveFault>
     ensures row { (from : ℕ) → IsReady dir.now from starts.now end → depth < deepest
         → MatchResult result (IsRow end (lay_children (lay_at (nodes_in dir.now) from) (lay_part (lay_at (nodes_in dir.now) from) (deepest - (depth + 1)) (depth + 1)) 0 children.now) out.old.items out.new.items)
-        (IsRowFault height_over (breadth_among (nodes_in dir.now)) end (lay_children (lay_at (nodes_in dir.now) from) (lay_part (lay_at (nodes_in dir.now) from) (deepest - (depth + 1)) (depth + 1)) 0 children.now) out.old.items) }
+        (IsRowFault inode_height (breadth_among (nodes_in dir.now)) end (lay_children (lay_at (nodes_in dir.now) from) (lay_part (lay_at (nodes_in dir.now) from) (deepest - (depth + 1)) (depth + 1)) 0 children.now) out.old.items) }
 {
     let mut row = Items::of(Vec::with_capacity(alloc, children.len())?);
     for index in 0..children.len() {
@@ -254,9 +256,9 @@ fn put_new_leaf(leaf: LeafEntries, end: u64, out: &mut Vec<u8>) -> Result<Stored
     ensures bytes { OnOk result (out.new.items ≡ out.old.items ++ spelling (Record.Leaf leaf)) }
     ensures stands { end ≤ OFFSET_MAX → IfOk result (λ stored. stored ≡ new_leaf leaf (end + length out.old.items)) }
     ensures fits { OnOk result (Fits 1 (Record.Leaf leaf)) }
-    ensures cause { IfErr result (IsHighFault (height_above leaf)) }
+    ensures cause { IfErr result (IsHighFault (leaf_height leaf)) }
 {
-    let height = height_above(leaf.as_slice());
+    let height = leaf_height(leaf.as_slice());
     let at = end.saturating_add(out.len() as u64);
     match put_leaf(leaf, out) {
         Ok(name) => Ok(Stored {
@@ -281,9 +283,9 @@ fn put_new_inode(
     ensures bytes { OnOk result (out.new.items ≡ out.old.items ++ spelling (Record.Inode depth row)) }
     ensures stands { end ≤ OFFSET_MAX → IfOk result (λ stored. stored ≡ new_inode depth row (end + length out.old.items)) }
     ensures fits { OnOk result (Fits 1 (Record.Inode depth row)) }
-    ensures cause { IfErr result (IsHighFault (height_over row)) }
+    ensures cause { IfErr result (IsHighFault (inode_height row)) }
 {
-    let height = height_over(row.as_slice());
+    let height = inode_height(row.as_slice());
     let at = end.saturating_add(out.len() as u64);
     match put_inode(depth, row, out) {
         Ok(name) => Ok(Stored {

@@ -1,6 +1,7 @@
 // The entries of a leaf, and whether they may stand in its record.
 ghost use Rattle.std.specs.Prelude.{◌≡◌, ◌≤◌, ◌<◌, length, map, All, IsTrue, IfNone, IfOk, IfSome};
-ghost use Rattle.ip_save.specs.Laid.{IsHighFault, field_for, height_above};
+ghost use Rattle.ip_save.specs.Laid.{IsHighFault, field_for};
+ghost use Rattle.ip_shape.specs.Heights.{leaf_height};
 ghost use Rattle.ip_spec.specs.Path.{IsStep};
 ghost use Rattle.ip_spec.specs.Record.{Fits, IsLeafEntry, are_rising};
 ghost use Rattle.ip_spec.specs.declared.record.Record.TheVariants as Record;
@@ -8,6 +9,7 @@ ghost use Rattle.ip_spec.specs.declared.record.Record.TheVariants as Record;
 use crate::SaveFault;
 use ip_base::limit::{ENTRIES_MAX, STEP_BYTES_MAX};
 use ip_base::{Limit, Memory, Step, is_step_byte, see_name};
+use ip_shape::height::leaf_height;
 use ip_spec::kind::{CONTENTS, DIRECTORY};
 use ip_spec::record::LeafEntry;
 use ip_tree::Stored;
@@ -20,9 +22,9 @@ const HEIGHT_LIMIT: u8 = 63;
 /// Why entries may not stand in a leaf. A tree that is read or made by edits gives no cause.
 pub fn leaf_fault(entries: &[LeafEntry]) -> Option<SaveFault>
     ensures none { IfNone result (Fits 1 (Record.Leaf entries.now)) }
-    ensures cause { IfSome result (IsHighFault (height_above entries.now)) }
+    ensures cause { IfSome result (IsHighFault (leaf_height entries.now)) }
 {
-    if height_above(entries) > HEIGHT_LIMIT + 1 {
+    if leaf_height(entries) > HEIGHT_LIMIT + 1 {
         return Some(SaveFault::Limit(Limit::Depth));
     }
     // The limit of entries is the directory's, and was tested there: no leaf of it has more.
@@ -33,17 +35,6 @@ pub fn leaf_fault(entries: &[LeafEntry]) -> Option<SaveFault>
         return Some(SaveFault::Memory);
     }
     None
-}
-
-/// The greatest number of steps of what these entries lead to, 255 for all above.
-pub fn height_above(entries: &[LeafEntry]) -> u8
-    ensures { result ≡ height_above entries.now }
-{
-    let mut height = 0u8;
-    for entry in entries {
-        height = height.max(entry.height.saturating_add(1));
-    }
-    height
 }
 
 fn are_entries(entries: &[LeafEntry]) -> bool

@@ -1,7 +1,9 @@
 // The records that a batch makes.
 ghost use Rattle.std.specs.Prelude.{◌≡◌, ◌≢◌, ◌++◌, Some, IsSome, IfErr, IfOk, OnOk};
 ghost use Rattle.ip_save.specs.Batches.{AreFields, commit_record, fields_told};
-ghost use Rattle.ip_save.specs.Laid.{IsHighFault, height_above, height_over, inode_name, leaf_name};
+ghost use Rattle.ip_save.specs.Laid.{IsHighFault};
+ghost use Rattle.ip_shape.specs.Heights.{inode_height, leaf_height};
+ghost use Rattle.ip_shape.specs.PartNames.{inode_name, leaf_name};
 ghost use Rattle.ip_save.specs.declared.batch.SaveFault.TheVariants as SaveFault;
 ghost use Rattle.ip_spec.specs.Record.{Fits, name_of, spelling};
 ghost use Rattle.ip_spec.specs.declared.record.Record.TheVariants as Record;
@@ -32,7 +34,7 @@ pub fn put_leaf(leaf: LeafEntries, out: &mut Vec<u8>) -> Result<Hash, SaveFault>
     ensures bytes { OnOk result (out.new.items ≡ out.old.items ++ spelling (Record.Leaf leaf)) }
     ensures name { IfOk result (λ name. name ≡ leaf_name leaf) }
     ensures fits { OnOk result (Fits 1 (Record.Leaf leaf)) }
-    ensures cause { IfErr result (IsHighFault (height_above leaf)) }
+    ensures cause { IfErr result (IsHighFault (leaf_height leaf)) }
 {
     if let Some(fault) = leaf_fault(leaf.as_slice()) {
         return Err(fault);
@@ -46,7 +48,7 @@ pub fn put_inode(depth: u8, children: InodeChildren, out: &mut Vec<u8>) -> Resul
     ensures bytes { OnOk result (out.new.items ≡ out.old.items ++ spelling (Record.Inode depth children)) }
     ensures name { IfOk result (λ name. name ≡ inode_name depth children) }
     ensures fits { OnOk result (Fits 1 (Record.Inode depth children)) }
-    ensures cause { IfErr result (IsHighFault (height_over children)) }
+    ensures cause { IfErr result (IsHighFault (inode_height children)) }
 {
     if let Some(fault) = inode_fault(depth, children.as_slice()) {
         return Err(fault);

@@ -5,6 +5,7 @@ mod Edits
 mod Entering
 pub mod Entries
 mod Gathering
+pub mod Heights
 mod InodeRead
 pub mod LeafRead
 mod Made
@@ -12,6 +13,7 @@ pub mod Members
 mod Needs
 mod OneShape
 mod Onward
+pub mod PartNames
 mod Partly
 mod Shapes
 pub mod Steps

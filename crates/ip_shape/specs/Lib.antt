@@ -3,3 +3,5 @@ pub mod Shape
 pub mod Loaded
 pub mod Directory
 pub mod Reading
+pub mod Heights
+pub mod PartNames

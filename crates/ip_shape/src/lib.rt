@@ -2,6 +2,7 @@
 #![tactic(auto)]
 
 pub mod dir;
+pub mod height;
 pub mod part;
 pub mod places;
 pub mod reading;

@@ -3,23 +3,23 @@
 --     told_count      the count that a record tells, which fits a word
 --     told_height      and the height
 use Rattle.std.proofs.Common.{◌≡◌, ◌≢◌, ◌⊎◌, inl, inr, ℕ, zero, suc, ◌+◌, ◌*◌, ◌-◌, ◌^◌, ◌<◌, ◌≤◌, max, Bool, true, false, List, [], ◌∷◌, length, map, filter, refl, sym, ap, ◌∙◌, Option, Some, cond, arith}
-use Rattle.std.specs.Prelude.{◌==◌, nat_lt, fold, sum_by, All}
+use Rattle.std.specs.Prelude.{◌==◌, nat_lt, fold, sum_by}
 use Rattle.std.specs.List.{range_with_len}
 use Rattle.std.proofs.lemmas.Bool.{eq-eqb, ne_eqb}
 use Rattle.std.proofs.lemmas.Bool.Decides.{nat_tests}
-use Rattle.std.proofs.lemmas.List.Elements.{All-head, All-tail}
 use Rattle.std.proofs.lemmas.List.Sums.{sum_by-le}
 use Rattle.ip_spec.specs.Path.{Step}
 use Rattle.ip_spec.specs.declared.record.Record.{Record}
 use Rattle.ip_spec.specs.declared.record.LeafEntry.{LeafEntry}
 use Rattle.ip_spec.specs.declared.record.InodeChild.{InodeChild}
-use Rattle.ip_spec.specs.Record.{Fits, IsLeafEntry}
+use Rattle.ip_spec.specs.Record.{Fits}
 use Rattle.ip_spec.specs.Shape.{Entries, place, at_place, children_of, height_of_part}
 use Rattle.ip_spec.specs.Tree as Tree
 use Rattle.ip_spec.specs.Tree.{Tree, height, tree_runs}
 use Rattle.ip_spec.specs.TreeAt.{ChildrenAt, EntriesAt, EntryAt, PartAt, no_children, child_first, contents_at, directory_at, no_entries, entry_first}
+use Rattle.ip_shape.proofs.Heights.{inode_fold, leaf_fold}
 use Rattle.ip_shape.proofs.Ways.{same_or_not}
-use Rattle.ip_tree.specs.Heights.{content_height, highest_leaf, raised}
+use Rattle.ip_tree.specs.Heights.{content_height}
 use Rattle.ip_tree.specs.Reads.{content_count, record_of}
 use Rattle.ip_tree.specs.declared.fetch.Content.{Content}
 use Rattle.ip_tree.specs.declared.fetch.Content.TheVariants as content
@@ -163,13 +163,10 @@ module _ (records : ℕ → Option Record) where
   entry_steps (contents_at bytes below is low child) = low ∙ sym (contents_height bytes)
   entry_steps (directory_at sub below part no_bytes some is child) = is
 
-  leaf_steps : {at : ℕ} {fields : List LeafEntry} {es : Entries} → EntriesAt records at fields es → (most : ℕ) → All IsLeafEntry fields → highest_leaf fields most ≡ fold (λ k (e : Step × Tree). max k (suc (height e.1))) most es
-  leaf_steps no_entries most fit = refl
-  leaf_steps (entry_first {e = e} {x = x} {es = fields} {xs = xs} first rest) most fit =
-      let here : e.height ≡ height x.1 = entry_steps first in
-      let low : e.height ≤ 63 = (All-head IsLeafEntry e fields fit).height in
-      let same : raised most e.height ≡ max most (suc (height x.1)) = omega arith in
-      ap (highest_leaf fields) same ∙ leaf_steps rest (max most (suc (height x.1))) (All-tail IsLeafEntry e fields fit)
+  leaf_steps : (most : ℕ) {at : ℕ} {fields : List LeafEntry} {es : Entries} → EntriesAt records at fields es → fold (λ k (e : LeafEntry). max k (suc e.height)) most fields ≡ fold (λ k (e : Step × Tree). max k (suc (height e.1))) most es
+  leaf_steps most no_entries = refl
+  leaf_steps most (entry_first {e = e} {x = x} {es = fields} {xs = xs} first rest) =
+      ap (λ k. fold (λ m (f : LeafEntry). max m (suc f.height)) (max most (suc k)) fields) (entry_steps first) ∙ leaf_steps (max most (suc (height x.1))) rest
 
   -- a count that fits a word
   pub record IsCount (n : ℕ) (es : Entries) : Type 0 where
@@ -189,5 +186,5 @@ module _ (records : ℕ → Option Record) where
         record { count = counts 0 inode.children ∙ sum_children depth es; fits = omega (arith, few, most) }
 
     pub told_height : (c : Content) → PartAt records depth at es → records at ≡ Some (record_of c) → Fits version (record_of c) → content_height c ≡ height_of_part es
-    told_height (content.Leaf fields) part here fits = leaf_steps (is_leaf_at records fields part here).entries 0 fits.fields.each
-    told_height (content.Inode d cs) part here fits = heights 0 (is_inode records d cs part here).children ∙ top_children depth es
+    told_height (content.Leaf fields) part here fits = leaf_fold fields fits.fields.each ∙ leaf_steps 0 (is_leaf_at records fields part here).entries
+    told_height (content.Inode d cs) part here fits = inode_fold cs ∙ heights 0 (is_inode records d cs part here).children ∙ top_children depth es

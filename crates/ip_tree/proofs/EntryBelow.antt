@@ -21,7 +21,7 @@ use Rattle.ip_tree.proofs.Indexes.{no_some, some_same}
 use Rattle.ip_tree.proofs.LeafEntered.{is_leaf_at}
 use Rattle.ip_tree.proofs.MoreRecords.{last_entry, leaf_entry, next_entry}
 use Rattle.ip_tree.proofs.PartLookups.{named, same_finds, step_down}
-use Rattle.ip_tree.proofs.PartNames.{named_part}
+use Rattle.ip_shape.proofs.PartNames.{named_part}
 use Rattle.ip_tree.proofs.PartRecords.{above_deepest, child_known, child_none, child_spelled, is_inode}
 
 module _ (records : ℕ → Option Record) (depth at : ℕ) (es : Entries) (part : PartAt records depth at es) where

@@ -18,6 +18,7 @@ use Rattle.ip_spec.specs.View.{leads}
 use Rattle.ip_spec.specs.declared.record.Record.{Record}
 use Rattle.ip_spec.proofs.Naming.{member_found}
 use Rattle.ip_shape.specs.Directory.{root_of, steps_of}
+use Rattle.ip_shape.specs.Heights.{raised}
 use Rattle.ip_shape.specs.Loaded.{behind, unread_below, unread_here, unread_in, way_to}
 use Rattle.ip_shape.specs.Shape.{ByTest, IsInodeOf, IsLeafOf, IsPart, has, steps_at}
 use Rattle.ip_shape.specs.declared.dir.Dir.{Dir}
@@ -32,7 +33,7 @@ use Rattle.ip_shape.proofs.LeafRead.{on_way, short}
 use Rattle.ip_shape.proofs.Members.{has-filter}
 use Rattle.ip_shape.proofs.Steps.{equal, same_step}
 use Rattle.ip_tree.specs.Edits.{IsDirectory}
-use Rattle.ip_tree.specs.Heights.{highest, node_height, raised, unread_height, unread_step}
+use Rattle.ip_tree.specs.Heights.{highest, node_height, unread_height, unread_step}
 use Rattle.ip_tree.specs.Meaning.{HasSteps, KnowsParts, NodeIs, NodesAre, StoredIs, contents_in, directory_in, is_read}
 use Rattle.ip_tree.specs.Node.{Node, Nodes, contents, directory, first, none, nodes_of, steps_in, stored}
 use Rattle.ip_tree.specs.Shown.{entries_shown, shown_directory}
@@ -159,7 +160,7 @@ lawful_height t lawful = height_most t 64 (λ p v is. (lawful.paths p (ap is_som
 
 raised_low : (ns : Nodes) (most : ℕ) → most ≤ highest ns most
 raised_low none most = omega arith
-raised_low (first s n ns) most = let h = raised_low ns (raised most (node_height n)) in omega (arith, h)
+raised_low (first s n ns) most = let h = raised_low ns (max most (raised (node_height n))) in omega (arith, h)
 
 behind_front : (front left : List ℕ) → behind front (front ++ left) ≡ Some left
 behind_front [] left = refl
@@ -172,15 +173,15 @@ module _ (records : ℕ → Option Record) where
 
   -- what was read is no higher than the entries, and what was not neither
   node_up : (n : Node) (es : Entries) (s : Step) (most h : ℕ) → ((sub : Tree) → NodeIs records n sub → height sub ≤ 254 → node_height n ≡ height sub) → most ≤ h → h ≤ 254
-      → ((s : Step) (sub : Tree) → find bytes_cmp s es ≡ Some sub → suc (height sub) ≤ h) → IsSomeAnd (find bytes_cmp s es) (λ sub. NodeIs records n sub) → raised most (node_height n) ≤ h
+      → ((s : Step) (sub : Tree) → find bytes_cmp s es ≡ Some sub → suc (height sub) ≤ h) → IsSomeAnd (find bytes_cmp s es) (λ sub. NodeIs records n sub) → max most (raised (node_height n)) ≤ h
   node_up n es s most h same low top each is = by (find bytes_cmp s es) refl is
     where
-      by : (o : Option Tree) → find bytes_cmp s es ≡ o → IsSomeAnd o (λ sub. NodeIs records n sub) → raised most (node_height n) ≤ h
+      by : (o : Option Tree) → find bytes_cmp s es ≡ o → IsSomeAnd o (λ sub. NodeIs records n sub) → max most (raised (node_height n)) ≤ h
       by None e m = absurd m
       by (Some sub) e m = let one = each s sub e in let eq = same sub m (omega (arith, one, top)) in omega (arith, one, eq, low)
 
   node_down : (n : Node) (es : Entries) (s t : Step) (sub : Tree) (most : ℕ) → ((w : Tree) → NodeIs records n w → height w ≤ 254 → node_height n ≡ height w) → find bytes_cmp s es ≡ Some sub → height sub ≤ 253 → same_bytes s t ≡ true
-      → IsSomeAnd (find bytes_cmp t es) (λ w. NodeIs records n w) → suc (height sub) ≤ raised most (node_height n)
+      → IsSomeAnd (find bytes_cmp t es) (λ w. NodeIs records n w) → suc (height sub) ≤ max most (raised (node_height n))
   node_down n es s t sub most same found low equal_is is =
       let means : NodeIs records n sub = subst (λ o. IsSomeAnd o (λ w. NodeIs records n w)) (ap (λ k. find bytes_cmp k es) (sym (same_step s t (equal _ equal_is))) ∙ found) is in
       let eq = same sub means (omega (arith, low)) in omega (arith, eq, low)
@@ -207,10 +208,10 @@ module _ (records : ℕ → Option Record) where
           let top = raised_low ns (unread_height root) in omega (arith, one, h, l, top)
 
   down_by : (n : Node) (ns : Nodes) (es : Entries) (most : ℕ) (t s : Step) (sub : Tree) (b : Bool) → same_bytes s t ≡ b → ((w : Tree) → NodeIs records n w → height w ≤ 254 → node_height n ≡ height w)
-      → (has s (steps_in ns) ≡ true → suc (height sub) ≤ highest ns (raised most (node_height n))) → find bytes_cmp s es ≡ Some sub → height sub ≤ 253 → IsSomeAnd (find bytes_cmp t es) (λ w. NodeIs records n w)
-      → has s (t ∷ steps_in ns) ≡ true → suc (height sub) ≤ highest ns (raised most (node_height n))
+      → (has s (steps_in ns) ≡ true → suc (height sub) ≤ highest ns (max most (raised (node_height n)))) → find bytes_cmp s es ≡ Some sub → height sub ≤ 253 → IsSomeAnd (find bytes_cmp t es) (λ w. NodeIs records n w)
+      → has s (t ∷ steps_in ns) ≡ true → suc (height sub) ≤ highest ns (max most (raised (node_height n)))
   down_by n ns es most t s sub true e same deeper found low is in_read =
-      let one = node_down n es s t sub most same found low e is in let top = raised_low ns (raised most (node_height n)) in omega (arith, one, top)
+      let one = node_down n es s t sub most same found low e is in let top = raised_low ns (max most (raised (node_height n))) in omega (arith, one, top)
   down_by n ns es most t s sub false e same deeper found low is in_read = deeper (sym (ap (λ b. b || has s (steps_in ns)) e) ∙ in_read)
 
   directory_by : (root : Part Stored) (ns : Nodes) (es : Entries) → T (is_sorted bytes_cmp es) → HasSteps root (steps_in ns) es → KnowsParts records root es → height_of_part es ≤ 254
@@ -235,12 +236,12 @@ module _ (records : ℕ → Option Record) where
     nodes_up : (ns : Nodes) (es : Entries) (most h : ℕ) → NodesAre records ns es → most ≤ h → h ≤ 254 → ((s : Step) (sub : Tree) → find bytes_cmp s es ≡ Some sub → suc (height sub) ≤ h) → highest ns most ≤ h
     nodes_up none es most h are low top each = low
     nodes_up (first s n ns) es most h are low top each =
-        nodes_up ns es (raised most (node_height n)) h are.1 (node_up n es s most h (λ sub m l. node_steps n sub m l) low top each are.0) top each
+        nodes_up ns es (max most (raised (node_height n))) h are.1 (node_up n es s most h (λ sub m l. node_steps n sub m l) low top each are.0) top each
 
     nodes_down : (ns : Nodes) (es : Entries) (most : ℕ) → NodesAre records ns es → (s : Step) (sub : Tree) → find bytes_cmp s es ≡ Some sub → has s (steps_in ns) ≡ true → height sub ≤ 253 → suc (height sub) ≤ highest ns most
     nodes_down none es most are s sub found in_read low = absurd (false≢true in_read)
     nodes_down (first t n ns) es most are s sub found in_read low =
-        down_by n ns es most t s sub (same_bytes s t) refl (λ w m l. node_steps n w m l) (λ h. nodes_down ns es (raised most (node_height n)) are.1 s sub found h low) found low are.0 in_read
+        down_by n ns es most t s sub (same_bytes s t) refl (λ w m l. node_steps n w m l) (λ h. nodes_down ns es (max most (raised (node_height n))) are.1 s sub found h low) found low are.0 in_read
 
   -- the root that was loaded
   pub loaded_root : (d : Dir CodeNode Stored) (t : Tree) → IsDirectory records (shown_directory d) t → IsTree t → node_height (shown_directory d) ≡ height t

@@ -1,6 +1,5 @@
 pub mod Nodes
 pub mod Looking
-pub mod PartNames
 pub mod Walk
 pub mod Indexes
 pub mod PartEntries

@@ -19,7 +19,7 @@ use Rattle.ip_space.specs.declared.fault.FetchFault.TheVariants.{Ground, Form, N
 use Rattle.ip_tree.specs.declared.tree.TreeFault.{TreeFault}
 use Rattle.ip_tree.specs.declared.tree.TreeFault.TheVariants.{Fetch}
 use Rattle.ip_tree.specs.Reads.{Reaches, IsOver, IsPartRef, IsFree, IsCause, contents_at, directory_at}
-use Rattle.ip_tree.proofs.PartNames.{named_part}
+use Rattle.ip_shape.proofs.PartNames.{named_part}
 
 same_some : {A : Type 0} (x y : A) → Some x ≡ Some y → x ≡ y
 same_some x y e = cc

@@ -1,11 +1,9 @@
 -- How many steps there are below nodes, as the records of what was not read tell it. 255 stands for more.
---     raised most below      the greater of a number and of one that is one step more
 --     unread_height root      the greatest height of the parts of a directory that were not read
 --     node_height n      below a node.      highest ns most      below these entries, or more
---     highest_leaf es most      of the entries of a leaf.      content_height content      of a record of a directory
-use Rattle.std.specs.Prelude.{ℕ, ◌+◌, max, min, fold, List, [], ◌∷◌}
-use Rattle.ip_spec.specs.declared.record.LeafEntry.{LeafEntry}
-use Rattle.ip_spec.specs.declared.record.InodeChild.{InodeChild}
+--     content_height content      of a record of a directory
+use Rattle.std.specs.Prelude.{ℕ, max, fold}
+use Rattle.ip_shape.specs.Heights.{inode_height, leaf_height, raised}
 use Rattle.ip_shape.specs.declared.part.Part.{Part}
 use Rattle.ip_shape.specs.declared.part.Part.TheOpen.{Part-F, Leaf, Inode, Unread}
 use Rattle.ip_shape.specs.declared.part.Part.TheFolds.{fold-Part}
@@ -13,9 +11,6 @@ use Rattle.ip_tree.specs.Node.{Node, Nodes, stored, contents, directory, none, f
 use Rattle.ip_tree.specs.declared.fetch.Content.{Content}
 use Rattle.ip_tree.specs.declared.fetch.Content.TheVariants as content
 use Rattle.ip_tree.specs.declared.node.Stored.{Stored}
-
-abbrev pub raised : ℕ → ℕ → ℕ
-raised most below = max most (min (below + 1) 255)
 
 abbrev pub unread_step : Part-F Stored ℕ → ℕ
 unread_step (Leaf known steps) = 0
@@ -33,13 +28,9 @@ abbrev mutual
 
   pub highest : Nodes → ℕ → ℕ
   highest none most = most
-  highest (first s n ns) most = highest ns (raised most (node_height n))
-
-abbrev pub highest_leaf : List LeafEntry → ℕ → ℕ
-highest_leaf [] most = most
-highest_leaf (e ∷ es) most = highest_leaf es (raised most e.height)
+  highest (first s n ns) most = highest ns (max most (raised (node_height n)))
 
 -- what a record of a directory tells of it
 abbrev pub content_height : Content → ℕ
-content_height (content.Leaf entries) = highest_leaf entries 0
-content_height (content.Inode depth children) = fold (λ n (c : InodeChild). max n c.height) 0 children
+content_height (content.Leaf entries) = leaf_height entries
+content_height (content.Inode depth children) = inode_height children

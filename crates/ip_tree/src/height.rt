@@ -1,13 +1,12 @@
 // The greatest number of steps in a tree.
-ghost use Rattle.std.specs.Prelude.{◌≡◌, ℕ, fold, max, Option, IsTrue, IsFalse, IfErr, IsErrOf, MatchResult};
+ghost use Rattle.std.specs.Prelude.{◌≡◌, ℕ, Option, IsTrue, IsFalse, IfErr, IsErrOf, MatchResult};
 ghost use Rattle.ip_ground.specs.Counts.{Counts};
 ghost use Rattle.ip_space.specs.declared.fault.FetchFault.TheVariants as FetchFault;
 ghost use Rattle.ip_tree.specs.Faults.{ground_tree};
 ghost use Rattle.ip_spec.specs.Tree.{Tree as Map, IsTree, height as height_of_map, is_contents};
 ghost use Rattle.ip_spec.specs.View.{View};
-ghost use Rattle.ip_spec.specs.declared.record.InodeChild.{InodeChild};
 ghost use Rattle.ip_spec.specs.declared.record.Record.{Record};
-ghost use Rattle.ip_tree.specs.Heights.{content_height, highest_leaf, node_height, raised, unread_height};
+ghost use Rattle.ip_tree.specs.Heights.{content_height, node_height, unread_height};
 ghost use Rattle.ip_tree.specs.Meaning.{Spells};
 ghost use Rattle.ip_tree.specs.Reads.{IsOver, IsFree, Looks, IsCause};
 ghost use Rattle.ip_tree.specs.Shown.{shown, shown_directory};
@@ -18,9 +17,10 @@ use crate::fetch::{Content, fetch_part};
 use crate::node::{Directory, Node, Stored};
 use crate::tree::{Root, Tree, TreeFault};
 use ip_ground::Ground;
+use ip_shape::height::{inode_height, leaf_height, raised_by};
 use ip_shape::part::Part;
 use ip_space::Space;
-use ip_spec::record::{InodeChild, LeafEntry, Ref};
+use ip_spec::record::Ref;
 
 impl Tree {
     /// The greatest number of steps of a path with contents, 0 of the tree with nothing in it. It fetches the root's record at most, and
@@ -37,35 +37,6 @@ impl Tree {
             Root::Loaded(dir) => Ok(height_in(dir)),
         }
     }
-}
-
-// The heights in records that spell no tree may be any, so 255 stands for more.
-fn raised_by(most: u8, below: u8) -> u8
-    ensures { result ≡ raised most below }
-{
-    most.max(below.saturating_add(1))
-}
-
-/// The greatest number of steps below the entries of a leaf.
-fn leaf_height(entries: &[LeafEntry]) -> u8
-    ensures { result ≡ highest_leaf entries.now 0 }
-{
-    let mut most = 0;
-    for entry in entries {
-        most = raised_by(most, entry.height);
-    }
-    most
-}
-
-/// The greatest of the heights of the children of an inode.
-fn inode_height(children: &[InodeChild]) -> u8
-    ensures { result ≡ fold (λ n (c : InodeChild). max n c.height) 0 children.now }
-{
-    let mut most: u8 = 0;
-    for child in children {
-        most = most.max(child.height);
-    }
-    most
 }
 
 /// The greatest number of steps of what a record of a directory spells.

@@ -11,7 +11,8 @@ use Rattle.ip_tree.specs.Shown.{shown, shown_directory}
 use Rattle.ip_tree.specs.declared.node.Node.{size-Node}
 use Rattle.ip_tree.proofs.Nodes.{stored_shown, contents_shown}
 use Rattle.ip_tree.specs.declared.node.Stored.{Stored}
-use Rattle.ip_save.specs.Laid.{IsLaid, IsLayFault, behind_inode, behind_leaf, child_for, height_above, height_over, lay_children, lay_steps, new_inode, new_leaf, breadth, breadth_among, contents_at, fresh, lay, lay_at, lay_part, nodes_in, record_of, size_of, there}
+use Rattle.ip_save.specs.Laid.{IsLaid, IsLayFault, behind_inode, behind_leaf, child_for, lay_children, lay_steps, new_inode, new_leaf, breadth, breadth_among, contents_at, fresh, lay, lay_at, lay_part, nodes_in, record_of, size_of, there}
+use Rattle.ip_shape.specs.Heights.{inode_height, leaf_height}
 use Rattle.ip_save.proofs.Found.{found_broad, found_has, found_laid, found_room}
 use Rattle.ip_save.proofs.Laying.{behind_result, ends_at, ends_children, ends_part, ends_steps, known_laid, nothing_laid}
 use Rattle.ip_save.proofs.Rows.{child_failed, child_more, children_end, fault_up, inode_laid, leaf_laid, passed_on, step_cause, step_more, steps_end, walk_same, walk_up}
@@ -175,7 +176,7 @@ put_new_part-returns-in_ok-leaf-in-Leaf t c = record {
       walk_up c.args.end (breadth_among ns) (breadth_among ns) (λ at. behind_leaf (lay_steps child ss at)) (lay_part child (deepest - c.args.depth) c.args.depth part)
       (λ at. ap (λ (l : List Step). behind_leaf (lay_steps child l at)) c.deref.ensures.value ∙ leaf_laid child (deepest - c.args.depth) c.args.depth part c.in-Leaf.known c.in-Leaf.steps c.in-Leaf.is new at) (omega arith) before c.put_new_leaf.new.out.items
       c.put_new_leaf.result
-      (behind_result Record.Leaf new_leaf c.args.end (lay_steps child ss) (ends_steps child (λ s at. ends_at ns from s at) ss) before c.put_entries.new.out.items c.in_ok-leaf-in-Leaf.leaf (c.in_ok-leaf-in-Leaf.ensures.row from ready) height_above (λ l at. refl) (breadth_among ns)
+      (behind_result Record.Leaf new_leaf c.args.end (lay_steps child ss) (ends_steps child (λ s at. ends_at ns from s at) ss) before c.put_entries.new.out.items c.in_ok-leaf-in-Leaf.leaf (c.in_ok-leaf-in-Leaf.ensures.row from ready) leaf_height (λ l at. refl) (breadth_among ns)
       c.put_new_leaf.new.out.items c.put_new_leaf.result c.put_new_leaf.ensures.bytes (c.put_new_leaf.ensures.stands ready.low) c.put_new_leaf.ensures.fits c.put_new_leaf.ensures.cause);
 }
 
@@ -194,6 +195,6 @@ put_new_part-returns-in_ok-row-in-Inode t c = record {
       (λ at. ap (λ (l : List (Part Stored)). behind_inode c.args.depth (lay_children child deeper 0 l at)) c.deref-in-Inode.ensures.value ∙ inode_laid child c.args.depth part c.in-Inode.known c.in-Inode.count c.in-Inode.children lt c.in-Inode.is new at) (omega arith) before c.put_new_inode.new.out.items
       c.put_new_inode.result
       (behind_result (Record.Inode c.args.depth) (new_inode c.args.depth) c.args.end (lay_children child deeper 0 cs) (ends_children child (λ s at. ends_at ns from s at) deeper (λ p at. ends_part child (λ s at. ends_at ns from s at) (deepest - depth) depth p at) cs 0) before c.put_children.new.out.items
-      c.in_ok-row-in-Inode.row (c.in_ok-row-in-Inode.ensures.row from ready lt) height_over (λ l at. refl) (breadth_among ns)
+      c.in_ok-row-in-Inode.row (c.in_ok-row-in-Inode.ensures.row from ready lt) inode_height (λ l at. refl) (breadth_among ns)
       c.put_new_inode.new.out.items c.put_new_inode.result c.put_new_inode.ensures.bytes (c.put_new_inode.ensures.stands ready.low) c.put_new_inode.ensures.fits c.put_new_inode.ensures.cause);
 }

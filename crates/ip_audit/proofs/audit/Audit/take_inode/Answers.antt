@@ -35,4 +35,4 @@ returns-clause-memory c = λ e. passes (goal.at.returns-clause-memory c).After-k
 
 pub returns-clause-kept : goal.returns-clause-kept
 returns-clause-kept c = then_ok c.keep.result c.keep.ensures.kept (λ k. subst (λ q. KeepsBesides c.args.self.now c.keep.new.self c.args.at (kept_part q))
-    (inode_part_is (look_of c.args.self.now.kept) c.args.depth c.in-Some-counted.count c.inode_height.result c.args.name c.in-Some.first c.args.children.now c.in-Some-counted.ensures.some.0 c.inode_height.ensures c.requires.name c.in-Some.ensures.some) k)
+    (inode_part_is (look_of c.args.self.now.kept) c.args.depth c.in-Some-counted.count c.inode_height.result c.args.name c.in-Some.first c.args.children.now c.in-Some-counted.ensures.some.0 c.inode_height.ensures.greatest c.requires.name c.in-Some.ensures.some) k)
