@@ -3,7 +3,7 @@
 --     set_refused, set_answers      setting a branch.      remove_none, remove_answers      taking one away
 --     set_may, set_fits, remove_fits      the records
 use Rattle.std.proofs.Common.{◌≡◌, ℕ, List, ◌<◌, true, false, Option, Some, None, refl, ◌∙◌, ap, arith, length-append}
-use Rattle.std.specs.Prelude.{Result, Ok, Err, if◌then◌else◌, is_none, IsTrue, IfSome, nat_le, nat_lt, ◌&&◌}
+use Rattle.std.specs.Prelude.{Result, Ok, Err, if◌then◌else◌, is_none, IsTrue, IfSome, IsSomeAnd, nat_le, nat_lt, ◌&&◌}
 use Rattle.std.proofs.lemmas.Bool.Decides.{nat_tests}
 use Rattle.ip_base.specs.declared.limit.Limit.{Limit}
 use Rattle.ip_spec.specs.declared.command.Command.{Command}
@@ -21,11 +21,12 @@ use Rattle.ip_spec.specs.Step.{IsMet, MayRefuse, MayBeShort, Refused, Turned, ou
 use Rattle.ip_image.specs.Appending.{MayName}
 use Rattle.ip_store.specs.declared.committing.StoreFault.{StoreFault}
 use Rattle.ip_store.specs.declared.store.Store.{Store}
-use Rattle.ip_store.specs.Commits.{Turns, conditions_of, met_nothing, met_of, met_by, short_of, fault_reply, refusal}
+use Rattle.ip_store.specs.Commits.{Turns, conditions_of, met_nothing, met_of, met_by, short_of, fault_reply, RefusesBy}
 use Rattle.ip_store.specs.Naming.{branch_reply, AnswersBranch, AnswersSet, AnswersRemove, Renames, without_branch}
 use Rattle.ip_store.specs.Store.{IsOf, SameTables}
 use Rattle.ip_store.specs.Work.{AreParents, state_at}
 use Rattle.ip_store.proofs.Keyed.{absent_stays}
+use Rattle.ip_store.proofs.Machine.{each_reply}
 use Rattle.ip_store.proofs.Planning.{room_after}
 use Rattle.ip_store.proofs.Stepping.{same_tables}
 
@@ -106,14 +107,14 @@ module _ (r : Repository) (command : Command) (may : MayRefuse command Child.Not
   answers_memory : IsOf store r → AnswersBranch r command (met_of StoreFault.Memory) Reply.Memory store
   answers_memory of = record { after = r; turns = λ work. memory_turns r work command may; tables = of; parents = λ ns are. are }
 
-  answers_fault : (fault : StoreFault) → ((work : Work) → outcome (state_at r work) command (conditions_of (met_of fault)) ≡ Err (refusal fault)) → IsOf store r
+  answers_fault : (fault : StoreFault) → IsSomeAnd (fault_reply fault) (λ reply. (work : Work) → outcome (state_at r work) command (conditions_of (met_of fault)) ≡ Err reply) → IsOf store r
       → IfSome (fault_reply fault) (λ reply. AnswersBranch r command (met_of fault) reply store)
   answers_fault (StoreFault.HeadMoved name) is of = answers_reply (Reply.HeadMoved name) is of
   answers_fault (StoreFault.Existing name) is of = answers_reply (Reply.Existing name) is of
   answers_fault (StoreFault.Limit limit) is of = record { after = r; turns = λ work. limit_turn r work command may limit (is work); tables = of; parents = λ ns are. are }
   answers_fault StoreFault.Memory is of = answers_memory of
-  answers_fault StoreFault.Ground is of = tt
-  answers_fault (StoreFault.Damaged at names) is of = tt
+  answers_fault StoreFault.Ground is of = absurd is
+  answers_fault (StoreFault.Damaged at names) is of = absurd is
 
   answers_done : (reply : Reply) (after : Repository) → ((work : Work) → outcome (state_at r work) command (conditions_of met_nothing) ≡ Ok (reply, state_at after work)) → IsOf store after
       → ((ns : List ℕ) → AreParents r ns → AreParents after ns) → AnswersBranch r command met_nothing reply store
@@ -136,9 +137,11 @@ module _ (r : Repository) (name : Bytes) (number : ℕ) where
   set_parents ns are = record { retained = are.retained; distinct = are.distinct; few = are.few }
 
   -- there is no room for one more
-  pub set_refused : (store : Store) (fault : StoreFault) → room_for_branch r name ≡ Err (refusal fault) → IsOf store r → IfSome (branch_reply (Err fault)) (AnswersSet r name number (met_of fault) store)
+  pub set_refused : (store : Store) (fault : StoreFault) → RefusesBy (Err fault) (room_for_branch r name) → IsOf store r → IfSome (branch_reply (Err fault)) (AnswersSet r name number (met_of fault) store)
   set_refused store fault full of = by (fault_reply fault) (λ target is.
-      answers_fault r (Command.Branch name target) tt store fault (λ work. set_outcome work target (met_of fault) is ∙ ap (λ g. g >> behind work (met_of fault)) full) of)
+      answers_fault r (Command.Branch name target) tt store fault
+      (each_reply (λ (reply : Reply). room_for_branch r name ≡ Err reply) (λ (reply : Reply). (work : Work) → outcome (state_at r work) (Command.Branch name target) (conditions_of (met_of fault)) ≡ Err reply) (fault_reply fault)
+      (λ reply e work. set_outcome work target (met_of fault) is ∙ ap (λ g. g >> behind work (met_of fault)) e) full) of)
     where
       by : (o : Option Reply) → ((target : Target) → resolve r target ≡ Ok number → IfSome o (λ reply. AnswersBranch r (Command.Branch name target) (met_of fault) reply store)) → IfSome o (AnswersSet r name number (met_of fault) store)
       by None all = tt

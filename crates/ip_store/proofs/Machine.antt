@@ -1,7 +1,7 @@
 -- What the machine answers to a commit, by its refusals in their order, where nothing that the work rests on is given up.
 --     chain      the refusals.      answered, refused      the turn where one of them refuses, and where none does
 use Rattle.std.proofs.Common.{◌≡◌, ℕ, ◌≤◌, false, length, Option, Some, None, refl, sym, ◌∙◌, ap, subst, arith}
-use Rattle.std.specs.Prelude.{Result, Ok, Err, nat_lt, if◌then◌else◌, IfSome, IfErr}
+use Rattle.std.specs.Prelude.{Result, Ok, Err, nat_lt, if◌then◌else◌, IfSome, IsSomeAnd, IfErr}
 use Rattle.std.proofs.lemmas.Bool.Decides.{nat_tests}
 use Rattle.ip_base.specs.declared.info.Info.{Info}
 use Rattle.ip_base.specs.declared.limit.Limit.{Limit}
@@ -17,12 +17,17 @@ use Rattle.ip_store.specs.declared.work.Work.{Work}
 use Rattle.ip_image.specs.declared.slot.Slot.{Slot}
 use Rattle.ip_store.specs.declared.committing.StoreFault.{StoreFault}
 use Rattle.ip_store.specs.Changes.{IsNextSlot}
-use Rattle.ip_store.specs.Commits.{met_nothing, met_of, short_of, conditions_of, refusal, refused_by, IsRefusal, committed}
+use Rattle.ip_store.specs.Commits.{met_nothing, met_of, short_of, conditions_of, fault_reply, RefusesBy, IsRefusal, committed}
 use Rattle.ip_store.specs.Work.{session}
 
 -- what an answer is refused by
 pub if_err_is : {T : Type 0} (result : Result T StoreFault) (fault : StoreFault) (P : StoreFault → Type 0) → result ≡ Err fault → P fault → IfErr result P
 if_err_is result fault P is p = subst (λ x. IfErr x P) (sym is) p
+
+-- a reply of which more is so than of the one
+pub each_reply : (P Q : Reply → Type 0) (o : Option Reply) → ((reply : Reply) → P reply → Q reply) → IsSomeAnd o P → IsSomeAnd o Q
+each_reply P Q None each p = p
+each_reply P Q (Some reply) each p = each reply p
 
 no_less : (floor n : ℕ) → floor ≤ n → nat_lt n floor ≡ false
 no_less floor n low = grind (arith, nat_tests)
@@ -116,13 +121,13 @@ module _ (r : Repository) (work : Work) (v : View) (branch : Bytes) (info : Info
   met_done = met_with met_nothing (Reply.Committed commit.name) refl
 
   -- a fault that one of the refusals gives
-  by_fault : (fault : StoreFault) → ((met : Met) → chain met ≡ Err (refusal fault)) → IsRefusal r work v branch info fault
+  by_fault : (fault : StoreFault) → IsSomeAnd (fault_reply fault) (λ reply. (met : Met) → chain met ≡ Err reply) → IsRefusal r work v branch info fault
   by_fault (StoreFault.HeadMoved name) is = (met_with met_nothing (Reply.HeadMoved name) refl, turn_refused met_nothing (Reply.HeadMoved name) refl (is met_nothing))
   by_fault (StoreFault.Existing name) is = (met_with met_nothing (Reply.Existing name) refl, turn_refused met_nothing (Reply.Existing name) refl (is met_nothing))
   by_fault (StoreFault.Limit limit) is = (met_short limit (short_so limit), turn_refused (met_of (StoreFault.Limit limit)) (Reply.Limit limit) refl (is (met_of (StoreFault.Limit limit))))
   by_fault StoreFault.Memory is = (met_memory, turn_memory)
-  by_fault StoreFault.Ground is = tt
-  by_fault (StoreFault.Damaged at names) is = tt
+  by_fault StoreFault.Ground is = absurd is
+  by_fault (StoreFault.Damaged at names) is = absurd is
 
   pub refused_memory : IsRefusal r work v branch info StoreFault.Memory
   refused_memory = (met_memory, turn_memory)
@@ -130,22 +135,22 @@ module _ (r : Repository) (work : Work) (v : View) (branch : Bytes) (info : Info
   abbrev pub Head : Refused (Unit {0})
   Head = unless_some (moved_head (head r branch) work.parents) (λ n. Reply.HeadMoved (name_at r n))
 
-  pub refused_head : (fault : StoreFault) → Head ≡ refused_by (Err fault) → IsRefusal r work v branch info fault
-  refused_head fault is = by_fault fault (λ met. ap (λ g. g >> (room_for_branch r branch >> (not_existing r commit.name >> (enough (conditions_of met) Limit.Space >> (enough (conditions_of met) Limit.Sequence >> Ok done))))) is)
+  pub refused_head : (fault : StoreFault) → RefusesBy (Err fault) Head → IsRefusal r work v branch info fault
+  refused_head fault is = by_fault fault (each_reply (λ (reply : Reply). Head ≡ Err reply) (λ (reply : Reply). (met : Met) → chain met ≡ Err reply) (fault_reply fault) (λ reply e met. ap (λ g. g >> (room_for_branch r branch >> (not_existing r commit.name >> (enough (conditions_of met) Limit.Space >> (enough (conditions_of met) Limit.Sequence >> Ok done))))) e) is)
 
   module _ (head_is : Head ≡ Ok tt) where
     behind_head : (met : Met) → chain met ≡ (room_for_branch r branch >> (not_existing r commit.name >> (enough (conditions_of met) Limit.Space >> (enough (conditions_of met) Limit.Sequence >> Ok done))))
     behind_head met = ap (λ g. g >> (room_for_branch r branch >> (not_existing r commit.name >> (enough (conditions_of met) Limit.Space >> (enough (conditions_of met) Limit.Sequence >> Ok done))))) head_is
 
-    pub refused_room : (fault : StoreFault) → room_for_branch r branch ≡ refused_by (Err fault) → IsRefusal r work v branch info fault
-    refused_room fault is = by_fault fault (λ met. behind_head met ∙ ap (λ g. g >> (not_existing r commit.name >> (enough (conditions_of met) Limit.Space >> (enough (conditions_of met) Limit.Sequence >> Ok done)))) is)
+    pub refused_room : (fault : StoreFault) → RefusesBy (Err fault) (room_for_branch r branch) → IsRefusal r work v branch info fault
+    refused_room fault is = by_fault fault (each_reply (λ (reply : Reply). room_for_branch r branch ≡ Err reply) (λ (reply : Reply). (met : Met) → chain met ≡ Err reply) (fault_reply fault) (λ reply e met. behind_head met ∙ ap (λ g. g >> (not_existing r commit.name >> (enough (conditions_of met) Limit.Space >> (enough (conditions_of met) Limit.Sequence >> Ok done)))) e) is)
 
     module _ (room_is : room_for_branch r branch ≡ Ok tt) where
       pub behind_room : (met : Met) → chain met ≡ (not_existing r commit.name >> (enough (conditions_of met) Limit.Space >> (enough (conditions_of met) Limit.Sequence >> Ok done)))
       behind_room met = behind_head met ∙ ap (λ g. g >> (not_existing r commit.name >> (enough (conditions_of met) Limit.Space >> (enough (conditions_of met) Limit.Sequence >> Ok done)))) room_is
 
-      pub refused_name : (fault : StoreFault) → not_existing r commit.name ≡ refused_by (Err fault) → IsRefusal r work v branch info fault
-      refused_name fault is = by_fault fault (λ met. behind_room met ∙ ap (λ g. g >> (enough (conditions_of met) Limit.Space >> (enough (conditions_of met) Limit.Sequence >> Ok done))) is)
+      pub refused_name : (fault : StoreFault) → RefusesBy (Err fault) (not_existing r commit.name) → IsRefusal r work v branch info fault
+      refused_name fault is = by_fault fault (each_reply (λ (reply : Reply). not_existing r commit.name ≡ Err reply) (λ (reply : Reply). (met : Met) → chain met ≡ Err reply) (fault_reply fault) (λ reply e met. behind_room met ∙ ap (λ g. g >> (enough (conditions_of met) Limit.Space >> (enough (conditions_of met) Limit.Sequence >> Ok done))) e) is)
 
       module _ (name_is : not_existing r commit.name ≡ Ok tt) where
         behind_name : (met : Met) → chain met ≡ (enough (conditions_of met) Limit.Space >> (enough (conditions_of met) Limit.Sequence >> Ok done))

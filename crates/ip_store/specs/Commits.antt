@@ -6,7 +6,7 @@
 --     Commits r work v branch info result store' old new      what it does to what a ground tells
 --     GoesOn store work      the store's tables are some repository's, and the work goes on from commits of it
 --     IsSaved records tree n map      a tree with this map, read from the records of commit n
-use Rattle.std.specs.Prelude.{◌≡◌, ℕ, ◌+◌, ◌<◌, ◌≤◌, [], ◌∷◌, length, true, false, Option, Some, None, IfSome, Result, Ok, Err}
+use Rattle.std.specs.Prelude.{◌≡◌, ℕ, ◌+◌, ◌<◌, ◌≤◌, [], ◌∷◌, length, true, false, Option, Some, None, IfSome, IsSomeAnd, Result, Ok, Err}
 use Rattle.ip_base.specs.declared.limit.TheConstants.{OFFSET_MAX, BRANCHES_MAX}
 use Rattle.ip_base.specs.declared.info.Info.{Info}
 use Rattle.ip_ground.specs.Told.{Told}
@@ -78,18 +78,10 @@ abbrev pub reply_to : Result Hash StoreFault → Option Reply
 reply_to (Ok name) = Some (Reply.Committed name)
 reply_to (Err fault) = fault_reply fault
 
--- a refusal, as the machine has it
-abbrev pub refusal : StoreFault → Reply
-refusal (StoreFault.HeadMoved name) = Reply.HeadMoved name
-refusal (StoreFault.Existing name) = Reply.Existing name
-refusal (StoreFault.Limit limit) = Reply.Limit limit
-refusal StoreFault.Memory = Reply.Memory
-refusal StoreFault.Ground = Reply.Memory
-refusal (StoreFault.Damaged at names) = Reply.Memory
-
-abbrev pub refused_by : Result (Unit {0}) StoreFault → Refused (Unit {0})
-refused_by (Ok u) = Ok tt
-refused_by (Err fault) = Err (refusal fault)
+-- what the machine's refusals give where a test of the store gave this: a fault that has no reply is none of them
+abbrev pub RefusesBy : Result (Unit {0}) StoreFault → Refused (Unit {0}) → Type 0
+RefusesBy (Ok u) refused = refused ≡ Ok tt
+RefusesBy (Err fault) refused = IsSomeAnd (fault_reply fault) (λ reply. refused ≡ Err reply)
 
 abbrev pub Turns : State → Command → Met → Reply → State → Type 0
 Turns s command met reply s' = IsMet s command (conditions_of met) reply × (turned s command (conditions_of met) ≡ (reply, s'))

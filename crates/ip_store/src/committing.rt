@@ -20,7 +20,7 @@ ghost use Rattle.ip_spec.specs.View.{View};
 ghost use Rattle.ip_spec.specs.declared.record.Record.{Record};
 ghost use Rattle.ip_tree.specs.TreeView.{IsView};
 ghost use Rattle.ip_store.specs.declared.committing.StoreFault.TheVariants as StoreFault;
-ghost use Rattle.ip_store.specs.Commits.{parent_named, reply_to, refused_by, met_by, IsRefusal, IsNewBatch, IsNext, IsPlan, IsPastTheEnd, records_of, end_of, Answers, Commits, GoesOn, IsSaved};
+ghost use Rattle.ip_store.specs.Commits.{parent_named, reply_to, RefusesBy, met_by, IsRefusal, IsNewBatch, IsNext, IsPlan, IsPastTheEnd, records_of, end_of, Answers, Commits, GoesOn, IsSaved};
 ghost use Rattle.ip_store.specs.Changes.{Appends, HasAnswer, IsUndamaged, IsNextSlot, KeepsNumbers, LimitsSpace};
 ghost use Rattle.ip_store.specs.Histories.{with_parents, MayEnter};
 ghost use Rattle.ip_store.specs.Store.{IsOf, Holds, SameTables, image_records};
@@ -199,7 +199,7 @@ impl Store {
     // Refused where the branch is at a commit that is none of these.
     fn head_among(&self, parents: &[Number], branch: &[u8]) -> Result<(), StoreFault>
         requires tables { (r : Repository) × IsOf self.now r }
-        ensures refused { (r : Repository) → IsOf self.now r → unless_some (moved_head (head r branch.now) parents.now) (λ n. Reply.HeadMoved (name_at r n)) ≡ refused_by result }
+        ensures refused { (r : Repository) → IsOf self.now r → RefusesBy result (unless_some (moved_head (head r branch.now) parents.now) (λ n. Reply.HeadMoved (name_at r n))) }
         ensures undamaged { IsUndamaged result }
     {
         match self.branches.get(branch) {
@@ -212,7 +212,7 @@ impl Store {
 
     // Refused where the branch would be one too many.
     pub(crate) fn room_for(&self, branch: &[u8]) -> Result<(), StoreFault>
-        ensures refused { (r : Repository) → IsOf self.now r → room_for_branch r branch.now ≡ refused_by result }
+        ensures refused { (r : Repository) → IsOf self.now r → RefusesBy result (room_for_branch r branch.now) }
         ensures undamaged { IsUndamaged result }
     {
         if self.branches.get(branch).is_none() && self.branches.len() >= BRANCHES_MAX {
@@ -223,7 +223,7 @@ impl Store {
 
     // Refused where a commit has the name.
     fn is_new(&self, name: Hash) -> Result<(), StoreFault>
-        ensures refused { (r : Repository) → IsOf self.now r → not_existing r name ≡ refused_by result }
+        ensures refused { (r : Repository) → IsOf self.now r → RefusesBy result (not_existing r name) }
         ensures cause { IfErr result (λ fault. fault ≡ StoreFault.Existing name) }
         ensures undamaged { IsUndamaged result }
     {

@@ -192,6 +192,7 @@ fn fresh_control(chunk: u64) -> [u8; 256]
 #[cfg(test)]
 mod tests {
     use super::*;
+    use crate::chunk_allowed;
     use ip_ground::Bench;
 
     // Slot 0 is open and has version 1, sequence 1, chunks of 1048576 bytes, next attempt 1 and first attempt 1.

@@ -1,13 +1,14 @@
 use Rattle.std.proofs.Common.{◌≡◌, ◌<◌, rules, sym, ◌∙◌, subst, length, get_or}
 use Rattle.std.specs.Prelude.{Ok, Err, IsTrue}
-use Rattle.ip_spec.specs.Repository.{is_retained}
-use Rattle.ip_spec.specs.Step.{room_for_branch, not_existing, new_commit}
+use Rattle.ip_spec.specs.declared.reply.Reply.{Reply}
+use Rattle.ip_spec.specs.Repository.{head, is_retained, name_at}
+use Rattle.ip_spec.specs.Step.{moved_head, unless_some, room_for_branch, not_existing, new_commit}
 use Rattle.ip_store.specs.declared.committing.StoreFault.TheVariants as StoreFault
 use Rattle.ip_image.specs.Appending.{fields_of}
 use Rattle.ip_save.specs.Batches.{fields_told}
 use Rattle.ip_store.specs.declared.committing.Plan.{Plan}
 use Rattle.ip_store.specs.Changes.{IsNextSlot, LimitsSpace}
-use Rattle.ip_store.specs.Commits.{refused_by, IsRefusal, end_of}
+use Rattle.ip_store.specs.Commits.{RefusesBy, IsRefusal, end_of}
 use Rattle.ip_store.proofs.Planning.{told_from, name_from, refused_batch, batch_limits, slot_limits, coming, planned}
 use Rattle.ip_store.proofs.Machine.{if_err_is, Head, refused_head, refused_room, refused_short, refused_memory}
 use Rattle.ip_store.proofs.store.Store.plan.Goals as goal
@@ -16,7 +17,7 @@ pub returns-in_err-head_among-clause-refused : goal.returns-in_err-head_among-cl
 returns-in_err-head_among-clause-refused c records r v of lawful =
     let fault = c.in_err-head_among.field-0.0 in
     let is : c.from_residual.result ≡ Err fault = search rules in
-    let guard : Head r c.args.work.now v c.args.branch.now c.args.info lawful.retained ≡ refused_by (Err fault) = search rules in
+    let guard : RefusesBy (Err fault) (Head r c.args.work.now v c.args.branch.now c.args.info lawful.retained) = subst (λ ns. RefusesBy (Err fault) (unless_some (moved_head (head r c.args.branch.now) ns) (λ n. Reply.HeadMoved (name_at r n)))) c.as_slice.ensures (c.in_err-head_among.ensures.refused r of) in
     if_err_is c.from_residual.result fault (IsRefusal r c.args.work.now v c.args.branch.now c.args.info) is
     (refused_head r c.args.work.now v c.args.branch.now c.args.info lawful.retained fault guard)
 
@@ -25,9 +26,8 @@ returns-in_err-room_for-clause-refused c records r v of lawful =
     let fault = c.in_err-room_for.field-0.0 in
     let is : c.from_residual-in_err-room_for.result ≡ Err fault = search rules in
     let head : Head r c.args.work.now v c.args.branch.now c.args.info lawful.retained ≡ Ok tt = search rules in
-    let guard : room_for_branch r c.args.branch.now ≡ refused_by (Err fault) = search rules in
     if_err_is c.from_residual-in_err-room_for.result fault (IsRefusal r c.args.work.now v c.args.branch.now c.args.info) is
-    (refused_room r c.args.work.now v c.args.branch.now c.args.info lawful.retained head fault guard)
+    (refused_room r c.args.work.now v c.args.branch.now c.args.info lawful.retained head fault (c.in_err-room_for.ensures.refused r of))
 
 pub fields-requires-clause-tables : goal.fields-requires-clause-tables
 fields-requires-clause-tables c = (

@@ -6,7 +6,6 @@ use Rattle.ip_image.specs.Standing.{IsServedKind}
 use Rattle.ip_image.specs.Appending.{MayName, renamed}
 use Rattle.ip_store.specs.declared.committing.StoreFault.TheVariants as StoreFault
 use Rattle.ip_store.specs.Changes.{Changes, Appends}
-use Rattle.ip_store.specs.Commits.{refusal}
 use Rattle.ip_store.specs.Naming.{Renames}
 use Rattle.ip_store.proofs.Stepping.{itself, changes_none, stays_still}
 use Rattle.ip_store.proofs.BranchTurns.{set_refused, set_memory, set_answers, set_may, set_fits}
@@ -18,8 +17,7 @@ use Rattle.ip_store.proofs.store.Store.set_branch.Goals as goal
 pub returns-in-Err-clause-answered : goal.returns-in-Err-clause-answered
 returns-in-Err-clause-answered g c r of retained =
     let fault = c.in-Err.fault in
-    let full : room_for_branch r c.args.name.now ≡ Err (refusal fault) = search rules in
-    noted_set c.args.self.now c.noted.new.self (Err fault) c.noted.result c.noted.ensures.answer c.noted.ensures.met r c.args.name.now c.args.number (set_refused r c.args.name.now c.args.number c.args.self.now fault full of)
+    noted_set c.args.self.now c.noted.new.self (Err fault) c.noted.result c.noted.ensures.answer c.noted.ensures.met r c.args.name.now c.args.number (set_refused r c.args.name.now c.args.number c.args.self.now fault (c.in-Err.ensures.refused r of) of)
 
 pub returns-in-Err-clause-any_moment : goal.returns-in-Err-clause-any_moment
 returns-in-Err-clause-any_moment g c told r held retained =
