@@ -2,7 +2,7 @@
 --     merge_goes      the store answered it.      merge_cut      a fault of the ground or of its files cut it short
 --     unmerged_goes      no commit has the name that was given.      merge_serves      the session goes on serving, whatever is told
 --     merge_placed, unmerged_placed      where its records lie
---     has_reply      what has a reply is an answer.      fault_ends, fault_named      a fault that has none, and one that has      merge_ends, merge_counts, answer_counts      what comes of one that has none, and which faults were counted
+--     has_reply      what has a reply is an answer.      merge_ends, merge_counts, answer_counts      what comes of one that has none, and which faults were counted
 use Rattle.std.proofs.Common.{◌≡◌, ◌≢◌, ℕ, ◌≤◌, ◌*◌, Bool, true, false, [], ◌∷◌, ◌++◌, length, refl, sym, ap, ◌∙◌, subst, arith, Option, Some, None, Ok, Err, length-append}
 use Rattle.std.specs.Prelude.{Result, MatchResult, IfSome, codes}
 use Rattle.ip_base.specs.declared.info.Info.{Info}
@@ -31,7 +31,6 @@ use Rattle.ip_store.specs.declared.committing.StoreFault.{StoreFault}
 use Rattle.ip_store.specs.declared.merging.Merge.{Merge}
 use Rattle.ip_store.specs.declared.store.Store.{Store}
 use Rattle.ip_store.specs.Changes.{HasAnswer, IsUndamaged, Changes}
-use Rattle.ip_store.specs.Commits.{fault_reply}
 use Rattle.ip_store.specs.Faults.{ground_store}
 use Rattle.ip_store.specs.Merging.{merge_reply, GoesOnFrom, AnswersMerge, MergesAtMoments, AppendsMerge, LimitsMerge}
 use Rattle.ip_store.specs.Publishing.{MayChange}
@@ -44,7 +43,7 @@ use Rattle.ip_store.proofs.Works.{works_stay}
 use Rattle.ip_session.specs.declared.session.Session.{Session}
 use Rattle.ip_session.specs.declared.session.SessionEnd.{SessionEnd}
 use Rattle.ip_session.specs.Placing.{IsAppended, PlacedBy}
-use Rattle.ip_session.specs.Session.{ground_end, IsServing, IsWorking, state_in, met_only, conditions_of, IsLong, IsDurable, ChangedBy, TouchedBy, GoesBy, CutBy, EndsBy, end_of, IsEndOf, EndsBecause, IsNamed}
+use Rattle.ip_session.specs.Session.{ground_end, IsServing, IsWorking, state_in, met_only, conditions_of, IsLong, IsDurable, ChangedBy, TouchedBy, GoesBy, CutBy, EndsBy, EndsBecause, IsNamed}
 use Rattle.ip_session.proofs.SessionLemmas.{at, plainly, hex_long, merge_refused}
 use Rattle.ip_session.proofs.Referring.{IsUnnamed, NamesNone, names_none}
 use Rattle.ip_session.proofs.SessionGoes.{still_goes}
@@ -68,19 +67,6 @@ merged_is_short name long_name long =
 pub has_reply : (branch : Bytes) (made : Result Merge StoreFault) (reply : Reply) → merge_reply branch made ≡ Some reply → HasAnswer made
 has_reply branch (Ok merge) reply e = tt
 has_reply branch (Err fault) reply e = answered Merge fault reply e
-
-pub fault_ends : (fault : StoreFault) → fault_reply fault ≡ None → IsEndOf fault (end_of fault)
-fault_ends StoreFault.Ground none = refl
-fault_ends (StoreFault.Damaged at_ names) none = refl
-fault_ends _ none = absurd (cc none)
-
-pub fault_named : (fault : StoreFault) (reply : Reply) → fault_reply fault ≡ Some reply → IsNamed reply
-fault_named (StoreFault.HeadMoved name) reply e = let is : Reply.HeadMoved name ≡ reply = cc e in subst IsNamed is tt
-fault_named (StoreFault.Existing name) reply e = let is : Reply.Existing name ≡ reply = cc e in subst IsNamed is tt
-fault_named (StoreFault.Limit limit) reply e = let is : Reply.Limit limit ≡ reply = cc e in subst IsNamed is tt
-fault_named StoreFault.Memory reply e = let is : Reply.Memory ≡ reply = cc e in subst IsNamed is tt
-fault_named StoreFault.Ground reply e = absurd (cc e)
-fault_named (StoreFault.Damaged at_ names) reply e = absurd (cc e)
 
 -- files that others changed are never met where it is known what the store holds
 pub merge_ends : (made : Result Merge StoreFault) (end : SessionEnd) (held : Type 0) → EndsBecause made end → (held → IsUndamaged made) → EndsBy held end

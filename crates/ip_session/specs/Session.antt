@@ -15,8 +15,8 @@
 --     GoesBy, CutBy rule .. command, GoesIn, CutIn rule .. line      so of a command, and of a line, by the rules of merges
 --     IsHeld tells told session      the ground tells what the store holds, and the session works over it
 --     EndsBy held end      why a session has ended.      ground_end end      by a fault of the ground
---     Fails fault met met' result      what comes of a call of the store that failed
---     tree_fault fault      a call on a tree fails as one of the store.      end_of fault, IsEndOf fault end, EndsBecause made end      the session ends by it, or by what a call failed with
+--     fault_answer fault      what a call of the store is answered with that failed, or why the session ends.      Fails fault met met' result      and what is met by it
+--     tree_fault fault      a call on a tree fails as one of the store.      IsEndOf fault end, EndsBecause made end      the session ends by it, or by what a call failed with
 --     IsNamed reply      a commit's name that a merge is answered with is no longer than a name
 --     IsLong reply      the text of such a reply may take memory.      Writes reply met met' text      it was written, or want of it
 use Rattle.std.specs.Prelude.{◌≡◌, ◌⊎◌, ◌<◌, ℕ, Bool, true, false, length, Option, IsTrue, IfOk, IsErr, Result, Ok, Err}
@@ -189,23 +189,27 @@ abbrev pub ground_end : SessionEnd → Bool
 ground_end SessionEnd.Ground = true
 ground_end (SessionEnd.Damaged at names) = false
 
--- want of memory is met, other refusals are answered, and faults of the ground and of its files end the session
+-- refusals are answered, want of memory among them, and faults of the ground and of its files end the session
+abbrev pub fault_answer : StoreFault → Result Reply SessionEnd
+fault_answer (StoreFault.HeadMoved name) = Ok (Reply.HeadMoved name)
+fault_answer (StoreFault.Existing name) = Ok (Reply.Existing name)
+fault_answer (StoreFault.Limit limit) = Ok (Reply.Limit limit)
+fault_answer StoreFault.Memory = Ok Reply.Memory
+fault_answer StoreFault.Ground = Err SessionEnd.Ground
+fault_answer (StoreFault.Damaged at names) = Err (SessionEnd.Damaged at names)
+
+-- of all faults want of memory alone is met
+abbrev pub met_failed : StoreFault → Met → Met
+met_failed StoreFault.Memory met = met_only true
+met_failed fault met = met
+
 abbrev pub Fails : StoreFault → Met → Met → Result Reply SessionEnd → Type 0
-Fails StoreFault.Memory met met' result = (result ≡ Ok Reply.Memory) × (met' ≡ met_only true)
-Fails StoreFault.Ground met met' result = (result ≡ Err SessionEnd.Ground) × (met' ≡ met)
-Fails (StoreFault.Damaged at names) met met' result = (result ≡ Err (SessionEnd.Damaged at names)) × (met' ≡ met)
-Fails (StoreFault.Limit limit) met met' result = (result ≡ Ok (Reply.Limit limit)) × (met' ≡ met)
-Fails (StoreFault.HeadMoved name) met met' result = (result ≡ Ok (Reply.HeadMoved name)) × (met' ≡ met)
-Fails (StoreFault.Existing name) met met' result = (result ≡ Ok (Reply.Existing name)) × (met' ≡ met)
+Fails fault met met' result = (result ≡ fault_answer fault) × (met' ≡ met_failed fault met)
 
 abbrev pub tree_fault : TreeFault → StoreFault
 tree_fault (TreeFault.Limit limit) = StoreFault.Limit limit
 tree_fault (TreeFault.Fetch fault) = fault_from fault
 tree_fault TreeFault.Memory = StoreFault.Memory
-
-abbrev pub end_of : StoreFault → SessionEnd
-end_of (StoreFault.Damaged at names) = SessionEnd.Damaged at names
-end_of fault = SessionEnd.Ground
 
 -- a fault that has no reply
 abbrev pub IsEndOf : StoreFault → SessionEnd → Type 0

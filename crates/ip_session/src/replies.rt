@@ -6,7 +6,7 @@ ghost use Rattle.ip_spec.specs.Step.{got_reply, listed_reply};
 ghost use Rattle.ip_store.specs.Commits.{fault_reply, reply_to};
 ghost use Rattle.ip_store.specs.Merging.{merge_reply};
 ghost use Rattle.ip_store.specs.Naming.{branch_reply, removed_reply};
-ghost use Rattle.ip_session.specs.Session.{met_only, Writes, Fails, tree_fault, end_of, IsEndOf, EndsBecause, IsNamed};
+ghost use Rattle.ip_session.specs.Session.{met_only, Writes, Fails, fault_answer, tree_fault, IsEndOf, EndsBecause, IsNamed};
 
 use crate::session::SessionEnd;
 use ip_base::{Blob, Hash};
@@ -138,27 +138,18 @@ pub(crate) fn merge_answer(
 
 // What a call of the store is answered with that was not done, or why the session ends.
 fn fault_answer(fault: StoreFault) -> Result<Reply, SessionEnd>
+    ensures answer { result ≡ fault_answer fault }
     ensures reply { IfOk result (λ reply. fault_reply fault ≡ Some reply) }
     ensures end { IfErr result (IsEndOf fault) }
     ensures long { IfOk result IsNamed }
 {
-    match fault_reply(&fault) {
-        Some(reply) => Ok(reply),
-        None => Err(end_of(fault)),
-    }
-}
-
-// Why the session ends by a fault that has no answer.
-fn end_of(fault: StoreFault) -> SessionEnd
-    ensures { result ≡ end_of fault }
-{
     match fault {
-        StoreFault::Damaged { at, names } => SessionEnd::Damaged { at, names },
-        StoreFault::Ground
-        | StoreFault::HeadMoved(_)
-        | StoreFault::Existing(_)
-        | StoreFault::Limit(_)
-        | StoreFault::Memory => SessionEnd::Ground,
+        StoreFault::HeadMoved(name) => Ok(Reply::HeadMoved(name)),
+        StoreFault::Existing(name) => Ok(Reply::Existing(name)),
+        StoreFault::Limit(limit) => Ok(Reply::Limit(limit)),
+        StoreFault::Memory => Ok(Reply::Memory),
+        StoreFault::Ground => Err(SessionEnd::Ground),
+        StoreFault::Damaged { at, names } => Err(SessionEnd::Damaged { at, names }),
     }
 }
 
@@ -190,12 +181,12 @@ pub(crate) fn failed(fault: StoreFault, met: &mut Met) -> Result<Reply, SessionE
     ensures { Fails fault met.old met.new result }
 {
     match fault {
-        StoreFault::Ground => Err(SessionEnd::Ground),
-        StoreFault::Damaged { at, names } => Err(SessionEnd::Damaged { at, names }),
         StoreFault::Memory => Ok(refuse(met)),
-        StoreFault::Limit(limit) => Ok(Reply::Limit(limit)),
-        StoreFault::HeadMoved(name) => Ok(Reply::HeadMoved(name)),
-        StoreFault::Existing(name) => Ok(Reply::Existing(name)),
+        StoreFault::HeadMoved(name) => fault_answer(StoreFault::HeadMoved(name)),
+        StoreFault::Existing(name) => fault_answer(StoreFault::Existing(name)),
+        StoreFault::Limit(limit) => fault_answer(StoreFault::Limit(limit)),
+        StoreFault::Ground => fault_answer(StoreFault::Ground),
+        StoreFault::Damaged { at, names } => fault_answer(StoreFault::Damaged { at, names }),
     }
 }
 
