@@ -53,7 +53,7 @@ use Rattle.ip_store.specs.declared.committing.Plan.{Plan}
 use Rattle.ip_store.specs.declared.committing.StoreFault.{StoreFault}
 use Rattle.ip_store.specs.declared.store.Store.{Store}
 use Rattle.ip_store.specs.declared.work.Work.{Work}
-use Rattle.ip_store.specs.Commits.{IsNext, IsPlan, IsRefusal, GoesOn, Commits, Answers, Turns, repository_after, fault_reply, met_of, conditions_of, met_nothing, records_of}
+use Rattle.ip_store.specs.Commits.{IsNext, IsPlan, IsRefusal, Commits, Answers, Turns, repository_after, fault_reply, met_of, conditions_of, met_nothing, records_of}
 use Rattle.ip_space.specs.SpaceView.{SpaceView, grown}
 use Rattle.ip_store.specs.Placed.{IsSpaceOf}
 use Rattle.ip_store.specs.Publishing.{CanStep, MakesStep}
@@ -64,7 +64,7 @@ use Rattle.ip_store.specs.Views.{IsStored, IsViewAfter}
 use Rattle.ip_store.specs.Work.{AreParents, IsLawful, IsAt, least_of, session}
 use Rattle.ip_store.proofs.Recovering.{held_has}
 use Rattle.ip_store.proofs.Listed.{within_fits, same_records, records_below}
-use Rattle.ip_store.proofs.Stepping.{same_tables, same_holds, space_same, may_step, changed, list_after, stays_made, cut_short, same_can_step, same_step}
+use Rattle.ip_store.proofs.Stepping.{same_holds, space_same, may_step, changed, list_after, stays_made, cut_short, same_can_step, same_step}
 use Rattle.ip_store.proofs.NextSlot.{next_is, next_generation, next_space}
 use Rattle.ip_store.proofs.Histories.{history_committed}
 use Rattle.ip_store.proofs.Machine.{met_done}
@@ -330,6 +330,3 @@ pub same_answers : (store store' : Store) → SameTables store store'
     → (told : Told) (s : State) (v : View) (command : Command) (met : Met) (work : Work) (o : Option Reply) → IfSome o (λ reply. Answers told s v command met reply store work) → IfSome o (λ reply. Answers told s v command met reply store' work)
 same_answers store store' same told s v command met work None p = tt
 same_answers store store' same told s v command met work (Some reply) p = record { after = p.after; view = p.view; turns = p.turns; is_at = same_at store store' same told p.after work p.view p.is_at; seen = p.seen }
-
-pub same_goes_on : (store store' : Store) → SameTables store store' → (work : Work) → GoesOn store work → GoesOn store' work
-same_goes_on store store' same work on = record { repository = on.repository; tables = same_tables store store' same on.repository on.tables; parents = on.parents }

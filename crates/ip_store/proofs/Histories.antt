@@ -2,7 +2,7 @@
 --     known      the numbers of parents that come before a number.      record_enters      those of a record that the audit took
 --     after_record, first_after      the history after a record
 --     history_committed, may_enter, first_committed      the history after a commit
---     shows_of, held_of      what the table shows, and that it holds a retained commit
+--     shows_of      what the table shows
 --     ancestors_retained, common_retained      what is told of are retained commits
 use Rattle.std.proofs.Common.{◌≡◌, ℕ, zero, suc, ◌+◌, ◌-◌, ◌^◌, ◌<◌, ◌≤◌, Bool, true, false, cond, List, [], ◌∷◌, ◌++◌, map, length, refl, sym, ◌∙◌, ap, subst, arith, get_or, inl, inr}
 use Rattle.std.specs.Prelude.{◌&&◌, ◌==◌, Option, Some, None, All, Contains, IsTrue, filter, filter_map, reverse, nat_le, nat_lt, option_map, slice_get, slice_index_or, unwrap_or, if◌then◌else◌}
@@ -21,7 +21,7 @@ use Rattle.ip_spec.specs.Repository.{Repository, Commit, CommitParent, commit_at
 use Rattle.ip_spec.specs.History.{parents_at, retained, retained_number, ancestors, common}
 use Rattle.ip_spec.specs.Step.{as_parent, with_commit}
 use Rattle.ip_image.specs.Standing.{RecordFits, terms_of, outside, commit_of, commits_in, parent_of}
-use Rattle.ip_history.specs.History.{History, HasParentsFirst, Holds, Shows, listed, history_of}
+use Rattle.ip_history.specs.History.{History, HasParentsFirst, Shows, listed, history_of}
 use Rattle.ip_history.proofs.Parents.{first_push}
 use Rattle.ip_store.specs.Histories.{numbers_in, with_parents, MayEnter, history_in, history_after, RecordEnters}
 use Rattle.ip_image.specs.declared.slot.Slot.{Slot}
@@ -140,13 +140,6 @@ module _ (store : Store) (r : Repository) (of : IsOf store r) where
   bounds_of : (low n high : ℕ) → (nat_le low n && nat_lt n high) ≡ true → (low ≤ n) × (n < high)
   bounds_of low n high e = (grind (arith, nat_tests), grind (arith, nat_tests))
 
-  pub held_of : (n : ℕ) → IsTrue (is_retained r n) → Holds store.history n
-  held_of n is =
-      let both = bounds_of r.floor n (next r) is in
-      let size = history_size in
-      let floor = history_floor in
-      (omega (arith, both.0, floor), omega (arith, both.1, size, floor))
-
   pub may_enter : (parents slice : List ℕ) → slice ≡ parents → All (λ n. IsTrue (is_retained r n)) parents → MayEnter store.history slice
   may_enter parents slice same all =
       let size = history_size in
@@ -215,13 +208,6 @@ module _ (store : Store) (r : Repository) (of : IsOf store r) where
 
       shown : HasParentsFirst (history_of r) → Shows (history_of r) r
       shown first = record { floor = refl; count = size; parents = λ k low. at first k (subst (λ (n : ℕ). k < n) size low) (at_map r.commits k (subst (λ (n : ℕ). k < n) size low)) }
-
--- a commit that one repository of the store has is retained in another
-pub same_retained : (store : Store) (r q : Repository) → IsOf store r → IsOf store q → (n : ℕ) → IsTrue (is_retained r n) → IsTrue (is_retained q n)
-same_retained store r q of other n is =
-    let floors : r.floor ≡ q.floor = of.floor ∙ sym other.floor in
-    let nexts : next r ≡ next q = of.next ∙ sym other.next in
-    subst (λ (m : ℕ). IsTrue (nat_le q.floor n && nat_lt n m)) nexts (subst (λ (f : ℕ). IsTrue (nat_le f n && nat_lt n (next r))) floors is)
 
 -- ---- what is told of
 

@@ -1,11 +1,9 @@
 -- A loop that lists branches, by what it has still to list.
 --     Listing r rest heads      the branches so far, and those to come, are all of the repository
-use Rattle.std.proofs.Common.{◌≡◌, ℕ, ◌<◌, ◌≤◌, List, [], ◌∷◌, ◌++◌, map, Option, Some, Vec, sym, ◌∙◌, ap, subst, arith, append_assoc, IsTrue}
+use Rattle.std.proofs.Common.{◌≡◌, ℕ, ◌<◌, ◌≤◌, List, [], ◌∷◌, ◌++◌, map, Option, Some, sym, ◌∙◌, ap, subst, arith, IsTrue}
 use Rattle.std.specs.Prelude.{◌&&◌, All, IfSome, nat_le, nat_lt}
 use Rattle.std.specs.List.{AllByRecursion}
-use Rattle.std.specs.declared.alloc.Global.{Global}
 use Rattle.std.proofs.lemmas.Bool.Decides.{nat_tests}
-use Rattle.std.proofs.lemmas.List.{append-nil}
 use Rattle.std.proofs.lemmas.List.Elements.{recursion_from_All}
 use Rattle.ip_spec.specs.declared.reply.Head.{Head}
 use Rattle.ip_spec.specs.Map.{get}
@@ -40,14 +38,3 @@ module _ (r : Repository) (store : Store) (of : IsOf store r) where
     whole = ap (λ (hs : List Head). hs ++ map (head_of r) (told rest)) none ∙ ap (map (head_of r)) (is ∙ sym (ap (λ m. m.entries) of.branches));
     each = all_retained rest (recursion_from_All (λ e. get store.branches e.0.items ≡ Some e.1) rest found);
   }
-
-pub listing_more : (r : Repository) (rest : Pairs ℕ) (heads new : List Head) (head : Head) (k : Vec ℕ Global) (n : ℕ) → Listing r ((k, n) ∷ rest) heads → new ≡ heads ++ head ∷ [] → head ≡ head_of r (k.items, n) → Listing r rest new
-listing_more r rest heads new head k n listing grown is = record {
-  whole = ap (λ (hs : List Head). hs ++ map (head_of r) (told rest)) (grown ∙ ap (λ (h : Head). heads ++ h ∷ []) is) ∙ append_assoc heads (head_of r (k.items, n) ∷ []) (map (head_of r) (told rest)) ∙ listing.whole;
-  each = listing.each.1;
-}
-
-pub listing_last : (r : Repository) (rest : Pairs ℕ) (heads : List Head) → Listing r rest heads → rest ≡ [] → heads ≡ map (head_of r) r.branches.entries
-listing_last r rest heads listing none =
-    let last : Listing r [] heads = subst (λ (es : Pairs ℕ). Listing r es heads) none listing in
-    sym (append-nil heads) ∙ last.whole

@@ -1,14 +1,11 @@
 -- A merge that did nothing, once it is noted: at an answer that leaves the repository as it is, and where memory was refused.
---     still_answers, still_moments, still_appends, still_limits      at such an answer
---     memory_answers, memory_moments, memory_appends, memory_limits      where memory was refused
+--     still_answers, still_moments      at such an answer.      memory_answers, memory_moments      where memory was refused
 --     still_goes, still_stays      whatever the answer is
-use Rattle.std.proofs.Common.{◌≡◌, ℕ, Option, Some, refl, sym, subst}
+use Rattle.std.proofs.Common.{◌≡◌, ℕ, Some, sym, subst}
 use Rattle.std.specs.Prelude.{Result, Ok, Err, IfSome}
 use Rattle.ip_base.specs.declared.info.Info.{Info}
 use Rattle.ip_ground.specs.Told.{Told, NoFile, ChangesOnly}
-use Rattle.ip_ground.proofs.Passing.{changes_nothing}
 use Rattle.ip_merge.specs.Rules.{IsDecisive}
-use Rattle.ip_spec.specs.declared.record.Record.{Record}
 use Rattle.ip_spec.specs.declared.reply.Reply.{Reply}
 use Rattle.ip_spec.specs.Merge.{Rule}
 use Rattle.ip_spec.specs.Path.{Bytes}
@@ -16,26 +13,14 @@ use Rattle.ip_spec.specs.Repository.{Repository}
 use Rattle.ip_store.specs.declared.committing.StoreFault.{StoreFault}
 use Rattle.ip_store.specs.declared.merging.Merge.{Merge}
 use Rattle.ip_store.specs.declared.store.Store.{Store}
-use Rattle.ip_store.specs.Changes.{HasAnswer}
 use Rattle.ip_store.specs.Commits.{met_by, met_nothing}
-use Rattle.ip_store.specs.Merging.{merge_reply, GoesOnFrom, AnswersMerge, IsUnmoved, MergesAtMoments, AppendsMerge, LimitsMerge}
-use Rattle.ip_store.specs.Store.{IsOf, Holds, SameTables, image_records}
+use Rattle.ip_store.specs.Merging.{merge_reply, GoesOnFrom, AnswersMerge, IsUnmoved, MergesAtMoments}
+use Rattle.ip_store.specs.Store.{IsOf, Holds, image_records}
 use Rattle.ip_store.specs.Trees.{RecordsStay}
-use Rattle.ip_store.proofs.MergeExits.{answers_looked, moments_looked, moments_failed, memory_looked, goes_itself, noted_goes, noted_merged, noted_moments, noted_appended, noted_limits}
+use Rattle.ip_store.proofs.MergeExits.{answers_looked, moments_looked, moments_failed, memory_looked, goes_itself, noted_goes, noted_merged, noted_moments}
 use Rattle.ip_store.proofs.MergeTurns.{IsQuiet}
 use Rattle.ip_store.proofs.Noted.{noted_itself}
 use Rattle.ip_store.proofs.Stepping.{stays_still}
-
-unmoved_appends : (rule : Rule) (records : ℕ → Option Record) (r : Repository) (number : ℕ) (branch : Bytes) (info : Info) (store now : Store) (a b : Told) (x : Merge) → IsUnmoved (Ok x) → now.slot ≡ store.slot → AppendsMerge rule records r number branch info (Ok x) store now a b
-unmoved_appends rule records r number branch info store now a b (Merge.Current name) un same = λ has. same
-unmoved_appends rule records r number branch info store now a b Merge.NoBranch un same = λ has. same
-unmoved_appends rule records r number branch info store now a b (Merge.Bases count) un same = λ has. same
-unmoved_appends rule records r number branch info store now a b (Merge.Conflict path) un same = λ has. same
-unmoved_appends rule records r number branch info store now a b (Merge.Forward name) un same = absurd un
-unmoved_appends rule records r number branch info store now a b (Merge.Merged name) un same = absurd un
-
-unmoved_limits : (rule : Rule) (records : ℕ → Option Record) (r : Repository) (number : ℕ) (branch : Bytes) (info : Info) (store : Store) (x : Merge) → LimitsMerge rule records r number branch info (Ok x) store
-unmoved_limits rule records r number branch info store x = tt
 
 -- of a store that looked from a to b, and is the same in its tables, before it is noted
 module _ (rule : Rule) (r : Repository) (number : ℕ) (branch : Bytes) (info : Info) (before : Store) (a : Told) (held : Holds before a r) (b : Told) (only : ChangesOnly NoFile a b) (store : Store) (slot : store.slot ≡ before.slot) (now : Holds store b r)
@@ -45,12 +30,6 @@ module _ (rule : Rule) (r : Repository) (number : ℕ) (branch : Bytes) (info : 
 
   abbrev Moments : Type 0
   Moments = MergesAtMoments rule r number branch info out store' a b
-
-  abbrev Appends : (ℕ → Option Record) → Type 0
-  Appends records = AppendsMerge rule records r number branch info out before store' a b
-
-  abbrev Limits : (ℕ → Option Record) → Type 0
-  Limits records = LimitsMerge rule records r number branch info out before
 
   module _ (x : Merge) (answer : res ≡ Ok x) (un : IsUnmoved (Ok x)) (reply : Reply) (quiet : IsQuiet rule r number branch info reply r) (told : merge_reply branch (Ok x) ≡ Some reply) where
     pub still_answers : Answers
@@ -62,14 +41,6 @@ module _ (rule : Rule) (r : Repository) (number : ℕ) (branch : Bytes) (info : 
     still_moments = noted_moments rule r number branch info store store' res out same is a b
         (subst (λ o. MergesAtMoments rule r number branch info o store a b) (sym answer) (moments_looked rule r number branch info before a held b only store now x reply quiet told))
 
-    pub still_appends : (records : ℕ → Option Record) → Appends records
-    still_appends records = noted_appended rule r number branch info store store' res out same is records before a b
-        (subst (λ o. AppendsMerge rule records r number branch info o before store a b) (sym answer) (unmoved_appends rule records r number branch info before store a b x un slot))
-
-    pub still_limits : (records : ℕ → Option Record) → Limits records
-    still_limits records = noted_limits rule r number branch info store store' res out same is records before
-        (subst (λ o. LimitsMerge rule records r number branch info o before) (sym answer) (unmoved_limits rule records r number branch info before x))
-
   module _ (answer : res ≡ Err StoreFault.Memory) where
     pub memory_answers : Answers
     memory_answers = noted_merged rule r number branch info store store' res out same is b
@@ -78,12 +49,6 @@ module _ (rule : Rule) (r : Repository) (number : ℕ) (branch : Bytes) (info : 
     pub memory_moments : IsDecisive rule → Moments
     memory_moments decides = noted_moments rule r number branch info store store' res out same is a b
         (subst (λ o. MergesAtMoments rule r number branch info o store a b) (sym answer) (moments_failed rule r number branch info before a held b only store now decides StoreFault.Memory))
-
-    pub memory_appends : (records : ℕ → Option Record) → Appends records
-    memory_appends records = noted_appended rule r number branch info store store' res out same is records before a b (subst (λ o. AppendsMerge rule records r number branch info o before store a b) (sym answer) (λ has. slot))
-
-    pub memory_limits : (records : ℕ → Option Record) → Limits records
-    memory_limits records = noted_limits rule r number branch info store store' res out same is records before (subst (λ o. LimitsMerge rule records r number branch info o before) (sym answer) tt)
 
 -- who goes on from commits of the repository goes on from them
 pub still_goes : (rule : Rule) (r : Repository) (number : ℕ) (branch : Bytes) (info : Info) (store store' : Store) (res out : Result Merge StoreFault) → out ≡ res → store' ≡ record store { met = met_by res } → IsOf store r → (after : Repository) × GoesOnFrom r store' after

@@ -1,10 +1,10 @@
 -- What fetching the record of a commit comes to.
 --     commit_here      a retained commit's record stands at its place.      meets_commit      its reference is met
 --     is_fetched      where its record stands, a fetch gives it
---     fetched_commit, blames_commit, damages_commit, only_commits      what comes of what a fetch answers
+--     fetched_commit, damages_commit      what comes of what a fetch answers
 --     shown_reply, root_found      what is made of the record
 use Rattle.std.proofs.Common.{◌≡◌, ◌≢◌, ℕ, zero, suc, ◌+◌, ◌-◌, ◌<◌, ◌≤◌, true, List, [], ◌∷◌, map, length, refl, sym, ◌∙◌, ap, subst, arith}
-use Rattle.std.specs.Prelude.{Option, Some, None, Result, Ok, Err, IfOk, IsTrue, IsErrOf, ◌&&◌, nat_le, nat_lt, if◌then◌else◌, slice_get, option_map, unwrap_or}
+use Rattle.std.specs.Prelude.{Option, Some, None, Result, Ok, Err, IsTrue, ◌&&◌, nat_le, nat_lt, if◌then◌else◌, slice_get, option_map, unwrap_or}
 use Rattle.std.proofs.lemmas.Bool.Decides.{nat_tests}
 use Rattle.std.proofs.lemmas.Option.{same_Some}
 use Rattle.ip_ground.specs.Told.{Told}
@@ -20,14 +20,14 @@ use Rattle.ip_spec.specs.TreeAt.{TreeAt}
 use Rattle.ip_spec.specs.Repository.{Repository, Commit, CommitParent, next, is_retained, commit_at, name_at, tree_at}
 use Rattle.ip_spec.specs.Step.{commit_reply}
 use Rattle.ip_image.specs.Standing.{parent_of}
-use Rattle.ip_space.specs.Fetching.{Fetches, IsFetched, Blames, Meets}
+use Rattle.ip_space.specs.Fetching.{Fetches, IsFetched, Meets}
 use Rattle.ip_space.specs.declared.fault.FetchFault.{FetchFault}
 use Rattle.ip_space.specs.declared.fault.FetchFault.TheVariants.{Ground, Form, Name, Memory}
 use Rattle.ip_store.specs.declared.committing.StoreFault.{StoreFault}
 use Rattle.ip_store.specs.declared.store.Store.{Store}
 use Rattle.ip_store.specs.Placed.{IsCommitAt}
-use Rattle.ip_store.specs.Showing.{IsFetchedOr, IsRecordOf, IsCommitFrom, BlamesCommit, Damages, IsRootOf}
-use Rattle.ip_store.specs.Store.{IsOf, Holds, image_records, place_of_commit}
+use Rattle.ip_store.specs.Showing.{IsFetchedOr, IsRecordOf, IsCommitFrom, Damages, IsRootOf}
+use Rattle.ip_store.specs.Store.{Holds, image_records, place_of_commit}
 use Rattle.ip_store.proofs.Listed.{nth_commit, commits_there}
 
 inside : (low n high : ℕ) → (nat_le low n && nat_lt n high) ≡ true → (low ≤ n) × (n < high)
@@ -104,16 +104,6 @@ fetched_commit records r number c of (Err (Form at fault)) is out from = absurd 
 fetched_commit records r number c of (Err (Name at want got)) is out from = absurd is
 fetched_commit records r number c of (Err Memory) is out from = subst (λ (o : Result CommitRecord StoreFault). IsFetchedOr (IsRecordOf records r number) o) (sym from) tt
 
-pub blames_commit : (place : Option ℕ) (name : Hash) (ref : Ref) → place ≡ Some ref.at → ref.name ≡ name
-    → (fetched : Result Record FetchFault) → Blames ref fetched → (out : Result CommitRecord StoreFault) → IsCommitFrom fetched out → BlamesCommit place name out
-blames_commit place name ref there named (Ok (Record.Commit d)) is out from = subst (λ (o : Result CommitRecord StoreFault). BlamesCommit place name o) (sym from) tt
-blames_commit place name ref there named (Ok _) is out from = absurd from
-blames_commit place name ref there named (Err Ground) is out from = subst (λ (o : Result CommitRecord StoreFault). BlamesCommit place name o) (sym from) tt
-blames_commit place name ref there named (Err (Form at fault)) is out from = subst (λ (o : Result CommitRecord StoreFault). BlamesCommit place name o) (sym from) (there ∙ ap Some (sym is.0))
-blames_commit place name ref there named (Err (Name at want got)) is out from =
-    subst (λ (o : Result CommitRecord StoreFault). BlamesCommit place name o) (sym from) (there ∙ ap Some (sym is.0), is.1 ∙ named, λ e. is.2 (e ∙ sym named))
-blames_commit place name ref there named (Err Memory) is out from = subst (λ (o : Result CommitRecord StoreFault). BlamesCommit place name o) (sym from) tt
-
 -- a record of this kind is a commit's
 the_commit : (rec : Record) → reference_kind rec ≡ 4 → (c : CommitRecord) × (rec ≡ Record.Commit c)
 the_commit (Record.Commit c) kind = (c, refl)
@@ -139,18 +129,6 @@ damages_commit records ref kind (Err (Name at want got)) is out from =
     subst (λ (o : Result CommitRecord StoreFault). Damages records o) (sym from)
     (c.0, ap records is.place ∙ is.here ∙ ap Some c.1, ap name_of (sym c.1) ∙ is.name)
 damages_commit records ref kind (Err Memory) is out from = subst (λ (o : Result CommitRecord StoreFault). Damages records o) (sym from) tt
-
-pub only_commits : (ref : Ref) → ref.kind ≡ 4 → (fetched : Result Record FetchFault) → IfOk fetched (λ found. Meets ref found) → IfOk fetched (λ found. reference_kind found ≡ 4)
-only_commits ref kind (Ok found) meets = meets.kind ∙ kind
-only_commits ref kind (Err fault) meets = tt
-
-pub ground_fault : (fetched : Result Record FetchFault) (out : Result CommitRecord StoreFault) → IsCommitFrom fetched out → IsErrOf out StoreFault.Ground → IsErrOf fetched Ground
-ground_fault (Ok (Record.Commit d)) out from is = absurd (cc (from, is))
-ground_fault (Ok _) out from is = absurd from
-ground_fault (Err Ground) out from is = refl
-ground_fault (Err (Form at fault)) out from is = absurd (cc (from, is))
-ground_fault (Err (Name at want got)) out from is = absurd (cc (from, is))
-ground_fault (Err Memory) out from is = absurd (cc (from, is))
 
 -- ---- what is made of the record
 
