@@ -3,7 +3,7 @@
 --     unmerged_goes      no commit has the name that was given.      merge_serves      the session goes on serving, whatever is told
 --     merge_placed, unmerged_placed      where its records lie
 --     has_reply      what has a reply is an answer.      merge_ends, merge_counts, answer_counts      what comes of one that has none, and which faults were counted
-use Rattle.std.proofs.Common.{◌≡◌, ◌≢◌, ℕ, ◌≤◌, ◌*◌, Bool, true, false, [], ◌∷◌, ◌++◌, length, refl, sym, ap, ◌∙◌, subst, arith, Option, Some, None, Ok, Err, length-append}
+use Rattle.std.proofs.Common.{◌≡◌, ◌≢◌, ℕ, ◌≤◌, ◌*◌, Bool, true, false, [], ◌∷◌, ◌++◌, length, refl, sym, ap, ◌∙◌, subst, arith, Option, Some, Ok, Err, length-append}
 use Rattle.std.specs.Prelude.{Result, MatchResult, IfSome, codes}
 use Rattle.ip_base.specs.declared.info.Info.{Info}
 use Rattle.ip_base.specs.declared.limit.Limit.TheVariants as Limit
