@@ -1,0 +1,12 @@
+pub mod Ascending
+pub mod WholeRecords
+pub mod LeastSet
+pub mod Reading
+pub mod Entered
+pub mod Looked
+pub mod Goings
+pub mod RunsApart
+pub mod RunsJoined
+pub mod Looks
+pub mod Begins
+pub mod Standings

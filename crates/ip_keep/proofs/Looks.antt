@@ -1,0 +1,90 @@
+-- The exits of a look at a record, where the search is open.
+--     UpReady, DownReady      what is known when a record is looked at
+use Rattle.std.proofs.Common.{◌≡◌, ℕ, ◌+◌, ◌<◌, ◌≤◌, List, [], ◌∷◌, ◌++◌, sym, ap, subst, ◌∙◌, Bool, length, arith}
+use Rattle.std.specs.Prelude.{Contains, Some, None, IsTrue, Result, IsErrOf}
+use Rattle.ip_ground.specs.Told.{Told, NoFile, ChangesOnly}
+use Rattle.ip_spec.specs.declared.record.Record.{Record}
+use Rattle.ip_spec.specs.Record.{spelling}
+use Rattle.ip_space.specs.SpaceView.{SpaceView, IsReadable, records_of}
+use Rattle.ip_space.specs.ScanView.{ScanView}
+use Rattle.ip_space.specs.Scanning.{IsCurrent}
+use Rattle.ip_keep.specs.declared.fault.KeepFault.{KeepFault}
+use Rattle.ip_keep.specs.Entering.{refs_of, Gains, GainsSome}
+use Rattle.ip_keep.specs.Going.{Goes, Blameless, IsAlong}
+use Rattle.ip_keep.specs.KeepView.{KeepView}
+use Rattle.ip_keep.specs.Keeping.{IsKeep, lowest}
+use Rattle.ip_keep.proofs.Looked.{waits, with_kept}
+use Rattle.ip_keep.proofs.Goings.{goes_read, goes_up, goes_behind, goes_down, goes_kept, still_last, blameless_up, blameless_down}
+
+pub record UpReady (tells : Bool) (a : Told) (scan : ScanView) (k : KeepView) : Type 0 where
+  pub keep : IsKeep k
+  pub more : k.next < k.space.layout.end
+  pub along : IsAlong k scan
+  pub current : IsTrue tells → IsReadable a k.space → IsCurrent a k.space scan
+
+module _ (tells : Bool) (a : Told) (scan : ScanView) (k o : KeepView) (is : k ≡ o) (at_o : UpReady tells a scan o) where
+  ready : UpReady tells a scan k
+  ready = subst (UpReady tells a scan) (sym is) at_o
+
+  module _ (b : Told) (only : IsTrue tells → ChangesOnly NoFile a b) (r : Record) (w : List ℕ)
+      (found : IsTrue tells → IsReadable a k.space → IsCurrent a k.space scan → records_of a k.space scan.next ≡ Some r) where
+    found_next : IsTrue tells → IsReadable a k.space → records_of a k.space k.next ≡ Some r
+    found_next t readable = ap (records_of a k.space) (sym ready.along.next) ∙ found t readable (ready.current t readable)
+
+    pub up_waits : GainsSome k.waiting w (refs_of r) k.horizon → Goes tells a b o (waits k w)
+    up_waits gains = subst (λ (q : KeepView). Goes tells a b q (waits k w)) is (goes_up tells a b k ready.keep only r w ready.more found_next gains)
+
+    pub up_behind : (next seen : ℕ) → Gains k.waiting w (refs_of r) k.horizon → scan.next + length (spelling r) ≤ k.space.layout.end → next ≡ scan.next + length (spelling r) → seen ≡ k.seen + 1
+        → Goes tells a b o (record k { next = next; seen = seen; waiting = w })
+    up_behind next seen gains inside step one =
+        let from = ready.along.next in
+        let to : k.next + length (spelling r) ≡ next = omega (arith, from, step) in
+        subst (λ (q : KeepView). Goes tells a b q (record k { next = next; seen = seen; waiting = w })) is
+        (subst (λ (n : ℕ). Goes tells a b k (record k { next = next; seen = n; waiting = w })) (sym one)
+        (subst (λ (n : ℕ). Goes tells a b k (record k { next = n; seen = k.seen + 1; waiting = w })) to (goes_behind tells a b k ready.keep only r w ready.more found_next gains (omega (arith, inside, from)))))
+
+  pub up_blameless : {A : Type 0} (result : Result A KeepFault)
+      → (IsTrue tells → IsReadable a k.space → IsCurrent a k.space scan → (at : ℕ) → IsErrOf result (KeepFault.Damaged at) → records_of a k.space scan.next ≡ None) → Blameless tells a o result
+  up_blameless result none =
+      subst (λ (q : KeepView). Blameless tells a q result) is
+      (blameless_up tells a k result ready.more (λ t readable at bad. ap (records_of a k.space) (sym ready.along.next) ∙ none t readable (ready.current t readable) at bad))
+
+-- ---- one that waits
+
+pub record DownReady (at : ℕ) (k : KeepView) : Type 0 where
+  pub keep : IsKeep k
+  pub up : k.next ≡ k.space.layout.end
+  pub there : Contains k.waiting at
+  pub most : (n : ℕ) → Contains k.waiting n → n ≤ at
+
+module _ (tells : Bool) (a : Told) (at : ℕ) (k o : KeepView) (is : k ≡ o) (at_o : DownReady at o) (space : SpaceView) (same : space ≡ k.space) where
+  set : DownReady at k
+  set = subst (DownReady at) (sym is) at_o
+
+  module _ (b : Told) (only : IsTrue tells → ChangesOnly NoFile a b) where
+    moved : (n : KeepView) → (s : SpaceView) → s ≡ n.space → Goes tells a b k n → Goes tells a b o (record n { space = s })
+    moved n s e goes = subst (λ (q : KeepView). Goes tells a b q (record n { space = s })) is (subst (λ (t : SpaceView). Goes tells a b k (record n { space = t })) (sym e) goes)
+
+    pub down_read : Goes tells a b o (record k { space = space })
+    down_read = moved k space same (goes_read tells a b k set.keep only)
+
+    module _ (r : Record) (w : List ℕ) (found : IsTrue tells → IsReadable a k.space → records_of a k.space at ≡ Some r) where
+      pub down_waits : GainsSome k.waiting w (refs_of r) at → Goes tells a b o (record k { space = space; waiting = w })
+      down_waits gains = moved (waits k w) space same (goes_down tells a b k set.keep only r w at set.there found gains)
+
+      pub down_last : GainsSome k.waiting w (refs_of r) at → (rest : List ℕ) × (w ≡ rest ++ at ∷ [])
+      down_last gains = still_last tells a b k set.keep only r w at set.there found gains set.most
+
+      pub down_kept : (rest : List ℕ) (size below : ℕ) → Gains k.waiting w (refs_of r) at → w ≡ rest ++ at ∷ [] → size ≡ length (spelling r) → at + size ≤ below → below ≡ lowest o
+          → Goes tells a b o (record k { space = space; waiting = rest; kept = record { at = at; length = size } ∷ k.kept })
+      down_kept rest size below gains last long inside low =
+          let low_k : below ≡ lowest k = low ∙ ap lowest (sym is) in
+          moved (with_kept (waits k w) rest (record { at = at; length = size })) space same
+          (goes_kept tells a b k set.keep only r w at set.there found rest size gains set.up last long (omega (arith, inside, low_k)))
+
+  pub down_blameless : {A : Type 0} (result : Result A KeepFault) (below : ℕ) → below ≡ lowest o
+      → (IsTrue tells → IsReadable a k.space → (place : ℕ) → IsErrOf result (KeepFault.Damaged place) → (r : Record) → records_of a k.space at ≡ Some r → below < at + length (spelling r)) → Blameless tells a o result
+  down_blameless result below low long =
+      let low_k : below ≡ lowest k = low ∙ ap lowest (sym is) in
+      subst (λ (q : KeepView). Blameless tells a q result) is
+      (blameless_down tells a k result at set.keep set.there (λ t readable place bad r there. (let l = long t readable place bad r there in omega (arith, l, low_k))))

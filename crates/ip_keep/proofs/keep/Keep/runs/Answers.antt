@@ -1,0 +1,39 @@
+use Rattle.std.proofs.Common.{◌≡◌, rules, subst, sym, reverse, arith}
+use Rattle.ip_keep.specs.Runs.{FitRuns}
+use Rattle.ip_keep.proofs.RunsApart.{apart_total, apart_few, apart_inside, ends_fit, joined_rows, joined_few}
+use Rattle.ip_keep.proofs.keep.Keep.runs.Goals as goal
+
+pub returns-clause-fit : goal.returns-clause-fit
+returns-clause-fit c =
+    let k = c.args.self.now in
+    let keep = c.requires in
+    let a = keep.ends in
+    let b = keep.low in
+    let d = keep.high in
+    let e : reverse c.deref.result.now ≡ c.args.self.now.kept = search rules in
+    subst FitRuns (sym c.of.ensures) (subst FitRuns (sym e) (ends_fit k.horizon k.kept (omega (arith, a, b, d)) (apart_inside k.horizon k.kept keep.apart)))
+
+pub returns-clause-rows : goal.returns-clause-rows
+returns-clause-rows c = joined_rows c.args.self.now.horizon c.args.self.now.kept c.requires.apart
+
+pub returns-clause-total : goal.returns-clause-total
+returns-clause-total c =
+    let k = c.args.self.now in
+    let keep = c.requires in
+    let t = apart_total k.horizon k.kept keep.apart in
+    let a = keep.ends in
+    let b = keep.low in
+    let d = keep.high in
+    omega (arith, t, a, b, d)
+
+pub returns-clause-few : goal.returns-clause-few
+returns-clause-few c =
+    let k = c.args.self.now in
+    let keep = c.requires in
+    let t = apart_total k.horizon k.kept keep.apart in
+    let f = apart_few k.horizon k.kept keep.apart in
+    let j = joined_few k.kept in
+    let a = keep.ends in
+    let b = keep.low in
+    let d = keep.high in
+    omega (arith, t, f, j, a, b, d)

@@ -1,0 +1,36 @@
+-- How the search goes on.
+--     Goes tells before after old new      it does: whatever it had found of records is still true, with what it found since
+--     Blameless tells before old result      where the records are whole no damage is met
+--     IsAlong k scan      a walk is where the search is, and goes to the end
+--     LooksOne old new result      one record more was looked at.      LooksOn most old new result      so many, or fewer where none is left from the horizon on
+use Rattle.std.specs.Prelude.{◌≡◌, ℕ, ◌+◌, ◌<◌, ◌≤◌, Bool, IsTrue, Result, Ok, Err}
+use Rattle.ip_ground.specs.Told.{Told, NoFile, ChangesOnly}
+use Rattle.ip_spec.specs.TreeAt.{Records}
+use Rattle.ip_space.specs.SpaceView.{IsReadable}
+use Rattle.ip_space.specs.ScanView.{ScanView}
+use Rattle.ip_keep.specs.declared.fault.KeepFault.{KeepFault}
+use Rattle.ip_keep.specs.Faults.{IsUndamaged}
+use Rattle.ip_keep.specs.KeepView.{KeepView}
+use Rattle.ip_keep.specs.Keeping.{IsKeep, IsKeeping, SameWork, looked_in}
+use Rattle.ip_keep.specs.Whole.{AreRecords}
+
+pub record Goes (tells : Bool) (before after : Told) (old new : KeepView) : Type 0 where
+  pub keep : IsKeep new
+  pub work : SameWork old new
+  pub only : IsTrue tells → ChangesOnly NoFile before after
+  pub keeping : IsTrue tells → IsReadable before old.space → (records : Records) → AreRecords before.held old.space old.horizon records → IsKeeping records old → IsKeeping records new
+
+abbrev pub Blameless : {A : Type 0} → Bool → Told → KeepView → Result A KeepFault → Type 0
+Blameless tells before old result = IsTrue tells → IsReadable before old.space → (records : Records) → AreRecords before.held old.space old.horizon records → IsKeeping records old → IsUndamaged result
+
+pub record IsAlong (k : KeepView) (scan : ScanView) : Type 0 where
+  pub next : scan.next ≡ k.next
+  pub to : scan.to ≡ k.space.layout.end
+
+abbrev pub LooksOne : {A : Type 0} → KeepView → KeepView → Result A KeepFault → Type 0
+LooksOne old new (Ok done) = looked_in new ≡ looked_in old + 1
+LooksOne old new (Err fault) = looked_in new ≡ looked_in old
+
+abbrev pub LooksOn : ℕ → KeepView → KeepView → Result ℕ KeepFault → Type 0
+LooksOn most old new (Ok left) = (looked_in new + left ≡ looked_in old + most) × (left ≤ most) × (0 < left → new.next ≡ new.space.layout.end)
+LooksOn most old new (Err fault) = (looked_in old ≤ looked_in new) × (looked_in new ≤ looked_in old + most)
