@@ -1,0 +1,40 @@
+-- The laws.      few_looks      how many looks there are at most.      accepts      the valid pair is accepted
+use Rattle.std.proofs.Common.{◌≡◌, ℕ, ◌+◌, ◌≤◌, refl, sym, ap, subst, ◌∙◌, length, arith}
+use Rattle.std.specs.Prelude.{Some, count_by}
+use Rattle.std.proofs.lemmas.List.{length-map}
+use Rattle.ip_image.specs.Collection.{Pair, IsKept, first_difference}
+use Rattle.ip_image.proofs.PairLaws.{one_valid, same_kept, valid_found}
+use Rattle.ip_keep.specs.Keeping.{IsThrough, starts_between, looked_in}
+use Rattle.ip_keep.specs.Whole.{run_at}
+use Rattle.ip_keep.proofs.LeastSet as least
+use Rattle.ip_check.specs.declared.check.Stage.{Stage}
+use Rattle.ip_check.specs.Checking.{Accepts, FewLooks, IsAtStage}
+
+pub few_looks : FewLooks
+few_looks image records found c whole check checking kept is = omega (arith, looks, by c.stage check.stage)
+  where
+    here : IsKept records c.keep.horizon c.keep.space.layout.end kept
+    here = subst (λ (e : ℕ). IsKept records c.keep.horizon e kept) (sym check.end) (subst (λ (h : ℕ). IsKept records h c.job.end kept) (sym check.horizon) is)
+
+    looks : looked_in c.keep ≤ count_by (starts_between c.job.horizon c.job.end) records + length kept
+    looks =
+        subst (λ (e : ℕ). looked_in c.keep ≤ count_by (starts_between c.job.horizon e) records + length kept) check.end
+        (subst (λ (h : ℕ). looked_in c.keep ≤ count_by (starts_between h c.keep.space.layout.end) records + length kept) check.horizon (least.few_looks image records c.keep whole check.keep checking.keep kept here))
+
+    all : IsThrough c.keep → c.compared ≤ length kept
+    all through =
+        let (other, each, runs, joins) = least.keeps_all image records c.keep whole check.keep checking.keep through in
+        let same = same_kept records c.keep.horizon c.keep.space.layout.end other kept each here in
+        let long : length c.keep.kept ≡ length kept = ap length runs ∙ length-map other run_at ∙ ap length same in
+        let few = check.compared in
+        omega (arith, long, few)
+
+    by : (s : Stage) → IsAtStage c s → c.compared ≤ length kept
+    by Stage.Keeping none = omega (arith, none)
+    by (Stage.Comparing place) (through, place_is) = all through
+    by (Stage.Through found) through = all through
+
+pub accepts : Accepts
+accepts records job pair told valid verdict =
+    verdict.difference ∙ ap (λ (p : Pair). first_difference p (record { mapping = Some pair.mapping; prefix = Some pair.prefix })) (one_valid records job.horizon job.end verdict.pair pair verdict.valid valid)
+    ∙ valid_found pair (record { mapping = Some pair.mapping; prefix = Some pair.prefix }) refl refl

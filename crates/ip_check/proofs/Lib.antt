@@ -1,0 +1,9 @@
+pub mod AlikeBytes
+pub mod Differing
+pub mod Reading
+pub mod Making
+pub mod Going
+pub mod Linked
+pub mod KeptBytes
+pub mod Stages
+pub mod Bounds

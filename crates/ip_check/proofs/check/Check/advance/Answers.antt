@@ -1,0 +1,32 @@
+use Rattle.std.proofs.Common.{◌∙◌, Err}
+use Rattle.ip_ground.specs.Told.{NoFile}
+use Rattle.ip_ground.proofs.Spans.{only_on}
+use Rattle.ip_check.specs.declared.check.Outcome.{Outcome}
+use Rattle.ip_check.proofs.Stages.{keeps_on, says_of, undamaged_as}
+use Rattle.ip_check.proofs.check.Check.advance.Goals as goal
+
+pub returns-in-Ok-compare_prefix-clause-checking : goal.returns-in-Ok-compare_prefix-clause-checking
+returns-in-Ok-compare_prefix-clause-checking g c told readable fixed records whole keeping =
+    let r = keeps_on _ _ c.args.most _ _ _ c.find.result c.compare_prefix.result (c.find.ensures.only told) c.find.ensures.goes (c.find.ensures.keeps told) (c.compare_prefix.ensures.keeps told) records (record { readable = readable; fixed = fixed; whole = whole }) keeping in
+    r.0
+
+pub returns-in-Ok-compare_prefix-clause-says : goal.returns-in-Ok-compare_prefix-clause-says
+returns-in-Ok-compare_prefix-clause-says g c told readable fixed records whole keeping =
+    let r = keeps_on _ _ c.args.most _ _ _ c.find.result c.compare_prefix.result (c.find.ensures.only told) c.find.ensures.goes (c.find.ensures.keeps told) (c.compare_prefix.ensures.keeps told) records (record { readable = readable; fixed = fixed; whole = whole }) keeping in
+    says_of records _ c.compare_prefix.new.self _ c.outcome.result (c.compare_prefix.ensures.goes.same.job ∙ c.find.ensures.goes.same.job) r.0 c.outcome.ensures.valid c.outcome.ensures.differs
+
+pub returns-in-Err-compare_prefix-clause-checking : goal.returns-in-Err-compare_prefix-clause-checking
+returns-in-Err-compare_prefix-clause-checking g c told readable fixed records whole keeping =
+    let r = keeps_on _ _ c.args.most _ _ _ c.find.result c.compare_prefix.result (c.find.ensures.only told) c.find.ensures.goes (c.find.ensures.keeps told) (c.compare_prefix.ensures.keeps told) records (record { readable = readable; fixed = fixed; whole = whole }) keeping in
+    r.0
+
+pub returns-in-Err-compare_prefix-clause-undamaged : goal.returns-in-Err-compare_prefix-clause-undamaged
+returns-in-Err-compare_prefix-clause-undamaged g c told readable fixed records whole keeping =
+    let r = keeps_on _ _ c.args.most _ _ _ c.find.result (Err c.in-Err-compare_prefix.fault) (c.find.ensures.only told) c.find.ensures.goes (c.find.ensures.keeps told) (c.in-Err-compare_prefix.ensures.keeps told) records (record { readable = readable; fixed = fixed; whole = whole }) keeping in
+    undamaged_as {A = Unit {0}} {B = Outcome} c.in-Err-compare_prefix.fault r.1
+
+pub returns-in-Ok-compare_prefix-clause-only : goal.returns-in-Ok-compare_prefix-clause-only
+returns-in-Ok-compare_prefix-clause-only g c told = only_on _ _ _ NoFile (c.find.ensures.only told) (c.compare_prefix.ensures.only told)
+
+pub returns-in-Err-compare_prefix-clause-only : goal.returns-in-Err-compare_prefix-clause-only
+returns-in-Err-compare_prefix-clause-only g c told = only_on _ _ _ NoFile (c.find.ensures.only told) (c.compare_prefix.ensures.only told)

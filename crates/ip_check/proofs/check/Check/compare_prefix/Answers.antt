@@ -1,0 +1,43 @@
+use Rattle.std.proofs.Common.{ℕ, ◌∙◌, Ok, Err, arith}
+use Rattle.ip_ground.specs.Told.{NoFile}
+use Rattle.ip_ground.proofs.Spans.{only_on}
+use Rattle.ip_check.proofs.Stages.{all_looked, goes_on, keeps_on, undamaged_as, undone}
+use Rattle.ip_check.proofs.check.Check.compare_prefix.Goals as goal
+
+pub returns-in-Err-clause-keeps : goal.returns-in-Err-clause-keeps
+returns-in-Err-clause-keeps g c told records over keeping =
+    let kept = c.loop-place.invariant in
+    let r = keeps_on _ _ c.args.most _ _ _ (Ok tt) (Err c.in-Err.fault) (kept.only told) kept.goes (kept.keeps told) (c.in-Err.ensures.keeps told) records over keeping in
+    (r.0, undamaged_as {A = ℕ} {B = Unit {0}} c.in-Err.fault r.1)
+
+pub returns-in-Err-clause-only : goal.returns-in-Err-clause-only
+returns-in-Err-clause-only g c told = only_on _ _ _ NoFile (c.loop-place.invariant.only told) (c.compare_next.ensures.only told)
+
+pub loop-place-preserved : goal.loop-place-preserved
+loop-place-preserved g c =
+    let kept = c.loop-place.invariant in
+    let some = c.in-Ok.ensures.some in
+    record {
+      few = omega (arith, kept.few);
+      goes = goes_on c.args.most c.loop-place.left c.args.most _ _ _ kept.goes c.compare_next.ensures.goes (omega (arith, kept.exact));
+      exact = omega (arith, kept.exact, some.0, some.1, some.2);
+      found = λ e. absurd (c.compare_next.ensures.stage e);
+      keeps = λ told records over keeping.
+          let r = keeps_on _ _ c.args.most _ _ _ (Ok tt) (Ok c.in-Ok.count) (kept.only told) kept.goes (kept.keeps told) (c.in-Ok.ensures.keeps told) records over keeping in
+          (r.0, λ at e. undone tt at e);
+      only = λ told. only_on _ _ _ NoFile (kept.only told) (c.compare_next.ensures.only told);
+      counts = c.in-Ok.ensures.counts ∙ kept.counts;
+    }
+
+pub returns-clause-keeps : goal.returns-clause-keeps
+returns-clause-keeps g c told =
+    let kept = c.loop-place.invariant in
+    keeps_on _ _ c.args.most _ _ _ (Ok tt) c.compare_last.result (kept.only told) kept.goes (kept.keeps told) (c.compare_last.ensures.keeps told)
+
+pub returns-clause-only : goal.returns-clause-only
+returns-clause-only g c told = only_on _ _ _ NoFile (c.loop-place.invariant.only told) (c.compare_last.ensures.only told)
+
+pub returns-clause-all : goal.returns-clause-all
+returns-clause-all g c =
+    let kept = c.loop-place.invariant in
+    all_looked (Unit {0}) c.args.most c.loop-place.left c.args.self.now c.loop-place.self c.compare_last.new.self c.compare_last.result kept.exact kept.found c.in_default.ensures.none c.compare_last.ensures.goes c.compare_last.ensures.same c.compare_last.ensures.all

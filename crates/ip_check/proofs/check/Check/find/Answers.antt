@@ -1,0 +1,35 @@
+use Rattle.std.proofs.Common.{ℕ, rules, sym, subst, Ok}
+use Rattle.ip_keep.specs.Keeping.{IsThrough}
+use Rattle.ip_keep.specs.Runs.{left_of}
+use Rattle.ip_check.specs.declared.check.Stage.{Stage}
+use Rattle.ip_check.specs.CheckView.{CheckView}
+use Rattle.ip_check.specs.Checking.{IsCheck}
+use Rattle.ip_check.specs.Going.{KeepsTrue, found_of, next_stage}
+use Rattle.ip_check.proofs.Stages.{goes_kept, keeping_kept, keeps_mapping, keeps_on, undone, with_keep, with_stage}
+use Rattle.ip_ground.specs.Told.{NoFile}
+use Rattle.ip_ground.proofs.Spans.{only_on}
+use Rattle.ip_check.proofs.check.Check.find.Goals as goal
+
+pub returns-in-Err-compare_mapping-clause-only : goal.returns-in-Err-compare_mapping-clause-only
+returns-in-Err-compare_mapping-clause-only g c told = only_on _ _ _ NoFile (c.advance.ensures.only told) (c.compare_mapping.ensures.only told)
+
+pub returns-clause-only : goal.returns-clause-only
+returns-clause-only g c told = only_on _ _ _ NoFile (c.advance.ensures.only told) (c.compare_mapping.ensures.only told)
+
+pub returns-clause-keeps : goal.returns-clause-keeps
+returns-clause-keeps g c told =
+    let old = g.G.Ground.told c.args.outside.now in
+    let mid = g.G.Ground.told c.advance.new.outside in
+    let v : CheckView = record { job = c.self.inside.job; keep = c.self.inside.keep; stage = c.self.inside.stage; compared = c.self.inside.compared } in
+    let check : IsCheck v = subst IsCheck (sym c.self.view_is) c.requires.check in
+    let k = c.advance.new.self in
+    let left = c.in-Ok.left in
+    let found = c.in-Ok-compare_mapping.found in
+    let goes = goes_kept c.args.most v k (Ok left) check c.in-Keeping.is c.advance.ensures.keep c.advance.ensures.work c.in-Ok.ensures.looks in
+    let through : IsThrough k = search rules in
+    let first : KeepsTrue {A = ℕ} old v (with_keep v k) (Ok left) = λ records over keeping.
+    (keeping_kept records (found_of old v) v k c.in-Keeping.is (c.advance.ensures.keeping told over.readable records over.whole keeping.keep), λ at e. undone left at e) in
+    let second = keeps_mapping mid (with_keep v k) (left_of c.runs.result) found goes.check through c.runs.ensures.runs (λ fixed. c.in-Ok-compare_mapping.ensures.says told fixed.mapping) left in
+    subst (λ (t : Stage). KeepsTrue {A = ℕ} old c.args.self.now (record { job = v.job; keep = k; stage = t; compared = v.compared }) (Ok left)) (sym c.next_stage-self-inside.ensures)
+    (subst (λ (w : CheckView). KeepsTrue {A = ℕ} old w (with_stage (with_keep v k) (next_stage found 0)) (Ok left)) c.self.view_is
+    (keeps_on old mid c.args.most v (with_keep v k) (with_stage (with_keep v k) (next_stage found 0)) (Ok left) (Ok left) (c.advance.ensures.only told) goes first second))

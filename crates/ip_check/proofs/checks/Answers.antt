@@ -1,0 +1,8 @@
+use Rattle.ip_check.proofs.Bounds.{few_looks, accepts}
+use Rattle.ip_check.proofs.checks.Goals as goal
+
+pub returns-clause-few_looks : goal.returns-clause-few_looks
+returns-clause-few_looks c = few_looks
+
+pub returns-clause-accepts : goal.returns-clause-accepts
+returns-clause-accepts c = accepts

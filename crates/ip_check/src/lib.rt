@@ -1,0 +1,19 @@
+//! The check of what a collection wrote: its files are the valid pair, byte for byte, or the first place at which they differ is told.
+#![tactic(auto)]
+
+ghost use Rattle.ip_check.specs.Checking.{Accepts, FewLooks};
+
+mod check;
+mod compare;
+mod fault;
+mod mapping;
+mod prefix;
+
+pub use check::{Check, Outcome, Stage};
+pub use fault::CheckFault;
+
+/// No check looks at more records than those from the horizon on, and twice those that are kept. The valid pair has no difference.
+pub fn checks()
+    ensures few_looks { FewLooks }
+    ensures accepts { Accepts }
+{}
