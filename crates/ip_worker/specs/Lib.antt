@@ -1,0 +1,4 @@
+pub mod Faults
+pub mod Steps
+pub mod Whole
+pub mod Working
