@@ -3,6 +3,7 @@
 --     rows_in_order, rows_numbers, rows_total, runs_again      the rows of their runs are in order, fit their fields, and add up
 --     kept_stand      in the bytes that the runs give of the prefix each of them stands
 --     runs_filled      records that stand fill their runs
+--     front_rows, front_total      one run more in front
 use Rattle.std.proofs.Common.{◌≡◌, ◌≢◌, ◌⊎◌, inl, inr, ℕ, zero, suc, ◌+◌, ◌-◌, ◌^◌, ◌<◌, ◌≤◌, List, [], ◌∷◌, ◌++◌, refl, sym, ap, subst, ◌∙◌, Option, Some, Bool, true, false, cond, T, length, arith, eqb→eq, length-append}
 use Rattle.std.proofs.lemmas.Bool.{cases_lt}
 use Rattle.std.proofs.lemmas.Bool.Decides.{nat_tests}
@@ -172,7 +173,8 @@ module _ (g : ℕ → Option ℕ) where
 move_rows : (h m n p q : ℕ) (runs : List Run) → m ≡ n → p ≡ q → RowsFitFrom h m p (placed p runs) → RowsFitFrom h n q (placed q runs)
 move_rows h m n p q runs e f fits = subst (λ (k : ℕ). RowsFitFrom h n k (placed k runs)) f (subst (λ (k : ℕ). RowsFitFrom h k p (placed p runs)) e fits)
 
-front_rows : (h from place at n : ℕ) (runs : List Run) → from ≤ at → 0 < n → at + n ≤ h → RowsFitFrom h (at + n) (place + n) (placed (place + n) runs) → RowsFitFrom h from place (placed place (in_front at n runs))
+-- the rows of runs, with one more in front, that is joined to the first where they touch
+pub front_rows : (h from place at n : ℕ) (runs : List Run) → from ≤ at → 0 < n → at + n ≤ h → RowsFitFrom h (at + n) (place + n) (placed (place + n) runs) → RowsFitFrom h from place (placed place (in_front at n runs))
 front_rows h from place at n [] low some high fits = (record { apart = low; some = some; below = high; placed = refl }, tt)
 front_rows h from place at n (run ∷ runs) low some high (one, rest) = by (at + n == run.at) refl
   where
@@ -220,7 +222,7 @@ rows_many place (run ∷ runs) = ap suc (rows_many (place + run.length) runs)
 more_total : (run : Run) (runs : List Run) → total (run ∷ runs) ≡ run.length + total runs
 more_total run runs = sum_by-cons (λ (run : Run). run.length) run runs
 
-front_total : (at n : ℕ) (runs : List Run) → total (in_front at n runs) ≡ n + total runs
+pub front_total : (at n : ℕ) (runs : List Run) → total (in_front at n runs) ≡ n + total runs
 front_total at n [] = more_total (record { at = at; length = n }) []
 front_total at n (run ∷ runs) = by (at + n == run.at)
   where

@@ -1,5 +1,5 @@
 -- The live pair of an image, and the stretches of one that stands.
---     damaged_by      a bad pair is where the image is damaged.      one_rows, no_rows      its rows
+--     damaged_by      a bad pair is where the image is damaged.      one_mapping, one_rows, no_rows      its rows
 --     stretches_stand      within each stretch records lie end to end
 use Rattle.std.proofs.Common.{◌≡◌, ◌≢◌, ℕ, zero, suc, ◌+◌, ◌-◌, ◌<◌, ◌≤◌, List, [], ◌∷◌, ◌++◌, length, map, get_or, refl, sym, ◌∙◌, subst, arith}
 use Rattle.std.specs.Prelude.{Contains, Option, Some}
@@ -38,7 +38,7 @@ damaged_by image control index s file at held is live (no_prefix rows mapping fi
 same_some : (x y : Bytes) → Some x ≡ Some y → x ≡ y
 same_some x y e = cc
 
-one_mapping : (image : Image) (s : Layout) (rows others : List Row) → MappingIs image s rows → MappingIs image s others → rows ≡ others
+pub one_mapping : (image : Image) (s : Layout) (rows others : List Row) → MappingIs image s rows → MappingIs image s others → rows ≡ others
 one_mapping image s rows others one two =
     same_files s.horizon one.end two.end rows others one.numbers two.numbers (one.count ∙ sym two.count) (same_some (mapping_file s.horizon one.end rows) (mapping_file s.horizon two.end others) (sym one.file ∙ two.file))
 
