@@ -14,8 +14,6 @@ mod fault;
 mod head;
 mod mapping;
 mod reader;
-#[cfg(test)]
-mod tests;
 
 pub use encode::{build, put_head, put_row};
 pub use fault::MappingFault;

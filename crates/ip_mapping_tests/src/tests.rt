@@ -1,4 +1,4 @@
-use crate::{Head, Mapping, MappingFault, Row, Run, build};
+use ip_mapping::{Head, Mapping, MappingFault, Row, Run, build};
 use std::alloc::{AllocError, Global};
 use std::test::Fail;
 
