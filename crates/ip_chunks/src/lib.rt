@@ -12,8 +12,6 @@ ghost use Rattle.ip_chunks.specs.Places.{NoGap};
 ghost use Rattle.ip_chunks.specs.Fronts.{Holds, bytes_from};
 
 mod chunks;
-#[cfg(test)]
-mod tests;
 
 pub use chunks::Chunks;
 

@@ -1,7 +1,7 @@
 use Rattle.std.proofs.Common.{inr, refl}
 use Rattle.ip_chunks.proofs.Bytes.{no_gap_from}
 use Rattle.ip_chunks.proofs.Behind.{no_gap_before, stops_at_append, appends_kept}
-use Rattle.ip_chunks.proofs.tests.append_kept.Goals as goal
+use Rattle.ip_chunks_tests.proofs.tests.append_kept.Goals as goal
 
 pub returns-in_err-append : goal.returns-in_err-append
 returns-in_err-append g c told holds =

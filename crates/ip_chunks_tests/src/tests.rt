@@ -4,7 +4,7 @@ ghost use Rattle.ip_image.specs.Slot.{IsChunkSize};
 ghost use Rattle.ip_chunks.specs.Places.{chunk_start};
 ghost use Rattle.ip_chunks.specs.Fronts.{Holds, AppendsKept};
 
-use crate::Chunks;
+use ip_chunks::Chunks;
 use ip_ground::{Bench, FileName, Ground, GroundFault};
 use std::alloc::Global;
 use std::test::Fail;
