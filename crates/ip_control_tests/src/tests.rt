@@ -4,7 +4,7 @@ ghost use Rattle.ip_image.specs.Slot.{slot_bytes};
 ghost use Rattle.ip_control.specs.Live.{live_of, live_slot, IsSpare, IsNewer};
 ghost use Rattle.ip_control.specs.Changes.{control};
 
-use crate::{Slot, open_gate, prepare, read_live};
+use ip_control::{Slot, open_gate, prepare, read_live};
 use ip_ground::{Bench, FileName, Ground, GroundFault};
 use std::test::Fail;
 

@@ -1,7 +1,7 @@
 use Rattle.std.proofs.Common.{arith}
 use Rattle.ip_image.specs.Slot.{live_index}
 use Rattle.ip_control.specs.Live.{live_of, sequence_of}
-use Rattle.ip_control.proofs.tests.published_from.Goals as goal
+use Rattle.ip_control_tests.proofs.tests.published_from.Goals as goal
 
 pub returns-in-Closed : goal.returns-in-Closed
 unfolding live_of live_index sequence_of

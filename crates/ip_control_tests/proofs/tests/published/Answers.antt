@@ -1,8 +1,8 @@
 use Rattle.std.proofs.Common.{refl, ap, arith, ◌∙◌}
 use Rattle.std.proofs.lemmas.Result.{on_ok_weaker}
 use Rattle.ip_control.specs.Live.{live_of}
-use Rattle.ip_control.proofs.Beginning.{ready, newer}
-use Rattle.ip_control.proofs.tests.published.Goals as goal
+use Rattle.ip_control_tests.proofs.Beginning.{ready, newer}
+use Rattle.ip_control_tests.proofs.tests.published.Goals as goal
 
 pub returns : goal.returns
 returns c blank reaches spare newer_than =
