@@ -17,6 +17,3 @@ pub use ip_spec::record::{
 pub use name::{commit_name, hash_contents, name_of_record};
 pub use read::read_record;
 pub use referring::{RecordReferences, references};
-
-#[cfg(test)]
-mod tests;

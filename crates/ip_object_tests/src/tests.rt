@@ -1,7 +1,7 @@
-use crate::{
+use ip_base::Hash;
+use ip_object::{
     RecordFault, encode_into, hash_contents, name_of_record, put_contents, read_record, references,
 };
-use ip_base::Hash;
 use std::alloc::Global;
 use std::test::Fail;
 
