@@ -6,8 +6,6 @@ mod field;
 mod line;
 mod reply;
 mod source;
-#[cfg(test)]
-mod tests;
 mod words;
 
 pub use ip_spec::command::{Command, LineFault, Target};

@@ -1,6 +1,8 @@
-use crate::{Bytes, Command, LineFault, Reply, Source, SourceFault, Target, read_line, reply_text};
 use ip_base::{Blob, Hash, Hashes, Info, Items, Limit, Memory, Number, Path, Step};
 use ip_ground::Exit;
+use ip_script::{
+    Bytes, Command, LineFault, Reply, Source, SourceFault, Target, read_line, reply_text,
+};
 use ip_spec::reply::{Difference, Head, Produced, Seen};
 use ip_spec::tree::Item;
 use std::alloc::Global;
