@@ -1,5 +1,5 @@
 -- References that are entered one by one.
---     gains_none, gains_one, gains_skip      none, one that lies below the bound, and one that doesn't
+--     gains_none, gains_one      none, and one that lies below the bound
 --     gains_more, some_more, some_front      one more of a list, and the front of one
 use Rattle.std.proofs.Common.{◌≡◌, ◌⊎◌, inl, inr, ℕ, zero, suc, ◌+◌, ◌<◌, ◌≤◌, List, [], ◌∷◌, ◌++◌, refl, sym, ap, subst, ◌∙◌, Bool, true, false, cond, arith, length, get_or, take, map}
 use Rattle.std.specs.Prelude.{◌↔◌, Contains}
@@ -65,9 +65,6 @@ some_none old refs below = record { kept = λ at c. c; only = λ at c. inl c; ri
 
 pub gains_none : (old : List ℕ) (below : ℕ) → Gains old old [] below
 gains_none old below = record { some = some_none old [] below; all = λ at c less. absurd (in_from [] at c) }
-
-pub gains_skip : (old : List ℕ) (x below : ℕ) → below ≤ x → Gains old old (x ∷ []) below
-gains_skip old x below high = record { some = some_none old (x ∷ []) below; all = λ at c less. (let e = one_of x at c in absurd (omega (arith, e, less, high))) }
 
 pub gains_one : (s t : BTreeSet ℕ) (x below : ℕ) → x < below → UpdatesBy nat_cmp (nat_cmp x) s t true → IsOrdered nat_cmp t → Gains s.keys t.keys (x ∷ []) below
 gains_one s t x below less u ordered = record {

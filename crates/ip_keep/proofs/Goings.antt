@@ -2,8 +2,9 @@
 --     goes_nowhere, goes_on      no call, and two.      blames_later      what is met by the second one is met by both
 --     goes_read, goes_up, goes_behind      a record from the horizon on: not entered whole, or looked at.      goes_down, goes_kept      one that waits
 --     blameless_up, blameless_down, blameless_other      no damage is met where records are whole
-use Rattle.std.proofs.Common.{◌≡◌, ◌⊎◌, inl, inr, ℕ, ◌+◌, ◌<◌, ◌≤◌, List, [], ◌∷◌, ◌++◌, refl, sym, ap, subst, ◌∙◌, Bool, length, arith}
-use Rattle.std.specs.Prelude.{Contains, Option, Some, None, IsTrue, Result, Err, IsErrOf}
+use Rattle.std.proofs.Common.{◌≡◌, ◌⊎◌, inl, inr, ℕ, ◌+◌, ◌<◌, ◌≤◌, List, [], ◌∷◌, ◌++◌, refl, sym, ap, subst, ◌∙◌, Bool, true, false, length, arith}
+use Rattle.std.proofs.lemmas.Bool.{false≢true}
+use Rattle.std.specs.Prelude.{Contains, Option, Some, IsTrue, Result, Err, IsErrOf}
 use Rattle.std.specs.List.Sorted.{IsStrictlyIncreasing}
 use Rattle.ip_ground.specs.Told.{Told, NoFile, ChangesOnly}
 use Rattle.ip_ground.proofs.Spans.{only_nowhere, only_on}
@@ -18,13 +19,13 @@ use Rattle.ip_space.proofs.Stayed.{byte_stays, readable_stays}
 use Rattle.ip_space.proofs.StoodBytes.{alike}
 use Rattle.ip_spec.proofs.Spelling.{some_bytes}
 use Rattle.ip_keep.specs.declared.fault.KeepFault.{KeepFault}
-use Rattle.ip_keep.specs.Entering.{refs_of, Gains, GainsSome}
+use Rattle.ip_keep.specs.Entering.{are_below, refs_of, Gains, GainsSome}
 use Rattle.ip_keep.specs.Going.{Goes, Blameless}
 use Rattle.ip_keep.specs.KeepView.{KeepView}
 use Rattle.ip_keep.specs.Keeping.{IsKeep, IsKeeping, SameWork, lowest}
 use Rattle.ip_keep.specs.Whole.{AreRecords}
 use Rattle.ip_keep.proofs.Ascending.{up, increasing, up_front, last_is}
-use Rattle.ip_keep.proofs.Looked.{waits, behind_next, with_kept, waits_below, stays_keep, horizon_low, passed_keep, kept_keep, entered, above_sound, below_sound, next_there, passed, waits_there, inside_lowest, refers_under, kept_one}
+use Rattle.ip_keep.proofs.Looked.{waits, behind_next, with_kept, waits_below, stays_keep, horizon_low, passed_keep, kept_keep, entered, above_sound, below_sound, next_there, passed, waits_there, inside_lowest, refers_under, refers_below, kept_one}
 use Rattle.ip_keep.proofs.WholeRecords.{in_space}
 
 same_some : (x y : Record) → Some x ≡ Some y → x ≡ y
@@ -154,17 +155,18 @@ module _ (tells : Bool) where
   -- ---- no damage
 
   module _ {A : Type 0} (a : Told) (k : KeepView) (result : Result A KeepFault) where
-    pub blameless_up : k.next < k.space.layout.end → (IsTrue tells → IsReadable a k.space → (at : ℕ) → IsErrOf result (KeepFault.Damaged at) → records_of a k.space k.next ≡ None) → Blameless tells a k result
-    blameless_up more none t readable records whole keeping at is =
+    pub blameless_up : k.next < k.space.layout.end → (IsTrue tells → IsReadable a k.space → (at : ℕ) → IsErrOf result (KeepFault.Damaged at) →
+        (r : Record) → records_of a k.space k.next ≡ Some r → are_below k.next (refs_of r) ≡ false) → Blameless tells a k result
+    blameless_up more ahead t readable records whole keeping at is =
         let (r, there) = next_there a.held records k whole keeping more in
-        let some = in_space a.held k.space k.horizon records whole k.next r there in
-        let gone = none t readable at is in cc (some, gone)
+        let bad = ahead t readable at is r (in_space a.held k.space k.horizon records whole k.next r there) in
+        false≢true (sym bad ∙ refers_below a.held records k whole keeping r k.next there)
 
     pub blameless_down : (at : ℕ) → IsKeep k → Contains k.waiting at
-        → (IsTrue tells → IsReadable a k.space → (place : ℕ) → IsErrOf result (KeepFault.Damaged place) → (r : Record) → records_of a k.space at ≡ Some r → lowest k < at + length (spelling r)) → Blameless tells a k result
+        → (IsTrue tells → IsReadable a k.space → (place : ℕ) → IsErrOf result (KeepFault.Damaged place) → (r : Record) → records_of a k.space at ≡ Some r → are_below at (refs_of r) ≡ true → lowest k < at + length (spelling r)) → Blameless tells a k result
     blameless_down at keep there long t readable records whole keeping place is =
         let (r, here) = waits_there a.held records k whole keeping at there in
-        let over = long t readable place is r (in_space a.held k.space k.horizon records whole at r here) in
+        let over = long t readable place is r (in_space a.held k.space k.horizon records whole at r here) (refers_below a.held records k whole keeping r at here) in
         let within = inside_lowest a.held records k whole keeping at r (waits_below k keep at there) here in
         absurd (omega (arith, over, within))
 

@@ -6,7 +6,6 @@ pub mod Entered
 pub mod Looked
 pub mod Goings
 pub mod RunsApart
-pub mod RunsJoined
 pub mod Looks
 pub mod Begins
 pub mod Standings

@@ -1,8 +1,8 @@
 -- A look at a record, over values.
 --     entered      references that were entered are found.      passed      the record from the horizon on was looked at.      kept_one      so was the greatest that waits
 --     stays_keep, passed_keep, kept_keep      what holds over any files
-use Rattle.std.proofs.Common.{◌≡◌, ◌⊎◌, inl, inr, ℕ, ◌+◌, ◌<◌, ◌≤◌, List, [], ◌∷◌, ◌++◌, refl, sym, ap, subst, ◌∙◌, length, arith}
-use Rattle.std.specs.Prelude.{Contains, Option, Some, None, IsSome}
+use Rattle.std.proofs.Common.{◌≡◌, ◌⊎◌, inl, inr, ℕ, ◌+◌, ◌<◌, ◌≤◌, List, [], ◌∷◌, ◌++◌, refl, sym, ap, subst, ◌∙◌, true, length, arith}
+use Rattle.std.specs.Prelude.{nat_lt, Contains, Option, Some, None, IsSome}
 use Rattle.std.specs.List.{AllByRecursion}
 use Rattle.std.specs.List.Sorted.{IsStrictlyIncreasing}
 use Rattle.ip_ground.specs.Contents.{Image}
@@ -16,8 +16,10 @@ use Rattle.ip_image.proofs.PairLaws.{Has}
 use Rattle.ip_image.proofs.StayingRecords.{In, in_from, in_contains, present_has, has_present}
 use Rattle.ip_space.specs.Scanning.{RunsTo, at_the_end, behind}
 use Rattle.std.proofs.lemmas.Bool.{cases_lt}
+use Rattle.std.proofs.lemmas.Bool.Decides.{nat_tests}
+use Rattle.ip_spec.proofs.ReadingLaws.{all_test}
 use Rattle.ip_spec.proofs.Spelling.{some_bytes}
-use Rattle.ip_keep.specs.Entering.{refs_of, GainsSome}
+use Rattle.ip_keep.specs.Entering.{are_below, refs_of, GainsSome}
 use Rattle.ip_keep.specs.KeepView.{KeepView}
 use Rattle.ip_keep.specs.Keeping.{IsKeep, IsKeeping, IsFound, offsets, lowest}
 use Rattle.ip_keep.specs.Runs.{least}
@@ -50,6 +52,9 @@ all_at P (y ∷ xs) all x (inr c) = all_at P xs all.1 x c
 all_of : (P : ℕ → Type 0) (xs : List ℕ) → ((x : ℕ) → In xs x → P x) → AllByRecursion P xs
 all_of P [] all = tt
 all_of P (x ∷ xs) all = (all x (inl refl), all_of P xs (λ y c. all y (inr c)))
+
+all_below : (n : ℕ) (refs : List ℕ) → ((at : ℕ) → In refs at → at < n) → are_below n refs ≡ true
+all_below n refs each = all_test (λ (at : ℕ). at < n) (λ (at : ℕ). nat_lt at n) (λ at less. grind (arith, nat_tests)) refs (all_of (λ (at : ℕ). at < n) refs each)
 
 pub waits_below : (k : KeepView) → IsKeep k → (at : ℕ) → Contains k.waiting at → at < lowest k
 waits_below k keep at c = all_at (λ at. at < lowest k) k.waiting keep.below at (in_from k.waiting at c)
@@ -215,6 +220,9 @@ module _ (image : Image) (records : Records) (k : KeepView) (whole : AreRecords 
 
   pub refers_under : (r : Record) (n : ℕ) → present records n ≡ Some r → (at : ℕ) → Contains (refs_of r) at → at < n
   refers_under r n here at c = (whole.closed.below (core_record (n, r)) at (core_here image k.space k.horizon records whole (n, r) (present_has records n r here)) c).0
+
+  pub refers_below : (r : Record) (n : ℕ) → present records n ≡ Some r → are_below n (refs_of r) ≡ true
+  refers_below r n here = all_below n (refs_of r) (λ at c. refers_under r n here at (in_contains (refs_of r) at c))
 
   pub kept_one : (rest : List ℕ) (run : Run) (r : Record) → k.waiting ≡ rest ++ run.at ∷ [] → present records run.at ≡ Some r → run.length ≡ length (spelling r)
       → ((at : ℕ) → Contains (refs_of r) at → IsFound k at) → IsKeeping records (with_kept k rest run)

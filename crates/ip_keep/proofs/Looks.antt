@@ -1,7 +1,7 @@
 -- The exits of a look at a record, where the search is open.
 --     UpReady, DownReady      what is known when a record is looked at
-use Rattle.std.proofs.Common.{◌≡◌, ℕ, ◌+◌, ◌<◌, ◌≤◌, List, [], ◌∷◌, ◌++◌, sym, ap, subst, ◌∙◌, Bool, length, arith}
-use Rattle.std.specs.Prelude.{Contains, Some, None, IsTrue, Result, IsErrOf}
+use Rattle.std.proofs.Common.{◌≡◌, ℕ, ◌+◌, ◌<◌, ◌≤◌, List, [], ◌∷◌, ◌++◌, sym, ap, subst, ◌∙◌, Bool, true, false, length, arith}
+use Rattle.std.specs.Prelude.{Contains, Some, IsTrue, Result, IsErrOf}
 use Rattle.ip_ground.specs.Told.{Told, NoFile, ChangesOnly}
 use Rattle.ip_spec.specs.declared.record.Record.{Record}
 use Rattle.ip_spec.specs.Record.{spelling}
@@ -9,7 +9,7 @@ use Rattle.ip_space.specs.SpaceView.{SpaceView, IsReadable, records_of}
 use Rattle.ip_space.specs.ScanView.{ScanView}
 use Rattle.ip_space.specs.Scanning.{IsCurrent}
 use Rattle.ip_keep.specs.declared.fault.KeepFault.{KeepFault}
-use Rattle.ip_keep.specs.Entering.{refs_of, Gains, GainsSome}
+use Rattle.ip_keep.specs.Entering.{are_below, refs_of, Gains, GainsSome}
 use Rattle.ip_keep.specs.Going.{Goes, Blameless, IsAlong}
 use Rattle.ip_keep.specs.KeepView.{KeepView}
 use Rattle.ip_keep.specs.Keeping.{IsKeep, lowest}
@@ -44,10 +44,13 @@ module _ (tells : Bool) (a : Told) (scan : ScanView) (k o : KeepView) (is : k �
         (subst (λ (n : ℕ). Goes tells a b k (record k { next = n; seen = k.seen + 1; waiting = w })) to (goes_behind tells a b k ready.keep only r w ready.more found_next gains (omega (arith, inside, from)))))
 
   pub up_blameless : {A : Type 0} (result : Result A KeepFault)
-      → (IsTrue tells → IsReadable a k.space → IsCurrent a k.space scan → (at : ℕ) → IsErrOf result (KeepFault.Damaged at) → records_of a k.space scan.next ≡ None) → Blameless tells a o result
-  up_blameless result none =
+      → (IsTrue tells → IsReadable a k.space → IsCurrent a k.space scan → (at : ℕ) → IsErrOf result (KeepFault.Damaged at) →
+      (r : Record) → records_of a k.space scan.next ≡ Some r → are_below scan.next (refs_of r) ≡ false) → Blameless tells a o result
+  up_blameless result ahead =
       subst (λ (q : KeepView). Blameless tells a q result) is
-      (blameless_up tells a k result ready.more (λ t readable at bad. ap (records_of a k.space) (sym ready.along.next) ∙ none t readable (ready.current t readable) at bad))
+      (blameless_up tells a k result ready.more
+      (subst (λ (n : ℕ). IsTrue tells → IsReadable a k.space → (at : ℕ) → IsErrOf result (KeepFault.Damaged at) → (r : Record) → records_of a k.space n ≡ Some r → are_below n (refs_of r) ≡ false)
+      ready.along.next (λ t readable at bad. ahead t readable (ready.current t readable) at bad)))
 
 -- ---- one that waits
 
@@ -83,8 +86,8 @@ module _ (tells : Bool) (a : Told) (at : ℕ) (k o : KeepView) (is : k ≡ o) (a
           (goes_kept tells a b k set.keep only r w at set.there found rest size gains set.up last long (omega (arith, inside, low_k)))
 
   pub down_blameless : {A : Type 0} (result : Result A KeepFault) (below : ℕ) → below ≡ lowest o
-      → (IsTrue tells → IsReadable a k.space → (place : ℕ) → IsErrOf result (KeepFault.Damaged place) → (r : Record) → records_of a k.space at ≡ Some r → below < at + length (spelling r)) → Blameless tells a o result
+      → (IsTrue tells → IsReadable a k.space → (place : ℕ) → IsErrOf result (KeepFault.Damaged place) → (r : Record) → records_of a k.space at ≡ Some r → are_below at (refs_of r) ≡ true → below < at + length (spelling r)) → Blameless tells a o result
   down_blameless result below low long =
       let low_k : below ≡ lowest k = low ∙ ap lowest (sym is) in
       subst (λ (q : KeepView). Blameless tells a q result) is
-      (blameless_down tells a k result at set.keep set.there (λ t readable place bad r there. (let l = long t readable place bad r there in omega (arith, l, low_k))))
+      (blameless_down tells a k result at set.keep set.there (λ t readable place bad r there under. (let l = long t readable place bad r there under in omega (arith, l, low_k))))

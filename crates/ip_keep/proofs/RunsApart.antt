@@ -1,7 +1,7 @@
 -- Runs that are apart, below a horizon.
 --     apart_total, apart_few      what they add up to, and how many they are.      apart_inside      each ends at or below it
 --     joined_rows      those that touch joined, they are in order
-use Rattle.std.proofs.Common.{◌≡◌, ◌≢◌, ℕ, suc, ◌+◌, ◌^◌, ◌<◌, ◌≤◌, List, [], ◌∷◌, ◌++◌, refl, sym, subst, Bool, true, false, cond, T, length, reverse, arith, eqb→eq}
+use Rattle.std.proofs.Common.{◌≡◌, ℕ, suc, ◌+◌, ◌^◌, ◌<◌, ◌≤◌, List, [], ◌∷◌, ◌++◌, refl, subst, Bool, true, false, cond, length, reverse, arith}
 use Rattle.std.specs.Prelude.{◌==◌}
 use Rattle.std.specs.List.{AllByRecursion}
 use Rattle.std.proofs.lemmas.Grind.{reverse_onto}
@@ -9,6 +9,7 @@ use Rattle.std.proofs.lemmas.List.Sums.{sum_by-cons}
 use Rattle.ip_image.specs.declared.run.Run.{Run}
 use Rattle.ip_image.specs.Virtual.{total, placed, RowsFitFrom}
 use Rattle.ip_image.specs.Collection.{in_front}
+use Rattle.ip_image.proofs.KeptRuns.{front_rows}
 use Rattle.ip_keep.specs.Runs.{joined, least, AreApart, FitRuns}
 
 pub apart_total : (h : ℕ) (runs : List Run) → AreApart h runs → least h runs + total runs ≤ h
@@ -35,33 +36,6 @@ apart_inside h (run ∷ runs) (some, low, apart) = (let t = apart_total h runs a
 pub ends_fit : (h : ℕ) (runs : List Run) → h ≤ 2 ^ 62 → EndBy h runs → FitRuns runs
 ends_fit h [] le all = tt
 ends_fit h (run ∷ runs) le all = (let a = all.0 in omega (arith, a, le), ends_fit h runs le all.1)
-
-touch : (m n : ℕ) → (m == n) ≡ true → m ≡ n
-touch m n e = eqb→eq m n (subst T (sym e) tt)
-
-apart_numbers : (m n : ℕ) → (m == n) ≡ false → m ≢ n
-apart_numbers m n e same = grind arith
-
-move_rows : (h m n p q : ℕ) (runs : List Run) → m ≡ n → p ≡ q → RowsFitFrom h m p (placed p runs) → RowsFitFrom h n q (placed q runs)
-move_rows h m n p q runs e f fits = subst (λ (k : ℕ). RowsFitFrom h n k (placed k runs)) f (subst (λ (k : ℕ). RowsFitFrom h k p (placed p runs)) e fits)
-
-front_rows : (h from place at n : ℕ) (runs : List Run) → from ≤ at → 0 < n → at + n ≤ h → RowsFitFrom h (at + n) (place + n) (placed (place + n) runs) → RowsFitFrom h from place (placed place (in_front at n runs))
-front_rows h from place at n [] low some high fits = (record { apart = low; some = some; below = high; placed = refl }, tt)
-front_rows h from place at n (run ∷ runs) low some high (one, rest) = by (at + n == run.at) refl
-  where
-    by : (b : Bool) → (at + n == run.at) ≡ b → RowsFitFrom h from place (placed place (cond b (record { at = at; length = n + run.length } ∷ runs) (record { at = at; length = n } ∷ run ∷ runs)))
-    by true e =
-        let same = touch (at + n) run.at e in
-        let below = one.below in (
-          record { apart = low; some = omega (arith, some); below = omega (arith, below, same); placed = refl },
-          move_rows h (run.at + run.length + 1) (at + (n + run.length) + 1) (place + n + run.length) (place + (n + run.length)) runs (omega (arith, same)) (omega arith) rest,
-        )
-    by false e =
-        let differ = apart_numbers (at + n) run.at e in
-        let above = one.apart in (
-          record { apart = low; some = some; below = high; placed = refl },
-          (record { apart = omega (arith, differ, above); some = one.some; below = one.below; placed = one.placed }, rest),
-        )
 
 rows_from : (h from place : ℕ) (runs : List Run) → from ≤ least h runs → AreApart h runs → RowsFitFrom h from place (placed place (joined runs))
 rows_from h from place [] le apart = tt

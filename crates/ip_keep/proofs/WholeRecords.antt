@@ -18,21 +18,12 @@ use Rattle.ip_image.specs.Standing.{EndToEnd, RunByRun}
 use Rattle.ip_image.specs.Stored.{stored}
 use Rattle.ip_image.proofs.PairLaws.{Has, Rises}
 use Rattle.ip_image.proofs.KeptRuns.{runs_again}
-use Rattle.ip_image.proofs.StoredLaws.{present_stored}
+use Rattle.ip_image.proofs.StoredLaws.{ends_of, present_stored}
 use Rattle.ip_image.proofs.StayingRecords.{in_from, in_contains, of_map, in_map, has_in, in_has, has_right, has_either, present_has, has_present, ordered_rises}
 use Rattle.ip_space.specs.SpaceView.{SpaceView, byte_in, records_in}
 use Rattle.ip_space.specs.Scanning.{RunsTo, at_the_end, behind}
 use Rattle.ip_keep.specs.Whole.{AreRecords}
 use Rattle.ip_keep.proofs.Ascending.{Lies, lies}
-
-abbrev EndBy : ℕ → List Run → Type 0
-EndBy end [] = Unit {0}
-EndBy end (run ∷ runs) = (run.at + run.length ≤ end) × EndBy end runs
-
-ends_of : (horizon end from place : ℕ) (rows : List Row) → RowsFitFrom horizon from place rows → horizon ≤ end → EndBy end (map run_of rows ++ record { at = horizon; length = end - horizon } ∷ [])
-ends_of horizon end from place [] fits le = (omega (arith, le), tt)
-ends_of horizon end from place (row ∷ rows) fits le =
-    let below = fits.0.below in (omega (arith, below, le), ends_of horizon end (row.at + row.length + 1) (place + row.length) rows fits.1 le)
 
 all_has : (P : ℕ × Record → Type 0) (xs : Records) (x : ℕ × Record) → AllByRecursion P xs → Has xs x → P x
 all_has P [] x all c = absurd c

@@ -9,7 +9,8 @@ use ip_ground::GroundFault;
 pub enum KeepFault {
     /// A call on the ground failed, as its counts show.
     Ground,
-    /// At this offset stands no record, or one that goes over the next that is kept: the files are not whole.
+    /// At this offset stands no record, or one that goes over the next that is kept, or that refers to what does not lie below it: the files are
+    /// not whole.
     Damaged(u64),
     /// Want of memory.
     Memory,

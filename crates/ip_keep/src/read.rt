@@ -1,17 +1,21 @@
 // Records that are read.
-ghost use Rattle.std.specs.Prelude.{◌≡◌, ◌+◌, ◌^◌, ◌≤◌, ◌<◌, None, Some, IsTrue, IfOk, IsErrOf, length, ℕ};
+ghost use Rattle.std.specs.Prelude.{◌≡◌, ◌+◌, ◌^◌, ◌≤◌, ◌<◌, Some, IsTrue, IfOk, IsErrOf, length, true, false, nat_lt, ℕ};
+ghost use Rattle.std.specs.List.{list_all};
 ghost use Rattle.ip_ground.specs.Counts.{Counts};
 ghost use Rattle.ip_ground.specs.Told.{NoFile, ChangesOnly};
 ghost use Rattle.ip_spec.specs.Record.{spelling};
 ghost use Rattle.ip_space.specs.SpaceView.{IsReadable, records_of};
 ghost use Rattle.ip_space.specs.Scanning.{IsCurrent};
 ghost use Rattle.ip_keep.specs.declared.fault.KeepFault.TheVariants as KeepFault;
+ghost use Rattle.ip_spec.specs.declared.record.InodeChild.{InodeChild as InodeChildValue};
+ghost use Rattle.ip_spec.specs.declared.record.LeafEntry.{LeafEntry as LeafEntryValue};
+ghost use Rattle.ip_keep.specs.Entering.{are_below, refs_of};
 ghost use Rattle.ip_keep.specs.Faults.{ground_keep, unread_as};
 
 use crate::KeepFault;
 use ip_ground::Ground;
 use ip_space::{FetchFault, Scan, Space};
-use ip_spec::record::Record;
+use ip_spec::record::{InodeChild, LeafEntry, Record};
 
 // What a fault says of the record at an offset.
 fn unread(at: u64, fault: FetchFault) -> KeepFault
@@ -24,7 +28,31 @@ fn unread(at: u64, fault: FetchFault) -> KeepFault
     }
 }
 
-/// The record that comes next in a walk.
+// Whether all that a record refers to lies below an offset.
+fn refers_below(rec: &Record, at: u64) -> bool
+    ensures { result ≡ are_below at (refs_of rec.now) }
+{
+    match rec {
+        Record::Leaf(entries) => entries_below(entries.as_slice(), at),
+        Record::Inode { children, .. } => children_below(children.as_slice(), at),
+        Record::Commit(c) => c.root_at < at,
+        _ => true,
+    }
+}
+
+fn entries_below(entries: &[LeafEntry], at: u64) -> bool
+    ensures { result ≡ list_all (λ (e : LeafEntryValue). nat_lt e.at at) entries.now }
+{
+    entries.iter().all(|entry| entry.at < at)
+}
+
+fn children_below(children: &[InodeChild], at: u64) -> bool
+    ensures { result ≡ list_all (λ (c : InodeChildValue). nat_lt c.at at) children.now }
+{
+    children.iter().all(|child| child.at < at)
+}
+
+/// The record that comes next in a walk. What it refers to has to lie below it.
 pub(crate) fn next_record<G: Ground>(
     outside: &mut G,
     space: &Space,
@@ -35,22 +63,28 @@ pub(crate) fn next_record<G: Ground>(
     ensures found { IsTrue G.tells → IsReadable (G.told outside.old) space.now → IsCurrent (G.told outside.old) space.now scan.old →
         IfOk result (λ rec. records_of (G.told outside.old) space.now scan.old.next ≡ Some rec) }
     ensures damaged { IsTrue G.tells → IsReadable (G.told outside.old) space.now → IsCurrent (G.told outside.old) space.now scan.old →
-        (at : ℕ) → IsErrOf result (KeepFault.Damaged at) → records_of (G.told outside.old) space.now scan.old.next ≡ None }
+        (at : ℕ) → IsErrOf result (KeepFault.Damaged at) → (rec : Record) → records_of (G.told outside.old) space.now scan.old.next ≡ Some rec → are_below scan.old.next (refs_of rec) ≡ false }
     ensures current { IsTrue G.tells → IsReadable (G.told outside.old) space.now → IsCurrent (G.told outside.old) space.now scan.old →
         IsCurrent (G.told outside.new) space.now scan.new }
+    ensures below { IfOk result (λ rec. are_below scan.old.next (refs_of rec) ≡ true) }
     ensures moves { IfOk result (λ rec. (scan.new.next ≡ scan.old.next + length (spelling rec)) × (scan.new.to ≡ scan.old.to)) }
     ensures inside { IfOk result (λ rec. scan.old.next + length (spelling rec) ≤ space.now.layout.end) }
     ensures counts { Counts ground_keep result (G.counts_of outside.old) (G.counts_of outside.new) }
 {
     let at = scan.next();
     match scan.step(outside, space) {
-        Ok(Some((_, rec))) => Ok(rec),
+        Ok(Some((_, rec))) => {
+            if !refers_below(&rec, at) {
+                return Err(KeepFault::Damaged(at));
+            }
+            Ok(rec)
+        }
         Ok(None) => Err(KeepFault::Damaged(at)),
         Err(fault) => Err(unread(at, fault)),
     }
 }
 
-/// The record at an offset, and its length. It has to end at or below another offset.
+/// The record at an offset, and its length. It has to end at or below another offset, and what it refers to has to lie below it.
 pub(crate) fn record_below<G: Ground>(
     outside: &mut G,
     space: &mut Space,
@@ -62,14 +96,15 @@ pub(crate) fn record_below<G: Ground>(
     ensures only { IsTrue G.tells → ChangesOnly NoFile (G.told outside.old) (G.told outside.new) }
     ensures found { IsTrue G.tells → IsReadable (G.told outside.old) space.old → IfOk result (λ found. records_of (G.told outside.old) space.old at ≡ Some found.0) }
     ensures damaged { IsTrue G.tells → IsReadable (G.told outside.old) space.old → (place : ℕ) → IsErrOf result (KeepFault.Damaged place) →
-        (rec : Record) → records_of (G.told outside.old) space.old at ≡ Some rec → below < at + length (spelling rec) }
+        (rec : Record) → records_of (G.told outside.old) space.old at ≡ Some rec → are_below at (refs_of rec) ≡ true → below < at + length (spelling rec) }
     ensures length { IfOk result (λ found. found.1 ≡ length (spelling found.0)) }
     ensures inside { IfOk result (λ found. at + found.1 ≤ below) }
+    ensures below { IfOk result (λ found. are_below at (refs_of found.0) ≡ true) }
     ensures counts { Counts ground_keep result (G.counts_of outside.old) (G.counts_of outside.new) }
 {
     match space.record_at(outside, at) {
         Ok((rec, length)) => {
-            if at + length > below {
+            if at + length > below || !refers_below(&rec, at) {
                 return Err(KeepFault::Damaged(at));
             }
             Ok((rec, length))

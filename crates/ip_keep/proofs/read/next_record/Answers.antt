@@ -5,8 +5,8 @@ use Rattle.ip_keep.proofs.Reading.{scan_damaged, counted_as}
 use Rattle.ip_keep.proofs.read.next_record.Goals as goal
 
 pub returns-in-Err-clause-damaged : goal.returns-in-Err-clause-damaged
-returns-in-Err-clause-damaged g c told readable current place is =
-    scan_damaged (records_of (g.G.Ground.told c.args.outside.now) c.args.space.now) c.args.scan.now.next c.next-at.result c.in-Err.fault (c.in-Err.ensures.found told readable current) place (sym (ap Err c.unread.ensures) ∙ is)
+returns-in-Err-clause-damaged g c told readable current place is rec there =
+    absurd (scan_damaged (records_of (g.G.Ground.told c.args.outside.now) c.args.space.now) c.args.scan.now.next c.next-at.result c.in-Err.fault (c.in-Err.ensures.found told readable current) place (sym (ap Err c.unread.ensures) ∙ is) rec there)
 
 pub returns-in-Err-clause-counts : goal.returns-in-Err-clause-counts
 returns-in-Err-clause-counts g c = counted_as c.next-at.result c.in-Err.fault c.unread.result _ _ c.unread.ensures c.in-Err.ensures.counts
