@@ -1,5 +1,5 @@
 -- The bytes of kept records, in the space and in the prefix.
---     each_stands      each record of the space stands at its offset.      piece_at      a stretch is a piece of the prefix
+--     piece_at      a stretch is a piece of the prefix
 --     all_read      what is read of it is that piece.      no_gap      none of its bytes is missing
 use Rattle.std.proofs.Common.{◌≡◌, inl, inr, ℕ, ◌+◌, ◌<◌, ◌≤◌, List, [], ◌∷◌, ◌++◌, refl, sym, ap, subst, ◌∙◌, length, take, drop, map, get_or, arith, append_assoc, length-append}
 use Rattle.std.specs.Prelude.{Option, Some, None}
@@ -24,28 +24,13 @@ use Rattle.ip_check.specs.declared.prefix.Stretch.{Stretch}
 use Rattle.ip_check.specs.Alike.{IsPiece}
 use Rattle.ip_check.specs.Stretching.{AreLinked, IsStretch}
 
--- ---- each record stands
-
-ends_stand : (f : ℕ → Option ℕ) (from : ℕ) (xs : Records) (to : ℕ) → EndToEnd f from xs to → (x : ℕ × Record) → Has xs x → Stands f x.0 (spelling x.1)
-ends_stand f from [] to e x has = absurd has
-ends_stand f from (y ∷ xs) to (at, stands, e) x (inl is) =
-    subst (λ (z : ℕ × Record). Stands f z.0 (spelling z.1)) is (subst (λ (n : ℕ). Stands f n (spelling y.1)) (sym at) stands)
-ends_stand f from (y ∷ xs) to (at, stands, e) x (inr has) = ends_stand f (from + length (spelling y.1)) xs to e x has
-
-pub each_stands : (f : ℕ → Option ℕ) (runs : List Run) (records : Records) → RunByRun f runs records → (x : ℕ × Record) → Has records x → Stands f x.0 (spelling x.1)
-each_stands f [] records none x has = absurd (subst (λ (l : Records). Has l x) none has)
-each_stands f (run ∷ runs) records (here, later, is, ends, rest) x has = elim (has_either here later x (subst (λ (l : Records). Has l x) is has)) [
-  | inl h ↦ ends_stand f run.at here (run.at + run.length) ends x h
-  | inr h ↦ each_stands f runs later rest x h
-]
+-- ---- the bytes of several
 
 linked_stand : (f : ℕ → Option ℕ) (at : ℕ) (mid : Records) → ((x : ℕ × Record) → Has mid x → Stands f x.0 (spelling x.1)) → AreLinked at (map run_at mid) → Stands f at (kept_bytes mid)
 linked_stand f at [] each l = λ k below. absurd (omega (arith, below))
 linked_stand f at (x ∷ mid) each (here, l) =
     stands_both f at (spelling x.1) (kept_bytes mid) (subst (λ (n : ℕ). Stands f n (spelling x.1)) here (each x (inl refl)))
     (linked_stand f (at + length (spelling x.1)) mid (λ y h. each y (inr h)) l)
-
--- ---- the bytes of several
 
 pub bytes_total : (xs : Records) → total (map run_at xs) ≡ length (kept_bytes xs)
 bytes_total [] = refl

@@ -1,6 +1,6 @@
 -- A stretch, record by record.
 --     first_behind, next_behind      where these stand in the slice.      one_stretch, stretch_more      the first one, and one more
---     stretch_ends, next_ends      where they end
+--     stretch_ends      where they end
 use Rattle.std.proofs.Common.{◌≡◌, ℕ, zero, suc, ◌+◌, ◌-◌, ◌<◌, ◌≤◌, List, [], ◌∷◌, ◌++◌, refl, sym, ap, subst, ◌∙◌, length, take, drop, reverse, get_or, arith}
 use Rattle.std.specs.List.{AllByRecursion}
 use Rattle.std.proofs.Math.Seq.{take-suc}
@@ -61,14 +61,6 @@ stretch_more ys most s next d st more few is touch = record {
 
 abbrev pub EndBy : ℕ → List Run → Type 0
 EndBy top runs = AllByRecursion (λ (run : Run). run.at + run.length ≤ top) runs
-
-end_get : (top : ℕ) (xs : List Run) (i : ℕ) (d : Run) → EndBy top xs → i < length xs → (get_or xs i d).at + (get_or xs i d).length ≤ top
-end_get top [] i d all l = absurd (omega (arith, l))
-end_get top (x ∷ xs) zero d all l = all.0
-end_get top (x ∷ xs) (suc i) d all l = end_get top xs i d all.1 (omega (arith, l))
-
-pub next_ends : (top : ℕ) (xs : List Run) (i : ℕ) (d : Run) → EndBy top xs → i < length xs → (get_or xs i d).length ≤ top
-next_ends top xs i d all l = let e = end_get top xs i d all l in omega (arith, e)
 
 pub end_higher : (low top : ℕ) (xs : List Run) → low ≤ top → EndBy low xs → EndBy top xs
 end_higher low top [] le all = tt

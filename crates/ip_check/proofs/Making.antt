@@ -1,5 +1,5 @@
 -- A mapping's file while it is made: what each step makes of `AreMade`.
---     made_more      one row was made.      piece_of, made_on      what was made is a piece of the whole, and was compared
+--     piece_of, made_on      what was made is a piece of the whole, and was compared
 --     flushed      what comparing what was made says.      one_given, none_given      how many runs are left
 --     begun      the front was made.      whole_compared      nothing is left
 --     total_joined      joining leaves the sum.      row_taken      the rows of the runs that are left
@@ -13,7 +13,7 @@ use Rattle.ip_spec.specs.declared.reply.Difference.{Difference}
 use Rattle.ip_spec.specs.Path.{Bytes}
 use Rattle.ip_image.specs.declared.run.Run.{Run}
 use Rattle.ip_image.specs.Virtual.{mapping_bytes, placed, row_bytes, total}
-use Rattle.ip_image.specs.Collection.{in_front}
+use Rattle.ip_image.proofs.KeptRuns.{front_total, rows_many}
 use Rattle.ip_mapping.specs.Parsing.{head_bytes}
 use Rattle.ip_mapping.proofs.Outcomes.{file_begins}
 use Rattle.ip_keep.specs.Runs.{joined, GivesRun}
@@ -28,17 +28,6 @@ one_given old new run gives = ap length gives
 pub none_given : (old new : List Run) → GivesRun old None new → length (joined old) ≡ 0
 none_given old new gives = ap (λ (runs : List Run). length (joined runs)) gives.0
 
-front_total : (at n : ℕ) (runs : List Run) → total (in_front at n runs) ≡ n + total runs
-front_total at n [] = omega (arith, sum_by-cons (λ (run : Run). run.length) (record { at = at; length = n }) [])
-front_total at n (run ∷ runs) = by (at + n == run.at)
-  where
-    by : (b : Bool) → total (if b then record { at = at; length = n + run.length } ∷ runs else record { at = at; length = n } ∷ run ∷ runs) ≡ n + total (run ∷ runs)
-    by true =
-        let merged = sum_by-cons (λ (run : Run). run.length) (record { at = at; length = n + run.length }) runs in
-        let apart = sum_by-cons (λ (run : Run). run.length) run runs in
-        omega (arith, merged, apart)
-    by false = sum_by-cons (λ (run : Run). run.length) (record { at = at; length = n }) (run ∷ runs)
-
 pub total_joined : (runs : List Run) → total (joined runs) ≡ total runs
 total_joined [] = refl
 total_joined (run ∷ runs) =
@@ -51,10 +40,6 @@ pub row_taken : (place : ℕ) (old left : List Run) (run : Run) → old ≡ run 
     → rows_from place old ≡ row_bytes (record { at = run.at; length = run.length; place = place }) ++ rows_from (place + run.length) left
 row_taken place old left run is = ap (rows_from place) is
 
-count_rows : (place : ℕ) (runs : List Run) → length (placed place runs) ≡ length runs
-count_rows place [] = refl
-count_rows place (run ∷ runs) = ap suc (count_rows (place + run.length) runs)
-
 so_far_none : (whole : Bytes) (got : Option Bytes) → IsSoFar whole got 0
 so_far_none whole None = refl
 so_far_none whole (Some bytes) = record { wanted = omega arith; found = omega arith; same = refl }
@@ -63,15 +48,8 @@ pub begun : (h e : ℕ) (runs : List Run) (got : Option Bytes) (p : Pieces) → 
 begun h e runs got p first front = record {
   inside = omega (arith, first);
   is = ap (λ (n : ℕ). drop n (mapping_bytes h e runs)) first ∙ file_begins (record { horizon = h; end = e; rows = placed 0 runs })
-      ∙ ap (λ (n : ℕ). head_bytes (record { horizon = h; end = e; rows = n }) ++ rows_from 0 runs) (count_rows 0 runs) ∙ ap (λ (b : Bytes). b ++ rows_from 0 runs) (sym front);
+      ∙ ap (λ (n : ℕ). head_bytes (record { horizon = h; end = e; rows = n }) ++ rows_from 0 runs) (rows_many 0 runs) ∙ ap (λ (b : Bytes). b ++ rows_from 0 runs) (sym front);
   so_far = subst (IsSoFar (mapping_bytes h e runs) got) (sym first) (so_far_none (mapping_bytes h e runs) got);
-}
-
-pub made_more : (whole : Bytes) (got : Option Bytes) (p q : Pieces) (row rest : Bytes) → q.place ≡ p.place → q.bytes.items ≡ p.bytes.items ++ row → AreMade whole got p (row ++ rest) → AreMade whole got q rest
-made_more whole got p q row rest place more made = record {
-  inside = let i = made.inside in omega (arith, i, place);
-  is = ap (λ (n : ℕ). drop n whole) place ∙ made.is ∙ sym (append_assoc p.bytes.items row rest) ∙ ap (λ (b : Bytes). b ++ rest) (sym more);
-  so_far = subst (IsSoFar whole got) (sym place) made.so_far;
 }
 
 drop_front : (xs ys : Bytes) → drop (length xs) (xs ++ ys) ≡ ys

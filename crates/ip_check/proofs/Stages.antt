@@ -1,7 +1,7 @@
 -- How a check goes on, over what is told.
 --     over_later, found_later      what is told of its files stays over calls that change no file
---     goes_nowhere, goes_on, keeps_on      no step, and two
---     goes_kept, keeps_kept      records that are kept were looked for.      goes_mapping, keeps_mapping      the mapping was compared
+--     goes_on, keeps_on      two steps
+--     goes_kept, keeps_kept      records that are kept were looked for.      keeps_mapping      the mapping was compared
 --     goes_stretch, keeps_stretch, keeps_fault      a stretch was.      goes_end, keeps_end      the end of the prefix was
 use Rattle.std.proofs.Common.{◌≡◌, ℕ, zero, suc, ◌+◌, ◌<◌, ◌≤◌, List, refl, sym, ap, subst, ◌∙◌, length, take, drop, map, arith}
 use Rattle.std.specs.Prelude.{Option, Some, None, Result, Ok, Err, IfOk, IsErrOf}
@@ -22,6 +22,7 @@ use Rattle.ip_image.specs.Collection.{Pair, Found, IsValid, IsKept, runs_of, kep
 use Rattle.ip_image.specs.Standing.{RunByRun}
 use Rattle.ip_image.specs.Virtual.{mapping_bytes, total}
 use Rattle.ip_image.proofs.PairLaws.{Has, has_from, contains_from, same_kept}
+use Rattle.ip_image.proofs.StoredLaws.{runs_stand}
 use Rattle.ip_space.specs.SpaceView.{SpaceView, IsReadable, byte_at, stretches_of}
 use Rattle.ip_space.proofs.Stayed.{byte_stays, readable_stays}
 use Rattle.ip_space.proofs.StoodBytes.{alike}
@@ -41,7 +42,7 @@ use Rattle.ip_check.specs.Checking.{IsAtStage, IsCheck, IsChecking, IsComparing,
 use Rattle.ip_check.specs.Faults.{IsUndamaged}
 use Rattle.ip_check.specs.Going.{Goes, HasNext, IsOpen, IsOver, KeepsTrue, found_of, next_stage}
 use Rattle.ip_check.specs.Stretching.{IsStretch}
-use Rattle.ip_check.proofs.KeptBytes.{Piece, piece_at, each_stands, bytes_total}
+use Rattle.ip_check.proofs.KeptBytes.{Piece, piece_at, bytes_total}
 
 -- ---- over calls that change no file
 
@@ -81,9 +82,6 @@ found_moved told c d same = ap (λ (j : Job). found_of told (record d { job = j 
 
 -- ---- steps
 
-pub goes_nowhere : (most : ℕ) (c : CheckView) → IsCheck c → Goes most c c
-goes_nowhere most c check = record { check = check; same = record { job = refl; space = refl; horizon = refl }; low = omega arith; high = omega arith }
-
 pub goes_on : (m n k : ℕ) (c d e : CheckView) → Goes m c d → Goes n d e → looked_by d + n ≤ looked_by c + k → Goes k c e
 goes_on m n k c d e one two fits = record {
   check = two.check;
@@ -94,9 +92,6 @@ goes_on m n k c d e one two fits = record {
 
 pub undone : {A : Type 0} (x : A) (at : ℕ) → IsErrOf {T = A} {E = CheckFault} (Ok x) (CheckFault.Damaged at) → ⊥
 undone x at e = cc
-
-pub keeps_nowhere : {A : Type 0} (told : Told) (c : CheckView) (x : A) → KeepsTrue told c c (Ok x)
-keeps_nowhere told c x records over keeping = (keeping, λ at e. undone x at e)
 
 pub keeps_on : {A B : Type 0} (a b : Told) (m : ℕ) (c d e : CheckView) (r : Result A CheckFault) (s : Result B CheckFault) → ChangesOnly NoFile a b → Goes m c d → KeepsTrue a c d r → KeepsTrue b d e s → KeepsTrue a c e s
 keeps_on a b m c d e r s only goes one two records over keeping =
@@ -179,21 +174,6 @@ stage_mapping : (c : CheckView) (d : Option Difference) → c.compared ≡ 0 →
 stage_mapping c None none through = (through, sym (ap (λ (n : ℕ). total (take n c.keep.kept)) none))
 stage_mapping c (Some d) none through = through
 
-pub goes_mapping : (c : CheckView) (d : Option Difference) → IsCheck c → c.stage ≡ Stage.Keeping → IsThrough c.keep → Goes 0 c (with_stage c (next_stage d 0))
-goes_mapping c d check stage through = record {
-  check = record {
-    job = check.job;
-    keep = check.keep;
-    horizon = check.horizon;
-    end = check.end;
-    compared = check.compared;
-    stage = stage_mapping c d (subst (IsAtStage c) stage check.stage) through;
-  };
-  same = record { job = refl; space = refl; horizon = refl };
-  low = omega arith;
-  high = omega arith;
-}
-
 pub keeps_mapping : (told : Told) (c : CheckView) (runs : List Run) (d : Option Difference) → IsCheck c → IsThrough c.keep → runs ≡ c.keep.kept
     → (IsFixed told c.job → SaysEnd {E = CheckFault} Produced.Mapping (mapping_bytes c.job.horizon c.job.end (joined runs)) (told.held (Mapping c.job.attempt)) (Ok d)) → {A : Type 0} (x : A) → KeepsTrue told c (with_stage c (next_stage d 0)) (Ok x)
 keeps_mapping told c runs d check through is says x records over keeping = (record { keep = keeping.keep; compared = by d told_so }, λ at e. undone x at e)
@@ -275,7 +255,7 @@ is_next told records c place most s check stage st over keeping =
     record {
       comparing = comparing;
       piece = subst (λ (w : Bytes). Piece (byte_at told c.keep.space) w place s) (sym bytes)
-          (piece_at (byte_at told c.keep.space) k.kept c.keep.kept c.compared most place s (λ x has. each_stands (byte_at told c.keep.space) (stretches_of c.keep.space) records over.whole.whole x (here k x has)) k.runs at.1 st);
+          (piece_at (byte_at told c.keep.space) k.kept c.keep.kept c.compared most place s (λ x has. runs_stand (byte_at told c.keep.space) (stretches_of c.keep.space) records over.whole.whole x (here k x has)) k.runs at.1 st);
     }
   where
     here : (k : Kept records c) (x : ℕ × Record) → Has k.kept x → Has records x

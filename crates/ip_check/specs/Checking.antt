@@ -88,11 +88,6 @@ Says records job found (Ok Outcome.Valid) = IsVerdict records job found None
 Says records job found (Ok (Outcome.Differs difference)) = IsVerdict records job found (Some difference)
 Says records job found (Err fault) = Unit {0}
 
--- what is told once it is through
-abbrev pub outcome_of : Option Difference → Outcome
-outcome_of None = Outcome.Valid
-outcome_of (Some difference) = Outcome.Differs difference
-
 abbrev pub EndsAs : CheckView → Result Outcome CheckFault → Type 0
 EndsAs c (Ok Outcome.More) = (told : Option Difference) → c.stage ≢ Stage.Through told
 EndsAs c (Ok Outcome.Valid) = c.stage ≡ Stage.Through None
@@ -111,7 +106,7 @@ pub record SameCheck (old new : CheckView) : Type 0 where
   pub space : new.keep.space ≡ old.keep.space
   pub horizon : new.keep.horizon ≡ old.keep.horizon
 
--- the live pair and the attempt's are no child's, so that they stay while nobody writes them
+-- the attempt's files are no child's any more, so that they stay while nobody writes them
 pub record IsFixed (told : Told) (job : Job) : Type 0 where
   pub mapping : ¬ IsForeign told (Mapping job.attempt)
   pub prefix : ¬ IsForeign told (Prefix job.attempt)

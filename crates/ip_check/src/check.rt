@@ -99,7 +99,6 @@ impl Check {
         requires { IsCheck self.now }
         ensures { result ≡ looked_by self.now }
     {
-        let _ = self.keep.kept();
         self.keep.looked() + self.compared as u64
     }
 

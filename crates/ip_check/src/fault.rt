@@ -9,8 +9,8 @@ use ip_ground::GroundFault;
 pub enum CheckFault {
     /// A call on the ground failed, as its counts show.
     Ground,
-    /// At this offset of the store stands no record, or one that goes over the next that is kept, or bytes behind it are missing: the store's files are not
-    /// whole.
+    /// At this offset of the store stands no record, or one that goes over the next that is kept, or that refers to what does not lie below it, or
+    /// bytes behind it are missing: the store's files are not whole.
     Damaged(u64),
     /// Want of memory.
     Memory,
