@@ -1,5 +1,5 @@
 -- The whole of a collection.
---     files_written      both files are there, and synced.      runs_stand      each record of runs stands
+--     files_written      both files are there, and synced.
 --     Chosen      what was kept, as the one valid pair has it.      chosen      it is found.      none_left      what is there when the pair is begun
 --     removed_by, removed_still, removed_pair      no crash leaves a done file behind the removals, the search, and the pair
 --     before_done, done_last      no crash leaves the done file without the pair.      left      what a collection leaves
@@ -24,6 +24,7 @@ use Rattle.ip_image.specs.Standing.{EndToEnd, RunByRun}
 use Rattle.ip_image.specs.Collection.{IsKept as IsKeptSet, Pair, IsValid, runs_of, kept_bytes}
 use Rattle.ip_image.proofs.PairLaws.{Has, has_from, contains_from, one_valid}
 use Rattle.ip_image.proofs.KeptRuns.{runs_filled, rows_total}
+use Rattle.ip_image.proofs.StoredLaws.{runs_stand}
 use Rattle.ip_space.specs.SpaceView.{byte_at, stretches_of}
 use Rattle.ip_keep.specs.KeepView.{KeepView}
 use Rattle.ip_keep.specs.Runs.{joined}
@@ -45,29 +46,6 @@ files_written g job runs b c d free prefix only mapping syncs = record {
   mapping = syncs.held (Mapping job.attempt) refl ∙ mapping;
   synced = syncs.synced;
 }
-
--- ---- records of runs
-
-has_either : (xs ys : Records) (y : ℕ × Record) → Has (xs ++ ys) y → Has xs y ⊎ Has ys y
-has_either [] ys y has = inr has
-has_either (x ∷ xs) ys y (inl is) = inl (inl is)
-has_either (x ∷ xs) ys y (inr has) = elim (has_either xs ys y has) [
-  | inl one ↦ inl (inr one)
-  | inr two ↦ inr two
-]
-
-module _ (g : ℕ → Option ℕ) where
-  end_stands : (from to : ℕ) (records : Records) → EndToEnd g from records to → (y : ℕ × Record) → Has records y → Stands g y.0 (spelling y.1)
-  end_stands from to [] ends y has = absurd has
-  end_stands from to (x ∷ xs) (at, stands, rest) y (inl is) = subst (λ (z : ℕ × Record). Stands g z.0 (spelling z.1)) is (subst (λ (n : ℕ). Stands g n (spelling x.1)) (sym at) stands)
-  end_stands from to (x ∷ xs) (at, stands, rest) y (inr has) = end_stands (from + length (spelling x.1)) to xs rest y has
-
-  pub runs_stand : (runs : List Run) (records : Records) → RunByRun g runs records → (y : ℕ × Record) → Has records y → Stands g y.0 (spelling y.1)
-  runs_stand [] records none y has = absurd (subst (λ (l : Records). Has l y) none has)
-  runs_stand (run ∷ runs) records (front, later, is, ends, rest) y has = elim (has_either front later y (subst (λ (l : Records). Has l y) is has)) [
-    | inl one ↦ end_stands run.at (run.at + run.length) front ends y one
-    | inr two ↦ runs_stand runs later rest y two
-  ]
 
 -- ---- what was kept
 

@@ -1,7 +1,7 @@
 -- What is told while the prefix is written.
 --     not_foreign, not_loose, free_on      of an attempt that was never lent.      readable_on, ready_on, bytes_stay, bytes_on      while only the attempt's files change
 --     of_prefix, of_none      changes of fewer files.      reaches_end, end_written      a write at the end of a file
---     now_held, piece_short, piece_copied      one piece.      run_on, run_place, run_missing      one piece more of a run
+--     now_held, piece_copied      one piece.      run_on, run_place, run_missing      one piece more of a run
 --     begun, all_copied, runs_on, runs_missing      one run more, from the empty prefix on
 --     inside_at, total_next, total_front      where runs end, and what they add up to
 use Rattle.std.proofs.Common.{◌≡◌, ◌≢◌, ℕ, zero, suc, ◌+◌, ◌<◌, ◌≤◌, Bool, true, false, List, [], ◌∷◌, ◌++◌, length, take, drop, get_or, refl, sym, ◌∙◌, ap, subst, arith, length-append, append_assoc, append-nil, Option}
@@ -23,6 +23,7 @@ use Rattle.ip_image.specs.Virtual.{total, virtual_byte, byte_of, chunk_of, place
 use Rattle.ip_image.specs.Stored.{bytes_from}
 use Rattle.ip_space.specs.SpaceView.{SpaceView, IsReadable, byte_at}
 use Rattle.ip_space.specs.Ahead.{ReadsBytes}
+use Rattle.ip_space.proofs.Stayed.{byte_beside, readable_beside}
 use Rattle.ip_space.proofs.StoodBytes.{alike}
 use Rattle.ip_worker.specs.Steps.{IsFree, IsReady, IsHeld, AreHeld, IsCopied, CopiesRuns, gathered}
 use Rattle.ip_worker.specs.declared.fault.WorkFault.{WorkFault}
@@ -49,49 +50,11 @@ free_on these old new attempt only free = lending_now old new only.goes attempt 
 -- ---- the space
 
 module _ (attempt : ℕ) (old new : Told) (only : ChangesOnly (IsOfAttempt attempt) old new) where
-  pub readable_on : (space : SpaceView) → IsReadable old space → IsReadable new space
-  readable_on space readable = record {
-    own = λ live foreign. readable.own live (subst (λ (c : Custody). custody.IsForeign c) (lending_now old new only.goes space.layout.live (only.lending space.layout.live)) foreign);
-    none = readable.none;
-  }
-
   pub ready_on : (space : SpaceView) → IsReady attempt space old → IsReady attempt space new
-  ready_on space ready = record { free = free_on (IsOfAttempt attempt) old new attempt only ready.free; readable = readable_on space ready.readable; apart = ready.apart }
-
-  chunk_held : (number : ℕ) → new.held (Chunk number) ≡ old.held (Chunk number)
-  chunk_held number = (only.others (Chunk number) (λ none. none)).held (λ x. x)
-
-  prefix_held : (live : ℕ) → live ≢ attempt → ¬ IsForeign old (Prefix live) → new.held (Prefix live) ≡ old.held (Prefix live)
-  prefix_held live apart own = (only.others (Prefix live) apart).held own
-
-  by_test : (b : Bool) (x y x' y' : Option ℕ) → x' ≡ x → y' ≡ y → (if b then x' else y') ≡ (if b then x else y)
-  by_test true x y x' y' one two = one
-  by_test false x y x' y' one two = two
-
-  prefix_byte : (space : SpaceView) → IsReadable old space → space.layout.live ≢ attempt → (at : ℕ)
-      → option_and_then (λ place. byte_of (new.held (Prefix space.layout.live)) place) (locate space.runs at)
-      ≡ option_and_then (λ place. byte_of (old.held (Prefix space.layout.live)) place) (locate space.runs at)
-  unfolding locate
-  prefix_byte space readable apart at = by (space.layout.live) refl
-    where
-      bytes : Content → List Run → Option ℕ
-      bytes content runs = option_and_then (λ place. byte_of content place) (locate runs at)
-
-      by : (n : ℕ) → space.layout.live ≡ n → bytes (new.held (Prefix space.layout.live)) space.runs ≡ bytes (old.held (Prefix space.layout.live)) space.runs
-      by zero e =
-          let none = readable.none e in
-          ap (bytes (new.held (Prefix space.layout.live))) none ∙ sym (ap (bytes (old.held (Prefix space.layout.live))) none)
-      by (suc n) e = ap (λ (x : Content). bytes x space.runs) (prefix_held space.layout.live apart (readable.own (λ z. absurd (cc (e, z)))))
+  ready_on space ready = record { free = free_on (IsOfAttempt attempt) old new attempt only ready.free; readable = readable_beside (IsOfAttempt attempt) old new only space ready.readable; apart = ready.apart }
 
   pub bytes_stay : (space : SpaceView) → IsReadable old space → space.layout.live ≢ attempt → byte_at new space ≡ byte_at old space
-  unfolding virtual_byte
-  bytes_stay space readable apart = alike (byte_at old space) (byte_at new space) each
-    where
-      each : (at : ℕ) → byte_at new space at ≡ byte_at old space at
-      each at =
-          by_test (nat_le space.layout.horizon at) _ _ _ _
-          (ap (λ (x : Content). byte_of x (place_in_chunk space.layout.chunk at)) (chunk_held (chunk_of space.layout.chunk at)))
-          (prefix_byte space readable apart at)
+  bytes_stay space readable apart = alike (byte_at old space) (byte_at new space) (byte_beside (IsOfAttempt attempt) old new only (λ number none. none) space readable apart)
 
   pub bytes_on : (space : SpaceView) → IsReady attempt space old → byte_at new space ≡ byte_at old space
   bytes_on space ready = bytes_stay space ready.readable ready.apart
@@ -123,9 +86,6 @@ module _ (attempt : ℕ) (space : SpaceView) (a b : Told) (ready : IsReady attem
 
     now_free : IsFree b attempt
     now_free = free_on NoFile a b attempt only ready.free
-
-    pub piece_short : (filled : Bytes) (n : ℕ) → ReadsBytes (byte_at a space) at room filled (Ok n) → n < room → IsHeld (byte_at a space) at room → ⊥
-    piece_short filled n reads short = held_gap (byte_at a space) at room n short (reads.gap short)
 
     pub piece_copied : (c : Told) (filled : Bytes) (n : ℕ) → ReadsBytes (byte_at a space) at room filled (Ok n) → n ≡ room → length filled ≡ room
         → Writes (Prefix attempt) place filled (Ok tt) b c → IsCopied (byte_at a space) attempt at room before c

@@ -14,14 +14,13 @@ use Rattle.ip_image.specs.declared.layout.Layout.{Layout}
 use Rattle.ip_image.specs.declared.run.Row.{Row}
 use Rattle.ip_image.specs.Virtual.{run_of, mapping_file, RowsFit}
 use Rattle.ip_image.specs.Standing.{MappingIs, Generation}
-use Rattle.ip_image.proofs.OneRepository.{same_files}
 use Rattle.ip_image.proofs.DamageLaws.{rows_front}
 use Rattle.ip_space.specs.SpaceView.{SpaceView}
 use Rattle.ip_space.specs.Pair.{IsOwnPair, IsBadPair, no_mapping, no_row, no_sum, no_prefix, FindsSpace}
 use Rattle.ip_space.specs.declared.fault.SpaceFault.{SpaceFault}
 use Rattle.ip_space.specs.declared.fault.SpaceFault.TheVariants.{Damaged}
 use Rattle.ip_space.proofs.LivePair.{held_later, mapping_later}
-use Rattle.ip_space.proofs.Stretches.{one_rows}
+use Rattle.ip_space.proofs.Stretches.{one_mapping, one_rows}
 use Rattle.ip_worker.specs.Working.{NothingLent}
 
 pub own_pair : (told : Told) (s : Layout) → NothingLent told → IsOwnPair told s
@@ -38,13 +37,6 @@ generation_later a b s rows only own g = record {
   prefix = λ live. subst (λ (c : Content). IsSomeAnd c (λ bytes. length bytes ≡ s.prefix_len)) (sym (held_later a b only s (Prefix s.live) own.prefix)) (g.prefix live);
   none = g.none;
 }
-
-same_some : (x y : Bytes) → Some x ≡ Some y → x ≡ y
-same_some x y e = cc
-
-one_mapping : (image : Image) (s : Layout) (rows others : List Row) → MappingIs image s rows → MappingIs image s others → rows ≡ others
-one_mapping image s rows others one two =
-    same_files s.horizon one.end two.end rows others one.numbers two.numbers (one.count ∙ sym two.count) (same_some (mapping_file s.horizon one.end rows) (mapping_file s.horizon two.end others) (sym one.file ∙ two.file))
 
 not_bad : (image : Image) (s : Layout) (rows : List Row) → s.live ≢ 0 → Generation image s rows → (file : FileName) (at : ℕ) → IsBadPair image s file at → ⊥
 not_bad image s rows live g file at (no_mapping none) = none rows (g.file live)
