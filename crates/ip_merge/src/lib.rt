@@ -38,6 +38,3 @@ pub fn exact_answer()
     ensures counter { HasOneAnswer counter_means }
     ensures line_set { HasOneAnswer line_set_means }
 {}
-
-#[cfg(test)]
-mod tests;

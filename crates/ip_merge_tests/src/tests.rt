@@ -2,8 +2,8 @@
 ghost use Rattle.std.specs.Prelude.{IfOk};
 ghost use Rattle.std.specs.Option.{option_copied};
 
-use crate::{Answer, Call, Counter, Decides, LineSet, Merged, Merger, Rules, Same, Seq, Three};
 use ip_base::{Blob, Items, Memory, Path, Step};
+use ip_merge::{Answer, Call, Counter, Decides, LineSet, Merged, Merger, Rules, Same, Seq, Three};
 use std::alloc::{AllocError, Global};
 use std::test::Fail;
 
