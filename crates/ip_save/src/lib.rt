@@ -19,14 +19,6 @@ mod records;
 mod starts;
 
 pub use batch::{Batch, CommitFields, SaveFault};
-
-#[cfg(test)]
-mod spelled;
-#[cfg(test)]
-mod tests;
-#[cfg(test)]
-mod wide_tests;
-
 use ip_spec::batch_stands;
 use ip_tree::known_parts;
 

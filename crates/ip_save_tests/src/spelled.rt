@@ -1,10 +1,9 @@
-// The records of directories, for tests: by the definition of their shape and by the encoding of records, and by nothing that lays them.
-use crate::inode::inode_fault;
-use crate::leaf::leaf_fault;
-use ip_base::{Blob, Hash, Items, Step};
-use ip_object::{encode_into, hash_contents, name_of_record, put_contents};
+// The records of directories, for tests: by the format and the definition of names, and by nothing that lays or reads them.
+use ip_base::{Blob, Memory, Step, put_bytes, put_u8, put_u32, put_u64};
+use ip_object::{hash_contents, put_contents};
 use ip_shape::places::{DEEPEST, place};
-use ip_spec::record::{InodeChild, InodeChildren, LeafEntries, LeafEntry, Record, Ref};
+use ip_spec::kind::{DIRECTORY, INODE, LEAF};
+use ip_spec::record::Ref;
 use std::alloc::Global;
 use std::collections::BTreeMap;
 use std::test::Fail;
@@ -28,6 +27,16 @@ pub(crate) type Listing = Vec<(Step, Item)>;
 
 // Parts by their names.
 pub(crate) type Parts = BTreeMap<Blob, Spelled>;
+
+// The record of a part: its fields, the bytes that its name is of, and what those above tell of it.
+#[derive(Drop)]
+struct Rows {
+    kind: u8,
+    body: Vec<u8>,
+    hashed: Vec<u8>,
+    height: u8,
+    count: u32,
+}
 
 // Records that lie one behind the other, from an offset on. Parts that are known are referred to.
 #[derive(Drop)]
@@ -73,71 +82,37 @@ impl Speller {
         })
     }
 
-    // Remembers a part, whose record was put behind the others where it is new.
-    fn entered(&mut self, name: Hash, spelled: Spelled) -> Result<Spelled, Fail> {
+    // What refers to a part, whose record is put behind the others where it is new, and then remembered.
+    fn put(&mut self, rows: &Rows) -> Result<Spelled, Fail> {
+        let name = hash_contents(&rows.hashed);
+        if let Some(spelled) = self.known.get(&Blob::copy_of(self.alloc, name.as_slice())?) {
+            return Ok(*spelled);
+        }
+        let at = self.next();
+        put_u8(&mut self.records, rows.kind)?;
+        put_u32(&mut self.records, length_of(&rows.body))?;
+        put_bytes(&mut self.records, &rows.body)?;
+        self.counted(rows.kind);
+        let spelled = Spelled {
+            reference: Ref {
+                at,
+                name,
+                kind: DIRECTORY,
+            },
+            height: rows.height,
+            count: rows.count,
+        };
         self.new
             .insert(Blob::copy_of(self.alloc, name.as_slice())?, spelled)?;
         Ok(spelled)
     }
 
-    fn leaf(&mut self, fields: LeafEntries, height: u8) -> Result<Spelled, Fail> {
-        if leaf_fault(fields.as_slice()).is_some() {
-            Err("no leaf")?;
+    fn counted(&mut self, kind: u8) {
+        if kind == INODE {
+            self.inodes = self.inodes.saturating_add(1);
+        } else {
+            self.leaves = self.leaves.saturating_add(1);
         }
-        let count = fields.len() as u32;
-        let rec = Record::Leaf(fields);
-        let Some(name) = name_of_record(&rec) else {
-            return Err("no name")?;
-        };
-        if let Some(spelled) = self.known.get(&Blob::copy_of(self.alloc, name.as_slice())?) {
-            return Ok(*spelled);
-        }
-        let at = self.next();
-        encode_into(&rec, &mut self.records)?;
-        self.leaves = self.leaves.saturating_add(1);
-        let reference = Ref { at, name, kind: 2 };
-        self.entered(
-            name,
-            Spelled {
-                reference,
-                height,
-                count,
-            },
-        )
-    }
-
-    fn inode(
-        &mut self,
-        depth: u8,
-        fields: InodeChildren,
-        height: u8,
-        count: u32,
-    ) -> Result<Spelled, Fail> {
-        if inode_fault(depth, fields.as_slice()).is_some() {
-            Err("no inode")?;
-        }
-        let rec = Record::Inode {
-            depth,
-            children: fields,
-        };
-        let Some(name) = name_of_record(&rec) else {
-            return Err("no name")?;
-        };
-        if let Some(spelled) = self.known.get(&Blob::copy_of(self.alloc, name.as_slice())?) {
-            return Ok(*spelled);
-        }
-        let at = self.next();
-        encode_into(&rec, &mut self.records)?;
-        self.inodes = self.inodes.saturating_add(1);
-        let reference = Ref { at, name, kind: 2 };
-        self.entered(
-            name,
-            Spelled {
-                reference,
-                height,
-                count,
-            },
-        )
     }
 
     // The part with so many depths below it that has these entries, which are in order. What is left of the fuel bounds how deep it goes.
@@ -156,14 +131,12 @@ impl Speller {
     // One leaf.
     #[cycle(spelling)]
     fn leaf_of(&mut self, fuel: u16, entries: Listing) -> Result<Spelled, Fail> {
-        let mut fields = Items::empty(self.alloc);
-        let mut height = 0u8;
+        let mut fields = Vec::new(self.alloc);
         for (step, item) in entries {
             let below = self.below(fuel, item)?;
-            height = height.max(below.height.saturating_add(1));
-            fields.push(entry_for(step, &below))?;
+            fields.push((step, below))?;
         }
-        self.leaf(fields, height)
+        self.put(&leaf_rows(self.alloc, &fields)?)
     }
 
     // What stands at a step.
@@ -179,36 +152,25 @@ impl Speller {
     #[cycle(spelling)]
     fn inode_of(&mut self, fuel: u16, levels: u8, entries: Listing) -> Result<Spelled, Fail> {
         let depth = DEEPEST.saturating_sub(levels);
-        let mut fields = Items::empty(self.alloc);
-        let mut height = 0u8;
-        let mut count: u32 = 0;
+        let mut children = Vec::new(self.alloc);
         let mut index = 0u8;
         for here in placed(self.alloc, entries, depth)? {
-            if let Some(child) = self.child_of(fuel, levels, index, here)? {
-                height = height.max(child.height);
-                count = count.saturating_add(child.count);
-                fields.push(child)?;
+            if let Some(child) = self.child_of(fuel, levels, here)? {
+                children.push((index, child))?;
             }
             index = index.saturating_add(1);
         }
-        self.inode(depth, fields, height, count)
+        self.put(&inode_rows(self.alloc, depth, &children)?)
     }
 
-    // What an inode tells of the entries at an index, where there are some.
+    // The part of the entries at an index, where there are some.
     #[cycle(spelling)]
-    fn child_of(
-        &mut self,
-        fuel: u16,
-        levels: u8,
-        index: u8,
-        here: Listing,
-    ) -> Result<Option<InodeChild>, Fail> {
-        let count = here.len().min(1048576) as u32;
-        if count == 0 {
+    fn child_of(&mut self, fuel: u16, levels: u8, here: Listing) -> Result<Option<Spelled>, Fail> {
+        if here.is_empty() {
             return Ok(None);
         }
         match self.part(fuel, levels.saturating_sub(1), here) {
-            Ok(below) => Ok(Some(child_for(index, count, &below))),
+            Ok(below) => Ok(Some(below)),
             Err(fault) => Err(fault),
         }
     }
@@ -219,26 +181,77 @@ impl Speller {
     }
 }
 
-// What a leaf tells of what stands at a step.
-fn entry_for(step: Step, below: &Spelled) -> LeafEntry {
-    LeafEntry {
-        step,
-        kind: below.reference.kind,
-        height: below.height,
-        name: below.reference.name,
-        at: below.reference.at,
-    }
+fn length_of(bytes: &[u8]) -> u32 {
+    u32::try_from(bytes.len()).unwrap_or(u32::MAX)
 }
 
-// What an inode tells of a child of so many entries.
-fn child_for(index: u8, count: u32, below: &Spelled) -> InodeChild {
-    InodeChild {
-        index,
-        count,
-        height: below.height,
-        name: below.reference.name,
-        at: below.reference.at,
+// A leaf of these entries, which are in order.
+fn leaf_rows(alloc: Global, entries: &[(Step, Spelled)]) -> Result<Rows, Memory> {
+    let mut body = Vec::new(alloc);
+    let mut hashed = Vec::new(alloc);
+    let mut height = 0;
+    let count = u32::try_from(entries.len()).unwrap_or(u32::MAX);
+    put_u32(&mut body, count)?;
+    put_u8(&mut hashed, LEAF)?;
+    put_u32(&mut hashed, count)?;
+    for (step, below) in entries {
+        let text = step.bytes();
+        let Ref { at, name, kind } = below.reference;
+        put_u8(&mut body, u8::try_from(text.len()).unwrap_or(u8::MAX))?;
+        put_bytes(&mut body, text)?;
+        put_u8(&mut body, kind)?;
+        put_u8(&mut body, below.height)?;
+        put_bytes(&mut body, name.as_slice())?;
+        put_u64(&mut body, at)?;
+        put_u8(&mut hashed, u8::try_from(text.len()).unwrap_or(u8::MAX))?;
+        put_bytes(&mut hashed, text)?;
+        put_u8(&mut hashed, kind)?;
+        put_bytes(&mut hashed, name.as_slice())?;
+        height = below.height.saturating_add(1).max(height);
     }
+    Ok(Rows {
+        kind: LEAF,
+        body,
+        hashed,
+        height,
+        count,
+    })
+}
+
+// An inode at a depth, with these children at their indexes, which are in order.
+fn inode_rows(alloc: Global, depth: u8, children: &[(u8, Spelled)]) -> Result<Rows, Memory> {
+    let mut bits: u32 = 0;
+    let mut height = 0;
+    let mut count: u32 = 0;
+    let mut rows = Vec::new(alloc);
+    let mut named = Vec::new(alloc);
+    for (index, below) in children {
+        bits |= 1u32.wrapping_shl(*index as u32);
+        count = count.saturating_add(below.count);
+        height = below.height.max(height);
+        put_u32(&mut rows, below.count)?;
+        put_u8(&mut rows, below.height)?;
+        put_bytes(&mut rows, below.reference.name.as_slice())?;
+        put_u64(&mut rows, below.reference.at)?;
+        put_u32(&mut named, below.count)?;
+        put_bytes(&mut named, below.reference.name.as_slice())?;
+    }
+    let mut body = Vec::new(alloc);
+    put_u8(&mut body, depth)?;
+    put_u32(&mut body, bits)?;
+    put_bytes(&mut body, &rows)?;
+    let mut hashed = Vec::new(alloc);
+    put_u8(&mut hashed, INODE)?;
+    put_u8(&mut hashed, depth)?;
+    put_u32(&mut hashed, bits)?;
+    put_bytes(&mut hashed, &named)?;
+    Ok(Rows {
+        kind: INODE,
+        body,
+        hashed,
+        height,
+        count,
+    })
 }
 
 // The entries at each of the 32 places at a depth.

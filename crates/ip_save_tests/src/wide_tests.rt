@@ -1,10 +1,10 @@
 // Batches of directories of more entries than a leaf has, against records that are spelled by the definition.
 use crate::spelled::{Item, Listing, Spelled, Speller, byte_of, step, steps_to};
 use crate::tests::{first, second, tree_of};
-use crate::{Batch, SaveFault};
 use ip_base::{Blob, Limit, Number, Path, Step};
 use ip_ground::{Bench, FileName, Ground};
 use ip_object::read_record;
+use ip_save::{Batch, SaveFault};
 use ip_shape::dir::{Entries, build};
 use ip_space::{Layout, Space};
 use ip_spec::record::{Record, Ref};

@@ -3,9 +3,9 @@ ghost use Rattle.std.specs.Prelude.{◌≤◌, ◌^◌, length, All, IfOk};
 ghost use Rattle.ip_spec.specs.Record.{IsHash, IsU64};
 ghost use Rattle.ip_save.specs.Batches.{AreFields, fields_told};
 
-use crate::{Batch, CommitFields, SaveFault};
 use ip_base::{Blob, Hash, Info, Items, Limit, Memory, Number, Path, Step, see_name};
 use ip_ground::{Bench, FileName, Ground};
+use ip_save::{Batch, CommitFields, SaveFault};
 use ip_shape::dir::{Entries, build, forget};
 use ip_shape::reading::{Child, read_inode, unread};
 use ip_space::{Layout, Space};

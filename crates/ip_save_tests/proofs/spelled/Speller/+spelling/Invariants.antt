@@ -1,5 +1,5 @@
 use Rattle.std.proofs.Common.{◌+◌, ◌*◌}
-use Rattle.ip_save.proofs.spelled.Speller.+spelling.Given as goal
+use Rattle.ip_save_tests.proofs.spelled.Speller.+spelling.Given as goal
 
 abbrev pub decreases-part : goal.decreases-part
 decreases-part l = 4 * l.fuel
