@@ -6,5 +6,3 @@ pub mod height;
 pub mod part;
 pub mod places;
 pub mod reading;
-#[cfg(test)]
-mod tests;

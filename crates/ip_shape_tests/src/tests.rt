@@ -2,13 +2,13 @@
 ghost use Rattle.std.specs.Prelude.{◌<◌, ◌≤◌};
 ghost use Rattle.ip_spec.specs.Shape.{deepest};
 
-use crate::dir::{Dir, Entries, build, copy_with, exchange, find, forget, insert, remove};
-use crate::part::Part;
-use crate::places::place;
-use crate::reading::{
+use ip_base::{Blob, Memory, Step};
+use ip_shape::dir::{Dir, Entries, build, copy_with, exchange, find, forget, insert, remove};
+use ip_shape::part::Part;
+use ip_shape::places::place;
+use ip_shape::reading::{
     Child, UnreadPart, first_unread, missing, missing_to_remove, read_inode, read_leaf, unread,
 };
-use ip_base::{Blob, Memory, Step};
 use std::alloc::Global;
 use std::collections::BTreeMap;
 
