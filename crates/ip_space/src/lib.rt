@@ -29,8 +29,6 @@ mod live;
 mod scan;
 mod source;
 mod space;
-#[cfg(test)]
-mod tests;
 
 pub use fault::{FetchFault, SpaceFault};
 pub use ip_image::layout::Layout;

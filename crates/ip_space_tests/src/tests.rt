@@ -1,10 +1,10 @@
 // Records by reference over a ground in memory.
 ghost use Rattle.ip_image.specs.Slot.{IsChunkSize};
 
-use crate::{FetchFault, Layout, Run, Space, SpaceFault};
 use ip_base::Hash;
 use ip_ground::{Bench, FileName, Ground};
 use ip_object::hash_contents;
+use ip_space::{FetchFault, Layout, Run, Space, SpaceFault};
 use ip_spec::record::{Record, RecordFault, Ref};
 use std::alloc::Global;
 use std::test::Fail;

@@ -1,5 +1,5 @@
 use Rattle.std.proofs.Common.{refl, lit≤}
-use Rattle.ip_space.proofs.tests.a_walk_reads_each_byte_once.Goals as goal
+use Rattle.ip_space_tests.proofs.tests.a_walk_reads_each_byte_once.Goals as goal
 
 pub walk_reads-requires : goal.walk_reads-requires
 walk_reads-requires bound c = (20, lit≤ tt, lit≤ tt, refl)

@@ -1,0 +1,5 @@
+//! Tests of records by reference, over a ground in memory.
+#![tactic(auto)]
+
+#[cfg(test)]
+mod tests;
