@@ -13,8 +13,6 @@ pub mod below;
 pub mod copy;
 pub mod fetch;
 pub mod graft;
-#[cfg(test)]
-mod graft_tests;
 mod height;
 mod list;
 pub mod load;
@@ -22,11 +20,7 @@ pub mod look;
 mod node;
 pub mod place;
 mod remove;
-#[cfg(test)]
-mod remove_tests;
 mod set;
-#[cfg(test)]
-mod tests;
 mod tree;
 
 pub use node::{Directory, Node, Stored};

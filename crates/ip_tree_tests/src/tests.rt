@@ -1,10 +1,10 @@
 // Trees over a ground in memory.
-use crate::{Tree, TreeFault};
 use ip_base::{Hash, Limit, Number, Path};
 use ip_ground::{Bench, FileName, Ground};
 use ip_space::{FetchFault, Layout, Space};
 use ip_spec::record::Ref;
 use ip_spec::tree::Got;
+use ip_tree::{Tree, TreeFault};
 use std::alloc::Global;
 use std::test::Fail;
 

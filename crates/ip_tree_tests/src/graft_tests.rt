@@ -1,10 +1,10 @@
 // Heights, copies and grafts, of trees that are new and that are read from a ground in memory.
 use crate::tests::{ROOT, bench_of, space_of};
-use crate::{Tree, TreeFault};
 use ip_base::{Items, Limit, Number, Path, Step};
 use ip_ground::{Bench, FileName};
 use ip_space::{FetchFault, Space};
 use ip_spec::tree::Got;
+use ip_tree::{Tree, TreeFault};
 use std::alloc::Global;
 use std::mem;
 use std::test::Fail;

@@ -1,10 +1,10 @@
 // Removals and listings, of trees that are new and that are read from a ground in memory.
-use crate::{Tree, TreeFault};
 use ip_base::{Hash, Number, Path};
 use ip_ground::{Bench, FileName, Ground};
 use ip_space::{Layout, Space};
 use ip_spec::record::Ref;
 use ip_spec::tree::{Got, Listed, Listing};
+use ip_tree::{Tree, TreeFault};
 use std::alloc::Global;
 use std::test::Fail;
 
