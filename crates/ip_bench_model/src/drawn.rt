@@ -21,6 +21,7 @@ pub struct Drawn {
 }
 
 impl Drawn {
+    /// An empty script; equal seeds draw the same.
     pub fn new(alloc: Global, seed: u64) -> Self {
         Drawn {
             alloc,
@@ -32,7 +33,7 @@ impl Drawn {
         }
     }
 
-    // The next of a row of numbers that look random, below a bound.
+    /// The next of a row of numbers that look random, below a bound.
     pub fn draw(&mut self, bound: u64) -> u64 {
         self.seed = self
             .seed
@@ -41,12 +42,12 @@ impl Drawn {
         (self.seed >> 33) % bound.max(1)
     }
 
-    // Puts a line of these words, and the model's reply.
+    /// Puts a line of these words, and the model's reply.
     pub fn put(&mut self, words: &[&[u8]]) -> Result<(), Fail> {
         self.put_by(words, &ProgramRules)
     }
 
-    // The same, where a merge goes by these rules.
+    /// The same, where a merge goes by these rules.
     pub fn put_by<D: Decides>(&mut self, words: &[&[u8]], rules: &D) -> Result<(), Fail> {
         let line = line_of(self.alloc, words)?;
         self.script.extend_from_slice(line.as_slice())?;
@@ -87,11 +88,12 @@ impl Drawn {
         }
     }
 
+    /// The name of a branch.
     pub fn branch(&mut self) -> [u8; 1] {
         [b'a' + (self.draw(BRANCHES) % BRANCHES) as u8]
     }
 
-    // The name of a commit as lines have it, seldom of none.
+    /// The name of a commit as lines have it, seldom of none.
     pub fn commit_word(&mut self, place: u64) -> Result<Vec<u8>, Fail> {
         let zeros = Hash([0; 32]);
         let name = self.commits.get(place as usize).unwrap_or(&zeros);
@@ -105,6 +107,7 @@ impl Drawn {
         Ok(word)
     }
 
+    /// A commit, by its branch or by its name.
     pub fn target(&mut self) -> Result<Vec<u8>, Fail> {
         if self.draw(3) == 0 {
             let branch = self.branch();
@@ -115,7 +118,7 @@ impl Drawn {
         self.commit_word(place)
     }
 
-    // A path of up to three steps, of two that there are, seldom of 40.
+    /// A path of up to three steps, of two that there are, seldom of 40.
     pub fn path(&mut self) -> Result<Vec<u8>, Fail> {
         let count = if self.draw(25) == 0 {
             40
@@ -132,6 +135,7 @@ impl Drawn {
         Ok(path)
     }
 
+    /// A path, or seldom that of the root.
     pub fn place(&mut self) -> Result<Vec<u8>, Fail> {
         if self.draw(4) == 0 {
             return Ok(Vec::from_slice(self.alloc, b"/")?);
@@ -139,6 +143,7 @@ impl Drawn {
         self.path()
     }
 
+    /// Contents of one byte, as lines have them.
     pub fn byte(&mut self) -> [u8; 2] {
         [b'0', b'0' + (self.draw(4) % 4) as u8]
     }
