@@ -8,7 +8,5 @@ mod load;
 mod merge;
 mod plan;
 mod side;
-#[cfg(test)]
-mod tests;
 
 pub use merge::{ThreeFault, merge_trees};

@@ -2,12 +2,12 @@
 ghost use Rattle.std.specs.Prelude.{IfOk};
 ghost use Rattle.ip_spec.specs.Path.{IsPath};
 
-use crate::{ThreeFault, merge_trees};
 use ip_base::{Items, Path};
 use ip_ground::Bench;
 use ip_merge::{Counter, LineSet, Rules};
 use ip_space::{Layout, Space};
 use ip_spec::tree::{Got, Listed};
+use ip_three::{ThreeFault, merge_trees};
 use ip_tree::Tree;
 use std::alloc::Global;
 use std::test::Fail;
