@@ -18,10 +18,6 @@ ghost use Rattle.ip_differ.specs.Differing.{Differs, IsDirectoryAt};
 pub mod pairs;
 mod piece;
 mod put;
-#[cfg(test)]
-mod spelled;
-#[cfg(test)]
-mod tests;
 mod walk;
 
 use crate::pairs::Pairs;

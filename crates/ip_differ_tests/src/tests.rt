@@ -2,10 +2,10 @@
 ghost use Rattle.std.specs.Prelude.{IfOk};
 ghost use Rattle.ip_spec.specs.Path.{IsPath};
 
-use crate::differing;
-use crate::pairs::{Pair, Pairs, place_in};
 use crate::spelled::{Model, bench_over, directory_of, no_records, space_over, step};
 use ip_base::{Hash, Number, Path, Step};
+use ip_differ::differing;
+use ip_differ::pairs::{Pair, Pairs, place_in};
 use ip_ground::{Bench, FileName};
 use ip_space::{FetchFault, Space};
 use ip_tree::look::Place;
