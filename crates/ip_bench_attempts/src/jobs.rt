@@ -174,6 +174,8 @@ fn files_that_are_not_whole_are_damaged(rt: HostRuntime) -> Result<(), Fail> {
                 Wrong::Byte(chunk, 59, 0),
                 Wrong::Byte(chunk, 6, 11),
                 Wrong::Byte(chunk, 0, 2),
+                // The directory at 6 refers to itself.
+                Wrong::Byte(chunk, 51, 6),
             ],
         ),
         (
