@@ -18,7 +18,7 @@ use Rattle.ip_ground.specs.Contents.{Image}
 use Rattle.ip_ground.specs.Told.{Told}
 use Rattle.ip_spec.specs.declared.command.Command.{Command}
 use Rattle.ip_spec.specs.declared.met.Met.{Met}
-use Rattle.ip_spec.specs.Machine.{State}
+use Rattle.ip_spec.specs.Machine.{Phase, State}
 use Rattle.ip_spec.specs.declared.record.Record.{Record}
 use Rattle.ip_spec.specs.declared.record.Ref.{Ref}
 use Rattle.ip_spec.specs.declared.reply.Reply.{Reply}
@@ -29,7 +29,7 @@ use Rattle.ip_spec.specs.Repository.{Repository, Commit, next, is_retained}
 use Rattle.ip_spec.specs.Tree.{Tree, IsTree, is_contents, no_tree, widest}
 use Rattle.ip_spec.specs.TreeAt.{Records, TreeAt, present}
 use Rattle.ip_spec.specs.View.{View}
-use Rattle.ip_spec.specs.Batch.{AreEndToEnd, KnownStand, sources, with_batch}
+use Rattle.ip_spec.specs.Batch.{AreEndToEnd, KnownStand, commit_of, sources, with_batch}
 use Rattle.ip_spec.proofs.BatchLaws.{batch_lies, batch_stands, sources_stand}
 use Rattle.ip_spec.proofs.TreeAtLaws.{more_part}
 use Rattle.ip_spec.specs.Step.{as_parent, new_commit, with_commit, entries_limit, Turned, IsMet}
@@ -41,6 +41,9 @@ use Rattle.ip_image.specs.Appending.{AddsBytes, fields_of}
 use Rattle.ip_image.specs.Pending.{HasLive}
 use Rattle.ip_image.proofs.AppendingLaws.{stands_grown}
 use Rattle.ip_image.proofs.OneRepository.{all_records}
+use Rattle.ip_image.proofs.PairLaws.{Has}
+use Rattle.ip_image.proofs.StayingRecords.{has_right}
+use Rattle.ip_save.specs.Batches.{commit_place}
 use Rattle.ip_image.proofs.TreeBatch.{found_together}
 use Rattle.ip_history.specs.History.{History, HasParentsFirst}
 use Rattle.ip_history.proofs.Parents.{first_push}
@@ -49,6 +52,7 @@ use Rattle.ip_tree.specs.Meaning.{Spells}
 use Rattle.ip_tree.specs.TreeView.{IsView, stored_view}
 use Rattle.ip_tree.proofs.Stands.{known_stand}
 use Rattle.ip_store.specs.Histories.{with_parents, MayEnter}
+use Rattle.ip_store.specs.declared.collection.Collection.{Collection}
 use Rattle.ip_store.specs.declared.committing.Plan.{Plan}
 use Rattle.ip_store.specs.declared.committing.StoreFault.{StoreFault}
 use Rattle.ip_store.specs.declared.store.Store.{Store}
@@ -58,12 +62,17 @@ use Rattle.ip_space.specs.SpaceView.{SpaceView, grown}
 use Rattle.ip_store.specs.Placed.{IsSpaceOf}
 use Rattle.ip_store.specs.Publishing.{CanStep, MakesStep}
 use Rattle.ip_store.specs.Changes.{next_slot}
+use Rattle.ip_store.specs.Collecting.{IsPhase, IsPhaseOf, phase_of}
+use Rattle.ip_store.specs.Rooted.{IsRooted}
 use Rattle.ip_store.specs.Store.{IsOf, Holds, SameTables, image_records}
 use Rattle.ip_store.specs.Trees.{RecordsStay}
 use Rattle.ip_store.specs.Views.{IsStored, IsViewAfter}
 use Rattle.ip_store.specs.Work.{AreParents, IsLawful, IsAt, least_of, session}
 use Rattle.ip_store.proofs.Recovering.{held_has}
-use Rattle.ip_store.proofs.Listed.{within_fits, same_records, records_below}
+use Rattle.ip_store.proofs.BatchKinds.{batch_commit}
+use Rattle.ip_store.proofs.Phases.{phase_to, phase_on, retained_is, set_heads}
+use Rattle.ip_store.proofs.RootedViews.{rooted_stored}
+use Rattle.ip_store.proofs.Listed.{within_fits, same_records, records_below, found_here}
 use Rattle.ip_store.proofs.Stepping.{same_holds, space_same, may_step, changed, list_after, stays_made, cut_short, same_can_step, same_step}
 use Rattle.ip_store.proofs.NextSlot.{next_is, next_generation, next_space}
 use Rattle.ip_store.proofs.Histories.{history_committed}
@@ -108,10 +117,14 @@ module _ (r : Repository) (parents : List ℕ) (branch : Bytes) (store : Store) 
       each : (name : Bytes) → IfSome (get (insert r.branches branch (next r)) name) (λ n. (store.slot.floor ≤ n) × (n < store.slot.next + 1))
       each name = subst (λ o. IfSome o (λ n. (store.slot.floor ≤ n) × (n < store.slot.next + 1))) (sym (get-insert nat_list_cmp_total r.branches branch (next r) name)) (by_test (eq_by_cmp bytes_cmp name branch) (get r.branches name) (of.retained.each name))
 
+  -- a commit that comes next is none of those that a collection gives up
+  heads_after : (c : Collection) → store.collection ≡ Some c → IsPhase store.slot r c → (name : Bytes) → IfSome (get after.branches name) (λ n. c.commit ≤ n)
+  heads_after c same was name = set_heads (λ (n : ℕ). c.commit ≤ n) r.branches branch (next r) (let high = (retained_is r c.commit was.retained).1 in omega (arith, high)) name (was.heads name)
+
   pub after_tables : (store' : Store) → store'.slot ≡ plan.slot → store'.index ≡ 1 - store.index → store'.names ≡ store.names ++ plan.batch.name ∷ [] → store'.branches ≡ insert store.branches plan.branch plan.number
       → MayEnter store.history parents → store'.history ≡ with_parents store.history parents
-      → store'.places.items ≡ store.places.items ++ plan.batch.commit_at ∷ [] → store'.space ≡ grown store.space plan.slot.end → IsOf store' after
-  after_tables store' slot index names branches enters history places space = record {
+      → store'.places.items ≡ store.places.items ++ plan.batch.commit_at ∷ [] → store'.space ≡ grown store.space plan.slot.end → store'.collection ≡ store.collection → IsOf store' after
+  after_tables store' slot index names branches enters history places space collection = record {
     slot = subst IsSlot (sym slot) slot_after;
     index = subst (λ (i : ℕ). i < 2) (sym index) (omega arith);
     floor = of.floor ∙ ap (λ (s : Slot). s.floor) (sym is.slot) ∙ ap (λ (s : Slot). s.floor) (sym slot);
@@ -125,20 +138,17 @@ module _ (r : Repository) (parents : List ℕ) (branch : Bytes) (store : Store) 
     space = space_same plan.slot store'.slot (grown store.space plan.slot.end) store'.space slot space
         (subst (λ (s : Slot). IsSpaceOf s (grown store.space s.end)) (sym is.slot) (next_space store.slot (length plan.batch.bytes.items) 1 store.space of.space));
     placed = ap length places ∙ (let was = of.placed in let e : length (store.places.items ++ plan.batch.commit_at ∷ []) ≡ length (r.commits ++ commit ∷ []) = omega (arith, was, length-append store.places.items (plan.batch.commit_at ∷ []), length-append r.commits (commit ∷ [])) in e);
+    phase = phase_to plan.slot store'.slot after store.collection store'.collection slot collection (subst (λ (s : Slot). IsPhaseOf s after store.collection) (sym is.slot)
+        (phase_on store.slot (length plan.batch.bytes.items) 1 r after store.collection refl (omega (arith, next_after)) heads_after of.phase));
   }
 
-  next_retained : IsTrue (is_retained after (next r))
-  next_retained = within r.floor (length r.commits) (length (r.commits ++ commit ∷ [])) (length-append r.commits (commit ∷ []))
-    where
-      within : (floor n m : ℕ) → m ≡ n + 1 → (nat_le floor (floor + n) && nat_lt (floor + n) (floor + m)) ≡ true
-      within floor n m e = grind (arith, nat_tests)
-
-  pub after_parents : (ns : List ℕ) → ns ≡ next r ∷ [] → AreParents after ns
-  after_parents ns only = record {
-    retained = subst (All (λ n. IsTrue (is_retained after n))) (sym only) (All-from_recursion (λ n. IsTrue (is_retained after n)) (next r ∷ []) (next_retained, tt));
-    distinct = subst (AllPairs (λ m n. m ≢ n)) (sym only) (λ i j d low high. absurd (omega (arith, low, high)));
-    few = subst (λ (ns : List ℕ). length ns ≤ 16) (sym only) (omega arith);
-  }
+  pub after_parents : (ns : List ℕ) → ns ≡ next r ∷ [] → (least : Option ℕ) → least ≡ Some (next r) → AreParents after least ns
+  after_parents ns only least is = subst (λ (o : Option ℕ). AreParents after o ns) (sym is) (subst (AreParents after (Some (next r))) (sym only) (record {
+    made = All-from_recursion (λ n. n < next after) (next r ∷ []) (omega (arith, next_after), tt);
+    above = All-from_recursion (λ n. next r ≤ n) (next r ∷ []) (omega arith, tt);
+    distinct = λ i j d low high. absurd (omega (arith, low, high));
+    few = omega arith;
+  }))
 
   -- the space goes on as far
   pub further : store.space.layout.end ≤ plan.slot.end
@@ -199,13 +209,16 @@ module _ (r : Repository) (work : Work) (v : View) (branch : Bytes) (info : Info
   few_there : 1 ≤ length plan.batch.bytes.items
   few_there = let some = coming.some in omega (arith, some)
 
-  pub after_is : repository_after r work v branch info ≡ made_is
+  pub after_is : repository_after r (phase_of store.collection) work v branch info ≡ made_is
   after_is = ap (λ (t : Turned). t.1.repository) is.turn
 
-  known : KnownStand (image_records held) v store.slot.end
-  known = known_stand (image_records held) work.tree v store.slot.end at.lawful.tree (records_below store a r held)
+  view_is : IsView (image_records held) work.tree v
+  view_is = at.lawful.tree is.there
 
-  stands_new : (image : Image) → HasLive next_live image → AddsBytes store.slot plan.batch.bytes.items a.held image → StandsFor image (repository_after r work v branch info)
+  known : KnownStand (image_records held) v store.slot.end
+  known = known_stand (image_records held) work.tree v store.slot.end view_is (records_below store a r held)
+
+  stands_new : (image : Image) → HasLive next_live image → AddsBytes store.slot plan.batch.bytes.items a.held image → StandsFor image (repository_after r (phase_of store.collection) work v branch info)
   stands_new image live adds = subst (StandsFor image) (sym after_is)
       (stands_grown a.held image r store.slot next_live v work.parents info branch held.stands (held_has store r a held) is.may known is.within live
       (next_generation store.slot (length plan.batch.bytes.items) 1) (sym is.behind) refl (subst (λ (bs : List ℕ). AddsBytes store.slot bs a.held image) is.bytes adds)).0
@@ -220,28 +233,28 @@ module _ (r : Repository) (work : Work) (v : View) (branch : Bytes) (info : Info
   to_next b res step = same_step store.slot.end store.slot.end store.index store.index plan.batch.bytes.items plan.batch.bytes.items plan.slot next_live res a b refl refl refl coming.slot step
 
   pub made : (b : Told) (store' : Store) → store'.slot ≡ plan.slot → store'.index ≡ 1 - store.index → IsOf store' made_is
-      → store'.places.items ≡ store.places.items ++ plan.batch.commit_at ∷ [] → store'.space ≡ grown store.space plan.slot.end → (name : Hash) → Step b (Ok tt) → Commits r work v branch info (Ok name) store' a b
+      → store'.places.items ≡ store.places.items ++ plan.batch.commit_at ∷ [] → store'.space ≡ grown store.space plan.slot.end → (name : Hash) → Step b (Ok tt) → Commits r (phase_of store.collection) work v branch info (Ok name) store' a b
   made b store' slot index tables places space name step =
-      changed r (repository_after r work v branch info) store 1 plan.batch.bytes.items of coming.ends coming.sequence few_there a held stands_new b (to_next b (Ok tt) step)
+      changed r (repository_after r (phase_of store.collection) work v branch info) store 1 plan.batch.bytes.items of coming.ends coming.sequence few_there a held stands_new b (to_next b (Ok tt) step)
       all (within_fits store.slot of.slot all is.within) all_lie is.bytes store' (slot ∙ coming.slot) index (ap (λ (view : SpaceView). view.runs) space) (subst (IsOf store') (sym after_is) tables) (places ∙ ap (λ (ps : List ℕ). store.places.items ++ ps) (sym is.place)) name
 
-  pub held_after : (b : Told) (store' : Store) (name : Hash) → Commits r work v branch info (Ok name) store' a b → Holds store' b made_is
+  pub held_after : (b : Told) (store' : Store) (name : Hash) → Commits r (phase_of store.collection) work v branch info (Ok name) store' a b → Holds store' b made_is
   held_after b store' name is = subst (Holds store' b) after_is is.ok
 
   -- a fault of the ground cut it short
-  pub cut : (b : Told) (store' : Store) (res : Result (Unit {0}) GroundFault) → Step b res → Commits r work v branch info (Err StoreFault.Ground) store' a b
-  cut b store' res step = cut_short r (repository_after r work v branch info) store 1 plan.batch.bytes.items of coming.ends coming.sequence few_there a held stands_new b store' res (to_next b res step)
+  pub cut : (b : Told) (store' : Store) (res : Result (Unit {0}) GroundFault) → Step b res → Commits r (phase_of store.collection) work v branch info (Err StoreFault.Ground) store' a b
+  cut b store' res step = cut_short r (repository_after r (phase_of store.collection) work v branch info) store 1 plan.batch.bytes.items of coming.ends coming.sequence few_there a held stands_new b store' res (to_next b res step)
 
   -- ---- the records after it
 
   module _ (b : Told) (store' : Store) (step : Step b (Ok tt)) (q : Repository) (now : Holds store' b q) where
     pub list_on : now.stands.standing.records ≡ held.stands.standing.records ++ all
-    list_on = list_after r (repository_after r work v branch info) store 1 plan.batch.bytes.items of coming.ends coming.sequence few_there a held stands_new b (to_next b (Ok tt) step)
+    list_on = list_after r (repository_after r (phase_of store.collection) work v branch info) store 1 plan.batch.bytes.items of coming.ends coming.sequence few_there a held stands_new b (to_next b (Ok tt) step)
         all (within_fits store.slot of.slot all is.within) all_lie is.bytes now.stands.standing
 
     spelled : TreeAt (with_batch (image_records held) all) plan.batch.root.at v.map
     spelled = subst (λ (root : Ref). TreeAt (with_batch (image_records held) all) root.at v.map) (sym is.root)
-        (batch_stands (image_records held) v (sources v) store.slot.end known (sources_stand (image_records held) v store.slot.end known) at.lawful.tree.lawful (fields_of r work.parents info branch))
+        (batch_stands (image_records held) v (sources v) store.slot.end known (sources_stand (image_records held) v store.slot.end known) view_is.lawful (fields_of r work.parents info branch))
 
     found : (place : ℕ) (x : Record) → with_batch (image_records held) all place ≡ Some x → image_records now place ≡ Some x
     found place x there = subst (λ (rs : Records). present rs place ≡ Some x) (sym list_on)
@@ -262,15 +275,27 @@ module _ (r : Repository) (work : Work) (v : View) (branch : Bytes) (info : Info
           kind = ap (λ (root : Ref). root.kind) is.root;
           name = ap (λ (root : Ref). root.name) is.root;
         })
-        at.lawful.tree.lawful at.lawful.tree.narrow)
+        view_is.lawful view_is.narrow)
+
+    abbrev committed_here : Record
+    committed_here = commit_of v (sources v) (fields_of r work.parents info branch) store.slot.end
+
+    commit_here : image_records now (commit_place v store.slot.end) ≡ Some committed_here
+    commit_here = found_here store' b q now (commit_place v store.slot.end, committed_here)
+        (subst (λ (rs : Records). Has rs (commit_place v store.slot.end, committed_here)) (sym list_on) (has_right held.stands.standing.records all (commit_place v store.slot.end, committed_here) (batch_commit v (fields_of r work.parents info branch) store.slot.end)))
+
+    -- which the commit's record reaches
+    rooted_now : IsRooted (image_records now) (stored_view (image_records now) (next r) plan.batch.root.at v.map)
+    rooted_now = subst (λ (root : Ref). IsRooted (image_records now) (stored_view (image_records now) (next r) root.at v.map)) (sym is.root)
+        (rooted_stored (image_records now) (next r) (commit_place v store.slot.end) _ v.map commit_here refl)
 
     pub work_after : (work' : Work) → IsRead plan.number plan.batch.root work'.tree → work'.parents ≡ plan.parents → work'.least ≡ Some plan.number → q ≡ made_is
         → IsLawful (image_records now) q work' (stored_view (image_records now) (next r) plan.batch.root.at v.map)
     work_after work' read parents least same = record {
-      tree = saved_tree work'.tree read;
+      tree = λ there. saved_tree work'.tree read;
+      rooted = λ there. rooted_now;
       short = at.lawful.short;
-      parents = subst (λ (p : Repository). AreParents p work'.parents) (sym same) (after_parents r work.parents branch store plan of coming commit (sym is.name) refl work'.parents (parents ∙ coming.parents));
-      retained = subst (λ (o : Option ℕ). IfSome o (λ n. q.floor ≤ n)) (sym least) (subst (λ (p : Repository). p.floor ≤ plan.number) (sym same) (let number = coming.number in omega (arith, number)));
+      parents = subst (λ (p : Repository). AreParents p work'.least work'.parents) (sym same) (after_parents r work.parents branch store plan of coming commit (sym is.name) refl work'.parents (parents ∙ coming.parents) work'.least (least ∙ ap Some coming.number));
       least = least ∙ ap Some (coming.number ∙ twice (next r)) ∙ ap (λ (ns : List ℕ). least_of (stored_view (image_records now) (next r) plan.batch.root.at v.map) ns) (sym (parents ∙ coming.parents));
     }
       where
@@ -284,7 +309,9 @@ module _ (r : Repository) (work : Work) (v : View) (branch : Bytes) (info : Info
 -- ---- answers
 
 still_known : (r : Repository) (v : View) (branch : Bytes) (info : Info) (fault : StoreFault) → IfSome (fault_reply fault) (λ reply. IsViewAfter r v (Command.Commit branch info) reply v)
+still_known r v branch info (StoreFault.GivenUp number) = refl
 still_known r v branch info (StoreFault.HeadMoved name) = refl
+still_known r v branch info (StoreFault.Leaving number) = refl
 still_known r v branch info (StoreFault.Existing name) = refl
 still_known r v branch info (StoreFault.Limit limit) = refl
 still_known r v branch info StoreFault.Memory = refl
@@ -292,28 +319,29 @@ still_known r v branch info StoreFault.Ground = tt
 still_known r v branch info (StoreFault.Damaged at names) = tt
 
 -- the answer of a refusal
-pub answers_refused : (r : Repository) (work : Work) (v : View) (branch : Bytes) (info : Info) (fault : StoreFault) (store : Store) (told : Told) → IsAt told store r work v → IsRefusal r work v branch info fault
-    → IfSome (fault_reply fault) (λ reply. Answers told (session r work v) v (Command.Commit branch info) (met_of fault) reply store work)
-answers_refused r work v branch info fault store told at is = by_reply (fault_reply fault) is (still_known r v branch info fault)
+pub answers_refused : (r : Repository) (phase : Phase) (work : Work) (v : View) (branch : Bytes) (info : Info) (fault : StoreFault) (store : Store) (told : Told) → IsAt told store r work v → IsRefusal r phase work v branch info fault
+    → IfSome (fault_reply fault) (λ reply. Answers told (session r phase work v) v (Command.Commit branch info) (met_of fault) reply store work)
+answers_refused r phase work v branch info fault store told at is = by_reply (fault_reply fault) is (still_known r v branch info fault)
   where
-    by_reply : (o : Option Reply) → IfSome o (λ reply. Turns (session r work v) (Command.Commit branch info) (met_of fault) reply (session r work v))
-        → IfSome o (λ reply. IsViewAfter r v (Command.Commit branch info) reply v) → IfSome o (λ reply. Answers told (session r work v) v (Command.Commit branch info) (met_of fault) reply store work)
+    by_reply : (o : Option Reply) → IfSome o (λ reply. Turns (session r phase work v) (Command.Commit branch info) (met_of fault) reply (session r phase work v))
+        → IfSome o (λ reply. IsViewAfter r v (Command.Commit branch info) reply v) → IfSome o (λ reply. Answers told (session r phase work v) v (Command.Commit branch info) (met_of fault) reply store work)
     by_reply None is seen = tt
     by_reply (Some reply) turns seen = record { after = r; view = v; turns = turns; is_at = at; seen = seen }
 
 -- the answer of a commit that was made
-pub answers_made : (r : Repository) (work work' : Work) (v v' : View) (branch : Bytes) (info : Info) (store store' : Store) (plan : Plan) (name : Hash) (told : Told) → IfSome work.least (λ n. r.floor ≤ n) → IsNext r branch store plan → IsPlan r work v branch info store plan
+pub answers_made : (r : Repository) (work work' : Work) (v v' : View) (branch : Bytes) (info : Info) (store store' : Store) (plan : Plan) (name : Hash) (told : Told) → IsNext r branch store plan → IsPlan r work v branch info store plan
     → name ≡ plan.batch.name → v'.map ≡ v.map → work'.parents ≡ plan.parents → work'.least ≡ Some plan.number → IsAt told store' (with_commit r (new_commit r v.map work.parents info) branch) work' v'
-    → IsStored (next r) v.map v' → Answers told (session r work v) v (Command.Commit branch info) met_nothing (Reply.Committed name) store' work'
-answers_made r work work' v v' branch info store store' plan name told retained coming is named same parents least at stored =
+    → IsStored (next r) v.map v' → Answers told (session r (phase_of store.collection) work v) v (Command.Commit branch info) met_nothing (Reply.Committed name) store' work'
+answers_made r work work' v v' branch info store store' plan name told coming is named same parents least at stored =
     let name_is : name ≡ (new_commit r v.map work.parents info).name = named ∙ is.name in
     let after = with_commit r (new_commit r v.map work.parents info) branch in
+    let phase = phase_of store.collection in
     record {
       after = after;
       view = v';
       turns = (
-        subst (λ h. IsMet (session r work v) (Command.Commit branch info) (conditions_of met_nothing) (Reply.Committed h)) (sym name_is) (met_done r work v branch info retained),
-        is.turn ∙ (λ i. (Reply.Committed (sym name_is i), record { repository = after; phase = (session after work' v').phase; work = record { tree = sym same i; parents = sym (parents ∙ coming.parents) i; least = sym (least ∙ ap Some coming.number) i } })),
+        subst (λ h. IsMet (session r phase work v) (Command.Commit branch info) (conditions_of met_nothing) (Reply.Committed h)) (sym name_is) (met_done r phase work v branch info),
+        is.turn ∙ (λ i. (Reply.Committed (sym name_is i), record { repository = after; phase = phase; work = record { tree = sym same i; parents = sym (parents ∙ coming.parents) i; least = sym (least ∙ ap Some coming.number) i } })),
       );
       is_at = at;
       seen = stored;

@@ -1,7 +1,7 @@
 -- The records of a batch: contents and parts of directories, then the commit and its branch.
 --     batch_served      each is of a kind that is there so far
---     batch_places      one of them is a commit, where the batch says
-use Rattle.std.proofs.Common.{◌≡◌, ℕ, zero, suc, ◌≤◌, Bool, true, false, List, [], ◌∷◌, ◌++◌, length, map, Option, Some, None, refl, sym, ◌∙◌, ap, subst, arith}
+--     batch_places      one of them is a commit, where the batch says.      batch_commit      it is this one
+use Rattle.std.proofs.Common.{◌≡◌, inl, ℕ, zero, suc, ◌≤◌, Bool, true, false, List, [], ◌∷◌, ◌++◌, length, map, Option, Some, None, refl, sym, ◌∙◌, ap, subst, arith}
 use Rattle.std.specs.Prelude.{◌-◌, All, if◌then◌else◌}
 use Rattle.std.specs.List.{AllByRecursion, cons_option}
 use Rattle.std.proofs.lemmas.List.Elements.{filter_map-append, recursion_from_All, All-from_recursion}
@@ -13,9 +13,11 @@ use Rattle.ip_spec.specs.Tree.{Tree, entries_of, is_contents, height}
 use Rattle.ip_spec.specs.Shape.{Entries, deepest, is_leaf, children_of}
 use Rattle.ip_spec.specs.TreeAt.{Records}
 use Rattle.ip_spec.specs.View.{View}
-use Rattle.ip_spec.specs.Batch.{CommitFields, Spelled, Row, sources, contents_record, contents_offset, contents_end, new_contents, placed, there_already, behind, known_or, spell_entry, spell_entries, spell_children, spell_part, spell_directory, root_spelled, tree_batch, batch}
+use Rattle.ip_spec.specs.Batch.{commit_of, CommitFields, Spelled, Row, sources, contents_record, contents_offset, contents_end, new_contents, placed, there_already, behind, known_or, spell_entry, spell_entries, spell_children, spell_part, spell_directory, root_spelled, tree_batch, batch}
 use Rattle.ip_image.specs.Standing.{IsServedKind}
 use Rattle.ip_image.specs.Appending.{AreWithin}
+use Rattle.ip_image.proofs.PairLaws.{Has}
+use Rattle.ip_image.proofs.StayingRecords.{has_right}
 use Rattle.ip_image.proofs.TreeParts.{all_join}
 use Rattle.ip_save.specs.Batches.{commit_place}
 use Rattle.ip_store.specs.Placed.{place_of, places_in}
@@ -135,3 +137,7 @@ module _ (v : View) (f : CommitFields) (end : ℕ) where
   pub batch_places : places_in (batch v (sources v) f end) ≡ commit_place v end ∷ []
   unfolding batch
   batch_places = filter_map-append place_of (tree_batch v (sources v) end) _ ∙ ap (λ (ps : List ℕ). ps ++ commit_place v end ∷ []) (no_places (tree_batch v (sources v) end) tree_plain)
+
+  pub batch_commit : Has (batch v (sources v) f end) (commit_place v end, commit_of v (sources v) f end)
+  unfolding batch
+  batch_commit = has_right (tree_batch v (sources v) end) _ (commit_place v end, commit_of v (sources v) f end) (inl refl)

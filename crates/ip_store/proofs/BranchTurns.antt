@@ -1,6 +1,6 @@
 -- What the machine answers to the commands on branches.
 --     answers_fault, answers_done      where a refusal stands against a command, and where none does
---     set_refused, set_answers      setting a branch.      remove_none, remove_answers      taking one away
+--     set_leaving, set_refused, set_answers      setting a branch.      remove_none, remove_answers      taking one away
 --     set_may, set_fits, remove_fits      the records
 use Rattle.std.proofs.Common.{◌≡◌, ℕ, List, ◌<◌, true, false, Option, Some, None, refl, ◌∙◌, ap, arith, length-append}
 use Rattle.std.specs.Prelude.{Result, Ok, Err, if◌then◌else◌, is_none, IsTrue, IfSome, IsSomeAnd, nat_le, nat_lt, ◌&&◌}
@@ -16,27 +16,28 @@ use Rattle.ip_spec.specs.Map.{remove, retain_keys, same_entries_map}
 use Rattle.ip_spec.specs.Path.{Bytes}
 use Rattle.ip_spec.specs.Record.{Fits, IsBranchName, body, short_text, u64}
 use Rattle.ip_spec.specs.Repository.{Repository, next, head, is_retained}
-use Rattle.ip_spec.specs.Machine.{State, Work}
+use Rattle.ip_spec.specs.Machine.{Phase, State, Work}
 use Rattle.ip_spec.specs.Step.{IsMet, MayRefuse, MayBeShort, Refused, Turned, outcome, turned, answer, or_refused, state_with_exit, resolve, present, not_leaving, room_for_branch, enough, with_branch, ◌>>◌, ◌>>=◌}
 use Rattle.ip_image.specs.Appending.{MayName}
 use Rattle.ip_store.specs.declared.committing.StoreFault.{StoreFault}
 use Rattle.ip_store.specs.declared.store.Store.{Store}
+use Rattle.ip_store.specs.Collecting.{not_leaving_in}
 use Rattle.ip_store.specs.Commits.{Turns, conditions_of, met_nothing, met_of, met_by, short_of, fault_reply, RefusesBy}
 use Rattle.ip_store.specs.Naming.{branch_reply, AnswersBranch, AnswersSet, AnswersRemove, Renames, without_branch}
 use Rattle.ip_store.specs.Store.{IsOf, SameTables}
 use Rattle.ip_store.specs.Work.{AreParents, state_at}
 use Rattle.ip_store.proofs.Keyed.{absent_stays}
-use Rattle.ip_store.proofs.Machine.{each_reply}
+use Rattle.ip_store.proofs.Machine.{asks_none, each_reply, refusable, unkept}
 use Rattle.ip_store.proofs.Planning.{room_after}
 use Rattle.ip_store.proofs.Stepping.{same_tables}
 
-module _ (r : Repository) (work : Work) (command : Command) (may : MayRefuse command Child.NotAsked) where
+module _ (r : Repository) (phase : Phase) (work : Work) (command : Command) (may : MayRefuse command Child.NotAsked) where
   abbrev s : State
-  s = state_at r work
+  s = state_at r phase work
 
   pub plain : (reply : Reply) → IsMet s command (conditions_of met_nothing) reply
   plain reply = record {
-    child = refl;
+    child = asks_none phase command (refusable command may);
     checking = tt;
     start = λ t. absurd (cc (t));
     kill = λ t. absurd (cc (t));
@@ -47,7 +48,7 @@ module _ (r : Repository) (work : Work) (command : Command) (may : MayRefuse com
 
   pub short : (limit : Limit) → IfSome (short_of limit) (λ l. (Reply.Limit limit ≡ Reply.Limit l) × MayBeShort l) → IsMet s command (conditions_of (met_of (StoreFault.Limit limit))) (Reply.Limit limit)
   short limit so = record {
-    child = refl;
+    child = asks_none phase command (refusable command may);
     checking = tt;
     start = λ t. absurd (cc (t));
     kill = λ t. absurd (cc (t));
@@ -68,7 +69,7 @@ module _ (r : Repository) (work : Work) (command : Command) (may : MayRefuse com
 
   pub wanting : IsMet s command (conditions_of (met_of StoreFault.Memory)) Reply.Memory
   wanting = record {
-    child = refl;
+    child = asks_none phase command (refusable command may);
     checking = tt;
     start = λ t. absurd (cc (t));
     kill = λ t. absurd (cc (t));
@@ -85,7 +86,7 @@ module _ (r : Repository) (work : Work) (command : Command) (may : MayRefuse com
 
   memory_turn : turned s command (conditions_of (met_of StoreFault.Memory)) ≡ (Reply.Memory, s)
   unfolding turned
-  memory_turn = refl
+  memory_turn = ap (λ (t : State). (Reply.Memory, t)) (unkept s s.phase)
 
   refused_turn : (reply : Reply) → outcome s command (conditions_of met_nothing) ≡ Err reply → Turns s command met_nothing reply s
   refused_turn reply is = (plain reply, turn_is met_nothing (Err reply) refl is)
@@ -96,78 +97,91 @@ module _ (r : Repository) (work : Work) (command : Command) (may : MayRefuse com
   memory_turns : Turns s command (met_of StoreFault.Memory) Reply.Memory s
   memory_turns = (wanting, memory_turn)
 
-  done_turn : (reply : Reply) (after : Repository) → outcome s command (conditions_of met_nothing) ≡ Ok (reply, state_at after work) → Turns s command met_nothing reply (state_at after work)
-  done_turn reply after is = (plain reply, turn_is met_nothing (Ok (reply, state_at after work)) refl is)
+  done_turn : (reply : Reply) (after : Repository) → outcome s command (conditions_of met_nothing) ≡ Ok (reply, state_at after phase work) → Turns s command met_nothing reply (state_at after phase work)
+  done_turn reply after is = (plain reply, turn_is met_nothing (Ok (reply, state_at after phase work)) refl is)
 
 -- whatever the work is
-module _ (r : Repository) (command : Command) (may : MayRefuse command Child.NotAsked) (store : Store) where
-  answers_reply : (reply : Reply) → ((work : Work) → outcome (state_at r work) command (conditions_of met_nothing) ≡ Err reply) → IsOf store r → AnswersBranch r command met_nothing reply store
-  answers_reply reply is of = record { after = r; turns = λ work. refused_turn r work command may reply (is work); tables = of; parents = λ ns are. are }
+module _ (r : Repository) (phase : Phase) (command : Command) (may : MayRefuse command Child.NotAsked) (store : Store) where
+  answers_reply : (reply : Reply) → ((work : Work) → outcome (state_at r phase work) command (conditions_of met_nothing) ≡ Err reply) → IsOf store r → AnswersBranch r phase command met_nothing reply store
+  answers_reply reply is of = record { after = r; turns = λ work. refused_turn r phase work command may reply (is work); tables = of; parents = λ least ns are. are }
 
-  answers_memory : IsOf store r → AnswersBranch r command (met_of StoreFault.Memory) Reply.Memory store
-  answers_memory of = record { after = r; turns = λ work. memory_turns r work command may; tables = of; parents = λ ns are. are }
+  answers_memory : IsOf store r → AnswersBranch r phase command (met_of StoreFault.Memory) Reply.Memory store
+  answers_memory of = record { after = r; turns = λ work. memory_turns r phase work command may; tables = of; parents = λ least ns are. are }
 
-  answers_fault : (fault : StoreFault) → IsSomeAnd (fault_reply fault) (λ reply. (work : Work) → outcome (state_at r work) command (conditions_of (met_of fault)) ≡ Err reply) → IsOf store r
-      → IfSome (fault_reply fault) (λ reply. AnswersBranch r command (met_of fault) reply store)
+  answers_fault : (fault : StoreFault) → IsSomeAnd (fault_reply fault) (λ reply. (work : Work) → outcome (state_at r phase work) command (conditions_of (met_of fault)) ≡ Err reply) → IsOf store r
+      → IfSome (fault_reply fault) (λ reply. AnswersBranch r phase command (met_of fault) reply store)
+  answers_fault (StoreFault.GivenUp number) is of = answers_reply (Reply.GivenUp number) is of
   answers_fault (StoreFault.HeadMoved name) is of = answers_reply (Reply.HeadMoved name) is of
+  answers_fault (StoreFault.Leaving number) is of = answers_reply (Reply.Leaving number) is of
   answers_fault (StoreFault.Existing name) is of = answers_reply (Reply.Existing name) is of
-  answers_fault (StoreFault.Limit limit) is of = record { after = r; turns = λ work. limit_turn r work command may limit (is work); tables = of; parents = λ ns are. are }
+  answers_fault (StoreFault.Limit limit) is of = record { after = r; turns = λ work. limit_turn r phase work command may limit (is work); tables = of; parents = λ least ns are. are }
   answers_fault StoreFault.Memory is of = answers_memory of
   answers_fault StoreFault.Ground is of = absurd is
   answers_fault (StoreFault.Damaged at names) is of = absurd is
 
-  answers_done : (reply : Reply) (after : Repository) → ((work : Work) → outcome (state_at r work) command (conditions_of met_nothing) ≡ Ok (reply, state_at after work)) → IsOf store after
-      → ((ns : List ℕ) → AreParents r ns → AreParents after ns) → AnswersBranch r command met_nothing reply store
-  answers_done reply after is of parents = record { after = after; turns = λ work. done_turn r work command may reply after (is work); tables = of; parents = parents }
+  answers_done : (reply : Reply) (after : Repository) → ((work : Work) → outcome (state_at r phase work) command (conditions_of met_nothing) ≡ Ok (reply, state_at after phase work)) → IsOf store after
+      → ((least : Option ℕ) (ns : List ℕ) → AreParents r least ns → AreParents after least ns) → AnswersBranch r phase command met_nothing reply store
+  answers_done reply after is of parents = record { after = after; turns = λ work. done_turn r phase work command may reply after (is work); tables = of; parents = parents }
 
 -- ---- setting a branch
 
-module _ (r : Repository) (name : Bytes) (number : ℕ) where
+module _ (r : Repository) (phase : Phase) (name : Bytes) (number : ℕ) where
   abbrev after : Repository
   after = with_branch r name number
 
   behind : Work → Met → Refused Turned
-  behind work met = enough (conditions_of met) Limit.Space >> (enough (conditions_of met) Limit.Sequence >> Ok (Reply.Accepted, state_at after work))
+  behind work met = enough (conditions_of met) Limit.Space >> (enough (conditions_of met) Limit.Sequence >> Ok (Reply.Accepted, state_at after phase work))
 
-  set_outcome : (work : Work) (target : Target) (met : Met) → resolve r target ≡ Ok number → outcome (state_at r work) (Command.Branch name target) (conditions_of met) ≡ (room_for_branch r name >> behind work met)
+  set_outcome : (work : Work) (target : Target) (met : Met) → resolve r target ≡ Ok number → outcome (state_at r phase work) (Command.Branch name target) (conditions_of met) ≡ (not_leaving_in phase (Some number) >> (room_for_branch r name >> behind work met))
   unfolding outcome behind
-  set_outcome work target met is = ap (λ (g : Refused ℕ). g >>= (λ n. not_leaving (state_at r work) (Some n) >> (room_for_branch r name >> (enough (conditions_of met) Limit.Space >> (enough (conditions_of met) Limit.Sequence >> Ok (Reply.Accepted, state_at (with_branch r name n) work)))))) is
+  set_outcome work target met is = ap (λ (g : Refused ℕ). g >>= (λ n. not_leaving (state_at r phase work) (Some n) >> (room_for_branch r name >> (enough (conditions_of met) Limit.Space >> (enough (conditions_of met) Limit.Sequence >> Ok (Reply.Accepted, state_at (with_branch r name n) phase work)))))) is
 
-  set_parents : (ns : List ℕ) → AreParents r ns → AreParents after ns
-  set_parents ns are = record { retained = are.retained; distinct = are.distinct; few = are.few }
+  set_parents : (least : Option ℕ) (ns : List ℕ) → AreParents r least ns → AreParents after least ns
+  set_parents least ns are = record { made = are.made; above = are.above; distinct = are.distinct; few = are.few }
+
+  -- no collection gives it up
+  staying_outcome : not_leaving_in phase (Some number) ≡ Ok tt → (work : Work) (target : Target) (met : Met) → resolve r target ≡ Ok number → outcome (state_at r phase work) (Command.Branch name target) (conditions_of met) ≡ (room_for_branch r name >> behind work met)
+  staying_outcome stays work target met is = set_outcome work target met is ∙ ap (λ g. g >> (room_for_branch r name >> behind work met)) stays
+
+  by_reply : (fault : StoreFault) (store : Store) (o : Option Reply) → ((target : Target) → resolve r target ≡ Ok number → IfSome o (λ reply. AnswersBranch r phase (Command.Branch name target) (met_of fault) reply store))
+      → IfSome o (AnswersSet r phase name number (met_of fault) store)
+  by_reply fault store None all = tt
+  by_reply fault store (Some reply) all = all
+
+  -- a collection gives it up
+  pub set_leaving : (store : Store) (fault : StoreFault) → RefusesBy (Err fault) (not_leaving_in phase (Some number)) → IsOf store r → IfSome (branch_reply (Err fault)) (AnswersSet r phase name number (met_of fault) store)
+  set_leaving store fault leaves of = by_reply fault store (fault_reply fault) (λ target is.
+      answers_fault r phase (Command.Branch name target) tt store fault
+      (each_reply (λ (reply : Reply). not_leaving_in phase (Some number) ≡ Err reply) (λ (reply : Reply). (work : Work) → outcome (state_at r phase work) (Command.Branch name target) (conditions_of (met_of fault)) ≡ Err reply) (fault_reply fault)
+      (λ reply e work. set_outcome work target (met_of fault) is ∙ ap (λ g. g >> (room_for_branch r name >> behind work (met_of fault))) e) leaves) of)
 
   -- there is no room for one more
-  pub set_refused : (store : Store) (fault : StoreFault) → RefusesBy (Err fault) (room_for_branch r name) → IsOf store r → IfSome (branch_reply (Err fault)) (AnswersSet r name number (met_of fault) store)
-  set_refused store fault full of = by (fault_reply fault) (λ target is.
-      answers_fault r (Command.Branch name target) tt store fault
-      (each_reply (λ (reply : Reply). room_for_branch r name ≡ Err reply) (λ (reply : Reply). (work : Work) → outcome (state_at r work) (Command.Branch name target) (conditions_of (met_of fault)) ≡ Err reply) (fault_reply fault)
-      (λ reply e work. set_outcome work target (met_of fault) is ∙ ap (λ g. g >> behind work (met_of fault)) e) full) of)
-    where
-      by : (o : Option Reply) → ((target : Target) → resolve r target ≡ Ok number → IfSome o (λ reply. AnswersBranch r (Command.Branch name target) (met_of fault) reply store)) → IfSome o (AnswersSet r name number (met_of fault) store)
-      by None all = tt
-      by (Some reply) all = all
+  pub set_refused : (store : Store) (fault : StoreFault) → not_leaving_in phase (Some number) ≡ Ok tt → RefusesBy (Err fault) (room_for_branch r name) → IsOf store r → IfSome (branch_reply (Err fault)) (AnswersSet r phase name number (met_of fault) store)
+  set_refused store fault stays full of = by_reply fault store (fault_reply fault) (λ target is.
+      answers_fault r phase (Command.Branch name target) tt store fault
+      (each_reply (λ (reply : Reply). room_for_branch r name ≡ Err reply) (λ (reply : Reply). (work : Work) → outcome (state_at r phase work) (Command.Branch name target) (conditions_of (met_of fault)) ≡ Err reply) (fault_reply fault)
+      (λ reply e work. staying_outcome stays work target (met_of fault) is ∙ ap (λ g. g >> behind work (met_of fault)) e) full) of)
 
   -- the record's bytes could not be taken
-  pub set_memory : (store : Store) → IsOf store r → AnswersSet r name number (met_of StoreFault.Memory) store Reply.Memory
-  set_memory store of target is = answers_memory r (Command.Branch name target) tt store of
+  pub set_memory : (store : Store) → IsOf store r → AnswersSet r phase name number (met_of StoreFault.Memory) store Reply.Memory
+  set_memory store of target is = answers_memory r phase (Command.Branch name target) tt store of
 
-  pub set_answers : (store : Store) (result : Result (Unit {0}) StoreFault) → room_for_branch r name ≡ Ok tt → Renames r (Record.BranchSet number name) result store → IfSome (branch_reply result) (AnswersSet r name number (met_by result) store)
+  pub set_answers : (store : Store) (result : Result (Unit {0}) StoreFault) → not_leaving_in phase (Some number) ≡ Ok tt → room_for_branch r name ≡ Ok tt → Renames r (Record.BranchSet number name) result store → IfSome (branch_reply result) (AnswersSet r phase name number (met_by result) store)
   unfolding behind
-  set_answers store (Ok u) room of = λ target is.
-      answers_done r (Command.Branch name target) tt store Reply.Accepted after (λ work. set_outcome work target met_nothing is ∙ ap (λ g. g >> behind work met_nothing) room) of set_parents
-  set_answers store (Err (StoreFault.Limit Limit.Space)) room of = λ target is.
-      answers_fault r (Command.Branch name target) tt store (StoreFault.Limit Limit.Space) (λ work. set_outcome work target (met_of (StoreFault.Limit Limit.Space)) is ∙ ap (λ g. g >> behind work (met_of (StoreFault.Limit Limit.Space))) room) of
-  set_answers store (Err (StoreFault.Limit Limit.Sequence)) room of = λ target is.
-      answers_fault r (Command.Branch name target) tt store (StoreFault.Limit Limit.Sequence) (λ work. set_outcome work target (met_of (StoreFault.Limit Limit.Sequence)) is ∙ ap (λ g. g >> behind work (met_of (StoreFault.Limit Limit.Sequence))) room) of
-  set_answers store (Err StoreFault.Memory) room of = set_memory store of
-  set_answers store (Err StoreFault.Ground) room of = tt
-  set_answers store (Err (StoreFault.Limit _)) room of = absurd of
-  set_answers store (Err (StoreFault.HeadMoved h)) room of = absurd of
-  set_answers store (Err (StoreFault.Existing h)) room of = absurd of
-  set_answers store (Err (StoreFault.Damaged at names)) room of = absurd of
+  set_answers store (Ok u) stays room of = λ target is.
+      answers_done r phase (Command.Branch name target) tt store Reply.Accepted after (λ work. staying_outcome stays work target met_nothing is ∙ ap (λ g. g >> behind work met_nothing) room) of set_parents
+  set_answers store (Err (StoreFault.Limit Limit.Space)) stays room of = λ target is.
+      answers_fault r phase (Command.Branch name target) tt store (StoreFault.Limit Limit.Space) (λ work. staying_outcome stays work target (met_of (StoreFault.Limit Limit.Space)) is ∙ ap (λ g. g >> behind work (met_of (StoreFault.Limit Limit.Space))) room) of
+  set_answers store (Err (StoreFault.Limit Limit.Sequence)) stays room of = λ target is.
+      answers_fault r phase (Command.Branch name target) tt store (StoreFault.Limit Limit.Sequence) (λ work. staying_outcome stays work target (met_of (StoreFault.Limit Limit.Sequence)) is ∙ ap (λ g. g >> behind work (met_of (StoreFault.Limit Limit.Sequence))) room) of
+  set_answers store (Err StoreFault.Memory) stays room of = set_memory store of
+  set_answers store (Err StoreFault.Ground) stays room of = tt
+  set_answers store (Err (StoreFault.Limit _)) stays room of = absurd of
+  set_answers store (Err _) stays room of = absurd of
 
-  -- ---- its record
+-- ---- its record
 
+module _ (r : Repository) (name : Bytes) (number : ℕ) where
   pub set_may : (store : Store) → IsOf store r → IsTrue (is_retained r number) → room_for_branch r name ≡ Ok tt → MayName r (Record.BranchSet number name)
   set_may store of retained room = (retained, room_after r name number room of.retained.few)
 
@@ -197,43 +211,42 @@ some_in (Some n) e = (n, refl)
 
 -- ---- taking one away
 
-module _ (r : Repository) (name : Bytes) where
+module _ (r : Repository) (phase : Phase) (name : Bytes) where
   gone : Work → Met → Refused Turned
-  gone work met = enough (conditions_of met) Limit.Space >> (enough (conditions_of met) Limit.Sequence >> Ok (Reply.Accepted, state_at (without_branch r name) work))
+  gone work met = enough (conditions_of met) Limit.Space >> (enough (conditions_of met) Limit.Sequence >> Ok (Reply.Accepted, state_at (without_branch r name) phase work))
 
-  remove_outcome : (work : Work) (met : Met) → outcome (state_at r work) (Command.BranchRm name) (conditions_of met) ≡ (present (head r name) (Reply.NoBranch name) >> gone work met)
+  remove_outcome : (work : Work) (met : Met) → outcome (state_at r phase work) (Command.BranchRm name) (conditions_of met) ≡ (present (head r name) (Reply.NoBranch name) >> gone work met)
   unfolding outcome gone
   remove_outcome work met = refl
 
   there : (o : Option ℕ) (n : ℕ) → o ≡ Some n → present o (Reply.NoBranch name) ≡ Ok n
   there o n is = ap (λ p. present p (Reply.NoBranch name)) is
 
-  pub remove_none : (store : Store) → IsOf store r → head r name ≡ None → AnswersRemove r name met_nothing store (Reply.NoBranch name)
+  pub remove_none : (store : Store) → IsOf store r → head r name ≡ None → AnswersRemove r phase name met_nothing store (Reply.NoBranch name)
   remove_none store of none =
-      answers_reply r (Command.BranchRm name) tt store (Reply.NoBranch name) (λ work. remove_outcome work met_nothing ∙ ap (λ o. present o (Reply.NoBranch name) >> gone work met_nothing) none) of
+      answers_reply r phase (Command.BranchRm name) tt store (Reply.NoBranch name) (λ work. remove_outcome work met_nothing ∙ ap (λ o. present o (Reply.NoBranch name) >> gone work met_nothing) none) of
 
-  pub remove_memory : (store : Store) → IsOf store r → AnswersRemove r name (met_of StoreFault.Memory) store Reply.Memory
-  remove_memory store of = answers_memory r (Command.BranchRm name) tt store of
+  pub remove_memory : (store : Store) → IsOf store r → AnswersRemove r phase name (met_of StoreFault.Memory) store Reply.Memory
+  remove_memory store of = answers_memory r phase (Command.BranchRm name) tt store of
 
-  pub remove_done : (store : Store) (n : ℕ) → head r name ≡ Some n → IsOf store (without_branch r name) → AnswersRemove r name met_nothing store Reply.Accepted
+  pub remove_done : (store : Store) (n : ℕ) → head r name ≡ Some n → IsOf store (without_branch r name) → AnswersRemove r phase name met_nothing store Reply.Accepted
   unfolding gone
   remove_done store n is of =
-      answers_done r (Command.BranchRm name) tt store Reply.Accepted (without_branch r name) (λ work. remove_outcome work met_nothing ∙ ap (λ o. present o (Reply.NoBranch name) >> gone work met_nothing) is) of
-      (λ ns are. record { retained = are.retained; distinct = are.distinct; few = are.few })
+      answers_done r phase (Command.BranchRm name) tt store Reply.Accepted (without_branch r name) (λ work. remove_outcome work met_nothing ∙ ap (λ o. present o (Reply.NoBranch name) >> gone work met_nothing) is) of
+      (λ least ns are. record { made = are.made; above = are.above; distinct = are.distinct; few = are.few })
 
-  pub remove_cut : (store : Store) (n : ℕ) (fault : StoreFault) → head r name ≡ Some n → Renames r (Record.BranchRemove name) (Err fault) store → IfSome (fault_reply fault) (AnswersRemove r name (met_of fault) store)
+  pub remove_cut : (store : Store) (n : ℕ) (fault : StoreFault) → head r name ≡ Some n → Renames r (Record.BranchRemove name) (Err fault) store → IfSome (fault_reply fault) (AnswersRemove r phase name (met_of fault) store)
   unfolding gone
   remove_cut store n (StoreFault.Limit Limit.Space) is of =
-      answers_fault r (Command.BranchRm name) tt store (StoreFault.Limit Limit.Space) (λ work. remove_outcome work (met_of (StoreFault.Limit Limit.Space)) ∙ ap (λ o. present o (Reply.NoBranch name) >> gone work (met_of (StoreFault.Limit Limit.Space))) is) of
+      answers_fault r phase (Command.BranchRm name) tt store (StoreFault.Limit Limit.Space) (λ work. remove_outcome work (met_of (StoreFault.Limit Limit.Space)) ∙ ap (λ o. present o (Reply.NoBranch name) >> gone work (met_of (StoreFault.Limit Limit.Space))) is) of
   remove_cut store n (StoreFault.Limit Limit.Sequence) is of =
-      answers_fault r (Command.BranchRm name) tt store (StoreFault.Limit Limit.Sequence) (λ work. remove_outcome work (met_of (StoreFault.Limit Limit.Sequence)) ∙ ap (λ o. present o (Reply.NoBranch name) >> gone work (met_of (StoreFault.Limit Limit.Sequence))) is) of
+      answers_fault r phase (Command.BranchRm name) tt store (StoreFault.Limit Limit.Sequence) (λ work. remove_outcome work (met_of (StoreFault.Limit Limit.Sequence)) ∙ ap (λ o. present o (Reply.NoBranch name) >> gone work (met_of (StoreFault.Limit Limit.Sequence))) is) of
   remove_cut store n StoreFault.Memory is of = remove_memory store of
   remove_cut store n StoreFault.Ground is of = tt
-  remove_cut store n (StoreFault.Damaged at names) is of = absurd of
   remove_cut store n (StoreFault.Limit _) is of = absurd of
-  remove_cut store n (StoreFault.HeadMoved h) is of = absurd of
-  remove_cut store n (StoreFault.Existing h) is of = absurd of
+  remove_cut store n _ is of = absurd of
 
+module _ (r : Repository) (name : Bytes) where
   -- where there is none, taking it away is nothing
   pub absent_same : head r name ≡ None → without_branch r name ≡ r
   unfolding retain_keys
@@ -245,14 +258,14 @@ module _ (r : Repository) (name : Bytes) where
 
 -- ---- the same store, with what was met
 
-module _ (store store' : Store) (same : SameTables store store') (r : Repository) (name : Bytes) where
-  same_answer : (command : Command) (met : Met) (reply : Reply) → AnswersBranch r command met reply store → AnswersBranch r command met reply store'
+module _ (store store' : Store) (same : SameTables store store') (r : Repository) (phase : Phase) (name : Bytes) where
+  same_answer : (command : Command) (met : Met) (reply : Reply) → AnswersBranch r phase command met reply store → AnswersBranch r phase command met reply store'
   same_answer command met reply p = record { after = p.after; turns = p.turns; tables = same_tables store store' same p.after p.tables; parents = p.parents }
 
-  pub same_set : (number : ℕ) (met : Met) (o : Option Reply) → IfSome o (AnswersSet r name number met store) → IfSome o (AnswersSet r name number met store')
+  pub same_set : (number : ℕ) (met : Met) (o : Option Reply) → IfSome o (AnswersSet r phase name number met store) → IfSome o (AnswersSet r phase name number met store')
   same_set number met None all = tt
   same_set number met (Some reply) all = λ target is. same_answer (Command.Branch name target) met reply (all target is)
 
-  pub same_removed : (met : Met) (o : Option Reply) → IfSome o (AnswersRemove r name met store) → IfSome o (AnswersRemove r name met store')
+  pub same_removed : (met : Met) (o : Option Reply) → IfSome o (AnswersRemove r phase name met store) → IfSome o (AnswersRemove r phase name met store')
   same_removed met None all = tt
   same_removed met (Some reply) all = same_answer (Command.BranchRm name) met reply all

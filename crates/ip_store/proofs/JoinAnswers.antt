@@ -10,18 +10,20 @@ use Rattle.ip_base.specs.declared.limit.Limit.{Limit}
 use Rattle.ip_ground.specs.Files.{number_itself}
 use Rattle.ip_ground.specs.Told.{Told}
 use Rattle.ip_spec.specs.declared.command.Command.{Command}
+use Rattle.ip_spec.specs.declared.command.Target.{Target}
 use Rattle.ip_spec.specs.declared.met.Met.{Met}
 use Rattle.ip_spec.specs.declared.record.Record.{Record}
 use Rattle.ip_spec.specs.declared.reply.Reply.{Reply}
 use Rattle.ip_spec.specs.Batch.{AreEndToEnd, sources}
 use Rattle.ip_spec.specs.Machine as Machine
-use Rattle.ip_spec.specs.Machine.{State}
+use Rattle.ip_spec.specs.declared.met.Child.{Child}
+use Rattle.ip_spec.specs.Machine.{Phase, State}
 use Rattle.ip_spec.specs.Map.{len}
 use Rattle.ip_spec.specs.Merge.{Rule, merged}
 use Rattle.ip_spec.specs.Path.{Bytes}
 use Rattle.ip_spec.specs.Record.{Hash, spelling, spelling_of}
 use Rattle.ip_spec.specs.Repository.{Repository, Commit, head, name_at, number_named}
-use Rattle.ip_spec.specs.Step.{Refused, Turned, ◌>>=◌, ◌>>◌, or_refused, refuse_if, unless_some, moved_head, answer, turned, state_with_exit, IsMet, IsSwept, MayBeShort, HasSucceeded, is_short, enough, not_existing, room_for_branch, branches_limit, within_limits, with_merge, with_commit, new_commit}
+use Rattle.ip_spec.specs.Step.{Refused, Turned, ◌>>=◌, ◌>>◌, or_refused, refuse_if, unless_some, moved_head, answer, turned, state_with_exit, IsMet, IsSwept, MayBeShort, MayHear, HasSucceeded, is_short, enough, not_existing, room_for_branch, branches_limit, within_limits, with_merge, with_commit, new_commit}
 use Rattle.ip_spec.specs.Tree.{Tree}
 use Rattle.ip_spec.specs.TreeAt.{Records}
 use Rattle.ip_spec.specs.View.{View}
@@ -37,9 +39,11 @@ use Rattle.ip_store.specs.Changes.{Changes, Appends, HasAnswer, LimitsSpace}
 use Rattle.ip_store.specs.Commits.{Answers, Commits, conditions_of, met_nothing, reply_to, repository_after, records_of, end_of, committed}
 use Rattle.ip_store.specs.Merging.{merge_reply, IsTurn, Moves, GoesOnFrom, AnswersMerge, IsUnmoved, MergesAtMoments, IsMergeView, MergeAppends, HasAppended, AppendsMerge, LimitsMerge, IsJoin, IsOutcome}
 use Rattle.ip_store.specs.Store.{IsOf, Holds}
-use Rattle.ip_store.specs.Work.{session, state_at, work_at}
+use Rattle.ip_store.specs.Collecting.{not_leaving_in}
+use Rattle.ip_store.specs.Work.{IsThere, session, state_at, work_at}
 use Rattle.ip_store.proofs.BranchTurns.{turn_is}
-use Rattle.ip_store.proofs.Machine.{Head, outcome_is, behind_room}
+use Rattle.ip_store.proofs.Machine.{First, outcome_is, behind_first, unkept}
+use Rattle.ip_store.proofs.Phases.{none_given}
 use Rattle.ip_store.proofs.MergeTurns.{IsQuiet, MayMeet, meets_nothing, joined, join_turn, when_true}
 use Rattle.ip_store.proofs.Stepping.{with_value, with_fault}
 
@@ -68,8 +72,8 @@ lie_long from (x ∷ xs) to (at, lies) =
     let rest = lie_long (from + length (spelling x.1)) xs to lies in
     omega (arith, rest, length-append (spelling x.1) (bytes_of_records xs))
 
-module _ (rule : Rule) (r : Repository) (branch : Bytes) (info : Info) (sides : Sides) (is : IsJoin r branch sides) (work : Work) (v : View) (onto : work.parents ≡ sides.head ∷ sides.number ∷ [])
-    (retained : IfSome work.least (λ n. r.floor ≤ n)) (merges : IsOutcome rule r sides (merged v.map)) (good : within_limits v.map ≡ Ok v.map) where
+module _ (rule : Rule) (r : Repository) (phase : Phase) (branch : Bytes) (info : Info) (sides : Sides) (is : IsJoin r phase branch sides) (work : Work) (v : View) (onto : work.parents ≡ sides.head ∷ sides.number ∷ [])
+    (there : IsThere r work.least) (stays : not_leaving_in phase work.least ≡ Ok tt) (merges : IsOutcome rule r sides (merged v.map)) (good : within_limits v.map ≡ Ok v.map) where
   abbrev commit : Commit
   commit = new_commit r v.map work.parents info
 
@@ -77,7 +81,7 @@ module _ (rule : Rule) (r : Repository) (branch : Bytes) (info : Info) (sides : 
   after = with_commit r commit branch
 
   abbrev s : State
-  s = session r work v
+  s = session r phase work v
 
   -- the refusals that are left to both, and what is done behind them
   abbrev ends : (old space sequence : Bool) → Turned → Refused Turned
@@ -90,7 +94,7 @@ module _ (rule : Rule) (r : Repository) (branch : Bytes) (info : Info) (sides : 
   ends_by met t = ends old (is_short Limit.Space met.short) (is_short Limit.Sequence met.short) t
 
   abbrev merge_turn : Machine.Work → Turned
-  merge_turn w = (Reply.Merged commit.name, state_at after w)
+  merge_turn w = (Reply.Merged commit.name, state_at after phase w)
 
   among : (n m : ℕ) → moved_head (Some n) (n ∷ m ∷ []) ≡ None
   among n m = by (n == n) (number_itself n)
@@ -100,46 +104,49 @@ module _ (rule : Rule) (r : Repository) (branch : Bytes) (info : Info) (sides : 
       by false same = absurd (cc (same))
 
   -- the branch is at the first parent
-  head_is : Head r work v branch info retained ≡ Ok tt
+  head_is : unless_some (moved_head (head r branch) work.parents) (λ n. Reply.HeadMoved (name_at r n)) ≡ Ok tt
   head_is = (λ i. unless_some (moved_head (is.is_head i) (onto i)) (λ n. Reply.HeadMoved (name_at r n))) ∙ ap (λ (o : Option ℕ). unless_some o (λ n. Reply.HeadMoved (name_at r n))) (among sides.head sides.number)
 
   room_is : room_for_branch r branch ≡ Ok tt
   room_is = ap (λ (o : Option ℕ). refuse_if (not (is_some o) && nat_le branches_limit (len r.branches)) (Reply.Limit Limit.Branches)) is.is_head
 
-  commit_is : (met : Met) → met.refused ≡ false → turned s (Command.Commit branch info) (conditions_of met) ≡ or_refused s (ends_by met (committed r work v branch info))
-  commit_is met unrefused = turn_is r (work_at work v) (Command.Commit branch info) tt met (ends_by met (committed r work v branch info)) unrefused
-      (outcome_is r work v branch info retained met ∙ behind_room r work v branch info retained head_is room_is met)
+  first_is : First r phase work v branch info ≡ Ok tt
+  first_is = λ i. none_given r work.least there i >> (head_is i >> (stays i >> room_is i))
+
+  commit_is : (met : Met) → met.refused ≡ false → turned s (Command.Commit branch info) (conditions_of met) ≡ or_refused s (ends_by met (committed r phase work v branch info))
+  commit_is met unrefused = turn_is r phase (work_at work v) (Command.Commit branch info) tt met (ends_by met (committed r phase work v branch info)) unrefused
+      (outcome_is r phase work v branch info met ∙ behind_first r phase work v branch info first_is met)
 
   abbrev joined_by : Met → Machine.Work → Refused Turned
-  joined_by met w = joined rule r sides.number branch info sides.head is.is_head is.apart.0 is.apart.1 sides.base is.least met w (merged v.map)
+  joined_by met w = joined rule r phase sides.number branch info sides.head is.is_head is.apart.0 is.apart.1 is.staying sides.base is.least met w (merged v.map)
 
-  merge_is : (met : Met) (w : Machine.Work) → or_refused (state_at r w) (joined_by met w) ≡ or_refused (state_at r w) (ends_by met (merge_turn w))
+  merge_is : (met : Met) (w : Machine.Work) → or_refused (state_at r phase w) (joined_by met w) ≡ or_refused (state_at r phase w) (ends_by met (merge_turn w))
   merge_is met w =
-      ap (λ (g : Refused Tree). or_refused (state_at r w) (g >>= with_merge (state_at r w) (conditions_of met) sides.number branch sides.head info)) good
-      ∙ ap (λ (ps : List ℕ). or_refused (state_at r w) (not_existing r (new_commit r v.map ps info).name >> (enough (conditions_of met) Limit.Space >> (enough (conditions_of met) Limit.Sequence
-      >> Ok (Reply.Merged (new_commit r v.map ps info).name, state_at (with_commit r (new_commit r v.map ps info) branch) w))))) (sym onto)
+      ap (λ (g : Refused Tree). or_refused (state_at r phase w) (g >>= with_merge (state_at r phase w) (conditions_of met) sides.number branch sides.head info)) good
+      ∙ ap (λ (ps : List ℕ). or_refused (state_at r phase w) (not_existing r (new_commit r v.map ps info).name >> (enough (conditions_of met) Limit.Space >> (enough (conditions_of met) Limit.Sequence
+      >> Ok (Reply.Merged (new_commit r v.map ps info).name, state_at (with_commit r (new_commit r v.map ps info) branch) phase w))))) (sym onto)
 
   -- ---- the one turn by the other
 
   record IsFollowed (reply : Reply) (s' : State) (merge : Machine.Work → Refused Turned) : Type 0 where
     next : Repository
-    turn : (w : Machine.Work) → (mate reply, state_at next w) ≡ or_refused (state_at r w) (merge w)
+    turn : (w : Machine.Work) → (mate reply, state_at next phase w) ≡ or_refused (state_at r phase w) (merge w)
     same : s'.repository ≡ next
     floor : next.floor ≡ r.floor
-    stays : ¬ IsCommitted reply → next ≡ r
+    unmoved : ¬ IsCommitted reply → next ≡ r
 
-  follow : (old space sequence : Bool) (reply : Reply) (s' : State) → (reply, s') ≡ or_refused s (ends old space sequence (committed r work v branch info)) → IsFollowed reply s' (λ w. ends old space sequence (merge_turn w))
-  follow true space sequence reply s' e = subst (λ (t : Turned). IsFollowed t.0 t.1 (λ w. ends true space sequence (merge_turn w))) (sym e) (record { next = r; turn = λ w. refl; same = refl; floor = refl; stays = λ not. refl })
-  follow false true sequence reply s' e = subst (λ (t : Turned). IsFollowed t.0 t.1 (λ w. ends false true sequence (merge_turn w))) (sym e) (record { next = r; turn = λ w. refl; same = refl; floor = refl; stays = λ not. refl })
-  follow false false true reply s' e = subst (λ (t : Turned). IsFollowed t.0 t.1 (λ w. ends false false true (merge_turn w))) (sym e) (record { next = r; turn = λ w. refl; same = refl; floor = refl; stays = λ not. refl })
-  follow false false false reply s' e = subst (λ (t : Turned). IsFollowed t.0 t.1 (λ w. ends false false false (merge_turn w))) (sym e) (record { next = after; turn = λ w. refl; same = refl; floor = refl; stays = λ not. absurd (not tt) })
+  follow : (old space sequence : Bool) (reply : Reply) (s' : State) → (reply, s') ≡ or_refused s (ends old space sequence (committed r phase work v branch info)) → IsFollowed reply s' (λ w. ends old space sequence (merge_turn w))
+  follow true space sequence reply s' e = subst (λ (t : Turned). IsFollowed t.0 t.1 (λ w. ends true space sequence (merge_turn w))) (sym e) (record { next = r; turn = λ w. refl; same = refl; floor = refl; unmoved = λ not. refl })
+  follow false true sequence reply s' e = subst (λ (t : Turned). IsFollowed t.0 t.1 (λ w. ends false true sequence (merge_turn w))) (sym e) (record { next = r; turn = λ w. refl; same = refl; floor = refl; unmoved = λ not. refl })
+  follow false false true reply s' e = subst (λ (t : Turned). IsFollowed t.0 t.1 (λ w. ends false false true (merge_turn w))) (sym e) (record { next = r; turn = λ w. refl; same = refl; floor = refl; unmoved = λ not. refl })
+  follow false false false reply s' e = subst (λ (t : Turned). IsFollowed t.0 t.1 (λ w. ends false false false (merge_turn w))) (sym e) (record { next = after; turn = λ w. refl; same = refl; floor = refl; unmoved = λ not. absurd (not tt) })
 
   followed : (met : Met) (reply : Reply) (s' : State) → met.refused ≡ false → turned s (Command.Commit branch info) (conditions_of met) ≡ (reply, s') → IsFollowed reply s' (λ w. ends_by met (merge_turn w))
   followed met reply s' unrefused e = follow old (is_short Limit.Space met.short) (is_short Limit.Sequence met.short) reply s' (sym e ∙ commit_is met unrefused)
 
-  turns_so : (met : Met) (reply : Reply) (s' : State) → met.refused ≡ false → MayMeet rule r sides.number branch info met (mate reply) → (f : IsFollowed reply s' (λ w. ends_by met (merge_turn w))) → IsTurn rule r sides.number branch info met (mate reply) f.next
+  turns_so : (met : Met) (reply : Reply) (s' : State) → met.refused ≡ false → MayMeet rule r phase sides.number branch info met (mate reply) → (f : IsFollowed reply s' (λ w. ends_by met (merge_turn w))) → IsTurn rule r phase sides.number branch info met (mate reply) f.next
   turns_so met reply s' unrefused meets f =
-      join_turn rule r sides.number branch info sides.head is.is_head is.apart.0 is.apart.1 sides.base is.least met (merged v.map) merges (mate reply) f.next unrefused meets (λ w. f.turn w ∙ sym (merge_is met w))
+      join_turn rule r phase sides.number branch info sides.head is.is_head is.apart.0 is.apart.1 is.staying sides.base is.least met (merged v.map) merges (mate reply) f.next unrefused meets (λ w. f.turn w ∙ sym (merge_is met w))
 
   -- ---- what is met
 
@@ -147,9 +154,9 @@ module _ (rule : Rule) (r : Repository) (branch : Bytes) (info : Info) (sides : 
   swept_mate (Reply.Committed name) is = absurd is
   swept_mate _ is = is
 
-  meets_mate : (met : Met) (reply : Reply) → IsMet s (Command.Commit branch info) (conditions_of met) reply → MayMeet rule r sides.number branch info met (mate reply)
+  meets_mate : (met : Met) (reply : Reply) → IsMet s (Command.Commit branch info) (conditions_of met) reply → MayMeet rule r phase sides.number branch info met (mate reply)
   meets_mate met reply m w target = record {
-    child = m.child;
+    child = same_hear phase target met.child m.child;
     checking = checked met.checking m.checking;
     start = λ t. ap mate (m.start t);
     kill = λ t. let both = m.kill t in (ap mate both.0, both.1);
@@ -158,6 +165,11 @@ module _ (rule : Rule) (r : Repository) (branch : Bytes) (info : Info) (sides : 
     refused = λ t. tt;
   }
     where
+      same_hear : (phase : Phase) (target : Target) (child : Child) → MayHear phase (Command.Commit branch info) child → MayHear phase (Command.Merge target branch info) child
+      same_hear Phase.Idle target child is = is
+      same_hear (Phase.Collecting c None) target child is = is
+      same_hear (Phase.Collecting c (Some reaped)) target child is = is
+
       checked : (o : Option ℕ) → IfSome o (λ left. (Command.Commit branch info ≡ Command.Look) × HasSucceeded met.child) → IfSome o (λ left. (Command.Merge target branch info ≡ Command.Look) × HasSucceeded met.child)
       checked None is = tt
       checked (Some left) is = absurd (cc (is.0))
@@ -167,25 +179,35 @@ module _ (rule : Rule) (r : Repository) (branch : Bytes) (info : Info) (sides : 
       shortened (Some limit) is = (ap mate is.0, is.1)
 
   -- memory was refused
-  refused_turn : (met : Met) → met.refused ≡ true → turned s (Command.Commit branch info) (conditions_of met) ≡ (Reply.Memory, s)
+  heard_none : (phase : Phase) (child : Child) → MayHear phase (Command.Commit branch info) child → child ≡ Child.NotAsked
+  heard_none Phase.Idle child is = is
+  heard_none (Phase.Collecting c None) child is = is
+  heard_none (Phase.Collecting c (Some reaped)) child is = is
+
+  -- so nothing is kept of it
+  same_state : (w : Machine.Work) (child : Child) → child ≡ Child.NotAsked → state_with_exit (state_at r phase w) phase child ≡ state_at r phase w
+  same_state w child is = ap (λ (heard : Child). state_with_exit (state_at r phase w) phase heard) is ∙ unkept (state_at r phase w) phase
+
+  refused_turn : (met : Met) → MayHear phase (Command.Commit branch info) met.child → met.refused ≡ true → turned s (Command.Commit branch info) (conditions_of met) ≡ (Reply.Memory, s)
   unfolding turned
-  refused_turn met is = ap (λ b. if b then (Reply.Memory, state_with_exit s s.phase met.child) else answer s (Command.Commit branch info) (conditions_of met)) is
+  refused_turn met heard is = ap (λ b. if b then (Reply.Memory, state_with_exit s s.phase met.child) else answer s (Command.Commit branch info) (conditions_of met)) is
+      ∙ ap (λ (t : State). (Reply.Memory, t)) (same_state (work_at work v) met.child (heard_none phase met.child heard))
 
   module _ (told : Told) (store' : Store) (work' : Work) (goes : (q : Repository) → IsOf store' q → GoesOnFrom r store' q) (met : Met) where
     abbrev Answered : Reply → Type 0
     Answered reply = Answers told s v (Command.Commit branch info) met reply store' work'
 
     abbrev Merged : Reply → Type 0
-    Merged reply = AnswersMerge rule told r sides.number branch info met reply store'
+    Merged reply = AnswersMerge rule told r phase sides.number branch info met reply store'
 
     answer_refused : (reply : Reply) → met.refused ≡ true → Answered reply → Merged (mate reply)
     answer_refused reply is A =
-        let turn = sym A.turns.1 ∙ refused_turn met is in
+        let turn = sym A.turns.1 ∙ refused_turn met A.turns.0.child is in
         let same : A.after ≡ r = ap (λ (t : Turned). t.1.repository) turn in
         let holds : Holds store' told r = subst (Holds store' told) same A.is_at.holds in
         record {
           after = r;
-          turns = λ w target named. (meets_mate met reply A.turns.0 w target, when_true met.refused _ _ is (ap (λ (t : Turned). mate t.0) turn, refl));
+          turns = λ w target named. (meets_mate met reply A.turns.0 w target, when_true met.refused _ _ is (ap (λ (t : Turned). mate t.0) turn, sym (same_state w met.child (heard_none phase met.child A.turns.0.child))));
           floor = refl;
           stays = λ still. refl;
           holds = holds;
@@ -194,13 +216,13 @@ module _ (rule : Rule) (r : Repository) (branch : Bytes) (info : Info) (sides : 
 
     answer_turned : (reply : Reply) → met.refused ≡ false → Answered reply → Merged (mate reply)
     answer_turned reply unrefused A =
-        let f = followed met reply (session A.after work' A.view) unrefused A.turns.1 in
+        let f = followed met reply (session A.after phase work' A.view) unrefused A.turns.1 in
         let holds : Holds store' told f.next = subst (Holds store' told) f.same A.is_at.holds in
         record {
           after = f.next;
-          turns = turns_so met reply (session A.after work' A.view) unrefused (meets_mate met reply A.turns.0) f;
+          turns = turns_so met reply (session A.after phase work' A.view) unrefused (meets_mate met reply A.turns.0) f;
           floor = f.floor;
-          stays = λ still. f.stays (λ done. still (moves_mate reply done));
+          stays = λ still. f.unmoved (λ done. still (moves_mate reply done));
           holds = holds;
           goes_on = goes f.next holds.tables;
         }
@@ -214,7 +236,9 @@ module _ (rule : Rule) (r : Repository) (branch : Bytes) (info : Info) (sides : 
 
     pub answers_joined : (result : Result Hash StoreFault) → IfSome (reply_to result) Answered → IfSome (merge_reply branch (merged_of result)) Merged
     answers_joined (Ok name) A = answer_by (Reply.Committed name) A
+    answers_joined (Err (StoreFault.GivenUp number)) A = answer_by (Reply.GivenUp number) A
     answers_joined (Err (StoreFault.HeadMoved name)) A = answer_by (Reply.HeadMoved name) A
+    answers_joined (Err (StoreFault.Leaving number)) A = answer_by (Reply.Leaving number) A
     answers_joined (Err (StoreFault.Existing name)) A = answer_by (Reply.Existing name) A
     answers_joined (Err (StoreFault.Limit limit)) A = answer_by (Reply.Limit limit) A
     answers_joined (Err StoreFault.Memory) A = answer_by Reply.Memory A
@@ -229,45 +253,45 @@ module _ (rule : Rule) (r : Repository) (branch : Bytes) (info : Info) (sides : 
   quiet_followed : IsFollowed quiet_turn.0 quiet_turn.1 (λ w. ends_by met_nothing (merge_turn w))
   quiet_followed = followed met_nothing quiet_turn.0 quiet_turn.1 refl refl
 
-  quiet_joined : IsQuiet rule r sides.number branch info (mate quiet_turn.0) (repository_after r work v branch info)
+  quiet_joined : IsQuiet rule r phase sides.number branch info (mate quiet_turn.0) (repository_after r phase work v branch info)
   quiet_joined =
       let f = quiet_followed in
-      subst (IsQuiet rule r sides.number branch info (mate quiet_turn.0)) (sym f.same) (record {
-        turns = turns_so met_nothing quiet_turn.0 quiet_turn.1 refl (meets_nothing rule r sides.number branch info (mate quiet_turn.0)) f;
+      subst (IsQuiet rule r phase sides.number branch info (mate quiet_turn.0)) (sym f.same) (record {
+        turns = turns_so met_nothing quiet_turn.0 quiet_turn.1 refl (meets_nothing rule r phase sides.number branch info (mate quiet_turn.0)) f;
         floor = f.floor;
-        stays = λ still. f.stays (λ done. still (moves_mate quiet_turn.0 done));
+        stays = λ still. f.unmoved (λ done. still (moves_mate quiet_turn.0 done));
       })
 
-  changes_merged : (result : Result Hash StoreFault) (store' : Store) (a b : Told) → Commits r work v branch info result store' a b → Changes r (repository_after r work v branch info) (merged_of result) store' a b
-  changes_merged (Ok name) store' a b does = with_value name (Merge.Merged name) r (repository_after r work v branch info) store' a b does
-  changes_merged (Err fault) store' a b does = with_fault fault r (repository_after r work v branch info) store' a b does
+  changes_merged : (result : Result Hash StoreFault) (store' : Store) (a b : Told) → Commits r phase work v branch info result store' a b → Changes r (repository_after r phase work v branch info) (merged_of result) store' a b
+  changes_merged (Ok name) store' a b does = with_value name (Merge.Merged name) r (repository_after r phase work v branch info) store' a b does
+  changes_merged (Err fault) store' a b does = with_fault fault r (repository_after r phase work v branch info) store' a b does
 
   never_unmoved : (result : Result Hash StoreFault) → ¬ IsUnmoved (merged_of result)
   never_unmoved (Ok name) = λ h. h
   never_unmoved (Err fault) = λ h. h
 
   -- a commit that was made is made too where nothing is met
-  made_quietly : (met : Met) (name : Hash) (s' : State) → turned s (Command.Commit branch info) (conditions_of met) ≡ (Reply.Committed name, s') → quiet_turn.0 ≡ Reply.Committed name
-  made_quietly met name s' e = by met.refused refl
+  made_quietly : (met : Met) (name : Hash) (s' : State) → MayHear phase (Command.Commit branch info) met.child → turned s (Command.Commit branch info) (conditions_of met) ≡ (Reply.Committed name, s') → quiet_turn.0 ≡ Reply.Committed name
+  made_quietly met name s' heard e = by met.refused refl
     where
       none : (t : Turned) → (Reply.Committed name, s') ≡ t → (IsCommitted t.0 → ⊥) → quiet_turn.0 ≡ Reply.Committed name
       none t is never = absurd (never (subst (λ (u : Turned). IsCommitted u.0) is tt))
 
-      behind : (was space sequence : Bool) → old ≡ was → (Reply.Committed name, s') ≡ or_refused s (ends was space sequence (committed r work v branch info)) → quiet_turn.0 ≡ Reply.Committed name
-      behind true space sequence is e = none (or_refused s (ends true space sequence (committed r work v branch info))) e (λ h. h)
-      behind false true sequence is e = none (or_refused s (ends false true sequence (committed r work v branch info))) e (λ h. h)
-      behind false false true is e = none (or_refused s (ends false false true (committed r work v branch info))) e (λ h. h)
+      behind : (was space sequence : Bool) → old ≡ was → (Reply.Committed name, s') ≡ or_refused s (ends was space sequence (committed r phase work v branch info)) → quiet_turn.0 ≡ Reply.Committed name
+      behind true space sequence is e = none (or_refused s (ends true space sequence (committed r phase work v branch info))) e (λ h. h)
+      behind false true sequence is e = none (or_refused s (ends false true sequence (committed r phase work v branch info))) e (λ h. h)
+      behind false false true is e = none (or_refused s (ends false false true (committed r phase work v branch info))) e (λ h. h)
       behind false false false is e =
-          ap (λ (t : Turned). t.0) (commit_is met_nothing refl ∙ ap (λ b. or_refused s (ends b false false (committed r work v branch info))) is) ∙ sym (ap (λ (t : Turned). t.0) e)
+          ap (λ (t : Turned). t.0) (commit_is met_nothing refl ∙ ap (λ b. or_refused s (ends b false false (committed r phase work v branch info))) is) ∙ sym (ap (λ (t : Turned). t.0) e)
 
       by : (b : Bool) → met.refused ≡ b → quiet_turn.0 ≡ Reply.Committed name
-      by true is = none (Reply.Memory, s) (sym e ∙ refused_turn met is) (λ h. h)
+      by true is = none (Reply.Memory, s) (sym e ∙ refused_turn met heard is) (λ h. h)
       by false is = behind old (is_short Limit.Space met.short) (is_short Limit.Sequence met.short) refl (sym e ∙ commit_is met is)
 
-  pub moments_joined : (result : Result Hash StoreFault) (store' : Store) (work' : Work) (a b told : Told) (met : Met) → IfSome (reply_to result) (λ reply. Answers told s v (Command.Commit branch info) met reply store' work') → Commits r work v branch info result store' a b
-      → MergesAtMoments rule r sides.number branch info (merged_of result) store' a b
+  pub moments_joined : (result : Result Hash StoreFault) (store' : Store) (work' : Work) (a b told : Told) (met : Met) → IfSome (reply_to result) (λ reply. Answers told s v (Command.Commit branch info) met reply store' work') → Commits r phase work v branch info result store' a b
+      → MergesAtMoments rule r phase sides.number branch info (merged_of result) store' a b
   moments_joined result store' work' a b told met A does = record {
-    after = repository_after r work v branch info;
+    after = repository_after r phase work v branch info;
     reply = mate quiet_turn.0;
     turns = quiet_joined.turns;
     replies = replies result A;
@@ -278,7 +302,7 @@ module _ (rule : Rule) (r : Repository) (branch : Bytes) (info : Info) (sides : 
   }
     where
       replies : (result : Result Hash StoreFault) → IfSome (reply_to result) (λ reply. Answers told s v (Command.Commit branch info) met reply store' work') → OnOk (merged_of result) (merge_reply branch (merged_of result) ≡ Some (mate quiet_turn.0))
-      replies (Ok name) A = ap (λ reply. Some (mate reply)) (sym (made_quietly met name (session A.after work' A.view) A.turns.1))
+      replies (Ok name) A = ap (λ reply. Some (mate reply)) (sym (made_quietly met name (session A.after phase work' A.view) A.turns.0.child A.turns.1))
       replies (Err fault) A = tt
 
   -- ---- the records
@@ -309,11 +333,7 @@ module _ (rule : Rule) (r : Repository) (branch : Bytes) (info : Info) (sides : 
           let both = limits.sequence refl in
           record { more = more; commits = 1; are = more_are; short = (subst (λ (n : ℕ). n ≤ 2 ^ 62) ends_there both.0, ap (λ (t : Slot). t.sequence) (sym slot) ∙ both.1) }
       limits_joined (Err (StoreFault.Limit _)) limits = tt
-      limits_joined (Err (StoreFault.HeadMoved name)) limits = tt
-      limits_joined (Err (StoreFault.Existing name)) limits = tt
-      limits_joined (Err StoreFault.Memory) limits = tt
-      limits_joined (Err StoreFault.Ground) limits = tt
-      limits_joined (Err (StoreFault.Damaged at names)) limits = tt
+      limits_joined (Err _) limits = tt
       limits_joined (Ok name) limits = tt
 
       pub appends_joined : (result : Result Hash StoreFault) (now : Store) (a b : Told) → LimitsSpace (end_of r work v branch info mid) result mid → OnOk result (Appends more 1 store now a b) → (HasAnswer result → OnOk result ⊥ → now.slot ≡ store.slot)
@@ -326,7 +346,9 @@ module _ (rule : Rule) (r : Repository) (branch : Bytes) (info : Info) (sides : 
         room = subst (λ (n : ℕ). n ≤ 2 ^ 62) ends_there limits.enough.0;
         sequence = subst (λ (n : ℕ). n < 2 ^ 62) (ap (λ (t : Slot). t.sequence) slot) limits.enough.1;
       }
+      appends_joined (Err (StoreFault.GivenUp number)) now a b limits appends still = λ has. still tt tt
       appends_joined (Err (StoreFault.HeadMoved name)) now a b limits appends still = λ has. still tt tt
+      appends_joined (Err (StoreFault.Leaving number)) now a b limits appends still = λ has. still tt tt
       appends_joined (Err (StoreFault.Existing name)) now a b limits appends still = λ has. still tt tt
       appends_joined (Err (StoreFault.Limit limit)) now a b limits appends still = λ has. still tt tt
       appends_joined (Err StoreFault.Memory) now a b limits appends still = λ has. still tt tt

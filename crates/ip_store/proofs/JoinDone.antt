@@ -3,19 +3,20 @@
 --     done_answers, done_moments, done_limits, done_appends, done_stays      of the merge.      done_tables      whatever is told
 --     looked_stays, join_limits      where the trees were not merged
 use Rattle.std.proofs.Common.{◌≡◌, ℕ, [], ◌∷◌, Option, Some, refl, sym, ◌∙◌, ap, subst}
-use Rattle.std.specs.Prelude.{Result, Ok, Err, OnOk, IfSome}
+use Rattle.std.specs.Prelude.{Result, Ok, Err, OnOk, IfSome, min}
 use Rattle.std.proofs.lemmas.Result.{on_ok_weaker}
 use Rattle.ip_base.specs.declared.info.Info.{Info}
 use Rattle.ip_base.specs.declared.limit.Limit.{Limit}
 use Rattle.ip_ground.specs.Told.{Told}
-use Rattle.ip_image.specs.declared.slot.Slot.{Slot}
 use Rattle.ip_spec.specs.declared.command.Command.TheVariants as Command
 use Rattle.ip_spec.specs.declared.record.Record.{Record}
+use Rattle.ip_spec.specs.Machine.{Phase}
 use Rattle.ip_spec.specs.Merge.{Rule}
 use Rattle.ip_spec.specs.Path.{Bytes}
 use Rattle.ip_spec.specs.Record.{Hash}
 use Rattle.ip_spec.specs.Repository.{Repository}
 use Rattle.ip_tree.specs.declared.tree.Tree as lazy
+use Rattle.ip_store.specs.declared.collection.Collection.{Collection}
 use Rattle.ip_store.specs.declared.committing.StoreFault.{StoreFault}
 use Rattle.ip_store.specs.declared.merging.Sides.{Sides}
 use Rattle.ip_store.specs.declared.store.Store.{Store}
@@ -25,9 +26,11 @@ use Rattle.ip_store.specs.Commits.{Answers, Commits, GoesOn, reply_to, repositor
 use Rattle.ip_store.specs.Merging.{merge_reply, GoesOnFrom, AnswersMerge, MergesAtMoments, AppendsMerge, LimitsMerge, IsJoin, IsJoined, IsJoinedTree}
 use Rattle.ip_store.specs.Store.{IsOf, Holds, SameTables, image_records}
 use Rattle.ip_store.specs.Trees.{OnlyLooks, RecordsStay}
-use Rattle.ip_store.specs.Work.{AreParents, IsLawful, IsAt, session}
+use Rattle.ip_store.specs.Collecting.{not_leaving_in, phase_of}
+use Rattle.ip_store.specs.Work.{IsLawful, IsAt, IsThere, session}
 use Rattle.ip_store.proofs.JoinAnswers.{merged_of, answers_joined, moments_joined, limits_joined, appends_joined}
-use Rattle.ip_store.proofs.JoinedTrees.{join_outcome, join_good, join_view, join_lawful, join_parents, goes_on_from}
+use Rattle.ip_store.proofs.JoinedTrees.{join_outcome, join_good, join_view, join_lawful, join_parents, join_there, goes_on_from}
+use Rattle.ip_store.proofs.Phases.{stays_least}
 use Rattle.ip_store.proofs.Listed.{same_records}
 use Rattle.ip_store.proofs.Looked.{changes_behind, stays_behind, appends_behind}
 use Rattle.ip_store.proofs.MergeExits.{slot_still}
@@ -46,11 +49,7 @@ pub join_limits : (rule : Rule) (records some : ℕ → Option Record) (r : Repo
 join_limits rule records some r sides number branch info store (StoreFault.Limit Limit.Space) outcome = absurd outcome
 join_limits rule records some r sides number branch info store (StoreFault.Limit Limit.Sequence) outcome = absurd outcome
 join_limits rule records some r sides number branch info store (StoreFault.Limit _) outcome = tt
-join_limits rule records some r sides number branch info store (StoreFault.HeadMoved name) outcome = tt
-join_limits rule records some r sides number branch info store (StoreFault.Existing name) outcome = tt
-join_limits rule records some r sides number branch info store StoreFault.Memory outcome = tt
-join_limits rule records some r sides number branch info store StoreFault.Ground outcome = tt
-join_limits rule records some r sides number branch info store (StoreFault.Damaged at names) outcome = tt
+join_limits rule records some r sides number branch info store _ outcome = tt
 
 -- ---- whatever is told
 
@@ -59,39 +58,61 @@ done_tables store mid store' work' r same of keeps goes = (goes.repository, goes
 
 -- ---- the merged tree
 
-module _ (rule : Rule) (r : Repository) (branch : Bytes) (info : Info) (sides : Sides) (is : IsJoin r branch sides) (store mid : Store) (a b : Told) (looks : OnlyLooks a b store mid) (slot : mid.slot ≡ store.slot) (held : Holds store a r)
-    (tree : lazy.Tree) (J : IsJoinedTree rule (image_records held) r sides tree) (work : Work) (tree_is : work.tree ≡ tree) (onto : work.parents ≡ sides.head ∷ sides.number ∷ []) (oldest : work.least ≡ tree.oldest) where
+module _ (rule : Rule) (r : Repository) (branch : Bytes) (info : Info) (sides : Sides) (store mid : Store) (is : IsJoin r (phase_of store.collection) branch sides) (a b : Told) (looks : OnlyLooks a b store mid) (same : SameTables store mid) (held : Holds store a r)
+    (tree : lazy.Tree) (J : IsJoinedTree rule (image_records held) r sides tree) (work : Work) (tree_is : work.tree ≡ tree) (onto : work.parents ≡ sides.head ∷ sides.number ∷ []) (low : work.least ≡ Some (min sides.head sides.number)) where
+  abbrev phase : Phase
+  phase = phase_of store.collection
+
   abbrev now : Holds mid b r
   now = looks.holds r held
 
   lawful : IsLawful (image_records held) r work J.view
-  lawful = join_lawful rule (image_records held) r sides tree J branch is (join_parents r branch sides is) work tree_is onto oldest
+  lawful = join_lawful rule (image_records held) r sides tree J phase branch is (join_parents r phase branch sides is) work tree_is onto low
+
+  there : IsThere r work.least
+  there = subst (IsThere r) (sym low) (join_there r phase branch sides is)
+
+  -- the two stay, so the merge does
+  stays : not_leaving_in phase work.least ≡ Ok tt
+  stays = subst (λ (o : Option ℕ). not_leaving_in phase o ≡ Ok tt) (sym low) (stays_least store.slot r store.collection branch sides.head sides.number held.tables.phase is.is_head is.staying)
 
   pub is_at : IsAt b mid r work J.view
   is_at = record { holds = now; lawful = subst (λ (records : ℕ → Option Record). IsLawful records r work J.view) (sym (looks.records r held now)) lawful }
 
   module _ (result : Result Hash StoreFault) (store' : Store) (work' : Work) (c : Told) where
+    abbrev DoneIn : Option Collection → Type 0
+    DoneIn o = IfSome (reply_to result) (λ reply. Answers c (session r (phase_of o) work J.view) J.view (Command.Commit branch info) store'.met reply store' work')
+
     abbrev Done : Type 0
-    Done = IfSome (reply_to result) (λ reply. Answers c (session r work J.view) J.view (Command.Commit branch info) store'.met reply store' work')
+    Done = DoneIn mid.collection
 
-    pub done_answers : Done → KeepsNumbers mid store' → IfSome (merge_reply branch (merged_of result)) (λ reply. AnswersMerge rule c r sides.number branch info store'.met reply store')
-    done_answers A keeps = answers_joined rule r branch info sides is work J.view onto lawful.retained (join_outcome rule (image_records held) r sides tree J) (join_good rule (image_records held) r sides tree J) c store' work'
-        (λ after of. goes_on_from mid store' r after now.tables keeps of) store'.met result A
+    abbrev Does : Type 0
+    Does = Commits r (phase_of mid.collection) work J.view branch info result store' b c
 
-    pub done_moments : Done → Commits r work J.view branch info result store' b c → MergesAtMoments rule r sides.number branch info (merged_of result) store' a c
-    done_moments A does = moments_joined rule r branch info sides is work J.view onto lawful.retained (join_outcome rule (image_records held) r sides tree J) (join_good rule (image_records held) r sides tree J) result store' work' a c c store'.met A
-        (changes_behind r store a held b looks.reads.only (repository_after r work J.view branch info) result store' c does)
+    in_phase : Done → DoneIn store.collection
+    in_phase A = subst DoneIn same.collection A
+
+    does_in : Does → Commits r phase work J.view branch info result store' b c
+    does_in does = subst (λ (o : Option Collection). Commits r (phase_of o) work J.view branch info result store' b c) same.collection does
+
+    pub done_answers : Done → KeepsNumbers mid store' → IfSome (merge_reply branch (merged_of result)) (λ reply. AnswersMerge rule c r phase sides.number branch info store'.met reply store')
+    done_answers A keeps = answers_joined rule r phase branch info sides is work J.view onto there stays (join_outcome rule (image_records held) r sides tree J) (join_good rule (image_records held) r sides tree J) c store' work'
+        (λ after of. goes_on_from mid store' r after now.tables keeps of) store'.met result (in_phase A)
+
+    pub done_moments : Done → Does → MergesAtMoments rule r phase sides.number branch info (merged_of result) store' a c
+    done_moments A does = moments_joined rule r phase branch info sides is work J.view onto there stays (join_outcome rule (image_records held) r sides tree J) (join_good rule (image_records held) r sides tree J) result store' work' a c c store'.met (in_phase A)
+        (changes_behind r store a held b looks.reads.only (repository_after r phase work J.view branch info) result store' c (does_in does))
 
     pub done_limits : LimitsSpace (end_of r work J.view branch info mid) result mid → LimitsMerge rule (image_records held) r sides.number branch info (merged_of result) store
-    done_limits limits = limits_joined rule r branch info sides is work J.view onto lawful.retained (join_outcome rule (image_records held) r sides tree J) (join_good rule (image_records held) r sides tree J)
-        (image_records held) (join_view rule (image_records held) r sides tree J branch is) store mid slot result limits
+    done_limits limits = limits_joined rule r phase branch info sides is work J.view onto there stays (join_outcome rule (image_records held) r sides tree J) (join_good rule (image_records held) r sides tree J)
+        (image_records held) (join_view rule (image_records held) r sides tree J phase branch is) store mid same.slot result limits
 
-    pub done_appends : LimitsSpace (end_of r work J.view branch info mid) result mid → OnOk result (Appends (records_of r work J.view branch info mid) 1 mid store' b c) → Commits r work J.view branch info result store' b c
+    pub done_appends : LimitsSpace (end_of r work J.view branch info mid) result mid → OnOk result (Appends (records_of r work J.view branch info mid) 1 mid store' b c) → Does
         → AppendsMerge rule (image_records held) r sides.number branch info (merged_of result) store store' a c
-    done_appends limits appends does = appends_joined rule r branch info sides is work J.view onto lawful.retained (join_outcome rule (image_records held) r sides tree J) (join_good rule (image_records held) r sides tree J)
-        (image_records held) (join_view rule (image_records held) r sides tree J branch is) store mid slot result store' a c limits
-        (on_ok_weaker result (appends_behind a b store mid looks (records_of r work J.view branch info mid) 1 store' c slot) appends) (still result does)
+    done_appends limits appends does = appends_joined rule r phase branch info sides is work J.view onto there stays (join_outcome rule (image_records held) r sides tree J) (join_good rule (image_records held) r sides tree J)
+        (image_records held) (join_view rule (image_records held) r sides tree J phase branch is) store mid same.slot result store' a c limits
+        (on_ok_weaker result (appends_behind a b store mid looks (records_of r work J.view branch info mid) 1 store' c same.slot) appends) (still result does)
       where
-        still : (result : Result Hash StoreFault) → Commits r work J.view branch info result store' b c → HasAnswer result → OnOk result ⊥ → store'.slot ≡ store.slot
+        still : (result : Result Hash StoreFault) → Commits r (phase_of mid.collection) work J.view branch info result store' b c → HasAnswer result → OnOk result ⊥ → store'.slot ≡ store.slot
         still (Ok name) does has none = absurd none
-        still (Err fault) does has none = let both = does.refused (refl, has) in slot_still mid store' r r b c now both.1 both.0 ∙ slot
+        still (Err fault) does has none = let both = does.refused (refl, has) in slot_still mid store' r r b c now both.1 both.0 ∙ same.slot

@@ -47,15 +47,14 @@ same_on store mid now first next = record {
   branches = next.branches ∙ first.branches;
   history = next.history ∙ first.history;
   space = next.space ∙ first.space;
+  collection = next.collection ∙ first.collection;
 }
 
 pub fetched_joined : {A : Type 0} (P : A → Type 0) (rule : Rule) (records : ℕ → Option Record) (r : Repository) (sides : Sides) (fault : StoreFault) → IsFetchedOr P (Err fault) → IsJoined rule records r sides (Err fault)
 fetched_joined P rule records r sides StoreFault.Ground is = tt
 fetched_joined P rule records r sides StoreFault.Memory is = tt
 fetched_joined P rule records r sides (StoreFault.Limit limit) is = absurd is
-fetched_joined P rule records r sides (StoreFault.HeadMoved name) is = absurd is
-fetched_joined P rule records r sides (StoreFault.Existing name) is = absurd is
-fetched_joined P rule records r sides (StoreFault.Damaged at names) is = absurd is
+fetched_joined P rule records r sides _ is = absurd is
 
 module _ (a b c d : Told) (store first second third : Store) (one : OnlyLooks a b store first) (two : OnlyLooks b c first second) (three : OnlyLooks c d second third) (r : Repository) (held : Holds store a r) where
   abbrev records : ℕ → Option Record

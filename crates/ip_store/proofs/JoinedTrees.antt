@@ -2,15 +2,14 @@
 --     within_good, within_long, within_wide      whether a merge's tree is within the limits
 --     joined_is      what comes of merging the three trees.      joined_of      as the store has it.      counts_stopped      and what is counted where they are not merged
 --     join_outcome, join_view, join_lawful      of the merged tree: the machine's outcome, its view, and that the work is lawful
---     join_parents      the parents of the commit.      goes_on_from      who goes on from commits of a repository goes on from them
---     course_is, course_ok      how two commits stand to each other, by their least common ancestors.      join_from      whose trees are merged then.      forward_from      which branch moves on
+--     join_there, join_parents      none of the parents of the commit was given up.      goes_on_from      who goes on from commits of a repository goes on from them
+--     course_is      how two commits stand to each other, by their least common ancestors.      join_from      whose trees are merged then.      forward_from      which branch moves on
 --     at_head      a branch's commit is there
 use Rattle.std.proofs.Common.{◌≡◌, ◌≢◌, ℕ, zero, suc, ◌<◌, ◌≤◌, Bool, true, false, List, [], ◌∷◌, length, Option, Some, None, refl, sym, ◌∙◌, ap, subst, arith}
-use Rattle.std.specs.Prelude.{Result, Ok, Err, All, AllPairs, IsTrue, IfSome, IfOk, min, not, ◌&&◌, ◌||◌, ◌==◌, nat_le, nat_lt, if◌then◌else◌}
+use Rattle.std.specs.Prelude.{Result, Ok, Err, All, AllPairs, IsTrue, IfSome, min, not, ◌&&◌, ◌||◌, ◌==◌, nat_le, nat_lt, if◌then◌else◌}
 use Rattle.std.specs.List.{AllByRecursion, list_any}
 use Rattle.std.proofs.lemmas.List.Elements.{All-from_recursion}
 use Rattle.std.proofs.lemmas.Bool.Decides.{nat_tests}
-use Rattle.std.proofs.lemmas.Result.{IfOk-weaker}
 use Rattle.ip_base.specs.declared.limit.Limit.{Limit}
 use Rattle.ip_ground.specs.declared.names.GroundCounts.{GroundCounts}
 use Rattle.ip_ground.specs.Counts.{Counts, CountsIf, FileFault}
@@ -23,12 +22,13 @@ use Rattle.ip_space.specs.declared.fault.FetchFault.TheVariants as fetch
 use Rattle.ip_spec.specs.declared.record.Record.{Record}
 use Rattle.ip_spec.specs.declared.reply.Reply.{Reply}
 use Rattle.ip_spec.specs.History.{is_ancestor, is_proper_ancestor, reaches, lcas, parents_at, ParentsFirst}
+use Rattle.ip_spec.specs.Machine.{Phase}
 use Rattle.ip_spec.specs.Map.{get}
 use Rattle.ip_spec.specs.Merge.{Rule, IsOneAnswer, Merges, Outcome, merged, conflict_at}
 use Rattle.ip_spec.specs.MergeModel.{base_of}
 use Rattle.ip_spec.specs.Path.{Bytes, Path}
 use Rattle.ip_spec.specs.Repository.{Repository, next, head, is_retained, tree_at}
-use Rattle.ip_spec.specs.Step.{contents_limit, entries_limit, longest_value, within_limits, refuse_if, Refused, ◌>>◌, least_with}
+use Rattle.ip_spec.specs.Step.{contents_limit, entries_limit, longest_value, within_limits, refuse_if, unless_some, Refused, ◌>>◌, least_with}
 use Rattle.ip_spec.specs.Tree.{Tree, widest}
 use Rattle.ip_spec.specs.View.{View, no_view, least}
 use Rattle.ip_save.specs.Batches.{HasShortContents}
@@ -46,11 +46,15 @@ use Rattle.ip_store.specs.declared.store.Store.{Store}
 use Rattle.ip_store.specs.declared.work.Work.{Work}
 use Rattle.ip_store.specs.Changes.{KeepsNumbers}
 use Rattle.ip_store.specs.Faults.{ground_store}
-use Rattle.ip_store.specs.Merging.{GoesOnFrom, IsStoredAs, IsBase, IsMergeView, IsCourseBy, IsCourse, bases_of, IsForward, IsJoin, IsBaseTree, IsOutcome, IsJoinedTree, IsJoined, stopped_by}
+use Rattle.ip_store.specs.Merging.{GoesOnFrom, IsStoredAs, IsBase, IsMergeView, IsCourseBy, IsCourse, IsApart, IsStaying, course_in, unless_leaving, bases_of, IsForward, IsJoin, IsBaseTree, IsOutcome, IsJoinedTree, IsJoined, stopped_by}
 use Rattle.ip_store.specs.Store.{IsOf}
 use Rattle.ip_store.specs.Trees.{IsTreeOf}
-use Rattle.ip_store.specs.Work.{AreParents, IsLawful, least_of}
+use Rattle.ip_store.specs.Work.{AreParents, IsLawful, IsThere, least_of}
+use Rattle.ip_store.specs.Collecting.{not_leaving_in}
+use Rattle.ip_store.specs.Rooted.{IsRooted}
 use Rattle.ip_store.proofs.Histories.{shows_of, common_retained}
+use Rattle.ip_store.proofs.Phases.{parents_on, retained_is}
+use Rattle.ip_store.proofs.RootedViews.{rooted_made}
 use Rattle.ip_store.proofs.Tables.{head_retained}
 use Rattle.ip_store.proofs.MergedMaps.{short_merged, long_merged, longest_short, made_map}
 
@@ -93,10 +97,11 @@ module _ (records : ℕ → Option Record) (r : Repository) where
     view : View
     stored : IsStoredAs records r n view
     is : IsView records tree view
+    rooted : IsRooted records view
     short : HasShortContents view.map
 
   seen : (n : ℕ) (tree : lazy.Tree) → IsTreeOf records r n tree → IsSeen n tree
-  seen n tree of = record { view = stored_view records n of.at (tree_at r n); stored = record { at = of.at; spelled = of.spelled; is = refl }; is = of.view; short = of.short }
+  seen n tree of = record { view = stored_view records n of.at (tree_at r n); stored = record { at = of.at; spelled = of.spelled; is = refl }; is = of.view; rooted = of.rooted; short = of.short }
 
   record IsSeenBase (base : Option ℕ) (tree : lazy.Tree) : Type 0 where
     view : View
@@ -109,6 +114,10 @@ module _ (records : ℕ → Option Record) (r : Repository) where
 
 same_merges : (rule : Rule) (o p a b l q : Tree) (m : Outcome) → o ≡ p → a ≡ b → l ≡ q → Merges rule o a l m → Merges rule p b q m
 same_merges rule o p a b l q m first second third is = subst (λ (t : Tree). Merges rule p b t m) third (subst (λ (t : Tree). Merges rule p t l m) second (subst (λ (t : Tree). Merges rule t a l m) first is))
+
+made_oldest : (b l q : View) (t : Tree) (v : View) → MergedView b l q t v → v.oldest ≡ least l.oldest q.oldest
+made_oldest b l q t v (whole side is same) = refl
+made_oldest b l q t v (edited gone come none edits) = refl
 
 -- what the store makes of the merge of the trees
 abbrev pub joined_of : Result lazy.Tree ThreeFault → Result Joined StoreFault
@@ -159,6 +168,7 @@ module _ (rule : Rule) (decides : IsDecisive rule) (records : ℕ → Option Rec
             merges = made;
             made = subst (λ (t : Tree). MergedView b.view l.view q.view t is.view) (sym same) is.made;
             is = is.is;
+            rooted = rooted_made records b.view l.view q.view is.map is.view is.made (made_oldest b.view l.view q.view is.map is.view is.made) l.rooted q.rooted;
             short = short_merged rule b.view.map l.view.map q.view.map is.view.map made l.short q.short is.short;
           }
       by (Err (three.Conflict path)) is = at_machine (conflict_at path) is
@@ -182,8 +192,8 @@ module _ (rule : Rule) (records : ℕ → Option Record) (r : Repository) (sides
   pub join_good : within_limits J.view.map ≡ Ok J.view.map
   join_good = within_good J.view.map (longest_short J.view.map J.short) J.is.narrow
 
-  pub join_view : (branch : Bytes) → IsJoin r branch sides → IsMergeView rule records r sides.head sides.number J.view
-  join_view branch is = record {
+  pub join_view : (phase : Phase) (branch : Bytes) → IsJoin r phase branch sides → IsMergeView rule records r sides.head sides.number J.view
+  join_view phase branch is = record {
     base = J.base;
     left = J.left;
     right = J.right;
@@ -193,10 +203,6 @@ module _ (rule : Rule) (records : ℕ → Option Record) (r : Repository) (sides
     merges = J.merges;
     made = J.made;
   }
-
-  made_oldest : (b l q : View) (t : Tree) (v : View) → MergedView b l q t v → v.oldest ≡ least l.oldest q.oldest
-  made_oldest b l q t v (whole side is same) = refl
-  made_oldest b l q t v (edited gone come none edits) = refl
 
   oldest_is : J.view.oldest ≡ Some (min sides.head sides.number)
   oldest_is = made_oldest J.base J.left J.right J.view.map J.view J.made ∙ (λ i. least (J.left_is.is i).oldest (J.right_is.is i).oldest) ∙ lesser sides.head sides.number
@@ -208,22 +214,18 @@ module _ (rule : Rule) (records : ℕ → Option Record) (r : Repository) (sides
           by true is = ap Some (grind (arith, nat_tests))
           by false is = ap Some (grind (arith, nat_tests))
 
-  pub join_lawful : (branch : Bytes) → IsJoin r branch sides → AreParents r (sides.head ∷ sides.number ∷ []) → (work : Work) → work.tree ≡ tree → work.parents ≡ sides.head ∷ sides.number ∷ [] → work.least ≡ tree.oldest → IsLawful records r work J.view
-  join_lawful branch is are work same onto oldest =
-      let low : work.least ≡ Some (min sides.head sides.number) = oldest ∙ sym J.is.oldest ∙ oldest_is in
-      record {
-        tree = subst (λ (t : lazy.Tree). IsView records t J.view) (sym same) J.is;
-        short = J.short;
-        parents = subst (AreParents r) (sym onto) are;
-        least = low ∙ sym (twice sides.head sides.number) ∙ (λ i. least_of (record J.view { oldest = sym oldest_is i }) (sym onto i));
-        retained = subst (λ o. IfSome o (λ n. r.floor ≤ n)) (sym low) (above r.floor sides.head sides.number (next r) is.head_retained is.number_retained);
-      }
+  pub join_lawful : (phase : Phase) (branch : Bytes) → IsJoin r phase branch sides → AreParents r (Some (min sides.head sides.number)) (sides.head ∷ sides.number ∷ []) → (work : Work) → work.tree ≡ tree → work.parents ≡ sides.head ∷ sides.number ∷ []
+      → work.least ≡ Some (min sides.head sides.number) → IsLawful records r work J.view
+  join_lawful phase branch is are work same onto low = record {
+    tree = λ there. subst (λ (t : lazy.Tree). IsView records t J.view) (sym same) J.is;
+    rooted = λ there. J.rooted;
+    short = J.short;
+    parents = subst (λ (o : Option ℕ). AreParents r o work.parents) (sym low) (subst (AreParents r (Some (min sides.head sides.number))) (sym onto) are);
+    least = low ∙ sym (twice sides.head sides.number) ∙ (λ i. least_of (record J.view { oldest = sym oldest_is i }) (sym onto i));
+  }
     where
       twice : (m n : ℕ) → least_with (least_with (Some (min m n)) m) n ≡ Some (min m n)
       twice m n = ap Some (let e : min (min (min m n) m) n ≡ min m n = omega arith in e)
-
-      above : (floor m n high : ℕ) → (nat_le floor m && nat_lt m high) ≡ true → (nat_le floor n && nat_lt n high) ≡ true → floor ≤ min m n
-      above floor m n high a b = grind (arith, nat_tests)
 
 -- ---- parents
 
@@ -235,9 +237,17 @@ itself_is (suc steps) r n = either (n == n) (list_any (λ p. reaches steps r n p
     either : (b c : Bool) → b ≡ true → (b || c) ≡ true
     either b c is = ap (λ (d : Bool). d || c) is
 
-pub join_parents : (r : Repository) (branch : Bytes) (sides : Sides) → IsJoin r branch sides → AreParents r (sides.head ∷ sides.number ∷ [])
-join_parents r branch sides is = record {
-  retained = All-from_recursion (λ n. IsTrue (is_retained r n)) (sides.head ∷ sides.number ∷ []) (is.head_retained, (is.number_retained, tt));
+-- none of the two was given up
+pub join_there : (r : Repository) (phase : Phase) (branch : Bytes) (sides : Sides) → IsJoin r phase branch sides → IsThere r (Some (min sides.head sides.number))
+join_there r phase branch sides is = above r.floor sides.head sides.number (next r) is.head_retained is.number_retained
+  where
+    above : (floor m n high : ℕ) → (nat_le floor m && nat_lt m high) ≡ true → (nat_le floor n && nat_lt n high) ≡ true → floor ≤ min m n
+    above floor m n high a b = grind (arith, nat_tests)
+
+pub join_parents : (r : Repository) (phase : Phase) (branch : Bytes) (sides : Sides) → IsJoin r phase branch sides → AreParents r (Some (min sides.head sides.number)) (sides.head ∷ sides.number ∷ [])
+join_parents r phase branch sides is = record {
+  made = All-from_recursion (λ n. n < next r) (sides.head ∷ sides.number ∷ []) ((retained_is r sides.head is.head_retained).1, ((retained_is r sides.number is.number_retained).1, tt));
+  above = All-from_recursion (λ n. min sides.head sides.number ≤ n) (sides.head ∷ sides.number ∷ []) (omega arith, (omega arith, tt));
   distinct = distinct;
   few = omega arith;
 }
@@ -255,20 +265,8 @@ join_parents r branch sides is = record {
 pub goes_on_from : (store store' : Store) (r after : Repository) → IsOf store r → KeepsNumbers store store' → IsOf store' after → GoesOnFrom r store' after
 goes_on_from store store' r after of keeps now = record {
   tables = now;
-  parents = λ ns are. record { retained = λ k d l. on _ (are.retained k d l); distinct = are.distinct; few = are.few };
+  parents = λ least ns are. parents_on r after least ns (let was = of.next in let is_now = now.next in let more = keeps.1 in omega (arith, was, is_now, more)) are;
 }
-  where
-    within : (floor n high high' : ℕ) → high ≤ high' → (nat_le floor n && nat_lt n high) ≡ true → (nat_le floor n && nat_lt n high') ≡ true
-    within floor n high high' low is = grind (arith, nat_tests)
-
-    on : (n : ℕ) → IsTrue (is_retained r n) → IsTrue (is_retained after n)
-    on n is =
-        let floors : r.floor ≡ after.floor = of.floor ∙ sym keeps.0 ∙ sym now.floor in
-        let was = of.next in
-        let is_now = now.next in
-        let more = keeps.1 in
-        let high : next r ≤ next after = omega (arith, was, is_now, more) in
-        subst (λ (f : ℕ). (nat_le f n && nat_lt n (next after)) ≡ true) floors (within r.floor n (next r) (next after) high is)
 
 -- ---- the course
 
@@ -279,8 +277,17 @@ false_by false not = refl
 one_of : (m n : ℕ) → m ∷ [] ≡ n ∷ [] → m ≡ n
 one_of m n is = cc (is)
 
-pub course_is : (store : Store) (r : Repository) → IsOf store r → (head number : ℕ) → IsTrue (is_retained r head) → IsTrue (is_retained r number) → (cs : List ℕ) → cs ≡ lcas r head number → (course : Course) → IsCourseBy cs head number course → IsCourse r head number course
-course_is store r of head number there here cs e course is = by course is
+-- a collection gives the commit up, or not
+by_phase : (phase : Phase) (number : ℕ) (P : Course → Type 0) (course : Course) → (IsStaying phase number → P course) → (not_leaving_in phase (Some number) ≡ Err (Reply.Leaving number) → P Course.Leaving) → P (unless_leaving phase number course)
+by_phase Phase.Idle number P course stays leaves = stays refl
+by_phase (Phase.Collecting c exit) number P course stays leaves = by_test (nat_lt number c) stays leaves
+  where
+    by_test : (b : Bool) → (unless_some (if b then Some number else None) Reply.Leaving ≡ Ok tt → P course) → (unless_some (if b then Some number else None) Reply.Leaving ≡ Err (Reply.Leaving number) → P Course.Leaving) → P (if b then Course.Leaving else course)
+    by_test true stays leaves = leaves refl
+    by_test false stays leaves = stays refl
+
+pub course_is : (store : Store) (r : Repository) (phase : Phase) → IsOf store r → (head number : ℕ) → IsTrue (is_retained r head) → IsTrue (is_retained r number) → (cs : List ℕ) → cs ≡ lcas r head number → (course : Course) → IsCourseBy cs head number course → IsCourse r phase head number (course_in phase number course)
+course_is store r phase of head number there here cs e course is = by course is
   where
     first : ParentsFirst r
     first = parents_first store.history r (shows_of store r of) of.parents_first
@@ -291,25 +298,19 @@ course_is store r of head number there here cs e course is = by course is
     below : is_proper_ancestor r head number ≡ true → cs ≡ head ∷ []
     below t = e ∙ ((proper_meets r first number head there).0 t).1
 
-    by : (course : Course) → IsCourseBy cs head number course → IsCourse r head number course
+    by : (course : Course) → IsCourseBy cs head number course → IsCourse r phase head number (course_in phase number course)
     by Course.Current is = (ancestor_meets r first number head here).1 (sym e ∙ is)
     by Course.Forward (is, apart) = (false_by (is_ancestor r number head) (λ t. apart (one_of head number (sym is ∙ above t))), (proper_meets r first number head there).1 (apart, sym e ∙ is))
-    by (Course.Bases count) (more, size) = (
-      (false_by (is_ancestor r number head) (λ t. let one = ap length (above t) in omega (arith, one, more)), false_by (is_proper_ancestor r head number) (λ t. let one = ap length (below t) in omega (arith, one, more))),
-      subst (λ (l : List ℕ). 1 < length l) e more,
-      size ∙ ap length e,
-    )
-    by (Course.Join None) is = (
-      (false_by (is_ancestor r number head) (λ t. let one = ap length (sym is ∙ above t) in omega (arith, one)), false_by (is_proper_ancestor r head number) (λ t. let one = ap length (sym is ∙ below t) in omega (arith, one))),
-      sym e ∙ is,
-    )
-    by (Course.Join (Some base)) (is, not_number, not_head) = (
-      (false_by (is_ancestor r number head) (λ t. not_number (one_of base number (sym is ∙ above t))), false_by (is_proper_ancestor r head number) (λ t. not_head (one_of base head (sym is ∙ below t)))),
-      sym e ∙ is,
-    )
-
-pub course_ok : (store : Store) (r : Repository) → IsOf store r → (head number : ℕ) → IsTrue (is_retained r head) → IsTrue (is_retained r number) → (cs : List ℕ) → cs ≡ lcas r head number → {E : Type 0} (res : Result Course E) → IfOk res (IsCourseBy cs head number) → IfOk res (IsCourse r head number)
-course_ok store r of head number there here cs e res is = IfOk-weaker res (IsCourseBy cs head number) (IsCourse r head number) (course_is store r of head number there here cs e) is
+    by Course.Leaving is = absurd is
+    by (Course.Bases count) (more, size) =
+        let apart : IsApart r head number = (false_by (is_ancestor r number head) (λ t. let one = ap length (above t) in omega (arith, one, more)), false_by (is_proper_ancestor r head number) (λ t. let one = ap length (below t) in omega (arith, one, more))) in
+        by_phase phase number (IsCourse r phase head number) (Course.Bases count) (λ stays. (apart, subst (λ (l : List ℕ). 1 < length l) e more, size ∙ ap length e, stays)) (λ leaves. (apart, leaves))
+    by (Course.Join None) is =
+        let apart : IsApart r head number = (false_by (is_ancestor r number head) (λ t. let one = ap length (sym is ∙ above t) in omega (arith, one)), false_by (is_proper_ancestor r head number) (λ t. let one = ap length (sym is ∙ below t) in omega (arith, one))) in
+        by_phase phase number (IsCourse r phase head number) (Course.Join None) (λ stays. (apart, sym e ∙ is, stays)) (λ leaves. (apart, leaves))
+    by (Course.Join (Some base)) (is, not_number, not_head) =
+        let apart : IsApart r head number = (false_by (is_ancestor r number head) (λ t. not_number (one_of base number (sym is ∙ above t))), false_by (is_proper_ancestor r head number) (λ t. not_head (one_of base head (sym is ∙ below t)))) in
+        by_phase phase number (IsCourse r phase head number) (Course.Join (Some base)) (λ stays. (apart, sym e ∙ is, stays)) (λ leaves. (apart, leaves))
 
 -- ---- the three commits
 
@@ -317,18 +318,19 @@ base_retained : (r : Repository) (head number : ℕ) (base : Option ℕ) → lca
 base_retained r head number None e = tt
 base_retained r head number (Some c) e = subst (All (λ n. IsTrue (is_retained r n))) e (common_retained r (head ∷ []) number) 0 0 (omega arith)
 
-pub join_from : (r : Repository) (branch : Bytes) (at number : ℕ) (base : Option ℕ) → head r branch ≡ Some at → IsTrue (is_retained r at) → IsTrue (is_retained r number) → IsCourse r at number (Course.Join base) → IsJoin r branch (record { base = base; head = at; number = number })
-join_from r branch at number base is_head there here course = record {
+pub join_from : (r : Repository) (phase : Phase) (branch : Bytes) (at number : ℕ) (base : Option ℕ) → head r branch ≡ Some at → IsTrue (is_retained r at) → IsTrue (is_retained r number) → IsCourse r phase at number (Course.Join base) → IsJoin r phase branch (record { base = base; head = at; number = number })
+join_from r phase branch at number base is_head there here course = record {
   is_head = is_head;
   head_retained = there;
   number_retained = here;
   base_retained = base_retained r at number base course.1;
   apart = course.0;
   least = course.1;
+  staying = course.2;
 }
 
-pub forward_from : (r : Repository) (branch : Bytes) (at number : ℕ) → head r branch ≡ Some at → IsTrue (is_retained r number) → IsCourse r at number Course.Forward → IsForward r branch number
-forward_from r branch at number is_head here course = record { at = at; is_head = is_head; retained = here; not_current = course.0; forward = course.1 }
+pub forward_from : (r : Repository) (phase : Phase) (branch : Bytes) (at number : ℕ) → head r branch ≡ Some at → IsTrue (is_retained r number) → IsCourse r phase at number Course.Forward → IsForward r branch number
+forward_from r phase branch at number is_head here course = record { at = at; is_head = is_head; retained = here; not_current = course.0; forward = course.1 }
 
 pub at_head : (store : Store) (r : Repository) → IsOf store r → (branch : Bytes) (found : Option ℕ) (n : ℕ) → found ≡ head r branch → found ≡ Some n → (head r branch ≡ Some n) × IsTrue (is_retained r n)
 at_head store r of branch found n same is = (sym same ∙ is, head_retained store r of branch n (ap (λ m. get m branch) (sym of.branches) ∙ sym same ∙ is))

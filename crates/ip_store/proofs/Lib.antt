@@ -4,7 +4,9 @@ mod Spelling
 mod Keyed
 mod Steps
 mod Tables
-mod Machine
+pub mod Phases
+pub mod RootedViews
+pub mod Machine
 mod BatchKinds
 mod SpelledTrees
 mod Hashes

@@ -306,6 +306,10 @@ module _ (store : Store) (told : Told) (r : Repository) (holds : Holds store tol
   records_ordered : Ordered 0 A.records store.slot.end
   records_ordered = lies_ordered told.held (layout_of store.slot) has.live.fields.horizon A.records (chunk_lies told.held store.slot has A)
 
+  -- each is found
+  pub found_here : (x : ℕ × Record) → Has A.records x → image_records holds x.0 ≡ Some x.1
+  found_here x has = has_present A.records x (ordered_rises 0 A.records store.slot.end records_ordered) has
+
   -- and lies below the end
   pub records_below : (at : ℕ) (x : Record) → image_records holds at ≡ Some x → at < store.slot.end
   records_below at x is = ordered_below 0 A.records store.slot.end at x records_ordered is

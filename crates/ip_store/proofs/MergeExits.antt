@@ -17,6 +17,7 @@ use Rattle.ip_merge.specs.Rules.{IsDecisive}
 use Rattle.ip_spec.specs.declared.met.Met.{Met}
 use Rattle.ip_spec.specs.declared.record.Record.{Record}
 use Rattle.ip_spec.specs.declared.reply.Reply.{Reply}
+use Rattle.ip_spec.specs.Machine.{Phase}
 use Rattle.ip_spec.specs.Merge.{Rule, merged, conflict_at}
 use Rattle.ip_spec.specs.Path.{Bytes, Path}
 use Rattle.ip_spec.specs.Record.{spelling, spelling_of}
@@ -46,19 +47,19 @@ slot_still store store' r q a b before after only =
     one_slot store'.slot store.slot a.held (record { control = live.control; index = live.index; held = sym ((only.others Control (λ none. none)).held (λ x. x)) ∙ live.held; live = live.live }) (held_has store r a before)
 
 pub goes_itself : (r : Repository) (store : Store) → IsOf store r → GoesOnFrom r store r
-goes_itself r store of = record { tables = of; parents = λ ns are. are }
+goes_itself r store of = record { tables = of; parents = λ least ns are. are }
 
-module _ (rule : Rule) (r : Repository) (number : ℕ) (branch : Bytes) (info : Info) where
+module _ (rule : Rule) (r : Repository) (phase : Phase) (number : ℕ) (branch : Bytes) (info : Info) where
   abbrev Answered : Told → Met → Reply → Store → Type 0
-  Answered told met reply store = AnswersMerge rule told r number branch info met reply store
+  Answered told met reply store = AnswersMerge rule told r phase number branch info met reply store
 
   -- ---- where the store only looked
 
   module _ (store : Store) (a : Told) (held : Holds store a r) (b : Told) (only : ChangesOnly NoFile a b) (store' : Store) (now : Holds store' b r) where
-    pub answers_looked : (met : Met) (reply : Reply) → IsTurn rule r number branch info met reply r → Answered b met reply store'
+    pub answers_looked : (met : Met) (reply : Reply) → IsTurn rule r phase number branch info met reply r → Answered b met reply store'
     answers_looked met reply turns = record { after = r; turns = turns; floor = refl; stays = λ still. refl; holds = now; goes_on = goes_itself r store' now.tables }
 
-    pub moments_looked : (x : Merge) (reply : Reply) → IsQuiet rule r number branch info reply r → merge_reply branch (Ok x) ≡ Some reply → MergesAtMoments rule r number branch info (Ok x) store' a b
+    pub moments_looked : (x : Merge) (reply : Reply) → IsQuiet rule r phase number branch info reply r → merge_reply branch (Ok x) ≡ Some reply → MergesAtMoments rule r phase number branch info (Ok x) store' a b
     moments_looked x reply quiet same = record {
       after = r;
       reply = reply;
@@ -70,9 +71,9 @@ module _ (rule : Rule) (r : Repository) (number : ℕ) (branch : Bytes) (info : 
       unmoved = λ still. only;
     }
 
-    pub moments_failed : IsDecisive rule → (fault : StoreFault) → MergesAtMoments rule r number branch info (Err fault) store' a b
+    pub moments_failed : IsDecisive rule → (fault : StoreFault) → MergesAtMoments rule r phase number branch info (Err fault) store' a b
     moments_failed decides fault =
-        let some = some_turn rule r number branch info decides in
+        let some = some_turn rule r phase number branch info decides in
         record {
           after = some.after;
           reply = some.reply;
@@ -85,7 +86,7 @@ module _ (rule : Rule) (r : Repository) (number : ℕ) (branch : Bytes) (info : 
         }
 
     pub memory_looked : Answered b (met_of StoreFault.Memory) Reply.Memory store'
-    memory_looked = answers_looked (met_of StoreFault.Memory) Reply.Memory (turn_memory rule r number branch info)
+    memory_looked = answers_looked (met_of StoreFault.Memory) Reply.Memory (turn_memory rule r phase number branch info)
 
   -- ---- where the branch moves on
 
@@ -93,14 +94,14 @@ module _ (rule : Rule) (r : Repository) (number : ℕ) (branch : Bytes) (info : 
     abbrev moved : Repository
     moved = with_branch r branch number
 
-    quiet : IsQuiet rule r number branch info (Reply.Forward (name_at r number)) moved
-    quiet = turn_forward rule r number branch info forward.at forward.is_head forward.not_current forward.forward
+    quiet : IsQuiet rule r phase number branch info (Reply.Forward (name_at r number)) moved
+    quiet = turn_forward rule r phase number branch info forward.at forward.is_head forward.not_current forward.forward
 
-    moved_parents : (ns : List ℕ) → AreParents r ns → AreParents moved ns
-    moved_parents ns are = record { retained = are.retained; distinct = are.distinct; few = are.few }
+    moved_parents : (least : Option ℕ) (ns : List ℕ) → AreParents r least ns → AreParents moved least ns
+    moved_parents least ns are = record { made = are.made; above = are.above; distinct = are.distinct; few = are.few }
 
     module _ (a b : Told) (store' : Store) where
-      refused : (met : Met) (reply : Reply) → IsTurn rule r number branch info met reply r → Holds store' b r → Answered b met reply store'
+      refused : (met : Met) (reply : Reply) → IsTurn rule r phase number branch info met reply r → Holds store' b r → Answered b met reply store'
       refused met reply turns holds = record { after = r; turns = turns; floor = refl; stays = λ still. refl; holds = holds; goes_on = goes_itself r store' holds.tables }
 
       pub forwarded : (result : Result Merge StoreFault) → IsForwarded r number result → Changes r moved result store' a b → IfSome (merge_reply branch result) (λ reply. Answered b (met_by result) reply store')
@@ -109,14 +110,14 @@ module _ (rule : Rule) (r : Repository) (number : ℕ) (branch : Bytes) (info : 
           (record { after = moved; turns = quiet.turns; floor = quiet.floor; stays = quiet.stays; holds = does.ok; goes_on = record { tables = does.ok.tables; parents = moved_parents } })
       forwarded (Ok _) is does = absurd is
       forwarded (Err (StoreFault.Limit Limit.Space)) is does =
-          refused (met_of (StoreFault.Limit Limit.Space)) (Reply.Limit Limit.Space) (forward_space rule r number branch info forward.at forward.is_head forward.not_current forward.forward) (does.refused (refl, tt)).1
+          refused (met_of (StoreFault.Limit Limit.Space)) (Reply.Limit Limit.Space) (forward_space rule r phase number branch info forward.at forward.is_head forward.not_current forward.forward) (does.refused (refl, tt)).1
       forwarded (Err (StoreFault.Limit Limit.Sequence)) is does =
-          refused (met_of (StoreFault.Limit Limit.Sequence)) (Reply.Limit Limit.Sequence) (forward_sequence rule r number branch info forward.at forward.is_head forward.not_current forward.forward) (does.refused (refl, tt)).1
-      forwarded (Err StoreFault.Memory) is does = refused (met_of StoreFault.Memory) Reply.Memory (turn_memory rule r number branch info) (does.refused (refl, tt)).1
+          refused (met_of (StoreFault.Limit Limit.Sequence)) (Reply.Limit Limit.Sequence) (forward_sequence rule r phase number branch info forward.at forward.is_head forward.not_current forward.forward) (does.refused (refl, tt)).1
+      forwarded (Err StoreFault.Memory) is does = refused (met_of StoreFault.Memory) Reply.Memory (turn_memory rule r phase number branch info) (does.refused (refl, tt)).1
       forwarded (Err StoreFault.Ground) is does = tt
       forwarded (Err _) is does = absurd is
 
-      pub forward_moments : (result : Result Merge StoreFault) → IsForwarded r number result → Changes r moved result store' a b → MergesAtMoments rule r number branch info result store' a b
+      pub forward_moments : (result : Result Merge StoreFault) → IsForwarded r number result → Changes r moved result store' a b → MergesAtMoments rule r phase number branch info result store' a b
       forward_moments result is does = record {
         after = moved;
         reply = Reply.Forward (name_at r number);
@@ -161,11 +162,7 @@ module _ (rule : Rule) (r : Repository) (number : ℕ) (branch : Bytes) (info : 
           let both = limits.sequence refl in
           record { more = more; commits = 0; are = more_are; short = (subst (λ (n : ℕ). n ≤ 2 ^ 62) ends_there both.0, both.1) }
       forward_limits (Err (StoreFault.Limit _)) limits = tt
-      forward_limits (Err (StoreFault.HeadMoved name)) limits = tt
-      forward_limits (Err (StoreFault.Existing name)) limits = tt
-      forward_limits (Err StoreFault.Memory) limits = tt
-      forward_limits (Err StoreFault.Ground) limits = tt
-      forward_limits (Err (StoreFault.Damaged at names)) limits = tt
+      forward_limits (Err _) limits = tt
       forward_limits (Ok x) limits = tt
 
       pub forward_appends : (result : Result Merge StoreFault) (now : Store) (a b : Told) → IsForwarded r number result → Holds store a r → Changes r moved result now a b → LimitsSpace (store.slot.end + length (spelling one)) result store → OnOk result (Appends more 0 store now a b)
@@ -191,7 +188,7 @@ module _ (rule : Rule) (r : Repository) (number : ℕ) (branch : Bytes) (info : 
     same_merged told met None is = tt
     same_merged told met (Some reply) is = record { after = is.after; turns = is.turns; floor = is.floor; stays = is.stays; holds = same_holds store store' same is.after told is.holds; goes_on = same_goes is.after is.goes_on }
 
-    pub same_moments : (result : Result Merge StoreFault) (a b : Told) → MergesAtMoments rule r number branch info result store a b → MergesAtMoments rule r number branch info result store' a b
+    pub same_moments : (result : Result Merge StoreFault) (a b : Told) → MergesAtMoments rule r phase number branch info result store a b → MergesAtMoments rule r phase number branch info result store' a b
     same_moments result a b is = record { after = is.after; reply = is.reply; turns = is.turns; replies = is.replies; floor = is.floor; stays = is.stays; changes = same_changes store store' same r is.after result a b is.changes; unmoved = is.unmoved }
 
     module _ (records : ℕ → Option Record) (from : Store) (back : SameTables store' store) where
@@ -209,55 +206,52 @@ module _ (rule : Rule) (r : Repository) (number : ℕ) (branch : Bytes) (info : 
 
 -- ---- once it is noted
 
-module _ (rule : Rule) (r : Repository) (number : ℕ) (branch : Bytes) (info : Info) (store store' : Store) (res out : Result Merge StoreFault) (same : out ≡ res) (is : store' ≡ record store { met = met_by res }) where
+module _ (rule : Rule) (r : Repository) (phase : Phase) (number : ℕ) (branch : Bytes) (info : Info) (store store' : Store) (res out : Result Merge StoreFault) (same : out ≡ res) (is : store' ≡ record store { met = met_by res }) where
   itself : SameTables store store'
   itself = noted_itself store store' (met_by res) is
 
   pub noted_goes : (after : Repository) → GoesOnFrom r store after → GoesOnFrom r store' after
-  noted_goes after goes = same_goes rule r number branch info store store' itself after goes
+  noted_goes after goes = same_goes rule r phase number branch info store store' itself after goes
 
-  pub noted_merged : (told : Told) → IfSome (merge_reply branch res) (λ reply. AnswersMerge rule told r number branch info (met_by res) reply store) → IfSome (merge_reply branch out) (λ reply. AnswersMerge rule told r number branch info store'.met reply store')
+  pub noted_merged : (told : Told) → IfSome (merge_reply branch res) (λ reply. AnswersMerge rule told r phase number branch info (met_by res) reply store) → IfSome (merge_reply branch out) (λ reply. AnswersMerge rule told r phase number branch info store'.met reply store')
   noted_merged told answers =
-      subst (λ o. IfSome (merge_reply branch o) (λ reply. AnswersMerge rule told r number branch info store'.met reply store')) (sym same)
-      (subst (λ met. IfSome (merge_reply branch res) (λ reply. AnswersMerge rule told r number branch info met reply store')) (sym (noted_met store store' (met_by res) is))
-      (same_merged rule r number branch info store store' itself told (met_by res) (merge_reply branch res) answers))
+      subst (λ o. IfSome (merge_reply branch o) (λ reply. AnswersMerge rule told r phase number branch info store'.met reply store')) (sym same)
+      (subst (λ met. IfSome (merge_reply branch res) (λ reply. AnswersMerge rule told r phase number branch info met reply store')) (sym (noted_met store store' (met_by res) is))
+      (same_merged rule r phase number branch info store store' itself told (met_by res) (merge_reply branch res) answers))
 
-  pub noted_moments : (a b : Told) → MergesAtMoments rule r number branch info res store a b → MergesAtMoments rule r number branch info out store' a b
-  noted_moments a b moments = subst (λ o. MergesAtMoments rule r number branch info o store' a b) (sym same) (same_moments rule r number branch info store store' itself res a b moments)
+  pub noted_moments : (a b : Told) → MergesAtMoments rule r phase number branch info res store a b → MergesAtMoments rule r phase number branch info out store' a b
+  noted_moments a b moments = subst (λ o. MergesAtMoments rule r phase number branch info o store' a b) (sym same) (same_moments rule r phase number branch info store store' itself res a b moments)
 
   pub noted_appended : (records : ℕ → Option Record) (from : Store) (a b : Told) → AppendsMerge rule records r number branch info res from store a b → AppendsMerge rule records r number branch info out from store' a b
   noted_appended records from a b appends = subst (λ o. AppendsMerge rule records r number branch info o from store' a b) (sym same)
-      (same_appended rule r number branch info store store' itself records from (noted_back store store' (met_by res) is) res a b appends)
+      (same_appended rule r phase number branch info store store' itself records from (noted_back store store' (met_by res) is) res a b appends)
 
   pub noted_limits : (records : ℕ → Option Record) (from : Store) → LimitsMerge rule records r number branch info res from → LimitsMerge rule records r number branch info out from
   noted_limits records from limits = subst (λ o. LimitsMerge rule records r number branch info o from) (sym same) limits
 
 -- ---- where the trees were not merged
 
-module _ (rule : Rule) (r : Repository) (branch : Bytes) (info : Info) (sides : Sides) (is : IsJoin r branch sides) (records : ℕ → Option Record)
+module _ (rule : Rule) (r : Repository) (phase : Phase) (branch : Bytes) (info : Info) (sides : Sides) (is : IsJoin r phase branch sides) (records : ℕ → Option Record)
     (store : Store) (a : Told) (held : Holds store a r) (b : Told) (only : ChangesOnly NoFile a b) (store' : Store) (now : Holds store' b r) where
-  looked : (met : Met) (reply : Reply) → IsTurn rule r sides.number branch info met reply r → AnswersMerge rule b r sides.number branch info met reply store'
-  looked = answers_looked rule r sides.number branch info store a held b only store' now
+  looked : (met : Met) (reply : Reply) → IsTurn rule r phase sides.number branch info met reply r → AnswersMerge rule b r phase sides.number branch info met reply store'
+  looked = answers_looked rule r phase sides.number branch info store a held b only store' now
 
-  pub join_failed : (fault : StoreFault) → IsJoined rule records r sides (Err fault) → IfSome (fault_reply fault) (λ reply. AnswersMerge rule b r sides.number branch info (met_of fault) reply store')
+  pub join_failed : (fault : StoreFault) → IsJoined rule records r sides (Err fault) → IfSome (fault_reply fault) (λ reply. AnswersMerge rule b r phase sides.number branch info (met_of fault) reply store')
   join_failed (StoreFault.Limit Limit.Contents) (t, outcome, long) =
-      looked (met_of (StoreFault.Limit Limit.Contents)) (Reply.Limit Limit.Contents) (refused_tree rule r sides.number branch info sides.head is.is_head is.apart.0 is.apart.1 sides.base is.least Limit.Contents t outcome (within_long t long))
+      looked (met_of (StoreFault.Limit Limit.Contents)) (Reply.Limit Limit.Contents) (refused_tree rule r phase sides.number branch info sides.head is.is_head is.apart.0 is.apart.1 is.staying sides.base is.least Limit.Contents t outcome (within_long t long))
   join_failed (StoreFault.Limit Limit.Entries) (t, outcome, short, wide) =
-      looked (met_of (StoreFault.Limit Limit.Entries)) (Reply.Limit Limit.Entries) (refused_tree rule r sides.number branch info sides.head is.is_head is.apart.0 is.apart.1 sides.base is.least Limit.Entries t outcome (within_wide t short wide))
+      looked (met_of (StoreFault.Limit Limit.Entries)) (Reply.Limit Limit.Entries) (refused_tree rule r phase sides.number branch info sides.head is.is_head is.apart.0 is.apart.1 is.staying sides.base is.least Limit.Entries t outcome (within_wide t short wide))
   join_failed (StoreFault.Limit _) outcome = absurd outcome
-  join_failed StoreFault.Memory outcome = looked (met_of StoreFault.Memory) Reply.Memory (turn_memory rule r sides.number branch info)
+  join_failed StoreFault.Memory outcome = looked (met_of StoreFault.Memory) Reply.Memory (turn_memory rule r phase sides.number branch info)
   join_failed StoreFault.Ground outcome = tt
-  join_failed (StoreFault.HeadMoved name) outcome = absurd outcome
-  join_failed (StoreFault.Existing name) outcome = absurd outcome
-  join_failed (StoreFault.Damaged at names) outcome = absurd outcome
+  join_failed _ outcome = absurd outcome
 
   pub join_undamaged : (A : Type 0) (fault : StoreFault) → IsJoined rule records r sides (Err fault) → IsUndamaged {A = A} (Err fault)
   join_undamaged A (StoreFault.Damaged at names) outcome = outcome
   join_undamaged A (StoreFault.Limit limit) outcome = tt
   join_undamaged A StoreFault.Memory outcome = tt
   join_undamaged A StoreFault.Ground outcome = tt
-  join_undamaged A (StoreFault.HeadMoved name) outcome = tt
-  join_undamaged A (StoreFault.Existing name) outcome = tt
+  join_undamaged A _ outcome = tt
 
-  pub conflict : (path : Path) → IsOutcome rule r sides (conflict_at path) → IsQuiet rule r sides.number branch info (Reply.Conflict path) r
-  conflict path outcome = turn_conflict rule r sides.number branch info sides.head is.is_head is.apart.0 is.apart.1 sides.base is.least path outcome
+  pub conflict : (path : Path) → IsOutcome rule r sides (conflict_at path) → IsQuiet rule r phase sides.number branch info (Reply.Conflict path) r
+  conflict path outcome = turn_conflict rule r phase sides.number branch info sides.head is.is_head is.apart.0 is.apart.1 is.staying sides.base is.least path outcome

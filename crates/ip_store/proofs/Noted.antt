@@ -10,7 +10,7 @@ use Rattle.ip_spec.specs.declared.command.Command.{Command}
 use Rattle.ip_spec.specs.declared.met.Met.{Met}
 use Rattle.ip_spec.specs.declared.record.Record.{Record}
 use Rattle.ip_spec.specs.declared.reply.Reply.{Reply}
-use Rattle.ip_spec.specs.Machine.{State}
+use Rattle.ip_spec.specs.Machine.{Phase, State}
 use Rattle.ip_spec.specs.Path.{Bytes}
 use Rattle.ip_spec.specs.Record.{Hash}
 use Rattle.ip_spec.specs.Repository.{Repository}
@@ -34,7 +34,7 @@ module _ (store store' : Store) (met : Met) (is : store' ≡ record store { met 
 
   pub noted_same : (before : Store) → SameTables before store → SameTables before store'
   noted_same before same = subst (SameTables before) (sym is)
-      (record { index = same.index; slot = same.slot; names = same.names; places = same.places; branches = same.branches; history = same.history; space = same.space })
+      (record { index = same.index; slot = same.slot; names = same.names; places = same.places; branches = same.branches; history = same.history; space = same.space; collection = same.collection })
 
   pub noted_back : SameTables store' store
   noted_back = subst (λ (s : Store). SameTables s store) (sym is) (out_of_itself store met)
@@ -56,18 +56,18 @@ module _ {A : Type 0} (store store' : Store) (res out : Result A StoreFault) (sa
       (on_ok_weaker res (same_appends more commits before store store' a b (noted_itself store store' (met_by res) is) (noted_back store store' (met_by res) is)) appends)
 
 pub noted_set : (store store' : Store) (res out : Result (Unit {0}) StoreFault) → out ≡ res → store' ≡ record store { met = met_by res }
-    → (r : Repository) (name : Bytes) (number : ℕ) → IfSome (branch_reply res) (AnswersSet r name number (met_by res) store) → IfSome (branch_reply out) (AnswersSet r name number store'.met store')
-noted_set store store' res out same is r name number answers =
-    subst (λ o. IfSome (branch_reply o) (AnswersSet r name number store'.met store')) (sym same)
-    (subst (λ met. IfSome (branch_reply res) (AnswersSet r name number met store')) (sym (noted_met store store' (met_by res) is))
-    (same_set store store' (noted_itself store store' (met_by res) is) r name number (met_by res) (branch_reply res) answers))
+    → (r : Repository) (phase : Phase) (name : Bytes) (number : ℕ) → IfSome (branch_reply res) (AnswersSet r phase name number (met_by res) store) → IfSome (branch_reply out) (AnswersSet r phase name number store'.met store')
+noted_set store store' res out same is r phase name number answers =
+    subst (λ o. IfSome (branch_reply o) (AnswersSet r phase name number store'.met store')) (sym same)
+    (subst (λ met. IfSome (branch_reply res) (AnswersSet r phase name number met store')) (sym (noted_met store store' (met_by res) is))
+    (same_set store store' (noted_itself store store' (met_by res) is) r phase name number (met_by res) (branch_reply res) answers))
 
 pub noted_removed : (store store' : Store) (res out : Result Bool StoreFault) → out ≡ res → store' ≡ record store { met = met_by res }
-    → (r : Repository) (name : Bytes) → IfSome (removed_reply name res) (AnswersRemove r name (met_by res) store) → IfSome (removed_reply name out) (AnswersRemove r name store'.met store')
-noted_removed store store' res out same is r name answers =
-    subst (λ o. IfSome (removed_reply name o) (AnswersRemove r name store'.met store')) (sym same)
-    (subst (λ met. IfSome (removed_reply name res) (AnswersRemove r name met store')) (sym (noted_met store store' (met_by res) is))
-    (same_removed store store' (noted_itself store store' (met_by res) is) r name (met_by res) (removed_reply name res) answers))
+    → (r : Repository) (phase : Phase) (name : Bytes) → IfSome (removed_reply name res) (AnswersRemove r phase name (met_by res) store) → IfSome (removed_reply name out) (AnswersRemove r phase name store'.met store')
+noted_removed store store' res out same is r phase name answers =
+    subst (λ o. IfSome (removed_reply name o) (AnswersRemove r phase name store'.met store')) (sym same)
+    (subst (λ met. IfSome (removed_reply name res) (AnswersRemove r phase name met store')) (sym (noted_met store store' (met_by res) is))
+    (same_removed store store' (noted_itself store store' (met_by res) is) r phase name (met_by res) (removed_reply name res) answers))
 
 pub noted_answers : (store store' : Store) (res out : Result Hash StoreFault) → out ≡ res → store' ≡ record store { met = met_by res }
     → (told : Told) (s : State) (v : View) (command : Command) (work : Work) → IfSome (reply_to res) (λ reply. Answers told s v command (met_by res) reply store work)

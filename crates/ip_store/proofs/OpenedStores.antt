@@ -42,6 +42,7 @@ use Rattle.ip_store.specs.Walk.{Tells, Covers, BadRecord}
 use Rattle.ip_store.specs.Found.{IsReached, FoundIn, FindsSlot, FindsGeneration, Finished, Finishes}
 use Rattle.ip_store.specs.Store.{IsOf, OwnsPair, OwnsLive, Holds}
 use Rattle.ip_store.specs.Opening.{RecoversOnceOpen, Opens}
+use Rattle.ip_store.proofs.Phases.{no_phase}
 use Rattle.ip_store.proofs.Recovering.{recovers_from}
 use Rattle.ip_store.proofs.Hashes.{sha_is_hash}
 use Rattle.ip_store.proofs.Listed.{places_size}
@@ -92,6 +93,7 @@ module _ (index : ℕ) (s : Slot) (is : IsSlot s) (below : index < 2) (found : F
         branches = branches ∙ finished.branches records tells;
         history = repository_history s records tells.good ∙ finished.history records tells;
         parents_first = finished.parents_first records tells;
+        phase = no_phase store.slot (repository_of s records tells.good) store.collection finished.idle;
         space = space_same s store.slot store.space store.space finished.slot refl finished.space;
         placed = ap length (sym (finished.places records tells)) ∙ places_size records ∙ sym size;
         retained = subst (λ (t : Slot). AreRetained t (repository_of s records tells.good).branches) (sym finished.slot) (subst (λ (m : Branching). AreRetained s m) (sym branches) fits.branches);

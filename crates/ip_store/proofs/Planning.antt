@@ -15,6 +15,7 @@ use Rattle.ip_spec.specs.declared.record.Record.{Record}
 use Rattle.ip_spec.specs.Record.{hashed_commit, Fits, IsHash, IsInfo, IsBranchName}
 use Rattle.ip_spec.specs.Batch.{sources, tree_batch, batch}
 use Rattle.ip_spec.specs.Shape.{root_name}
+use Rattle.ip_spec.specs.Machine.{Phase}
 use Rattle.ip_spec.specs.View.{View}
 use Rattle.ip_spec.specs.Batch as Batches
 use Rattle.ip_spec.specs.Repository.{Repository, next, head, is_retained}
@@ -30,9 +31,11 @@ use Rattle.ip_store.specs.declared.committing.StoreFault.{StoreFault}
 use Rattle.ip_store.specs.Changes.{IsNextSlot, LimitsSpace}
 use Rattle.ip_store.specs.Commits.{parent_named, IsRefusal, IsNewBatch, IsPastTheEnd, IsNext, IsPlan, end_of}
 use Rattle.ip_store.specs.Store.{IsOf}
-use Rattle.ip_store.specs.Work.{IsLawful}
+use Rattle.ip_store.specs.Collecting.{phase_of}
+use Rattle.ip_store.specs.Work.{IsLawful, IsThere}
 use Rattle.ip_store.proofs.BatchKinds.{batch_served, batch_places}
-use Rattle.ip_store.proofs.Machine.{Head, refused_name, refused_short, refused_memory, turn_is_done}
+use Rattle.ip_store.proofs.Machine.{First, first_there, first_room, refused_name, refused_short, refused_memory, turn_is_done}
+use Rattle.ip_store.proofs.Phases.{retained_parents}
 use Rattle.ip_store.proofs.Tables.{none_named}
 
 same_names : (r : Repository) (ns : List ℕ) → map (λ p. p.name) (map (parent_named r) ns) ≡ map (λ p. p.name) (map (as_parent r) ns)
@@ -74,22 +77,18 @@ module _ (r : Repository) (v : View) (f : Batches.CommitFields) (end : ℕ) wher
   none_made (StoreFault.Limit Limit.Space) over is = (is, over)
   none_made (StoreFault.Limit _) over is = absurd is
   none_made StoreFault.Memory over is = tt
-  none_made (StoreFault.HeadMoved name) over is = absurd is
-  none_made StoreFault.Ground over is = absurd is
-  none_made (StoreFault.Damaged at names) over is = absurd is
+  none_made _ over is = absurd is
 
 -- why there is none, as the machine has it
-module _ (r : Repository) (work : Work) (v : View) (branch : Bytes) (info : Info) (retained : IfSome work.least (λ n. r.floor ≤ n)) (head_is : Head r work v branch info retained ≡ Ok tt) (room_is : room_for_branch r branch ≡ Ok tt)
+module _ (r : Repository) (phase : Phase) (work : Work) (v : View) (branch : Bytes) (info : Info) (first_is : First r phase work v branch info ≡ Ok tt)
     (f : Batches.CommitFields) (told : f ≡ fields_of r work.parents info branch) where
-  pub refused_batch : (slot : Slot) (end : ℕ) (fault : StoreFault) → IsNewBatch r v f end (Err fault) → IsRefusal r work v branch info fault
-  refused_batch slot end (StoreFault.Existing name) is = refused_name r work v branch info retained head_is room_is (StoreFault.Existing name) (subst (λ h. not_existing r h ≡ Err (Reply.Existing name)) (name_from r v work.parents info branch f told) is)
-  refused_batch slot end (StoreFault.Limit Limit.Space) is = refused_short r work v branch info retained head_is room_is (subst (λ h. not_existing r h ≡ Ok tt) (name_from r v work.parents info branch f told) is.0) slot (grown_end v f end)
+  pub refused_batch : (slot : Slot) (end : ℕ) (fault : StoreFault) → IsNewBatch r v f end (Err fault) → IsRefusal r phase work v branch info fault
+  refused_batch slot end (StoreFault.Existing name) is = refused_name r phase work v branch info first_is (StoreFault.Existing name) (subst (λ h. not_existing r h ≡ Err (Reply.Existing name)) (name_from r v work.parents info branch f told) is)
+  refused_batch slot end (StoreFault.Limit Limit.Space) is = refused_short r phase work v branch info first_is (subst (λ h. not_existing r h ≡ Ok tt) (name_from r v work.parents info branch f told) is.0) slot (grown_end v f end)
       (StoreFault.Limit Limit.Space) (let over = is.1 in omega (arith, over))
   refused_batch slot end (StoreFault.Limit _) is = absurd is
-  refused_batch slot end StoreFault.Memory is = refused_memory r work v branch info retained
-  refused_batch slot end (StoreFault.HeadMoved name) is = absurd is
-  refused_batch slot end StoreFault.Ground is = absurd is
-  refused_batch slot end (StoreFault.Damaged at names) is = absurd is
+  refused_batch slot end StoreFault.Memory is = refused_memory r phase work v branch info
+  refused_batch slot end _ is = absurd is
 
   -- and which limit is met: by the batch, and by the slot behind it
   pub batch_limits : (store : Store) (fault : StoreFault) → IsNewBatch r v f store.slot.end (Err fault) → LimitsSpace {A = Plan} (end_of r work v branch info store) (Err fault) store
@@ -154,9 +153,11 @@ module _ (records : ℕ → Option Record) (r : Repository) (work : Work) (v : V
   pub planned : (number : ℕ) (named : Bytes) (fields : CommitFields) (batch : Batch) (slot : Slot) (parents : List ℕ)
       → fields_told fields ≡ fields_of r work.parents info branch
       → IsBatch v (fields_told fields) store.slot.end batch
-      → Head r work v branch info lawful.retained ≡ Ok tt → room_for_branch r branch ≡ Ok tt → not_existing r batch.name ≡ Ok tt
+      → First r (phase_of store.collection) work v branch info ≡ Ok tt → not_existing r batch.name ≡ Ok tt
       → IsPlan r work v branch info store (record { number = number; branch = named; batch = batch; slot = slot; parents = parents })
-  planned number named fields batch slot parents told is_batch head_is room_is fresh =
+  planned number named fields batch slot parents told is_batch first_is fresh =
+      let there : IsThere r work.least = first_there r (phase_of store.collection) work.least work.parents branch first_is in
+      let room_is : room_for_branch r branch ≡ Ok tt = first_room r (phase_of store.collection) work.least work.parents branch first_is in
       let name : batch.name ≡ (new_commit r v.map work.parents info).name = is_batch.name ∙ name_from r v work.parents info branch (fields_told fields) told in
       let new_is : not_existing r (new_commit r v.map work.parents info).name ≡ Ok tt = subst (λ h. not_existing r h ≡ Ok tt) name fresh in
       record {
@@ -166,9 +167,9 @@ module _ (records : ℕ → Option Record) (r : Repository) (work : Work) (v : V
         root = is_batch.root;
         behind = ap (λ f. grown_end v f store.slot.end) (sym told) ∙ sym is_batch.ends ∙ is_batch.long;
         may = record {
-          is_tree = lawful.tree.lawful;
-          narrow = lawful.tree.narrow;
-          retained = lawful.parents.retained;
+          is_tree = (lawful.tree there).lawful;
+          narrow = (lawful.tree there).narrow;
+          retained = retained_parents r work.least work.parents lawful.parents there;
           distinct = lawful.parents.distinct;
           few = lawful.parents.few;
           is_info = is_info;
@@ -179,5 +180,6 @@ module _ (records : ℕ → Option Record) (r : Repository) (work : Work) (v : V
         within = subst (λ (n : ℕ). AreWithin n (grown_batch v (fields_of r work.parents info branch) store.slot.end)) (sym version_is)
             (batch_served v (fields_of r work.parents info branch) store.slot.end 1
             (subst (λ f. All (λ (x : ℕ × Record). Fits 1 x.1) (grown_batch v f store.slot.end)) told is_batch.fits));
-        turn = turn_is_done r work v branch info lawful.retained head_is room_is new_is;
+        there = there;
+        turn = turn_is_done r (phase_of store.collection) work v branch info first_is new_is;
       }

@@ -27,6 +27,7 @@ use Rattle.ip_store.specs.declared.committing.StoreFault.{StoreFault}
 use Rattle.ip_store.specs.declared.store.Store.{Store}
 use Rattle.ip_space.specs.SpaceView.{SpaceView, grown}
 use Rattle.ip_store.specs.Changes.{Changes, next_slot, IsNextSlot}
+use Rattle.ip_store.specs.Collecting.{IsAbove}
 use Rattle.ip_store.specs.Placed.{places_in, IsSpaceOf}
 use Rattle.ip_store.specs.Publishing.{CanStep, MakesStep}
 use Rattle.ip_spec.specs.TreeAt.{Records, present}
@@ -36,6 +37,7 @@ use Rattle.ip_store.specs.Trees.{RecordsStay}
 use Rattle.ip_store.proofs.Recovering.{held_has}
 use Rattle.ip_store.proofs.Stepping.{list_after, may_step, changed, stays_made, cut_short, space_same, same_can_step, same_step}
 use Rattle.ip_store.proofs.NextSlot.{next_is, next_generation, next_space}
+use Rattle.ip_store.proofs.Phases.{phase_to, phase_named}
 
 abbrev IsAmong : Slot → ℕ → Type 0
 IsAmong s n = (s.floor ≤ n) × (n < s.next)
@@ -112,8 +114,8 @@ module _ (r : Repository) (store : Store) (of : IsOf store r) where
     same_next = omega arith
 
     pub renamed_tables : (store' : Store) → store'.slot ≡ slot → store'.index ≡ 1 - store.index → store'.names ≡ store.names → store'.branches ≡ names_after Names.branches store.branches x → store'.history ≡ store.history
-        → store'.places.items ≡ store.places.items → store'.space ≡ grown store.space slot.end → IsOf store' after
-    renamed_tables store' slot' index names branches history places space = record {
+        → store'.places.items ≡ store.places.items → store'.space ≡ grown store.space slot.end → store'.collection ≡ store.collection → IsAbove store.collection x → IsOf store' after
+    renamed_tables store' slot' index names branches history places space collection above = record {
       slot = subst IsSlot (sym slot') slot_after;
       index = subst (λ (i : ℕ). i < 2) (sym index) (omega arith);
       floor = of.floor ∙ ap (λ (s : Slot). s.floor) (sym slot_is) ∙ ap (λ (s : Slot). s.floor) (sym slot');
@@ -126,6 +128,7 @@ module _ (r : Repository) (store : Store) (of : IsOf store r) where
       space = space_same slot store'.slot (grown store.space slot.end) store'.space slot' space
           (subst (λ (s : Slot). IsSpaceOf s (grown store.space s.end)) (sym slot_is) (next_space store.slot (length (spelling x)) 0 store.space of.space));
       placed = ap length places ∙ of.placed;
+      phase = phase_to next_live store'.slot after store.collection store'.collection (slot' ∙ slot_is) collection (phase_named store.slot (length (spelling x)) 0 r after x store.collection may above refl (omega arith) refl of.phase);
       retained = (let is = retained_after x may in subst (λ (s : Slot). AreRetained s after.branches) (sym slot_is ∙ sym slot') (record { each = λ name. subst (λ (n : ℕ). IfSome (get after.branches name) (λ m. (store.slot.floor ≤ m) × (m < n))) (sym same_next) (is.each name); few = is.few }));
     }
 
@@ -155,10 +158,10 @@ module _ (r : Repository) (store : Store) (of : IsOf store r) where
       to_next b res step = same_step store.slot.end store.slot.end store.index store.index (spelling x) (spelling x) slot next_live res a b refl refl refl slot_is step
 
       pub was_renamed : (b : Told) (store' : Store) → store'.slot ≡ slot → store'.index ≡ 1 - store.index → store'.names ≡ store.names → store'.branches ≡ names_after Names.branches store.branches x → store'.history ≡ store.history
-          → store'.places.items ≡ store.places.items → store'.space ≡ grown store.space slot.end → Step b (Ok tt) → Changes {A = Unit {0}} r after (Ok tt) store' a b
-      was_renamed b store' slot' index names branches history places space step =
+          → store'.places.items ≡ store.places.items → store'.space ≡ grown store.space slot.end → store'.collection ≡ store.collection → IsAbove store.collection x → Step b (Ok tt) → Changes {A = Unit {0}} r after (Ok tt) store' a b
+      was_renamed b store' slot' index names branches history places space collection above step =
           changed r after store 0 (spelling x) of small low (omega arith) a held stands_new b (to_next b (Ok tt) step)
-          ((store.slot.end, x) ∷ []) (fits, tt) (refl, refl) (spelled_is store.slot.end x) store' (slot' ∙ slot_is) index (ap (λ (view : SpaceView). view.runs) space) (renamed_tables store' slot' index names branches history places space)
+          ((store.slot.end, x) ∷ []) (fits, tt) (refl, refl) (spelled_is store.slot.end x) store' (slot' ∙ slot_is) index (ap (λ (view : SpaceView). view.runs) space) (renamed_tables store' slot' index names branches history places space collection above)
           (places ∙ sym (append-nil store.places.items) ∙ ap (λ (ps : List ℕ). store.places.items ++ ps) (sym (no_place r store.slot.end x may))) tt
 
       -- each record stays

@@ -144,7 +144,7 @@ reply_by number o = elim o [
 
 pub shown_reply : (records : ℕ → Option Record) (r : Repository) (number : ℕ) (c : CommitRecord) → IsRecordOf records r number c → (name : Hash) → name ≡ name_at r number
     → commit_reply r number ≡ Reply.Commit name number c.root_name (map (λ (p : Parent). p.name) c.parents) c.info
-shown_reply records r number c (m, is, spells) name named =
+shown_reply records r number c (m, place, is, here, spells) name named =
     reply_of (commit_at r number) is
     ∙ (λ i. Reply.Commit (sym name_here i) number (sym spells.root i) ((ap (map (λ (p : CommitParent). p.name)) spells.parents ∙ parent_names c.parents) i) (spells.info i))
   where
@@ -155,10 +155,15 @@ shown_reply records r number c (m, is, spells) name named =
     name_here = named ∙ ap (λ (o : Option Commit). unwrap_or (option_map (λ (c : Commit). c.name) o) []) is
 
 pub root_found : (records : ℕ → Option Record) (r : Repository) (number : ℕ) (c : CommitRecord) → IsRecordOf records r number c → (root : Ref) → root.at ≡ c.root_at → root.name ≡ c.root_name → root.kind ≡ 2 → IsRootOf records r number root
-root_found records r number c (m, is, spells) root at name kind =
+root_found records r number c (m, place, is, here, spells) root at name kind =
     let tree : tree_at r number ≡ m.tree = ap (λ (o : Option Commit). unwrap_or (option_map (λ (c : Commit). c.tree) o) no_tree) is in
     record {
       kind = kind;
       name = name ∙ spells.root ∙ ap root_name (sym tree);
       tree = subst (λ (t : Tree). TreeAt records root.at t) (sym tree) (subst (λ (n : ℕ). TreeAt records n m.tree) (sym at) spells.tree);
+      commit = c;
+      place = place;
+      here = here;
+      number = spells.number;
+      at = at;
     }

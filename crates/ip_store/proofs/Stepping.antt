@@ -55,16 +55,17 @@ use Rattle.ip_store.specs.Store.{IsOf, OwnsPair, Holds, SameTables, image_record
 use Rattle.ip_store.specs.Trees.{RecordsStay, OnlyLooks}
 use Rattle.ip_store.proofs.Listed.{AreNewest, newest, same_rows, more_records, space_stays, pair_stays, same_list, same_records, holds_on}
 use Rattle.ip_store.proofs.NextSlot.{next_is, next_generation}
+use Rattle.ip_store.proofs.Phases.{phase_to}
 use Rattle.ip_store.proofs.Reading.{own}
 use Rattle.ip_store.proofs.Recovering.{in_image, recovers_now, pending_of, front_left, front_end, same_space, adds_bytes, IsOld, IsNew, flushed_step, SamePair, LeavesPairOf, same_pair, pair_alike, pair_left, pair_now}
 
 -- ---- tables
 
 pub itself : (store : Store) → SameTables store store
-itself store = record { index = refl; slot = refl; names = refl; places = refl; branches = refl; history = refl; space = refl }
+itself store = record { index = refl; slot = refl; names = refl; places = refl; branches = refl; history = refl; space = refl; collection = refl }
 
 pub in_itself : (store : Store) (met : Met) → SameTables store (record store { met = met })
-in_itself store met = record { index = refl; slot = refl; names = refl; places = refl; branches = refl; history = refl; space = refl }
+in_itself store met = record { index = refl; slot = refl; names = refl; places = refl; branches = refl; history = refl; space = refl; collection = refl }
 
 pub space_same : (s t : Slot) (one other : SpaceView) → t ≡ s → other ≡ one → IsSpaceOf s one → IsSpaceOf t other
 space_same s t one other slot space is = subst (λ (u : Slot). IsSpaceOf u other) (sym slot) (subst (IsSpaceOf s) (sym space) is)
@@ -91,6 +92,7 @@ module _ (store store' : Store) (same : SameTables store store') where
     parents_first = subst HasParentsFirst (sym same.history) of.parents_first;
     space = space_same store.slot store'.slot store.space store'.space same.slot same.space of.space;
     placed = ap length same.places ∙ of.placed;
+    phase = phase_to store.slot store'.slot r store.collection store'.collection same.slot same.collection of.phase;
   }
 
   pub same_holds : (r : Repository) (a : Told) → Holds store a r → Holds store' a r
@@ -145,7 +147,7 @@ same_appends more commits store mid now a b there back is = record {
 }
 
 pub out_of_itself : (store : Store) (met : Met) → SameTables (record store { met = met }) store
-out_of_itself store met = record { index = refl; slot = refl; names = refl; places = refl; branches = refl; history = refl; space = refl }
+out_of_itself store met = record { index = refl; slot = refl; names = refl; places = refl; branches = refl; history = refl; space = refl; collection = refl }
 
 -- what is so of the records however one of the two holds them is so of those that the other holds
 pub carried : (store store' : Store) → SameTables store' store → (told : Told) (r : Repository) (P : (ℕ → Option Record) → Type 0) → ((held : Holds store told r) → P (image_records held)) → (now : Holds store' told r) → P (image_records now)
@@ -428,7 +430,9 @@ with_value x y r after store a b is = record {
 }
 
 pub with_answer : (A B : Type 0) (fault : StoreFault) → HasAnswer {A = B} (Err fault) → HasAnswer {A = A} (Err fault)
+with_answer A B (StoreFault.GivenUp number) has = tt
 with_answer A B (StoreFault.HeadMoved name) has = tt
+with_answer A B (StoreFault.Leaving number) has = tt
 with_answer A B (StoreFault.Existing name) has = tt
 with_answer A B (StoreFault.Limit limit) has = tt
 with_answer A B StoreFault.Memory has = tt

@@ -3,10 +3,10 @@
 --     Turns s command met reply s'      the reply and the next state are the machine's, for what was met
 --     Answers told s v command met reply store work      they are so, where the store holds the next repository, the work is that of the next state, and its tree has the view that comes of v
 --     IsNext r work branch store plan, IsPlan r work v branch info store plan      what a commit will do, whatever is told, and where the tree's records are
---     Commits r work v branch info result store' old new      what it does to what a ground tells
+--     Commits r phase work v branch info result store' old new      what it does to what a ground tells
 --     GoesOn store work      the store's tables are some repository's, and the work goes on from commits of it
 --     IsSaved records tree n map      a tree with this map, read from the records of commit n
-use Rattle.std.specs.Prelude.{◌≡◌, ℕ, ◌+◌, ◌<◌, ◌≤◌, [], ◌∷◌, length, true, false, Option, Some, None, IfSome, IsSomeAnd, Result, Ok, Err}
+use Rattle.std.specs.Prelude.{◌≡◌, ℕ, ◌+◌, ◌<◌, ◌≤◌, List, [], ◌∷◌, length, true, false, Option, Some, None, IfSome, IsSomeAnd, Result, Ok, Err}
 use Rattle.ip_base.specs.declared.limit.TheConstants.{OFFSET_MAX, BRANCHES_MAX}
 use Rattle.ip_base.specs.declared.info.Info.{Info}
 use Rattle.ip_ground.specs.Told.{Told}
@@ -19,12 +19,12 @@ use Rattle.ip_spec.specs.Path.{Bytes}
 use Rattle.ip_spec.specs.Record.{Hash, IsHash}
 use Rattle.ip_spec.specs.declared.record.Parent.{Parent}
 use Rattle.ip_spec.specs.declared.record.Record.{Record}
-use Rattle.ip_spec.specs.Repository.{Repository, next, name_at}
+use Rattle.ip_spec.specs.Repository.{Repository, next, head, name_at}
 use Rattle.ip_base.specs.declared.limit.Limit.{Limit}
 use Rattle.ip_spec.specs.declared.command.Command.{Command}
 use Rattle.ip_spec.specs.declared.reply.Reply.{Reply}
 use Rattle.ip_spec.specs.Machine.{State, Phase, Conditions}
-use Rattle.ip_spec.specs.Step.{IsMet, turned, Refused, Turned, new_commit, with_commit, not_existing}
+use Rattle.ip_spec.specs.Step.{IsMet, turned, Refused, Turned, new_commit, with_commit, below, moved_head, unless_some, not_existing, room_for_branch, ◌>>◌}
 use Rattle.ip_spec.specs.Tree.{Tree}
 use Rattle.ip_spec.specs.TreeAt.{Records}
 use Rattle.ip_spec.specs.View.{View}
@@ -38,10 +38,11 @@ use Rattle.ip_store.specs.declared.work.Work.{Work}
 use Rattle.ip_store.specs.declared.committing.Plan.{Plan}
 use Rattle.ip_store.specs.declared.committing.StoreFault.{StoreFault}
 use Rattle.ip_store.specs.Changes.{Changes, next_slot}
+use Rattle.ip_store.specs.Collecting.{phase_of, not_leaving_in}
 use Rattle.ip_store.specs.Placed.{places_in}
 use Rattle.ip_store.specs.Store.{IsOf}
 use Rattle.ip_store.specs.Views.{IsViewAfter}
-use Rattle.ip_store.specs.Work.{AreParents, IsAt, session}
+use Rattle.ip_store.specs.Work.{AreParents, IsAt, IsThere, session}
 
 -- nothing met but a limit, or want of memory
 abbrev pub met_nothing : Met
@@ -67,7 +68,9 @@ abbrev pub conditions_of : Met → Conditions
 conditions_of met = record { told = met; difference = None }
 
 abbrev pub fault_reply : StoreFault → Option Reply
+fault_reply (StoreFault.GivenUp number) = Some (Reply.GivenUp number)
 fault_reply (StoreFault.HeadMoved name) = Some (Reply.HeadMoved name)
+fault_reply (StoreFault.Leaving number) = Some (Reply.Leaving number)
 fault_reply (StoreFault.Existing name) = Some (Reply.Existing name)
 fault_reply (StoreFault.Limit limit) = Some (Reply.Limit limit)
 fault_reply StoreFault.Memory = Some Reply.Memory
@@ -86,9 +89,22 @@ RefusesBy (Err fault) refused = IsSomeAnd (fault_reply fault) (λ reply. refused
 abbrev pub Turns : State → Command → Met → Reply → State → Type 0
 Turns s command met reply s' = IsMet s command (conditions_of met) reply × (turned s command (conditions_of met) ≡ (reply, s'))
 
+-- none but that a commit leaves
+abbrev pub IsLeaving : {A : Type 0} → Result A StoreFault → Type 0
+IsLeaving (Err (StoreFault.Leaving number)) = Unit {0}
+IsLeaving result = ⊥
+
+-- what the machine refuses a commit by before its name, in this order
+abbrev pub first_refusal : Repository → Phase → Option ℕ → List ℕ → Bytes → Refused (Unit {0})
+first_refusal r phase least parents branch =
+    unless_some (below r.floor least) Reply.GivenUp
+    >> (unless_some (moved_head (head r branch) parents) (λ n. Reply.HeadMoved (name_at r n))
+    >> (not_leaving_in phase least
+    >> room_for_branch r branch))
+
 -- the machine refuses the commit so, and stays as it is
-abbrev pub IsRefusal : Repository → Work → View → Bytes → Info → StoreFault → Type 0
-IsRefusal r work v branch info fault = IfSome (fault_reply fault) (λ reply. Turns (session r work v) (Command.Commit branch info) (met_of fault) reply (session r work v))
+abbrev pub IsRefusal : Repository → Phase → Work → View → Bytes → Info → StoreFault → Type 0
+IsRefusal r phase work v branch info fault = IfSome (fault_reply fault) (λ reply. Turns (session r phase work v) (Command.Commit branch info) (met_of fault) reply (session r phase work v))
 
 -- a parent as a commit record has it
 abbrev pub parent_named : Repository → ℕ → Parent
@@ -110,10 +126,10 @@ IsNewBatch r v f end (Err StoreFault.Memory) = Unit {0}
 IsNewBatch r v f end (Err fault) = ⊥
 
 -- the turn of a commit that nothing refuses
-abbrev pub committed : Repository → Work → View → Bytes → Info → Turned
-committed r work v branch info =
+abbrev pub committed : Repository → Phase → Work → View → Bytes → Info → Turned
+committed r phase work v branch info =
     let c = new_commit r v.map work.parents info in
-    (Reply.Committed c.name, record { repository = with_commit r c branch; phase = Phase.Idle; work = record { tree = v.map; parents = next r ∷ []; least = Some (next r) } })
+    (Reply.Committed c.name, record { repository = with_commit r c branch; phase = phase; work = record { tree = v.map; parents = next r ∷ []; least = Some (next r) } })
 
 abbrev pub records_of : Repository → Work → View → Bytes → Info → Store → Records
 records_of r work v branch info store = grown_batch v (fields_of r work.parents info branch) store.slot.end
@@ -143,17 +159,18 @@ pub record IsPlan (r : Repository) (work : Work) (v : View) (branch : Bytes) (in
   pub behind : end_of r work v branch info store ≡ store.slot.end + length plan.batch.bytes.items
   pub may : MayGrow r v.map work.parents info branch
   pub within : AreWithin store.slot.version (records_of r work v branch info store)
-  pub turn : turned (session r work v) (Command.Commit branch info) (conditions_of met_nothing) ≡ committed r work v branch info
+  pub there : IsThere r work.least
+  pub turn : turned (session r (phase_of store.collection) work v) (Command.Commit branch info) (conditions_of met_nothing) ≡ committed r (phase_of store.collection) work v branch info
 
 pub record GoesOn (store : Store) (work : Work) : Type 0 where
   pub repository : Repository
   pub tables : IsOf store repository
-  pub parents : AreParents repository work.parents
+  pub parents : AreParents repository work.least work.parents
 
 pub record Answers (told : Told) (s : State) (v : View) (command : Command) (met : Met) (reply : Reply) (store : Store) (work : Work) : Type 0 where
   pub after : Repository
   pub view : View
-  pub turns : Turns s command met reply (session after work view)
+  pub turns : Turns s command met reply (session after s.phase work view)
   pub is_at : IsAt told store after work view
   pub seen : IsViewAfter s.repository v command reply view
 
@@ -161,8 +178,8 @@ abbrev pub IsSaved : (ℕ → Option Record) → lazy.Tree → ℕ → Tree → 
 IsSaved records tree n map = (at : ℕ) × IsView records tree (stored_view records n at map)
 
 -- the repository after the commit, where nothing is refused it and none of its writes fails
-abbrev pub repository_after : Repository → Work → View → Bytes → Info → Repository
-repository_after r work v branch info = (turned (session r work v) (Command.Commit branch info) (conditions_of met_nothing)).1.repository
+abbrev pub repository_after : Repository → Phase → Work → View → Bytes → Info → Repository
+repository_after r phase work v branch info = (turned (session r phase work v) (Command.Commit branch info) (conditions_of met_nothing)).1.repository
 
-abbrev pub Commits : Repository → Work → View → Bytes → Info → Result Hash StoreFault → Store → Told → Told → Type 0
-Commits r work v branch info result store' old new = Changes r (repository_after r work v branch info) result store' old new
+abbrev pub Commits : Repository → Phase → Work → View → Bytes → Info → Result Hash StoreFault → Store → Told → Told → Type 0
+Commits r phase work v branch info result store' old new = Changes r (repository_after r phase work v branch info) result store' old new

@@ -24,3 +24,5 @@ ground_store (store.Existing name) = false
 ground_store (store.Limit limit) = false
 ground_store (store.Damaged at names) = false
 ground_store store.Memory = false
+ground_store (store.GivenUp number) = false
+ground_store (store.Leaving number) = false

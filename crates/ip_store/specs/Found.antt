@@ -1,7 +1,7 @@
 -- The beginning and the end of opening a store.
 --     FindsSlot result old new      what finding the live slot does.      FindsGeneration image s result      the space over the live generation, or where that is bad
 --     Finishes index s found result      what makes a store of it, and of what was found
-use Rattle.std.specs.Prelude.{◌≡◌, ◌≢◌, ℕ, ◌*◌, ◌<◌, ◌≤◌, List, map, Result, Ok, Err, OnOk, IsSome}
+use Rattle.std.specs.Prelude.{◌≡◌, ◌≢◌, ℕ, ◌*◌, ◌<◌, ◌≤◌, List, map, None, Result, Ok, Err, OnOk, IsSome}
 use Rattle.ip_ground.specs.declared.names.FileName.TheVariants.{Control}
 use Rattle.ip_ground.specs.Told.{Told, SyncsOnly, Only, IsSynced}
 use Rattle.ip_ground.specs.Contents.{Content, Image}
@@ -66,6 +66,7 @@ pub record Finished (number : ℕ) (s : Slot) (found : Found) (store : Store) : 
   pub branches : (records : Records) → Tells s found records → named Names.branches records ≡ store.branches
   pub history : (records : Records) → Tells s found records → history_in s.floor records ≡ store.history
   pub parents_first : (records : Records) → Tells s found records → HasParentsFirst store.history
+  pub idle : store.collection ≡ None
 
 abbrev pub Finishes : ℕ → Slot → Found → Result Store OpenFault → Type 0
 Finishes index s found (Ok store) = Finished index s found store

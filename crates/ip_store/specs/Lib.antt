@@ -10,6 +10,8 @@ pub mod Placed
 pub mod Showing
 pub mod Entries
 pub mod Publishing
+pub mod Collecting
+pub mod Rooted
 pub mod Store
 pub mod Walk
 pub mod Work

@@ -1,18 +1,18 @@
 -- What a merge into a branch does.
 --     merge_reply branch result      the reply; a fault of the ground has none, nor has one of its files
---     IsTurn rule r number branch info met reply after      whatever the work is and whatever names the commit, the machine may give this reply and go on to this repository
+--     IsTurn rule r phase number branch info met reply after      whatever the work is and whatever names the commit, the machine may give this reply and go on to this repository
 --     Moves reply      the branch is at another commit then
 --     GoesOnFrom r store after      the store's tables are this repository's, and who goes on from commits of the one before goes on from them
---     AnswersMerge rule told r number branch info met reply store      the reply and the repository that the store holds are the machine's, for what was met
---     MergesAtMoments rule r number branch info result store' old new      what it does to what a ground tells
+--     AnswersMerge rule told r phase number branch info met reply store      the reply and the repository that the store holds are the machine's, for what was met
+--     MergesAtMoments rule r phase number branch info result store' old new      what it does to what a ground tells
 --     IsStoredAs records r n v      the view of a commit's tree, which these records spell.      IsBase records r cs v      of the ancestor's, where cs are the least common ancestors
 --     IsMergeView rule records r head number v      the view of the merge of two commits' trees
 --     MergeAppends rule records r number branch info end more commits      the records that a merge appends where nothing refuses it, and how many commits are among them
 --     AppendsMerge .. result store now old new      where they lie.      LimitsMerge .. result store      which limit is met
---     IsCourse r head number course      how two commits stand to each other, by the tests of ancestors.      IsCourseBy      by their least common ancestors
---     IsForward r branch number, IsJoin r branch sides      a branch moves on to a commit, or the trees of three commits are merged
+--     IsCourse r phase head number course      how two commits stand to each other, by the tests of ancestors, and whether a collection gives the one up.      unless_leaving, course_in      the course where none does, or not.           IsCourseBy      by their least common ancestors
+--     IsForward r branch number, IsJoin r phase branch sides      a branch moves on to a commit, or the trees of three commits are merged
 --     IsForwarded r number result, IsJoined rule records r sides result      what comes of that.      stopped_by fault      of trees that were not merged
-use Rattle.std.specs.Prelude.{◌≡◌, ◌≢◌, ◌⊎◌, ℕ, ◌+◌, ◌<◌, ◌≤◌, true, false, List, [], ◌∷◌, length, Option, Some, None, Result, Ok, Err, OnOk, IfSome, IsTrue}
+use Rattle.std.specs.Prelude.{◌≡◌, ◌≢◌, ◌⊎◌, ℕ, ◌+◌, ◌<◌, ◌≤◌, true, false, List, [], ◌∷◌, length, Option, Some, None, Result, Ok, Err, OnOk, IfSome, IsTrue, nat_lt, if◌then◌else◌}
 use Rattle.ip_base.specs.declared.limit.TheConstants.{OFFSET_MAX}
 use Rattle.ip_base.specs.declared.info.Info.{Info}
 use Rattle.ip_base.specs.declared.limit.Limit.TheVariants as Limit
@@ -40,8 +40,10 @@ use Rattle.ip_three.specs.Answered.{MergedView}
 use Rattle.ip_three.specs.declared.merge.ThreeFault.{ThreeFault}
 use Rattle.ip_three.specs.declared.merge.ThreeFault.TheVariants as three
 use Rattle.ip_store.specs.Changes.{Appends, Changes, HasAnswer}
+use Rattle.ip_store.specs.Collecting.{not_leaving_in}
 use Rattle.ip_store.specs.Commits.{conditions_of, fault_reply, met_nothing}
 use Rattle.ip_store.specs.Showing.{fault_from}
+use Rattle.ip_store.specs.Rooted.{IsRooted}
 use Rattle.ip_store.specs.Store.{IsOf, Holds}
 use Rattle.ip_store.specs.Trees.{IsTreeOf}
 use Rattle.ip_store.specs.Work.{AreParents, state_at}
@@ -61,9 +63,9 @@ merge_reply branch (Ok (Merge.Bases count)) = Some (Reply.Bases count)
 merge_reply branch (Ok (Merge.Conflict path)) = Some (Reply.Conflict path)
 merge_reply branch (Err fault) = fault_reply fault
 
-abbrev pub IsTurn : Rule → Repository → ℕ → Bytes → Info → Met → Reply → Repository → Type 0
-IsTurn rule r number branch info met reply after =
-    (work : Machine.Work) (target : Target) → resolve r target ≡ Ok number → Step rule (state_at r work) (Command.Merge target branch info) (conditions_of met) reply (state_at after work)
+abbrev pub IsTurn : Rule → Repository → Machine.Phase → ℕ → Bytes → Info → Met → Reply → Repository → Type 0
+IsTurn rule r phase number branch info met reply after =
+    (work : Machine.Work) (target : Target) → resolve r target ≡ Ok number → Step rule (state_at r phase work) (Command.Merge target branch info) (conditions_of met) reply (state_at after phase work)
 
 -- a reply behind which the branch is at another commit
 abbrev pub Moves : Reply → Type 0
@@ -73,11 +75,11 @@ Moves reply = ⊥
 
 pub record GoesOnFrom (r : Repository) (store : Store) (after : Repository) : Type 0 where
   pub tables : IsOf store after
-  pub parents : (parents : List ℕ) → AreParents r parents → AreParents after parents
+  pub parents : (least : Option ℕ) (parents : List ℕ) → AreParents r least parents → AreParents after least parents
 
-pub record AnswersMerge (rule : Rule) (told : Told) (r : Repository) (number : ℕ) (branch : Bytes) (info : Info) (met : Met) (reply : Reply) (store : Store) : Type 0 where
+pub record AnswersMerge (rule : Rule) (told : Told) (r : Repository) (phase : Machine.Phase) (number : ℕ) (branch : Bytes) (info : Info) (met : Met) (reply : Reply) (store : Store) : Type 0 where
   pub after : Repository
-  pub turns : IsTurn rule r number branch info met reply after
+  pub turns : IsTurn rule r phase number branch info met reply after
   pub floor : after.floor ≡ r.floor
   pub stays : ¬ Moves reply → after ≡ r
   pub holds : Holds store told after
@@ -92,10 +94,10 @@ IsUnmoved (Ok (Merge.Conflict path)) = Unit {0}
 IsUnmoved result = ⊥
 
 -- The repository after it is the one that the machine gives where nothing is met, also where a fault cut the call short.
-pub record MergesAtMoments (rule : Rule) (r : Repository) (number : ℕ) (branch : Bytes) (info : Info) (result : Result Merge StoreFault) (store : Store) (old new : Told) : Type 0 where
+pub record MergesAtMoments (rule : Rule) (r : Repository) (phase : Machine.Phase) (number : ℕ) (branch : Bytes) (info : Info) (result : Result Merge StoreFault) (store : Store) (old new : Told) : Type 0 where
   pub after : Repository
   pub reply : Reply
-  pub turns : IsTurn rule r number branch info met_nothing reply after
+  pub turns : IsTurn rule r phase number branch info met_nothing reply after
   pub replies : OnOk result (merge_reply branch result ≡ Some reply)
   pub floor : after.floor ≡ r.floor
   pub stays : ¬ Moves reply → after ≡ r
@@ -181,6 +183,7 @@ LimitsMerge rule records r number branch info result store = Unit {0}
 abbrev pub IsCourseBy : List ℕ → ℕ → ℕ → Course → Type 0
 IsCourseBy least head number Course.Current = least ≡ number ∷ []
 IsCourseBy least head number Course.Forward = (least ≡ head ∷ []) × (head ≢ number)
+IsCourseBy least head number Course.Leaving = ⊥
 IsCourseBy least head number (Course.Bases count) = (1 < length least) × (count ≡ length least)
 IsCourseBy least head number (Course.Join None) = least ≡ []
 IsCourseBy least head number (Course.Join (Some base)) = (least ≡ base ∷ []) × (base ≢ number) × (base ≢ head)
@@ -192,11 +195,24 @@ abbrev pub bases_of : Option ℕ → List ℕ
 bases_of None = []
 bases_of (Some base) = base ∷ []
 
-abbrev pub IsCourse : Repository → ℕ → ℕ → Course → Type 0
-IsCourse r head number Course.Current = is_ancestor r number head ≡ true
-IsCourse r head number Course.Forward = (is_ancestor r number head ≡ false) × (is_proper_ancestor r head number ≡ true)
-IsCourse r head number (Course.Bases count) = IsApart r head number × (1 < length (lcas r head number)) × (count ≡ length (lcas r head number))
-IsCourse r head number (Course.Join base) = IsApart r head number × (lcas r head number ≡ bases_of base)
+-- while a collection runs that gives the commit up it is merged with none that is apart from it
+abbrev pub unless_leaving : Machine.Phase → ℕ → Course → Course
+unless_leaving phase number course = elim phase [ Machine.Phase.Idle ↦ course | Machine.Phase.Collecting c exit ↦ if nat_lt number c then Course.Leaving else course ]
+
+abbrev pub course_in : Machine.Phase → ℕ → Course → Course
+course_in phase number (Course.Bases count) = unless_leaving phase number (Course.Bases count)
+course_in phase number (Course.Join base) = unless_leaving phase number (Course.Join base)
+course_in phase number course = course
+
+abbrev pub IsStaying : Machine.Phase → ℕ → Type 0
+IsStaying phase number = not_leaving_in phase (Some number) ≡ Ok tt
+
+abbrev pub IsCourse : Repository → Machine.Phase → ℕ → ℕ → Course → Type 0
+IsCourse r phase head number Course.Current = is_ancestor r number head ≡ true
+IsCourse r phase head number Course.Forward = (is_ancestor r number head ≡ false) × (is_proper_ancestor r head number ≡ true)
+IsCourse r phase head number Course.Leaving = IsApart r head number × (not_leaving_in phase (Some number) ≡ Err (Reply.Leaving number))
+IsCourse r phase head number (Course.Bases count) = IsApart r head number × (1 < length (lcas r head number)) × (count ≡ length (lcas r head number)) × IsStaying phase number
+IsCourse r phase head number (Course.Join base) = IsApart r head number × (lcas r head number ≡ bases_of base) × IsStaying phase number
 
 -- the branch moves on to the commit
 pub record IsForward (r : Repository) (branch : Bytes) (number : ℕ) : Type 0 where
@@ -207,13 +223,14 @@ pub record IsForward (r : Repository) (branch : Bytes) (number : ℕ) : Type 0 w
   pub forward : is_proper_ancestor r at number ≡ true
 
 -- the trees of these commits are merged
-pub record IsJoin (r : Repository) (branch : Bytes) (sides : Sides) : Type 0 where
+pub record IsJoin (r : Repository) (phase : Machine.Phase) (branch : Bytes) (sides : Sides) : Type 0 where
   pub is_head : head r branch ≡ Some sides.head
   pub head_retained : IsTrue (is_retained r sides.head)
   pub number_retained : IsTrue (is_retained r sides.number)
   pub base_retained : IfSome sides.base (λ n. IsTrue (is_retained r n))
   pub apart : IsApart r sides.head sides.number
   pub least : lcas r sides.head sides.number ≡ bases_of sides.base
+  pub staying : IsStaying phase sides.number
 
 -- ---- the parts of a merge
 
@@ -252,6 +269,7 @@ pub record IsJoinedTree (rule : Rule) (records : ℕ → Option Record) (r : Rep
   pub merges : Merges rule base.map left.map right.map (merged view.map)
   pub made : MergedView base left right view.map view
   pub is : IsView records tree view
+  pub rooted : IsRooted records view
   pub short : HasShortContents view.map
 
 abbrev pub IsJoined : Rule → (ℕ → Option Record) → Repository → Sides → Result Joined StoreFault → Type 0

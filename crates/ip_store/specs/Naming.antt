@@ -1,5 +1,5 @@
 -- What calls on branches answer, and do.
---     AnswersBranch r command met reply store      the reply and the next state are the machine's, for what was met, and the store's tables are the next repository's
+--     AnswersBranch r phase command met reply store      the reply and the next state are the machine's, for what was met, and the store's tables are the next repository's
 --     branch_reply, removed_reply      the reply; a fault of the ground has none, nor has one of its files
 --     Names r x result store old new      the tables after a record of a branch, or without it
 use Rattle.std.specs.Prelude.{◌≡◌, ℕ, List, true, false, Bool, Option, Some, Result, Ok, Err}
@@ -16,7 +16,7 @@ use Rattle.ip_spec.specs.Step.{resolve}
 use Rattle.ip_image.specs.Appending.{renamed}
 use Rattle.ip_store.specs.declared.committing.StoreFault.{StoreFault}
 use Rattle.ip_store.specs.declared.store.Store.{Store}
-use Rattle.ip_spec.specs.Machine.{Work}
+use Rattle.ip_spec.specs.Machine.{Phase, Work}
 use Rattle.ip_store.specs.Commits.{fault_reply, Turns}
 use Rattle.ip_store.specs.Store.{IsOf}
 use Rattle.ip_store.specs.Work.{AreParents, state_at}
@@ -32,19 +32,19 @@ removed_reply name (Ok false) = Some (Reply.NoBranch name)
 removed_reply name (Err fault) = fault_reply fault
 
 -- whatever the work is
-pub record AnswersBranch (r : Repository) (command : Command) (met : Met) (reply : Reply) (store : Store) : Type 0 where
+pub record AnswersBranch (r : Repository) (phase : Phase) (command : Command) (met : Met) (reply : Reply) (store : Store) : Type 0 where
   pub after : Repository
-  pub turns : (work : Work) → Turns (state_at r work) command met reply (state_at after work)
+  pub turns : (work : Work) → Turns (state_at r phase work) command met reply (state_at after phase work)
   pub tables : IsOf store after
   -- who goes on from commits of the repository goes on from them
-  pub parents : (parents : List ℕ) → AreParents r parents → AreParents after parents
+  pub parents : (least : Option ℕ) (parents : List ℕ) → AreParents r least parents → AreParents after least parents
 
 -- and whatever names the commit
-abbrev pub AnswersSet : Repository → Bytes → ℕ → Met → Store → Reply → Type 0
-AnswersSet r name number met store reply = (target : Target) → resolve r target ≡ Ok number → AnswersBranch r (Command.Branch name target) met reply store
+abbrev pub AnswersSet : Repository → Phase → Bytes → ℕ → Met → Store → Reply → Type 0
+AnswersSet r phase name number met store reply = (target : Target) → resolve r target ≡ Ok number → AnswersBranch r phase (Command.Branch name target) met reply store
 
-abbrev pub AnswersRemove : Repository → Bytes → Met → Store → Reply → Type 0
-AnswersRemove r name met store reply = AnswersBranch r (Command.BranchRm name) met reply store
+abbrev pub AnswersRemove : Repository → Phase → Bytes → Met → Store → Reply → Type 0
+AnswersRemove r phase name met store reply = AnswersBranch r phase (Command.BranchRm name) met reply store
 
 abbrev pub without_branch : Repository → Bytes → Repository
 without_branch r name = record r { branches = remove r.branches name }

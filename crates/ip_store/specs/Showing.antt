@@ -38,10 +38,16 @@ IsFetchedOr P (Err fault) = ⊥
 abbrev pub IsShown : Repository → ℕ → Result Shown StoreFault → Type 0
 IsShown r number result = IsFetchedOr (λ shown. commit_reply r number ≡ Reply.Commit shown.name shown.number shown.root shown.parents shown.info) result
 
-pub record IsRootOf (records : ℕ → Option Record) (r : Repository) (number : ℕ) (root : Ref) : Type 0 where
+pub record IsRootOf (records : ℕ → Option Record) (r : Repository) (n : ℕ) (root : Ref) : Type 0 where
   pub kind : root.kind ≡ 2
-  pub name : root.name ≡ root_name (tree_at r number)
-  pub tree : TreeAt records root.at (tree_at r number)
+  pub name : root.name ≡ root_name (tree_at r n)
+  pub tree : TreeAt records root.at (tree_at r n)
+  -- the commit's record refers to it
+  pub commit : CommitRecord
+  pub place : ℕ
+  pub here : records place ≡ Some (Record.Commit commit)
+  pub number : commit.number ≡ n
+  pub at : root.at ≡ commit.root_at
 
 pub record IsReference (store : Store) (wanted : Hash) (number : ℕ) (ref : Ref) : Type 0 where
   pub at : place_of_commit store number ≡ Some ref.at
@@ -49,7 +55,7 @@ pub record IsReference (store : Store) (wanted : Hash) (number : ℕ) (ref : Ref
   pub kind : ref.kind ≡ 4
 
 abbrev pub IsRecordOf : (ℕ → Option Record) → Repository → ℕ → CommitRecord → Type 0
-IsRecordOf records r number c = (m : Commit) × (commit_at r number ≡ Some m) × SpellsCommit records number c m
+IsRecordOf records r number c = (m : Commit) × (place : ℕ) × (commit_at r number ≡ Some m) × (records place ≡ Some (Record.Commit c)) × SpellsCommit records number c m
 
 -- what comes of a record that was fetched by the reference to a commit
 abbrev pub IsCommitFrom : Result Record FetchFault → Result CommitRecord StoreFault → Type 0

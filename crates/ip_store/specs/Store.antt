@@ -1,5 +1,5 @@
 -- What an open store holds.
---     IsOf store r      its tables are the repository's, and in its history parents come first
+--     IsOf store r      its tables are the repository's, in its history parents come first, and a collection goes on at one of its commits, if any does
 --     OwnsPair told s      no child changes the live pair of a slot.      OwnsLive told      nor that of the slot that is live
 --     Holds store told r      so are its tables, and so is what the ground reads as; its places are those of the commits' records
 --     SameTables store other      they differ in what was met alone.      place_of_commit store number      where the record of a commit lies
@@ -18,6 +18,7 @@ use Rattle.ip_image.specs.Standing.{StandsFor, AreRetained}
 use Rattle.ip_image.specs.Virtual.{run_of}
 use Rattle.ip_history.specs.History.{HasParentsFirst, history_of}
 use Rattle.ip_space.specs.Pair.{IsOwnPair}
+use Rattle.ip_store.specs.Collecting.{IsPhaseOf}
 use Rattle.ip_store.specs.Control.{control_in}
 use Rattle.ip_store.specs.Placed.{places_in, IsSpaceOf}
 use Rattle.ip_store.specs.declared.store.Store.{Store}
@@ -35,6 +36,7 @@ pub record IsOf (store : Store) (r : Repository) : Type 0 where
   pub parents_first : HasParentsFirst store.history
   pub space : IsSpaceOf store.slot store.space
   pub placed : length store.places.items ≡ length r.commits
+  pub phase : IsPhaseOf store.slot r store.collection
 
 abbrev pub OwnsPair : Told → Slot → Type 0
 OwnsPair told s = s.live ≢ 0 → IsOwnPair told (layout_of s)
@@ -63,6 +65,7 @@ pub record SameTables (store other : Store) : Type 0 where
   pub branches : other.branches ≡ store.branches
   pub history : other.history ≡ store.history
   pub space : other.space ≡ store.space
+  pub collection : other.collection ≡ store.collection
 
 abbrev pub place_of_commit : Store → ℕ → Option ℕ
 place_of_commit store number = slice_get store.places.items (number - store.slot.floor)

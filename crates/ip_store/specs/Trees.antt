@@ -1,7 +1,7 @@
 -- What the store's calls on trees do.
 --     RecordsStay records more      each record of the one is one of the other, so that a tree keeps its view over the other
 --     OnlyLooks old new store now      the call only read: no file changed, and the store holds the same repository by the same records
---     IsTreeOf records r number tree      the tree of a retained commit, of which every part is known
+--     IsTreeOf records r number tree      the tree of a retained commit, of which every part is known, as the commit's record reaches it
 use Rattle.std.specs.Prelude.{◌≡◌, ℕ, Option, Some}
 use Rattle.ip_ground.specs.Told.{Told}
 use Rattle.ip_spec.specs.declared.record.Record.{Record}
@@ -11,6 +11,7 @@ use Rattle.ip_save.specs.Batches.{HasShortContents}
 use Rattle.ip_space.specs.SpaceView.{OnlyReads}
 use Rattle.ip_tree.specs.TreeView.{IsView, stored_view}
 use Rattle.ip_tree.specs.declared.tree.Tree.{Tree}
+use Rattle.ip_store.specs.Rooted.{IsRooted}
 use Rattle.ip_store.specs.Store.{Holds, image_records}
 use Rattle.ip_store.specs.declared.store.Store.{Store}
 
@@ -26,4 +27,5 @@ pub record IsTreeOf (records : ℕ → Option Record) (r : Repository) (number :
   pub at : ℕ
   pub spelled : TreeAt records at (tree_at r number)
   pub view : IsView records tree (stored_view records number at (tree_at r number))
+  pub rooted : IsRooted records (stored_view records number at (tree_at r number))
   pub short : HasShortContents (tree_at r number)

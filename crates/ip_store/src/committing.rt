@@ -1,5 +1,5 @@
 // Committing a work: its refusals, its records, and the durable step.
-ghost use Rattle.std.specs.Prelude.{◌≡◌, ◌≢◌, ◌++◌, [], ◌∷◌, ◌==◌, ◌≤◌, ◌<◌, ℕ, Option, Ok, Err, None, map, position, All, length, vec_len, IsTrue, IfSome, IfOk, IfErr, OnOk, OnErr, IsErrOf};
+ghost use Rattle.std.specs.Prelude.{◌≡◌, ◌≢◌, ◌++◌, [], ◌∷◌, ◌==◌, ◌≤◌, ◌<◌, ℕ, Option, Ok, Err, None, map, position, All, length, vec_len, IsTrue, IfSome, IfOk, IfErr, OnOk, OnErr, IsErr, IsErrOf};
 ghost use Rattle.std.specs.Vec.{vec_capacity};
 ghost use Rattle.std.specs.List.{list_any};
 ghost use Rattle.ip_base.specs.declared.limit.TheConstants.{OFFSET_MAX, PARENTS_MAX};
@@ -12,7 +12,7 @@ ghost use Rattle.ip_spec.specs.Path.{same_bytes};
 ghost use Rattle.ip_base.specs.declared.limit.Limit.TheVariants as Limit;
 ghost use Rattle.ip_spec.specs.Record.{IsBranchName, IsInfo, IsHash, IsU64};
 ghost use Rattle.ip_spec.specs.Repository.{Repository, head, is_retained, name_at, next};
-ghost use Rattle.ip_spec.specs.Step.{unless_some, moved_head, room_for_branch, not_existing};
+ghost use Rattle.ip_spec.specs.Step.{below, unless_some, moved_head, room_for_branch, not_existing};
 ghost use Rattle.ip_image.specs.Slot.{IsSlot};
 ghost use Rattle.ip_image.specs.Appending.{fields_of};
 ghost use Rattle.ip_save.specs.Batches.{fields_told, AreFields, HasShortContents};
@@ -20,12 +20,13 @@ ghost use Rattle.ip_spec.specs.View.{View};
 ghost use Rattle.ip_spec.specs.declared.record.Record.{Record};
 ghost use Rattle.ip_tree.specs.TreeView.{IsView};
 ghost use Rattle.ip_store.specs.declared.committing.StoreFault.TheVariants as StoreFault;
-ghost use Rattle.ip_store.specs.Commits.{parent_named, reply_to, RefusesBy, met_by, IsRefusal, IsNewBatch, IsNext, IsPlan, IsPastTheEnd, records_of, end_of, Answers, Commits, GoesOn, IsSaved};
+ghost use Rattle.ip_store.specs.Commits.{parent_named, reply_to, RefusesBy, met_by, IsRefusal, IsLeaving, first_refusal, IsNewBatch, IsNext, IsPlan, IsPastTheEnd, records_of, end_of, Answers, Commits, GoesOn, IsSaved};
 ghost use Rattle.ip_store.specs.Changes.{Appends, HasAnswer, IsUndamaged, IsNextSlot, KeepsNumbers, LimitsSpace};
 ghost use Rattle.ip_store.specs.Histories.{with_parents, MayEnter};
 ghost use Rattle.ip_store.specs.Store.{IsOf, Holds, SameTables, image_records};
 ghost use Rattle.ip_store.specs.Trees.{RecordsStay};
-ghost use Rattle.ip_store.specs.Work.{AreParents, IsLawful, IsAt, session};
+ghost use Rattle.ip_store.specs.Work.{AreParents, IsLawful, IsAt, IsThere, session};
+ghost use Rattle.ip_store.specs.Collecting.{phase_of, not_leaving_in};
 
 use crate::opening::nothing_met;
 use crate::publish::durable_step;
@@ -45,8 +46,12 @@ use std::alloc::Global;
 /// Why a call of the store did nothing.
 #[derive(Clone, Copy, Debug, PartialEq, Eq)]
 pub enum StoreFault {
+    /// The commit of the work's least number was given up.
+    GivenUp(Number),
     /// The branch is at this commit, which is none of the work's parents.
     HeadMoved(Hash),
+    /// A collection runs that gives up the commit of this number, on which it would rest.
+    Leaving(Number),
     /// There is a commit of this name.
     Existing(Hash),
     /// The limit that it would pass.
@@ -196,6 +201,31 @@ impl Store {
         Parent { number, name }
     }
 
+    // Refused where the commit of a work's least number was given up.
+    fn there(&self, least: Option<Number>) -> Result<(), StoreFault>
+        ensures refused { (r : Repository) → IsOf self.now r → RefusesBy result (unless_some (below r.floor least) Reply.GivenUp) }
+        ensures undamaged { IsUndamaged result }
+    {
+        match self.given_up(least) {
+            Some(number) => Err(StoreFault::GivenUp(number)),
+            None => Ok(()),
+        }
+    }
+
+    // Refused while a collection runs that gives up the commit of this number.
+    pub(crate) fn staying(&self, number: Option<Number>) -> Result<(), StoreFault>
+        ensures refused { RefusesBy result (not_leaving_in (phase_of self.now.collection) number) }
+        ensures cause { IsErr result → IsLeaving result }
+        ensures undamaged { IsUndamaged result }
+    {
+        match (&self.collection, number) {
+            (Some(collection), Some(number)) if number.get() < collection.commit.get() => {
+                Err(StoreFault::Leaving(number))
+            }
+            _ => Ok(()),
+        }
+    }
+
     // Refused where the branch is at a commit that is none of these.
     fn head_among(&self, parents: &[Number], branch: &[u8]) -> Result<(), StoreFault>
         requires tables { (r : Repository) × IsOf self.now r }
@@ -282,7 +312,7 @@ impl Store {
         ensures history { OnOk result (self.new.history ≡ with_parents self.old.history parents.now) }
         ensures room { OnOk result (vec_len self.new.places < vec_capacity self.new.places) }
         ensures err { OnErr result (SameTables self.old self.new) }
-        ensures rest { (self.new.index ≡ self.old.index) × (self.new.slot ≡ self.old.slot) × (self.new.space ≡ self.old.space) }
+        ensures rest { (self.new.index ≡ self.old.index) × (self.new.slot ≡ self.old.slot) × (self.new.space ≡ self.old.space) × (self.new.collection ≡ self.old.collection) }
         ensures places { self.new.places.items ≡ self.old.places.items }
     {
         self.places.reserve(1)?;
@@ -327,11 +357,12 @@ impl Store {
     ) -> Result<Hash, StoreFault>
         requires branch { IsBranchName branch.now }
         requires info { IsInfo info }
-        requires tables { (r : Repository) × IsOf self.old r × AreParents r work.old.parents }
+        requires tables { (r : Repository) × IsOf self.old r × AreParents r work.old.least work.old.parents }
         ensures numbers { KeepsNumbers self.old self.new }
-        ensures tables { (r : Repository) → IsOf self.old r → AreParents r work.old.parents → HasAnswer result → GoesOn self.new work.new }
+        ensures tables { (r : Repository) → IsOf self.old r → AreParents r work.old.least work.old.parents → HasAnswer result → GoesOn self.new work.new }
+        ensures same_collection { self.new.collection ≡ self.old.collection }
         ensures answered { IsTrue G.tells → (r : Repository) (v : View) → IsAt (G.told outside.old) self.old r work.old v →
-            IfSome (reply_to result) (λ reply. Answers (G.told outside.new) (session r work.old v) v (Command.Commit branch.now info) self.new.met reply self.new work.new) }
+            IfSome (reply_to result) (λ reply. Answers (G.told outside.new) (session r (phase_of self.old.collection) work.old v) v (Command.Commit branch.now info) self.new.met reply self.new work.new) }
         ensures saved { IsTrue G.tells → (r q : Repository) (v : View) → IsAt (G.told outside.old) self.old r work.old v → (now : Holds self.new (G.told outside.new) q) →
             OnOk result (IsSaved (image_records now) work.new.tree (next r) v.map) }
         ensures limits { IsTrue G.tells → (r : Repository) (v : View) → IsAt (G.told outside.old) self.old r work.old v →
@@ -339,7 +370,7 @@ impl Store {
         ensures appends { IsTrue G.tells → (r : Repository) (v : View) → IsAt (G.told outside.old) self.old r work.old v →
             OnOk result (Appends (records_of r work.old v branch.now info self.old) 1 self.old self.new (G.told outside.old) (G.told outside.new)) }
         ensures any_moment { IsTrue G.tells → (r : Repository) (v : View) → IsAt (G.told outside.old) self.old r work.old v →
-            Commits r work.old v branch.now info result self.new (G.told outside.old) (G.told outside.new) }
+            Commits r (phase_of self.old.collection) work.old v branch.now info result self.new (G.told outside.old) (G.told outside.new) }
         ensures records_stay { IsTrue G.tells → HasAnswer result → (r q : Repository) (held : Holds self.old (G.told outside.old) r) (now : Holds self.new (G.told outside.new) q) →
             RecordsStay (image_records held) (image_records now) }
         ensures counts { Counts ground_store result (G.counts_of outside.old) (G.counts_of outside.new) }
@@ -388,9 +419,10 @@ impl Store {
     ) -> Result<Plan, StoreFault>
         requires branch { IsBranchName branch.now }
         requires info { IsInfo info }
-        requires tables { (r : Repository) × IsOf self.now r × AreParents r work.now.parents }
+        requires tables { (r : Repository) × IsOf self.now r × AreParents r work.now.least work.now.parents }
         ensures coming { (r : Repository) → IsOf self.now r → IfOk result (IsNext r branch.now self.now) }
-        ensures refused { (records : ℕ → Option Record) (r : Repository) (v : View) → IsOf self.now r → IsLawful records r work.now v → IfErr result (IsRefusal r work.now v branch.now info) }
+        ensures there { (r : Repository) → IsOf self.now r → IfOk result (λ plan. IsThere r work.now.least) }
+        ensures refused { (records : ℕ → Option Record) (r : Repository) (v : View) → IsOf self.now r → IsLawful records r work.now v → IfErr result (IsRefusal r (phase_of self.now.collection) work.now v branch.now info) }
         ensures planned { (records : ℕ → Option Record) (r : Repository) (v : View) → IsOf self.now r → IsLawful records r work.now v → IfOk result (IsPlan r work.now v branch.now info self.now) }
         ensures space { (records : ℕ → Option Record) (r : Repository) (v : View) → IsOf self.now r → IsLawful records r work.now v → IsErrOf result (StoreFault.Limit Limit.Space) → OFFSET_MAX < end_of r work.now v branch.now info self.now }
         ensures sequence { (records : ℕ → Option Record) (r : Repository) (v : View) → IsOf self.now r → IsLawful records r work.now v → IsErrOf result (StoreFault.Limit Limit.Sequence) →
@@ -398,7 +430,9 @@ impl Store {
         ensures no_fault { IsErrOf result StoreFault.Ground → ⊥ }
         ensures undamaged { IsUndamaged result }
     {
+        self.there(work.least)?;
         self.head_among(work.parents.as_slice(), branch)?;
+        self.staying(work.least)?;
         self.room_for(branch)?;
         let fields = self.fields(alloc, work.parents.as_slice(), branch, info)?;
         let batch = self.new_batch(alloc, &work.tree, &fields)?;

@@ -2,11 +2,14 @@
 #![tactic(auto)]
 
 mod branches;
+mod collection;
 mod committing;
 mod history;
 mod merging;
 mod naming;
 mod opening;
+#[cfg(test)]
+mod phase_tests;
 mod publish;
 mod show;
 mod store;
@@ -15,6 +18,7 @@ mod walk;
 mod work;
 
 pub use branches::Branches;
+pub use collection::Collection;
 pub use committing::StoreFault;
 pub use ip_spawn::chunk_allowed;
 pub use merging::Merge;

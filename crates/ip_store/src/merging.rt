@@ -1,5 +1,5 @@
 // Merging a commit into a branch: the commit of a work whose tree is the merged one, or the branch moves on.
-ghost use Rattle.std.specs.Prelude.{◌≡◌, ◌+◌, [], ◌∷◌, length, IfSome, IfOk, OnOk, IsTrue};
+ghost use Rattle.std.specs.Prelude.{◌≡◌, ◌+◌, [], ◌∷◌, length, min, IfSome, IfOk, OnOk, IsTrue};
 ghost use Rattle.ip_ground.specs.Counts.{Counts};
 ghost use Rattle.ip_merge.specs.Rules.{IsDecisive};
 ghost use Rattle.ip_spec.specs.Path.{Bytes};
@@ -8,8 +8,9 @@ ghost use Rattle.ip_spec.specs.declared.record.Record.TheVariants as Record;
 ghost use Rattle.ip_spec.specs.Repository.{Repository, is_retained};
 ghost use Rattle.ip_spec.specs.Step.{with_branch};
 ghost use Rattle.ip_store.specs.Changes.{Appends, Changes, HasAnswer, IsUndamaged, LimitsSpace};
+ghost use Rattle.ip_store.specs.Collecting.{phase_of};
 ghost use Rattle.ip_store.specs.Faults.{ground_store};
-ghost use Rattle.ip_store.specs.Merging.{merge_reply, AnswersMerge, AppendsMerge, GoesOnFrom, LimitsMerge, MergesAtMoments, IsCourse, IsCourseBy, IsBaseTree, IsJoin, IsJoined, IsForward, IsForwarded, stopped_by};
+ghost use Rattle.ip_store.specs.Merging.{merge_reply, AnswersMerge, AppendsMerge, GoesOnFrom, LimitsMerge, MergesAtMoments, IsCourse, IsCourseBy, IsBaseTree, IsJoin, IsJoined, IsForward, IsForwarded, course_in, stopped_by, unless_leaving};
 ghost use Rattle.ip_store.specs.Showing.{IsFetchedOr};
 ghost use Rattle.ip_store.specs.Store.{IsOf, Holds, SameTables, image_records};
 ghost use Rattle.ip_store.specs.Trees.{OnlyLooks, RecordsStay};
@@ -47,6 +48,8 @@ pub enum Course {
     Current,
     // The branch's is a proper ancestor of it.
     Forward,
+    // Neither is an ancestor of the other, and a collection gives it up.
+    Leaving,
     // There are several least common ancestors.
     Bases(u32),
     // There is this one, or none.
@@ -96,6 +99,13 @@ fn both(alloc: Global, one: Number, other: Number) -> Result<Numbers, Memory>
     Ok(numbers)
 }
 
+// The lesser of two numbers.
+fn lesser(one: Number, other: Number) -> Number
+    ensures { result ≡ min one other }
+{
+    if one.get() < other.get() { one } else { other }
+}
+
 // What comes of trees that were not merged.
 fn stopped_by(fault: ThreeFault) -> Result<Joined, StoreFault>
     ensures { result ≡ stopped_by fault }
@@ -125,14 +135,15 @@ impl Store {
         requires info { IsInfo info }
         requires tables { (r : Repository) × IsOf self.old r × IsTrue (is_retained r number) }
         ensures tables { (r : Repository) → IsOf self.old r → IsTrue (is_retained r number) → HasAnswer result → (after : Repository) × GoesOnFrom r self.new after }
+        ensures same_collection { self.new.collection ≡ self.old.collection }
         ensures answered { IsTrue G.tells → IsDecisive (D.rule rules.now) → (r : Repository) → Holds self.old (G.told outside.old) r → IsTrue (is_retained r number) →
-            IfSome (merge_reply branch.now result) (λ reply. AnswersMerge (D.rule rules.now) (G.told outside.new) r number branch.now info self.new.met reply self.new) }
+            IfSome (merge_reply branch.now result) (λ reply. AnswersMerge (D.rule rules.now) (G.told outside.new) r (phase_of self.old.collection) number branch.now info self.new.met reply self.new) }
         ensures appends { IsTrue G.tells → IsDecisive (D.rule rules.now) → (r : Repository) (held : Holds self.old (G.told outside.old) r) → IsTrue (is_retained r number) →
             AppendsMerge (D.rule rules.now) (image_records held) r number branch.now info result self.old self.new (G.told outside.old) (G.told outside.new) }
         ensures limits { IsTrue G.tells → IsDecisive (D.rule rules.now) → (r : Repository) (held : Holds self.old (G.told outside.old) r) → IsTrue (is_retained r number) →
             LimitsMerge (D.rule rules.now) (image_records held) r number branch.now info result self.old }
         ensures any_moment { IsTrue G.tells → IsDecisive (D.rule rules.now) → (r : Repository) → Holds self.old (G.told outside.old) r → IsTrue (is_retained r number) →
-            MergesAtMoments (D.rule rules.now) r number branch.now info result self.new (G.told outside.old) (G.told outside.new) }
+            MergesAtMoments (D.rule rules.now) r (phase_of self.old.collection) number branch.now info result self.new (G.told outside.old) (G.told outside.new) }
         ensures records_stay { IsTrue G.tells → HasAnswer result → (r q : Repository) (held : Holds self.old (G.told outside.old) r) (now : Holds self.new (G.told outside.new) q) →
             RecordsStay (image_records held) (image_records now) }
         ensures counts { Counts ground_store result (G.counts_of outside.old) (G.counts_of outside.new) }
@@ -152,6 +163,7 @@ impl Store {
                 let name = self.retained_name(head);
                 self.noted(Ok(Merge::Current(name)))
             }
+            Course::Leaving => self.noted(Err(StoreFault::Leaving(number))),
             Course::Bases(count) => self.noted(Ok(Merge::Bases(count))),
             Course::Forward => {
                 let answer = self.forward(alloc, outside, number, branch);
@@ -164,13 +176,37 @@ impl Store {
         }
     }
 
+    // Where neither commit is an ancestor of the other, and a collection runs that gives this one up, nothing is merged.
+    fn unless_leaving(&self, number: Number, course: Course) -> Course
+        ensures { result ≡ unless_leaving (phase_of self.now.collection) number course }
+    {
+        match &self.collection {
+            Some(collection) if number.get() < collection.commit.get() => Course::Leaving,
+            _ => course,
+        }
+    }
+
+    // The course that is taken while a collection may run.
+    fn allowed(&self, number: Number, course: Course) -> Course
+        ensures { result ≡ course_in (phase_of self.now.collection) number course }
+    {
+        match course {
+            Course::Current => Course::Current,
+            Course::Forward => Course::Forward,
+            Course::Leaving => Course::Leaving,
+            Course::Bases(count) => self.unless_leaving(number, Course::Bases(count)),
+            Course::Join(base) => self.unless_leaving(number, Course::Join(base)),
+        }
+    }
+
     // How the commit stands to the branch's, by one walk of the history.
     fn course(&self, alloc: Global, head: Number, number: Number) -> Result<Course, Memory>
         requires tables { (r : Repository) × IsOf self.now r × IsTrue (is_retained r head) × IsTrue (is_retained r number) }
-        ensures { (r : Repository) → IsOf self.now r → IsTrue (is_retained r head) → IsTrue (is_retained r number) → IfOk result (IsCourse r head number) }
+        ensures { (r : Repository) → IsOf self.now r → IsTrue (is_retained r head) → IsTrue (is_retained r number) → IfOk result (IsCourse r (phase_of self.now.collection) head number) }
     {
         let least = self.history.lcas(alloc, head, number)?;
-        course_by(least.as_slice(), head, number)
+        let course = course_by(least.as_slice(), head, number)?;
+        Ok(self.allowed(number, course))
     }
 
     // Moves a branch on to a commit that its own is an ancestor of.
@@ -185,6 +221,7 @@ impl Store {
         requires tables { (r : Repository) × IsOf self.old r × IsForward r branch.now number }
         ensures comes { (r : Repository) → IsOf self.old r → IsForward r branch.now number → IsForwarded r number result }
         ensures tables { (r : Repository) → IsOf self.old r → IsForward r branch.now number → HasAnswer result → (after : Repository) × GoesOnFrom r self.new after }
+        ensures same_collection { self.new.collection ≡ self.old.collection }
         ensures limits { LimitsSpace (self.old.slot.end + length (spelling (Record.BranchSet number branch.now))) result self.old }
         ensures appends { IsTrue G.tells → OnOk result (Appends ((self.old.slot.end, Record.BranchSet number branch.now) ∷ []) 0 self.old self.new (G.told outside.old) (G.told outside.new)) }
         ensures any_moment { IsTrue G.tells → (r : Repository) → Holds self.old (G.told outside.old) r → IsForward r branch.now number →
@@ -216,20 +253,21 @@ impl Store {
     ) -> Result<Merge, StoreFault>
         requires branch { IsBranchName branch.now }
         requires info { IsInfo info }
-        requires tables { (r : Repository) × IsOf self.old r × IsJoin r branch.now sides.now }
-        ensures tables { (r : Repository) → IsOf self.old r → IsJoin r branch.now sides.now → HasAnswer result → (after : Repository) × GoesOnFrom r self.new after }
-        ensures answered { IsTrue G.tells → IsDecisive (D.rule rules.now) → (r : Repository) → Holds self.old (G.told outside.old) r → IsJoin r branch.now sides.now →
-            IfSome (merge_reply branch.now result) (λ reply. AnswersMerge (D.rule rules.now) (G.told outside.new) r sides.now.number branch.now info self.new.met reply self.new) }
-        ensures appends { IsTrue G.tells → IsDecisive (D.rule rules.now) → (r : Repository) (held : Holds self.old (G.told outside.old) r) → IsJoin r branch.now sides.now →
+        requires tables { (r : Repository) × IsOf self.old r × IsJoin r (phase_of self.old.collection) branch.now sides.now }
+        ensures tables { (r : Repository) → IsOf self.old r → IsJoin r (phase_of self.old.collection) branch.now sides.now → HasAnswer result → (after : Repository) × GoesOnFrom r self.new after }
+        ensures same_collection { self.new.collection ≡ self.old.collection }
+        ensures answered { IsTrue G.tells → IsDecisive (D.rule rules.now) → (r : Repository) → Holds self.old (G.told outside.old) r → IsJoin r (phase_of self.old.collection) branch.now sides.now →
+            IfSome (merge_reply branch.now result) (λ reply. AnswersMerge (D.rule rules.now) (G.told outside.new) r (phase_of self.old.collection) sides.now.number branch.now info self.new.met reply self.new) }
+        ensures appends { IsTrue G.tells → IsDecisive (D.rule rules.now) → (r : Repository) (held : Holds self.old (G.told outside.old) r) → IsJoin r (phase_of self.old.collection) branch.now sides.now →
             AppendsMerge (D.rule rules.now) (image_records held) r sides.now.number branch.now info result self.old self.new (G.told outside.old) (G.told outside.new) }
-        ensures limits { IsTrue G.tells → IsDecisive (D.rule rules.now) → (r : Repository) (held : Holds self.old (G.told outside.old) r) → IsJoin r branch.now sides.now →
+        ensures limits { IsTrue G.tells → IsDecisive (D.rule rules.now) → (r : Repository) (held : Holds self.old (G.told outside.old) r) → IsJoin r (phase_of self.old.collection) branch.now sides.now →
             LimitsMerge (D.rule rules.now) (image_records held) r sides.now.number branch.now info result self.old }
-        ensures any_moment { IsTrue G.tells → IsDecisive (D.rule rules.now) → (r : Repository) → Holds self.old (G.told outside.old) r → IsJoin r branch.now sides.now →
-            MergesAtMoments (D.rule rules.now) r sides.now.number branch.now info result self.new (G.told outside.old) (G.told outside.new) }
+        ensures any_moment { IsTrue G.tells → IsDecisive (D.rule rules.now) → (r : Repository) → Holds self.old (G.told outside.old) r → IsJoin r (phase_of self.old.collection) branch.now sides.now →
+            MergesAtMoments (D.rule rules.now) r (phase_of self.old.collection) sides.now.number branch.now info result self.new (G.told outside.old) (G.told outside.new) }
         ensures records_stay { IsTrue G.tells → HasAnswer result → (r q : Repository) (held : Holds self.old (G.told outside.old) r) (now : Holds self.new (G.told outside.new) q) →
             RecordsStay (image_records held) (image_records now) }
         ensures counts { Counts ground_store result (G.counts_of outside.old) (G.counts_of outside.new) }
-        ensures undamaged { IsTrue G.tells → IsDecisive (D.rule rules.now) → (r : Repository) → Holds self.old (G.told outside.old) r → IsJoin r branch.now sides.now → IsUndamaged result }
+        ensures undamaged { IsTrue G.tells → IsDecisive (D.rule rules.now) → (r : Repository) → Holds self.old (G.told outside.old) r → IsJoin r (phase_of self.old.collection) branch.now sides.now → IsUndamaged result }
     {
         let tree = match self.joined(alloc, outside, sides, rules) {
             Ok(Joined::Tree(tree)) => tree,
@@ -240,11 +278,10 @@ impl Store {
             Ok(parents) => parents,
             Err(Memory) => return self.noted(Err(StoreFault::Memory)),
         };
-        let least = tree.oldest;
         let mut work = Work {
             tree,
             parents,
-            least,
+            least: Some(lesser(sides.head, sides.number)),
         };
         match self.commit(alloc, outside, &mut work, branch, info) {
             Ok(name) => Ok(Merge::Merged(name)),
@@ -260,8 +297,8 @@ impl Store {
         sides: &Sides,
         rules: &D,
     ) -> Result<Joined, StoreFault>
-        requires tables { (r : Repository) × (branch : Bytes) × IsOf self.old r × IsJoin r branch sides.now }
-        ensures joins { IsTrue G.tells → IsDecisive (D.rule rules.now) → (r : Repository) (branch : Bytes) (held : Holds self.old (G.told outside.old) r) → IsJoin r branch sides.now →
+        requires tables { (r : Repository) × (branch : Bytes) × IsOf self.old r × IsJoin r (phase_of self.old.collection) branch sides.now }
+        ensures joins { IsTrue G.tells → IsDecisive (D.rule rules.now) → (r : Repository) (branch : Bytes) (held : Holds self.old (G.told outside.old) r) → IsJoin r (phase_of self.old.collection) branch sides.now →
             IsJoined (D.rule rules.now) (image_records held) r sides.now result }
         ensures same { SameTables self.old self.new }
         ensures looks { IsTrue G.tells → OnlyLooks (G.told outside.old) (G.told outside.new) self.old self.new }

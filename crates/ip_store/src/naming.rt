@@ -1,5 +1,5 @@
 // Setting branches and taking them away: one record behind all others, and the slot that ends there.
-ghost use Rattle.std.specs.Prelude.{◌≡◌, ◌≢◌, ◌+◌, [], ◌∷◌, length, true, false, Ok, IsTrue, IfSome, IfOk, OnOk, OnErr, IsErrOf, IsSome};
+ghost use Rattle.std.specs.Prelude.{◌≡◌, ◌≢◌, ◌+◌, [], ◌∷◌, length, true, false, Some, Ok, IsTrue, IfSome, IfOk, OnOk, OnErr, IsErrOf, IsSome};
 ghost use Rattle.ip_store.specs.Faults.{ground_store};
 ghost use Rattle.ip_ground.specs.Counts.{Counts};
 ghost use Rattle.ip_spec.specs.Record.{Fits, IsBranchName, spelling};
@@ -10,6 +10,7 @@ ghost use Rattle.ip_image.specs.Standing.{IsServedKind};
 ghost use Rattle.ip_image.specs.Appending.{MayName, renamed};
 ghost use Rattle.ip_store.specs.Changes.{Changes, Appends, HasAnswer, IsUndamaged, LimitsSpace};
 ghost use Rattle.ip_store.specs.Naming.{branch_reply, removed_reply, AnswersSet, AnswersRemove, without_branch, Renames};
+ghost use Rattle.ip_store.specs.Collecting.{IsAbove, phase_of, not_leaving_in};
 ghost use Rattle.ip_store.specs.Store.{IsOf, Holds, IsSound, image_records};
 ghost use Rattle.ip_store.specs.Trees.{RecordsStay};
 ghost use Rattle.ip_store.specs.declared.committing.StoreFault.TheVariants as StoreFault;
@@ -61,9 +62,11 @@ impl Store {
         rec: Record,
     ) -> Result<(), StoreFault>
         requires tables { (r : Repository) × IsOf self.old r × MayName r rec }
+        requires above { IsAbove self.old.collection rec }
         requires fits { Fits 1 rec }
         requires served { IsServedKind rec }
         ensures tables { (r : Repository) → IsOf self.old r → MayName r rec → Renames r rec result self.new }
+        ensures same_collection { self.new.collection ≡ self.old.collection }
         ensures limits { LimitsSpace (self.old.slot.end + length (spelling rec)) result self.old }
         ensures appends { IsTrue G.tells → OnOk result (Appends ((self.old.slot.end, rec) ∷ []) 0 self.old self.new (G.told outside.old) (G.told outside.new)) }
         ensures any_moment { IsTrue G.tells → (r : Repository) → Holds self.old (G.told outside.old) r → MayName r rec →
@@ -97,9 +100,10 @@ impl Store {
         requires name { IsBranchName name.now }
         requires tables { (r : Repository) × IsOf self.old r × IsTrue (is_retained r number) }
         ensures answered { (r : Repository) → IsOf self.old r → IsTrue (is_retained r number) →
-            IfSome (branch_reply result) (AnswersSet r name.now number self.new.met self.new) }
-        // Files are only touched where there is room for it.
-        ensures begun { (r : Repository) → IsOf self.old r → IsErrOf result StoreFault.Ground → room_for_branch r name.now ≡ Ok tt }
+            IfSome (branch_reply result) (AnswersSet r (phase_of self.old.collection) name.now number self.new.met self.new) }
+        ensures same_collection { self.new.collection ≡ self.old.collection }
+        // Files are only touched where no collection gives up the commit, and there is room for the branch.
+        ensures begun { (r : Repository) → IsOf self.old r → IsErrOf result StoreFault.Ground → (not_leaving_in (phase_of self.old.collection) (Some number) ≡ Ok tt) × (room_for_branch r name.now ≡ Ok tt) }
         ensures limits { LimitsSpace (self.old.slot.end + length (spelling (Record.BranchSet number name.now))) result self.old }
         ensures appends { IsTrue G.tells → OnOk result (Appends ((self.old.slot.end, Record.BranchSet number name.now) ∷ []) 0 self.old self.new (G.told outside.old) (G.told outside.new)) }
         ensures any_moment { IsTrue G.tells → (r : Repository) → Holds self.old (G.told outside.old) r → IsTrue (is_retained r number) →
@@ -109,6 +113,9 @@ impl Store {
         ensures counts { Counts ground_store result (G.counts_of outside.old) (G.counts_of outside.new) }
         ensures undamaged { IsUndamaged result }
     {
+        if let Err(fault) = self.staying(Some(number)) {
+            return self.noted(Err(fault));
+        }
         if let Err(fault) = self.room_for(name) {
             return self.noted(Err(fault));
         }
@@ -130,7 +137,8 @@ impl Store {
     ) -> Result<bool, StoreFault>
         requires name { IsBranchName name.now }
         requires tables { (r : Repository) × IsOf self.old r }
-        ensures answered { (r : Repository) → IsOf self.old r → IfSome (removed_reply name.now result) (AnswersRemove r name.now self.new.met self.new) }
+        ensures answered { (r : Repository) → IsOf self.old r → IfSome (removed_reply name.now result) (AnswersRemove r (phase_of self.old.collection) name.now self.new.met self.new) }
+        ensures same_collection { self.new.collection ≡ self.old.collection }
         ensures absent { result ≡ Ok false → outside.new ≡ outside.old }
         // Files are only touched where there is such a branch.
         ensures begun { (r : Repository) → IsOf self.old r → IsErrOf result StoreFault.Ground → IsSome (head r name.now) }

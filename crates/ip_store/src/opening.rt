@@ -1,5 +1,5 @@
 // Opening a store: its control file is read, and then each of its records, once.
-ghost use Rattle.std.specs.Prelude.{◌≡◌, ◌↔◌, ◌+◌, ◌*◌, ◌<◌, length, IsTrue, IfOk, IsErrOf};
+ghost use Rattle.std.specs.Prelude.{◌≡◌, ◌↔◌, ◌+◌, ◌*◌, ◌<◌, length, None, IsTrue, IfOk, IsErrOf};
 ghost use Rattle.ip_store.specs.Faults.{ground_open};
 ghost use Rattle.ip_ground.specs.Counts.{Counts};
 ghost use Rattle.ip_spec.specs.Repository.{Repository};
@@ -67,6 +67,7 @@ impl Store {
     pub fn open_at<G: Ground>(alloc: Global, outside: &mut G) -> Result<Store, OpenFault>
         ensures tables { IfOk result (λ store. (r : Repository) × IsOf store r) }
         ensures met { IfOk result (λ store. store.met ≡ met_nothing) }
+        ensures idle { IfOk result (λ store. store.collection ≡ None) }
         ensures does { IsTrue G.tells → Opens result (G.told outside.old) (G.told outside.new) }
         ensures counts { Counts ground_open result (G.counts_of outside.old) (G.counts_of outside.new) }
     {
@@ -163,6 +164,7 @@ fn finish(index: u8, slot: Slot, found: Found, space: Space) -> Result<Store, Op
         branches,
         history,
         space,
+        collection: None,
         met: nothing_met(),
     })
 }

@@ -7,12 +7,13 @@ ghost use Rattle.ip_image.specs.Slot.{IsChunkSize, live_index, fresh_control};
 ghost use Rattle.ip_store.specs.Control.{control_in};
 ghost use Rattle.ip_spec.specs.Map.{len};
 ghost use Rattle.ip_spec.specs.Repository.{Repository, next, head, number_named, commit_at};
-ghost use Rattle.ip_spec.specs.Step.{head_of};
-ghost use Rattle.ip_spec.specs.declared.met.Phase.TheVariants as Phase;
+ghost use Rattle.ip_spec.specs.Machine.{phase_told};
+ghost use Rattle.ip_spec.specs.Step.{below, head_of};
+ghost use Rattle.ip_store.specs.Collecting.{phase_of};
 ghost use Rattle.ip_store.specs.Opening.{Makes};
 ghost use Rattle.ip_store.specs.Store.{IsOf};
 
-use crate::Branches;
+use crate::{Branches, Collection};
 use ip_audit::Names;
 use ip_base::limit::BRANCHES_MAX;
 use ip_base::{Blob, Hash, Items, Memory, Number};
@@ -55,6 +56,8 @@ pub struct Store {
     pub(crate) history: Table,
     // Up to the end that the live slot names.
     pub(crate) space: Space,
+    // The one that goes on, if any.
+    pub(crate) collection: Option<Collection>,
     pub(crate) met: Met,
 }
 
@@ -88,11 +91,27 @@ impl Store {
         Number(self.slot.next)
     }
 
-    /// Whether a collection runs: none does so far.
+    /// Whether a collection runs, and at which commit.
     pub fn phase(&self) -> Phase
-        ensures { result ≡ Phase.Idle }
+        ensures { result ≡ phase_told (phase_of self.now.collection) }
     {
-        Phase::Idle
+        match &self.collection {
+            Some(collection) => Phase::Collecting {
+                commit: collection.commit,
+                kept: collection.exit.is_some(),
+            },
+            None => Phase::Idle,
+        }
+    }
+
+    /// The least number of a work, where the commit of that number was given up: then nothing is done with the work.
+    pub fn given_up(&self, least: Option<Number>) -> Option<Number>
+        ensures { (r : Repository) → IsOf self.now r → result ≡ below r.floor least }
+    {
+        match least {
+            Some(number) if number.get() < self.slot.floor => Some(number),
+            _ => None,
+        }
     }
 
     /// What the last call that changes the store met.

@@ -23,7 +23,7 @@ impl Work {
     pub fn empty(alloc: Global) -> Self
         ensures lawful { (records : ℕ → Option Record) (r : Repository) → IsLawful records r result no_view }
         ensures begins { work_at result no_view ≡ empty_work }
-        ensures parents { (r : Repository) → AreParents r result.parents }
+        ensures parents { (r : Repository) → AreParents r result.least result.parents }
     {
         Work {
             tree: Tree::empty(alloc),

@@ -13,4 +13,5 @@ returns-clause-finishes c = record {
   branches = λ records tells. sym tells.branches;
   history = λ records tells. sym tells.history;
   parents_first = λ records tells. tells.parents_first;
+  idle = refl;
 }

@@ -28,9 +28,9 @@ returns-in_err-slot-clause-any_moment g c told r held may =
 pub returns-in_err-name_branch-clause-any_moment : goal.returns-in_err-name_branch-clause-any_moment
 returns-in_err-name_branch-clause-any_moment g c told r held may =
     let is : c.from_residual-in_err-name_branch.result ≡ Err StoreFault.Memory = search rules in
-    let store : Store = record { index = c.args.self.now.index; slot = c.args.self.now.slot; names = c.args.self.now.names; branches = c.name_branch.new.branches; history = c.args.self.now.history; places = c.args.self.now.places; space = c.args.self.now.space; met = c.args.self.now.met } in
+    let store : Store = record { index = c.args.self.now.index; slot = c.args.self.now.slot; names = c.args.self.now.names; branches = c.name_branch.new.branches; history = c.args.self.now.history; places = c.args.self.now.places; space = c.args.self.now.space; collection = c.args.self.now.collection; met = c.args.self.now.met } in
     subst (λ res. Changes {A = Unit {0}} r (renamed r c.args.rec) res store (g.G.Ground.told c.args.outside.now) (g.G.Ground.told c.args.outside.now)) (sym is)
-    (changes_none r (renamed r c.args.rec) StoreFault.Memory c.args.self.now store (g.G.Ground.told c.args.outside.now) (record { index = refl; slot = refl; names = refl; places = refl; branches = c.in_err-name_branch.ensures.err; history = refl; space = refl }) held)
+    (changes_none r (renamed r c.args.rec) StoreFault.Memory c.args.self.now store (g.G.Ground.told c.args.outside.now) (record { index = refl; slot = refl; names = refl; places = refl; branches = c.in_err-name_branch.ensures.err; history = refl; space = refl; collection = refl }) held)
 
 pub durable_step-requires-clause-chunk : goal.durable_step-requires-clause-chunk
 durable_step-requires-clause-chunk g c =
@@ -51,7 +51,7 @@ pub returns-in_err-durable_step-clause-any_moment : goal.returns-in_err-durable_
 returns-in_err-durable_step-clause-any_moment g c told r held may =
     let is : c.from_residual-in_err-durable_step.result ≡ Err StoreFault.Ground = search rules in
     let slot = slot_from c.args.self.now.slot c.args.rec _ c.in_ok-slot.slot (ap length (c.as_slice-bytes.ensures.value ∙ c.in_ok-spelled.ensures)) c.in_ok-slot.ensures in
-    let store : Store = record { index = c.args.self.now.index; slot = c.args.self.now.slot; names = c.args.self.now.names; branches = c.name_branch.new.branches; history = c.args.self.now.history; places = c.args.self.now.places; space = c.args.self.now.space; met = c.args.self.now.met } in
+    let store : Store = record { index = c.args.self.now.index; slot = c.args.self.now.slot; names = c.args.self.now.names; branches = c.name_branch.new.branches; history = c.args.self.now.history; places = c.args.self.now.places; space = c.args.self.now.space; collection = c.args.self.now.collection; met = c.args.self.now.met } in
     subst (λ res. Changes {A = Unit {0}} r (renamed r c.args.rec) res store (g.G.Ground.told c.args.outside.now) (g.G.Ground.told c.durable_step.new.outside)) (sym is)
     (rename_cut r c.args.self.now held.tables c.args.rec may c.requires.fits c.requires.served c.in_ok-slot.slot slot.0 slot.1 slot.2 (g.G.Ground.told c.args.outside.now) held (g.G.Ground.told c.durable_step.new.outside) store _
     (same_step c.args.self.now.slot.end c.args.self.now.slot.end c.args.self.now.index c.args.self.now.index _ (spelling c.args.rec) c.in_ok-slot.slot c.in_ok-slot.slot _ (g.G.Ground.told c.args.outside.now) (g.G.Ground.told c.durable_step.new.outside)
@@ -60,12 +60,12 @@ returns-in_err-durable_step-clause-any_moment g c told r held may =
 pub returns-clause-tables : goal.returns-clause-tables
 returns-clause-tables g c r of may =
     let slot = slot_from c.args.self.now.slot c.args.rec _ c.in_ok-slot.slot (ap length (c.as_slice-bytes.ensures.value ∙ c.in_ok-spelled.ensures)) c.in_ok-slot.ensures in
-    renamed_tables r c.args.self.now of c.args.rec may c.requires.fits c.requires.served c.in_ok-slot.slot slot.0 slot.1 slot.2 _ refl refl refl c.in_ok-name_branch.ensures.ok refl refl c.grow.ensures
+    renamed_tables r c.args.self.now of c.args.rec may c.requires.fits c.requires.served c.in_ok-slot.slot slot.0 slot.1 slot.2 _ refl refl refl c.in_ok-name_branch.ensures.ok refl refl c.grow.ensures refl c.requires.above
 
 pub returns-clause-any_moment : goal.returns-clause-any_moment
 returns-clause-any_moment g c told r held may =
     let slot = slot_from c.args.self.now.slot c.args.rec _ c.in_ok-slot.slot (ap length (c.as_slice-bytes.ensures.value ∙ c.in_ok-spelled.ensures)) c.in_ok-slot.ensures in
-    was_renamed r c.args.self.now held.tables c.args.rec may c.requires.fits c.requires.served c.in_ok-slot.slot slot.0 slot.1 slot.2 (g.G.Ground.told c.args.outside.now) held (g.G.Ground.told c.durable_step.new.outside) _ refl refl refl c.in_ok-name_branch.ensures.ok refl refl c.grow.ensures
+    was_renamed r c.args.self.now held.tables c.args.rec may c.requires.fits c.requires.served c.in_ok-slot.slot slot.0 slot.1 slot.2 (g.G.Ground.told c.args.outside.now) held (g.G.Ground.told c.durable_step.new.outside) _ refl refl refl c.in_ok-name_branch.ensures.ok refl refl c.grow.ensures refl c.requires.above
     (same_step c.args.self.now.slot.end c.args.self.now.slot.end c.args.self.now.index c.args.self.now.index _ (spelling c.args.rec) c.in_ok-slot.slot c.in_ok-slot.slot _ (g.G.Ground.told c.args.outside.now) (g.G.Ground.told c.durable_step.new.outside)
     refl refl (c.as_slice-bytes.ensures.value ∙ c.in_ok-spelled.ensures) refl (c.in_ok-durable_step.ensures.does told (can_rename r c.args.self.now held.tables c.args.rec may c.requires.fits c.requires.served c.in_ok-slot.slot slot.0 slot.1 slot.2 (g.G.Ground.told c.args.outside.now) held)))
 
@@ -77,7 +77,7 @@ returns-in_err-slot-clause-records_stay g c told has r q held now = stays_still 
 
 pub returns-in_err-name_branch-clause-records_stay : goal.returns-in_err-name_branch-clause-records_stay
 returns-in_err-name_branch-clause-records_stay g c told has r q held now =
-    stays_still c.args.self.now _ (record { index = refl; slot = refl; names = refl; places = refl; branches = c.in_err-name_branch.ensures.err; history = refl; space = refl }) r q (g.G.Ground.told c.args.outside.now) held now
+    stays_still c.args.self.now _ (record { index = refl; slot = refl; names = refl; places = refl; branches = c.in_err-name_branch.ensures.err; history = refl; space = refl; collection = refl }) r q (g.G.Ground.told c.args.outside.now) held now
 
 pub returns-clause-records_stay : goal.returns-clause-records_stay
 returns-clause-records_stay g c told has r q held now =

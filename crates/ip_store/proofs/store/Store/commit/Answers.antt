@@ -1,4 +1,4 @@
-use Rattle.std.proofs.Common.{◌≡◌, ◌+◌, ◌-◌, ◌^◌, ◌≤◌, ◌++◌, length, [], ◌∷◌, ℕ, None, rules, refl, sym, ◌∙◌, ap, subst}
+use Rattle.std.proofs.Common.{◌≡◌, ◌+◌, ◌-◌, ◌^◌, ◌≤◌, ◌++◌, length, [], ◌∷◌, ℕ, Some, None, rules, refl, sym, ◌∙◌, ap, subst}
 use Rattle.std.specs.Prelude.{Err, IfSome, position}
 use Rattle.ip_spec.specs.declared.command.Command.TheVariants as Command
 use Rattle.ip_spec.specs.Path.{same_bytes}
@@ -10,11 +10,13 @@ use Rattle.ip_space.specs.SpaceView.{SpaceView, grown}
 use Rattle.ip_store.specs.declared.committing.StoreFault.TheVariants as StoreFault
 use Rattle.ip_store.specs.declared.store.Store.{Store}
 use Rattle.ip_store.specs.Changes.{LimitsSpace, next_slot}
+use Rattle.ip_store.specs.Collecting.{phase_of}
 use Rattle.ip_store.specs.Commits.{Answers, Commits, end_of, repository_after, reply_to, met_by}
 use Rattle.ip_store.specs.Histories.{with_parents}
 use Rattle.ip_store.specs.Work.{session}
 use Rattle.ip_store.proofs.Histories.{may_enter}
 use Rattle.ip_store.proofs.Machine.{refused_memory}
+use Rattle.ip_store.proofs.Phases.{retained_parents}
 use Rattle.ip_store.proofs.Planning.{err_of}
 use Rattle.ip_store.proofs.Stepping.{itself, same_tables, changes_none, stays_still, same_can_step, same_step}
 use Rattle.ip_store.proofs.AfterCommit.{some_commit, after_tables, after_parents, held_after, list_committed, read_root, further, inside, can_step, stays_committed, made, cut, saved_tree, stored_tree, work_after, answers_refused, answers_made, same_at}
@@ -33,7 +35,7 @@ pub enter-entered-requires-clause-key : goal.enter-entered-requires-clause-key
 enter-entered-requires-clause-key g c = (c.in-Ok.ensures.coming c.requires.tables.0 c.requires.tables.1).same_branch
 
 pub enter-entered-requires-clause-parents : goal.enter-entered-requires-clause-parents
-enter-entered-requires-clause-parents g c = may_enter c.args.self.now c.requires.tables.0 c.requires.tables.1 c.args.work.now.parents _ c.as_slice.ensures c.requires.tables.2.retained
+enter-entered-requires-clause-parents g c = may_enter c.args.self.now c.requires.tables.0 c.requires.tables.1 c.args.work.now.parents _ c.as_slice.ensures (retained_parents c.requires.tables.0 c.args.work.now.least c.args.work.now.parents c.requires.tables.2 (c.in-Ok.ensures.there c.requires.tables.0 c.requires.tables.1))
 
 pub grow-requires-clause-further : goal.grow-requires-clause-further
 grow-requires-clause-further g c =
@@ -67,8 +69,8 @@ durable_step-requires-clause-room g c =
 pub returns-in-Err-clause-answered : goal.returns-in-Err-clause-answered
 returns-in-Err-clause-answered g c told r v at =
     let fault = c.in-Err.fault in
-    noted_answers c.args.self.now c.noted.new.self (Err fault) c.noted.result c.noted.ensures.answer c.noted.ensures.met (g.G.Ground.told c.args.outside.now) (session r c.args.work.now v) v (Command.Commit c.args.branch.now c.args.info) c.args.work.now
-    (answers_refused r c.args.work.now v c.args.branch.now c.args.info fault c.args.self.now (g.G.Ground.told c.args.outside.now) at (c.in-Err.ensures.refused _ r v at.holds.tables at.lawful))
+    noted_answers c.args.self.now c.noted.new.self (Err fault) c.noted.result c.noted.ensures.answer c.noted.ensures.met (g.G.Ground.told c.args.outside.now) (session r (phase_of c.args.self.now.collection) c.args.work.now v) v (Command.Commit c.args.branch.now c.args.info) c.args.work.now
+    (answers_refused r (phase_of c.args.self.now.collection) c.args.work.now v c.args.branch.now c.args.info fault c.args.self.now (g.G.Ground.told c.args.outside.now) at (c.in-Err.ensures.refused _ r v at.holds.tables at.lawful))
 
 pub returns-in-Err-clause-limits : goal.returns-in-Err-clause-limits
 returns-in-Err-clause-limits g c told r v at =
@@ -84,7 +86,7 @@ pub returns-in-Err-clause-any_moment : goal.returns-in-Err-clause-any_moment
 returns-in-Err-clause-any_moment g c told r v at =
     let fault = c.in-Err.fault in
     let told_now = g.G.Ground.told c.args.outside.now in
-    let after = repository_after r c.args.work.now v c.args.branch.now c.args.info in
+    let after = repository_after r (phase_of c.args.self.now.collection) c.args.work.now v c.args.branch.now c.args.info in
     noted_changes c.args.self.now c.noted.new.self (Err fault) c.noted.result c.noted.ensures.answer c.noted.ensures.met r after told_now told_now
     (changes_none r after fault c.args.self.now c.args.self.now told_now (itself c.args.self.now) at.holds)
 
@@ -96,14 +98,14 @@ returns-in-Err-clause-tables g c r of are has = record { repository = r; tables 
 
 pub returns-in-Err-entered-clause-answered : goal.returns-in-Err-entered-clause-answered
 returns-in-Err-entered-clause-answered g c told r v at =
-    noted_answers c.enter-entered.new.self c.noted-in-Err-entered.new.self (Err StoreFault.Memory) c.noted-in-Err-entered.result c.noted-in-Err-entered.ensures.answer c.noted-in-Err-entered.ensures.met (g.G.Ground.told c.args.outside.now) (session r c.args.work.now v) v (Command.Commit c.args.branch.now c.args.info) c.args.work.now
-    (answers_refused r c.args.work.now v c.args.branch.now c.args.info StoreFault.Memory c.enter-entered.new.self (g.G.Ground.told c.args.outside.now) (same_at c.args.self.now c.enter-entered.new.self c.in-Err-entered.ensures.err (g.G.Ground.told c.args.outside.now) r c.args.work.now v at)
-    (refused_memory r c.args.work.now v c.args.branch.now c.args.info at.lawful.retained))
+    noted_answers c.enter-entered.new.self c.noted-in-Err-entered.new.self (Err StoreFault.Memory) c.noted-in-Err-entered.result c.noted-in-Err-entered.ensures.answer c.noted-in-Err-entered.ensures.met (g.G.Ground.told c.args.outside.now) (session r (phase_of c.args.self.now.collection) c.args.work.now v) v (Command.Commit c.args.branch.now c.args.info) c.args.work.now
+    (answers_refused r (phase_of c.args.self.now.collection) c.args.work.now v c.args.branch.now c.args.info StoreFault.Memory c.enter-entered.new.self (g.G.Ground.told c.args.outside.now) (same_at c.args.self.now c.enter-entered.new.self c.in-Err-entered.ensures.err (g.G.Ground.told c.args.outside.now) r c.args.work.now v at)
+    (refused_memory r (phase_of c.args.self.now.collection) c.args.work.now v c.args.branch.now c.args.info))
 
 pub returns-in-Err-entered-clause-any_moment : goal.returns-in-Err-entered-clause-any_moment
 returns-in-Err-entered-clause-any_moment g c told r v at =
     let told_now = g.G.Ground.told c.args.outside.now in
-    let after = repository_after r c.args.work.now v c.args.branch.now c.args.info in
+    let after = repository_after r (phase_of c.args.self.now.collection) c.args.work.now v c.args.branch.now c.args.info in
     noted_changes c.enter-entered.new.self c.noted-in-Err-entered.new.self (Err StoreFault.Memory) c.noted-in-Err-entered.result c.noted-in-Err-entered.ensures.answer c.noted-in-Err-entered.ensures.met r after told_now told_now
     (changes_none r after StoreFault.Memory c.args.self.now c.enter-entered.new.self told_now c.in-Err-entered.ensures.err at.holds)
 
@@ -129,8 +131,8 @@ returns-in_err-durable_step-clause-any_moment g c told r v at =
     (ap (λ (s : Slot). s.end) c.enter-entered.ensures.rest.1) c.enter-entered.ensures.rest.0 refl (can_step r c.args.branch.now c.args.self.now plan of (c.in-Ok.ensures.coming r of) (g.G.Ground.told c.args.outside.now) at.holds) in
     let step = same_step c.enter-entered.new.self.slot.end c.args.self.now.slot.end c.enter-entered.new.self.index c.args.self.now.index c.bytes.result.now plan.batch.bytes.items plan.slot plan.slot _ (g.G.Ground.told c.args.outside.now) (g.G.Ground.told c.durable_step.new.outside)
     (ap (λ (s : Slot). s.end) c.enter-entered.ensures.rest.1) c.enter-entered.ensures.rest.0 c.bytes.ensures refl (c.durable_step.ensures.does told can) in
-    let store : Store = record { index = c.enter-entered.new.self.index; slot = c.enter-entered.new.self.slot; names = c.enter-entered.new.self.names; branches = c.enter-entered.new.self.branches; history = c.enter-entered.new.self.history; places = c.enter-entered.new.self.places; space = c.enter-entered.new.self.space; met = c.nothing_met-self.result } in
-    subst (λ res. Commits r c.args.work.now v c.args.branch.now c.args.info res store (g.G.Ground.told c.args.outside.now) (g.G.Ground.told c.durable_step.new.outside)) (sym is)
+    let store : Store = record { index = c.enter-entered.new.self.index; slot = c.enter-entered.new.self.slot; names = c.enter-entered.new.self.names; branches = c.enter-entered.new.self.branches; history = c.enter-entered.new.self.history; places = c.enter-entered.new.self.places; space = c.enter-entered.new.self.space; collection = c.enter-entered.new.self.collection; met = c.nothing_met-self.result } in
+    subst (λ res. Commits r (phase_of c.args.self.now.collection) c.args.work.now v c.args.branch.now c.args.info res store (g.G.Ground.told c.args.outside.now) (g.G.Ground.told c.durable_step.new.outside)) (sym is)
     (cut r c.args.work.now v c.args.branch.now c.args.info c.args.self.now plan (c.in-Ok.ensures.coming r of) (c.in-Ok.ensures.planned _ r v of at.lawful) (g.G.Ground.told c.args.outside.now) at (g.G.Ground.told c.durable_step.new.outside) store _ step)
 
 pub returns-in_err-durable_step-clause-limits : goal.returns-in_err-durable_step-clause-limits
@@ -147,8 +149,8 @@ returns-clause-tables g c r of are has =
     let one = some_commit r c.args.work.now.parents c.args.info plan in
     record {
       repository = with_commit r one c.args.branch.now;
-      tables = after_tables r c.args.work.now.parents c.args.branch.now c.args.self.now plan of is one refl refl _ refl (ap (λ (i : ℕ). 1 - i) c.enter-entered.ensures.rest.0) (c.in_default.ensures.ok.0 ∙ ap (λ h. c.args.self.now.names ++ h ∷ []) c.name-name.ensures) (c.in_default.ensures.ok.1 ∙ ap (λ b. insert c.args.self.now.branches b plan.number) (sym is.same_branch)) (may_enter c.args.self.now r of c.args.work.now.parents c.args.work.now.parents refl are.retained) (c.in_default.ensures.history ∙ ap (with_parents c.args.self.now.history) c.as_slice.ensures) (c.put_place.ensures ∙ (λ i. c.enter-entered.ensures.places i ++ c.commit_at.ensures i ∷ [])) (c.grow.ensures ∙ ap (λ (s : SpaceView). grown s plan.slot.end) c.enter-entered.ensures.rest.2);
-      parents = after_parents r c.args.work.now.parents c.args.branch.now c.args.self.now plan of is one refl refl plan.parents is.parents;
+      tables = after_tables r c.args.work.now.parents c.args.branch.now c.args.self.now plan of is one refl refl _ refl (ap (λ (i : ℕ). 1 - i) c.enter-entered.ensures.rest.0) (c.in_default.ensures.ok.0 ∙ ap (λ h. c.args.self.now.names ++ h ∷ []) c.name-name.ensures) (c.in_default.ensures.ok.1 ∙ ap (λ b. insert c.args.self.now.branches b plan.number) (sym is.same_branch)) (may_enter c.args.self.now r of c.args.work.now.parents c.args.work.now.parents refl (retained_parents r c.args.work.now.least c.args.work.now.parents are (c.in-Ok.ensures.there r of))) (c.in_default.ensures.history ∙ ap (with_parents c.args.self.now.history) c.as_slice.ensures) (c.put_place.ensures ∙ (λ i. c.enter-entered.ensures.places i ++ c.commit_at.ensures i ∷ [])) (c.grow.ensures ∙ ap (λ (s : SpaceView). grown s plan.slot.end) c.enter-entered.ensures.rest.2) c.enter-entered.ensures.rest.3;
+      parents = after_parents r c.args.work.now.parents c.args.branch.now c.args.self.now plan of is one refl refl plan.parents is.parents _ (ap Some is.number);
     }
 
 pub returns-clause-any_moment : goal.returns-clause-any_moment
@@ -165,7 +167,7 @@ returns-clause-any_moment g c told r v at =
     let step = same_step c.enter-entered.new.self.slot.end c.args.self.now.slot.end c.enter-entered.new.self.index c.args.self.now.index c.bytes.result.now plan.batch.bytes.items plan.slot plan.slot _ (g.G.Ground.told c.args.outside.now) (g.G.Ground.told c.durable_step.new.outside)
     (ap (λ (s : Slot). s.end) c.enter-entered.ensures.rest.1) c.enter-entered.ensures.rest.0 c.bytes.ensures refl (c.in_ok-durable_step.ensures.does told can) in
     made r c.args.work.now v c.args.branch.now c.args.info c.args.self.now plan is planned (g.G.Ground.told c.args.outside.now) at (g.G.Ground.told c.durable_step.new.outside) _ refl (ap (λ (i : ℕ). 1 - i) c.enter-entered.ensures.rest.0)
-    (after_tables r c.args.work.now.parents c.args.branch.now c.args.self.now plan of is one (sym planned.name) refl _ refl (ap (λ (i : ℕ). 1 - i) c.enter-entered.ensures.rest.0) (c.in_default.ensures.ok.0 ∙ ap (λ h. c.args.self.now.names ++ h ∷ []) c.name-name.ensures) (c.in_default.ensures.ok.1 ∙ ap (λ b. insert c.args.self.now.branches b plan.number) (sym is.same_branch)) (may_enter c.args.self.now r of c.args.work.now.parents c.args.work.now.parents refl are.retained) (c.in_default.ensures.history ∙ ap (with_parents c.args.self.now.history) c.as_slice.ensures) (c.put_place.ensures ∙ (λ i. c.enter-entered.ensures.places i ++ c.commit_at.ensures i ∷ [])) (c.grow.ensures ∙ ap (λ (s : SpaceView). grown s plan.slot.end) c.enter-entered.ensures.rest.2)) placed (c.grow.ensures ∙ ap (λ (s : SpaceView). grown s plan.slot.end) c.enter-entered.ensures.rest.2) c.name-name.result step
+    (after_tables r c.args.work.now.parents c.args.branch.now c.args.self.now plan of is one (sym planned.name) refl _ refl (ap (λ (i : ℕ). 1 - i) c.enter-entered.ensures.rest.0) (c.in_default.ensures.ok.0 ∙ ap (λ h. c.args.self.now.names ++ h ∷ []) c.name-name.ensures) (c.in_default.ensures.ok.1 ∙ ap (λ b. insert c.args.self.now.branches b plan.number) (sym is.same_branch)) (may_enter c.args.self.now r of c.args.work.now.parents c.args.work.now.parents refl (retained_parents r c.args.work.now.least c.args.work.now.parents are (c.in-Ok.ensures.there r of))) (c.in_default.ensures.history ∙ ap (with_parents c.args.self.now.history) c.as_slice.ensures) (c.put_place.ensures ∙ (λ i. c.enter-entered.ensures.places i ++ c.commit_at.ensures i ∷ [])) (c.grow.ensures ∙ ap (λ (s : SpaceView). grown s plan.slot.end) c.enter-entered.ensures.rest.2) c.enter-entered.ensures.rest.3) placed (c.grow.ensures ∙ ap (λ (s : SpaceView). grown s plan.slot.end) c.enter-entered.ensures.rest.2) c.name-name.result step
 
 pub returns-clause-limits : goal.returns-clause-limits
 returns-clause-limits g c told r v at =
@@ -191,7 +193,7 @@ returns-clause-answered g c told r v at =
     let done = returns-clause-any_moment g c told r v at in
     let holds = held_after r c.args.work.now v c.args.branch.now c.args.info c.args.self.now plan is planned (g.G.Ground.told c.args.outside.now) at (g.G.Ground.told c.durable_step.new.outside) _ _ done in
     answers_met _ _ _ _ _ _ _ _ _ c.nothing_met-self.ensures
-    (answers_made r c.args.work.now _ v _ c.args.branch.now c.args.info c.args.self.now _ plan c.name-name.result (g.G.Ground.told c.durable_step.new.outside) at.lawful.retained is planned c.name-name.ensures refl refl refl
+    (answers_made r c.args.work.now _ v _ c.args.branch.now c.args.info c.args.self.now _ plan c.name-name.result (g.G.Ground.told c.durable_step.new.outside) is planned c.name-name.ensures refl refl refl
     (record {
       holds = holds;
       lawful = work_after r c.args.work.now v c.args.branch.now c.args.info c.args.self.now plan is planned (g.G.Ground.told c.args.outside.now) at (g.G.Ground.told c.durable_step.new.outside) _ step _ holds _ (read_root plan.number c.root.result plan.batch.root c.of.result c.root.ensures c.of.ensures) refl refl refl;

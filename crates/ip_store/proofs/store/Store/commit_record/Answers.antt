@@ -17,7 +17,7 @@ returns-clause-fetched g c told r held retained =
     let here = commit_here r c.args.number retained store before held ref.at is.at in
     let meets = meets_commit records c.args.number ref.at (there_is r c.args.number retained).0 here ref (is.name ∙ name_is r c.args.number retained) is.kind in
     let found = is_fetched (records_of before store.space) ref here.spelled (records_held store before r held ref.at (Record.Commit here.spelled) here.here) meets c.fetch.result (c.fetch.ensures.found told (readable_of store r before held)) in
-    fetched_commit records r c.args.number here.spelled ((there_is r c.args.number retained).0, commit_is r c.args.number retained, here.spells) c.fetch.result found c.commit_in.result c.commit_in.ensures
+    fetched_commit records r c.args.number here.spelled ((there_is r c.args.number retained).0, ref.at, commit_is r c.args.number retained, here.here, here.spells) c.fetch.result found c.commit_in.result c.commit_in.ensures
 
 pub returns-clause-damages : goal.returns-clause-damages
 returns-clause-damages g c told owns =

@@ -6,9 +6,10 @@ use Rattle.ip_image.specs.Appending.{MayName, renamed}
 use Rattle.ip_store.specs.declared.committing.StoreFault.TheVariants as StoreFault
 use Rattle.ip_store.specs.declared.merging.Merge.TheVariants as Merge
 use Rattle.ip_store.specs.Changes.{Changes}
+use Rattle.ip_store.specs.Collecting.{IsAbove}
 use Rattle.ip_store.specs.Naming.{Renames}
 use Rattle.ip_store.proofs.BranchTurns.{set_may, set_fits}
-use Rattle.ip_store.proofs.Forwarding.{forward_comes, forward_goes, moved_goes, forward_room, limits_value, limits_fault}
+use Rattle.ip_store.proofs.Forwarding.{forward_comes, forward_goes, moved_goes, forward_above, forward_room, limits_value, limits_fault}
 use Rattle.ip_store.proofs.MergeExits.{goes_itself}
 use Rattle.ip_store.proofs.Stepping.{itself, changes_none, stays_still, with_value, with_fault}
 use Rattle.ip_store.proofs.store.Store.forward.Goals as goal
@@ -33,6 +34,9 @@ append_branch_record-requires-clause-tables g c =
     let of = c.requires.tables.1 in
     let forward = c.requires.tables.2 in
     (r, of, subst (MayName r) (sym c.in-Ok.ensures) (set_may r c.args.branch.now c.args.number c.args.self.now of forward.retained (forward_room r c.args.branch.now c.args.number forward)))
+
+pub append_branch_record-requires-clause-above : goal.append_branch_record-requires-clause-above
+append_branch_record-requires-clause-above g c = subst (IsAbove c.args.self.now.collection) (sym c.in-Ok.ensures) (forward_above c.args.self.now c.requires.tables.0 c.args.branch.now c.args.number c.requires.tables.1 c.requires.tables.2)
 
 pub append_branch_record-requires-clause-fits : goal.append_branch_record-requires-clause-fits
 append_branch_record-requires-clause-fits g c = subst (Fits 1) (sym c.in-Ok.ensures) (set_fits c.requires.tables.0 c.args.branch.now c.args.number c.args.self.now c.requires.tables.1 c.requires.tables.2.retained c.requires.branch)

@@ -1,5 +1,5 @@
-use Rattle.std.proofs.Common.{◌≡◌, refl, sym, subst, [], ◌∷◌}
-use Rattle.std.specs.Prelude.{Ok, Err}
+use Rattle.std.proofs.Common.{◌≡◌, ℕ, Option, Some, refl, sym, ap, subst, [], ◌∷◌}
+use Rattle.std.specs.Prelude.{Ok, Err, min}
 use Rattle.ip_ground.specs.Told.{Told}
 use Rattle.ip_merge.specs.Rules.{IsDecisive}
 use Rattle.ip_spec.specs.declared.reply.Reply.TheVariants as Reply
@@ -8,6 +8,7 @@ use Rattle.ip_store.specs.declared.committing.StoreFault.TheVariants as StoreFau
 use Rattle.ip_store.specs.declared.merging.Merge.{Merge}
 use Rattle.ip_store.specs.declared.work.Work.{Work}
 use Rattle.ip_store.specs.Changes.{IsUndamaged}
+use Rattle.ip_store.specs.Collecting.{phase_of}
 use Rattle.ip_store.specs.Merging.{IsJoined, IsJoinedTree}
 use Rattle.ip_store.specs.Store.{image_records}
 use Rattle.ip_store.specs.Work.{AreParents}
@@ -24,25 +25,25 @@ use Rattle.ip_store.proofs.store.Store.join.Goals as goal
 
 pub returns-in-Ok-Conflict-clause-tables : goal.returns-in-Ok-Conflict-clause-tables
 returns-in-Ok-Conflict-clause-tables g c r of is has =
-    still_goes (g.D.Decides.rule c.args.rules.now) r c.args.sides.now.number c.args.branch.now c.args.info c.joined.new.self c.noted.new.self _ c.noted.result c.noted.ensures.answer c.noted.ensures.met (same_tables c.args.self.now c.joined.new.self c.joined.ensures.same r of)
+    still_goes (g.D.Decides.rule c.args.rules.now) r (phase_of c.args.self.now.collection) c.args.sides.now.number c.args.branch.now c.args.info c.joined.new.self c.noted.new.self _ c.noted.result c.noted.ensures.answer c.noted.ensures.met (same_tables c.args.self.now c.joined.new.self c.joined.ensures.same r of)
 
 pub returns-in-Ok-Conflict-clause-answered : goal.returns-in-Ok-Conflict-clause-answered
 returns-in-Ok-Conflict-clause-answered g c told decides r held is =
     let rule = g.D.Decides.rule c.args.rules.now in
     let looks = c.joined.ensures.looks told in
     let path = c.in-Ok-Conflict.path in
-    still_answers rule r c.args.sides.now.number c.args.branch.now c.args.info c.args.self.now (g.G.Ground.told c.args.outside.now) held (g.G.Ground.told c.joined.new.outside) looks.reads.only c.joined.new.self c.joined.ensures.same.slot (looks.holds r held)
+    still_answers rule r (phase_of c.args.self.now.collection) c.args.sides.now.number c.args.branch.now c.args.info c.args.self.now (g.G.Ground.told c.args.outside.now) held (g.G.Ground.told c.joined.new.outside) looks.reads.only c.joined.new.self c.joined.ensures.same.slot (looks.holds r held)
     c.noted.new.self _ c.noted.result c.noted.ensures.answer c.noted.ensures.met (Merge.Conflict path) refl tt (Reply.Conflict path)
-    (conflict rule r c.args.branch.now c.args.info c.args.sides.now is (image_records held) c.args.self.now (g.G.Ground.told c.args.outside.now) held (g.G.Ground.told c.joined.new.outside) looks.reads.only c.joined.new.self (looks.holds r held) path (subst (λ x. IsJoined (g.D.Decides.rule c.args.rules.now) (image_records held) r c.args.sides.now (Ok x)) c.in-Ok-Conflict.field-0-is (c.in-Ok-Conflict.ensures.joins told decides r c.args.branch.now held is))) refl
+    (conflict rule r (phase_of c.args.self.now.collection) c.args.branch.now c.args.info c.args.sides.now is (image_records held) c.args.self.now (g.G.Ground.told c.args.outside.now) held (g.G.Ground.told c.joined.new.outside) looks.reads.only c.joined.new.self (looks.holds r held) path (subst (λ x. IsJoined (g.D.Decides.rule c.args.rules.now) (image_records held) r c.args.sides.now (Ok x)) c.in-Ok-Conflict.field-0-is (c.in-Ok-Conflict.ensures.joins told decides r c.args.branch.now held is))) refl
 
 pub returns-in-Ok-Conflict-clause-any_moment : goal.returns-in-Ok-Conflict-clause-any_moment
 returns-in-Ok-Conflict-clause-any_moment g c told decides r held is =
     let rule = g.D.Decides.rule c.args.rules.now in
     let looks = c.joined.ensures.looks told in
     let path = c.in-Ok-Conflict.path in
-    still_moments rule r c.args.sides.now.number c.args.branch.now c.args.info c.args.self.now (g.G.Ground.told c.args.outside.now) held (g.G.Ground.told c.joined.new.outside) looks.reads.only c.joined.new.self c.joined.ensures.same.slot (looks.holds r held)
+    still_moments rule r (phase_of c.args.self.now.collection) c.args.sides.now.number c.args.branch.now c.args.info c.args.self.now (g.G.Ground.told c.args.outside.now) held (g.G.Ground.told c.joined.new.outside) looks.reads.only c.joined.new.self c.joined.ensures.same.slot (looks.holds r held)
     c.noted.new.self _ c.noted.result c.noted.ensures.answer c.noted.ensures.met (Merge.Conflict path) refl tt (Reply.Conflict path)
-    (conflict rule r c.args.branch.now c.args.info c.args.sides.now is (image_records held) c.args.self.now (g.G.Ground.told c.args.outside.now) held (g.G.Ground.told c.joined.new.outside) looks.reads.only c.joined.new.self (looks.holds r held) path (subst (λ x. IsJoined (g.D.Decides.rule c.args.rules.now) (image_records held) r c.args.sides.now (Ok x)) c.in-Ok-Conflict.field-0-is (c.in-Ok-Conflict.ensures.joins told decides r c.args.branch.now held is))) refl
+    (conflict rule r (phase_of c.args.self.now.collection) c.args.branch.now c.args.info c.args.sides.now is (image_records held) c.args.self.now (g.G.Ground.told c.args.outside.now) held (g.G.Ground.told c.joined.new.outside) looks.reads.only c.joined.new.self (looks.holds r held) path (subst (λ x. IsJoined (g.D.Decides.rule c.args.rules.now) (image_records held) r c.args.sides.now (Ok x)) c.in-Ok-Conflict.field-0-is (c.in-Ok-Conflict.ensures.joins told decides r c.args.branch.now held is))) refl
 
 pub returns-in-Ok-Conflict-clause-records_stay : goal.returns-in-Ok-Conflict-clause-records_stay
 returns-in-Ok-Conflict-clause-records_stay g c told has r q held now =
@@ -53,27 +54,27 @@ returns-in-Ok-Conflict-clause-records_stay g c told has r q held now =
 
 pub returns-in-Err-clause-tables : goal.returns-in-Err-clause-tables
 returns-in-Err-clause-tables g c r of is has =
-    still_goes (g.D.Decides.rule c.args.rules.now) r c.args.sides.now.number c.args.branch.now c.args.info c.joined.new.self c.noted-in-Err.new.self _ c.noted-in-Err.result c.noted-in-Err.ensures.answer c.noted-in-Err.ensures.met (same_tables c.args.self.now c.joined.new.self c.joined.ensures.same r of)
+    still_goes (g.D.Decides.rule c.args.rules.now) r (phase_of c.args.self.now.collection) c.args.sides.now.number c.args.branch.now c.args.info c.joined.new.self c.noted-in-Err.new.self _ c.noted-in-Err.result c.noted-in-Err.ensures.answer c.noted-in-Err.ensures.met (same_tables c.args.self.now c.joined.new.self c.joined.ensures.same r of)
 
 pub returns-in-Err-clause-answered : goal.returns-in-Err-clause-answered
 returns-in-Err-clause-answered g c told decides r held is =
     let looks = c.joined.ensures.looks told in
     let fault = c.in-Err.fault in
-    noted_merged (g.D.Decides.rule c.args.rules.now) r c.args.sides.now.number c.args.branch.now c.args.info c.joined.new.self c.noted-in-Err.new.self (Err fault) c.noted-in-Err.result c.noted-in-Err.ensures.answer c.noted-in-Err.ensures.met (g.G.Ground.told c.joined.new.outside)
-    (join_failed (g.D.Decides.rule c.args.rules.now) r c.args.branch.now c.args.info c.args.sides.now is (image_records held) c.args.self.now (g.G.Ground.told c.args.outside.now) held (g.G.Ground.told c.joined.new.outside) looks.reads.only c.joined.new.self (looks.holds r held) fault (c.in-Err.ensures.joins told decides r c.args.branch.now held is))
+    noted_merged (g.D.Decides.rule c.args.rules.now) r (phase_of c.args.self.now.collection) c.args.sides.now.number c.args.branch.now c.args.info c.joined.new.self c.noted-in-Err.new.self (Err fault) c.noted-in-Err.result c.noted-in-Err.ensures.answer c.noted-in-Err.ensures.met (g.G.Ground.told c.joined.new.outside)
+    (join_failed (g.D.Decides.rule c.args.rules.now) r (phase_of c.args.self.now.collection) c.args.branch.now c.args.info c.args.sides.now is (image_records held) c.args.self.now (g.G.Ground.told c.args.outside.now) held (g.G.Ground.told c.joined.new.outside) looks.reads.only c.joined.new.self (looks.holds r held) fault (c.in-Err.ensures.joins told decides r c.args.branch.now held is))
 
 pub returns-in-Err-clause-limits : goal.returns-in-Err-clause-limits
 returns-in-Err-clause-limits g c told decides r held is =
     let fault = c.in-Err.fault in
-    noted_limits (g.D.Decides.rule c.args.rules.now) r c.args.sides.now.number c.args.branch.now c.args.info c.joined.new.self c.noted-in-Err.new.self (Err fault) c.noted-in-Err.result c.noted-in-Err.ensures.answer c.noted-in-Err.ensures.met (image_records held) c.args.self.now
+    noted_limits (g.D.Decides.rule c.args.rules.now) r (phase_of c.args.self.now.collection) c.args.sides.now.number c.args.branch.now c.args.info c.joined.new.self c.noted-in-Err.new.self (Err fault) c.noted-in-Err.result c.noted-in-Err.ensures.answer c.noted-in-Err.ensures.met (image_records held) c.args.self.now
     (join_limits (g.D.Decides.rule c.args.rules.now) (image_records held) (image_records held) r c.args.sides.now c.args.sides.now.number c.args.branch.now c.args.info c.args.self.now fault (c.in-Err.ensures.joins told decides r c.args.branch.now held is))
 
 pub returns-in-Err-clause-any_moment : goal.returns-in-Err-clause-any_moment
 returns-in-Err-clause-any_moment g c told decides r held is =
     let looks = c.joined.ensures.looks told in
     let fault = c.in-Err.fault in
-    noted_moments (g.D.Decides.rule c.args.rules.now) r c.args.sides.now.number c.args.branch.now c.args.info c.joined.new.self c.noted-in-Err.new.self (Err fault) c.noted-in-Err.result c.noted-in-Err.ensures.answer c.noted-in-Err.ensures.met (g.G.Ground.told c.args.outside.now) (g.G.Ground.told c.joined.new.outside)
-    (moments_failed (g.D.Decides.rule c.args.rules.now) r c.args.sides.now.number c.args.branch.now c.args.info c.args.self.now (g.G.Ground.told c.args.outside.now) held (g.G.Ground.told c.joined.new.outside) looks.reads.only c.joined.new.self (looks.holds r held) decides fault)
+    noted_moments (g.D.Decides.rule c.args.rules.now) r (phase_of c.args.self.now.collection) c.args.sides.now.number c.args.branch.now c.args.info c.joined.new.self c.noted-in-Err.new.self (Err fault) c.noted-in-Err.result c.noted-in-Err.ensures.answer c.noted-in-Err.ensures.met (g.G.Ground.told c.args.outside.now) (g.G.Ground.told c.joined.new.outside)
+    (moments_failed (g.D.Decides.rule c.args.rules.now) r (phase_of c.args.self.now.collection) c.args.sides.now.number c.args.branch.now c.args.info c.args.self.now (g.G.Ground.told c.args.outside.now) held (g.G.Ground.told c.joined.new.outside) looks.reads.only c.joined.new.self (looks.holds r held) decides fault)
 
 pub returns-in-Err-clause-records_stay : goal.returns-in-Err-clause-records_stay
 returns-in-Err-clause-records_stay g c told has r q held now =
@@ -85,23 +86,23 @@ returns-in-Err-clause-undamaged g c told decides r held is =
     let looks = c.joined.ensures.looks told in
     let fault = c.in-Err.fault in
     subst IsUndamaged (sym c.noted-in-Err.ensures.answer)
-    (join_undamaged (g.D.Decides.rule c.args.rules.now) r c.args.branch.now c.args.info c.args.sides.now is (image_records held) c.args.self.now (g.G.Ground.told c.args.outside.now) held (g.G.Ground.told c.joined.new.outside) looks.reads.only c.joined.new.self (looks.holds r held) Merge fault (c.in-Err.ensures.joins told decides r c.args.branch.now held is))
+    (join_undamaged (g.D.Decides.rule c.args.rules.now) r (phase_of c.args.self.now.collection) c.args.branch.now c.args.info c.args.sides.now is (image_records held) c.args.self.now (g.G.Ground.told c.args.outside.now) held (g.G.Ground.told c.joined.new.outside) looks.reads.only c.joined.new.self (looks.holds r held) Merge fault (c.in-Err.ensures.joins told decides r c.args.branch.now held is))
 
 -- ---- the list of parents could not be made
 
 pub returns-in-Err-both-clause-tables : goal.returns-in-Err-both-clause-tables
 returns-in-Err-both-clause-tables g c r of is has =
-    still_goes (g.D.Decides.rule c.args.rules.now) r c.args.sides.now.number c.args.branch.now c.args.info c.joined.new.self c.noted-in-Err-both.new.self _ c.noted-in-Err-both.result c.noted-in-Err-both.ensures.answer c.noted-in-Err-both.ensures.met (same_tables c.args.self.now c.joined.new.self c.joined.ensures.same r of)
+    still_goes (g.D.Decides.rule c.args.rules.now) r (phase_of c.args.self.now.collection) c.args.sides.now.number c.args.branch.now c.args.info c.joined.new.self c.noted-in-Err-both.new.self _ c.noted-in-Err-both.result c.noted-in-Err-both.ensures.answer c.noted-in-Err-both.ensures.met (same_tables c.args.self.now c.joined.new.self c.joined.ensures.same r of)
 
 pub returns-in-Err-both-clause-answered : goal.returns-in-Err-both-clause-answered
 returns-in-Err-both-clause-answered g c told decides r held is =
     let looks = c.joined.ensures.looks told in
-    memory_answers (g.D.Decides.rule c.args.rules.now) r c.args.sides.now.number c.args.branch.now c.args.info c.args.self.now (g.G.Ground.told c.args.outside.now) held (g.G.Ground.told c.joined.new.outside) looks.reads.only c.joined.new.self c.joined.ensures.same.slot (looks.holds r held) c.noted-in-Err-both.new.self (Err StoreFault.Memory) c.noted-in-Err-both.result c.noted-in-Err-both.ensures.answer c.noted-in-Err-both.ensures.met refl
+    memory_answers (g.D.Decides.rule c.args.rules.now) r (phase_of c.args.self.now.collection) c.args.sides.now.number c.args.branch.now c.args.info c.args.self.now (g.G.Ground.told c.args.outside.now) held (g.G.Ground.told c.joined.new.outside) looks.reads.only c.joined.new.self c.joined.ensures.same.slot (looks.holds r held) c.noted-in-Err-both.new.self (Err StoreFault.Memory) c.noted-in-Err-both.result c.noted-in-Err-both.ensures.answer c.noted-in-Err-both.ensures.met refl
 
 pub returns-in-Err-both-clause-any_moment : goal.returns-in-Err-both-clause-any_moment
 returns-in-Err-both-clause-any_moment g c told decides r held is =
     let looks = c.joined.ensures.looks told in
-    memory_moments (g.D.Decides.rule c.args.rules.now) r c.args.sides.now.number c.args.branch.now c.args.info c.args.self.now (g.G.Ground.told c.args.outside.now) held (g.G.Ground.told c.joined.new.outside) looks.reads.only c.joined.new.self c.joined.ensures.same.slot (looks.holds r held) c.noted-in-Err-both.new.self (Err StoreFault.Memory) c.noted-in-Err-both.result c.noted-in-Err-both.ensures.answer c.noted-in-Err-both.ensures.met refl decides
+    memory_moments (g.D.Decides.rule c.args.rules.now) r (phase_of c.args.self.now.collection) c.args.sides.now.number c.args.branch.now c.args.info c.args.self.now (g.G.Ground.told c.args.outside.now) held (g.G.Ground.told c.joined.new.outside) looks.reads.only c.joined.new.self c.joined.ensures.same.slot (looks.holds r held) c.noted-in-Err-both.new.self (Err StoreFault.Memory) c.noted-in-Err-both.result c.noted-in-Err-both.ensures.answer c.noted-in-Err-both.ensures.met refl decides
 
 pub returns-in-Err-both-clause-records_stay : goal.returns-in-Err-both-clause-records_stay
 returns-in-Err-both-clause-records_stay g c told has r q held now =
@@ -113,33 +114,36 @@ returns-in-Err-both-clause-records_stay g c told has r q held now =
 pub commit-requires-clause-tables : goal.commit-requires-clause-tables
 commit-requires-clause-tables g c =
     let r = c.requires.tables.0 in
-    (r, same_tables c.args.self.now c.joined.new.self c.joined.ensures.same r c.requires.tables.1, subst (AreParents r) (sym c.in-Ok.ensures) (join_parents r c.args.branch.now c.args.sides.now c.requires.tables.2))
+    (r, same_tables c.args.self.now c.joined.new.self c.joined.ensures.same r c.requires.tables.1, subst (λ (o : Option ℕ). AreParents r o c.in-Ok.parents) (ap Some (sym c.lesser.ensures)) (subst (AreParents r (Some (min c.args.sides.now.head c.args.sides.now.number))) (sym c.in-Ok.ensures) (join_parents r (phase_of c.args.self.now.collection) c.args.branch.now c.args.sides.now c.requires.tables.2)))
 
 pub returns-in-Ok-commit-clause-tables : goal.returns-in-Ok-commit-clause-tables
 returns-in-Ok-commit-clause-tables g c r of is has =
-    let are = subst (AreParents r) (sym c.in-Ok.ensures) (join_parents r c.args.branch.now c.args.sides.now is) in
+    let are = subst (λ (o : Option ℕ). AreParents r o c.in-Ok.parents) (ap Some (sym c.lesser.ensures)) (subst (AreParents r (Some (min c.args.sides.now.head c.args.sides.now.number))) (sym c.in-Ok.ensures) (join_parents r (phase_of c.args.self.now.collection) c.args.branch.now c.args.sides.now is)) in
     done_tables c.args.self.now c.joined.new.self c.commit.new.self c.commit.new.work r c.joined.ensures.same of c.commit.ensures.numbers (c.in-Ok-commit.ensures.tables r (same_tables c.args.self.now c.joined.new.self c.joined.ensures.same r of) are has)
 
 pub returns-in-Ok-commit-clause-answered : goal.returns-in-Ok-commit-clause-answered
 returns-in-Ok-commit-clause-answered g c told decides r held is =
     let J : IsJoinedTree (g.D.Decides.rule c.args.rules.now) (image_records held) r c.args.sides.now c.in-Ok-Tree.tree = subst (λ x. IsJoined (g.D.Decides.rule c.args.rules.now) (image_records held) r c.args.sides.now (Ok x)) c.in-Ok-Tree.field-0-is (c.in-Ok-Tree.ensures.joins told decides r c.args.branch.now held is) in
-    let work : Work = record { tree = c.in-Ok-Tree.tree; parents = c.in-Ok.parents; least = c.in-Ok-Tree.tree.oldest } in
-    let at = is_at (g.D.Decides.rule c.args.rules.now) r c.args.branch.now c.args.info c.args.sides.now is c.args.self.now c.joined.new.self (g.G.Ground.told c.args.outside.now) (g.G.Ground.told c.joined.new.outside) (c.joined.ensures.looks told) c.joined.ensures.same.slot held c.in-Ok-Tree.tree J work refl c.in-Ok.ensures refl in
-    done_answers (g.D.Decides.rule c.args.rules.now) r c.args.branch.now c.args.info c.args.sides.now is c.args.self.now c.joined.new.self (g.G.Ground.told c.args.outside.now) (g.G.Ground.told c.joined.new.outside) (c.joined.ensures.looks told) c.joined.ensures.same.slot held c.in-Ok-Tree.tree J work refl c.in-Ok.ensures refl (Ok c.in-Ok-commit.name) c.commit.new.self c.commit.new.work (g.G.Ground.told c.commit.new.outside) (c.in-Ok-commit.ensures.answered told r J.view at) c.commit.ensures.numbers
+    let work : Work = record { tree = c.in-Ok-Tree.tree; parents = c.in-Ok.parents; least = Some c.lesser.result } in
+    let low : Some c.lesser.result ≡ Some (min c.args.sides.now.head c.args.sides.now.number) = ap Some c.lesser.ensures in
+    let at = is_at (g.D.Decides.rule c.args.rules.now) r c.args.branch.now c.args.info c.args.sides.now c.args.self.now c.joined.new.self is (g.G.Ground.told c.args.outside.now) (g.G.Ground.told c.joined.new.outside) (c.joined.ensures.looks told) c.joined.ensures.same held c.in-Ok-Tree.tree J work refl c.in-Ok.ensures low in
+    done_answers (g.D.Decides.rule c.args.rules.now) r c.args.branch.now c.args.info c.args.sides.now c.args.self.now c.joined.new.self is (g.G.Ground.told c.args.outside.now) (g.G.Ground.told c.joined.new.outside) (c.joined.ensures.looks told) c.joined.ensures.same held c.in-Ok-Tree.tree J work refl c.in-Ok.ensures low (Ok c.in-Ok-commit.name) c.commit.new.self c.commit.new.work (g.G.Ground.told c.commit.new.outside) (c.in-Ok-commit.ensures.answered told r J.view at) c.commit.ensures.numbers
 
 pub returns-in-Ok-commit-clause-appends : goal.returns-in-Ok-commit-clause-appends
 returns-in-Ok-commit-clause-appends g c told decides r held is =
     let J : IsJoinedTree (g.D.Decides.rule c.args.rules.now) (image_records held) r c.args.sides.now c.in-Ok-Tree.tree = subst (λ x. IsJoined (g.D.Decides.rule c.args.rules.now) (image_records held) r c.args.sides.now (Ok x)) c.in-Ok-Tree.field-0-is (c.in-Ok-Tree.ensures.joins told decides r c.args.branch.now held is) in
-    let work : Work = record { tree = c.in-Ok-Tree.tree; parents = c.in-Ok.parents; least = c.in-Ok-Tree.tree.oldest } in
-    let at = is_at (g.D.Decides.rule c.args.rules.now) r c.args.branch.now c.args.info c.args.sides.now is c.args.self.now c.joined.new.self (g.G.Ground.told c.args.outside.now) (g.G.Ground.told c.joined.new.outside) (c.joined.ensures.looks told) c.joined.ensures.same.slot held c.in-Ok-Tree.tree J work refl c.in-Ok.ensures refl in
-    done_appends (g.D.Decides.rule c.args.rules.now) r c.args.branch.now c.args.info c.args.sides.now is c.args.self.now c.joined.new.self (g.G.Ground.told c.args.outside.now) (g.G.Ground.told c.joined.new.outside) (c.joined.ensures.looks told) c.joined.ensures.same.slot held c.in-Ok-Tree.tree J work refl c.in-Ok.ensures refl (Ok c.in-Ok-commit.name) c.commit.new.self c.commit.new.work (g.G.Ground.told c.commit.new.outside) (c.in-Ok-commit.ensures.limits told r J.view at) (c.in-Ok-commit.ensures.appends told r J.view at) (c.in-Ok-commit.ensures.any_moment told r J.view at)
+    let work : Work = record { tree = c.in-Ok-Tree.tree; parents = c.in-Ok.parents; least = Some c.lesser.result } in
+    let low : Some c.lesser.result ≡ Some (min c.args.sides.now.head c.args.sides.now.number) = ap Some c.lesser.ensures in
+    let at = is_at (g.D.Decides.rule c.args.rules.now) r c.args.branch.now c.args.info c.args.sides.now c.args.self.now c.joined.new.self is (g.G.Ground.told c.args.outside.now) (g.G.Ground.told c.joined.new.outside) (c.joined.ensures.looks told) c.joined.ensures.same held c.in-Ok-Tree.tree J work refl c.in-Ok.ensures low in
+    done_appends (g.D.Decides.rule c.args.rules.now) r c.args.branch.now c.args.info c.args.sides.now c.args.self.now c.joined.new.self is (g.G.Ground.told c.args.outside.now) (g.G.Ground.told c.joined.new.outside) (c.joined.ensures.looks told) c.joined.ensures.same held c.in-Ok-Tree.tree J work refl c.in-Ok.ensures low (Ok c.in-Ok-commit.name) c.commit.new.self c.commit.new.work (g.G.Ground.told c.commit.new.outside) (c.in-Ok-commit.ensures.limits told r J.view at) (c.in-Ok-commit.ensures.appends told r J.view at) (c.in-Ok-commit.ensures.any_moment told r J.view at)
 
 pub returns-in-Ok-commit-clause-any_moment : goal.returns-in-Ok-commit-clause-any_moment
 returns-in-Ok-commit-clause-any_moment g c told decides r held is =
     let J : IsJoinedTree (g.D.Decides.rule c.args.rules.now) (image_records held) r c.args.sides.now c.in-Ok-Tree.tree = subst (λ x. IsJoined (g.D.Decides.rule c.args.rules.now) (image_records held) r c.args.sides.now (Ok x)) c.in-Ok-Tree.field-0-is (c.in-Ok-Tree.ensures.joins told decides r c.args.branch.now held is) in
-    let work : Work = record { tree = c.in-Ok-Tree.tree; parents = c.in-Ok.parents; least = c.in-Ok-Tree.tree.oldest } in
-    let at = is_at (g.D.Decides.rule c.args.rules.now) r c.args.branch.now c.args.info c.args.sides.now is c.args.self.now c.joined.new.self (g.G.Ground.told c.args.outside.now) (g.G.Ground.told c.joined.new.outside) (c.joined.ensures.looks told) c.joined.ensures.same.slot held c.in-Ok-Tree.tree J work refl c.in-Ok.ensures refl in
-    done_moments (g.D.Decides.rule c.args.rules.now) r c.args.branch.now c.args.info c.args.sides.now is c.args.self.now c.joined.new.self (g.G.Ground.told c.args.outside.now) (g.G.Ground.told c.joined.new.outside) (c.joined.ensures.looks told) c.joined.ensures.same.slot held c.in-Ok-Tree.tree J work refl c.in-Ok.ensures refl (Ok c.in-Ok-commit.name) c.commit.new.self c.commit.new.work (g.G.Ground.told c.commit.new.outside) (c.in-Ok-commit.ensures.answered told r J.view at) (c.in-Ok-commit.ensures.any_moment told r J.view at)
+    let work : Work = record { tree = c.in-Ok-Tree.tree; parents = c.in-Ok.parents; least = Some c.lesser.result } in
+    let low : Some c.lesser.result ≡ Some (min c.args.sides.now.head c.args.sides.now.number) = ap Some c.lesser.ensures in
+    let at = is_at (g.D.Decides.rule c.args.rules.now) r c.args.branch.now c.args.info c.args.sides.now c.args.self.now c.joined.new.self is (g.G.Ground.told c.args.outside.now) (g.G.Ground.told c.joined.new.outside) (c.joined.ensures.looks told) c.joined.ensures.same held c.in-Ok-Tree.tree J work refl c.in-Ok.ensures low in
+    done_moments (g.D.Decides.rule c.args.rules.now) r c.args.branch.now c.args.info c.args.sides.now c.args.self.now c.joined.new.self is (g.G.Ground.told c.args.outside.now) (g.G.Ground.told c.joined.new.outside) (c.joined.ensures.looks told) c.joined.ensures.same held c.in-Ok-Tree.tree J work refl c.in-Ok.ensures low (Ok c.in-Ok-commit.name) c.commit.new.self c.commit.new.work (g.G.Ground.told c.commit.new.outside) (c.in-Ok-commit.ensures.answered told r J.view at) (c.in-Ok-commit.ensures.any_moment told r J.view at)
 
 pub returns-in-Ok-commit-clause-records_stay : goal.returns-in-Ok-commit-clause-records_stay
 returns-in-Ok-commit-clause-records_stay g c told has r q held now =
@@ -148,36 +152,40 @@ returns-in-Ok-commit-clause-records_stay g c told has r q held now =
 
 pub returns-clause-tables : goal.returns-clause-tables
 returns-clause-tables g c r of is has =
-    let are = subst (AreParents r) (sym c.in-Ok.ensures) (join_parents r c.args.branch.now c.args.sides.now is) in
+    let are = subst (λ (o : Option ℕ). AreParents r o c.in-Ok.parents) (ap Some (sym c.lesser.ensures)) (subst (AreParents r (Some (min c.args.sides.now.head c.args.sides.now.number))) (sym c.in-Ok.ensures) (join_parents r (phase_of c.args.self.now.collection) c.args.branch.now c.args.sides.now is)) in
     done_tables c.args.self.now c.joined.new.self c.commit.new.self c.commit.new.work r c.joined.ensures.same of c.commit.ensures.numbers (c.in-Err-commit.ensures.tables r (same_tables c.args.self.now c.joined.new.self c.joined.ensures.same r of) are has)
 
 pub returns-clause-answered : goal.returns-clause-answered
 returns-clause-answered g c told decides r held is =
     let J : IsJoinedTree (g.D.Decides.rule c.args.rules.now) (image_records held) r c.args.sides.now c.in-Ok-Tree.tree = subst (λ x. IsJoined (g.D.Decides.rule c.args.rules.now) (image_records held) r c.args.sides.now (Ok x)) c.in-Ok-Tree.field-0-is (c.in-Ok-Tree.ensures.joins told decides r c.args.branch.now held is) in
-    let work : Work = record { tree = c.in-Ok-Tree.tree; parents = c.in-Ok.parents; least = c.in-Ok-Tree.tree.oldest } in
-    let at = is_at (g.D.Decides.rule c.args.rules.now) r c.args.branch.now c.args.info c.args.sides.now is c.args.self.now c.joined.new.self (g.G.Ground.told c.args.outside.now) (g.G.Ground.told c.joined.new.outside) (c.joined.ensures.looks told) c.joined.ensures.same.slot held c.in-Ok-Tree.tree J work refl c.in-Ok.ensures refl in
-    done_answers (g.D.Decides.rule c.args.rules.now) r c.args.branch.now c.args.info c.args.sides.now is c.args.self.now c.joined.new.self (g.G.Ground.told c.args.outside.now) (g.G.Ground.told c.joined.new.outside) (c.joined.ensures.looks told) c.joined.ensures.same.slot held c.in-Ok-Tree.tree J work refl c.in-Ok.ensures refl (Err c.in-Err-commit.fault) c.commit.new.self c.commit.new.work (g.G.Ground.told c.commit.new.outside) (c.in-Err-commit.ensures.answered told r J.view at) c.commit.ensures.numbers
+    let work : Work = record { tree = c.in-Ok-Tree.tree; parents = c.in-Ok.parents; least = Some c.lesser.result } in
+    let low : Some c.lesser.result ≡ Some (min c.args.sides.now.head c.args.sides.now.number) = ap Some c.lesser.ensures in
+    let at = is_at (g.D.Decides.rule c.args.rules.now) r c.args.branch.now c.args.info c.args.sides.now c.args.self.now c.joined.new.self is (g.G.Ground.told c.args.outside.now) (g.G.Ground.told c.joined.new.outside) (c.joined.ensures.looks told) c.joined.ensures.same held c.in-Ok-Tree.tree J work refl c.in-Ok.ensures low in
+    done_answers (g.D.Decides.rule c.args.rules.now) r c.args.branch.now c.args.info c.args.sides.now c.args.self.now c.joined.new.self is (g.G.Ground.told c.args.outside.now) (g.G.Ground.told c.joined.new.outside) (c.joined.ensures.looks told) c.joined.ensures.same held c.in-Ok-Tree.tree J work refl c.in-Ok.ensures low (Err c.in-Err-commit.fault) c.commit.new.self c.commit.new.work (g.G.Ground.told c.commit.new.outside) (c.in-Err-commit.ensures.answered told r J.view at) c.commit.ensures.numbers
 
 pub returns-clause-appends : goal.returns-clause-appends
 returns-clause-appends g c told decides r held is =
     let J : IsJoinedTree (g.D.Decides.rule c.args.rules.now) (image_records held) r c.args.sides.now c.in-Ok-Tree.tree = subst (λ x. IsJoined (g.D.Decides.rule c.args.rules.now) (image_records held) r c.args.sides.now (Ok x)) c.in-Ok-Tree.field-0-is (c.in-Ok-Tree.ensures.joins told decides r c.args.branch.now held is) in
-    let work : Work = record { tree = c.in-Ok-Tree.tree; parents = c.in-Ok.parents; least = c.in-Ok-Tree.tree.oldest } in
-    let at = is_at (g.D.Decides.rule c.args.rules.now) r c.args.branch.now c.args.info c.args.sides.now is c.args.self.now c.joined.new.self (g.G.Ground.told c.args.outside.now) (g.G.Ground.told c.joined.new.outside) (c.joined.ensures.looks told) c.joined.ensures.same.slot held c.in-Ok-Tree.tree J work refl c.in-Ok.ensures refl in
-    done_appends (g.D.Decides.rule c.args.rules.now) r c.args.branch.now c.args.info c.args.sides.now is c.args.self.now c.joined.new.self (g.G.Ground.told c.args.outside.now) (g.G.Ground.told c.joined.new.outside) (c.joined.ensures.looks told) c.joined.ensures.same.slot held c.in-Ok-Tree.tree J work refl c.in-Ok.ensures refl (Err c.in-Err-commit.fault) c.commit.new.self c.commit.new.work (g.G.Ground.told c.commit.new.outside) (c.in-Err-commit.ensures.limits told r J.view at) (c.in-Err-commit.ensures.appends told r J.view at) (c.in-Err-commit.ensures.any_moment told r J.view at)
+    let work : Work = record { tree = c.in-Ok-Tree.tree; parents = c.in-Ok.parents; least = Some c.lesser.result } in
+    let low : Some c.lesser.result ≡ Some (min c.args.sides.now.head c.args.sides.now.number) = ap Some c.lesser.ensures in
+    let at = is_at (g.D.Decides.rule c.args.rules.now) r c.args.branch.now c.args.info c.args.sides.now c.args.self.now c.joined.new.self is (g.G.Ground.told c.args.outside.now) (g.G.Ground.told c.joined.new.outside) (c.joined.ensures.looks told) c.joined.ensures.same held c.in-Ok-Tree.tree J work refl c.in-Ok.ensures low in
+    done_appends (g.D.Decides.rule c.args.rules.now) r c.args.branch.now c.args.info c.args.sides.now c.args.self.now c.joined.new.self is (g.G.Ground.told c.args.outside.now) (g.G.Ground.told c.joined.new.outside) (c.joined.ensures.looks told) c.joined.ensures.same held c.in-Ok-Tree.tree J work refl c.in-Ok.ensures low (Err c.in-Err-commit.fault) c.commit.new.self c.commit.new.work (g.G.Ground.told c.commit.new.outside) (c.in-Err-commit.ensures.limits told r J.view at) (c.in-Err-commit.ensures.appends told r J.view at) (c.in-Err-commit.ensures.any_moment told r J.view at)
 
 pub returns-clause-limits : goal.returns-clause-limits
 returns-clause-limits g c told decides r held is =
     let J : IsJoinedTree (g.D.Decides.rule c.args.rules.now) (image_records held) r c.args.sides.now c.in-Ok-Tree.tree = subst (λ x. IsJoined (g.D.Decides.rule c.args.rules.now) (image_records held) r c.args.sides.now (Ok x)) c.in-Ok-Tree.field-0-is (c.in-Ok-Tree.ensures.joins told decides r c.args.branch.now held is) in
-    let work : Work = record { tree = c.in-Ok-Tree.tree; parents = c.in-Ok.parents; least = c.in-Ok-Tree.tree.oldest } in
-    let at = is_at (g.D.Decides.rule c.args.rules.now) r c.args.branch.now c.args.info c.args.sides.now is c.args.self.now c.joined.new.self (g.G.Ground.told c.args.outside.now) (g.G.Ground.told c.joined.new.outside) (c.joined.ensures.looks told) c.joined.ensures.same.slot held c.in-Ok-Tree.tree J work refl c.in-Ok.ensures refl in
-    done_limits (g.D.Decides.rule c.args.rules.now) r c.args.branch.now c.args.info c.args.sides.now is c.args.self.now c.joined.new.self (g.G.Ground.told c.args.outside.now) (g.G.Ground.told c.joined.new.outside) (c.joined.ensures.looks told) c.joined.ensures.same.slot held c.in-Ok-Tree.tree J work refl c.in-Ok.ensures refl (Err c.in-Err-commit.fault) c.commit.new.self c.commit.new.work (g.G.Ground.told c.commit.new.outside) (c.in-Err-commit.ensures.limits told r J.view at)
+    let work : Work = record { tree = c.in-Ok-Tree.tree; parents = c.in-Ok.parents; least = Some c.lesser.result } in
+    let low : Some c.lesser.result ≡ Some (min c.args.sides.now.head c.args.sides.now.number) = ap Some c.lesser.ensures in
+    let at = is_at (g.D.Decides.rule c.args.rules.now) r c.args.branch.now c.args.info c.args.sides.now c.args.self.now c.joined.new.self is (g.G.Ground.told c.args.outside.now) (g.G.Ground.told c.joined.new.outside) (c.joined.ensures.looks told) c.joined.ensures.same held c.in-Ok-Tree.tree J work refl c.in-Ok.ensures low in
+    done_limits (g.D.Decides.rule c.args.rules.now) r c.args.branch.now c.args.info c.args.sides.now c.args.self.now c.joined.new.self is (g.G.Ground.told c.args.outside.now) (g.G.Ground.told c.joined.new.outside) (c.joined.ensures.looks told) c.joined.ensures.same held c.in-Ok-Tree.tree J work refl c.in-Ok.ensures low (Err c.in-Err-commit.fault) c.commit.new.self c.commit.new.work (g.G.Ground.told c.commit.new.outside) (c.in-Err-commit.ensures.limits told r J.view at)
 
 pub returns-clause-any_moment : goal.returns-clause-any_moment
 returns-clause-any_moment g c told decides r held is =
     let J : IsJoinedTree (g.D.Decides.rule c.args.rules.now) (image_records held) r c.args.sides.now c.in-Ok-Tree.tree = subst (λ x. IsJoined (g.D.Decides.rule c.args.rules.now) (image_records held) r c.args.sides.now (Ok x)) c.in-Ok-Tree.field-0-is (c.in-Ok-Tree.ensures.joins told decides r c.args.branch.now held is) in
-    let work : Work = record { tree = c.in-Ok-Tree.tree; parents = c.in-Ok.parents; least = c.in-Ok-Tree.tree.oldest } in
-    let at = is_at (g.D.Decides.rule c.args.rules.now) r c.args.branch.now c.args.info c.args.sides.now is c.args.self.now c.joined.new.self (g.G.Ground.told c.args.outside.now) (g.G.Ground.told c.joined.new.outside) (c.joined.ensures.looks told) c.joined.ensures.same.slot held c.in-Ok-Tree.tree J work refl c.in-Ok.ensures refl in
-    done_moments (g.D.Decides.rule c.args.rules.now) r c.args.branch.now c.args.info c.args.sides.now is c.args.self.now c.joined.new.self (g.G.Ground.told c.args.outside.now) (g.G.Ground.told c.joined.new.outside) (c.joined.ensures.looks told) c.joined.ensures.same.slot held c.in-Ok-Tree.tree J work refl c.in-Ok.ensures refl (Err c.in-Err-commit.fault) c.commit.new.self c.commit.new.work (g.G.Ground.told c.commit.new.outside) (c.in-Err-commit.ensures.answered told r J.view at) (c.in-Err-commit.ensures.any_moment told r J.view at)
+    let work : Work = record { tree = c.in-Ok-Tree.tree; parents = c.in-Ok.parents; least = Some c.lesser.result } in
+    let low : Some c.lesser.result ≡ Some (min c.args.sides.now.head c.args.sides.now.number) = ap Some c.lesser.ensures in
+    let at = is_at (g.D.Decides.rule c.args.rules.now) r c.args.branch.now c.args.info c.args.sides.now c.args.self.now c.joined.new.self is (g.G.Ground.told c.args.outside.now) (g.G.Ground.told c.joined.new.outside) (c.joined.ensures.looks told) c.joined.ensures.same held c.in-Ok-Tree.tree J work refl c.in-Ok.ensures low in
+    done_moments (g.D.Decides.rule c.args.rules.now) r c.args.branch.now c.args.info c.args.sides.now c.args.self.now c.joined.new.self is (g.G.Ground.told c.args.outside.now) (g.G.Ground.told c.joined.new.outside) (c.joined.ensures.looks told) c.joined.ensures.same held c.in-Ok-Tree.tree J work refl c.in-Ok.ensures low (Err c.in-Err-commit.fault) c.commit.new.self c.commit.new.work (g.G.Ground.told c.commit.new.outside) (c.in-Err-commit.ensures.answered told r J.view at) (c.in-Err-commit.ensures.any_moment told r J.view at)
 
 pub returns-clause-records_stay : goal.returns-clause-records_stay
 returns-clause-records_stay g c told has r q held now =

@@ -5,11 +5,13 @@ use Rattle.ip_spec.specs.Record.{Fits}
 use Rattle.ip_image.specs.Standing.{IsServedKind}
 use Rattle.ip_image.specs.Appending.{MayName, renamed}
 use Rattle.ip_store.specs.declared.committing.StoreFault.TheVariants as StoreFault
+use Rattle.ip_store.specs.Collecting.{IsAbove, phase_of}
 use Rattle.ip_store.specs.Changes.{Changes, Appends}
 use Rattle.ip_store.specs.Naming.{Renames, without_branch}
 use Rattle.ip_store.proofs.Stepping.{itself, changes_none, stays_still, changes_still, same_appends, with_value, with_answer, with_fault}
 use Rattle.ip_store.proofs.BranchTurns.{none_in, some_in, remove_none, remove_memory, remove_done, remove_cut, remove_fits, absent_same}
 use Rattle.ip_store.proofs.Noted.{noted_itself, noted_back, noted_changes, noted_stays, noted_removed}
+use Rattle.ip_store.proofs.Phases.{removed_above}
 use Rattle.ip_store.proofs.store.Store.remove_branch.Goals as goal
 
 -- ---- there is none
@@ -17,7 +19,7 @@ use Rattle.ip_store.proofs.store.Store.remove_branch.Goals as goal
 pub returns-then-is_none-clause-answered : goal.returns-then-is_none-clause-answered
 returns-then-is_none-clause-answered g c r of =
     let none : head r c.args.name.now ≡ None = sym (c.head.ensures r of) ∙ none_in c.head.result (search rules) in
-    noted_removed c.args.self.now c.noted.new.self (Ok false) c.noted.result c.noted.ensures.answer c.noted.ensures.met r c.args.name.now (remove_none r c.args.name.now c.args.self.now of none)
+    noted_removed c.args.self.now c.noted.new.self (Ok false) c.noted.result c.noted.ensures.answer c.noted.ensures.met r (phase_of c.args.self.now.collection) c.args.name.now (remove_none r (phase_of c.args.self.now.collection) c.args.name.now c.args.self.now of none)
 
 pub returns-then-is_none-clause-any_moment : goal.returns-then-is_none-clause-any_moment
 returns-then-is_none-clause-any_moment g c told r held =
@@ -34,7 +36,7 @@ returns-then-is_none-clause-records_stay g c told has r q held now = stays_still
 
 pub returns-in-Err-clause-answered : goal.returns-in-Err-clause-answered
 returns-in-Err-clause-answered g c r of =
-    noted_removed c.args.self.now c.noted-in-Err.new.self (Err StoreFault.Memory) c.noted-in-Err.result c.noted-in-Err.ensures.answer c.noted-in-Err.ensures.met r c.args.name.now (remove_memory r c.args.name.now c.args.self.now of)
+    noted_removed c.args.self.now c.noted-in-Err.new.self (Err StoreFault.Memory) c.noted-in-Err.result c.noted-in-Err.ensures.answer c.noted-in-Err.ensures.met r (phase_of c.args.self.now.collection) c.args.name.now (remove_memory r (phase_of c.args.self.now.collection) c.args.name.now c.args.self.now of)
 
 pub returns-in-Err-clause-any_moment : goal.returns-in-Err-clause-any_moment
 returns-in-Err-clause-any_moment g c told r held =
@@ -50,6 +52,9 @@ returns-in-Err-clause-records_stay g c told has r q held now = stays_still c.arg
 pub append_branch_record-requires-clause-tables : goal.append_branch_record-requires-clause-tables
 append_branch_record-requires-clause-tables g c = (c.requires.tables.0, c.requires.tables.1, subst (MayName c.requires.tables.0) (sym c.in-Ok.ensures) tt)
 
+pub append_branch_record-requires-clause-above : goal.append_branch_record-requires-clause-above
+append_branch_record-requires-clause-above g c = subst (IsAbove c.args.self.now.collection) (sym c.in-Ok.ensures) (removed_above c.args.self.now.collection c.args.name.now)
+
 pub append_branch_record-requires-clause-served : goal.append_branch_record-requires-clause-served
 append_branch_record-requires-clause-served g c = subst IsServedKind (sym c.in-Ok.ensures) tt
 
@@ -60,8 +65,8 @@ pub returns-in-Ok-append_branch_record-clause-answered : goal.returns-in-Ok-appe
 returns-in-Ok-append_branch_record-clause-answered g c r of =
     let there = some_in c.head.result (search rules) in
     let store = c.append_branch_record.new.self in
-    noted_removed store c.noted-in-Ok-append_branch_record.new.self (Ok true) c.noted-in-Ok-append_branch_record.result c.noted-in-Ok-append_branch_record.ensures.answer c.noted-in-Ok-append_branch_record.ensures.met r c.args.name.now
-    (remove_done r c.args.name.now store there.0 (sym (c.head.ensures r of) ∙ there.1)
+    noted_removed store c.noted-in-Ok-append_branch_record.new.self (Ok true) c.noted-in-Ok-append_branch_record.result c.noted-in-Ok-append_branch_record.ensures.answer c.noted-in-Ok-append_branch_record.ensures.met r (phase_of c.args.self.now.collection) c.args.name.now
+    (remove_done r (phase_of c.args.self.now.collection) c.args.name.now store there.0 (sym (c.head.ensures r of) ∙ there.1)
     (subst (λ x. Renames r x (Ok tt) store) c.in-Ok.ensures (c.in-Ok-append_branch_record.ensures.tables r of (subst (MayName r) (sym c.in-Ok.ensures) tt))))
 
 pub returns-in-Ok-append_branch_record-clause-any_moment : goal.returns-in-Ok-append_branch_record-clause-any_moment
@@ -92,8 +97,8 @@ returns-in-Err-append_branch_record-clause-answered g c r of =
     let fault = c.in-Err-append_branch_record.fault in
     let there = some_in c.head.result (search rules) in
     let store = c.append_branch_record.new.self in
-    noted_removed store c.noted-in-Err-append_branch_record.new.self (Err fault) c.noted-in-Err-append_branch_record.result c.noted-in-Err-append_branch_record.ensures.answer c.noted-in-Err-append_branch_record.ensures.met r c.args.name.now
-    (remove_cut r c.args.name.now store there.0 fault (sym (c.head.ensures r of) ∙ there.1)
+    noted_removed store c.noted-in-Err-append_branch_record.new.self (Err fault) c.noted-in-Err-append_branch_record.result c.noted-in-Err-append_branch_record.ensures.answer c.noted-in-Err-append_branch_record.ensures.met r (phase_of c.args.self.now.collection) c.args.name.now
+    (remove_cut r (phase_of c.args.self.now.collection) c.args.name.now store there.0 fault (sym (c.head.ensures r of) ∙ there.1)
     (subst (λ x. Renames r x (Err fault) store) c.in-Ok.ensures (c.in-Err-append_branch_record.ensures.tables r of (subst (MayName r) (sym c.in-Ok.ensures) tt))))
 
 pub returns-in-Err-append_branch_record-clause-any_moment : goal.returns-in-Err-append_branch_record-clause-any_moment

@@ -1,4 +1,4 @@
-use Rattle.std.proofs.Common.{◌≡◌, rules, sym, subst}
+use Rattle.std.proofs.Common.{◌≡◌, Some, rules, sym, subst}
 use Rattle.std.specs.Prelude.{Ok, Err, [], ◌∷◌, IfSome, OnOk}
 use Rattle.ip_spec.specs.Record.{Fits}
 use Rattle.ip_spec.specs.Step.{room_for_branch, with_branch}
@@ -6,18 +6,20 @@ use Rattle.ip_image.specs.Standing.{IsServedKind}
 use Rattle.ip_image.specs.Appending.{MayName, renamed}
 use Rattle.ip_store.specs.declared.committing.StoreFault.TheVariants as StoreFault
 use Rattle.ip_store.specs.Changes.{Changes, Appends}
+use Rattle.ip_store.specs.Collecting.{IsAbove, not_leaving_in, phase_of}
 use Rattle.ip_store.specs.Naming.{Renames}
 use Rattle.ip_store.proofs.Stepping.{itself, changes_none, stays_still}
-use Rattle.ip_store.proofs.BranchTurns.{set_refused, set_memory, set_answers, set_may, set_fits}
+use Rattle.ip_store.proofs.BranchTurns.{set_leaving, set_refused, set_memory, set_answers, set_may, set_fits}
 use Rattle.ip_store.proofs.Noted.{noted_itself, noted_changes, noted_stays, noted_appends, noted_set}
+use Rattle.ip_store.proofs.Phases.{set_above}
 use Rattle.ip_store.proofs.store.Store.set_branch.Goals as goal
 
--- ---- there is no room for one more
+-- ---- a collection gives the commit up
 
 pub returns-in-Err-clause-answered : goal.returns-in-Err-clause-answered
 returns-in-Err-clause-answered g c r of retained =
     let fault = c.in-Err.fault in
-    noted_set c.args.self.now c.noted.new.self (Err fault) c.noted.result c.noted.ensures.answer c.noted.ensures.met r c.args.name.now c.args.number (set_refused r c.args.name.now c.args.number c.args.self.now fault (c.in-Err.ensures.refused r of) of)
+    noted_set c.args.self.now c.noted.new.self (Err fault) c.noted.result c.noted.ensures.answer c.noted.ensures.met r (phase_of c.args.self.now.collection) c.args.name.now c.args.number (set_leaving r (phase_of c.args.self.now.collection) c.args.name.now c.args.number c.args.self.now fault c.in-Err.ensures.refused of)
 
 pub returns-in-Err-clause-any_moment : goal.returns-in-Err-clause-any_moment
 returns-in-Err-clause-any_moment g c told r held retained =
@@ -28,11 +30,27 @@ returns-in-Err-clause-any_moment g c told r held retained =
 pub returns-in-Err-clause-records_stay : goal.returns-in-Err-clause-records_stay
 returns-in-Err-clause-records_stay g c told has r q held now = stays_still c.args.self.now c.noted.new.self (noted_itself c.args.self.now c.noted.new.self _ c.noted.ensures.met) r q (g.G.Ground.told c.args.outside.now) held now
 
+-- ---- there is no room for one more
+
+pub returns-in-Err-room_for-clause-answered : goal.returns-in-Err-room_for-clause-answered
+returns-in-Err-room_for-clause-answered g c r of retained =
+    let fault = c.in-Err-room_for.fault in
+    noted_set c.args.self.now c.noted-in-Err-room_for.new.self (Err fault) c.noted-in-Err-room_for.result c.noted-in-Err-room_for.ensures.answer c.noted-in-Err-room_for.ensures.met r (phase_of c.args.self.now.collection) c.args.name.now c.args.number (set_refused r (phase_of c.args.self.now.collection) c.args.name.now c.args.number c.args.self.now fault (search rules) (c.in-Err-room_for.ensures.refused r of) of)
+
+pub returns-in-Err-room_for-clause-any_moment : goal.returns-in-Err-room_for-clause-any_moment
+returns-in-Err-room_for-clause-any_moment g c told r held retained =
+    let told_now = g.G.Ground.told c.args.outside.now in
+    noted_changes c.args.self.now c.noted-in-Err-room_for.new.self (Err c.in-Err-room_for.fault) c.noted-in-Err-room_for.result c.noted-in-Err-room_for.ensures.answer c.noted-in-Err-room_for.ensures.met r (with_branch r c.args.name.now c.args.number) told_now told_now
+    (changes_none r (with_branch r c.args.name.now c.args.number) c.in-Err-room_for.fault c.args.self.now c.args.self.now told_now (itself c.args.self.now) held)
+
+pub returns-in-Err-room_for-clause-records_stay : goal.returns-in-Err-room_for-clause-records_stay
+returns-in-Err-room_for-clause-records_stay g c told has r q held now = stays_still c.args.self.now c.noted-in-Err-room_for.new.self (noted_itself c.args.self.now c.noted-in-Err-room_for.new.self _ c.noted-in-Err-room_for.ensures.met) r q (g.G.Ground.told c.args.outside.now) held now
+
 -- ---- the record's bytes could not be taken
 
 pub returns-in-Err-set_record-clause-answered : goal.returns-in-Err-set_record-clause-answered
 returns-in-Err-set_record-clause-answered g c r of retained =
-    noted_set c.args.self.now c.noted-in-Err-set_record.new.self (Err StoreFault.Memory) c.noted-in-Err-set_record.result c.noted-in-Err-set_record.ensures.answer c.noted-in-Err-set_record.ensures.met r c.args.name.now c.args.number (set_memory r c.args.name.now c.args.number c.args.self.now of)
+    noted_set c.args.self.now c.noted-in-Err-set_record.new.self (Err StoreFault.Memory) c.noted-in-Err-set_record.result c.noted-in-Err-set_record.ensures.answer c.noted-in-Err-set_record.ensures.met r (phase_of c.args.self.now.collection) c.args.name.now c.args.number (set_memory r (phase_of c.args.self.now.collection) c.args.name.now c.args.number c.args.self.now of)
 
 pub returns-in-Err-set_record-clause-any_moment : goal.returns-in-Err-set_record-clause-any_moment
 returns-in-Err-set_record-clause-any_moment g c told r held retained =
@@ -52,6 +70,11 @@ append_branch_record-answer-requires-clause-tables g c =
     let room : room_for_branch r c.args.name.now ≡ Ok tt = search rules in
     (r, of, subst (MayName r) (sym c.in-Ok.ensures) (set_may r c.args.name.now c.args.number c.args.self.now of c.requires.tables.2 room))
 
+pub append_branch_record-answer-requires-clause-above : goal.append_branch_record-answer-requires-clause-above
+append_branch_record-answer-requires-clause-above g c =
+    let stays : not_leaving_in (phase_of c.args.self.now.collection) (Some c.args.number) ≡ Ok tt = search rules in
+    subst (IsAbove c.args.self.now.collection) (sym c.in-Ok.ensures) (set_above c.args.self.now.collection c.args.number c.args.name.now stays)
+
 pub append_branch_record-answer-requires-clause-served : goal.append_branch_record-answer-requires-clause-served
 append_branch_record-answer-requires-clause-served g c = subst IsServedKind (sym c.in-Ok.ensures) tt
 
@@ -60,11 +83,12 @@ append_branch_record-answer-requires-clause-fits g c = subst (Fits 1) (sym c.in-
 
 pub returns-clause-answered : goal.returns-clause-answered
 returns-clause-answered g c r of retained =
+    let stays : not_leaving_in (phase_of c.args.self.now.collection) (Some c.args.number) ≡ Ok tt = search rules in
     let room : room_for_branch r c.args.name.now ≡ Ok tt = search rules in
     let store = c.append_branch_record-answer.new.self in
     let made = c.append_branch_record-answer.result in
-    noted_set store c.noted-2.new.self made c.noted-2.result c.noted-2.ensures.answer c.noted-2.ensures.met r c.args.name.now c.args.number
-    (set_answers r c.args.name.now c.args.number store made room
+    noted_set store c.noted-2.new.self made c.noted-2.result c.noted-2.ensures.answer c.noted-2.ensures.met r (phase_of c.args.self.now.collection) c.args.name.now c.args.number
+    (set_answers r (phase_of c.args.self.now.collection) c.args.name.now c.args.number store made stays room
     (subst (λ x. Renames r x made store) c.in-Ok.ensures (c.append_branch_record-answer.ensures.tables r of (subst (MayName r) (sym c.in-Ok.ensures) (set_may r c.args.name.now c.args.number c.args.self.now of retained room)))))
 
 pub returns-clause-any_moment : goal.returns-clause-any_moment

@@ -1,7 +1,11 @@
+use Rattle.std.proofs.Common.{ℕ, sym, subst}
 use Rattle.ip_spec.specs.Repository.{tree_at}
+use Rattle.ip_tree.specs.TreeView.{stored_view}
+use Rattle.ip_store.specs.Rooted.{IsRooted}
 use Rattle.ip_store.specs.Showing.{IsRootOf}
 use Rattle.ip_store.specs.Store.{image_records}
 use Rattle.ip_store.proofs.Listed.{records_good, records_parts}
+use Rattle.ip_store.proofs.RootedViews.{rooted_stored}
 use Rattle.ip_store.proofs.SpelledTrees.{short_contents, narrow_tree, lawful_tree}
 use Rattle.ip_store.proofs.Stepping.{looks}
 use Rattle.ip_store.proofs.store.Store.tree_of.Goals as goal
@@ -21,6 +25,7 @@ returns-in-Ok-clause-tree g c told r held retained =
       spelled = root.tree;
       view = c.of.ensures records map root.tree.0 (record { part = root.tree.1; kind = root.kind; name = root.name })
           (lawful_tree records good parts at map root.tree) (narrow_tree records good parts at map root.tree);
+      rooted = subst (λ (o : ℕ). IsRooted records (stored_view records c.args.number o map)) (sym root.at) (rooted_stored records c.args.number root.place root.commit map root.here root.number);
       short = short_contents records good parts at map root.tree;
     }
 

@@ -1,0 +1,13 @@
+// What a store keeps of a collection.
+use ip_base::Number;
+use ip_ground::Reaped;
+use ip_spawn::Job;
+
+/// A collection that goes on: at which commit, what its child was told, and how that ended where it was reaped.
+#[derive(Clone, Copy, Debug, PartialEq, Eq)]
+pub struct Collection {
+    /// The commits below this one are given up once it is accepted.
+    pub commit: Number,
+    pub job: Job,
+    pub exit: Option<Reaped>,
+}
