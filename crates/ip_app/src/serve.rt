@@ -1,5 +1,5 @@
 // Serving a script: line by line, one reply each.
-ghost use Rattle.std.specs.Prelude.{◌≡◌, ◌-◌, ◌^◌, ◌≤◌, [], Bool, IsTrue, OnOk, IfOk, IfErr};
+ghost use Rattle.std.specs.Prelude.{◌≡◌, ◌-◌, ◌^◌, ◌≤◌, [], None, Bool, IsTrue, OnOk, IfOk, IfErr};
 ghost use Rattle.ip_ground.specs.Told.{SyncsOnly, Only};
 ghost use Rattle.ip_ground.specs.declared.names.FileName.TheVariants.{Control};
 ghost use Rattle.ip_merge.specs.Rules.{IsDecisive};
@@ -129,6 +129,7 @@ fn open_in<G: Ground>(alloc: Global, folder: &str, ground: &mut G) -> Result<Sto
     ensures only { IsTrue G.tells → SyncsOnly (Only Control) (G.told ground.old) (G.told ground.new) }
     ensures opening { IsTrue G.tells → RecoversOnceOpen (G.told ground.old) (G.told ground.new) }
     ensures opened { IfOk result (OpensAs G.tells (G.told ground.old) (G.told ground.new)) }
+    ensures idle { IfOk result (λ store. store.collection ≡ None) }
     ensures refused { IfErr result (λ status. CouldNotOpen status G.tells (G.told ground.old)) }
     ensures counted { IfErr result (λ status. CountsOf status (G.counts_of ground.old) (G.counts_of ground.new)) }
     ensures no_fault { OnOk result (G.counts_of ground.new ≡ G.counts_of ground.old) }

@@ -1,7 +1,7 @@
 -- What a session does that ran a commit.
 --     commit_goes      the store answered it.      commit_cut      a fault of the ground cut it short
 --     has_answer      what has a reply is an answer
-use Rattle.std.proofs.Common.{◌≡◌, Bool, true, false, length, refl, sym, ap, ◌∙◌, arith, Some, Ok, Err, length-append, ◌++◌, ◌∷◌, []}
+use Rattle.std.proofs.Common.{◌≡◌, Bool, true, false, length, refl, sym, ap, subst, ◌∙◌, arith, Option, Some, Ok, Err, length-append, ◌++◌, ◌∷◌, []}
 use Rattle.std.specs.Prelude.{Result, IfSome, IfOk, codes}
 use Rattle.std.proofs.lemmas.Option.{IfSome_then}
 use Rattle.ip_base.specs.declared.info.Info.{Info}
@@ -21,7 +21,9 @@ use Rattle.ip_store.specs.declared.store.Store.{Store}
 use Rattle.ip_store.specs.declared.work.Work.{Work}
 use Rattle.ip_store.specs.declared.committing.StoreFault.{StoreFault}
 use Rattle.ip_store.specs.Changes.{HasAnswer}
-use Rattle.ip_store.specs.Commits.{fault_reply, met_nothing, reply_to, Answers, repository_after, Commits}
+use Rattle.ip_store.specs.Collecting.{phase_of}
+use Rattle.ip_store.specs.Commits.{fault_reply, met_nothing, reply_to, Answers, Turns, repository_after, Commits}
+use Rattle.ip_store.specs.declared.collection.Collection.{Collection}
 use Rattle.ip_store.specs.Work.{work_at, session}
 use Rattle.ip_session.specs.declared.session.Session.{Session}
 use Rattle.ip_session.specs.Session.{unasked, IsWorking, met_only, conditions_of, IsLong, IsDurable, GoesBy, CutBy}
@@ -68,9 +70,9 @@ committed_only : (branch : Bytes) (info : Info) (reply : Reply) → IsDurable re
 committed_only branch info (Reply.Committed name) is = is
 committed_only branch info _ is = absurd is
 
-module _ (r : Repository) (w : MachineWork) (branch : Bytes) (info : Info) where
+module _ (r : Repository) (phase : Phase) (w : MachineWork) (branch : Bytes) (info : Info) where
   abbrev s : State
-  s = at r w
+  s = at r phase w
 
   abbrev command : Command
   command = Command.Commit branch info
@@ -82,7 +84,7 @@ module _ (r : Repository) (w : MachineWork) (branch : Bytes) (info : Info) where
   named = (new_commit r w.tree w.parents info).name
 
   abbrev done : Turned
-  done = (Reply.Committed named, record { repository = with_commit r (new_commit r w.tree w.parents info) branch; phase = Phase.Idle; work = record { tree = w.tree; parents = next r ∷ []; least = Some (next r) } })
+  done = (Reply.Committed named, record { repository = with_commit r (new_commit r w.tree w.parents info) branch; phase = phase; work = record { tree = w.tree; parents = next r ∷ []; least = Some (next r) } })
 
   quiet_commit : (met : Met) → ¬ IsDurable (answer s command (conditions_of met)).0 command → (answer s command (conditions_of met)).1 ≡ s
   unfolding outcome
@@ -95,9 +97,9 @@ module _ (r : Repository) (w : MachineWork) (branch : Bytes) (info : Info) where
       (committed_only branch info (answer s command (conditions_of met)).0 is)
 
   after_is : (met : Met) → answer s command (conditions_of met_nothing) ≡ answer s command (conditions_of met) → (answer s command (conditions_of met)).1.repository ≡ after
-  after_is met same = ap (λ (t : Turned). t.1.repository) (sym (turned_by r w command met_nothing false refl ∙ same))
+  after_is met same = ap (λ (t : Turned). t.1.repository) (sym (turned_by r phase w command met_nothing false refl refl ∙ same))
 
-  pub whole : IsWhole r w command after
+  pub whole : IsWhole r phase w command after
   whole = record { quiet = quiet_commit; done = λ met is. after_is met (alike_commit met is); plain = λ met t e. e; refusable = commit_refused branch info; durable = refl }
 
 -- ---- the text of a commit's name
@@ -109,31 +111,31 @@ name_is_short name long_name long =
 
 -- ---- the command
 
-module _ (a b : Told) (s : Session) (store : Store) (work : Work) (met : Met) (r : Repository) (v : View) (here : IsWorking a s r v) (branch : Bytes) (info : Info) (made : Result Hash StoreFault) (does : Commits r s.work v branch info made store a b) where
+module _ (a b : Told) (s : Session) (store : Store) (work : Work) (met : Met) (r : Repository) (v : View) (here : IsWorking a s r v) (branch : Bytes) (info : Info) (made : Result Hash StoreFault) (phase_is : store.collection ≡ s.store.collection) (does : Commits r (phase_of s.store.collection) s.work v branch info made store a b) where
   abbrev committing : Command
   committing = Command.Commit branch info
 
   abbrev committed_to : Repository
-  committed_to = repository_after r s.work v branch info
+  committed_to = repository_after r (phase_of s.store.collection) s.work v branch info
 
   abbrev Machine : Reply → Type 0
-  Machine reply = Answers b (session r s.work v) v committing store.met reply store work
+  Machine reply = Answers b (session r (phase_of s.store.collection) s.work v) v committing store.met reply store work
 
   turn_of : (reply : Reply) → Machine reply → IsTurn b s store work r v committing reply
-  turn_of reply A = record { next = A.after; view = A.view; turns = A.turns; is_at = λ holds. A.is_at; seen = A.seen }
+  turn_of reply A = record { next = A.after; view = A.view; turns = subst (λ (o : Option Collection). Turns (session r (phase_of s.store.collection) s.work v) committing store.met reply (session A.after (phase_of o) work A.view)) (sym phase_is) A.turns; is_at = λ holds. A.is_at; seen = A.seen }
 
   -- the store answered the commit
   pub commit_goes : (reply : Reply) → met ≡ store.met → reply_to made ≡ Some reply → IfOk made (λ name. length name ≡ 32) → IfSome (reply_to made) Machine
       → GoesBy unasked a b s (record s { store = store; work = work; met = met }) r v committing reply
-  commit_goes reply m e long A = reply_so a b s store work r committed_to v here committing (whole r (work_at s.work v) branch info) met (reply_to made) reply m e (by made long A does)
+  commit_goes reply m e long A = reply_so a b s store work r committed_to v here committing (whole r (phase_of s.store.collection) (work_at s.work v) branch info) met (reply_to made) reply m e (by made long A does)
     where
-      by : (made : Result Hash StoreFault) → IfOk made (λ name. length name ≡ 32) → IfSome (reply_to made) Machine → Commits r s.work v branch info made store a b
-          → IfSome (reply_to made) (Went a b s store work r committed_to v here committing (whole r (work_at s.work v) branch info))
-      by (Ok name) long A does = done_so a b s store work r committed_to v here committing (whole r (work_at s.work v) branch info) name (Reply.Committed name) tt (name_is_short name long) (turn_of (Reply.Committed name) A) does
-      by (Err fault) long A does = fault_so a b s store work r committed_to v here committing (whole r (work_at s.work v) branch info) fault (IfSome_then (fault_reply fault) A (λ reply x has. turn_of reply x)) does
+      by : (made : Result Hash StoreFault) → IfOk made (λ name. length name ≡ 32) → IfSome (reply_to made) Machine → Commits r (phase_of s.store.collection) s.work v branch info made store a b
+          → IfSome (reply_to made) (Went a b s store work r committed_to v here committing (whole r (phase_of s.store.collection) (work_at s.work v) branch info))
+      by (Ok name) long A does = done_so a b s store work r committed_to v here committing (whole r (phase_of s.store.collection) (work_at s.work v) branch info) name (Reply.Committed name) tt (name_is_short name long) (turn_of (Reply.Committed name) A) does
+      by (Err fault) long A does = fault_so a b s store work r committed_to v here committing (whole r (phase_of s.store.collection) (work_at s.work v) branch info) fault (IfSome_then (fault_reply fault) A (λ reply x has. turn_of reply x)) does
 
   pub commit_cut : met ≡ met_only false → CutBy unasked a b s (record s { store = store; work = work; met = met }) r v committing
-  commit_cut e = cut_so a b s store work r committed_to v here committing (whole r (work_at s.work v) branch info) made met e refl (after_is r (work_at s.work v) branch info met_nothing refl) does
+  commit_cut e = cut_so a b s store work r committed_to v here committing (whole r (phase_of s.store.collection) (work_at s.work v) branch info) made met e refl (after_is r (phase_of s.store.collection) (work_at s.work v) branch info met_nothing refl) does
 
 pub has_answer : (made : Result Hash StoreFault) (reply : Reply) → reply_to made ≡ Some reply → HasAnswer made
 has_answer (Ok name) reply e = tt

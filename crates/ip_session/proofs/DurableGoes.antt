@@ -6,7 +6,7 @@
 --     reply_so      of an answer that there is
 --     floor_stays      an answered call gives no commits up
 --     answered, unanswered      a fault that has a reply, and one that has none
-use Rattle.std.proofs.Common.{◌≡◌, inl, ◌≤◌, Bool, true, false, refl, sym, ap, ◌∙◌, subst, arith, Option, Some, None, Ok, Err}
+use Rattle.std.proofs.Common.{◌≡◌, inl, Bool, true, false, refl, sym, ap, ◌∙◌, subst, arith, Option, Some, None, Ok, Err}
 use Rattle.std.specs.Prelude.{Result, IfSome, MatchBool, if◌then◌else◌}
 use Rattle.ip_ground.specs.Told.{Told, NoFile, ChangesOnly}
 use Rattle.ip_ground.proofs.Spans.{only_more}
@@ -17,32 +17,40 @@ use Rattle.ip_spec.specs.declared.command.Command.{Command}
 use Rattle.ip_spec.specs.declared.met.Met.{Met}
 use Rattle.ip_spec.specs.declared.reply.Reply.{Reply}
 use Rattle.ip_spec.specs.Repository.{Repository}
-use Rattle.ip_spec.specs.Machine.{Work as MachineWork, State, Conditions}
-use Rattle.ip_spec.specs.Step.{Turned, IsMet, Turns, Step, answer, turned}
+use Rattle.ip_spec.specs.declared.met.Child.{Child}
+use Rattle.ip_spec.specs.Machine.{Phase, Work as MachineWork, State, Conditions}
+use Rattle.ip_spec.specs.Step.{Turned, IsMet, Turns, Step, answer, turned, state_with_exit}
 use Rattle.ip_spec.specs.View.{View}
 use Rattle.ip_store.specs.declared.store.Store.{Store}
 use Rattle.ip_store.specs.declared.work.Work.{Work}
 use Rattle.ip_store.specs.declared.committing.StoreFault.{StoreFault}
 use Rattle.ip_store.specs.Changes.{HasAnswer, IsUndamaged, Changes}
+use Rattle.ip_store.specs.Collecting.{phase_of}
 use Rattle.ip_store.specs.Commits.{fault_reply}
 use Rattle.ip_store.specs.Commits as commits
 use Rattle.ip_store.specs.Store.{IsOf, Holds}
 use Rattle.ip_store.specs.Views.{IsViewAfter}
 use Rattle.ip_store.specs.Work.{work_at, session, IsAt}
 use Rattle.ip_store.specs.Publishing.{MayChange}
+use Rattle.ip_store.proofs.Machine.{AsksNone}
 use Rattle.ip_store.proofs.Recovering.{recovers_since}
 use Rattle.ip_session.specs.declared.session.Session.{Session}
 use Rattle.ip_session.specs.Session.{unasked, IsWorking, state_in, met_only, conditions_of, IsLong, is_durable, IsDurable, ChangedBy, TouchedBy, GoesBy, CutBy}
-use Rattle.ip_session.proofs.SessionLemmas.{at, plainly, Refusable}
+use Rattle.ip_session.proofs.SessionLemmas.{at, heard_none, nothing_kept, plainly, Refusable}
 
 pub keeps_still : (store : Store) (r after : Repository) (a b : Told) → Holds store a r → NothingPending a → ChangesOnly NoFile a b → IsAtomic a b r after
 keeps_still store r after a b holds order only t late le =
     let now = recovers_since store r a holds order b (λ file. only.others file (λ none. none)) only.lending t late le in
     record { stands = λ image possible. inl (now.stands image possible); flushed = now.flushed }
 
-module _ (r : Repository) (w : MachineWork) (command : Command) where
+durable_asks : (command : Command) → is_durable command ≡ true → AsksNone command
+durable_asks Command.Look durable = absurd (cc durable)
+durable_asks Command.Finish durable = absurd (cc durable)
+durable_asks _ durable = tt
+
+module _ (r : Repository) (phase : Phase) (w : MachineWork) (command : Command) where
   abbrev s : State
-  s = at r w
+  s = at r phase w
 
   -- plain: it is no merge, whose turns are a relation
   pub record IsWhole (after : Repository) : Type 0 where
@@ -52,18 +60,19 @@ module _ (r : Repository) (w : MachineWork) (command : Command) where
     pub refusable : Refusable command
     pub durable : is_durable command ≡ true
 
-  pub turned_by : (met : Met) (b : Bool) → met.refused ≡ b → turned s command (conditions_of met) ≡ (if b then (Reply.Memory, s) else answer s command (conditions_of met))
+  pub turned_by : (met : Met) (b : Bool) → met.child ≡ Child.NotAsked → met.refused ≡ b → turned s command (conditions_of met) ≡ (if b then (Reply.Memory, s) else answer s command (conditions_of met))
   unfolding turned
-  turned_by met b e = ap (λ (b : Bool). if b then (Reply.Memory, s) else answer s command (conditions_of met)) e
+  turned_by met b heard e = ap (λ (t : State). if met.refused then (Reply.Memory, t) else answer s command (conditions_of met)) (nothing_kept s met.child heard)
+      ∙ ap (λ (b : Bool). if b then (Reply.Memory, s) else answer s command (conditions_of met)) e
 
-  module _ (after : Repository) (whole : IsWhole after) (met : Met) (reply : Reply) (s' : State) (e : turned s command (conditions_of met) ≡ (reply, s')) where
+  module _ (after : Repository) (whole : IsWhole after) (met : Met) (heard : met.child ≡ Child.NotAsked) (reply : Reply) (s' : State) (e : turned s command (conditions_of met) ≡ (reply, s')) where
     -- memory was refused, or this is the machine's answer
     unless_refused : (P : Reply → State → Type 0) → P Reply.Memory s → P (answer s command (conditions_of met)).0 (answer s command (conditions_of met)).1 → P reply s'
     unless_refused P refused answered = by met.refused refl
       where
         by : (b : Bool) → met.refused ≡ b → P reply s'
-        by true is = let same = sym (turned_by met true is) ∙ e in subst (λ (t : Turned). P t.0 t.1) same refused
-        by false is = let same = sym (turned_by met false is) ∙ e in subst (λ (t : Turned). P t.0 t.1) same answered
+        by true is = let same = sym (turned_by met true heard is) ∙ e in subst (λ (t : Turned). P t.0 t.1) same refused
+        by false is = let same = sym (turned_by met false heard is) ∙ e in subst (λ (t : Turned). P t.0 t.1) same answered
 
     pub stays : ¬ IsDurable reply command → s' ≡ s
     stays = unless_refused (λ x t. ¬ IsDurable x command → t ≡ s) (λ quiet. refl) (whole.quiet met)
@@ -74,9 +83,9 @@ module _ (r : Repository) (w : MachineWork) (command : Command) where
     step_of : IsMet s command (conditions_of met) reply → Step unasked s command (conditions_of met) reply s'
     step_of is_met = (is_met, by met.refused refl)
       where
-        by : (b : Bool) → met.refused ≡ b → MatchBool b ((reply ≡ Reply.Memory) × (s' ≡ s)) (Turns unasked s command (conditions_of met) (reply, s'))
-        by true is = let same = sym e ∙ turned_by met true is in (ap (λ (t : Turned). t.0) same, ap (λ (t : Turned). t.1) same)
-        by false is = whole.plain (conditions_of met) (reply, s') (sym e ∙ turned_by met false is)
+        by : (b : Bool) → met.refused ≡ b → MatchBool b ((reply ≡ Reply.Memory) × (s' ≡ state_with_exit s s.phase met.child)) (Turns unasked s command (conditions_of met) (reply, s'))
+        by true is = let same = sym e ∙ turned_by met true heard is in (ap (λ (t : Turned). t.0) same, ap (λ (t : Turned). t.1) same ∙ sym (nothing_kept s met.child heard))
+        by false is = whole.plain (conditions_of met) (reply, s') (sym e ∙ turned_by met false heard is)
 
 -- a command that was not done leaves what is known of the work's tree
 kept_view : (r : Repository) (v : View) (command : Command) (reply : Reply) (view : View) → is_durable command ≡ true → ¬ IsDurable reply command → IsViewAfter r v command reply view → view ≡ v
@@ -90,11 +99,11 @@ kept_view r v _ reply view durable quiet seen = absurd (cc durable)
 pub record IsTurn (b : Told) (s : Session) (store : Store) (work : Work) (r : Repository) (v : View) (command : Command) (reply : Reply) : Type 0 where
   pub next : Repository
   pub view : View
-  pub turns : commits.Turns (state_in s r v) command store.met reply (session next work view)
+  pub turns : commits.Turns (state_in s r v) command store.met reply (session next (phase_of store.collection) work view)
   pub is_at : Holds store b next → IsAt b store next work view
   pub seen : IsViewAfter r v command reply view
 
-module _ (a b : Told) (s : Session) (store : Store) (work : Work) (r after : Repository) (v : View) (here : IsWorking a s r v) (command : Command) (whole : IsWhole r (work_at s.work v) command after) where
+module _ (a b : Told) (s : Session) (store : Store) (work : Work) (r after : Repository) (v : View) (here : IsWorking a s r v) (command : Command) (whole : IsWhole r (phase_of s.store.collection) (work_at s.work v) command after) where
   abbrev pub after_it : Session
   after_it = record s { store = store; work = work; met = store.met }
 
@@ -104,25 +113,30 @@ module _ (a b : Told) (s : Session) (store : Store) (work : Work) (r after : Rep
   abbrev pub Turn : Reply → Type 0
   Turn = IsTurn b s store work r v command
 
+  heard_as : {reply : Reply} → Turn reply → store.met.child ≡ Child.NotAsked
+  heard_as T = heard_none (phase_of s.store.collection) command (durable_asks command whole.durable) store.met.child T.turns.0.child
+
   pub refused_so : (reply : Reply) → ¬ IsDurable reply command → Turn reply → ChangesOnly NoFile a b × Holds store b r → Went reply
   refused_so reply quiet T does =
       let only : ChangesOnly NoFile a b = does.0 in
-      let state : session T.next work T.view ≡ state_in s r v = stays r (work_at s.work v) command after whole store.met reply (session T.next work T.view) T.turns.1 quiet in
+      let state : session T.next (phase_of store.collection) work T.view ≡ state_in s r v = stays r (phase_of s.store.collection) (work_at s.work v) command after whole store.met (heard_as T) reply (session T.next (phase_of store.collection) work T.view) T.turns.1 quiet in
       let repository : T.next ≡ r = ap (λ (t : State). t.repository) state in
       record {
         after = T.next;
         view = T.view;
-        gives = step_of r (work_at s.work v) command after whole store.met reply (session T.next work T.view) T.turns.1 T.turns.0;
+        gives = step_of r (phase_of s.store.collection) (work_at s.work v) command after whole store.met (heard_as T) reply (session T.next (phase_of store.collection) work T.view) T.turns.1 T.turns.0;
         is_at = T.is_at (subst (Holds store b) (sym repository) does.1);
         seen = T.seen;
         only = only_more a b NoFile (ChangedBy a.held command reply) (λ file none. absurd none) only;
         atomic = λ order. keeps_still s.store r T.next a b here.holds order only;
         nothing_pending = λ order. pending_passes a b only.goes (λ file. only.others file (λ none. none)) only.lending order;
-        spared = λ long. record { same = state; seen = kept_view r v command reply T.view whole.durable quiet T.seen; refused = whole.refusable r (work_at s.work v) };
+        spared = λ long. record { same = state; seen = kept_view r v command reply T.view whole.durable quiet T.seen; refused = whole.refusable r (phase_of s.store.collection) (work_at s.work v) };
         still = λ long file changed. quiet changed.0;
       }
 
   pub fault_so : {A : Type 0} (fault : StoreFault) → IfSome (fault_reply fault) (λ reply. HasAnswer {A = A} (Err fault) → Turn reply) → Changes {A = A} r after (Err fault) store a b → IfSome (fault_reply fault) Went
+  fault_so (StoreFault.GivenUp number) T does = refused_so (Reply.GivenUp number) (λ h. h) (T tt) (does.refused (refl, tt))
+  fault_so (StoreFault.Leaving number) T does = refused_so (Reply.Leaving number) (λ h. h) (T tt) (does.refused (refl, tt))
   fault_so (StoreFault.HeadMoved name) T does = refused_so (Reply.HeadMoved name) (λ h. h) (T tt) (does.refused (refl, tt))
   fault_so (StoreFault.Existing name) T does = refused_so (Reply.Existing name) (λ h. h) (T tt) (does.refused (refl, tt))
   fault_so (StoreFault.Limit limit) T does = refused_so (Reply.Limit limit) (λ h. h) (T tt) (does.refused (refl, tt))
@@ -132,11 +146,11 @@ module _ (a b : Told) (s : Session) (store : Store) (work : Work) (r after : Rep
 
   pub done_so : {A : Type 0} (x : A) (reply : Reply) → IsDurable reply command → ¬ IsLong reply → Turn reply → Changes {A = A} r after (Ok x) store a b → Went reply
   done_so x reply done short T does =
-      let repository : T.next ≡ after = made r (work_at s.work v) command after whole store.met reply (session T.next work T.view) T.turns.1 done in
+      let repository : T.next ≡ after = made r (phase_of s.store.collection) (work_at s.work v) command after whole store.met (heard_as T) reply (session T.next (phase_of store.collection) work T.view) T.turns.1 done in
       record {
         after = T.next;
         view = T.view;
-        gives = step_of r (work_at s.work v) command after whole store.met reply (session T.next work T.view) T.turns.1 T.turns.0;
+        gives = step_of r (phase_of s.store.collection) (work_at s.work v) command after whole store.met (heard_as T) reply (session T.next (phase_of store.collection) work T.view) T.turns.1 T.turns.0;
         is_at = T.is_at (subst (Holds store b) (sym repository) does.ok);
         seen = T.seen;
         only = only_more a b _ (ChangedBy a.held command reply) (λ file changed. (done, changed)) does.only;
@@ -159,17 +173,19 @@ module _ (a b : Told) (s : Session) (store : Store) (work : Work) (r after : Rep
       record {
         reply = t.0;
         after = t.1;
-        gives = subst (λ (m : Met). Step unasked (state_in s r v) command (conditions_of m) t.0 t.1) (sym e) (plainly r (work_at s.work v) command false t.0 (λ h. absurd (cc h)), whole.plain (conditions_of (met_only false)) t refl);
+        gives = subst (λ (m : Met). Step unasked (state_in s r v) command (conditions_of m) t.0 t.1) (sym e) (plainly r (phase_of s.store.collection) (work_at s.work v) command false t.0 (durable_asks command durable) (λ h. absurd (cc h)), whole.plain (conditions_of (met_only false)) t refl);
         only = only_more a b (MayChange a.held) (TouchedBy a.held command) (λ file changed. (durable, changed)) does.only;
         atomic = λ order. subst (λ (q : Repository). IsAtomic a b r q) (sym repository) (does.atomic order);
       }
 
 -- an answered call gives no commits up, if the repository that it leaves does not
-pub floor_stays : {A : Type 0} (r after q : Repository) (made : Result A StoreFault) (store : Store) (a b : Told) → after.floor ≤ r.floor → Changes r after made store a b → HasAnswer made → IsOf store q → q.floor ≤ r.floor
+pub floor_stays : {A : Type 0} (r after q : Repository) (made : Result A StoreFault) (store : Store) (a b : Told) → after.floor ≡ r.floor → Changes r after made store a b → HasAnswer made → IsOf store q → q.floor ≡ r.floor
 floor_stays r after q (Ok x) store a b le does has of = let after_is = does.ok.tables.floor in let q_is = of.floor in omega (arith, le, after_is, q_is)
 floor_stays r after q (Err fault) store a b le does has of = let r_is = (does.refused (refl, has)).1.tables.floor in let q_is = of.floor in omega (arith, r_is, q_is)
 
 pub answered : (A : Type 0) (fault : StoreFault) (reply : Reply) → fault_reply fault ≡ Some reply → HasAnswer {A = A} (Err fault)
+answered A (StoreFault.GivenUp number) reply e = tt
+answered A (StoreFault.Leaving number) reply e = tt
 answered A (StoreFault.HeadMoved name) reply e = tt
 answered A (StoreFault.Existing name) reply e = tt
 answered A (StoreFault.Limit limit) reply e = tt
@@ -179,6 +195,8 @@ answered A (StoreFault.Damaged at names) reply e = absurd (cc e)
 
 -- where it is none of the files
 pub unanswered : (A : Type 0) (fault : StoreFault) → IsUndamaged {A = A} (Err fault) → fault_reply fault ≡ None → fault ≡ StoreFault.Ground
+unanswered A (StoreFault.GivenUp number) u e = absurd (cc e)
+unanswered A (StoreFault.Leaving number) u e = absurd (cc e)
 unanswered A (StoreFault.HeadMoved name) u e = absurd (cc e)
 unanswered A (StoreFault.Existing name) u e = absurd (cc e)
 unanswered A (StoreFault.Limit limit) u e = absurd (cc e)

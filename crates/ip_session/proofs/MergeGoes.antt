@@ -3,7 +3,7 @@
 --     unmerged_goes      no commit has the name that was given.      merge_serves      the session goes on serving, whatever is told
 --     merge_placed, unmerged_placed      where its records lie
 --     has_reply      what has a reply is an answer.      merge_ends, merge_counts, answer_counts      what comes of one that has none, and which faults were counted
-use Rattle.std.proofs.Common.{◌≡◌, ◌≢◌, ℕ, ◌≤◌, ◌*◌, Bool, true, false, [], ◌∷◌, ◌++◌, length, refl, sym, ap, ◌∙◌, subst, arith, Option, Some, Ok, Err, length-append}
+use Rattle.std.proofs.Common.{◌≡◌, ◌≢◌, ℕ, false, [], ◌∷◌, ◌++◌, length, refl, sym, ap, subst, arith, Option, Some, Ok, Err, length-append}
 use Rattle.std.specs.Prelude.{Result, MatchResult, IfSome, codes}
 use Rattle.ip_base.specs.declared.info.Info.{Info}
 use Rattle.ip_base.specs.declared.limit.Limit.TheVariants as Limit
@@ -22,7 +22,7 @@ use Rattle.ip_spec.specs.Merge.{Rule}
 use Rattle.ip_spec.specs.Path.{Bytes, space}
 use Rattle.ip_spec.specs.Record.{Hash}
 use Rattle.ip_spec.specs.Repository.{Repository, head}
-use Rattle.ip_spec.specs.Machine.{Work as MachineWork, State}
+use Rattle.ip_spec.specs.Machine.{Phase, Work as MachineWork, State}
 use Rattle.ip_spec.specs.Step.{Refused, ◌>>=◌, present, resolve, both_named, MergesInto, Step}
 use Rattle.ip_spec.specs.Text.{reply_text, hex_text}
 use Rattle.ip_spec.specs.View.{View}
@@ -34,15 +34,17 @@ use Rattle.ip_store.specs.Changes.{HasAnswer, IsUndamaged, Changes}
 use Rattle.ip_store.specs.Faults.{ground_store}
 use Rattle.ip_store.specs.Merging.{merge_reply, GoesOnFrom, AnswersMerge, MergesAtMoments, AppendsMerge, LimitsMerge}
 use Rattle.ip_store.specs.Publishing.{MayChange}
-use Rattle.ip_store.specs.Store.{Holds, SameTables, image_records}
+use Rattle.ip_store.specs.Store.{Holds, image_records}
 use Rattle.ip_store.specs.Trees.{RecordsStay}
 use Rattle.ip_store.specs.Views.{IsViewAfter}
+use Rattle.ip_store.specs.Collecting.{phase_of}
 use Rattle.ip_store.specs.Work.{AreParents, IsAt, work_at, state_at}
+use Rattle.ip_store.specs.declared.collection.Collection.{Collection}
 use Rattle.ip_store.proofs.Stepping.{still_holds}
 use Rattle.ip_store.proofs.Works.{works_stay}
 use Rattle.ip_session.specs.declared.session.Session.{Session}
 use Rattle.ip_session.specs.declared.session.SessionEnd.{SessionEnd}
-use Rattle.ip_session.specs.Placing.{IsAppended, PlacedBy}
+use Rattle.ip_session.specs.Placing.{PlacedBy}
 use Rattle.ip_session.specs.Session.{ground_end, IsServing, IsWorking, state_in, met_only, conditions_of, IsLong, IsDurable, ChangedBy, TouchedBy, GoesBy, CutBy, EndsBy, EndsBecause, IsNamed}
 use Rattle.ip_session.proofs.SessionLemmas.{at, plainly, hex_long, merge_refused}
 use Rattle.ip_session.proofs.Referring.{IsUnnamed, NamesNone, names_none}
@@ -87,8 +89,8 @@ answer_counts branch (Err StoreFault.Ground) reply old new e counts = absurd (cc
 answer_counts branch (Err (StoreFault.Damaged at_ names)) reply old new e counts = absurd (cc e)
 answer_counts branch (Err _) reply old new e counts = counts
 
-pub merge_serves : (r : Repository) (s : Session) (store : Store) (met : Met) → AreParents r s.work.parents → (after : Repository) × GoesOnFrom r store after → IsServing (record s { store = store; met = met })
-merge_serves r s store met parents (after, on) = (after, (on.tables, on.parents s.work.parents parents))
+pub merge_serves : (r : Repository) (s : Session) (store : Store) (met : Met) → AreParents r s.work.least s.work.parents → (after : Repository) × GoesOnFrom r store after → IsServing (record s { store = store; met = met })
+merge_serves r s store met parents (after, on) = (after, (on.tables, on.parents s.work.least s.work.parents parents))
 
 -- ---- no commit has the name
 
@@ -101,18 +103,18 @@ module _ (target : Target) (branch : Bytes) (info : Info) where
   never_made (Reply.Merged name) un done = un
   never_made _ un done = done
 
-  unnamed_step : (rule : Rule) (r : Repository) (w : MachineWork) (reply : Reply) → resolve r target ≡ Err reply → Step rule (at r w) merging (conditions_of (met_only false)) reply (at r w)
-  unnamed_step rule r w reply is =
-      let named : both_named (at r w) target branch ≡ Err reply = ap (λ (x : Refused ℕ). x >>= λ number. present (head r branch) (Reply.NoBranch branch) >>= λ n. Ok (number, n)) is in (
-        plainly r w merging false reply (λ h. absurd (cc h)),
-        (Err reply, refl, subst (λ (x : Refused (ℕ × ℕ)). MatchResult x (λ both. MergesInto rule (at r w) (conditions_of (met_only false)) both.0 branch both.1 info (Err reply)) (λ other. ◌≡◌ {A = Refused (Reply × State)} (Err reply) (Err other))) (sym named) refl),
+  unnamed_step : (rule : Rule) (r : Repository) (phase : Phase) (w : MachineWork) (reply : Reply) → resolve r target ≡ Err reply → Step rule (at r phase w) merging (conditions_of (met_only false)) reply (at r phase w)
+  unnamed_step rule r phase w reply is =
+      let named : both_named (at r phase w) target branch ≡ Err reply = ap (λ (x : Refused ℕ). x >>= λ number. present (head r branch) (Reply.NoBranch branch) >>= λ n. Ok (number, n)) is in (
+        plainly r phase w merging false reply tt (λ h. absurd (cc h)),
+        (Err reply, refl, subst (λ (x : Refused (ℕ × ℕ)). MatchResult x (λ both. MergesInto rule (at r phase w) (conditions_of (met_only false)) both.0 branch both.1 info (Err reply)) (λ other. ◌≡◌ {A = Refused (Reply × State)} (Err reply) (Err other))) (sym named) refl),
       )
 
   pub unmerged_goes : (rule : Rule) (a : Told) (s : Session) (met : Met) (r : Repository) (v : View) (here : IsWorking a s r v) (reply : Reply) → met ≡ met_only false → resolve r target ≡ Err reply → GoesBy rule a a s (record s { met = met }) r v merging reply
   unmerged_goes rule a s met r v here reply e none = still_goes a s met r v here (ChangedBy a.held merging) (Step rule (state_in s r v) merging) (IsViewAfter r v merging) reply
-      (subst (λ (m : Met). Step rule (state_in s r v) merging (conditions_of m) reply (state_in s r v)) (sym e) (unnamed_step rule r (work_at s.work v) reply none))
+      (subst (λ (m : Met). Step rule (state_in s r v) merging (conditions_of m) reply (state_in s r v)) (sym e) (unnamed_step rule r (phase_of s.store.collection) (work_at s.work v) reply none))
       refl
-      (λ long. merge_refused target branch info r (work_at s.work v))
+      (λ long. merge_refused target branch info r (phase_of s.store.collection) (work_at s.work v))
       (λ file changed. never_made reply (subst NamesNone none (names_none r target)) changed.0)
 
   pub unmerged_placed : (rule : Rule) (slot : Slot) (s : State) (v : View) (reply : Reply) → resolve s.repository target ≡ Err reply → PlacedBy rule slot slot s v merging reply
@@ -125,7 +127,7 @@ module _ (target : Target) (branch : Bytes) (info : Info) where
 
 -- ---- the command
 
-module _ (rule : Rule) (a b : Told) (s : Session) (store : Store) (r : Repository) (v : View) (here : IsWorking a s r v) (target : Target) (branch : Bytes) (info : Info) (number : ℕ) (named : resolve r target ≡ Ok number) where
+module _ (rule : Rule) (a b : Told) (s : Session) (store : Store) (phase_is : store.collection ≡ s.store.collection) (r : Repository) (v : View) (here : IsWorking a s r v) (target : Target) (branch : Bytes) (info : Info) (number : ℕ) (named : resolve r target ≡ Ok number) where
   abbrev command : Command
   command = Command.Merge target branch info
 
@@ -133,20 +135,23 @@ module _ (rule : Rule) (a b : Told) (s : Session) (store : Store) (r : Repositor
   Went = GoesBy rule a b s (record s { store = store; met = store.met }) r v command
 
   abbrev Answered : Reply → Type 0
-  Answered reply = AnswersMerge rule b r number branch info store.met reply store
+  Answered reply = AnswersMerge rule b r (phase_of s.store.collection) number branch info store.met reply store
 
   abbrev Stays : Type 0
   Stays = (q : Repository) (now : Holds store b q) → RecordsStay (image_records here.holds) (image_records now)
 
   -- the image stands for what it stood for
   stood : ChangesOnly NoFile a b → Holds s.store b r
-  stood only = still_holds s.store s.store (record { index = refl; slot = refl; names = refl; places = refl; branches = refl; history = refl; space = refl }) r a b only here.holds
+  stood only = still_holds s.store s.store (record { index = refl; slot = refl; names = refl; places = refl; branches = refl; history = refl; space = refl; collection = refl }) r a b only here.holds
 
   works : Stays → (reply : Reply) (A : Answered reply) → IsAt b store A.after s.work v
   works stay reply A = record {
     holds = A.holds;
-    lawful = works_stay (image_records here.holds) (image_records A.holds) r A.after s.work v here.lawful (stay A.after A.holds) (let same = A.floor in omega (arith, same)) (A.goes_on.parents s.work.parents here.lawful.parents);
+    lawful = works_stay (image_records here.holds) (image_records A.holds) r A.after s.work v here.lawful (λ there. stay A.after A.holds) (let same = A.floor in omega (arith, same)) (A.goes_on.parents s.work.least s.work.parents here.lawful.parents);
   }
+
+  turns_on : (reply : Reply) (A : Answered reply) → Step rule (state_in s r v) command (conditions_of store.met) reply (state_at A.after (phase_of store.collection) (work_at s.work v))
+  turns_on reply A = subst (λ (o : Option Collection). Step rule (state_in s r v) command (conditions_of store.met) reply (state_at A.after (phase_of o) (work_at s.work v))) (sym phase_is) (A.turns (work_at s.work v) target named)
 
   quiet_so : (reply : Reply) → ¬ IsDurable reply command → Answered reply → Stays → ChangesOnly NoFile a b → Went reply
   quiet_so reply quiet A stay only =
@@ -154,13 +159,13 @@ module _ (rule : Rule) (a b : Told) (s : Session) (store : Store) (r : Repositor
       record {
         after = A.after;
         view = v;
-        gives = A.turns (work_at s.work v) target named;
+        gives = turns_on reply A;
         is_at = works stay reply A;
         seen = refl;
         only = only_more a b NoFile (ChangedBy a.held command reply) (λ file none. absurd none) only;
         atomic = λ order. keeps_still s.store r A.after a b here.holds order only;
         nothing_pending = λ order. pending_passes a b only.goes (λ file. only.others file (λ none. none)) only.lending order;
-        spared = λ long. record { same = ap (λ (q : Repository). state_at q (work_at s.work v)) same; seen = refl; refused = merge_refused target branch info r (work_at s.work v) };
+        spared = λ long. record { same = λ i. state_at (same i) (phase_of (phase_is i)) (work_at s.work v); seen = refl; refused = merge_refused target branch info r (phase_of s.store.collection) (work_at s.work v) };
         still = λ long file changed. quiet changed.0;
       }
 
@@ -170,7 +175,7 @@ module _ (rule : Rule) (a b : Told) (s : Session) (store : Store) (r : Repositor
       record {
         after = A.after;
         view = v;
-        gives = A.turns (work_at s.work v) target named;
+        gives = turns_on reply A;
         is_at = works stay reply A;
         seen = refl;
         only = only_more a b _ (ChangedBy a.held command reply) (λ file changed. (done, changed)) does.only;
@@ -180,13 +185,15 @@ module _ (rule : Rule) (a b : Told) (s : Session) (store : Store) (r : Repositor
         still = λ long. absurd (short long);
       }
 
-  went : (made : Result Merge StoreFault) → MergesAtMoments rule r number branch info made store a b → (HasAnswer made → Stays) → IfSome (merge_reply branch made) Answered → IfSome (merge_reply branch made) (λ reply. IsNamed reply → Went reply)
+  went : (made : Result Merge StoreFault) → MergesAtMoments rule r (phase_of s.store.collection) number branch info made store a b → (HasAnswer made → Stays) → IfSome (merge_reply branch made) Answered → IfSome (merge_reply branch made) (λ reply. IsNamed reply → Went reply)
   went (Ok (Merge.Current name)) M stay A = λ n. quiet_so (Reply.Current name) (λ h. h) A (stay tt) (M.unmoved tt)
   went (Ok (Merge.Forward name)) M stay A = λ n. done_so (Reply.Forward name) tt (forward_is_short name n) A (stay tt) (Merge.Forward name) M.after M.changes
   went (Ok (Merge.Merged name)) M stay A = λ n. done_so (Reply.Merged name) tt (merged_is_short name n) A (stay tt) (Merge.Merged name) M.after M.changes
   went (Ok Merge.NoBranch) M stay A = λ n. quiet_so (Reply.NoBranch branch) (λ h. h) A (stay tt) (M.unmoved tt)
   went (Ok (Merge.Bases count)) M stay A = λ n. quiet_so (Reply.Bases count) (λ h. h) A (stay tt) (M.unmoved tt)
   went (Ok (Merge.Conflict path)) M stay A = λ n. quiet_so (Reply.Conflict path) (λ h. h) A (stay tt) (M.unmoved tt)
+  went (Err (StoreFault.GivenUp left)) M stay A = λ n. quiet_so (Reply.GivenUp left) (λ h. h) A (stay tt) (M.changes.refused (refl, tt)).0
+  went (Err (StoreFault.Leaving left)) M stay A = λ n. quiet_so (Reply.Leaving left) (λ h. h) A (stay tt) (M.changes.refused (refl, tt)).0
   went (Err (StoreFault.HeadMoved name)) M stay A = λ n. quiet_so (Reply.HeadMoved name) (λ h. h) A (stay tt) (M.changes.refused (refl, tt)).0
   went (Err (StoreFault.Existing name)) M stay A = λ n. quiet_so (Reply.Existing name) (λ h. h) A (stay tt) (M.changes.refused (refl, tt)).0
   went (Err (StoreFault.Limit limit)) M stay A = λ n. quiet_so (Reply.Limit limit) (λ h. h) A (stay tt) (M.changes.refused (refl, tt)).0
@@ -194,16 +201,16 @@ module _ (rule : Rule) (a b : Told) (s : Session) (store : Store) (r : Repositor
   went (Err StoreFault.Ground) M stay A = tt
   went (Err (StoreFault.Damaged at_ names)) M stay A = tt
 
-  pub merge_goes : (met : Met) (made : Result Merge StoreFault) (reply : Reply) → met ≡ store.met → merge_reply branch made ≡ Some reply → IsNamed reply → MergesAtMoments rule r number branch info made store a b → (HasAnswer made → Stays) → IfSome (merge_reply branch made) Answered
+  pub merge_goes : (met : Met) (made : Result Merge StoreFault) (reply : Reply) → met ≡ store.met → merge_reply branch made ≡ Some reply → IsNamed reply → MergesAtMoments rule r (phase_of s.store.collection) number branch info made store a b → (HasAnswer made → Stays) → IfSome (merge_reply branch made) Answered
       → GoesBy rule a b s (record s { store = store; met = met }) r v command reply
   merge_goes met made reply e is short M stay A =
       subst (λ (m : Met). GoesBy rule a b s (record s { store = store; met = m }) r v command reply) (sym e) (subst (λ (o : Option Reply). IfSome o (λ x. IsNamed x → Went x)) is (went made M stay A) short)
 
-  pub merge_cut : (met : Met) (made : Result Merge StoreFault) → met ≡ met_only false → MergesAtMoments rule r number branch info made store a b → CutBy rule a b s (record s { store = store; met = met }) r v command
+  pub merge_cut : (met : Met) (made : Result Merge StoreFault) → met ≡ met_only false → MergesAtMoments rule r (phase_of s.store.collection) number branch info made store a b → CutBy rule a b s (record s { store = store; met = met }) r v command
   merge_cut met made e M = record {
     reply = M.reply;
-    after = state_at M.after (work_at s.work v);
-    gives = subst (λ (m : Met). Step rule (state_in s r v) command (conditions_of m) M.reply (state_at M.after (work_at s.work v))) (sym e) (M.turns (work_at s.work v) target named);
+    after = state_at M.after (phase_of s.store.collection) (work_at s.work v);
+    gives = subst (λ (m : Met). Step rule (state_in s r v) command (conditions_of m) M.reply (state_at M.after (phase_of s.store.collection) (work_at s.work v))) (sym e) (M.turns (work_at s.work v) target named);
     only = only_more a b (MayChange a.held) (TouchedBy a.held command) (λ file changed. (refl, changed)) M.changes.only;
     atomic = M.changes.atomic;
   }
@@ -237,6 +244,8 @@ module _ (rule : Rule) (a b : Told) (s : Session) (store : Store) (r : Repositor
   placed (Ok Merge.NoBranch) A L = still_at (Reply.NoBranch branch) (λ h. h) (λ l is. absurd (cc is)) (A tt)
   placed (Ok (Merge.Bases count)) A L = still_at (Reply.Bases count) (λ h. h) (λ l is. absurd (cc is)) (A tt)
   placed (Ok (Merge.Conflict path)) A L = still_at (Reply.Conflict path) (λ h. h) (λ l is. absurd (cc is)) (A tt)
+  placed (Err (StoreFault.GivenUp left)) A L = still_at (Reply.GivenUp left) (λ h. h) (λ l is. absurd (cc is)) (A tt)
+  placed (Err (StoreFault.Leaving left)) A L = still_at (Reply.Leaving left) (λ h. h) (λ l is. absurd (cc is)) (A tt)
   placed (Err (StoreFault.HeadMoved name)) A L = still_at (Reply.HeadMoved name) (λ h. h) (λ l is. absurd (cc is)) (A tt)
   placed (Err (StoreFault.Existing name)) A L = still_at (Reply.Existing name) (λ h. h) (λ l is. absurd (cc is)) (A tt)
   placed (Err (StoreFault.Limit Limit.Space)) A L = record {

@@ -30,6 +30,7 @@ use Rattle.ip_image.proofs.Renaming.{spelled_is}
 use Rattle.ip_store.specs.declared.committing.StoreFault.{StoreFault}
 use Rattle.ip_store.specs.declared.store.Store.{Store}
 use Rattle.ip_store.specs.Changes.{Changes, LimitsSpace, Appends, next_slot}
+use Rattle.ip_store.specs.Collecting.{phase_of}
 use Rattle.ip_store.specs.Commits.{fault_reply, reply_to, records_of, end_of, Commits}
 use Rattle.ip_store.specs.Naming.{branch_reply, removed_reply, without_branch}
 use Rattle.ip_store.specs.Store.{Holds}
@@ -92,6 +93,8 @@ module _ (slot slot' : Slot) (s : State) (v : View) (command : Command) (reply :
 -- the store refused it
 refused : {A : Type 0} (slot slot' : Slot) (s : State) (v : View) (command : Command) (fault : StoreFault) (reply : Reply) (store : Store) → IsPlain slot s v command → fault_reply fault ≡ Some reply → store.slot ≡ slot
     → LimitsSpace {A = A} (slot.end + length_of slot s v command) (Err fault) store → slot' ≡ slot → PlacedBy unasked slot slot' s v command reply
+refused slot slot' s v command (StoreFault.GivenUp number) reply store plain e at limits same = let is : Reply.GivenUp number ≡ reply = cc e in subst (PlacedBy unasked slot slot' s v command) is (unmoved slot slot' s v command (Reply.GivenUp number) unasked (λ h. h) (λ l is. absurd (cc is)) same)
+refused slot slot' s v command (StoreFault.Leaving number) reply store plain e at limits same = let is : Reply.Leaving number ≡ reply = cc e in subst (PlacedBy unasked slot slot' s v command) is (unmoved slot slot' s v command (Reply.Leaving number) unasked (λ h. h) (λ l is. absurd (cc is)) same)
 refused slot slot' s v command (StoreFault.HeadMoved name) reply store plain e at limits same = let is : Reply.HeadMoved name ≡ reply = cc e in subst (PlacedBy unasked slot slot' s v command) is (unmoved slot slot' s v command (Reply.HeadMoved name) unasked (λ h. h) (λ l is. absurd (cc is)) same)
 refused slot slot' s v command (StoreFault.Existing name) reply store plain e at limits same = let is : Reply.Existing name ≡ reply = cc e in subst (PlacedBy unasked slot slot' s v command) is (unmoved slot slot' s v command (Reply.Existing name) unasked (λ h. h) (λ l is. absurd (cc is)) same)
 refused slot slot' s v command (StoreFault.Limit limit) reply store plain e at limits same =
@@ -119,7 +122,7 @@ module _ (a b : Told) (s : Session) (store : Store) (r : Repository) (v : View) 
     length_is : end_of r s.work v branch info s.store ≡ s.store.slot.end + length_of s.store.slot (state_in s r v) v committing
     length_is = lie_long s.store.slot.end (records_of r s.work v branch info s.store) (end_of r s.work v branch info s.store) (batch_lies v (sources v) (fields_of r s.work.parents info branch) s.store.slot.end)
 
-    pub commit_placed : (made : Result Hash StoreFault) (reply : Reply) → reply_to made ≡ Some reply → Commits r s.work v branch info made store a b → LimitsSpace (end_of r s.work v branch info s.store) made s.store
+    pub commit_placed : (made : Result Hash StoreFault) (reply : Reply) → reply_to made ≡ Some reply → Commits r (phase_of s.store.collection) s.work v branch info made store a b → LimitsSpace (end_of r s.work v branch info s.store) made s.store
         → OnOk made (Appends (records_of r s.work v branch info s.store) 1 s.store store a b) → At committing reply
     commit_placed (Ok name) reply e does limits appends =
         let is : Reply.Committed name ≡ reply = cc e in

@@ -17,7 +17,9 @@ use Rattle.ip_spec.specs.Step.{Turns, Step, answer}
 use Rattle.ip_spec.specs.View.{View}
 use Rattle.ip_store.specs.Store.{Holds, image_records}
 use Rattle.ip_store.specs.Trees.{OnlyLooks}
+use Rattle.ip_store.specs.Collecting.{phase_of}
 use Rattle.ip_store.specs.Work.{IsLawful, work_at}
+use Rattle.ip_store.proofs.Machine.{AsksNone}
 use Rattle.ip_session.specs.declared.session.Session.{Session}
 use Rattle.ip_session.specs.declared.session.SessionEnd.{SessionEnd}
 use Rattle.ip_session.specs.Session.{unasked, IsServing, IsWorking, state_in, met_only, conditions_of, is_durable, IsDurable, ChangedBy, TouchedBy, IsAnswered, HasRead, GoesBy, CutBy}
@@ -41,7 +43,7 @@ by_any_rule : (rule : Rule) (s : State) (command : Command) (met : Conditions) (
 by_any_rule rule s (Command.Merge target branch info) met reply s' quiet step = absurd (cc quiet)
 by_any_rule rule s _ met reply s' quiet step = step
 
-module _ (rule : Rule) (a b : Told) (s s' : Session) (r : Repository) (v : View) (here : IsWorking a s r v) (looks : OnlyLooks a b s.store s'.store) (command : Command) (quiet : is_durable command ≡ false) where
+module _ (rule : Rule) (a b : Told) (s s' : Session) (r : Repository) (v : View) (here : IsWorking a s r v) (looks : OnlyLooks a b s.store s'.store) (command : Command) (quiet : is_durable command ≡ false) (asks : AsksNone command) where
   -- the store holds the repository over the same records
   goes : (reply : Reply) → IsAnswered (image_records here.holds) s s' r v command reply → GoesBy rule a b s s' r v command reply
   goes reply A =
@@ -67,7 +69,7 @@ module _ (rule : Rule) (a b : Told) (s s' : Session) (r : Repository) (v : View)
         reply = t.0;
         after = t.1;
         gives = subst (λ (m : Met). Step rule (state_in s r v) command (conditions_of m) t.0 t.1) (sym e)
-            (plainly r (work_at s.work v) command false t.0 (λ h. absurd (cc h)), plain rule (state_in s r v) command (conditions_of (met_only false)) quiet);
+            (plainly r (phase_of s.store.collection) (work_at s.work v) command false t.0 asks (λ h. absurd (cc h)), plain rule (state_in s r v) command (conditions_of (met_only false)) quiet);
         only = only_more a b NoFile (TouchedBy a.held command) (λ file none. absurd none) looks.reads.only;
         atomic = λ order. keeps_still s.store r t.1.repository a b here.holds order looks.reads.only;
       }
@@ -77,10 +79,10 @@ read_serves tells a b s s' command (Ok reply) (r, is) has = (r, has.tables r is)
 read_serves tells a b s s' command (Err end) serving has = tt
 
 module _ (rule : Rule) (tells : Bool) (a b : Told) (s s' : Session) (command : Command) (told : IsTrue tells) (r : Repository) (v : View) (here : IsWorking a s r v) where
-  pub read_goes : (result : Result Reply SessionEnd) → is_durable command ≡ false → HasRead tells a b s s' command result → IfOk result (GoesBy rule a b s s' r v command)
-  read_goes (Ok reply) quiet has = goes rule a b s s' r v here (has.looks told) command quiet reply (has.answered told r v here)
-  read_goes (Err end) quiet has = tt
+  pub read_goes : (result : Result Reply SessionEnd) → is_durable command ≡ false → AsksNone command → HasRead tells a b s s' command result → IfOk result (GoesBy rule a b s s' r v command)
+  read_goes (Ok reply) quiet asks has = goes rule a b s s' r v here (has.looks told) command quiet asks reply (has.answered told r v here)
+  read_goes (Err end) quiet asks has = tt
 
-  pub read_cut : (result : Result Reply SessionEnd) → is_durable command ≡ false → s.met ≡ met_only false → HasRead tells a b s s' command result → OnErr result (CutBy rule a b s s' r v command)
-  read_cut (Ok reply) quiet e has = tt
-  read_cut (Err end) quiet e has = cut rule a b s s' r v here (has.looks told) command quiet (has.unmet refl ∙ e)
+  pub read_cut : (result : Result Reply SessionEnd) → is_durable command ≡ false → AsksNone command → s.met ≡ met_only false → HasRead tells a b s s' command result → OnErr result (CutBy rule a b s s' r v command)
+  read_cut (Ok reply) quiet asks e has = tt
+  read_cut (Err end) quiet asks e has = cut rule a b s s' r v here (has.looks told) command quiet asks (has.unmet refl ∙ e)

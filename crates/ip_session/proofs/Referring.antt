@@ -17,7 +17,7 @@ use Rattle.ip_spec.specs.Path.{Bytes, Path, same_bytes}
 use Rattle.ip_spec.specs.Record.{Hash}
 use Rattle.ip_spec.specs.Repository.{Repository, Commit, next, head, name_at, tree_at, number_named, is_retained}
 use Rattle.ip_spec.specs.Tree.{Tree, subtree, place, graft, is_empty, height, widest, got_at}
-use Rattle.ip_spec.specs.Machine.{Work, State}
+use Rattle.ip_spec.specs.Machine.{Phase, Work, State}
 use Rattle.ip_spec.specs.Step.{Refused, present, ◌>>=◌, ◌>>◌, refuse_if, or_refused, Turned, not_given_up, parents_limit, entries_limit, steps_limit, resolve, with_parent, graft_turn, least_with, head_of, commit_reply, got_reply, Step, outcome}
 use Rattle.ip_store.specs.declared.store.Store.{Store}
 use Rattle.ip_store.specs.Store.{IsOf}
@@ -88,9 +88,9 @@ named_retained r name n is = inside r (λ c. same_bytes c.name name) n (position
 bound : (s : State) (g : Refused ℕ) (f : ℕ → Refused Turned) (x : Refused ℕ) → g ≡ x → or_refused s (g >>= f) ≡ or_refused s (x >>= f)
 bound s g f x e = ap (λ (y : Refused ℕ). or_refused s (y >>= f)) e
 
-module _ (r : Repository) (w : Work) where
+module _ (r : Repository) (phase : Phase) (w : Work) where
   abbrev s : State
-  s = at r w
+  s = at r phase w
 
   abbrev Gives : Command → Reply → State → Type 0
   Gives command reply s' = Step unasked s command (conditions_of (met_only false)) reply s'
@@ -102,10 +102,10 @@ module _ (r : Repository) (w : Work) where
 
   parent_turn : (target : Target) (x : Refused ℕ) → NoneGivenUp r w → resolve r target ≡ x → or_refused s (outcome s (Command.Parent target) (conditions_of (met_only false))) ≡ or_refused s (x >>= as_parent)
   unfolding outcome
-  parent_turn target x kept is = behind s (not_given_up s) (resolve r target >>= as_parent) (still_there r w kept) ∙ bound s (resolve r target) as_parent x is
+  parent_turn target x kept is = behind s (not_given_up s) (resolve r target >>= as_parent) (still_there r phase w kept) ∙ bound s (resolve r target) as_parent x is
 
   parent_gives : (target : Target) (reply : Reply) (s' : State) (x : Refused ℕ) → NoneGivenUp r w → resolve r target ≡ x → (reply, s') ≡ or_refused s (x >>= as_parent) → Gives (Command.Parent target) reply s'
-  parent_gives target reply s' x kept is gives = (plainly r w (Command.Parent target) false reply (λ h. absurd (cc h)), gives ∙ sym (parent_turn target x kept is))
+  parent_gives target reply s' x kept is gives = (plainly r phase w (Command.Parent target) false reply tt (λ h. absurd (cc h)), gives ∙ sym (parent_turn target x kept is))
 
   pub parent_unnamed : (target : Target) (reply : Reply) → NoneGivenUp r w → resolve r target ≡ Err reply → Gives (Command.Parent target) reply s
   parent_unnamed target reply kept is = parent_gives target reply s (Err reply) kept is refl
@@ -123,7 +123,7 @@ module _ (r : Repository) (w : Work) where
   not_full k h = grind (arith, nat_tests)
 
   abbrev with_one : ℕ → State
-  with_one n = at r (record w { parents = w.parents ++ n ∷ []; least = least_with w.least n })
+  with_one n = at r phase (record w { parents = w.parents ++ n ∷ []; least = least_with w.least n })
 
   room : (n : ℕ) (b : Bool) → nat_le parents_limit (length w.parents) ≡ b → or_refused s (with_parent s n false) ≡ or_refused s (refuse_if b (Reply.Limit Limit.Parents) >> Ok (Reply.Accepted, with_one n))
   room n b e = ap (λ (x : Bool). or_refused s (refuse_if x (Reply.Limit Limit.Parents) >> Ok (Reply.Accepted, with_one n))) e
@@ -137,24 +137,24 @@ module _ (r : Repository) (w : Work) where
   -- ---- trees of commits
 
   abbrev checked_out : ℕ → Turned
-  checked_out n = (Reply.At (name_at r n), at r (record { tree = tree_at r n; parents = n ∷ []; least = Some n }))
+  checked_out n = (Reply.At (name_at r n), at r phase (record { tree = tree_at r n; parents = n ∷ []; least = Some n }))
 
   checkout_gives : (target : Target) (reply : Reply) (s' : State) (x : Refused ℕ) → resolve r target ≡ x → (reply, s') ≡ or_refused s (x >>= (λ n. Ok (checked_out n))) → Gives (Command.Checkout target) reply s'
   unfolding outcome
-  checkout_gives target reply s' x is gives = (plainly r w (Command.Checkout target) false reply (λ h. absurd (cc h)), gives ∙ sym (bound s (resolve r target) (λ n. Ok (checked_out n)) x is))
+  checkout_gives target reply s' x is gives = (plainly r phase w (Command.Checkout target) false reply tt (λ h. absurd (cc h)), gives ∙ sym (bound s (resolve r target) (λ n. Ok (checked_out n)) x is))
 
   pub checkout_unnamed : (target : Target) (reply : Reply) → resolve r target ≡ Err reply → Gives (Command.Checkout target) reply s
   checkout_unnamed target reply is = checkout_gives target reply s (Err reply) is refl
 
-  pub checkout_done : (target : Target) (n : ℕ) → resolve r target ≡ Ok n → Gives (Command.Checkout target) (Reply.At (name_at r n)) (at r (record { tree = tree_at r n; parents = n ∷ []; least = Some n }))
-  checkout_done target n is = checkout_gives target (Reply.At (name_at r n)) (at r (record { tree = tree_at r n; parents = n ∷ []; least = Some n })) (Ok n) is refl
+  pub checkout_done : (target : Target) (n : ℕ) → resolve r target ≡ Ok n → Gives (Command.Checkout target) (Reply.At (name_at r n)) (at r phase (record { tree = tree_at r n; parents = n ∷ []; least = Some n }))
+  checkout_done target n is = checkout_gives target (Reply.At (name_at r n)) (at r phase (record { tree = tree_at r n; parents = n ∷ []; least = Some n })) (Ok n) is refl
 
   abbrev read_at : Path → ℕ → Reply
   read_at path n = got_reply (got_at (tree_at r n) path)
 
   cat_gives : (target : Target) (path : Path) (reply : Reply) (x : Refused ℕ) → resolve r target ≡ x → (reply, s) ≡ or_refused s (x >>= (λ n. Ok (read_at path n, s))) → Gives (Command.Cat target path) reply s
   unfolding outcome
-  cat_gives target path reply x is gives = (plainly r w (Command.Cat target path) false reply (λ h. absurd (cc h)), gives ∙ sym (bound s (resolve r target) (λ n. Ok (read_at path n, s)) x is))
+  cat_gives target path reply x is gives = (plainly r phase w (Command.Cat target path) false reply tt (λ h. absurd (cc h)), gives ∙ sym (bound s (resolve r target) (λ n. Ok (read_at path n, s)) x is))
 
   pub cat_unnamed : (target : Target) (path : Path) (reply : Reply) → resolve r target ≡ Err reply → Gives (Command.Cat target path) reply s
   cat_unnamed target path reply is = cat_gives target path reply (Err reply) is refl
@@ -168,8 +168,8 @@ module _ (r : Repository) (w : Work) where
   graft_gives : (target : Target) (from to : Path) (reply : Reply) (s' : State) (x : Refused ℕ) → NoneGivenUp r w → resolve r target ≡ x → (reply, s') ≡ or_refused s (x >>= grafted from to) → Gives (Command.Graft target from to) reply s'
   unfolding outcome
   graft_gives target from to reply s' x kept is gives = (
-    plainly r w (Command.Graft target from to) false reply (λ h. absurd (cc h)),
-    gives ∙ sym (behind s (not_given_up s) (resolve r target >>= grafted from to) (still_there r w kept) ∙ bound s (resolve r target) (grafted from to) x is),
+    plainly r phase w (Command.Graft target from to) false reply tt (λ h. absurd (cc h)),
+    gives ∙ sym (behind s (not_given_up s) (resolve r target >>= grafted from to) (still_there r phase w kept) ∙ bound s (resolve r target) (grafted from to) x is),
   )
 
   pub graft_unnamed : (target : Target) (from to : Path) (reply : Reply) → NoneGivenUp r w → resolve r target ≡ Err reply → Gives (Command.Graft target from to) reply s
@@ -183,7 +183,7 @@ module _ (r : Repository) (w : Work) where
     sub = subtree source from
 
     abbrev with_graft : Tree → State
-    with_graft tree = at r (record w { tree = tree; least = least_with w.least n })
+    with_graft tree = at r phase (record w { tree = tree; least = least_with w.least n })
 
     -- behind the tests
     abbrev unlimited : Refused Turned
@@ -224,11 +224,11 @@ module _ (r : Repository) (w : Work) where
 
   pub branches_done : Gives Command.Branches (Reply.Branches (map (head_of r) r.branches.entries)) s
   unfolding outcome
-  branches_done = (plainly r w Command.Branches false (Reply.Branches (map (head_of r) r.branches.entries)) (λ h. absurd (cc h)), refl)
+  branches_done = (plainly r phase w Command.Branches false (Reply.Branches (map (head_of r) r.branches.entries)) tt (λ h. absurd (cc h)), refl)
 
   show_gives : (target : Target) (reply : Reply) (x : Refused ℕ) → resolve r target ≡ x → (reply, s) ≡ or_refused s (x >>= (λ n. Ok (commit_reply r n, s))) → Gives (Command.Show target) reply s
   unfolding outcome
-  show_gives target reply x is gives = (plainly r w (Command.Show target) false reply (λ h. absurd (cc h)), gives ∙ sym (bound s (resolve r target) (λ n. Ok (commit_reply r n, s)) x is))
+  show_gives target reply x is gives = (plainly r phase w (Command.Show target) false reply tt (λ h. absurd (cc h)), gives ∙ sym (bound s (resolve r target) (λ n. Ok (commit_reply r n, s)) x is))
 
   pub show_unnamed : (target : Target) (reply : Reply) → resolve r target ≡ Err reply → Gives (Command.Show target) reply s
   show_unnamed target reply is = show_gives target reply (Err reply) is refl
@@ -241,7 +241,7 @@ module _ (r : Repository) (w : Work) where
 
   log_gives : (target : Target) (reply : Reply) (x : Refused ℕ) → resolve r target ≡ x → (reply, s) ≡ or_refused s (x >>= (λ n. Ok (logged n, s))) → Gives (Command.Log target) reply s
   unfolding outcome
-  log_gives target reply x is gives = (plainly r w (Command.Log target) false reply (λ h. absurd (cc h)), gives ∙ sym (bound s (resolve r target) (λ n. Ok (logged n, s)) x is))
+  log_gives target reply x is gives = (plainly r phase w (Command.Log target) false reply tt (λ h. absurd (cc h)), gives ∙ sym (bound s (resolve r target) (λ n. Ok (logged n, s)) x is))
 
   pub log_unnamed : (target : Target) (reply : Reply) → resolve r target ≡ Err reply → Gives (Command.Log target) reply s
   log_unnamed target reply is = log_gives target reply (Err reply) is refl
@@ -257,7 +257,7 @@ module _ (r : Repository) (w : Work) where
 
   lcas_gives : (one other : Target) (reply : Reply) (x : Refused ℕ) → resolve r one ≡ x → (reply, s) ≡ or_refused s (x >>= second other) → Gives (Command.Lcas one other) reply s
   unfolding outcome
-  lcas_gives one other reply x is gives = (plainly r w (Command.Lcas one other) false reply (λ h. absurd (cc h)), gives ∙ sym (bound s (resolve r one) (second other) x is))
+  lcas_gives one other reply x is gives = (plainly r phase w (Command.Lcas one other) false reply tt (λ h. absurd (cc h)), gives ∙ sym (bound s (resolve r one) (second other) x is))
 
   pub lcas_unnamed : (one other : Target) (reply : Reply) → resolve r one ≡ Err reply → Gives (Command.Lcas one other) reply s
   lcas_unnamed one other reply is = lcas_gives one other reply (Err reply) is refl

@@ -1,5 +1,5 @@
 -- A command that is refused, or a line that is none, leaves what is known of the work's tree.
---     memory_seen, limit_seen, bad_seen, unnamed_seen      by its reply
+--     memory_seen, limit_seen, given_seen, bad_seen, unnamed_seen      by its reply
 use Rattle.std.proofs.Common.{◌≡◌, ℕ, refl, subst, Err}
 use Rattle.ip_base.specs.declared.limit.Limit.{Limit}
 use Rattle.ip_spec.specs.declared.command.Command.{Command}
@@ -28,6 +28,15 @@ limit_seen r v (Command.Rm path) limit = refl
 limit_seen r v (Command.Graft target from to) limit = refl
 limit_seen r v (Command.Commit branch info) limit = refl
 limit_seen r v _ limit = refl
+
+pub given_seen : (r : Repository) (v : View) (command : Command) (number : ℕ) → IsViewAfter r v command (Reply.GivenUp number) v
+given_seen r v Command.Empty number = refl
+given_seen r v (Command.Checkout target) number = refl
+given_seen r v (Command.Set path bytes) number = refl
+given_seen r v (Command.Rm path) number = refl
+given_seen r v (Command.Graft target from to) number = refl
+given_seen r v (Command.Commit branch info) number = refl
+given_seen r v _ number = refl
 
 pub bad_seen : (r : Repository) (v : View) (command : Command) (place : ℕ) → IsViewAfter r v command (Reply.Bad place) v
 bad_seen r v Command.Empty place = refl

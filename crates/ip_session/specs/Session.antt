@@ -41,6 +41,7 @@ use Rattle.ip_image.specs.Pending.{NothingPending}
 use Rattle.ip_image.specs.Headline.{IsAtomic}
 use Rattle.ip_store.specs.declared.committing.StoreFault.{StoreFault}
 pub use Rattle.ip_store.specs.Commits.{conditions_of}
+use Rattle.ip_store.specs.Collecting.{phase_of}
 use Rattle.ip_store.specs.Commits.{met_nothing}
 use Rattle.ip_store.specs.Publishing.{MayChange}
 use Rattle.ip_store.specs.Showing.{fault_from}
@@ -53,7 +54,7 @@ use Rattle.ip_session.specs.declared.session.Session.{Session}
 use Rattle.ip_session.specs.declared.session.SessionEnd.{SessionEnd}
 
 abbrev pub IsIn : Session → Repository → Type 0
-IsIn s r = IsOf s.store r × AreParents r s.work.parents
+IsIn s r = IsOf s.store r × AreParents r s.work.least s.work.parents
 
 abbrev pub IsServing : Session → Type 0
 IsServing s = (r : Repository) × IsIn s r
@@ -62,7 +63,7 @@ abbrev pub IsWorking : Told → Session → Repository → View → Type 0
 IsWorking told s r v = IsAt told s.store r s.work v
 
 abbrev pub state_in : Session → Repository → View → State
-state_in s r v = session r s.work v
+state_in s r v = session r (phase_of s.store.collection) s.work v
 
 -- it has no answer: the steps of all commands but `merge` are the same by any rule
 abbrev pub unasked : Rule
@@ -191,7 +192,9 @@ ground_end (SessionEnd.Damaged at names) = false
 
 -- refusals are answered, want of memory among them, and faults of the ground and of its files end the session
 abbrev pub fault_answer : StoreFault → Result Reply SessionEnd
+fault_answer (StoreFault.GivenUp number) = Ok (Reply.GivenUp number)
 fault_answer (StoreFault.HeadMoved name) = Ok (Reply.HeadMoved name)
+fault_answer (StoreFault.Leaving number) = Ok (Reply.Leaving number)
 fault_answer (StoreFault.Existing name) = Ok (Reply.Existing name)
 fault_answer (StoreFault.Limit limit) = Ok (Reply.Limit limit)
 fault_answer StoreFault.Memory = Ok Reply.Memory

@@ -67,7 +67,9 @@ pub(crate) fn fault_reply(fault: &StoreFault) -> Option<Reply>
     ensures { result ≡ fault_reply fault.now }
 {
     match fault {
+        StoreFault::GivenUp(number) => Some(Reply::GivenUp(*number)),
         StoreFault::HeadMoved(name) => Some(Reply::HeadMoved(*name)),
+        StoreFault::Leaving(number) => Some(Reply::Leaving(*number)),
         StoreFault::Existing(name) => Some(Reply::Existing(*name)),
         StoreFault::Limit(limit) => Some(Reply::Limit(*limit)),
         StoreFault::Memory => Some(Reply::Memory),
@@ -144,7 +146,9 @@ fn fault_answer(fault: StoreFault) -> Result<Reply, SessionEnd>
     ensures long { IfOk result IsNamed }
 {
     match fault {
+        StoreFault::GivenUp(number) => Ok(Reply::GivenUp(number)),
         StoreFault::HeadMoved(name) => Ok(Reply::HeadMoved(name)),
+        StoreFault::Leaving(number) => Ok(Reply::Leaving(number)),
         StoreFault::Existing(name) => Ok(Reply::Existing(name)),
         StoreFault::Limit(limit) => Ok(Reply::Limit(limit)),
         StoreFault::Memory => Ok(Reply::Memory),
@@ -182,7 +186,9 @@ pub(crate) fn failed(fault: StoreFault, met: &mut Met) -> Result<Reply, SessionE
 {
     match fault {
         StoreFault::Memory => Ok(refuse(met)),
+        StoreFault::GivenUp(number) => fault_answer(StoreFault::GivenUp(number)),
         StoreFault::HeadMoved(name) => fault_answer(StoreFault::HeadMoved(name)),
+        StoreFault::Leaving(number) => fault_answer(StoreFault::Leaving(number)),
         StoreFault::Existing(name) => fault_answer(StoreFault::Existing(name)),
         StoreFault::Limit(limit) => fault_answer(StoreFault::Limit(limit)),
         StoreFault::Ground => fault_answer(StoreFault::Ground),

@@ -11,11 +11,12 @@ ghost use Rattle.ip_spec.specs.Machine.{opened};
 ghost use Rattle.ip_spec.specs.declared.command.Command.TheVariants as Command;
 ghost use Rattle.ip_spec.specs.declared.reply.Reply.{Reply};
 ghost use Rattle.ip_spec.specs.declared.reply.Reply.TheVariants as Reply;
-ghost use Rattle.ip_spec.specs.Step.{resolve, least_with};
+ghost use Rattle.ip_spec.specs.Step.{resolve, least_with, phase_at};
 ghost use Rattle.ip_spec.specs.Text.{reply_text};
+ghost use Rattle.ip_store.specs.Collecting.{phase_of};
 ghost use Rattle.ip_store.specs.Commits.{met_nothing};
 ghost use Rattle.ip_store.specs.Store.{IsOf};
-ghost use Rattle.ip_store.specs.Work.{IsLawful};
+ghost use Rattle.ip_store.specs.Work.{IsLawful, IsThere};
 ghost use Rattle.ip_merge.specs.Rules.{IsDecisive};
 ghost use Rattle.ip_session.specs.Placing.{PlacedIn};
 ghost use Rattle.ip_session.specs.Running.{Runs};
@@ -90,7 +91,7 @@ impl Session {
         ensures store { result.store ≡ store }
         ensures met { result.met ≡ met_nothing }
         ensures is_in { (r : Repository) → IsOf store r → IsIn result r }
-        ensures state { (r : Repository) → state_in result r no_view ≡ opened r }
+        ensures state { store.collection ≡ None → (r : Repository) → state_in result r no_view ≡ opened r }
         ensures lawful { (records : ℕ → Option Record) (r : Repository) → IsLawful records r result.work no_view }
     {
         Session {
@@ -114,7 +115,7 @@ impl Session {
         requires tables { (r : Repository) × IsIn self.old r × IsTrue (is_retained r number) }
         ensures tables { (r : Repository) → IsIn self.old r → IsTrue (is_retained r number) → IsIn self.new r }
         ensures same_store { self.new.store ≡ self.old.store }
-        ensures answered { (records : ℕ → Option Record) (r : Repository) (v : View) → IsOf self.old.store r → IsLawful records r self.old.work v → IsTrue (is_retained r number) →
+        ensures answered { (records : ℕ → Option Record) (r : Repository) (v : View) → IsOf self.old.store r → IsLawful records r self.old.work v → IsThere r self.old.work.least → IsTrue (is_retained r number) →
             (target : Target) → resolve r target ≡ Ok number → IsAnswered records self.old self.new r v (Command.Parent target) result }
     {
         let parents = self.work.parents.as_slice();
@@ -140,6 +141,9 @@ impl Session {
         ensures answered { (records : ℕ → Option Record) (r : Repository) (v : View) → IsOf self.old.store r → IsLawful records r self.old.work v →
             IsAnswered records self.old self.new r v (Command.Parent target) result }
     {
+        if let Some(number) = self.store.given_up(self.work.least) {
+            return Reply::GivenUp(number);
+        }
         match resolve(&self.store, target) {
             Ok(number) => self.add_parent(number),
             Err(reply) => reply,
@@ -205,7 +209,7 @@ impl Session {
 
     // The numbers of the store.
     fn stat(&self) -> Reply
-        ensures { (r : Repository) → IsOf self.now.store r → result ≡ Reply.Stat r.floor (next r) (len r.branches) None }
+        ensures { (r : Repository) → IsOf self.now.store r → result ≡ Reply.Stat r.floor (next r) (len r.branches) (phase_at (phase_of self.now.store.collection)) }
     {
         Reply::Stat {
             floor: self.store.floor(),

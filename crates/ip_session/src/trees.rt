@@ -63,6 +63,9 @@ impl Session {
         ensures counts { Counts ground_end result (G.counts_of ground.old) (G.counts_of ground.new) }
         ensures cause { IfErr result (EndsBy (IsHeld G.tells (G.told ground.old) self.old)) }
     {
+        if let Some(number) = self.store.given_up(self.work.least) {
+            return Ok(Reply::GivenUp(number));
+        }
         let tree = &mut self.work.tree;
         match self.store.set(self.alloc, ground, tree, path.steps(), contents.as_slice()) {
             Ok(()) => Ok(Reply::Accepted),
@@ -83,6 +86,9 @@ impl Session {
         ensures counts { Counts ground_end result (G.counts_of ground.old) (G.counts_of ground.new) }
         ensures cause { IfErr result (EndsBy (IsHeld G.tells (G.told ground.old) self.old)) }
     {
+        if let Some(number) = self.store.given_up(self.work.least) {
+            return Ok(Reply::GivenUp(number));
+        }
         let tree = &mut self.work.tree;
         match self.store.remove(self.alloc, ground, tree, path.steps()) {
             Ok(true) => Ok(Reply::Accepted),
@@ -106,6 +112,9 @@ impl Session {
         ensures counts { Counts ground_end result (G.counts_of ground.old) (G.counts_of ground.new) }
         ensures cause { IfErr result (EndsBy (IsHeld G.tells (G.told ground.old) self.old)) }
     {
+        if let Some(number) = self.store.given_up(self.work.least) {
+            return Ok(Reply::GivenUp(number));
+        }
         let number = match resolve(&self.store, target) {
             Ok(number) => number,
             Err(reply) => return Ok(reply),
@@ -133,6 +142,9 @@ impl Session {
         ensures counts { Counts ground_end result (G.counts_of ground.old) (G.counts_of ground.new) }
         ensures cause { IfErr result (EndsBy (IsHeld G.tells (G.told ground.old) self.old)) }
     {
+        if let Some(number) = self.store.given_up(self.work.least) {
+            return Ok(Reply::GivenUp(number));
+        }
         match self
             .store
             .get(self.alloc, ground, &self.work.tree, path.steps())
@@ -154,6 +166,9 @@ impl Session {
         ensures counts { Counts ground_end result (G.counts_of ground.old) (G.counts_of ground.new) }
         ensures cause { IfErr result (EndsBy (IsHeld G.tells (G.told ground.old) self.old)) }
     {
+        if let Some(number) = self.store.given_up(self.work.least) {
+            return Ok(Reply::GivenUp(number));
+        }
         match self
             .store
             .list(self.alloc, ground, &self.work.tree, path.steps())

@@ -35,7 +35,7 @@ lines-init g c =
     let opened = c.in-Ok.ensures.opened in
     record {
       roomy = c.in-Ok-new.ensures.roomy;
-      served = λ decisive by_rule. served_first _ decisive by_rule _ _ c.in-Ok-new.room.lines c.turn_counts-counts.result c.new-session.result opened.repository no_view refl (with_flag _ decisive (known_or_not g.G.Ground.tells _ (λ told owns. live_in _ _ (opened.stands told owns)))) (opened.repository, c.new-session.ensures.is_in opened.repository opened.tables) (c.new-session.ensures.state opened.repository)
+      served = λ decisive by_rule. served_first _ decisive by_rule _ _ c.in-Ok-new.room.lines c.turn_counts-counts.result c.new-session.result opened.repository no_view refl (with_flag _ decisive (known_or_not g.G.Ground.tells _ (λ told owns. live_in _ _ (opened.stands told owns)))) (opened.repository, c.new-session.ensures.is_in opened.repository opened.tables) (c.new-session.ensures.state c.in-Ok.ensures.idle opened.repository)
           (λ tells. begins_working _ c.new-session.result _ opened.repository c.new-session.ensures.store c.new-session.ensures.lawful (opened.holds tells.0 tells.1)) (λ tells. opened.stands tells.0 tells.1) opened.opening (λ tells. opened.over tells.0 tells.1) (c.turn_counts-counts.ensures ∙ ap turn_counts c.counts.ensures) c.in-Ok.ensures.no_fault refl
           (record { source_tells = refl; ground_tells = refl; log_tells = λ t. t; read_faults = le_refl (g.S.Source.read_faults c.args.source.now); counts = falls_same _ _ c.in-Ok.ensures.no_fault })
           c.open_in.ensures.only refl refl c.in-Ok-new.ensures.pending c.in-Ok-new.ensures.taken;

@@ -2,6 +2,7 @@ use Rattle.std.proofs.Common.{refl, ◌≡◌, ap, sym}
 use Rattle.ip_spec.specs.declared.command.Command.TheVariants as Command
 use Rattle.ip_spec.specs.Tree.{Tree, got_at}
 use Rattle.ip_tree.specs.Reads.{IsFree}
+use Rattle.ip_store.specs.Collecting.{phase_of}
 use Rattle.ip_store.specs.Work.{work_at}
 use Rattle.ip_session.specs.Session.{state_in, tree_fault}
 use Rattle.ip_session.proofs.SessionLemmas.{cat_refused}
@@ -13,7 +14,7 @@ pub returns-in-Err-clause-reads : goal.returns-in-Err-clause-reads
 returns-in-Err-clause-reads g c =
     let s = c.args.self.now in
     unread _ _ s s.met (Command.Cat c.args.target c.args.path) c.in-Err.reply c.requires.met (cat_refused c.args.target c.args.path) (λ r v of. refl)
-    (λ r v of kept. cat_unnamed r (work_at s.work v) c.args.target c.args.path c.in-Err.reply (sym (c.in-Err.ensures.number r of)))
+    (λ r v of. cat_unnamed r (phase_of s.store.collection) (work_at s.work v) c.args.target c.args.path c.in-Err.reply (sym (c.in-Err.ensures.number r of)))
 
 pub tree_of-requires : goal.tree_of-requires
 tree_of-requires g c =
@@ -45,7 +46,7 @@ returns-in-Ok-get-clause-reads g c =
     let of = here.holds.tables in
     let read = c.in-Ok-tree_of.ensures.tree told r here.holds (c.in-Ok.ensures.retained r of) in (
       here.lawful.tree,
-      cat_gives r (work_at s.work v) c.args.target path n c.in-Ok-get.got c.got_reply.result (sym (c.in-Ok.ensures.number r of)) c.got_reply.ensures
+      cat_gives r (phase_of s.store.collection) (work_at s.work v) c.args.target path n c.in-Ok-get.got c.got_reply.result (sym (c.in-Ok.ensures.number r of)) c.got_reply.ensures
           (got_behind _ _ s.store mid (c.tree_of.ensures.looks told) r here.holds c.in-Ok-tree_of.tree n (λ (m : Tree). c.in-Ok-get.got ≡ got_at m path) (c.in-Ok-get.ensures.got told) read),
     )))
 

@@ -1,6 +1,7 @@
 use Rattle.std.proofs.Common.{rules, ◌≡◌, [], ◌∷◌, sym}
 use Rattle.ip_spec.specs.declared.command.Command.TheVariants as Command
 use Rattle.ip_spec.specs.declared.reply.Reply.TheVariants as Reply
+use Rattle.ip_store.specs.Collecting.{phase_of}
 use Rattle.ip_store.specs.Work.{work_at}
 use Rattle.ip_store.proofs.Stepping.{same_tables}
 use Rattle.ip_session.proofs.SessionLemmas.{checkout_refused}
@@ -14,7 +15,7 @@ returns-in-Err-clause-reads g c =
     let s = c.args.self.now in
     unread _ _ s s.met (Command.Checkout c.args.target) c.in-Err.reply c.requires.met (checkout_refused c.args.target)
     (λ r v of. unnamed_seen r v (Command.Checkout c.args.target) c.args.target c.in-Err.reply (sym (c.in-Err.ensures.number r of)))
-    (λ r v of kept. checkout_unnamed r (work_at s.work v) c.args.target c.in-Err.reply (sym (c.in-Err.ensures.number r of)))
+    (λ r v of. checkout_unnamed r (phase_of s.store.collection) (work_at s.work v) c.args.target c.in-Err.reply (sym (c.in-Err.ensures.number r of)))
 
 pub returns-then-is_err-clause-reads : goal.returns-then-is_err-clause-reads
 returns-then-is_err-clause-reads g c = refused_unread _ _ c.args.self.now c.refuse.new.met (Command.Checkout c.args.target) c.refuse.result c.refuse.ensures.met c.refuse.ensures.reply (checkout_refused c.args.target)

@@ -10,7 +10,7 @@ returns-in-Some-clause-runs g c = record {
       let on = c.commit-made.ensures.tables r is.0 is.1 (has_answer c.commit-made.result c.in-Some.reply (sym c.reply_to.ensures.reply ∙ c.in-Some.is)) in
       (on.repository, (on.tables, on.parents));
   goes = λ told r v here.
-      commit_goes _ _ c.args.self.now c.commit-made.new.self c.commit-made.new.work _ r v here c.args.branch.now c.args.info c.commit-made.result (c.commit-made.ensures.any_moment told r v here)
+      commit_goes _ _ c.args.self.now c.commit-made.new.self c.commit-made.new.work _ r v here c.args.branch.now c.args.info c.commit-made.result c.commit-made.ensures.same_collection (c.commit-made.ensures.any_moment told r v here)
       c.in-Some.reply c.met-self.ensures (sym c.reply_to.ensures.reply ∙ c.in-Some.is) c.reply_to.ensures.long (c.commit-made.ensures.answered told r v here);
   placed = λ told r v here.
       commit_placed _ _ c.args.self.now c.commit-made.new.self r v here c.args.branch.now c.args.info c.commit-made.result c.in-Some.reply (sym c.reply_to.ensures.reply ∙ c.in-Some.is)
@@ -23,5 +23,5 @@ returns-in-None-clause-runs g c = record {
   serving = tt;
   goes = λ told r v here. tt;
   placed = λ told r v here. tt;
-  cut = λ told r v here. commit_cut _ _ c.args.self.now c.commit-made.new.self c.commit-made.new.work _ r v here c.args.branch.now c.args.info c.commit-made.result (c.commit-made.ensures.any_moment told r v here) c.requires.met;
+  cut = λ told r v here. commit_cut _ _ c.args.self.now c.commit-made.new.self c.commit-made.new.work _ r v here c.args.branch.now c.args.info c.commit-made.result c.commit-made.ensures.same_collection (c.commit-made.ensures.any_moment told r v here) c.requires.met;
 }

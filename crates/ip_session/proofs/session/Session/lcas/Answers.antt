@@ -1,6 +1,7 @@
 use Rattle.std.proofs.Common.{refl, sym, ap, subst, ◌∙◌}
 use Rattle.ip_spec.specs.declared.command.Command.TheVariants as Command
 use Rattle.ip_spec.specs.declared.reply.Reply.{Reply}
+use Rattle.ip_store.specs.Collecting.{phase_of}
 use Rattle.ip_store.specs.Work.{work_at}
 use Rattle.ip_session.specs.declared.session.Session.{Session}
 use Rattle.ip_session.specs.Session.{IsAnswered}
@@ -10,12 +11,12 @@ use Rattle.ip_session.proofs.Reading.{still_answered, memory_answered}
 use Rattle.ip_session.proofs.session.Session.lcas.Goals as goal
 
 pub returns-in-Err-clause-answered : goal.returns-in-Err-clause-answered
-returns-in-Err-clause-answered c records r v of l = still_answered records c.args.self.now c.args.self.now r v (Command.Lcas c.args.one c.args.other) refl l c.in-Err.reply c.requires.met
-    (lcas_unnamed r (work_at c.args.self.now.work v) c.args.one c.args.other c.in-Err.reply (sym (c.in-Err.ensures.number r of))) refl (lcas_refused c.args.one c.args.other)
+returns-in-Err-clause-answered c records r v of l = still_answered records c.args.self.now c.args.self.now r v (Command.Lcas c.args.one c.args.other) refl refl l c.in-Err.reply c.requires.met
+    (lcas_unnamed r (phase_of c.args.self.now.store.collection) (work_at c.args.self.now.work v) c.args.one c.args.other c.in-Err.reply (sym (c.in-Err.ensures.number r of))) refl (lcas_refused c.args.one c.args.other)
 
 pub returns-in-Err-resolve-clause-answered : goal.returns-in-Err-resolve-clause-answered
-returns-in-Err-resolve-clause-answered c records r v of l = still_answered records c.args.self.now c.args.self.now r v (Command.Lcas c.args.one c.args.other) refl l c.in-Err-resolve.reply c.requires.met
-    (lcas_unnamed_second r (work_at c.args.self.now.work v) c.args.one c.args.other c.in-Ok.number c.in-Err-resolve.reply (sym (c.in-Ok.ensures.number r of)) (sym (c.in-Err-resolve.ensures.number r of)))
+returns-in-Err-resolve-clause-answered c records r v of l = still_answered records c.args.self.now c.args.self.now r v (Command.Lcas c.args.one c.args.other) refl refl l c.in-Err-resolve.reply c.requires.met
+    (lcas_unnamed_second r (phase_of c.args.self.now.store.collection) (work_at c.args.self.now.work v) c.args.one c.args.other c.in-Ok.number c.in-Err-resolve.reply (sym (c.in-Ok.ensures.number r of)) (sym (c.in-Err-resolve.ensures.number r of)))
     refl (lcas_refused c.args.one c.args.other)
 
 pub lcas-requires : goal.lcas-requires
@@ -28,8 +29,8 @@ pub returns-in-Ok-lcas-clause-answered : goal.returns-in-Ok-lcas-clause-answered
 returns-in-Ok-lcas-clause-answered c records r v of l =
     let s = c.args.self.now in
     subst (IsAnswered records s s r v (Command.Lcas c.args.one c.args.other)) (sym (ap Reply.Lcas (c.of.ensures ∙ c.in-Ok-lcas.ensures r of)))
-    (still_answered records s s r v (Command.Lcas c.args.one c.args.other) refl l _ c.requires.met
-    (lcas_done r (work_at s.work v) c.args.one c.args.other c.in-Ok.number c.in-Ok-resolve.number (sym (c.in-Ok.ensures.number r of)) (sym (c.in-Ok-resolve.ensures.number r of)))
+    (still_answered records s s r v (Command.Lcas c.args.one c.args.other) refl refl l _ c.requires.met
+    (lcas_done r (phase_of s.store.collection) (work_at s.work v) c.args.one c.args.other c.in-Ok.number c.in-Ok-resolve.number (sym (c.in-Ok.ensures.number r of)) (sym (c.in-Ok-resolve.ensures.number r of)))
     refl (lcas_refused c.args.one c.args.other))
 
 pub returns-in-Err-lcas-clause-answered : goal.returns-in-Err-lcas-clause-answered
@@ -37,4 +38,4 @@ returns-in-Err-lcas-clause-answered c records r v of l =
     let s = c.args.self.now in
     let after : Session = record s { met = c.refuse.new.met } in
     subst (IsAnswered records s after r v (Command.Lcas c.args.one c.args.other)) (sym c.refuse.ensures.reply)
-    (memory_answered records s after r v (Command.Lcas c.args.one c.args.other) refl l c.refuse.ensures.met (lcas_refused c.args.one c.args.other))
+    (memory_answered records s after r v (Command.Lcas c.args.one c.args.other) refl refl l c.refuse.ensures.met (lcas_refused c.args.one c.args.other))

@@ -1,7 +1,7 @@
-use Rattle.std.proofs.Common.{◌≡◌, sym, subst, ◌∙◌}
+use Rattle.std.proofs.Common.{sym, subst}
 use Rattle.std.specs.Prelude.{IfSome}
-use Rattle.ip_spec.specs.declared.reply.Reply.{Reply}
 use Rattle.ip_spec.specs.Path.{Bytes}
+use Rattle.ip_store.specs.Collecting.{phase_of}
 use Rattle.ip_store.specs.Merging.{merge_reply, AnswersMerge, MergesAtMoments, AppendsMerge, LimitsMerge}
 use Rattle.ip_store.specs.Store.{image_records}
 use Rattle.ip_session.specs.Session.{state_in}
@@ -38,15 +38,15 @@ returns-in-Ok-merge_answer-clause-runs g c =
       goes = λ known r v here.
           let tables = here.holds.tables in
           let retained = c.in-Ok.ensures.retained r tables in
-          merge_goes rule a b c.args.self.now store r v here c.args.target c.args.branch c.args.info c.in-Ok.number (sym (c.in-Ok.ensures.number r tables)) _ made c.in-Ok-merge_answer.reply
+          merge_goes rule a b c.args.self.now store c.merge_into-made.ensures.same_collection r v here c.args.target c.args.branch c.args.info c.in-Ok.number (sym (c.in-Ok.ensures.number r tables)) _ made c.in-Ok-merge_answer.reply
           c.met-self.ensures c.in-Ok-merge_answer.ensures.reply c.in-Ok-merge_answer.ensures.long
-          (subst (λ (n : Bytes). MergesAtMoments rule r c.in-Ok.number n c.args.info made store a b) c.as_slice.ensures (c.merge_into-made.ensures.any_moment known.0 known.1 r here.holds retained))
+          (subst (λ (n : Bytes). MergesAtMoments rule r (phase_of c.args.self.now.store.collection) c.in-Ok.number n c.args.info made store a b) c.as_slice.ensures (c.merge_into-made.ensures.any_moment known.0 known.1 r here.holds retained))
           (λ has q now. c.merge_into-made.ensures.records_stay known.0 has r q here.holds now)
-          (subst (λ (n : Bytes). IfSome (merge_reply n made) (λ reply. AnswersMerge rule b r c.in-Ok.number n c.args.info store.met reply store)) c.as_slice.ensures (c.merge_into-made.ensures.answered known.0 known.1 r here.holds retained));
+          (subst (λ (n : Bytes). IfSome (merge_reply n made) (λ reply. AnswersMerge rule b r (phase_of c.args.self.now.store.collection) c.in-Ok.number n c.args.info store.met reply store)) c.as_slice.ensures (c.merge_into-made.ensures.answered known.0 known.1 r here.holds retained));
       placed = λ known r v here.
           let tables = here.holds.tables in
           let retained = c.in-Ok.ensures.retained r tables in
-          merge_placed rule a b c.args.self.now store r v here c.args.target c.args.branch c.args.info c.in-Ok.number (sym (c.in-Ok.ensures.number r tables)) made c.in-Ok-merge_answer.reply c.in-Ok-merge_answer.ensures.reply
+          merge_placed rule a b c.args.self.now store c.merge_into-made.ensures.same_collection r v here c.args.target c.args.branch c.args.info c.in-Ok.number (sym (c.in-Ok.ensures.number r tables)) made c.in-Ok-merge_answer.reply c.in-Ok-merge_answer.ensures.reply
           (subst (λ (n : Bytes). AppendsMerge rule (image_records here.holds) r c.in-Ok.number n c.args.info made c.args.self.now.store store a b) c.as_slice.ensures (c.merge_into-made.ensures.appends known.0 known.1 r here.holds retained))
           (subst (λ (n : Bytes). LimitsMerge rule (image_records here.holds) r c.in-Ok.number n c.args.info made c.args.self.now.store) c.as_slice.ensures (c.merge_into-made.ensures.limits known.0 known.1 r here.holds retained));
       cut = λ known r v here. tt;
@@ -68,8 +68,8 @@ returns-in-Err-merge_answer-clause-runs g c =
       placed = λ known r v here. tt;
       cut = λ known r v here.
           let tables = here.holds.tables in
-          merge_cut rule a b c.args.self.now store r v here c.args.target c.args.branch c.args.info c.in-Ok.number (sym (c.in-Ok.ensures.number r tables)) _ made c.requires.met
-          (subst (λ (n : Bytes). MergesAtMoments rule r c.in-Ok.number n c.args.info made store a b) c.as_slice.ensures (c.merge_into-made.ensures.any_moment known.0 known.1 r here.holds (c.in-Ok.ensures.retained r tables)));
+          merge_cut rule a b c.args.self.now store c.merge_into-made.ensures.same_collection r v here c.args.target c.args.branch c.args.info c.in-Ok.number (sym (c.in-Ok.ensures.number r tables)) _ made c.requires.met
+          (subst (λ (n : Bytes). MergesAtMoments rule r (phase_of c.args.self.now.store.collection) c.in-Ok.number n c.args.info made store a b) c.as_slice.ensures (c.merge_into-made.ensures.any_moment known.0 known.1 r here.holds (c.in-Ok.ensures.retained r tables)));
     }
 
 pub returns-in-Err-merge_answer-clause-counts : goal.returns-in-Err-merge_answer-clause-counts

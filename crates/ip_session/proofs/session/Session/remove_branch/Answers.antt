@@ -1,4 +1,4 @@
-use Rattle.std.proofs.Common.{◌≡◌, ◌≢◌, ◌+◌, length, [], ◌∷◌, sym, ap, subst, ◌∙◌, Bool, true, false, Ok, Option}
+use Rattle.std.proofs.Common.{◌≡◌, ◌≢◌, ◌+◌, length, [], ◌∷◌, arith, sym, ap, subst, ◌∙◌, Bool, true, false, Ok, Option}
 use Rattle.std.specs.Prelude.{IfSome, IsSome}
 use Rattle.ip_spec.specs.declared.command.Command.TheVariants as Command
 use Rattle.ip_spec.specs.declared.reply.Reply.{Reply}
@@ -7,6 +7,7 @@ use Rattle.ip_spec.specs.Repository.{head}
 use Rattle.ip_spec.specs.declared.record.Record.TheVariants as Record
 use Rattle.ip_spec.specs.Record.{spelling}
 use Rattle.ip_store.specs.Changes.{Changes, LimitsSpace, Appends}
+use Rattle.ip_store.specs.Collecting.{phase_of}
 use Rattle.ip_store.specs.Naming.{removed_reply, AnswersRemove, without_branch}
 use Rattle.ip_store.proofs.Works.{works_stay}
 use Rattle.ip_session.proofs.BranchGoes.{serves, remove_goes, remove_cut, is_ground_removed}
@@ -19,17 +20,17 @@ returns-in-Some-clause-runs g c = record {
       let (r, is) = c.requires.tables in
       let made = c.remove_branch-made.result in
       let store = c.remove_branch-made.new.self in
-      let answers = subst (λ (n : Bytes). IfSome (removed_reply n made) (AnswersRemove r n store.met store)) c.as_slice.ensures (c.remove_branch-made.ensures.answered r is.0) in
-      serves r (Command.BranchRm c.args.name) store.met c.in-Some.reply store c.args.self.now is.1
-      (subst (λ (o : Option Reply). IfSome o (AnswersRemove r c.args.name store.met store)) (sym c.removed_reply.ensures ∙ c.in-Some.is) answers);
+      let answers = subst (λ (n : Bytes). IfSome (removed_reply n made) (AnswersRemove r (phase_of c.args.self.now.store.collection) n store.met store)) c.as_slice.ensures (c.remove_branch-made.ensures.answered r is.0) in
+      serves r (phase_of c.args.self.now.store.collection) (Command.BranchRm c.args.name) store.met c.in-Some.reply store c.args.self.now is.1
+      (subst (λ (o : Option Reply). IfSome o (AnswersRemove r (phase_of c.args.self.now.store.collection) c.args.name store.met store)) (sym c.removed_reply.ensures ∙ c.in-Some.is) answers);
   goes = λ told r v here.
       let made = c.remove_branch-made.result in
       let store = c.remove_branch-made.new.self in
-      remove_goes _ _ c.args.self.now store _ r v here c.args.name made
+      remove_goes _ _ c.args.self.now store _ r v here c.args.name made c.remove_branch-made.ensures.same_collection
       (subst (λ (n : Bytes). Changes {A = Bool} r (without_branch r n) made store (g.G.Ground.told c.args.ground.now) (g.G.Ground.told c.remove_branch-made.new.outside)) c.as_slice.ensures (c.remove_branch-made.ensures.any_moment told r here.holds))
-      (λ has q now kept parents. record { holds = now; lawful = works_stay _ _ r q _ v here.lawful (c.remove_branch-made.ensures.records_stay told has r q here.holds now) kept parents })
+      (λ has q now kept parents. record { holds = now; lawful = works_stay _ _ r q _ v here.lawful (λ there. c.remove_branch-made.ensures.records_stay told has r q here.holds now) (omega (arith, kept)) parents })
       c.in-Some.reply c.met-self.ensures (sym c.removed_reply.ensures ∙ c.in-Some.is) (λ absent. ap g.G.Ground.told (c.remove_branch-made.ensures.absent absent))
-      (subst (λ (n : Bytes). IfSome (removed_reply n made) (AnswersRemove r n store.met store)) c.as_slice.ensures (c.remove_branch-made.ensures.answered r here.holds.tables));
+      (subst (λ (n : Bytes). IfSome (removed_reply n made) (AnswersRemove r (phase_of c.args.self.now.store.collection) n store.met store)) c.as_slice.ensures (c.remove_branch-made.ensures.answered r here.holds.tables));
   placed = λ told r v here.
       let made = c.remove_branch-made.result in
       let store = c.remove_branch-made.new.self in
@@ -50,9 +51,9 @@ returns-in-None-clause-runs g c = record {
   cut = λ told r v here.
       let made = c.remove_branch-made.result in
       let store = c.remove_branch-made.new.self in
-      remove_cut _ _ c.args.self.now store _ r v here c.args.name made
+      remove_cut _ _ c.args.self.now store _ r v here c.args.name made c.remove_branch-made.ensures.same_collection
       (subst (λ (n : Bytes). Changes {A = Bool} r (without_branch r n) made store (g.G.Ground.told c.args.ground.now) (g.G.Ground.told c.remove_branch-made.new.outside)) c.as_slice.ensures (c.remove_branch-made.ensures.any_moment told r here.holds))
-      (λ has q now kept parents. record { holds = now; lawful = works_stay _ _ r q _ v here.lawful (c.remove_branch-made.ensures.records_stay told has r q here.holds now) kept parents })
+      (λ has q now kept parents. record { holds = now; lawful = works_stay _ _ r q _ v here.lawful (λ there. c.remove_branch-made.ensures.records_stay told has r q here.holds now) (omega (arith, kept)) parents })
       c.requires.met
       (subst (λ (n : Bytes). IsSome (head r n)) c.as_slice.ensures (c.remove_branch-made.ensures.begun r here.holds.tables (is_ground_removed c.args.name made c.remove_branch-made.ensures.undamaged (sym c.removed_reply.ensures ∙ c.in-None.is))));
 }

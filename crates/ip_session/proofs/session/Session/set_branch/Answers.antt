@@ -1,7 +1,8 @@
-use Rattle.std.proofs.Common.{sym, subst, ◌∙◌, Option}
+use Rattle.std.proofs.Common.{arith, sym, subst, ◌∙◌, Option}
 use Rattle.std.specs.Prelude.{IfSome}
 use Rattle.ip_spec.specs.declared.command.Command.TheVariants as Command
 use Rattle.ip_spec.specs.declared.reply.Reply.{Reply}
+use Rattle.ip_store.specs.Collecting.{phase_of}
 use Rattle.ip_store.specs.Naming.{AnswersSet}
 use Rattle.ip_store.proofs.Works.{works_stay}
 use Rattle.ip_session.specs.Session.{state_in}
@@ -27,13 +28,13 @@ returns-in-Some-clause-runs g c = record {
   serving =
       let (r, is) = c.requires.tables in
       let store = c.set_branch-made.new.self in
-      let answers = subst (λ (o : Option Reply). IfSome o (AnswersSet r c.args.name.now c.in-Ok.number store.met store)) (sym c.branch_reply.ensures ∙ c.in-Some.is) (c.set_branch-made.ensures.answered r is.0 (c.in-Ok.ensures.retained r is.0)) in
-      serves r (Command.Branch c.args.name.now c.args.target) store.met c.in-Some.reply store c.args.self.now is.1 (answers c.args.target (sym (c.in-Ok.ensures.number r is.0)));
+      let answers = subst (λ (o : Option Reply). IfSome o (AnswersSet r (phase_of c.args.self.now.store.collection) c.args.name.now c.in-Ok.number store.met store)) (sym c.branch_reply.ensures ∙ c.in-Some.is) (c.set_branch-made.ensures.answered r is.0 (c.in-Ok.ensures.retained r is.0)) in
+      serves r (phase_of c.args.self.now.store.collection) (Command.Branch c.args.name.now c.args.target) store.met c.in-Some.reply store c.args.self.now is.1 (answers c.args.target (sym (c.in-Ok.ensures.number r is.0)));
   goes = λ told r v here.
       let tables = here.holds.tables in
       let retained = c.in-Ok.ensures.retained r tables in
-      set_goes _ _ c.args.self.now c.set_branch-made.new.self _ r v here c.args.name.now c.args.target c.in-Ok.number (sym (c.in-Ok.ensures.number r tables)) c.set_branch-made.result (c.set_branch-made.ensures.any_moment told r here.holds retained)
-      (λ has q now kept parents. record { holds = now; lawful = works_stay _ _ r q _ v here.lawful (c.set_branch-made.ensures.records_stay told has r q here.holds now) kept parents })
+      set_goes _ _ c.args.self.now c.set_branch-made.new.self _ r v here c.args.name.now c.args.target c.in-Ok.number (sym (c.in-Ok.ensures.number r tables)) c.set_branch-made.result c.set_branch-made.ensures.same_collection (c.set_branch-made.ensures.any_moment told r here.holds retained)
+      (λ has q now kept parents. record { holds = now; lawful = works_stay _ _ r q _ v here.lawful (λ there. c.set_branch-made.ensures.records_stay told has r q here.holds now) (omega (arith, kept)) parents })
       c.in-Some.reply c.met-self.ensures (sym c.branch_reply.ensures ∙ c.in-Some.is) (c.set_branch-made.ensures.answered r tables retained);
   placed = λ told r v here.
       let tables = here.holds.tables in
@@ -50,7 +51,8 @@ returns-in-None-clause-runs g c = record {
   cut = λ told r v here.
       let tables = here.holds.tables in
       let retained = c.in-Ok.ensures.retained r tables in
-      set_cut _ _ c.args.self.now c.set_branch-made.new.self _ r v here c.args.name.now c.args.target c.in-Ok.number (sym (c.in-Ok.ensures.number r tables)) c.set_branch-made.result (c.set_branch-made.ensures.any_moment told r here.holds retained)
-      (λ has q now kept parents. record { holds = now; lawful = works_stay _ _ r q _ v here.lawful (c.set_branch-made.ensures.records_stay told has r q here.holds now) kept parents })
-      c.requires.met (c.set_branch-made.ensures.begun r tables (is_ground_set c.set_branch-made.result c.set_branch-made.ensures.undamaged (sym c.branch_reply.ensures ∙ c.in-None.is)));
+      let begun = c.set_branch-made.ensures.begun r tables (is_ground_set c.set_branch-made.result c.set_branch-made.ensures.undamaged (sym c.branch_reply.ensures ∙ c.in-None.is)) in
+      set_cut _ _ c.args.self.now c.set_branch-made.new.self _ r v here c.args.name.now c.args.target c.in-Ok.number (sym (c.in-Ok.ensures.number r tables)) c.set_branch-made.result c.set_branch-made.ensures.same_collection (c.set_branch-made.ensures.any_moment told r here.holds retained)
+      (λ has q now kept parents. record { holds = now; lawful = works_stay _ _ r q _ v here.lawful (λ there. c.set_branch-made.ensures.records_stay told has r q here.holds now) (omega (arith, kept)) parents })
+      c.requires.met begun.0 begun.1;
 }

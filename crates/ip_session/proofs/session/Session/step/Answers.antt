@@ -4,6 +4,7 @@ use Rattle.ip_spec.specs.Line.{Reads}
 use Rattle.ip_script.specs.Served.{IsServedLine}
 use Rattle.ip_script.proofs.LineLaw.{one_command}
 use Rattle.ip_script.proofs.ReadLaw.{each_line}
+use Rattle.ip_store.specs.Collecting.{phase_of}
 use Rattle.ip_store.specs.Work.{work_at}
 use Rattle.ip_session.proofs.SessionLemmas.{line_refused, has_words}
 use Rattle.ip_session.proofs.SessionGoes.{lined_ok, lined_cut, bad_goes, refused_goes}
@@ -29,7 +30,7 @@ returns-in-Err-Bad-clause-goes g c told decisive r v here = bad_goes _ _ c.args.
 
 pub returns-in-Err-Memory-clause-goes : goal.returns-in-Err-Memory-clause-goes
 returns-in-Err-Memory-clause-goes g c told decisive r v here = refused_goes _ _ c.args.self.now c.refuse.new.met r v here c.args.line.now c.refuse.result c.refuse.ensures.met c.refuse.ensures.reply
-    (line_refused (g.D.Decides.rule c.args.rules.now) r (work_at c.args.self.now.work v) c.args.line.now (each_line c.args.line.now) (has_words c.args.line.now c.in-Err-Memory.field-0 c.in-Err-Memory.field-0-is c.in-Err-Memory.ensures.one_word))
+    (line_refused (g.D.Decides.rule c.args.rules.now) r (phase_of c.args.self.now.store.collection) (work_at c.args.self.now.work v) c.args.line.now (each_line c.args.line.now) (has_words c.args.line.now c.in-Err-Memory.field-0 c.in-Err-Memory.field-0-is c.in-Err-Memory.ensures.one_word))
 
 pub returns-in-Ok-clause-placed : goal.returns-in-Ok-clause-placed
 returns-in-Ok-clause-placed g c told decisive r v here = lined_placed _ _ _ _ v c.in-Ok.command c.args.line.now c.run.result c.in-Ok.ensures.reads
