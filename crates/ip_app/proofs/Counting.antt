@@ -1,4 +1,5 @@
 -- Counts of faults over calls, and in turns.
+--     spawns_itself, spawns_on      nor does a spawner's
 --     falls_same, say_falls, falls_if, falls_of      no count falls, where those that may rise are in their type's range
 --     later_of, counts_same      so it is of what a turn tells of them.      still_at      and of a turn that tells what the ground counted at first
 --     attach_counts, attached_same      a folder could not be bound, or was
@@ -17,7 +18,8 @@ use Rattle.ip_app.specs.declared.turn_log.Turn.{Turn}
 use Rattle.ip_app.specs.declared.statuses.Status.{Status}
 use Rattle.ip_app.specs.declared.statuses.Status.TheVariants as status
 use Rattle.ip_app.specs.Serving.{ended_status, CountsOf}
-use Rattle.ip_app.specs.Turns.{no_spawner, turn_counts, IsLater, Follow}
+use Rattle.ip_spawn.specs.declared.spawner.SpawnCounts.{SpawnCounts}
+use Rattle.ip_app.specs.Turns.{turn_counts, SpawnsLater, IsLater, Follow}
 
 -- ---- no count falls
 
@@ -70,20 +72,26 @@ ended_counts (SessionEnd.Damaged at (Some (want, got))) a b same = same
 
 -- ---- in turns
 
-pub later_of : (a b : GroundCounts) → NoneFalls a b → IsLater (turn_counts a) (turn_counts b)
-later_of a b falls = record { file = falls.file_faults; remove = falls.remove_faults; spawner = refl }
+pub spawns_itself : (m : SpawnCounts) → SpawnsLater m m
+spawns_itself m = record { running = omega arith; waits = omega arith; reaps = omega arith; spawn_faults = omega arith }
 
-counted_as : ℕ → ℕ → TurnCounts
-counted_as files removals = record { file_faults = files; remove_faults = removals; spawner = no_spawner }
+pub spawns_on : (k m n : SpawnCounts) → SpawnsLater k m → SpawnsLater m n → SpawnsLater k n
+spawns_on k m n one other = record { running = omega (arith, one.running, other.running); waits = omega (arith, one.waits, other.waits); reaps = omega (arith, one.reaps, other.reaps); spawn_faults = omega (arith, one.spawn_faults, other.spawn_faults) }
 
-pub counts_same : (a b : GroundCounts) → b.file_faults ≡ a.file_faults → b.remove_faults ≡ a.remove_faults → turn_counts a ≡ turn_counts b
+pub later_of : (a b : GroundCounts) (m n : SpawnCounts) → NoneFalls a b → SpawnsLater m n → IsLater (turn_counts a m) (turn_counts b n)
+later_of a b m n falls later = record { file = falls.file_faults; remove = falls.remove_faults; spawner = later }
+
+counted_as : SpawnCounts → ℕ → ℕ → TurnCounts
+counted_as spawns files removals = record { file_faults = files; remove_faults = removals; spawner = spawns }
+
+pub counts_same : (a b : GroundCounts) (m : SpawnCounts) → b.file_faults ≡ a.file_faults → b.remove_faults ≡ a.remove_faults → turn_counts a m ≡ turn_counts b m
 unfolding counted_as
-counts_same a b files removals = ap₂ counted_as (sym files) (sym removals)
+counts_same a b m files removals = ap₂ (counted_as m) (sym files) (sym removals)
 
 -- no fault was counted since
-pub still_at : (first now : GroundCounts) (last : TurnCounts) → last ≡ turn_counts now → now ≡ first → last.file_faults ≤ (turn_counts first).file_faults
-still_at first now last is same =
-    let e : last.file_faults ≡ (turn_counts first).file_faults = ap (λ (c : TurnCounts). c.file_faults) (is ∙ ap turn_counts same) in
+pub still_at : (first now : GroundCounts) (m n : SpawnCounts) (last : TurnCounts) → last ≡ turn_counts now n → now ≡ first → last.file_faults ≤ (turn_counts first m).file_faults
+still_at first now m n last is same =
+    let e : last.file_faults ≡ (turn_counts first m).file_faults = ap (λ (c : TurnCounts). c.file_faults) is ∙ ap (λ (c : GroundCounts). c.file_faults) same in
     omega (arith, e)
 
 follow_rises : (first last : TurnCounts) (turns : List Turn) → Follow first turns last → first.file_faults ≤ last.file_faults

@@ -1,6 +1,6 @@
 -- A run that goes on by a line, and how it ends.
 use Rattle.std.specs.Prelude.{◌≢◌, IfSome}
-use Rattle.std.proofs.Common.{true, ◌≡◌, inl, inr, ℕ, ◌≤◌, Bool, false, List, [], ◌∷◌, ◌++◌, length, refl, sym, ap, ◌∙◌, subst, arith, append_assoc, length-append, map, IsTrue, All, take, drop, Some, None, Result}
+use Rattle.std.proofs.Common.{true, ◌≡◌, inl, inr, ℕ, ◌≤◌, Bool, false, List, [], ◌∷◌, ◌++◌, length, refl, sym, ap, ap₂, ◌∙◌, subst, arith, append_assoc, length-append, map, IsTrue, All, take, drop, Some, None, Result}
 use Rattle.std.proofs.lemmas.Bool.{cases_lt}
 use Rattle.std.proofs.lemmas.List.{map-append, take-append-drop}
 use Rattle.std.proofs.lemmas.List.Elements.{All-append, All-cons, All-nil}
@@ -54,7 +54,7 @@ use Rattle.ip_app.specs.Turns.{turn_counts, IsLater, Follow}
 use Rattle.ip_app.specs.Outside.{Outside, Tells, Knows, GoesOn, KeepsFiles}
 use Rattle.ip_app.specs.Serving.{SaysPart, TurnedIn, Stopped, Unsaid, CountsOf, Stops, Served}
 use Rattle.ip_app.specs.Run.{CouldNotOpen, IsUntouched, IsOpened, Begins, is_cut_off, Row, IsBehindOpening, Serves, EndsWhereAllIsWell}
-use Rattle.ip_app.proofs.Counting.{still_at, follow_more}
+use Rattle.ip_app.proofs.Counting.{spawns_on, still_at, follow_more}
 use Rattle.ip_app.proofs.LivePair.{owns_pending, live_before}
 use Rattle.ip_app.proofs.SameFiles.{stands_after}
 use Rattle.ip_app.proofs.Moments.{headline_none, headline_turn}
@@ -89,6 +89,7 @@ goes_on_then a b c g h = record {
   log_tells = λ t. g.log_tells (h.log_tells t);
   read_faults = omega (arith, g.read_faults, h.read_faults);
   counts = none_falls_on a.counts b.counts c.counts g.counts h.counts;
+  spawns = spawns_on a.spawns b.spawns c.spawns g.spawns h.spawns;
 }
 
 -- ---- files
@@ -131,12 +132,12 @@ IsShort line = length line ≤ longest_line
 
 -- one turn more
 follow_turn : (rule : Rule) (decisive : Bool) (old mid : Outside) (lines : Lines) (counts counts' : TurnCounts) (s : Session) (h : Served rule decisive old mid lines counts s) (x : Exchange) → x.turn.before ≡ counts → x.turn.after ≡ counts' → IsLater x.turn.before x.turn.after
-    → Follow (turn_counts old.counts) (turns_in (h.exchanges ++ x ∷ [])) counts'
+    → Follow (turn_counts old.counts old.spawns) (turns_in (h.exchanges ++ x ∷ [])) counts'
 follow_turn rule decisive old mid lines counts counts' s h x begins ends rises =
-    let first = turn_counts old.counts in
+    let first = turn_counts old.counts old.spawns in
     subst (λ (ts : List Turn). Follow first ts counts') (sym (map-append (λ x. x.turn) h.exchanges (x ∷ [])))
     (subst (λ (e : TurnCounts). Follow first (turns_in h.exchanges ++ x.turn ∷ []) e) ends
-    (follow_more first counts (turns_in h.exchanges) x.turn (still_at old.counts mid.counts counts h.counts_now h.no_fault) h.follow begins rises))
+    (follow_more first counts (turns_in h.exchanges) x.turn (still_at old.counts mid.counts old.spawns mid.spawns counts h.counts_now h.no_fault) h.follow begins rises))
 
 -- one exchange more
 places_more : (rule : Rule) (slot : Slot) (s : State) (v : View) (xs : List Exchange) (mid : Slot) (w : View) (x : Exchange) (last : Slot) (view : View) → Places rule slot s v xs mid w → x.after.work.tree ≡ view.map → IsViewIn (after_all s xs).repository w x.line x.reply view → PlacedIn rule mid last (after_all s xs) w x.line x.reply → Places rule slot s v (xs ++ x ∷ []) last view
@@ -191,8 +192,8 @@ served_more rule decisive old mid new lines lines' counts counts' s s' h turned 
 -- no line was served yet
 pub served_first : (rule : Rule) (decisive : Bool) → (IsTrue decisive → IsDecisive rule) → (old now : Outside) (lines : Lines) (counts : TurnCounts) (s : Session) (r : Repository) (v : View) → v ≡ no_view → (known : (b : Bool) × (Knows decisive old → IsTrue b) × (IsTrue b → Knows decisive old)) → IsServing s → state_in s r v ≡ opened r → (Tells old → IsWorking now.told s r v) → (Tells old → StandsFor old.told.held r)
     → (opening : IsTrue old.ground_tells → RecoversOnceOpen old.told now.told) → ((tells : Tells old) → (opening tells.0).since ≤ now.told.moment)
-    → counts ≡ turn_counts old.counts → now.counts ≡ old.counts → now.read_faults ≡ old.read_faults → GoesOn old now → (IsTrue old.ground_tells → SyncsOnly (Only Control) old.told now.told) → now.left ≡ old.left → now.turns ≡ old.turns → pending lines ≡ [] → lines.taken ≡ 0 → Served rule decisive old now lines counts s
-served_first rule decisive by_rule old now lines counts s r v none_known known serving begun working began opening over counted no_fault reads g f left turns none zero =
+    → counts ≡ turn_counts old.counts old.spawns → now.counts ≡ old.counts → now.spawns ≡ old.spawns → now.read_faults ≡ old.read_faults → GoesOn old now → (IsTrue old.ground_tells → SyncsOnly (Only Control) old.told now.told) → now.left ≡ old.left → now.turns ≡ old.turns → pending lines ≡ [] → lines.taken ≡ 0 → Served rule decisive old now lines counts s
+served_first rule decisive by_rule old now lines counts s r v none_known known serving begun working began opening over counted no_fault unasked reads g f left turns none zero =
     record {
       known = known.0;
       known_so = known.1;
@@ -225,7 +226,7 @@ served_first rule decisive by_rule old now lines counts s r v none_known known s
       nothing_pending = λ is order. (opening (known.2 is).0.0).nothing_pending order;
       noted = λ b. turns ∙ sym (append_nil old.turns);
       no_fault = no_fault;
-      counts_now = counted ∙ ap turn_counts (sym no_fault);
+      counts_now = counted ∙ ap₂ turn_counts (sym no_fault) (sym unasked);
       follow = counted;
       reads = reads;
     }
@@ -379,7 +380,7 @@ serves_stopped rule decisive s old mid new lines lines' counts counts' session h
       };
       notes = record {
         noted = λ l. t.same_turns ∙ h.noted (t.goes_on.log_tells l);
-        follow = λ behind. subst (λ (e : TurnCounts). Follow (turn_counts old.counts) (turns_in h.exchanges) e) (h.counts_now ∙ ap turn_counts (sym t.no_fault)) h.follow;
+        follow = λ behind. subst (λ (e : TurnCounts). Follow (turn_counts old.counts old.spawns) (turns_in h.exchanges) e) (h.counts_now ∙ ap₂ turn_counts (sym t.no_fault) (sym t.unasked)) h.follow;
         counted = end.counted;
         reads = end.reads;
       };
@@ -424,7 +425,7 @@ serves_unsaid rule decisive s old mid new lines lines' counts counts' session h 
       };
       notes = record {
         noted = λ l. t.noted l ∙ (ap (λ u. u ++ x.turn ∷ []) (h.noted (t.goes_on.log_tells l)) ∙ (append_assoc old.turns (turns_in h.exchanges) (x.turn ∷ []) ∙ ap (λ u. old.turns ++ u) (sym (map-append (λ x. x.turn) h.exchanges (x ∷ [])))));
-        follow = λ behind. subst (λ (e : TurnCounts). Follow (turn_counts old.counts) (turns_in xs) e) t.until (follow_turn rule decisive old mid lines counts counts' session h x t.begins_at t.ends_at t.rises);
+        follow = λ behind. subst (λ (e : TurnCounts). Follow (turn_counts old.counts old.spawns) (turns_in xs) e) t.until (follow_turn rule decisive old mid lines counts counts' session h x t.begins_at t.ends_at t.rises);
         counted = subst (λ (c : GroundCounts). CountsOf s c new.counts) h.no_fault u.counted;
         reads = λ other. t.reads ∙ h.reads;
       };

@@ -3,7 +3,7 @@
 --     files_of, said_of, part_of      the files and what was said, once the reply was said, or not
 --     settled      what is there in any case, and so where it is known.      went_to, cut_to      what a session did with a line, where it is known to work
 --     stops_reading      why a source is read no further.      ended_short, stops_ended      the session has ended
-use Rattle.std.proofs.Common.{◌≡◌, ◌+◌, ◌++◌, [], ◌∷◌, length, refl, sym, ◌∙◌, subst, arith, Bool, true, false, None, Some, OnOk, Result, IsTrue}
+use Rattle.std.proofs.Common.{◌≡◌, ◌+◌, ◌++◌, [], ◌∷◌, length, refl, sym, ◌∙◌, subst, Bool, true, false, None, Some, OnOk, Result, IsTrue}
 use Rattle.ip_ground.specs.declared.names.GroundCounts.{GroundCounts}
 use Rattle.ip_ground.specs.declared.names.GroundFault.{GroundFault}
 use Rattle.ip_ground.specs.Counts.{NoneFalls}
@@ -47,7 +47,7 @@ pub turned_of : (rule : Rule) (known : Bool) (old new : Outside) (lines lines' :
     → GetsLine line old.source_tells (pending lines ++ old.left) (pending lines' ++ new.left) → lines'.taken + length (pending lines) ≡ lines.taken + (length line + 1) + length (pending lines') → new.read_faults ≡ old.read_faults
     → (IsTrue known → LineStep IsServedLine rule state read (conditions_of met) reply after) → read ≡ line → told_met ≡ met
     → (IsTrue new.log_tells → new.turns ≡ old.turns ++ record { met = told_met; before = counts; after = counts' } ∷ [])
-    → counts' ≡ turn_counts mid → counts ≡ turn_counts old.counts → NoneFalls old.counts mid → turn_counts mid ≡ turn_counts new.counts
+    → counts' ≡ turn_counts mid new.spawns → counts ≡ turn_counts old.counts old.spawns → NoneFalls old.counts mid → turn_counts mid new.spawns ≡ turn_counts new.counts new.spawns
     → Turned rule known old new lines lines' counts counts' state (exchange_of line told_met counts counts' reply after)
 turned_of rule known old new lines lines' counts counts' state after line read met told_met reply mid g files gets count reads step same same_met noted counted before falls still = record {
   goes_on = g;
@@ -60,7 +60,7 @@ turned_of rule known old new lines lines' counts counts' state after line read m
   noted = noted;
   begins_at = refl;
   ends_at = refl;
-  rises = subst (λ (t : TurnCounts). IsLater counts t) (sym counted) (subst (λ (t : TurnCounts). IsLater t (turn_counts mid)) (sym before) (later_of old.counts mid falls));
+  rises = subst (λ (t : TurnCounts). IsLater counts t) (sym counted) (subst (λ (t : TurnCounts). IsLater t (turn_counts mid new.spawns)) (sym before) (later_of old.counts mid old.spawns new.spawns falls g.spawns));
   until = counted ∙ still;
   reads = reads;
 }

@@ -163,7 +163,7 @@ pub record Reopens (decisive : Bool) (old new : Outside) (status : Status) (exch
 pub record Notes (old new : Outside) (status : Status) (exchanges : List Exchange) : Type 0 where
   -- the log has their turns, each beginning with the counts that the one before it ended with, from those of the call's begin to those of its end
   pub noted : IsTrue new.log_tells → new.turns ≡ old.turns ++ turns_in exchanges
-  pub follow : IsBehindOpening status exchanges → Follow (turn_counts old.counts) (turns_in exchanges) (turn_counts new.counts)
+  pub follow : IsBehindOpening status exchanges → Follow (turn_counts old.counts old.spawns) (turns_in exchanges) (turn_counts new.counts new.spawns)
   -- a fault of the ground or of output ends the call: it was counted, and no other was
   pub counted : CountsOf status old.counts new.counts
   pub reads : status ≢ Status.ReadFault → new.read_faults ≡ old.read_faults

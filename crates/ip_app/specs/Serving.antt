@@ -56,7 +56,7 @@ pub record Turned (rule : Rule) (known : Bool) (old new : Outside) (lines lines'
   pub begins_at : x.turn.before ≡ counts
   pub ends_at : x.turn.after ≡ counts'
   pub rises : IsLater x.turn.before x.turn.after
-  pub until : counts' ≡ turn_counts new.counts
+  pub until : counts' ≡ turn_counts new.counts new.spawns
   pub reads : new.read_faults ≡ old.read_faults
 
 pub record TurnedIn (rule : Rule) (known : Bool) (old new : Outside) (lines lines' : Lines) (counts counts' : TurnCounts) (s s' : Session) (r : Repository) (v : View) : Type 0 where
@@ -91,6 +91,7 @@ pub record Stopped (status : Status) (known : Bool) (old new : Outside) (lines l
   pub same_turns : new.turns ≡ old.turns
   pub same_counts : counts' ≡ counts
   pub no_fault : new.counts ≡ old.counts
+  pub unasked : new.spawns ≡ old.spawns
 
 -- how a call ends whose session has ended
 abbrev pub ended_status : SessionEnd → Status
@@ -164,6 +165,6 @@ pub record Served (rule : Rule) (decisive : Bool) (old now : Outside) (lines : L
   pub nothing_pending : IsTrue known → NothingPending old.told → NothingPending now.told
   pub noted : IsTrue now.log_tells → now.turns ≡ old.turns ++ turns_in exchanges
   pub no_fault : now.counts ≡ old.counts
-  pub counts_now : counts ≡ turn_counts now.counts
-  pub follow : Follow (turn_counts old.counts) (turns_in exchanges) counts
+  pub counts_now : counts ≡ turn_counts now.counts now.spawns
+  pub follow : Follow (turn_counts old.counts old.spawns) (turns_in exchanges) counts
   pub reads : now.read_faults ≡ old.read_faults

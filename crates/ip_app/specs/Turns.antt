@@ -1,5 +1,5 @@
 -- The counts of turns.
---     turn_counts counts      what a turn tells of a ground's counts; there is no spawner yet
+--     turn_counts counts spawns      what a turn tells of what a ground and a spawner counted.      SpawnsLater earlier later      none of a spawner's counts fell
 --     IsLater earlier later      no count fell
 --     Follow first turns last      each turn begins with the counts that the one before it ended with; no fault of the ground was counted in any but the last
 use Rattle.std.specs.Prelude.{◌≡◌, ◌≢◌, ◌≤◌, List, [], ◌∷◌}
@@ -8,16 +8,19 @@ use Rattle.ip_spawn.specs.declared.spawner.SpawnCounts.{SpawnCounts}
 use Rattle.ip_image.specs.declared.counts.TurnCounts.{TurnCounts}
 use Rattle.ip_app.specs.declared.turn_log.Turn.{Turn}
 
-abbrev pub no_spawner : SpawnCounts
-no_spawner = record { running = 0; waits = 0; reaps = 0; spawn_faults = 0 }
+abbrev pub turn_counts : GroundCounts → SpawnCounts → TurnCounts
+turn_counts counts spawns = record { file_faults = counts.file_faults; remove_faults = counts.remove_faults; spawner = spawns }
 
-abbrev pub turn_counts : GroundCounts → TurnCounts
-turn_counts counts = record { file_faults = counts.file_faults; remove_faults = counts.remove_faults; spawner = no_spawner }
+pub record SpawnsLater (earlier later : SpawnCounts) : Type 0 where
+  pub running : earlier.running ≤ later.running
+  pub waits : earlier.waits ≤ later.waits
+  pub reaps : earlier.reaps ≤ later.reaps
+  pub spawn_faults : earlier.spawn_faults ≤ later.spawn_faults
 
 pub record IsLater (earlier later : TurnCounts) : Type 0 where
   pub file : earlier.file_faults ≤ later.file_faults
   pub remove : earlier.remove_faults ≤ later.remove_faults
-  pub spawner : later.spawner ≡ no_spawner
+  pub spawner : SpawnsLater earlier.spawner later.spawner
 
 abbrev pub Follow : TurnCounts → List Turn → TurnCounts → Type 0
 Follow first [] last = last ≡ first

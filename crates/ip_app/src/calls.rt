@@ -17,6 +17,7 @@ use crate::turn_log::Log;
 use ip_ground::Ground;
 use ip_merge::Decides;
 use ip_script::Source;
+use ip_spawn::Spawner;
 use ip_store::{InitFault, Store};
 use ip_words::{Call, asked};
 use std::alloc::Global;
@@ -50,34 +51,37 @@ fn init<G: Ground>(folder: &str, chunk: u64, ground: &mut G) -> Status
 
 /// Does what the words ask for, the program's name first: `init DIR [--chunk N]` makes a store in the folder DIR, with chunks of N bytes
 /// (1048576 where N is not given). `serve DIR` opens the one there, runs each line of the source, a merge by these rules, and says each reply.
-pub fn run<S: Source, G: Ground, D: Decides, L: Log>(
+pub fn run<S: Source, G: Ground, P: Spawner, D: Decides, L: Log>(
     alloc: Global,
     words: &[String],
     source: &mut S,
     ground: &mut G,
+    spawner: &mut P,
     rules: &D,
     log: &mut L,
 ) -> Status
+    // No command asks the spawner for anything so far.
+    ensures unasked { spawner.new ≡ spawner.old }
     // Only where the words ask for nothing that the program does; and where they do, it is this, or want of memory, and nothing is changed.
     ensures usage { result ≡ Status.Usage → AsksNothing (texts_of words.now) }
     ensures refused { AsksNothing (texts_of words.now) → (result ≡ Status.Usage) ⊎ (result ≡ Status.Memory) }
-    ensures nothing { let told = outside S.tells S.left S.read_faults G.tells G.told G.counts_of L.tells L.turns in
-        AsksNothing (texts_of words.now) → LeavesAll (told source.old ground.old log.old) (told source.new ground.new log.new) }
-    ensures init { let told = outside S.tells S.left S.read_faults G.tells G.told G.counts_of L.tells L.turns in
+    ensures nothing { let told = outside S.tells S.left S.read_faults G.tells G.told G.counts_of P.counts_of L.tells L.turns in
+        AsksNothing (texts_of words.now) → LeavesAll (told source.old ground.old spawner.old log.old) (told source.new ground.new spawner.new log.new) }
+    ensures init { let told = outside S.tells S.left S.read_faults G.tells G.told G.counts_of P.counts_of L.tells L.turns in
         (folder : Bytes) (chunk : ℕ) → Asks (texts_of words.now) (making folder chunk) →
-        Inits chunk (told source.old ground.old log.old) (told source.new ground.new log.new) result }
+        Inits chunk (told source.old ground.old spawner.old log.old) (told source.new ground.new spawner.new log.new) result }
     // Of replies and states it speaks where the rules are known to be decisive, which `decisive` says.
-    ensures serve { let told = outside S.tells S.left S.read_faults G.tells G.told G.counts_of L.tells L.turns in
+    ensures serve { let told = outside S.tells S.left S.read_faults G.tells G.told G.counts_of P.counts_of L.tells L.turns in
         (folder : Bytes) → Asks (texts_of words.now) (serving folder) → (decisive : Bool) → (IsTrue decisive → IsDecisive (D.rule rules.now)) →
-        Serves (D.rule rules.now) decisive (told source.old ground.old log.old) (told source.new ground.new log.new) result }
+        Serves (D.rule rules.now) decisive (told source.old ground.old spawner.old log.old) (told source.new ground.new spawner.new log.new) result }
     // Where the source tells its bytes, these alone give the status, in whatever pieces they came.
-    ensures bytes { let told = outside S.tells S.left S.read_faults G.tells G.told G.counts_of L.tells L.turns in
+    ensures bytes { let told = outside S.tells S.left S.read_faults G.tells G.told G.counts_of P.counts_of L.tells L.turns in
         (folder : Bytes) → Asks (texts_of words.now) (serving folder) →
-        EndsAsBytes (told source.old ground.old log.old) result }
+        EndsAsBytes (told source.old ground.old spawner.old log.old) result }
     // Where no fault is counted and the store stands, it ends by the script, or for want of memory.
-    ensures complete { let told = outside S.tells S.left S.read_faults G.tells G.told G.counts_of L.tells L.turns in
+    ensures complete { let told = outside S.tells S.left S.read_faults G.tells G.told G.counts_of P.counts_of L.tells L.turns in
         (folder : Bytes) → Asks (texts_of words.now) (serving folder) → IsDecisive (D.rule rules.now) →
-        EndsWhereAllIsWell (told source.old ground.old log.old) (told source.new ground.new log.new) result }
+        EndsWhereAllIsWell (told source.old ground.old spawner.old log.old) (told source.new ground.new spawner.new log.new) result }
 {
     let call = match asked(alloc, words) {
         Ok(Some(call)) => call,
@@ -86,6 +90,6 @@ pub fn run<S: Source, G: Ground, D: Decides, L: Log>(
     };
     match call {
         Call::Init { folder, chunk } => init(folder, chunk, ground),
-        Call::Serve { folder } => serve(alloc, folder, source, ground, rules, log),
+        Call::Serve { folder } => serve(alloc, folder, source, ground, spawner, rules, log),
     }
 }

@@ -4,6 +4,7 @@ use crate::rules::ProgramRules;
 use crate::statuses::Status;
 use crate::turn_log::Silent;
 use ip_host::{Folder, Stdin};
+use ip_spawn::Scripted;
 use std::env;
 use std::io::{ErrorKind, Write};
 use std::process::ExitCode;
@@ -29,11 +30,14 @@ fn called(rt: &HostRuntime) -> Status {
     };
     let mut source = Stdin::new(rt.stdin());
     let mut folder = Folder::new(rt, rt.alloc());
+    // No command asks for a child so far, and it would start none.
+    let mut children = Scripted::new(rt.alloc(), Vec::new(rt.alloc()), Vec::new(rt.alloc()));
     run(
         rt.alloc(),
         &words,
         &mut source,
         &mut folder,
+        &mut children,
         &ProgramRules,
         &mut Silent,
     )

@@ -21,6 +21,7 @@ use ip_image::counts::TurnCounts;
 use ip_merge::Decides;
 use ip_script::Source;
 use ip_session::{Session, SessionEnd};
+use ip_spawn::Spawner;
 use ip_store::{OpenFault, Store};
 use std::alloc::Global;
 
@@ -54,26 +55,28 @@ impl LineRoom {
     }
 
     // Takes a line, runs its command, notes it and says its reply. `Err` says why there is no further turn.
-    fn turn<S: Source, G: Ground, D: Decides, L: Log>(
+    fn turn<S: Source, G: Ground, P: Spawner, D: Decides, L: Log>(
         &mut self,
         session: &mut Session,
         counts: &mut TurnCounts,
         source: &mut S,
         ground: &mut G,
+        spawner: &mut P,
         rules: &D,
         log: &mut L,
     ) -> Result<(), Status>
         requires roomy { IsRoomy self.old }
-        requires counted { counts.old ≡ turn_counts (G.counts_of ground.old) }
+        requires counted { counts.old ≡ turn_counts (G.counts_of ground.old) (P.counts_of spawner.old) }
         requires small { counts.old.file_faults ≤ 2 ^ 64 - 1 }
         requires tables { IsServing session.old }
         ensures roomy { IsRoomy self.new }
-        ensures turned { let told = outside S.tells S.left S.read_faults G.tells G.told G.counts_of L.tells L.turns in
+        ensures unasked { spawner.new ≡ spawner.old }
+        ensures turned { let told = outside S.tells S.left S.read_faults G.tells G.told G.counts_of P.counts_of L.tells L.turns in
             (known : Bool) (r : Repository) (v : View) → (IsTrue known → Works (D.rule rules.now) G.tells (G.told ground.old) session.old r v) →
-            OnOk result (TurnedIn (D.rule rules.now) known (told source.old ground.old log.old) (told source.new ground.new log.new) self.old.lines self.new.lines counts.old counts.new session.old session.new r v) }
-        ensures stops { let told = outside S.tells S.left S.read_faults G.tells G.told G.counts_of L.tells L.turns in
+            OnOk result (TurnedIn (D.rule rules.now) known (told source.old ground.old spawner.old log.old) (told source.new ground.new spawner.new log.new) self.old.lines self.new.lines counts.old counts.new session.old session.new r v) }
+        ensures stops { let told = outside S.tells S.left S.read_faults G.tells G.told G.counts_of P.counts_of L.tells L.turns in
             (known : Bool) (r : Repository) (v : View) → (IsTrue known → Works (D.rule rules.now) G.tells (G.told ground.old) session.old r v) →
-            IfErr result (λ status. Stops (D.rule rules.now) status known (told source.old ground.old log.old) (told source.new ground.new log.new) self.old.lines self.new.lines counts.old counts.new (state_in session.old r v)) }
+            IfErr result (λ status. Stops (D.rule rules.now) status known (told source.old ground.old spawner.old log.old) (told source.new ground.new spawner.new log.new) self.old.lines self.new.lines counts.old counts.new (state_in session.old r v)) }
     {
         self.line.clear();
         self.text.clear();
@@ -82,7 +85,7 @@ impl LineRoom {
         }
         let before = *counts;
         let answered = session.answer(ground, &self.line, rules, &mut self.text);
-        *counts = turn_counts(ground.counts());
+        *counts = turn_counts(ground.counts(), spawner.counts());
         log.note(&Turn {
             met: session.met(),
             before,
@@ -144,25 +147,28 @@ fn open_in<G: Ground>(alloc: Global, folder: &str, ground: &mut G) -> Result<Sto
 }
 
 /// Opens the store, runs each line of the source, a merge by these rules, and says each reply.
-pub fn serve<S: Source, G: Ground, D: Decides, L: Log>(
+pub fn serve<S: Source, G: Ground, P: Spawner, D: Decides, L: Log>(
     alloc: Global,
     folder: &str,
     source: &mut S,
     ground: &mut G,
+    spawner: &mut P,
     rules: &D,
     log: &mut L,
 ) -> Status
-    ensures serves { let told = outside S.tells S.left S.read_faults G.tells G.told G.counts_of L.tells L.turns in
+    // No command asks it for anything so far.
+    ensures unasked { spawner.new ≡ spawner.old }
+    ensures serves { let told = outside S.tells S.left S.read_faults G.tells G.told G.counts_of P.counts_of L.tells L.turns in
         (decisive : Bool) → (IsTrue decisive → IsDecisive (D.rule rules.now)) →
-        Serves (D.rule rules.now) decisive (told source.old ground.old log.old) (told source.new ground.new log.new) result }
+        Serves (D.rule rules.now) decisive (told source.old ground.old spawner.old log.old) (told source.new ground.new spawner.new log.new) result }
     // Where the source tells its bytes, these alone give the status, in whatever pieces they came.
-    ensures bytes { let told = outside S.tells S.left S.read_faults G.tells G.told G.counts_of L.tells L.turns in
-        EndsAsBytes (told source.old ground.old log.old) result }
+    ensures bytes { let told = outside S.tells S.left S.read_faults G.tells G.told G.counts_of P.counts_of L.tells L.turns in
+        EndsAsBytes (told source.old ground.old spawner.old log.old) result }
     // Where no fault is counted and the store stands, it ends by the script, or for want of memory.
-    ensures complete { let told = outside S.tells S.left S.read_faults G.tells G.told G.counts_of L.tells L.turns in
-        IsDecisive (D.rule rules.now) → EndsWhereAllIsWell (told source.old ground.old log.old) (told source.new ground.new log.new) result }
+    ensures complete { let told = outside S.tells S.left S.read_faults G.tells G.told G.counts_of P.counts_of L.tells L.turns in
+        IsDecisive (D.rule rules.now) → EndsWhereAllIsWell (told source.old ground.old spawner.old log.old) (told source.new ground.new spawner.new log.new) result }
 {
-    let mut counts = turn_counts(ground.counts());
+    let mut counts = turn_counts(ground.counts(), spawner.counts());
     let store = match open_in(alloc, folder, ground) {
         Ok(store) => store,
         Err(status) => return status,
@@ -172,7 +178,15 @@ pub fn serve<S: Source, G: Ground, D: Decides, L: Log>(
     };
     let mut session = Session::new(alloc, store);
     'lines: loop {
-        if let Err(status) = room.turn(&mut session, &mut counts, source, ground, rules, log) {
+        if let Err(status) = room.turn(
+            &mut session,
+            &mut counts,
+            source,
+            ground,
+            spawner,
+            rules,
+            log,
+        ) {
             return status;
         }
     }

@@ -11,19 +11,14 @@ use ip_spawn::SpawnCounts;
 use ip_spec::met::Met;
 use std::alloc::Global;
 
-/// A ground's counts, as a turn tells them. There is no spawner yet: its counts are 0.
-pub fn turn_counts(counts: GroundCounts) -> TurnCounts
-    ensures { result ≡ turn_counts counts }
+/// What a ground and a spawner counted, as a turn tells it.
+pub fn turn_counts(counts: GroundCounts, spawner: SpawnCounts) -> TurnCounts
+    ensures { result ≡ turn_counts counts spawner }
 {
     TurnCounts {
         file_faults: counts.file_faults,
         remove_faults: counts.remove_faults,
-        spawner: SpawnCounts {
-            running: 0,
-            waits: 0,
-            reaps: 0,
-            spawn_faults: 0,
-        },
+        spawner,
     }
 }
 

@@ -4,8 +4,14 @@ use ip_base::Blob;
 use ip_ground::{Bench, Ground};
 use ip_merge::Decides;
 use ip_script::{Bytes, Source};
+use ip_spawn::Scripted;
 use std::alloc::{AllocError, Global};
 use std::test::Fail;
+
+/// A spawner that can start no child.
+pub fn childless(alloc: Global) -> Scripted {
+    Scripted::new(alloc, Vec::new(alloc), Vec::new(alloc))
+}
 
 /// The words of a call, the program's name first.
 pub fn words(alloc: Global, given: &[&str]) -> Result<Vec<String>, AllocError> {
@@ -32,14 +38,32 @@ pub fn source(alloc: Global, script: &[u8], fails: &[u64]) -> Result<Bytes, Allo
 pub fn init(alloc: Global, ground: &mut Bench) -> Result<Status, AllocError> {
     let words = words(alloc, &["ipstore", "init", "mem"])?;
     let mut none = source(alloc, b"", &[])?;
-    Ok(run(alloc, &words, &mut none, ground, &ProgramRules, &mut Silent))
+    let mut spawner = childless(alloc);
+    Ok(run(
+        alloc,
+        &words,
+        &mut none,
+        ground,
+        &mut spawner,
+        &ProgramRules,
+        &mut Silent,
+    ))
 }
 
 /// Makes a store with chunks of this size, a number of bytes as it is written, by four calls of the ground.
 pub fn init_with(alloc: Global, ground: &mut Bench, size: &str) -> Result<(), Fail> {
     let words = words(alloc, &["ipstore", "init", "mem", "--chunk", size])?;
     let mut none = source(alloc, b"", &[])?;
-    match run(alloc, &words, &mut none, ground, &ProgramRules, &mut Silent) {
+    let mut spawner = childless(alloc);
+    match run(
+        alloc,
+        &words,
+        &mut none,
+        ground,
+        &mut spawner,
+        &ProgramRules,
+        &mut Silent,
+    ) {
         Status::Done => Ok(()),
         _ => Err("not made")?,
     }
@@ -64,7 +88,8 @@ pub fn serve_by<S: Source, G: Ground, D: Decides, L: Log>(
     log: &mut L,
 ) -> Result<Status, AllocError> {
     let words = words(alloc, &["ipstore", "serve", "mem"])?;
-    Ok(run(alloc, &words, source, ground, rules, log))
+    let mut spawner = childless(alloc);
+    Ok(run(alloc, &words, source, ground, &mut spawner, rules, log))
 }
 
 /// Serves a script. How that ends.

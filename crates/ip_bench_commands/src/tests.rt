@@ -4,8 +4,8 @@ ghost use Rattle.std.specs.Prelude.{[], false};
 use ip_app::{Bound, Kept, ProgramRules, Silent, Status, run};
 use ip_base::Hash;
 use ip_bench::{
-    answers, answers_on, bench, fresh_control, init, play, replies_of, script_of, serve, source,
-    words,
+    answers, answers_on, bench, childless, fresh_control, init, play, replies_of, script_of, serve,
+    source, words,
 };
 use ip_ground::{FileName, Ground};
 use ip_script::{Bytes, Source, SourceCounts, SourceFault};
@@ -215,6 +215,7 @@ fn a_store_has_chunks_of_the_size_that_is_asked_for(rt: HostRuntime) -> Result<(
             &words,
             &mut none,
             &mut bench,
+            &mut childless(alloc),
             &ProgramRules,
             &mut Silent,
         );
@@ -247,6 +248,7 @@ fn words_that_ask_for_nothing(rt: HostRuntime) -> Result<(), Fail> {
             &words,
             &mut none,
             &mut bench,
+            &mut childless(alloc),
             &ProgramRules,
             &mut Silent,
         );

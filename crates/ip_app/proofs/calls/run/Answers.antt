@@ -13,13 +13,14 @@ use Rattle.ip_app.specs.declared.statuses.Status.{Status}
 use Rattle.ip_app.specs.declared.statuses.Status.TheVariants as status
 use Rattle.ip_app.specs.Outside.{Outside}
 use Rattle.ip_app.specs.Run.{Inits, Row, Serves}
+use Rattle.ip_app.proofs.Counting.{spawns_itself}
 use Rattle.ip_app.proofs.Moments.{opening_none}
 use Rattle.ip_app.proofs.RunLemmas.{begins_unopened}
 use Rattle.ip_app.proofs.calls.run.Goals as goal
 
 -- nothing was done
 serves_nothing : (rule : Rule) (decisive : Bool) (s : Outside) → Serves rule decisive s s status.Memory
-serves_nothing rule decisive s = begins_unopened rule decisive s s status.Memory (record { source_tells = refl; ground_tells = refl; log_tells = λ t. t; read_faults = le_refl s.read_faults; counts = falls_itself s.counts })
+serves_nothing rule decisive s = begins_unopened rule decisive s s status.Memory (record { source_tells = refl; ground_tells = refl; log_tells = λ t. t; read_faults = le_refl s.read_faults; counts = falls_itself s.counts; spawns = spawns_itself s.spawns })
     (λ told. syncs_none s.told s.told (Only Control) (only_nowhere s.told NoFile)) (λ told. opening_none s.told s.told (only_nowhere s.told NoFile)) refl refl refl tt refl
 
 inits_with : (n m : ℕ) (old new : Outside) (s : Status) → n ≡ m → Inits n old new s → Inits m old new s
@@ -54,7 +55,7 @@ returns-in-Init-clause-init g c folder chunk asks =
     let words = texts_of c.args.words.now in
     let read = subst (λ (call : Call). Asks words (shown call)) c.in-Init.is (asked_for words _ _ c.in-Ok-Some.field-0-is c.in-Ok-Some.ensures) in
     inits_with _ chunk _ _ c.init.result (same_size words _ _ _ _ read asks)
-    (record { goes_on = record { source_tells = refl; ground_tells = refl; log_tells = λ t. t; read_faults = le_refl _; counts = c.init.ensures.counts }; left = refl; turns = refl; only = c.init.ensures.only; counted = c.init.ensures.counted; row = c.init.ensures.row })
+    (record { goes_on = record { source_tells = refl; ground_tells = refl; log_tells = λ t. t; read_faults = le_refl _; counts = c.init.ensures.counts; spawns = spawns_itself _ }; left = refl; turns = refl; only = c.init.ensures.only; counted = c.init.ensures.counted; row = c.init.ensures.row })
 
 pub returns-in-Init-clause-complete : goal.returns-in-Init-clause-complete
 returns-in-Init-clause-complete g c folder asks decisive =

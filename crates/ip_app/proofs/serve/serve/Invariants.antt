@@ -1,4 +1,4 @@
-use Rattle.std.proofs.Common.{◌-◌, ◌^◌, length, Bool, IsTrue}
+use Rattle.std.proofs.Common.{◌≡◌, ◌-◌, ◌^◌, length, Bool, IsTrue}
 use Rattle.ip_merge.specs.Rules.{IsDecisive}
 use Rattle.ip_app.specs.Outside.{outside}
 use Rattle.ip_app.specs.Serving.{Served}
@@ -8,10 +8,11 @@ use Rattle.ip_app.proofs.serve.serve.Given as goal
 
 abbrev pub invariant-lines : goal.invariant-lines
 invariant-lines g l =
-    let told = outside g.S.Source.tells g.S.Source.left g.S.Source.read_faults g.G.Ground.tells g.G.Ground.told g.G.Ground.counts_of g.L.Log.tells g.L.Log.turns in
+    let told = outside g.S.Source.tells g.S.Source.left g.S.Source.read_faults g.G.Ground.tells g.G.Ground.told g.G.Ground.counts_of g.P.Spawner.counts_of g.L.Log.tells g.L.Log.turns in
     record {
       roomy : IsRoomy l.room;
-      served : (decisive : Bool) → (IsTrue decisive → IsDecisive (g.D.Decides.rule l.fn.rules)) → Served (g.D.Decides.rule l.fn.rules) decisive (told l.fn.source l.fn.ground l.fn.log) (told l.source l.ground l.log) l.room.lines l.counts l.session;
+      unasked : l.spawner ≡ l.fn.spawner;
+      served : (decisive : Bool) → (IsTrue decisive → IsDecisive (g.D.Decides.rule l.fn.rules)) → Served (g.D.Decides.rule l.fn.rules) decisive (told l.fn.source l.fn.ground l.fn.spawner l.fn.log) (told l.source l.ground l.spawner l.log) l.room.lines l.counts l.session;
     }
 
 abbrev pub decreases-lines : goal.decreases-lines

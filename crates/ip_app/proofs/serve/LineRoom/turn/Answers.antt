@@ -1,4 +1,4 @@
-use Rattle.std.proofs.Common.{rules, ◌-◌, ◌^◌, ◌≤◌, refl, sym, ap, ◌∙◌, subst}
+use Rattle.std.proofs.Common.{rules, ◌-◌, ◌^◌, ◌≤◌, refl, sym, ap, ap₂, ◌∙◌, subst}
 use Rattle.ip_ground.specs.declared.names.GroundCounts.{GroundCounts}
 use Rattle.ip_ground.proofs.Rising.{none_falls_on, falls_itself}
 use Rattle.ip_image.specs.declared.counts.TurnCounts.{TurnCounts}
@@ -8,7 +8,7 @@ use Rattle.ip_session.specs.Session.{ground_end, state_in, ChangedIn, IsViewIn}
 use Rattle.ip_app.specs.declared.statuses.Status.TheVariants as status
 use Rattle.ip_app.specs.Serving.{CountsOf}
 use Rattle.ip_app.specs.Turns.{turn_counts}
-use Rattle.ip_app.proofs.Counting.{falls_same, say_falls, falls_if, counts_same, ended_counts}
+use Rattle.ip_app.proofs.Counting.{spawns_itself, falls_same, say_falls, falls_if, counts_same, ended_counts}
 use Rattle.ip_app.proofs.RunLemmas.{keeps_itself, keeps_two}
 use Rattle.ip_image.proofs.HeadlineLaws.{turns_quietly}
 use Rattle.ip_app.proofs.SameFiles.{working_along}
@@ -19,7 +19,7 @@ use Rattle.ip_app.proofs.serve.LineRoom.turn.Goals as goal
 pub returns-in-Err-clause-stops : goal.returns-in-Err-clause-stops
 returns-in-Err-clause-stops g c known r v works = stops_reading _ c.in-Err.status known _ _ _ _ _ _ (state_in c.args.session.now r v) (record {
   rest = c.next_line.new.line.items;
-  goes_on = record { source_tells = refl; ground_tells = refl; log_tells = λ tells. tells; read_faults = c.next_line.ensures.faults; counts = falls_itself (g.G.Ground.counts_of c.args.ground.now) };
+  goes_on = record { source_tells = refl; ground_tells = refl; log_tells = λ tells. tells; read_faults = c.next_line.ensures.faults; counts = falls_itself (g.G.Ground.counts_of c.args.ground.now); spawns = spawns_itself (g.P.Spawner.counts_of c.args.spawner.now) };
   files = keeps_itself (g.G.Ground.told c.args.ground.now);
   stands = λ is. (works is).1.holds.stands;
   front = c.in-Err.ensures.bytes;
@@ -33,6 +33,7 @@ returns-in-Err-clause-stops g c known r v works = stops_reading _ c.in-Err.statu
   same_turns = refl;
   same_counts = refl;
   no_fault = refl;
+  unasked = refl;
 })
 
 pub returns-in-Ok-say-clause-turned : goal.returns-in-Ok-say-clause-turned
@@ -47,9 +48,9 @@ returns-in-Ok-say-clause-turned g c known r v works =
       after = went.0.0;
       view = went.0.1;
       turned = turned_of _ known _ _ _ _ _ _ _ _ _ _ _ _ answered.0 (g.G.Ground.counts_of c.answer-answered.new.ground)
-          (record { source_tells = refl; ground_tells = refl; log_tells = c.note.ensures.told; read_faults = c.next_line.ensures.faults; counts = falls_same _ _ same })
+          (record { source_tells = refl; ground_tells = refl; log_tells = c.note.ensures.told; read_faults = c.next_line.ensures.faults; counts = falls_same _ _ same; spawns = spawns_itself (g.P.Spawner.counts_of c.args.spawner.now) })
           (λ is. files_of _ _ _ c.deref.result.now answered.0 (goes is).only _ _ (c.say.ensures.does (works is).0))
-          c.in_default.ensures.ok c.in_default.ensures.count c.in_default.ensures.still (λ is. (goes is).gives) c.deref.ensures.value c.met.ensures c.note.ensures.noted (c.turn_counts.ensures ∙ ap turn_counts c.counts.ensures) c.requires.counted (falls_same _ _ c.in-Ok.ensures.counts) (ap turn_counts (sym c.in-Ok-say.ensures.counts));
+          c.in_default.ensures.ok c.in_default.ensures.count c.in_default.ensures.still (λ is. (goes is).gives) c.deref.ensures.value c.met.ensures c.note.ensures.noted (c.turn_counts.ensures ∙ ap₂ turn_counts c.counts.ensures c.counts-2.ensures) c.requires.counted (falls_same _ _ c.in-Ok.ensures.counts) (ap (λ (n : GroundCounts). turn_counts n (g.P.Spawner.counts_of c.args.spawner.now)) (sym c.in-Ok-say.ensures.counts));
       now_at = λ is. refl;
       seen = λ is. subst (λ (line : Bytes). IsViewIn r v line answered.0 went.0.1) c.deref.ensures.value (goes is).seen;
       placed = λ is. let w = works is in subst (λ (line : Bytes). PlacedIn (g.D.Decides.rule c.args.rules.now) c.args.session.now.store.slot c.answer-answered.new.self.store.slot (state_in c.args.session.now r v) v line answered.0) c.deref.ensures.value (answered.2 w.0 w.2 r v w.1).1;
@@ -74,9 +75,9 @@ returns-in-Err-say-clause-stops g c known r v works =
     record {
       exchange = exchange_of c.next_line.new.line.items c.met.result c.args.counts.now c.turn_counts.result answered.0 (state_in c.answer-answered.new.self went.0.0 went.0.1);
       turned = turned_of _ known _ _ _ _ _ _ _ _ _ _ _ _ answered.0 (g.G.Ground.counts_of c.answer-answered.new.ground)
-          (record { source_tells = refl; ground_tells = refl; log_tells = c.note.ensures.told; read_faults = c.next_line.ensures.faults; counts = none_falls_on _ _ _ (falls_same _ _ same) (say_falls _ _ small fault) })
+          (record { source_tells = refl; ground_tells = refl; log_tells = c.note.ensures.told; read_faults = c.next_line.ensures.faults; counts = none_falls_on _ _ _ (falls_same _ _ same) (say_falls _ _ small fault); spawns = spawns_itself (g.P.Spawner.counts_of c.args.spawner.now) })
           (λ is. files_of _ _ _ c.deref.result.now answered.0 (goes is).only _ _ (c.say.ensures.does (works is).0))
-          c.in_default.ensures.ok c.in_default.ensures.count c.in_default.ensures.still (λ is. (goes is).gives) c.deref.ensures.value c.met.ensures c.note.ensures.noted (c.turn_counts.ensures ∙ ap turn_counts c.counts.ensures) c.requires.counted (falls_same _ _ c.in-Ok.ensures.counts) (counts_same (g.G.Ground.counts_of c.answer-answered.new.ground) (g.G.Ground.counts_of c.say.new.self) fault.file_faults fault.remove_faults);
+          c.in_default.ensures.ok c.in_default.ensures.count c.in_default.ensures.still (λ is. (goes is).gives) c.deref.ensures.value c.met.ensures c.note.ensures.noted (c.turn_counts.ensures ∙ ap₂ turn_counts c.counts.ensures c.counts-2.ensures) c.requires.counted (falls_same _ _ c.in-Ok.ensures.counts) (counts_same (g.G.Ground.counts_of c.answer-answered.new.ground) (g.G.Ground.counts_of c.say.new.self) (g.P.Spawner.counts_of c.args.spawner.now) fault.file_faults fault.remove_faults);
       counted = subst (λ (n : GroundCounts). CountsOf status.SayFault n (g.G.Ground.counts_of c.say.new.self)) same fault;
       part = λ is. part_of _ _ _ c.deref.result.now answered.0 (goes is).only _ _ (c.say.ensures.does (works is).0) _ text;
       silent = λ is cut_short. absurd (cc cut_short);
@@ -97,9 +98,9 @@ returns-in-Err-answered-clause-stops g c known r v works =
     stops_ended _ c.in-Err-answered.end _ known _ _ _ _ _ _ _ (state_in c.args.session.now r v) c.ended_status.ensures (record {
       exchange = exchange_of c.next_line.new.line.items c.met.result c.args.counts.now c.turn_counts.result ended.0.0 ended.0.1;
       turned = turned_of _ known _ _ _ _ _ _ _ _ _ _ _ _ ended.0.0 (g.G.Ground.counts_of c.answer-answered.new.ground)
-          (record { source_tells = refl; ground_tells = refl; log_tells = c.note.ensures.told; read_faults = c.next_line.ensures.faults; counts = falls })
+          (record { source_tells = refl; ground_tells = refl; log_tells = c.note.ensures.told; read_faults = c.next_line.ensures.faults; counts = falls; spawns = spawns_itself (g.P.Spawner.counts_of c.args.spawner.now) })
           (λ is. keeps_two _ _ (cut is).only)
-          c.in_default.ensures.ok c.in_default.ensures.count c.in_default.ensures.still (λ is. (cut is).gives) c.deref.ensures.value c.met.ensures c.note.ensures.noted (c.turn_counts.ensures ∙ ap turn_counts c.counts.ensures) c.requires.counted falls refl;
+          c.in_default.ensures.ok c.in_default.ensures.count c.in_default.ensures.still (λ is. (cut is).gives) c.deref.ensures.value c.met.ensures c.note.ensures.noted (c.turn_counts.ensures ∙ ap₂ turn_counts c.counts.ensures c.counts-2.ensures) c.requires.counted falls refl;
       counted = ended_counts c.in-Err-answered.end _ _ c.in-Err-answered.ensures.counts;
       part = λ is. nothing_said _ _ _ (cut is).only;
       silent = λ is cut_short. refl;
