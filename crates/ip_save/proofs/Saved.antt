@@ -141,3 +141,11 @@ module _ (records : ℕ → Option Record) (tree : code.Tree) (v : View) (is : I
 -- bytes with a record behind them
 pub some_behind : (old new : Bytes) (r : Record) → new ≡ old ++ spelling r → 0 < length new
 some_behind old new r is = let long = ap length is ∙ length-append old (spelling r) in let some = some_bytes r in omega arith
+
+-- and a place below them
+pub place_behind : (end n : ℕ) (old mid new : Bytes) (r x : Record) → n ≡ length old → mid ≡ old ++ spelling r → new ≡ mid ++ spelling x → (end ≤ end + n) × (end + n < end + length new)
+place_behind end n old mid new r x at is on =
+    let first = ap length is ∙ length-append old (spelling r) in
+    let last = ap length on ∙ length-append mid (spelling x) in
+    let some = some_bytes r in
+    (omega arith, omega (arith, at, first, last, some))

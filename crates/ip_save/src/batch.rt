@@ -1,5 +1,5 @@
 // What a commit appends.
-ghost use Rattle.std.specs.Prelude.{◌≡◌, ◌<◌, ◌≤◌, ℕ, length, Option, IfOk, MatchResult};
+ghost use Rattle.std.specs.Prelude.{◌≡◌, ◌+◌, ◌<◌, ◌≤◌, ℕ, length, Option, IfOk, MatchResult};
 ghost use Rattle.ip_base.specs.declared.limit.TheConstants.{OFFSET_MAX};
 ghost use Rattle.ip_save.specs.Batches.{AreFields, HasShortContents, IsBatch, IsSaveFault, fields_told};
 ghost use Rattle.ip_spec.specs.declared.record.Record.{Record};
@@ -80,6 +80,7 @@ impl Batch {
         ensures made { (records : ℕ → Option Record) (v : View) → IsView records tree.now v → HasShortContents v.map
             → MatchResult result (IsBatch v (fields_told fields.now) end) (IsSaveFault v (fields_told fields.now) end) }
         ensures some { IfOk result (λ batch. 0 < length batch.bytes.items) }
+        ensures placed { IfOk result (λ batch. (end ≤ batch.commit_at) × (batch.commit_at < end + length batch.bytes.items)) }
     {
         let mut bytes = Vec::with_capacity(alloc, room_for(&tree.root, fields))?;
         put_all_fresh(&tree.root, &mut bytes)?;

@@ -5,7 +5,7 @@ use Rattle.ip_save.specs.Laid.{contents_bytes, fresh_root}
 use Rattle.ip_save.proofs.Limits.{none_too_long, none_too_wide}
 use Rattle.ip_save.proofs.Placed.{bytes_length}
 use Rattle.ip_save.proofs.Rows.{passed_on}
-use Rattle.ip_save.proofs.Saved.{end_is, saved, some_behind}
+use Rattle.ip_save.proofs.Saved.{end_is, saved, some_behind, place_behind}
 use Rattle.ip_save.proofs.batch.Batch.of.Goals as goal
 
 pub returns-in_err-put_all_fresh-clause-made : goal.returns-in_err-put_all_fresh-clause-made
@@ -45,3 +45,8 @@ returns-clause-made c records v is short =
 
 pub returns-clause-some : goal.returns-clause-some
 returns-clause-some c = some_behind _ _ _ c.in_ok-put_branch.ensures.bytes
+
+pub returns-clause-placed : goal.returns-clause-placed
+returns-clause-placed c =
+    let at : c.len.result ≡ length c.put_root.new.out.items = search rules in
+    place_behind c.args.end c.len.result c.put_root.new.out.items c.put_commit.new.out.items c.put_branch.new.out.items _ _ at c.in_ok-name.ensures.bytes c.in_ok-put_branch.ensures.bytes
