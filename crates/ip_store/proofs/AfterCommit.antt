@@ -4,12 +4,11 @@
 --     made, cut      the relation of a commit that was made, and of one that a fault cut short
 --     saved_tree      the tree at the batch's root, over the records of the image after it
 --     answers_refused, answers_made, goes_on_still      what is answered, and how the work goes on
-use Rattle.std.proofs.Common.{◌≡◌, ◌≢◌, ℕ, ◌+◌, ◌-◌, ◌^◌, ◌<◌, ◌≤◌, Bool, true, false, List, [], ◌∷◌, ◌++◌, length, map, Option, Some, None, refl, sym, ◌∙◌, ap, subst, arith, length-append}
-use Rattle.std.specs.Prelude.{Result, Ok, Err, All, AllPairs, IsTrue, IsFalse, IfSome, min, nat_le, nat_lt, ◌&&◌, cond}
+use Rattle.std.proofs.Common.{◌≡◌, ℕ, ◌+◌, ◌-◌, ◌^◌, ◌<◌, ◌≤◌, Bool, true, false, List, [], ◌∷◌, ◌++◌, length, map, Option, Some, None, refl, sym, ◌∙◌, ap, subst, arith, length-append}
+use Rattle.std.specs.Prelude.{Result, Ok, Err, All, IsFalse, IfSome, min, cond}
 use Rattle.std.specs.List.{AllByRecursion}
 use Rattle.std.proofs.lemmas.List.{map-append}
 use Rattle.std.proofs.lemmas.List.Elements.{All-from_recursion, recursion_from_All}
-use Rattle.std.proofs.lemmas.Bool.Decides.{nat_tests}
 use Rattle.std.specs.Cmp.Lexicographic.{nat_list_cmp_total}
 use Rattle.std.specs.Ordering.{eq_by_cmp}
 use Rattle.ip_base.specs.declared.info.Info.{Info}
@@ -25,7 +24,7 @@ use Rattle.ip_spec.specs.declared.reply.Reply.{Reply}
 use Rattle.ip_spec.specs.Map.{get, insert, get-insert}
 use Rattle.ip_spec.specs.Path.{Bytes, bytes_cmp}
 use Rattle.ip_spec.specs.Record.{Hash, IsHash}
-use Rattle.ip_spec.specs.Repository.{Repository, Commit, next, is_retained}
+use Rattle.ip_spec.specs.Repository.{Repository, Commit, next}
 use Rattle.ip_spec.specs.Tree.{Tree, IsTree, is_contents, no_tree, widest}
 use Rattle.ip_spec.specs.TreeAt.{Records, TreeAt, present}
 use Rattle.ip_spec.specs.View.{View}
@@ -37,7 +36,7 @@ use Rattle.ip_image.specs.declared.slot.Slot.{Slot}
 use Rattle.ip_image.specs.declared.layout.Layout.{Layout}
 use Rattle.ip_image.specs.Slot.{IsSlot}
 use Rattle.ip_image.specs.Standing.{StandsFor, AreRetained}
-use Rattle.ip_image.specs.Appending.{AddsBytes, fields_of}
+use Rattle.ip_image.specs.Appending.{AddsBytes, SameGeneration, fields_of}
 use Rattle.ip_image.specs.Pending.{HasLive}
 use Rattle.ip_image.proofs.AppendingLaws.{stands_grown}
 use Rattle.ip_image.proofs.OneRepository.{all_records}
@@ -62,7 +61,7 @@ use Rattle.ip_space.specs.SpaceView.{SpaceView, grown}
 use Rattle.ip_store.specs.Placed.{IsSpaceOf}
 use Rattle.ip_store.specs.Publishing.{CanStep, MakesStep}
 use Rattle.ip_store.specs.Changes.{next_slot}
-use Rattle.ip_store.specs.Collecting.{IsPhase, IsPhaseOf, phase_of}
+use Rattle.ip_store.specs.Collecting.{IsPhase, IsPhaseOf, phase_of, carried}
 use Rattle.ip_store.specs.Rooted.{IsRooted}
 use Rattle.ip_store.specs.Store.{IsOf, Holds, SameTables, image_records}
 use Rattle.ip_store.specs.Trees.{RecordsStay}
@@ -73,8 +72,9 @@ use Rattle.ip_store.proofs.BatchKinds.{batch_commit}
 use Rattle.ip_store.proofs.Phases.{phase_to, phase_on, retained_is, set_heads}
 use Rattle.ip_store.proofs.RootedViews.{rooted_stored}
 use Rattle.ip_store.proofs.Listed.{within_fits, same_records, records_below, found_here}
-use Rattle.ip_store.proofs.Stepping.{same_holds, space_same, may_step, changed, list_after, stays_made, cut_short, same_can_step, same_step}
-use Rattle.ip_store.proofs.NextSlot.{next_is, next_generation, next_space}
+use Rattle.ip_store.proofs.Stepping.{same_holds, space_same, unswept_same, within_same, may_step, changed, list_after, stays_made, cut_short, same_can_step, same_step}
+use Rattle.ip_store.proofs.BranchNames.{named_set}
+use Rattle.ip_store.proofs.NextSlot.{HasRoom, next_room, next_is, next_generation, next_space, unswept_on, within_on}
 use Rattle.ip_store.proofs.Histories.{history_committed}
 use Rattle.ip_store.proofs.Machine.{met_done}
 
@@ -100,8 +100,14 @@ module _ (r : Repository) (parents : List ℕ) (branch : Bytes) (store : Store) 
   few : 1 ≤ length plan.batch.bytes.items
   few = let some = is.some in omega (arith, some)
 
+  room : HasRoom store.slot store.slot.next_attempt (length plan.batch.bytes.items) 1
+  room = next_room store.slot (length plan.batch.bytes.items) 1 of.slot is.ends is.sequence few
+
+  abbrev live_after : Slot
+  live_after = next_slot (carried store) (length plan.batch.bytes.items) 1
+
   slot_after : IsSlot plan.slot
-  slot_after = subst IsSlot (sym is.slot) (next_is store.slot (length plan.batch.bytes.items) 1 of.slot is.ends is.sequence few)
+  slot_after = subst IsSlot (sym is.slot) (next_is store.slot store.unswept store.slot.next_attempt (length plan.batch.bytes.items) 1 of.slot of.unswept room)
 
   next_after : next after ≡ next r + 1
   next_after = omega (arith, length-append r.commits (commit ∷ []))
@@ -123,8 +129,8 @@ module _ (r : Repository) (parents : List ℕ) (branch : Bytes) (store : Store) 
 
   pub after_tables : (store' : Store) → store'.slot ≡ plan.slot → store'.index ≡ 1 - store.index → store'.names ≡ store.names ++ plan.batch.name ∷ [] → store'.branches ≡ insert store.branches plan.branch plan.number
       → MayEnter store.history parents → store'.history ≡ with_parents store.history parents
-      → store'.places.items ≡ store.places.items ++ plan.batch.commit_at ∷ [] → store'.space ≡ grown store.space plan.slot.end → store'.collection ≡ store.collection → IsOf store' after
-  after_tables store' slot index names branches enters history places space collection = record {
+      → store'.places.items ≡ store.places.items ++ plan.batch.commit_at ∷ [] → store'.space ≡ grown store.space plan.slot.end → store'.collection ≡ store.collection → store'.unswept ≡ store.unswept → IsOf store' after
+  after_tables store' slot index names branches enters history places space collection unswept = record {
     slot = subst IsSlot (sym slot) slot_after;
     index = subst (λ (i : ℕ). i < 2) (sym index) (omega arith);
     floor = of.floor ∙ ap (λ (s : Slot). s.floor) (sym is.slot) ∙ ap (λ (s : Slot). s.floor) (sym slot);
@@ -136,10 +142,14 @@ module _ (r : Repository) (parents : List ℕ) (branch : Bytes) (store : Store) 
     history = history_committed r commit parents branch onto ∙ ap (λ (h : History). with_parents h parents) of.history ∙ sym history;
     parents_first = subst HasParentsFirst (sym history) (first_push store.history of.parents_first parents enters.1);
     space = space_same plan.slot store'.slot (grown store.space plan.slot.end) store'.space slot space
-        (subst (λ (s : Slot). IsSpaceOf s (grown store.space s.end)) (sym is.slot) (next_space store.slot (length plan.batch.bytes.items) 1 store.space of.space));
+        (subst (λ (s : Slot). IsSpaceOf s (grown store.space s.end)) (sym is.slot) (next_space store.slot store.unswept store.slot.next_attempt (length plan.batch.bytes.items) 1 store.space of.space));
     placed = ap length places ∙ (let was = of.placed in let e : length (store.places.items ++ plan.batch.commit_at ∷ []) ≡ length (r.commits ++ commit ∷ []) = omega (arith, was, length-append store.places.items (plan.batch.commit_at ∷ []), length-append r.commits (commit ∷ [])) in e);
     phase = phase_to plan.slot store'.slot after store.collection store'.collection slot collection (subst (λ (s : Slot). IsPhaseOf s after store.collection) (sym is.slot)
-        (phase_on store.slot (length plan.batch.bytes.items) 1 r after store.collection refl (omega (arith, next_after)) heads_after of.phase));
+        (phase_on store.slot store.unswept store.slot.next_attempt (length plan.batch.bytes.items) 1 r after store.collection refl (omega (arith, next_after)) (λ _ _. refl) heads_after of.phase));
+    unswept = unswept_same live_after store'.slot store.unswept store'.unswept (slot ∙ is.slot) unswept (unswept_on store.slot store.unswept store.slot.next_attempt (length plan.batch.bytes.items) 1 room of.unswept);
+    named = named_set r.branches branch (next r) is.is_branch of.named;
+    within = within_same live_after store'.slot (store.places.items ++ plan.batch.commit_at ∷ []) store'.places.items (slot ∙ is.slot) places
+        (within_on store.slot live_after store.places.items (plan.batch.commit_at ∷ []) (omega arith) (omega arith) of.within (((let h = of.slot.horizon in let low = is.placed.0 in omega (arith, h, low)), is.placed.1), tt));
   }
 
   pub after_parents : (ns : List ℕ) → ns ≡ next r ∷ [] → (least : Option ℕ) → least ≡ Some (next r) → AreParents after least ns
@@ -165,18 +175,21 @@ module _ (r : Repository) (parents : List ℕ) (branch : Bytes) (store : Store) 
 abbrev pub some_commit : Repository → List ℕ → Info → Plan → Commit
 some_commit r parents info plan = record { name = plan.batch.name; parents = map (as_parent r) parents; info = info; tree = no_tree }
 
+room_of : (r : Repository) (branch : Bytes) (store : Store) (plan : Plan) → IsOf store r → IsNext r branch store plan → HasRoom store.slot store.slot.next_attempt (length plan.batch.bytes.items) 1
+room_of r branch store plan of is = next_room store.slot (length plan.batch.bytes.items) 1 of.slot is.ends is.sequence (let some = is.some in omega (arith, some))
+
 -- what the step asks needs no view
 pub can_step : (r : Repository) (branch : Bytes) (store : Store) (plan : Plan) (of : IsOf store r) → IsNext r branch store plan → (a : Told) → Holds store a r → CanStep store.slot.end (1 - store.index) plan.slot a
 can_step r branch store plan of is a held =
-    same_can_step store.slot.end store.slot.end store.index store.index plan.slot (next_slot store.slot (length plan.batch.bytes.items) 1) a refl refl is.slot
-    (may_step r r store 1 plan.batch.bytes.items of is.ends is.sequence (let some = is.some in omega (arith, some)) a held)
+    same_can_step store.slot.end store.slot.end store.index store.index plan.slot (next_slot (carried store) (length plan.batch.bytes.items) 1) a refl refl is.slot
+    (may_step r r store store.slot.next_attempt 1 plan.batch.bytes.items of (room_of r branch store plan of is) a held)
 
 -- nor does it that each record stays
 pub stays_committed : (r : Repository) (branch : Bytes) (store : Store) (plan : Plan) (of : IsOf store r) → IsNext r branch store plan → (a : Told) (held : Holds store a r) (b : Told) → MakesStep store.slot.end plan.batch.bytes.items (1 - store.index) plan.slot (Ok tt) a b
     → (store' : Store) (q : Repository) (now : Holds store' b q) → RecordsStay (image_records held) (image_records now)
 stays_committed r branch store plan of is a held b step store' q now =
-    stays_made r r store 1 plan.batch.bytes.items of is.ends is.sequence (let some = is.some in omega (arith, some)) a held b
-    (same_step store.slot.end store.slot.end store.index store.index plan.batch.bytes.items plan.batch.bytes.items plan.slot (next_slot store.slot (length plan.batch.bytes.items) 1) (Ok tt) a b refl refl refl is.slot step) store' q now
+    stays_made r r store store.slot.next_attempt 1 plan.batch.bytes.items of (room_of r branch store plan of is) a held b
+    (same_step store.slot.end store.slot.end store.index store.index plan.batch.bytes.items plan.batch.bytes.items plan.slot (next_slot (carried store) (length plan.batch.bytes.items) 1) (Ok tt) a b refl refl refl is.slot step) store' q now
 
 -- ---- the files, where the tree has this view
 
@@ -204,10 +217,13 @@ module _ (r : Repository) (work : Work) (v : View) (branch : Bytes) (info : Info
   all = records_of r work v branch info store
 
   abbrev next_live : Slot
-  next_live = next_slot store.slot (length plan.batch.bytes.items) 1
+  next_live = next_slot (carried store) (length plan.batch.bytes.items) 1
 
-  few_there : 1 ≤ length plan.batch.bytes.items
-  few_there = let some = coming.some in omega (arith, some)
+  there : HasRoom store.slot store.slot.next_attempt (length plan.batch.bytes.items) 1
+  there = room_of r branch store plan of coming
+
+  generation : SameGeneration store.slot next_live
+  generation = next_generation store.slot store.unswept store.slot.next_attempt (length plan.batch.bytes.items) 1
 
   pub after_is : repository_after r (phase_of store.collection) work v branch info ≡ made_is
   after_is = ap (λ (t : Turned). t.1.repository) is.turn
@@ -221,7 +237,7 @@ module _ (r : Repository) (work : Work) (v : View) (branch : Bytes) (info : Info
   stands_new : (image : Image) → HasLive next_live image → AddsBytes store.slot plan.batch.bytes.items a.held image → StandsFor image (repository_after r (phase_of store.collection) work v branch info)
   stands_new image live adds = subst (StandsFor image) (sym after_is)
       (stands_grown a.held image r store.slot next_live v work.parents info branch held.stands (held_has store r a held) is.may known is.within live
-      (next_generation store.slot (length plan.batch.bytes.items) 1) (sym is.behind) refl (subst (λ (bs : List ℕ). AddsBytes store.slot bs a.held image) is.bytes adds)).0
+      generation (sym is.behind) refl (subst (λ (bs : List ℕ). AddsBytes store.slot bs a.held image) is.bytes adds)).0
 
   all_lie : AreEndToEnd store.slot.end all next_live.end
   all_lie = subst (λ (n : ℕ). AreEndToEnd store.slot.end all n) is.behind (batch_lies v (sources v) (fields_of r work.parents info branch) store.slot.end)
@@ -235,7 +251,7 @@ module _ (r : Repository) (work : Work) (v : View) (branch : Bytes) (info : Info
   pub made : (b : Told) (store' : Store) → store'.slot ≡ plan.slot → store'.index ≡ 1 - store.index → IsOf store' made_is
       → store'.places.items ≡ store.places.items ++ plan.batch.commit_at ∷ [] → store'.space ≡ grown store.space plan.slot.end → (name : Hash) → Step b (Ok tt) → Commits r (phase_of store.collection) work v branch info (Ok name) store' a b
   made b store' slot index tables places space name step =
-      changed r (repository_after r (phase_of store.collection) work v branch info) store 1 plan.batch.bytes.items of coming.ends coming.sequence few_there a held stands_new b (to_next b (Ok tt) step)
+      changed r (repository_after r (phase_of store.collection) work v branch info) store store.slot.next_attempt 1 plan.batch.bytes.items of there a held stands_new b (to_next b (Ok tt) step)
       all (within_fits store.slot of.slot all is.within) all_lie is.bytes store' (slot ∙ coming.slot) index (ap (λ (view : SpaceView). view.runs) space) (subst (IsOf store') (sym after_is) tables) (places ∙ ap (λ (ps : List ℕ). store.places.items ++ ps) (sym is.place)) name
 
   pub held_after : (b : Told) (store' : Store) (name : Hash) → Commits r (phase_of store.collection) work v branch info (Ok name) store' a b → Holds store' b made_is
@@ -243,13 +259,13 @@ module _ (r : Repository) (work : Work) (v : View) (branch : Bytes) (info : Info
 
   -- a fault of the ground cut it short
   pub cut : (b : Told) (store' : Store) (res : Result (Unit {0}) GroundFault) → Step b res → Commits r (phase_of store.collection) work v branch info (Err StoreFault.Ground) store' a b
-  cut b store' res step = cut_short r (repository_after r (phase_of store.collection) work v branch info) store 1 plan.batch.bytes.items of coming.ends coming.sequence few_there a held stands_new b store' res (to_next b res step)
+  cut b store' res step = cut_short r (repository_after r (phase_of store.collection) work v branch info) store store.slot.next_attempt 1 plan.batch.bytes.items of there a held stands_new b store' res (to_next b res step)
 
   -- ---- the records after it
 
   module _ (b : Told) (store' : Store) (step : Step b (Ok tt)) (q : Repository) (now : Holds store' b q) where
     pub list_on : now.stands.standing.records ≡ held.stands.standing.records ++ all
-    list_on = list_after r (repository_after r (phase_of store.collection) work v branch info) store 1 plan.batch.bytes.items of coming.ends coming.sequence few_there a held stands_new b (to_next b (Ok tt) step)
+    list_on = list_after r (repository_after r (phase_of store.collection) work v branch info) store store.slot.next_attempt 1 plan.batch.bytes.items of there a held stands_new b (to_next b (Ok tt) step)
         all (within_fits store.slot of.slot all is.within) all_lie is.bytes now.stands.standing
 
     spelled : TreeAt (with_batch (image_records held) all) plan.batch.root.at v.map

@@ -94,7 +94,7 @@ module _ (r : Repository) (phase : Phase) (work : Work) (command : Command) (may
   limit_turn : (limit : Limit) → outcome s command (conditions_of (met_of (StoreFault.Limit limit))) ≡ Err (Reply.Limit limit) → Turns s command (met_of (StoreFault.Limit limit)) (Reply.Limit limit) s
   limit_turn limit is = (short limit (short_so limit), turn_is (met_of (StoreFault.Limit limit)) (Err (Reply.Limit limit)) refl is)
 
-  memory_turns : Turns s command (met_of StoreFault.Memory) Reply.Memory s
+  pub memory_turns : Turns s command (met_of StoreFault.Memory) Reply.Memory s
   memory_turns = (wanting, memory_turn)
 
   done_turn : (reply : Reply) (after : Repository) → outcome s command (conditions_of met_nothing) ≡ Ok (reply, state_at after phase work) → Turns s command met_nothing reply (state_at after phase work)

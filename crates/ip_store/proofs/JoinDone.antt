@@ -2,7 +2,7 @@
 --     is_at      the work is one over what the store holds
 --     done_answers, done_moments, done_limits, done_appends, done_stays      of the merge.      done_tables      whatever is told
 --     looked_stays, join_limits      where the trees were not merged
-use Rattle.std.proofs.Common.{◌≡◌, ℕ, [], ◌∷◌, Option, Some, refl, sym, ◌∙◌, ap, subst}
+use Rattle.std.proofs.Common.{◌≡◌, ℕ, [], ◌∷◌, Option, Some, refl, sym, ◌∙◌, subst}
 use Rattle.std.specs.Prelude.{Result, Ok, Err, OnOk, IfSome, min}
 use Rattle.std.proofs.lemmas.Result.{on_ok_weaker}
 use Rattle.ip_base.specs.declared.info.Info.{Info}
@@ -21,7 +21,7 @@ use Rattle.ip_store.specs.declared.committing.StoreFault.{StoreFault}
 use Rattle.ip_store.specs.declared.merging.Sides.{Sides}
 use Rattle.ip_store.specs.declared.store.Store.{Store}
 use Rattle.ip_store.specs.declared.work.Work.{Work}
-use Rattle.ip_store.specs.Changes.{Appends, Changes, HasAnswer, KeepsNumbers, LimitsSpace}
+use Rattle.ip_store.specs.Changes.{Appends, HasAnswer, KeepsNumbers, LimitsSpace}
 use Rattle.ip_store.specs.Commits.{Answers, Commits, GoesOn, reply_to, repository_after, records_of, end_of}
 use Rattle.ip_store.specs.Merging.{merge_reply, GoesOnFrom, AnswersMerge, MergesAtMoments, AppendsMerge, LimitsMerge, IsJoin, IsJoined, IsJoinedTree}
 use Rattle.ip_store.specs.Store.{IsOf, Holds, SameTables, image_records}
@@ -32,7 +32,7 @@ use Rattle.ip_store.proofs.JoinAnswers.{merged_of, answers_joined, moments_joine
 use Rattle.ip_store.proofs.JoinedTrees.{join_outcome, join_good, join_view, join_lawful, join_parents, join_there, goes_on_from}
 use Rattle.ip_store.proofs.Phases.{stays_least}
 use Rattle.ip_store.proofs.Listed.{same_records}
-use Rattle.ip_store.proofs.Looked.{changes_behind, stays_behind, appends_behind}
+use Rattle.ip_store.proofs.Looked.{changes_behind, appends_behind}
 use Rattle.ip_store.proofs.MergeExits.{slot_still}
 use Rattle.ip_store.proofs.Stepping.{same_tables}
 
@@ -111,7 +111,7 @@ module _ (rule : Rule) (r : Repository) (branch : Bytes) (info : Info) (sides : 
         → AppendsMerge rule (image_records held) r sides.number branch info (merged_of result) store store' a c
     done_appends limits appends does = appends_joined rule r phase branch info sides is work J.view onto there stays (join_outcome rule (image_records held) r sides tree J) (join_good rule (image_records held) r sides tree J)
         (image_records held) (join_view rule (image_records held) r sides tree J phase branch is) store mid same.slot result store' a c limits
-        (on_ok_weaker result (appends_behind a b store mid looks (records_of r work J.view branch info mid) 1 store' c same.slot) appends) (still result does)
+        (on_ok_weaker result (appends_behind a b store mid looks (records_of r work J.view branch info mid) 1 store' c same.slot same.unswept) appends) (still result does)
       where
         still : (result : Result Hash StoreFault) → Commits r (phase_of mid.collection) work J.view branch info result store' b c → HasAnswer result → OnOk result ⊥ → store'.slot ≡ store.slot
         still (Ok name) does has none = absurd none

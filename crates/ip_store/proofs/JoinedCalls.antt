@@ -1,11 +1,10 @@
 -- The calls that fetch and merge the trees, one behind the other.
 --     looks_nothing, looks_on, same_on      of no call and of two.      fetched_joined      a fetch that failed
 --     calls_joined      what comes of the four calls
-use Rattle.std.proofs.Common.{◌≡◌, ℕ, Option, Some, sym, ◌∙◌, subst}
-use Rattle.std.specs.Prelude.{Result, Ok, Err}
+use Rattle.std.proofs.Common.{◌≡◌, ℕ, Option, ◌∙◌, subst}
+use Rattle.std.specs.Prelude.{Result, Err}
 use Rattle.ip_ground.specs.Told.{Told}
 use Rattle.ip_merge.specs.Rules.{IsDecisive}
-use Rattle.ip_space.specs.SpaceView.{SpaceView}
 use Rattle.ip_space.proofs.Passing.{reads_nothing, reads_on}
 use Rattle.ip_spec.specs.declared.record.Record.{Record}
 use Rattle.ip_spec.specs.Merge.{Rule, IsOneAnswer}
@@ -48,6 +47,7 @@ same_on store mid now first next = record {
   history = next.history ∙ first.history;
   space = next.space ∙ first.space;
   collection = next.collection ∙ first.collection;
+  unswept = next.unswept ∙ first.unswept;
 }
 
 pub fetched_joined : {A : Type 0} (P : A → Type 0) (rule : Rule) (records : ℕ → Option Record) (r : Repository) (sides : Sides) (fault : StoreFault) → IsFetchedOr P (Err fault) → IsJoined rule records r sides (Err fault)

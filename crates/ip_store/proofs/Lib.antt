@@ -11,14 +11,21 @@ mod BatchKinds
 mod SpelledTrees
 mod Hashes
 mod Planning
-pub mod Recovering
 mod NextSlot
+mod BranchNames
+pub mod Recovering
+pub mod Apart
+pub mod KeptFiles
+mod Started
+mod TableRecords
 pub mod Stepping
 mod Looked
 mod MergedMaps
 pub mod Editing
 mod Renamed
+mod Begun
 mod BranchTurns
+mod StartTurns
 mod AfterCommit
 mod Noted
 mod MergeTurns
@@ -40,3 +47,5 @@ pub mod Works
 mod Showing
 mod OpenedStores
 mod Listing
+mod Swept
+mod Cancels

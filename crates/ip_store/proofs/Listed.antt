@@ -6,7 +6,7 @@
 --     over, records_good, records_parts, records_below      of the records of the image that a store holds: the space reads them; what each of them is, and of what it is a part; where it lies
 --     same_list, same_records      of two images of which one reads as the other did; and of one image, whichever proof says that it stands
 use Rattle.std.proofs.Common.{◌≡◌, ◌≢◌, ◌⊎◌, inl, inr, ℕ, zero, suc, ◌+◌, ◌≤◌, List, [], ◌∷◌, ◌++◌, map, length, refl, sym, ◌∙◌, ap, subst, arith, append_assoc, append-nil, length-append}
-use Rattle.std.specs.Prelude.{◌<◌, Bool, true, false, cond, Option, Some, None, slice_get}
+use Rattle.std.specs.Prelude.{◌<◌, Bool, true, false, cond, Option, Some, slice_get}
 use Rattle.std.specs.Ordering.{nat_cmp, eq_by_cmp}
 use Rattle.std.specs.List.{AllByRecursion, AllZip}
 use Rattle.std.proofs.lemmas.List.Elements.{filter_map-append, recursion_from_All}

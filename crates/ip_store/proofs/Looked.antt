@@ -1,7 +1,7 @@
 -- What a call does that only looked, and one that changes something only behind that.
 --     changes_looked      the relation of a call that only looked
 --     changes_behind      from the middle on is from the start on, where the first part only looked.      stays_behind, appends_behind      so of the records
-use Rattle.std.proofs.Common.{◌≡◌, ◌≢◌, ◌⊎◌, inl, inr, ℕ, ◌<◌, ◌≤◌, List, ◌++◌, length, Option, Some, sym, ◌∙◌, ap, subst, arith}
+use Rattle.std.proofs.Common.{◌≡◌, ◌≢◌, inl, inr, ℕ, ◌<◌, ◌≤◌, ◌++◌, length, Option, Some, sym, ◌∙◌, ap, subst, arith}
 use Rattle.std.specs.Prelude.{Result, OnOk}
 use Rattle.std.proofs.lemmas.Bool.{cases_lt}
 use Rattle.std.proofs.lemmas.Result.{on_ok_weaker}
@@ -13,7 +13,7 @@ use Rattle.ip_ground.proofs.Passing.{changes_nothing_on}
 use Rattle.ip_ground.proofs.Spans.{only_more, only_on, at_most}
 use Rattle.ip_spec.specs.declared.record.Record.{Record}
 use Rattle.ip_spec.specs.Repository.{Repository}
-use Rattle.ip_spec.specs.TreeAt.{Records, present}
+use Rattle.ip_spec.specs.TreeAt.{Records}
 use Rattle.ip_image.specs.declared.slot.Slot.{Slot}
 use Rattle.ip_image.specs.Virtual.{chunk_of, chunk_byte}
 use Rattle.ip_image.specs.Pending.{HasLive, Crash, crash_at, crash_now, SameSpace, LeavesPair, NothingPending}
@@ -23,6 +23,7 @@ use Rattle.ip_image.proofs.HeadlineLaws.{flushed_less, pending_passes, one_slot}
 use Rattle.ip_store.specs.declared.committing.StoreFault.{StoreFault}
 use Rattle.ip_store.specs.declared.store.Store.{Store}
 use Rattle.ip_store.specs.Changes.{Changes, Appends, next_slot}
+use Rattle.ip_store.specs.Collecting.{carrying}
 use Rattle.ip_store.specs.Publishing.{MayChange}
 use Rattle.ip_store.specs.Store.{Holds, OwnsPair, image_records}
 use Rattle.ip_store.specs.Trees.{RecordsStay, OnlyLooks}
@@ -30,7 +31,7 @@ use Rattle.ip_store.proofs.Listed.{space_stays, same_list}
 use Rattle.ip_store.proofs.Recovering.{held_has, pair_left, recovers_now, recovers_since}
 
 -- what a crash may leave of an earlier moment does not grow
-recovers_less : (crash less : Crash) (r : Repository) → ((file : FileName) (content : Content) → less.leave file content → crash.leave file content) → ((attempt : ℕ) → less.lending attempt ≡ crash.lending attempt) → RecoversTo crash r → RecoversTo less r
+pub recovers_less : (crash less : Crash) (r : Repository) → ((file : FileName) (content : Content) → less.leave file content → crash.leave file content) → ((attempt : ℕ) → less.lending attempt ≡ crash.lending attempt) → RecoversTo crash r → RecoversTo less r
 recovers_less crash less r leaves same was = record {
   stands = λ image possible. was.stands image (λ file. leaves file (image file) (possible file));
   flushed = flushed_less crash less leaves same was.flushed;
@@ -131,9 +132,9 @@ module _ (a b : Told) (store mid : Store) (looks : OnlyLooks a b store mid) wher
   pub stays_behind : (c : Told) (now : Store) (r q : Repository) (held : Holds store a r) (after : Holds now c q) → RecordsStay (image_records (looks.holds r held)) (image_records after) → RecordsStay (image_records held) (image_records after)
   stays_behind c now r q held after stay at x is = stay at x (subst (λ (records : ℕ → Option Record). records at ≡ Some x) (sym (looks.records r held (looks.holds r held))) is)
 
-  pub appends_behind : (more : Records) (commits : ℕ) (now : Store) (c : Told) → mid.slot ≡ store.slot → Appends more commits mid now b c → Appends more commits store now a c
-  appends_behind more commits now c slot is = record {
-    slot = is.slot ∙ ap (λ (s : Slot). next_slot s (length (bytes_of_records more)) commits) slot;
+  pub appends_behind : (more : Records) (commits : ℕ) (now : Store) (c : Told) → mid.slot ≡ store.slot → mid.unswept ≡ store.unswept → Appends more commits mid now b c → Appends more commits store now a c
+  appends_behind more commits now c slot unswept is = record {
+    slot = is.slot ∙ (λ i. next_slot (carrying (slot i) (unswept i)) (length (bytes_of_records more)) commits);
     records = λ r q before after.
         let only = looks.reads.only in
         is.records r q (looks.holds r before) after ∙ ap (λ (rs : Records). rs ++ more)

@@ -34,7 +34,7 @@ module _ (store store' : Store) (met : Met) (is : store' ≡ record store { met 
 
   pub noted_same : (before : Store) → SameTables before store → SameTables before store'
   noted_same before same = subst (SameTables before) (sym is)
-      (record { index = same.index; slot = same.slot; names = same.names; places = same.places; branches = same.branches; history = same.history; space = same.space; collection = same.collection })
+      (record { index = same.index; slot = same.slot; names = same.names; places = same.places; branches = same.branches; history = same.history; space = same.space; collection = same.collection; unswept = same.unswept })
 
   pub noted_back : SameTables store' store
   noted_back = subst (λ (s : Store). SameTables s store) (sym is) (out_of_itself store met)

@@ -1,7 +1,7 @@
 -- The store that is made of a slot and of what was found, and what opening answers.
 --     whole_of      the test at the end.      tables_of, holds_of      the repository of the store, which it holds
 --     sync_only, finds_fault, finds, finds_form      the exits of finding the slot.      opens_none, opens_no_space, opens_bad_as, opens_by      those of opening
-use Rattle.std.proofs.Common.{◌≡◌, ◌≢◌, ℕ, ◌+◌, ◌*◌, ◌<◌, ◌≤◌, inl, inr, Bool, true, List, [], ◌∷◌, map, length, refl, sym, ◌∙◌, ap, subst, arith}
+use Rattle.std.proofs.Common.{◌≡◌, ℕ, ◌+◌, ◌*◌, ◌<◌, ◌≤◌, inl, inr, Bool, true, List, [], ◌∷◌, map, length, refl, sym, ◌∙◌, ap, subst, arith}
 use Rattle.std.specs.Prelude.{Option, Some, None, Result, Ok, Err, IfOk, OnOk, IsErr, IsErrAnd, IsErrOf, IsSome, IfSome, IsTrue, All, is_none, option_map}
 use Rattle.std.specs.List.{AllByRecursion}
 use Rattle.std.proofs.lemmas.Bool.{cases_lt}
@@ -18,9 +18,10 @@ use Rattle.ip_ground.proofs.Durable.{sync_syncs, kept_passes}
 use Rattle.ip_spec.specs.Map.{Map}
 use Rattle.ip_spec.specs.Path.{Bytes, bytes_cmp}
 use Rattle.ip_spec.specs.declared.record.CommitRecord.{CommitRecord}
-use Rattle.ip_spec.specs.Record.{IsHash}
+use Rattle.ip_spec.specs.Record.{IsHash, IsBranchName}
 use Rattle.ip_spec.specs.TreeAt.{Records}
 use Rattle.ip_spec.specs.Repository.{Repository, next}
+use Rattle.ip_image.specs.declared.layout.Layout.{Layout}
 use Rattle.ip_image.specs.declared.slot.Slot.{Slot}
 use Rattle.ip_image.specs.Slot.{IsSlot, IsLive, live_index, layout_of}
 use Rattle.ip_image.specs.declared.run.Row.{Row}
@@ -30,7 +31,7 @@ use Rattle.ip_image.specs.Pending.{HasLive, NothingPending}
 use Rattle.ip_image.proofs.HeadlineLaws.{pending_synced}
 use Rattle.ip_control.specs.declared.fault.ControlFault.{ControlFault}
 use Rattle.ip_control.specs.Finding.{Finds}
-use Rattle.ip_audit.specs.Audits.{commit_name}
+use Rattle.ip_audit.specs.Audits.{commit_name, IsBeyond}
 use Rattle.ip_store.specs.declared.opening.OpenFault.{OpenFault}
 use Rattle.ip_store.specs.declared.store.Store.{Store}
 use Rattle.ip_store.specs.declared.walk.Found.{Found}
@@ -46,7 +47,8 @@ use Rattle.ip_store.proofs.Phases.{no_phase}
 use Rattle.ip_store.proofs.Recovering.{recovers_from}
 use Rattle.ip_store.proofs.Hashes.{sha_is_hash}
 use Rattle.ip_store.proofs.Listed.{places_size}
-use Rattle.ip_store.proofs.Stepping.{space_same}
+use Rattle.ip_store.proofs.BranchNames.{named_all, placed_within}
+use Rattle.ip_store.proofs.Stepping.{space_same, unswept_same, within_same}
 use Rattle.ip_store.proofs.Reading.{own, control_passes}
 use Rattle.ip_store.proofs.OpenedImages.{has_live, form_damaged, generation_stays, pair_damaged, bad_damaged, misfit_damaged, standing_of, whole_from, repository_of, repository_names, repository_history, repository_floor, repository_branches, repository_tags, repository_size, commits_are}
 
@@ -73,7 +75,10 @@ are_hashes cs = All-from_recursion IsHash (map commit_name cs) (each cs)
     each [] = tt
     each (c ∷ cs) = (sha_is_hash _, each cs)
 
-module _ (index : ℕ) (s : Slot) (is : IsSlot s) (below : index < 2) (found : Found) (store : Store) (records : Records) (tells : Tells s found records) (finished : Finished index s found store) where
+within_slot : (s : Slot) (space : SpaceView) (records : Records) → IsSpaceOf s space → IsBeyond space.layout.end records → IsBeyond s.end records
+within_slot s space records of within = subst (λ (l : Layout). IsBeyond l.end records) of.layout within
+
+module _ (index : ℕ) (s : Slot) (is : IsSlot s) (below : index < 2) (found : Found) (store : Store) (records : Records) (tells : Tells s found records) (beyond : IsBeyond s.end records) (finished : Finished index s found store) where
   fits : WholeFits s records
   fits = finished.fits records tells
 
@@ -97,6 +102,10 @@ module _ (index : ℕ) (s : Slot) (is : IsSlot s) (below : index < 2) (found : F
         space = space_same s store.slot store.space store.space finished.slot refl finished.space;
         placed = ap length (sym (finished.places records tells)) ∙ places_size records ∙ sym size;
         retained = subst (λ (t : Slot). AreRetained t (repository_of s records tells.good).branches) (sym finished.slot) (subst (λ (m : Branching). AreRetained s m) (sym branches) fits.branches);
+        unswept = unswept_same s store.slot (record { chunk = s.first_chunk; attempt = s.first_attempt }) store.unswept finished.slot finished.unswept
+            (record { chunk = is.first_chunk; low = is.first_attempt_low; high = is.first_attempt_high; live = is.first_attempt_live });
+        named = subst (λ (m : Branching). All (λ e. IsBranchName e.0) m.entries) (sym branches) (named_all s records tells.good);
+        within = within_same s store.slot (places_in records) store.places.items finished.slot (sym (finished.places records tells)) (placed_within s s.end records tells.good beyond);
       }
 
   pub holds_of : (told : Told) → IsLive (control_in told.held) index s → (rows : List Row) → Generation told.held (layout_of s) rows → (space : SpaceView) → IsSpaceOf s space → space.runs ≡ map run_of rows
@@ -323,7 +332,7 @@ module _ (index : ℕ) (s : Slot) (below : index < 2) (is : IsSlot s) (a b : Tol
       damaged = λ owns file at damaged. absurd (cc (damaged));
       holds = λ owns. (
         repository_of s covers.records covers.true_of.good,
-        holds_of index s is below found store covers.records covers.true_of finished c (live_now c reads) (finds (owned owns)).0 (generation_now owns) space of (finds (owned owns)).2
+        holds_of index s is below found store covers.records covers.true_of (within_slot s space covers.records of covers.within) finished c (live_now c reads) (finds (owned owns)).0 (generation_now owns) space of (finds (owned owns)).2
             (covers.fill refl (readable_now owns)) space_is (kept_passes Control own b c reads slot.kept) (owns_now c reads owns),
       );
       opening = opening_now c reads;
@@ -348,7 +357,8 @@ module _ (index : ℕ) (s : Slot) (below : index < 2) (is : IsSlot s) (a b : Tol
     pub opens_by : (found : Found) (r : Result Store OpenFault) (tells : Bool) → IsTrue tells → Covers s tells c space found → Finishes index s found r → IfOk r (λ store. store.space ≡ space) → Opens r a c
     opens_by found r tells told covers finished space_is = opens_at_end found r (subst (λ (b : Bool). Covers s b c space found) told covers) finished space_is
 
-pub tables_at_end : (index : ℕ) (s : Slot) → IsSlot s → index < 2 → (tells : Bool) (told : Told) (space : SpaceView) (found : Found) (r : Result Store OpenFault) → Covers s tells told space found → Finishes index s found r
+pub tables_at_end : (index : ℕ) (s : Slot) → IsSlot s → index < 2 → (tells : Bool) (told : Told) (space : SpaceView) → IsSpaceOf s space → (found : Found) (r : Result Store OpenFault) → Covers s tells told space found → Finishes index s found r
     → IfOk r (λ store. (q : Repository) × IsOf store q)
-tables_at_end index s is below tells told space found (Ok store) covers finished = (repository_of s covers.records covers.true_of.good, tables_of index s is below found store covers.records covers.true_of finished)
-tables_at_end index s is below tells told space found (Err fault) covers finished = tt
+tables_at_end index s is below tells told space of found (Ok store) covers finished =
+    (repository_of s covers.records covers.true_of.good, tables_of index s is below found store covers.records covers.true_of (within_slot s space covers.records of covers.within) finished)
+tables_at_end index s is below tells told space of found (Err fault) covers finished = tt

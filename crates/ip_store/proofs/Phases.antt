@@ -4,15 +4,14 @@
 --     there_is, there_none, none_given      a work of which a test says so was not given up
 --     removed_above, set_above, ahead_above      a record puts no branch below the collection's commit.      stays_least      a merge rests on no commit below it
 --     retained_parents, parents_on      the parents of a work that was not given up are retained; and later on too
-use Rattle.std.proofs.Common.{◌≡◌, ℕ, ◌+◌, ◌<◌, ◌≤◌, Bool, true, false, List, refl, sym, ap, subst, ◌∙◌, arith, Option, Some, None}
-use Rattle.std.specs.Prelude.{Ok, Err, All, IfSome, IsSomeAnd, IsTrue, cond, min, not, nat_le, nat_lt, ◌&&◌, if◌then◌else◌}
+use Rattle.std.proofs.Common.{◌≡◌, ℕ, ◌<◌, ◌≤◌, Bool, true, false, List, refl, sym, ap, subst, ◌∙◌, arith, Option, Some, None}
+use Rattle.std.specs.Prelude.{Ok, All, IfSome, IsSomeAnd, IsTrue, cond, min, not, nat_le, nat_lt, ◌&&◌, if◌then◌else◌}
 use Rattle.std.proofs.lemmas.Bool.Decides.{nat_tests}
 use Rattle.std.specs.Cmp.Lexicographic.{nat_list_cmp_total}
 use Rattle.std.specs.Ordering.{eq_by_cmp}
 use Rattle.ip_spawn.specs.declared.job.Job.{Job}
 use Rattle.ip_spec.specs.declared.record.Record.{Record}
 use Rattle.ip_spec.specs.declared.reply.Reply.{Reply}
-use Rattle.ip_spec.specs.Machine.{Phase}
 use Rattle.ip_spec.specs.Map.{Map, get, insert, remove, from_entries, get-insert}
 use Rattle.ip_spec.specs.Path.{Bytes, bytes_cmp}
 use Rattle.ip_spec.specs.Record.{Names}
@@ -24,9 +23,10 @@ use Rattle.ip_image.specs.Standing.{names_after}
 use Rattle.ip_image.proofs.Renaming.{get_without}
 use Rattle.ip_image.proofs.Tables.{made_again}
 use Rattle.ip_store.specs.declared.collection.Collection.{Collection}
-use Rattle.ip_store.specs.Changes.{next_slot}
+use Rattle.ip_store.specs.declared.collection.Unswept.{Unswept}
 use Rattle.ip_store.specs.Collecting.{IsJobOf, IsPhase, IsPhaseOf, IsAbove, phase_of, not_leaving_in}
 use Rattle.ip_store.specs.Work.{AreParents, IsThere}
+use Rattle.ip_store.proofs.NextSlot.{slot_behind}
 
 pub no_phase : (s : Slot) (r : Repository) (o : Option Collection) → o ≡ None → IsPhaseOf s r o
 no_phase s r o none = subst (IsPhaseOf s r) (sym none) tt
@@ -81,10 +81,10 @@ named_heads r _ may c above q is = absurd may
 
 -- ---- behind a durable step
 
-job_on : (s : Slot) (length commits : ℕ) (job : Job) → IsJobOf s job → IsJobOf (next_slot s length commits) job
-job_on s length commits job is = record {
+job_on : (s : Slot) (u : Unswept) (attempt length commits : ℕ) (job : Job) → attempt ≡ s.next_attempt → IsJobOf s job → IsJobOf (slot_behind s u attempt length commits) job
+job_on s u attempt length commits job drawn is = record {
   valid = is.valid;
-  attempt = is.attempt;
+  attempt = is.attempt ∙ sym drawn;
   end = (let was = is.end in omega (arith, was));
   chunk = is.chunk;
   live = is.live;
@@ -93,13 +93,17 @@ job_on s length commits job is = record {
   rows = is.rows;
 }
 
-pub phase_on : (s : Slot) (length commits : ℕ) (r q : Repository) (o : Option Collection) → q.floor ≡ r.floor → next r ≤ next q
-    → ((c : Collection) → o ≡ Some c → IsPhase s r c → (name : Bytes) → IfSome (get q.branches name) (λ n. c.commit ≤ n)) → IsPhaseOf s r o → IsPhaseOf (next_slot s length commits) q o
-phase_on s length commits r q None floor more heads is = tt
-phase_on s length commits r q (Some c) floor more heads is = record {
+-- no attempt is drawn while one runs
+abbrev pub DrawsNone : Slot → ℕ → Option Collection → Type 0
+DrawsNone s attempt o = (c : Collection) → o ≡ Some c → attempt ≡ s.next_attempt
+
+pub phase_on : (s : Slot) (u : Unswept) (attempt length commits : ℕ) (r q : Repository) (o : Option Collection) → q.floor ≡ r.floor → next r ≤ next q → DrawsNone s attempt o
+    → ((c : Collection) → o ≡ Some c → IsPhase s r c → (name : Bytes) → IfSome (get q.branches name) (λ n. c.commit ≤ n)) → IsPhaseOf s r o → IsPhaseOf (slot_behind s u attempt length commits) q o
+phase_on s u attempt length commits r q None floor more drawn heads is = tt
+phase_on s u attempt length commits r q (Some c) floor more drawn heads is = record {
   retained = (let (low, high) = retained_is r c.commit is.retained in retained_from q c.commit (omega (arith, low, floor)) (omega (arith, high, more)));
   heads = heads c refl is;
-  told = job_on s length commits c.job is.told;
+  told = job_on s u attempt length commits c.job (drawn c refl) is.told;
   reaped = is.reaped;
 }
 
@@ -107,10 +111,10 @@ above_from : (o : Option Collection) (c : Collection) (x : Record) → o ≡ Som
 above_from o c x same is = subst (λ (p : Option Collection). IsAbove p x) same is
 
 -- and a record of a branch
-pub phase_named : (s : Slot) (length commits : ℕ) (r q : Repository) (x : Record) (o : Option Collection) → MayName r x → IsAbove o x → q.floor ≡ r.floor → next r ≤ next q → q.branches ≡ names_after Names.branches r.branches x
-    → IsPhaseOf s r o → IsPhaseOf (next_slot s length commits) q o
-phase_named s length commits r q x o may above floor more branches is =
-    phase_on s length commits r q o floor more
+pub phase_named : (s : Slot) (u : Unswept) (attempt length commits : ℕ) (r q : Repository) (x : Record) (o : Option Collection) → MayName r x → IsAbove o x → q.floor ≡ r.floor → next r ≤ next q → DrawsNone s attempt o → q.branches ≡ names_after Names.branches r.branches x
+    → IsPhaseOf s r o → IsPhaseOf (slot_behind s u attempt length commits) q o
+phase_named s u attempt length commits r q x o may above floor more drawn branches is =
+    phase_on s u attempt length commits r q o floor more drawn
     (λ c same was name. subst (λ (m : Branching). IfSome (get m name) (λ n. c.commit ≤ n)) (sym branches) (named_heads r x may c (above_from o c x same above) name (was.heads name))) is
 
 -- ---- the tests

@@ -1,6 +1,6 @@
 -- A plan is one of the machine's commit.
 use Rattle.std.proofs.Common.{◌≡◌, ℕ, ◌+◌, ◌<◌, ◌≤◌, ◌^◌, Bool, true, false, List, [], ◌∷◌, map, length, Option, Some, None, refl, sym, ◌∙◌, ap, subst, arith}
-use Rattle.std.specs.Prelude.{Ok, Err, IsErrOf, IfSome, is_some, All, IsTrue, not, ◌&&◌, nat_le, if◌then◌else◌}
+use Rattle.std.specs.Prelude.{Ok, Err, IsErrOf, is_some, All, IsTrue, not, ◌&&◌, nat_le, if◌then◌else◌}
 use Rattle.std.proofs.lemmas.Bool.Decides.{nat_tests}
 use Rattle.std.specs.Cmp.Lexicographic.{nat_list_cmp_total}
 use Rattle.std.specs.FinMap.Entries as E
@@ -31,7 +31,7 @@ use Rattle.ip_store.specs.declared.committing.StoreFault.{StoreFault}
 use Rattle.ip_store.specs.Changes.{IsNextSlot, LimitsSpace}
 use Rattle.ip_store.specs.Commits.{parent_named, IsRefusal, IsNewBatch, IsPastTheEnd, IsNext, IsPlan, end_of}
 use Rattle.ip_store.specs.Store.{IsOf}
-use Rattle.ip_store.specs.Collecting.{phase_of}
+use Rattle.ip_store.specs.Collecting.{phase_of, carried}
 use Rattle.ip_store.specs.Work.{IsLawful, IsThere}
 use Rattle.ip_store.proofs.BatchKinds.{batch_served, batch_places}
 use Rattle.ip_store.proofs.Machine.{First, first_there, first_room, refused_name, refused_short, refused_memory, turn_is_done}
@@ -106,7 +106,7 @@ module _ (r : Repository) (phase : Phase) (work : Work) (v : View) (branch : Byt
       by_sequence (StoreFault.Limit Limit.Sequence) is e = absurd is
       by_sequence fault is e = absurd (cc (e))
 
-  pub slot_limits : (store : Store) (of : IsOf store r) (batch : Batch) → IsBatch v f store.slot.end batch → (fault : StoreFault) → IsNextSlot store.slot (length batch.bytes.items) 1 (Err fault) → LimitsSpace {A = Plan} (end_of r work v branch info store) (Err fault) store
+  pub slot_limits : (store : Store) (of : IsOf store r) (batch : Batch) → IsBatch v f store.slot.end batch → (fault : StoreFault) → IsNextSlot (carried store) (length batch.bytes.items) 1 (Err fault) → LimitsSpace {A = Plan} (end_of r work v branch info store) (Err fault) store
   slot_limits store of batch is_batch fault is = record {
     space = λ e. by fault is (cc (e));
     sequence = λ e. by_sequence fault is (cc (e));
@@ -116,11 +116,11 @@ module _ (r : Repository) (phase : Phase) (work : Work) (v : View) (branch : Byt
       ends : end_of r work v branch info store ≡ store.slot.end + length batch.bytes.items
       ends = ap (λ g. grown_end v g store.slot.end) (sym told) ∙ sym is_batch.ends ∙ is_batch.long
 
-      by : (fault : StoreFault) → IsNextSlot store.slot (length batch.bytes.items) 1 (Err fault) → fault ≡ StoreFault.Limit Limit.Space → 2 ^ 62 < end_of r work v branch info store
+      by : (fault : StoreFault) → IsNextSlot (carried store) (length batch.bytes.items) 1 (Err fault) → fault ≡ StoreFault.Limit Limit.Space → 2 ^ 62 < end_of r work v branch info store
       by (StoreFault.Limit Limit.Space) is e = subst (λ (n : ℕ). 2 ^ 62 < n) (sym ends) is
       by fault is e = absurd (cc (e))
 
-      by_sequence : (fault : StoreFault) → IsNextSlot store.slot (length batch.bytes.items) 1 (Err fault) → fault ≡ StoreFault.Limit Limit.Sequence → (end_of r work v branch info store ≤ 2 ^ 62) × (store.slot.sequence ≡ 2 ^ 62)
+      by_sequence : (fault : StoreFault) → IsNextSlot (carried store) (length batch.bytes.items) 1 (Err fault) → fault ≡ StoreFault.Limit Limit.Sequence → (end_of r work v branch info store ≤ 2 ^ 62) × (store.slot.sequence ≡ 2 ^ 62)
       by_sequence (StoreFault.Limit Limit.Sequence) is e = (subst (λ (n : ℕ). n ≤ 2 ^ 62) (sym ends) is.0, (let low = is.1 in let high = of.slot.sequence_high in omega (arith, low, high)))
       by_sequence fault is e = absurd (cc (e))
 
@@ -129,17 +129,19 @@ pub err_of : {A B : Type 0} (fault other : StoreFault) → IsErrOf {T = A} (Err 
 err_of fault other e = let same : fault ≡ other = cc (e) in ap Err same
 
 -- what comes of any tree
-pub coming : (r : Repository) (branch : Bytes) (store : Store) (of : IsOf store r) (number : ℕ) (name : Bytes) (batch : Batch) (slot : Slot) (parents : List ℕ) → number ≡ next r → name ≡ branch → IsHash batch.name → 0 < length batch.bytes.items
-    → room_for_branch r branch ≡ Ok tt → not_existing r batch.name ≡ Ok tt → IsNextSlot store.slot (length batch.bytes.items) 1 (Ok slot) → parents ≡ number ∷ []
+pub coming : (r : Repository) (branch : Bytes) (store : Store) (of : IsOf store r) (number : ℕ) (name : Bytes) (batch : Batch) (slot : Slot) (parents : List ℕ) → number ≡ next r → name ≡ branch → IsHash batch.name → 0 < length batch.bytes.items → IsBranchName branch → (store.slot.end ≤ batch.commit_at) × (batch.commit_at < store.slot.end + length batch.bytes.items)
+    → room_for_branch r branch ≡ Ok tt → not_existing r batch.name ≡ Ok tt → IsNextSlot (carried store) (length batch.bytes.items) 1 (Ok slot) → parents ≡ number ∷ []
     → IsNext r branch store (record { number = number; branch = name; batch = batch; slot = slot; parents = parents })
-coming r branch store of number name batch slot parents is named is_name some room fresh behind only = record {
+coming r branch store of number name batch slot parents is named is_name some is_branch placed room fresh behind only = record {
   number = is;
   is_name = is_name;
   new_name = fresh;
   same_branch = named;
+  is_branch = is_branch;
   room = room_after r branch (next r) room of.retained.few;
   parents = only ∙ ap (λ (n : ℕ). n ∷ []) is;
   some = some;
+  placed = placed;
   slot = behind.0;
   ends = behind.1;
   sequence = behind.2;

@@ -6,7 +6,7 @@
 use Rattle.std.proofs.Common.{◌≡◌, ℕ, zero, suc, ◌+◌, ◌<◌, ◌≤◌, Bool, List, [], ◌∷◌, ◌++◌, length, take, get_or, refl, sym, ◌∙◌, ap, subst, inl, inr, arith, append_assoc, append-nil}
 use Rattle.std.proofs.lemmas.List.{take_more, take_all}
 use Rattle.std.proofs.lemmas.Option.{same_Some, slice_get-get_or, slice_get_within}
-use Rattle.std.specs.Prelude.{Option, Some, None, IsSome, Ok, Err, IsTrue, IsErrOf, slice_get}
+use Rattle.std.specs.Prelude.{Option, Some, None, Ok, Err, IsTrue, IsErrOf, slice_get}
 use Rattle.ip_ground.specs.declared.names.FileName.{FileName}
 use Rattle.ip_ground.specs.Told.{Told, NoFile, ChangesOnly}
 use Rattle.ip_spec.specs.declared.record.Record.{Record}
@@ -15,7 +15,7 @@ use Rattle.ip_spec.specs.TreeAt.{Records}
 use Rattle.ip_image.specs.declared.run.Run.{Run}
 use Rattle.ip_image.specs.declared.slot.Slot.{Slot}
 use Rattle.ip_image.specs.Slot.{newest_version, IsSlot}
-use Rattle.ip_image.specs.Virtual.{Stands, lies_at}
+use Rattle.ip_image.specs.Virtual.{Stands}
 use Rattle.ip_image.specs.Standing.{EndToEnd, RunByRun, FillTo, IsGood}
 use Rattle.ip_image.proofs.InChunk.{ends_append}
 use Rattle.ip_image.proofs.OneRepository.{same_record}
@@ -69,7 +69,7 @@ below_more at (r ∷ runs) run below = below_more at runs run below.1
 
 module _ (s : Slot) (is : IsSlot s) (space : SpaceView) where
   pub nothing_filled : (tells : Bool) (told : Told) (found : Found) → Tells s found [] → Filled s tells told space 0 found
-  nothing_filled tells told found nothing = record { records = []; true_of = nothing; below = λ at below. tt; fill = λ t readable. refl }
+  nothing_filled tells told found nothing = record { records = []; true_of = nothing; below = λ at below. tt; within = tt; fill = λ t readable. refl }
 
   pub begins_stretch : (tells : Bool) (told : Told) (number : ℕ) (found : Found) → Filled s tells told space number found → (stretch : Run) → slice_get (stretches_of space) number ≡ Some stretch
       → AreBelow stretch.at (take number (stretches_of space)) → stretch.at + stretch.length ≤ space.layout.end → (scan : ScanView) → scan ≡ record { next = stretch.at; to = stretch.at + stretch.length; ahead = [] }
@@ -100,6 +100,7 @@ module _ (s : Slot) (is : IsSlot s) (space : SpaceView) where
         below = λ at below.
             let last = below_more at (take walk.number (stretches_of space)) walk.stretch (subst (AreBelow at) taken below) in
             beyond_up walk.scan.next at (walks.before ++ walks.behind) (omega (arith, last, at_end)) walks.beyond;
+        within = (let inside = walks.inside in let last = walks.below in beyond_up walk.scan.next space.layout.end (walks.before ++ walks.behind) (omega (arith, inside, last)) walks.beyond);
         fill = λ t readable. subst (λ (runs : List Run). RunByRun (byte_at told space) runs (walks.before ++ walks.behind)) (sym taken)
             (join_run (byte_at told space) (take walk.number (stretches_of space)) walk.stretch walks.before walks.behind (walks.fill t readable)
             (subst (EndToEnd (byte_at told space) walk.stretch.at walks.behind) at_end (walks.lies t readable)));
@@ -109,6 +110,7 @@ module _ (s : Slot) (is : IsSlot s) (space : SpaceView) where
   covers_all tells told number found all filled = record {
     records = filled.records;
     true_of = filled.true_of;
+    within = filled.within;
     fill = λ t readable. subst (λ (runs : List Run). RunByRun (byte_at told space) runs filled.records) (take_all number (stretches_of space) all) (filled.fill t readable);
   }
 

@@ -33,9 +33,10 @@ use Rattle.ip_chunks.proofs.Behind.{front_holds, front_ends, holds_front}
 use Rattle.ip_control.specs.Live.{Live, no_slot, live_slot, live_of}
 use Rattle.ip_control.proofs.LiveLaws.{is_live}
 use Rattle.ip_store.specs.declared.store.Store.{Store}
-use Rattle.ip_store.specs.Changes.{next_slot}
+use Rattle.ip_store.specs.declared.collection.Unswept.{Unswept}
 use Rattle.ip_store.specs.Publishing.{front_in}
 use Rattle.ip_store.specs.Store.{Holds as HoldsStore}
+use Rattle.ip_store.proofs.NextSlot.{slot_behind}
 
 none_live_of : (content : Content) → content ≡ None → live_of content ≡ no_slot
 unfolding live_of live_index
@@ -210,20 +211,20 @@ abbrev pub IsOld : ℕ → Slot → Image → Image → Type 0
 IsOld i s image other = (live_of (other Control) ≡ live_slot i (slot_bytes s)) × SameSpace s image other
 
 -- or with the next slot, and these behind them
-abbrev pub IsNew : ℕ → Slot → ℕ → List ℕ → Image → Image → Type 0
-IsNew j s commits bytes image other = (live_of (other Control) ≡ live_slot j (slot_bytes (next_slot s (length bytes) commits))) × AddsBytes s bytes image other
+abbrev pub IsNew : ℕ → Slot → Slot → List ℕ → Image → Image → Type 0
+IsNew j s next bytes image other = (live_of (other Control) ≡ live_slot j (slot_bytes next)) × AddsBytes s bytes image other
 
 -- Each image is one of the two.
-module _ (crash : Crash) (i j : ℕ) (s : Slot) (commits : ℕ) (bytes : List ℕ) (image : Image) (s_is : IsSlot s) (next_is : IsSlot (next_slot s (length bytes) commits)) (apart : i ≢ j)
-    (pair : LeavesPairOf crash s image) (drawn : (attempt : ℕ) → crash.lending attempt ≢ own → attempt < s.next_attempt) where
+module _ (crash : Crash) (i j : ℕ) (s : Slot) (u : Unswept) (attempt commits : ℕ) (bytes : List ℕ) (image : Image) (s_is : IsSlot s) (next_is : IsSlot (slot_behind s u attempt (length bytes) commits)) (apart : i ≢ j) (more : s.next_attempt ≤ attempt)
+    (pair : LeavesPairOf crash s image) (drawn : (n : ℕ) → crash.lending n ≢ own → n < s.next_attempt) where
   abbrev next : Slot
-  next = next_slot s (length bytes) commits
+  next = slot_behind s u attempt (length bytes) commits
 
   abbrev Old : Image → Type 0
   Old = IsOld i s image
 
   abbrev New : Image → Type 0
-  New = IsNew j s commits bytes image
+  New = IsNew j s next bytes image
 
   two : (l : Live) {X : Type 0} → l ≡ live_slot i (slot_bytes s) → l ≡ live_slot j (slot_bytes next) → X
   two l one other = let same : live_slot i (slot_bytes s) ≡ live_slot j (slot_bytes next) = sym one ∙ other in absurd (apart (cc (same)))
@@ -257,5 +258,6 @@ module _ (crash : Crash) (i j : ℕ) (s : Slot) (commits : ℕ) (bytes : List �
       | inl old ↦ flushed_image crash image other s (in_image i s other s_is old.0) old.1 (λ at low high content left. old_byte other possible at content left low high) pair drawn
       | inr new ↦
           flushed_image crash other other next (in_image j next other next_is new.0) (record { chunks = λ at low high. refl; mapping = λ live. refl; prefix = λ live. refl })
-          (λ at low high content left. new_byte other possible at content left new low high) (pair_alike crash s image other (pair_of s image other new.1.same) pair) drawn
+          (λ at low high content left. new_byte other possible at content left new low high) (pair_alike crash s image other (pair_of s image other new.1.same) pair)
+          (λ n some. (let was = drawn n some in omega (arith, was, more)))
     ]

@@ -1,7 +1,8 @@
 -- What the tables and the files hold after a record of a branch.
 --     renamed_tables      the tables after it.      can_rename      what the durable step asks
 --     was_renamed, rename_cut      the relation of a call that was made, and of one that a fault cut short
-use Rattle.std.proofs.Common.{◌≡◌, ℕ, ◌+◌, ◌-◌, ◌^◌, ◌<◌, ◌≤◌, Bool, true, false, List, [], ◌∷◌, ◌++◌, length, Option, Some, None, refl, sym, ◌∙◌, ap, subst, arith, append-nil}
+--     space_renamed, list_renamed      the bytes of the records before it, and the records
+use Rattle.std.proofs.Common.{◌≡◌, ℕ, ◌-◌, ◌^◌, ◌<◌, ◌≤◌, Bool, true, false, List, [], ◌∷◌, ◌++◌, length, Option, Some, None, refl, sym, ◌∙◌, ap, subst, arith, append-nil}
 use Rattle.std.specs.Prelude.{Result, Ok, Err, All, IfSome, not, nat_le, nat_lt, ◌&&◌, cond}
 use Rattle.std.proofs.lemmas.Bool.Decides.{nat_tests}
 use Rattle.std.specs.Cmp.Lexicographic.{nat_list_cmp_total}
@@ -18,8 +19,8 @@ use Rattle.ip_image.specs.declared.slot.Slot.{Slot}
 use Rattle.ip_image.specs.declared.layout.Layout.{Layout}
 use Rattle.ip_image.specs.Slot.{IsSlot}
 use Rattle.ip_image.specs.Standing.{StandsFor, AreRetained, IsServedKind, names_after}
-use Rattle.ip_image.specs.Appending.{AddsBytes, MayName, renamed, bytes_of_records}
-use Rattle.ip_image.specs.Pending.{HasLive}
+use Rattle.ip_image.specs.Appending.{AddsBytes, SameGeneration, MayName, renamed}
+use Rattle.ip_image.specs.Pending.{HasLive, SameSpace}
 use Rattle.ip_image.proofs.Renaming.{get_without, few_without, spelled_is, stands_renamed}
 use Rattle.ip_image.proofs.Tables.{made_again}
 use Rattle.ip_history.specs.History.{HasParentsFirst}
@@ -27,17 +28,16 @@ use Rattle.ip_store.specs.declared.committing.StoreFault.{StoreFault}
 use Rattle.ip_store.specs.declared.store.Store.{Store}
 use Rattle.ip_space.specs.SpaceView.{SpaceView, grown}
 use Rattle.ip_store.specs.Changes.{Changes, next_slot, IsNextSlot}
-use Rattle.ip_store.specs.Collecting.{IsAbove}
+use Rattle.ip_store.specs.Collecting.{IsAbove, carried}
 use Rattle.ip_store.specs.Placed.{places_in, IsSpaceOf}
 use Rattle.ip_store.specs.Publishing.{CanStep, MakesStep}
-use Rattle.ip_spec.specs.TreeAt.{Records, present}
-use Rattle.ip_image.proofs.SpelledCommits.{present_front}
 use Rattle.ip_store.specs.Store.{IsOf, Holds, image_records}
 use Rattle.ip_store.specs.Trees.{RecordsStay}
 use Rattle.ip_store.proofs.Recovering.{held_has}
-use Rattle.ip_store.proofs.Stepping.{list_after, may_step, changed, stays_made, cut_short, space_same, same_can_step, same_step}
-use Rattle.ip_store.proofs.NextSlot.{next_is, next_generation, next_space}
-use Rattle.ip_store.proofs.Phases.{phase_to, phase_named}
+use Rattle.ip_store.proofs.Stepping.{list_after, may_step, adds_now, changed, stays_made, cut_short, space_same, unswept_same, within_same, same_can_step, same_step}
+use Rattle.ip_store.proofs.BranchNames.{named_after}
+use Rattle.ip_store.proofs.NextSlot.{slot_behind, HasRoom, next_room, next_is, next_generation, next_space, unswept_on, within_on}
+use Rattle.ip_store.proofs.Phases.{DrawsNone, phase_to, phase_named}
 
 abbrev IsAmong : Slot → ℕ → Type 0
 IsAmong s n = (s.floor ≤ n) × (n < s.next)
@@ -52,9 +52,11 @@ within floor n m is = (low floor n m is, high floor n m is)
     high floor n m is = grind (arith, nat_tests)
 
 -- the slot, by the length of the record
-pub slot_from : (s : Slot) (x : Record) (n : ℕ) (slot : Slot) → n ≡ length (spelling x) → IsNextSlot s n 0 (Ok slot)
-    → (slot ≡ next_slot s (length (spelling x)) 0) × (s.end + length (spelling x) ≤ 2 ^ 62) × (s.sequence < 2 ^ 62)
-slot_from s x n slot is = subst (λ (k : ℕ). IsNextSlot s n 0 (Ok slot) → IsNextSlot s k 0 (Ok slot)) is (λ given. given)
+pub slot_from : (store : Store) (r : Repository) (x : Record) (n : ℕ) (slot : Slot) → IsOf store r → n ≡ length (spelling x) → IsNextSlot (carried store) n 0 (Ok slot)
+    → (slot ≡ next_slot (carried store) (length (spelling x)) 0) × HasRoom store.slot store.slot.next_attempt (length (spelling x)) 0
+slot_from store r x n slot of is given =
+    let (same, small, low) = subst (λ (k : ℕ). IsNextSlot (carried store) k 0 (Ok slot)) is given in
+    (same, next_room store.slot (length (spelling x)) 0 of.slot small low (omega arith))
 
 -- whatever repository the tables are of
 pub may_same : (store : Store) (q r : Repository) (x : Record) → IsOf store q → IsOf store r → MayName q x → MayName r x
@@ -100,22 +102,26 @@ module _ (r : Repository) (store : Store) (of : IsOf store r) where
       subst (AreRetained store.slot) (sym (ap from_entries may ∙ made_again r.branches)) of.retained
   retained_after _ may = absurd may
 
-  module _ (x : Record) (may : MayName r x) (fits : Fits 1 x) (served : IsServedKind x) (slot : Slot) (slot_is : slot ≡ next_slot store.slot (length (spelling x)) 0) (small : store.slot.end + length (spelling x) ≤ 2 ^ 62) (low : store.slot.sequence < 2 ^ 62) where
+  module _ (x : Record) (may : MayName r x) (fits : Fits 1 x) (served : IsServedKind x) (slot : Slot) (attempt : ℕ) (slot_is : slot ≡ slot_behind store.slot store.unswept attempt (length (spelling x)) 0)
+      (room : HasRoom store.slot attempt (length (spelling x)) 0) (drawn : DrawsNone store.slot attempt store.collection) where
     abbrev after : Repository
     after = renamed r x
 
     abbrev next_live : Slot
-    next_live = next_slot store.slot (length (spelling x)) 0
+    next_live = slot_behind store.slot store.unswept attempt (length (spelling x)) 0
+
+    generation : SameGeneration store.slot next_live
+    generation = next_generation store.slot store.unswept attempt (length (spelling x)) 0
 
     slot_after : IsSlot slot
-    slot_after = subst IsSlot (sym slot_is) (next_is store.slot (length (spelling x)) 0 of.slot small low (omega arith))
+    slot_after = subst IsSlot (sym slot_is) (next_is store.slot store.unswept attempt (length (spelling x)) 0 of.slot of.unswept room)
 
     same_next : next_live.next ≡ store.slot.next
     same_next = omega arith
 
     pub renamed_tables : (store' : Store) → store'.slot ≡ slot → store'.index ≡ 1 - store.index → store'.names ≡ store.names → store'.branches ≡ names_after Names.branches store.branches x → store'.history ≡ store.history
-        → store'.places.items ≡ store.places.items → store'.space ≡ grown store.space slot.end → store'.collection ≡ store.collection → IsAbove store.collection x → IsOf store' after
-    renamed_tables store' slot' index names branches history places space collection above = record {
+        → store'.places.items ≡ store.places.items → store'.space ≡ grown store.space slot.end → store'.collection ≡ store.collection → store'.unswept ≡ store.unswept → IsAbove store.collection x → IsOf store' after
+    renamed_tables store' slot' index names branches history places space collection unswept above = record {
       slot = subst IsSlot (sym slot') slot_after;
       index = subst (λ (i : ℕ). i < 2) (sym index) (omega arith);
       floor = of.floor ∙ ap (λ (s : Slot). s.floor) (sym slot_is) ∙ ap (λ (s : Slot). s.floor) (sym slot');
@@ -126,10 +132,14 @@ module _ (r : Repository) (store : Store) (of : IsOf store r) where
       history = of.history ∙ sym history;
       parents_first = subst HasParentsFirst (sym history) of.parents_first;
       space = space_same slot store'.slot (grown store.space slot.end) store'.space slot' space
-          (subst (λ (s : Slot). IsSpaceOf s (grown store.space s.end)) (sym slot_is) (next_space store.slot (length (spelling x)) 0 store.space of.space));
+          (subst (λ (s : Slot). IsSpaceOf s (grown store.space s.end)) (sym slot_is) (next_space store.slot store.unswept attempt (length (spelling x)) 0 store.space of.space));
       placed = ap length places ∙ of.placed;
-      phase = phase_to next_live store'.slot after store.collection store'.collection (slot' ∙ slot_is) collection (phase_named store.slot (length (spelling x)) 0 r after x store.collection may above refl (omega arith) refl of.phase);
+      phase = phase_to next_live store'.slot after store.collection store'.collection (slot' ∙ slot_is) collection (phase_named store.slot store.unswept attempt (length (spelling x)) 0 r after x store.collection may above refl (omega arith) drawn refl of.phase);
       retained = (let is = retained_after x may in subst (λ (s : Slot). AreRetained s after.branches) (sym slot_is ∙ sym slot') (record { each = λ name. subst (λ (n : ℕ). IfSome (get after.branches name) (λ m. (store.slot.floor ≤ m) × (m < n))) (sym same_next) (is.each name); few = is.few }));
+      unswept = unswept_same next_live store'.slot store.unswept store'.unswept (slot' ∙ slot_is) unswept (unswept_on store.slot store.unswept attempt (length (spelling x)) 0 room of.unswept);
+      named = named_after 1 r.branches x fits of.named;
+      within = within_same next_live store'.slot store.places.items store'.places.items (slot' ∙ slot_is) places
+          (subst (All (λ at. (next_live.horizon ≤ at) × (at < next_live.end))) (append-nil store.places.items) (within_on store.slot next_live store.places.items [] (omega arith) (omega arith) of.within tt));
     }
 
     -- the space goes on as far
@@ -140,16 +150,16 @@ module _ (r : Repository) (store : Store) (of : IsOf store r) where
         omega (arith, was, now)
 
     pub inside : slot.end ≤ 2 ^ 62
-    inside = subst (λ (s : Slot). s.end ≤ 2 ^ 62) (sym slot_is) small
+    inside = subst (λ (s : Slot). s.end ≤ 2 ^ 62) (sym slot_is) room.ends
 
     module _ (a : Told) (held : Holds store a r) where
       pub can_rename : CanStep store.slot.end (1 - store.index) slot a
-      can_rename = same_can_step store.slot.end store.slot.end store.index store.index slot next_live a refl refl slot_is (may_step r after store 0 (spelling x) of small low (omega arith) a held)
+      can_rename = same_can_step store.slot.end store.slot.end store.index store.index slot next_live a refl refl slot_is (may_step r after store attempt 0 (spelling x) of room a held)
 
       stands_new : (image : Image) → HasLive next_live image → AddsBytes store.slot (spelling x) a.held image → StandsFor image after
       stands_new image live adds = stands_renamed a.held image r store.slot next_live x held.stands (held_has store r a held) may
           (subst (λ (v : ℕ). Fits v x) (let l = of.slot.version_low in let h = of.slot.version_high in omega (arith, l, h)) fits) served live
-          (next_generation store.slot (length (spelling x)) 0) refl same_next adds
+          generation refl same_next adds
 
       abbrev Step : Told → Result (Unit {0}) GroundFault → Type 0
       Step b res = MakesStep store.slot.end (spelling x) (1 - store.index) slot res a b
@@ -158,21 +168,25 @@ module _ (r : Repository) (store : Store) (of : IsOf store r) where
       to_next b res step = same_step store.slot.end store.slot.end store.index store.index (spelling x) (spelling x) slot next_live res a b refl refl refl slot_is step
 
       pub was_renamed : (b : Told) (store' : Store) → store'.slot ≡ slot → store'.index ≡ 1 - store.index → store'.names ≡ store.names → store'.branches ≡ names_after Names.branches store.branches x → store'.history ≡ store.history
-          → store'.places.items ≡ store.places.items → store'.space ≡ grown store.space slot.end → store'.collection ≡ store.collection → IsAbove store.collection x → Step b (Ok tt) → Changes {A = Unit {0}} r after (Ok tt) store' a b
-      was_renamed b store' slot' index names branches history places space collection above step =
-          changed r after store 0 (spelling x) of small low (omega arith) a held stands_new b (to_next b (Ok tt) step)
-          ((store.slot.end, x) ∷ []) (fits, tt) (refl, refl) (spelled_is store.slot.end x) store' (slot' ∙ slot_is) index (ap (λ (view : SpaceView). view.runs) space) (renamed_tables store' slot' index names branches history places space collection above)
+          → store'.places.items ≡ store.places.items → store'.space ≡ grown store.space slot.end → store'.collection ≡ store.collection → store'.unswept ≡ store.unswept → IsAbove store.collection x → Step b (Ok tt) → Changes {A = Unit {0}} r after (Ok tt) store' a b
+      was_renamed b store' slot' index names branches history places space collection unswept above step =
+          changed r after store attempt 0 (spelling x) of room a held stands_new b (to_next b (Ok tt) step)
+          ((store.slot.end, x) ∷ []) (fits, tt) (refl, refl) (spelled_is store.slot.end x) store' (slot' ∙ slot_is) index (ap (λ (view : SpaceView). view.runs) space) (renamed_tables store' slot' index names branches history places space collection unswept above)
           (places ∙ sym (append-nil store.places.items) ∙ ap (λ (ps : List ℕ). store.places.items ++ ps) (sym (no_place r store.slot.end x may))) tt
 
       -- each record stays
       pub stays_renamed : (b : Told) (store' : Store) (q : Repository) → Step b (Ok tt) → (now : Holds store' b q) → RecordsStay (image_records held) (image_records now)
-      stays_renamed b store' q step now = stays_made r after store 0 (spelling x) of small low (omega arith) a held b (to_next b (Ok tt) step) store' q now
+      stays_renamed b store' q step now = stays_made r after store attempt 0 (spelling x) of room a held b (to_next b (Ok tt) step) store' q now
 
       -- behind them stands the one
       pub list_renamed : (b : Told) (store' : Store) (q : Repository) → Step b (Ok tt) → (now : Holds store' b q) → now.stands.standing.records ≡ held.stands.standing.records ++ (store.slot.end, x) ∷ []
       list_renamed b store' q step now =
-          list_after r after store 0 (spelling x) of small low (omega arith) a held stands_new b (to_next b (Ok tt) step)
+          list_after r after store attempt 0 (spelling x) of room a held stands_new b (to_next b (Ok tt) step)
           ((store.slot.end, x) ∷ []) (fits, tt) (refl, refl) (spelled_is store.slot.end x) now.stands.standing
 
+      -- the bytes of the records before it are as they were
+      pub space_renamed : (b : Told) → Step b (Ok tt) → SameSpace store.slot a.held b.held
+      space_renamed b step = (adds_now r after store attempt 0 (spelling x) of room a held b (to_next b (Ok tt) step)).same
+
       pub rename_cut : (b : Told) (store' : Store) (res : Result (Unit {0}) GroundFault) → Step b res → Changes {A = Unit {0}} r after (Err StoreFault.Ground) store' a b
-      rename_cut b store' res step = cut_short r after store 0 (spelling x) of small low (omega arith) a held stands_new b store' res (to_next b res step)
+      rename_cut b store' res step = cut_short r after store attempt 0 (spelling x) of room a held stands_new b store' res (to_next b res step)

@@ -3,12 +3,11 @@
 --     list_after, stays_made      the records of the image after it, and that those before it are among them
 --     same_tables, same_holds, same_changes, same_appends      a store with the same tables.      changes_none      the relation of a call that was refused
 --     same_can_step, same_step      what a step asks and does, of a slot and bytes that are the same
-use Rattle.std.proofs.Common.{◌≡◌, ◌≢◌, ◌⊎◌, inl, inr, ℕ, ◌+◌, ◌-◌, ◌^◌, ◌<◌, ◌≤◌, List, ◌++◌, length, refl, sym, ◌∙◌, ap, subst, arith, length-append}
-use Rattle.std.specs.Prelude.{Option, Some, None, is_some, IsSome, Result, Ok, Err, All, map}
+use Rattle.std.proofs.Common.{◌≡◌, ◌≢◌, ◌⊎◌, inl, inr, ℕ, ◌+◌, ◌-◌, ◌<◌, ◌≤◌, List, ◌++◌, length, refl, sym, ◌∙◌, ap, subst, arith, length-append}
+use Rattle.std.specs.Prelude.{Option, Some, Result, Ok, Err, All, map}
 use Rattle.std.specs.List.{AllByRecursion}
 use Rattle.std.proofs.lemmas.Bool.{cases_lt}
 use Rattle.std.proofs.lemmas.List.Elements.{filter_map-append, All-from_recursion}
-use Rattle.std.proofs.lemmas.Option.{slice_get-get_or}
 use Rattle.std.proofs.lemmas.Result.{on_ok_weaker}
 use Rattle.ip_ground.specs.declared.names.FileName.{FileName}
 use Rattle.ip_ground.specs.declared.names.FileName.TheVariants.{Control, Chunk, Mapping, Prefix}
@@ -29,10 +28,10 @@ use Rattle.ip_image.specs.Slot.{IsSlot, IsLive, slot_bytes, layout_of}
 use Rattle.ip_image.specs.Virtual.{chunk_of, place_in_chunk, byte_of, chunk_byte, run_of}
 use Rattle.ip_image.specs.Standing.{Standing, StandsFor, AreRetained}
 use Rattle.ip_image.specs.Pending.{HasLive, crash_at, crash_now, SameSpace, NothingPending, AllFlushed, KeepsSpace}
-use Rattle.ip_image.specs.Appending.{AddsBytes, bytes_of_records}
+use Rattle.ip_image.specs.Appending.{AddsBytes, SameGeneration, bytes_of_records}
 use Rattle.ip_image.specs.Headline.{IsAtomic, RecoversTo}
 use Rattle.ip_image.proofs.HeadlineLaws.{one_slot, same_generation_itself, flushed_less}
-use Rattle.ip_image.proofs.InChunk.{space_filled, lies_above, chunk_lies, byte_is, byte_inside}
+use Rattle.ip_image.proofs.InChunk.{space_filled, lies_above, chunk_lies}
 use Rattle.ip_image.proofs.OneRepository.{zero_or_not}
 use Rattle.ip_image.proofs.AppendingLaws.{stands_still}
 use Rattle.ip_image.proofs.RecordsOn.{records_go_on}
@@ -45,16 +44,18 @@ use Rattle.ip_history.specs.History.{HasParentsFirst}
 use Rattle.ip_control.specs.Live.{live_slot, live_of}
 use Rattle.ip_control.specs.Changes.{control}
 use Rattle.ip_control.proofs.LiveLaws.{is_live, live_from, spare_from, newer_from, reaches_from}
+use Rattle.ip_store.specs.declared.collection.Unswept.{Unswept}
 use Rattle.ip_store.specs.declared.committing.StoreFault.{StoreFault}
 use Rattle.ip_store.specs.declared.store.Store.{Store}
-use Rattle.ip_store.specs.Changes.{HasAnswer, Changes, Appends, next_slot}
+use Rattle.ip_store.specs.Changes.{HasAnswer, Changes, Appends}
+use Rattle.ip_store.specs.Collecting.{IsUnswept}
 use Rattle.ip_store.specs.Publishing.{front_in, CanStep, MakesStep, IsWritten, MayChange, IsOfStore}
 use Rattle.ip_space.specs.SpaceView.{SpaceView, OnlyReads}
 use Rattle.ip_store.specs.Placed.{place_of, places_in, IsSpaceOf}
 use Rattle.ip_store.specs.Store.{IsOf, OwnsPair, Holds, SameTables, image_records}
 use Rattle.ip_store.specs.Trees.{RecordsStay, OnlyLooks}
 use Rattle.ip_store.proofs.Listed.{AreNewest, newest, same_rows, more_records, space_stays, pair_stays, same_list, same_records, holds_on}
-use Rattle.ip_store.proofs.NextSlot.{next_is, next_generation}
+use Rattle.ip_store.proofs.NextSlot.{slot_behind, HasRoom, next_is, next_generation}
 use Rattle.ip_store.proofs.Phases.{phase_to}
 use Rattle.ip_store.proofs.Reading.{own}
 use Rattle.ip_store.proofs.Recovering.{in_image, recovers_now, pending_of, front_left, front_end, same_space, adds_bytes, IsOld, IsNew, flushed_step, SamePair, LeavesPairOf, same_pair, pair_alike, pair_left, pair_now}
@@ -62,13 +63,20 @@ use Rattle.ip_store.proofs.Recovering.{in_image, recovers_now, pending_of, front
 -- ---- tables
 
 pub itself : (store : Store) → SameTables store store
-itself store = record { index = refl; slot = refl; names = refl; places = refl; branches = refl; history = refl; space = refl; collection = refl }
+itself store = record { index = refl; slot = refl; names = refl; places = refl; branches = refl; history = refl; space = refl; collection = refl; unswept = refl }
 
 pub in_itself : (store : Store) (met : Met) → SameTables store (record store { met = met })
-in_itself store met = record { index = refl; slot = refl; names = refl; places = refl; branches = refl; history = refl; space = refl; collection = refl }
+in_itself store met = record { index = refl; slot = refl; names = refl; places = refl; branches = refl; history = refl; space = refl; collection = refl; unswept = refl }
 
 pub space_same : (s t : Slot) (one other : SpaceView) → t ≡ s → other ≡ one → IsSpaceOf s one → IsSpaceOf t other
 space_same s t one other slot space is = subst (λ (u : Slot). IsSpaceOf u other) (sym slot) (subst (IsSpaceOf s) (sym space) is)
+
+pub unswept_same : (s t : Slot) (one other : Unswept) → t ≡ s → other ≡ one → IsUnswept s one → IsUnswept t other
+unswept_same s t one other slot same is = subst (λ (v : Slot). IsUnswept v other) (sym slot) (subst (IsUnswept s) (sym same) is)
+
+pub within_same : (s t : Slot) (places other : List ℕ) → t ≡ s → other ≡ places → All (λ at. (s.horizon ≤ at) × (at < s.end)) places → All (λ at. (t.horizon ≤ at) × (at < t.end)) other
+within_same s t places other slot same is =
+    subst (λ (v : Slot). All (λ at. (v.horizon ≤ at) × (at < v.end)) other) (sym slot) (subst (All (λ at. (s.horizon ≤ at) × (at < s.end))) (sym same) is)
 
 -- calls that change no file leave the bytes of all records, and the live pair to nobody else
 still_space : (s : Slot) (a b : Told) → ChangesOnly NoFile a b → OwnsPair a s → SameSpace s a.held b.held
@@ -93,6 +101,9 @@ module _ (store store' : Store) (same : SameTables store store') where
     space = space_same store.slot store'.slot store.space store'.space same.slot same.space of.space;
     placed = ap length same.places ∙ of.placed;
     phase = phase_to store.slot store'.slot r store.collection store'.collection same.slot same.collection of.phase;
+    unswept = unswept_same store.slot store'.slot store.unswept store'.unswept same.slot same.unswept of.unswept;
+    named = of.named;
+    within = within_same store.slot store'.slot store.places.items store'.places.items same.slot same.places of.within;
   }
 
   pub same_holds : (r : Repository) (a : Told) → Holds store a r → Holds store' a r
@@ -147,7 +158,7 @@ same_appends more commits store mid now a b there back is = record {
 }
 
 pub out_of_itself : (store : Store) (met : Met) → SameTables (record store { met = met }) store
-out_of_itself store met = record { index = refl; slot = refl; names = refl; places = refl; branches = refl; history = refl; space = refl; collection = refl }
+out_of_itself store met = record { index = refl; slot = refl; names = refl; places = refl; branches = refl; history = refl; space = refl; collection = refl; unswept = refl }
 
 -- what is so of the records however one of the two holds them is so of those that the other holds
 pub carried : (store store' : Store) → SameTables store' store → (told : Told) (r : Repository) (P : (ℕ → Option Record) → Type 0) → ((held : Holds store told r) → P (image_records held)) → (now : Holds store' told r) → P (image_records now)
@@ -191,15 +202,19 @@ none_since a b these only still flushed =
     flushed_less (crash_now a) (crash_now b) (λ file content left. subst (λ (t : ℕ). a.may_leave t file content) same (only.goes.left b.moment file content still left))
     (λ attempt. lending_now a b only.goes attempt (only.lending attempt)) flushed
 
-module _ (r after : Repository) (store : Store) (commits : ℕ) (bytes : List ℕ) (of : IsOf store r) (small : store.slot.end + length bytes ≤ 2 ^ 62) (low : store.slot.sequence < 2 ^ 62) (few : commits ≤ length bytes) (a : Told) (held : Holds store a r) where
+-- The slot behind it may draw attempts.
+module _ (r after : Repository) (store : Store) (attempt commits : ℕ) (bytes : List ℕ) (of : IsOf store r) (room : HasRoom store.slot attempt (length bytes) commits) (a : Told) (held : Holds store a r) where
   abbrev s : Slot
   s = store.slot
 
   abbrev next : Slot
-  next = next_slot store.slot (length bytes) commits
+  next = slot_behind store.slot store.unswept attempt (length bytes) commits
+
+  generation : SameGeneration store.slot next
+  generation = next_generation store.slot store.unswept attempt (length bytes) commits
 
   next_there : IsSlot next
-  next_there = next_is store.slot (length bytes) commits of.slot small low few
+  next_there = next_is store.slot store.unswept attempt (length bytes) commits of.slot of.unswept room
 
   old_live : live_of (control a) ≡ live_slot store.index (slot_bytes store.slot)
   old_live = live_from (control a) store.index store.slot held.live
@@ -268,12 +283,12 @@ module _ (r after : Repository) (store : Store) (commits : ℕ) (bytes : List �
   pair_here : (b : Told) (res : Result (Unit {0}) GroundFault) → Step b res → SamePair store.slot a.held b.held
   pair_here b res step live = ((mapping_stays b res step).held (held.pair live).mapping, (prefix_stays b res step).held (held.pair live).prefix)
 
-  drawn_at : (b : Told) (res : Result (Unit {0}) GroundFault) → Step b res → NothingPending a → (t : ℕ) → a.moment < t → t ≤ b.moment → (attempt : ℕ) → b.lending_at t attempt ≢ custody.own → attempt < store.slot.next_attempt
-  drawn_at b res step pending t late le attempt some = pending.drawn store.slot old_has attempt (λ none. some (step.only.lending attempt t late le ∙ none))
+  drawn_at : (b : Told) (res : Result (Unit {0}) GroundFault) → Step b res → NothingPending a → (t : ℕ) → a.moment < t → t ≤ b.moment → (n : ℕ) → b.lending_at t n ≢ custody.own → n < store.slot.next_attempt
+  drawn_at b res step pending t late le n some = pending.drawn store.slot old_has n (λ none. some (step.only.lending n t late le ∙ none))
 
   -- each image has the old slot live and the same bytes, or the next slot and these behind them
   images_at : (b : Told) (res : Result (Unit {0}) GroundFault) → Step b res → NothingPending a → (t : ℕ) → a.moment < t → t ≤ b.moment → (image : Image) → Possible (b.may_leave t) image
-      → IsOld store.index store.slot a.held image ⊎ IsNew (1 - store.index) store.slot commits bytes a.held image
+      → IsOld store.index store.slot a.held image ⊎ IsNew (1 - store.index) store.slot next bytes a.held image
   images_at b res step pending t late le image possible =
       let pair = same_pair (crash_at b t) store.slot a.held image (pair_at b res step pending t late le) possible in
       elim (step.images (front_leaves pending) t image late le possible) [
@@ -283,7 +298,7 @@ module _ (r after : Repository) (store : Store) (commits : ℕ) (bytes : List �
 
   flushed_at : (b : Told) (res : Result (Unit {0}) GroundFault) → Step b res → NothingPending a → (t : ℕ) → a.moment < t → t ≤ b.moment → AllFlushed (crash_at b t)
   flushed_at b res step pending t late le =
-      flushed_step (crash_at b t) store.index (1 - store.index) store.slot commits bytes a.held of.slot next_there other (pair_at b res step pending t late le) (drawn_at b res step pending t late le) (images_at b res step pending t late le)
+      flushed_step (crash_at b t) store.index (1 - store.index) store.slot store.unswept attempt commits bytes a.held of.slot next_there other room.drawn (pair_at b res step pending t late le) (drawn_at b res step pending t late le) (images_at b res step pending t late le)
 
   -- whatever the answer is
   pub flushed_now : (b : Told) (res : Result (Unit {0}) GroundFault) → Step b res → NothingPending a → AllFlushed (crash_now b)
@@ -303,13 +318,13 @@ module _ (r after : Repository) (store : Store) (commits : ℕ) (bytes : List �
     has_now : HasLive next b.held
     has_now = has_next b.held step.held.0
 
-    adds_now : AddsBytes store.slot bytes a.held b.held
+    pub adds_now : AddsBytes store.slot bytes a.held b.held
     adds_now = adds_bytes store.slot of.slot.horizon a.held filled bytes b.held (pair_here b (Ok tt) step) step.held.1
 
     -- each record stays, whatever stands behind them
     pub stays_made : (store' : Store) (q : Repository) (now : Holds store' b q) → RecordsStay (image_records held) (image_records now)
     stays_made store' q now place x there =
-        let list = more_records a.held b.held store.slot next old_has has_now (next_generation store.slot (length bytes) commits) held.stands.standing now.stands.standing (omega arith) adds_now.same in
+        let list = more_records a.held b.held store.slot next old_has has_now generation held.stands.standing now.stands.standing (omega arith) adds_now.same in
         subst (λ (rs : Records). present rs place ≡ Some x) (sym list.1) (present_front held.stands.standing.records list.0 place x there)
 
   module _ (stands_new : NewStands) where
@@ -330,7 +345,7 @@ module _ (r after : Repository) (store : Store) (commits : ℕ) (bytes : List �
       module _ (more : Records) (fit : AreNewest more) (lie : AreEndToEnd store.slot.end more next.end) (spelled : bytes ≡ bytes_of_records more) where
         -- whichever proof says that it stands, each record of the image before is one of the image after
         pub list_after : (B : Standing b.held) → B.records ≡ held.stands.standing.records ++ more
-        list_after B = records_go_on a.held b.held store.slot next more held.stands.standing B old_has (has_now b step) (next_generation store.slot (length bytes) commits) lie
+        list_after B = records_go_on a.held b.held store.slot next more held.stands.standing B old_has (has_now b step) generation lie
             (All-from_recursion (λ (x : ℕ × Record). Fits next.version x.1) more (subst (λ (v : ℕ). AllByRecursion (λ (x : ℕ × Record). Fits v x.1) more) (sym (newest store.slot of.slot)) fit))
             (subst (λ (bs : List ℕ). AddsBytes store.slot bs a.held b.held) spelled (adds_now b step))
 
@@ -346,7 +361,7 @@ module _ (r after : Repository) (store : Store) (commits : ℕ) (bytes : List �
             live = live_now;
             kept = step.kept;
             pair = subst (OwnsPair b) (sym slot) (λ live. record { mapping = (mapping_stays b (Ok tt) step).own (held.pair live).mapping; prefix = (prefix_stays b (Ok tt) step).own (held.pair live).prefix });
-            runs = space ∙ held.runs ∙ ap (map run_of) (sym (same_rows a.held b.held store.slot next old_has (has_now b step) (next_generation store.slot (length bytes) commits) held.stands.standing stands_now.standing (adds_now b step).same.mapping));
+            runs = space ∙ held.runs ∙ ap (map run_of) (sym (same_rows a.held b.held store.slot next old_has (has_now b step) generation held.stands.standing stands_now.standing (adds_now b step).same.mapping));
             places = places ∙ ap (λ (ps : List ℕ). ps ++ places_in more) held.places ∙ sym (filter_map-append place_of held.stands.standing.records more) ∙ ap places_in (sym (list_after stands_now.standing));
           }
 
@@ -355,7 +370,7 @@ module _ (r after : Repository) (store : Store) (commits : ℕ) (bytes : List �
               (chunks_left store.slot.chunk store.slot.horizon next.end (front ++ bytes) b b.held whole_end (step.front (front_leaves pending)) step.held.1)
               (pair_alike (crash_now b) store.slot a.held b.held (pair_here b (Ok tt) step) (λ live. pair_now a b store.slot.live (at_most a b (Mapping store.slot.live) (mapping_stays b (Ok tt) step)) (at_most a b (Prefix store.slot.live) (prefix_stays b (Ok tt) step))
               (step.only.lending store.slot.live) (pending_pair pending live) step.only.goes))
-              (λ attempt some. pending.drawn store.slot old_has attempt (λ none. some (lending_now a b step.only.goes attempt (step.only.lending attempt) ∙ none)))
+              (λ n some. (let was = pending.drawn store.slot old_has n (λ none. some (lending_now a b step.only.goes n (step.only.lending n) ∙ none)) in let more = room.drawn in omega (arith, was, more)))
 
           pub changed : {A : Type 0} (x : A) → Changes r after (Ok x) store' a b
           changed x = record {

@@ -18,6 +18,7 @@ use Rattle.ip_image.specs.Headline.{IsAtomic, RecoversTo}
 use Rattle.ip_image.specs.Appending.{bytes_of_records}
 use Rattle.ip_store.specs.declared.committing.StoreFault.{StoreFault}
 use Rattle.ip_store.specs.declared.store.Store.{Store}
+use Rattle.ip_store.specs.Collecting.{carried}
 use Rattle.ip_store.specs.Publishing.{MayChange}
 use Rattle.ip_store.specs.Store.{Holds}
 
@@ -69,7 +70,7 @@ pub record LimitsSpace {A : Type 0} (end : ℕ) (result : Result A StoreFault) (
   pub sequence : IsErrOf result (StoreFault.Limit Limit.Sequence) → (end ≤ OFFSET_MAX) × (store.slot.sequence ≡ OFFSET_MAX)
   pub enough : OnOk result ((end ≤ OFFSET_MAX) × (store.slot.sequence < OFFSET_MAX))
 
--- Of a call that is Ok: these records, and none else, and no number of the slot but its sequence, its end and the next commit's has changed.
+-- Of a call that is Ok: these records, and none else, and no number of the slot but its sequence, its end and the next commit's has changed, and it says what is unswept.
 pub record Appends (more : Records) (commits : ℕ) (store now : Store) (old new : Told) : Type 0 where
-  pub slot : now.slot ≡ next_slot store.slot (length (bytes_of_records more)) commits
+  pub slot : now.slot ≡ next_slot (carried store) (length (bytes_of_records more)) commits
   pub records : (r q : Repository) (before : Holds store old r) (after : Holds now new q) → after.stands.standing.records ≡ before.stands.standing.records ++ more

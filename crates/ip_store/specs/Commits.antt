@@ -16,7 +16,7 @@ use Rattle.ip_spec.specs.Batch.{batch_root, sources}
 use Rattle.ip_spec.specs.Batch as Batches
 use Rattle.ip_spec.specs.Map.{insert, len}
 use Rattle.ip_spec.specs.Path.{Bytes}
-use Rattle.ip_spec.specs.Record.{Hash, IsHash}
+use Rattle.ip_spec.specs.Record.{Hash, IsHash, IsBranchName}
 use Rattle.ip_spec.specs.declared.record.Parent.{Parent}
 use Rattle.ip_spec.specs.declared.record.Record.{Record}
 use Rattle.ip_spec.specs.Repository.{Repository, next, head, name_at}
@@ -38,7 +38,7 @@ use Rattle.ip_store.specs.declared.work.Work.{Work}
 use Rattle.ip_store.specs.declared.committing.Plan.{Plan}
 use Rattle.ip_store.specs.declared.committing.StoreFault.{StoreFault}
 use Rattle.ip_store.specs.Changes.{Changes, next_slot}
-use Rattle.ip_store.specs.Collecting.{phase_of, not_leaving_in}
+use Rattle.ip_store.specs.Collecting.{carried, phase_of, not_leaving_in}
 use Rattle.ip_store.specs.Placed.{places_in}
 use Rattle.ip_store.specs.Store.{IsOf}
 use Rattle.ip_store.specs.Views.{IsViewAfter}
@@ -143,10 +143,12 @@ pub record IsNext (r : Repository) (branch : Bytes) (store : Store) (plan : Plan
   pub is_name : IsHash plan.batch.name
   pub new_name : not_existing r plan.batch.name ≡ Ok tt
   pub same_branch : plan.branch ≡ branch
+  pub is_branch : IsBranchName branch
   pub room : len (insert r.branches branch (next r)) ≤ BRANCHES_MAX
   pub parents : plan.parents ≡ next r ∷ []
   pub some : 0 < length plan.batch.bytes.items
-  pub slot : plan.slot ≡ next_slot store.slot (length plan.batch.bytes.items) 1
+  pub placed : (store.slot.end ≤ plan.batch.commit_at) × (plan.batch.commit_at < store.slot.end + length plan.batch.bytes.items)
+  pub slot : plan.slot ≡ next_slot (carried store) (length plan.batch.bytes.items) 1
   pub ends : store.slot.end + length plan.batch.bytes.items ≤ OFFSET_MAX
   pub sequence : store.slot.sequence < OFFSET_MAX
 

@@ -4,6 +4,8 @@ use Rattle.ip_store.specs.declared.store.InitFault.{InitFault}
 use Rattle.ip_store.specs.declared.store.InitFault.TheVariants as init
 use Rattle.ip_store.specs.declared.opening.OpenFault.{OpenFault}
 use Rattle.ip_store.specs.declared.opening.OpenFault.TheVariants as opening
+use Rattle.ip_store.specs.declared.starting.CollectFault.{CollectFault}
+use Rattle.ip_store.specs.declared.starting.CollectFault.TheVariants as starting
 use Rattle.ip_store.specs.declared.committing.StoreFault.{StoreFault}
 use Rattle.ip_store.specs.declared.committing.StoreFault.TheVariants as store
 
@@ -26,3 +28,11 @@ ground_store (store.Damaged at names) = false
 ground_store store.Memory = false
 ground_store (store.GivenUp number) = false
 ground_store (store.Leaving number) = false
+
+abbrev pub ground_start : CollectFault → Bool
+ground_start starting.Ground = true
+ground_start (starting.Busy name) = false
+ground_start (starting.Held place) = false
+ground_start (starting.Limit limit) = false
+ground_start starting.Start = false
+ground_start starting.Memory = false

@@ -67,6 +67,7 @@ pub record Finished (number : ℕ) (s : Slot) (found : Found) (store : Store) : 
   pub history : (records : Records) → Tells s found records → history_in s.floor records ≡ store.history
   pub parents_first : (records : Records) → Tells s found records → HasParentsFirst store.history
   pub idle : store.collection ≡ None
+  pub unswept : store.unswept ≡ record { chunk = s.first_chunk; attempt = s.first_attempt }
 
 abbrev pub Finishes : ℕ → Slot → Found → Result Store OpenFault → Type 0
 Finishes index s found (Ok store) = Finished index s found store

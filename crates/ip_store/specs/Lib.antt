@@ -11,6 +11,9 @@ pub mod Showing
 pub mod Entries
 pub mod Publishing
 pub mod Collecting
+pub mod Starting
+pub mod Sweeping
+pub mod Cancelling
 pub mod Rooted
 pub mod Store
 pub mod Walk

@@ -4,10 +4,10 @@
 --     Holds store told r      so are its tables, and so is what the ground reads as; its places are those of the commits' records
 --     SameTables store other      they differ in what was met alone.      place_of_commit store number      where the record of a commit lies
 --     image_records holds      the records of the image that it holds, which are among those of its space
-use Rattle.std.specs.Prelude.{◌≡◌, ◌≢◌, ℕ, ◌-◌, ◌<◌, length, map, All, Option, slice_get}
+use Rattle.std.specs.Prelude.{◌≡◌, ◌≢◌, ℕ, ◌-◌, ◌<◌, ◌≤◌, length, map, All, Option, slice_get}
 use Rattle.ip_ground.specs.declared.names.FileName.TheVariants.{Control}
 use Rattle.ip_ground.specs.Told.{Told, IsSynced}
-use Rattle.ip_spec.specs.Record.{IsHash}
+use Rattle.ip_spec.specs.Record.{IsHash, IsBranchName}
 use Rattle.ip_spec.specs.declared.record.Record.{Record}
 use Rattle.ip_spec.specs.Repository.{Repository, next}
 use Rattle.ip_spec.specs.TreeAt.{present}
@@ -18,7 +18,7 @@ use Rattle.ip_image.specs.Standing.{StandsFor, AreRetained}
 use Rattle.ip_image.specs.Virtual.{run_of}
 use Rattle.ip_history.specs.History.{HasParentsFirst, history_of}
 use Rattle.ip_space.specs.Pair.{IsOwnPair}
-use Rattle.ip_store.specs.Collecting.{IsPhaseOf}
+use Rattle.ip_store.specs.Collecting.{IsPhaseOf, IsUnswept}
 use Rattle.ip_store.specs.Control.{control_in}
 use Rattle.ip_store.specs.Placed.{places_in, IsSpaceOf}
 use Rattle.ip_store.specs.declared.store.Store.{Store}
@@ -37,6 +37,10 @@ pub record IsOf (store : Store) (r : Repository) : Type 0 where
   pub space : IsSpaceOf store.slot store.space
   pub placed : length store.places.items ≡ length r.commits
   pub phase : IsPhaseOf store.slot r store.collection
+  pub unswept : IsUnswept store.slot store.unswept
+  -- each name has the form of one, and each commit's record lies from the horizon on
+  pub named : All (λ e. IsBranchName e.0) r.branches.entries
+  pub within : All (λ at. (store.slot.horizon ≤ at) × (at < store.slot.end)) store.places.items
 
 abbrev pub OwnsPair : Told → Slot → Type 0
 OwnsPair told s = s.live ≢ 0 → IsOwnPair told (layout_of s)
@@ -66,6 +70,7 @@ pub record SameTables (store other : Store) : Type 0 where
   pub history : other.history ≡ store.history
   pub space : other.space ≡ store.space
   pub collection : other.collection ≡ store.collection
+  pub unswept : other.unswept ≡ store.unswept
 
 abbrev pub place_of_commit : Store → ℕ → Option ℕ
 place_of_commit store number = slice_get store.places.items (number - store.slot.floor)

@@ -81,6 +81,7 @@ pub record Filled (s : Slot) (tells : Bool) (told : Told) (space : SpaceView) (n
   pub records : Records
   pub true_of : Tells s found records
   pub below : (at : ℕ) → AreBelow at (take number (stretches_of space)) → IsBeyond at records
+  pub within : IsBeyond space.layout.end records
   pub fill : IsTrue tells → IsReadable told space → RunByRun (byte_at told space) (take number (stretches_of space)) records
 
 -- What the walk read ahead is current.
@@ -102,6 +103,7 @@ pub record Walks (s : Slot) (tells : Bool) (told : Told) (space : SpaceView) (wa
 pub record Covers (s : Slot) (tells : Bool) (told : Told) (space : SpaceView) (found : Found) : Type 0 where
   pub records : Records
   pub true_of : Tells s found records
+  pub within : IsBeyond space.layout.end records
   pub fill : IsTrue tells → IsReadable told space → RunByRun (byte_at told space) (stretches_of space) records
 
 -- Behind good records that fill the stretches up to an offset, none that is good stands at it and ends within its stretch.

@@ -1,4 +1,4 @@
-// What a store keeps of a collection.
+// What a store keeps of a collection, and of what was not swept away so far.
 use ip_base::Number;
 use ip_ground::Reaped;
 use ip_spawn::Job;
@@ -10,4 +10,11 @@ pub struct Collection {
     pub commit: Number,
     pub job: Job,
     pub exit: Option<Reaped>,
+}
+
+/// The first chunk and the first attempt of which a sweep may still find files.
+#[derive(Clone, Copy, Debug, PartialEq, Eq)]
+pub struct Unswept {
+    pub chunk: u64,
+    pub attempt: u64,
 }

@@ -1,5 +1,5 @@
 // Committing a work: its refusals, its records, and the durable step.
-ghost use Rattle.std.specs.Prelude.{◌≡◌, ◌≢◌, ◌++◌, [], ◌∷◌, ◌==◌, ◌≤◌, ◌<◌, ℕ, Option, Ok, Err, None, map, position, All, length, vec_len, IsTrue, IfSome, IfOk, IfErr, OnOk, OnErr, IsErr, IsErrOf};
+ghost use Rattle.std.specs.Prelude.{◌≡◌, ◌≢◌, ◌+◌, ◌++◌, [], ◌∷◌, ◌==◌, ◌≤◌, ◌<◌, ℕ, Option, Ok, Err, None, map, position, All, length, vec_len, IsTrue, IfSome, IfOk, IfErr, OnOk, OnErr, IsErr, IsErrOf};
 ghost use Rattle.std.specs.Vec.{vec_capacity};
 ghost use Rattle.std.specs.List.{list_any};
 ghost use Rattle.ip_base.specs.declared.limit.TheConstants.{OFFSET_MAX, PARENTS_MAX};
@@ -26,7 +26,7 @@ ghost use Rattle.ip_store.specs.Histories.{with_parents, MayEnter};
 ghost use Rattle.ip_store.specs.Store.{IsOf, Holds, SameTables, image_records};
 ghost use Rattle.ip_store.specs.Trees.{RecordsStay};
 ghost use Rattle.ip_store.specs.Work.{AreParents, IsLawful, IsAt, IsThere, session};
-ghost use Rattle.ip_store.specs.Collecting.{phase_of, not_leaving_in};
+ghost use Rattle.ip_store.specs.Collecting.{carried, phase_of, not_leaving_in};
 
 use crate::opening::nothing_met;
 use crate::publish::durable_step;
@@ -280,7 +280,7 @@ impl Store {
     pub(crate) fn next_slot(&self, length: usize, commits: u64) -> Result<Slot, StoreFault>
         requires slot { IsSlot self.now.slot }
         requires few { commits ≤ 1 }
-        ensures { IsNextSlot self.now.slot length commits result }
+        ensures { IsNextSlot (carried self.now) length commits result }
     {
         if length as u64 > OFFSET_MAX - self.slot.end {
             return Err(StoreFault::Limit(Limit::Space));
@@ -292,6 +292,8 @@ impl Store {
             sequence: self.slot.sequence + 1,
             end: self.slot.end + length as u64,
             next: self.slot.next + commits,
+            first_chunk: self.unswept.chunk,
+            first_attempt: self.unswept.attempt,
             ..self.slot
         })
     }
@@ -312,7 +314,7 @@ impl Store {
         ensures history { OnOk result (self.new.history ≡ with_parents self.old.history parents.now) }
         ensures room { OnOk result (vec_len self.new.places < vec_capacity self.new.places) }
         ensures err { OnErr result (SameTables self.old self.new) }
-        ensures rest { (self.new.index ≡ self.old.index) × (self.new.slot ≡ self.old.slot) × (self.new.space ≡ self.old.space) × (self.new.collection ≡ self.old.collection) }
+        ensures rest { (self.new.index ≡ self.old.index) × (self.new.slot ≡ self.old.slot) × (self.new.space ≡ self.old.space) × (self.new.collection ≡ self.old.collection) × (self.new.unswept ≡ self.old.unswept) }
         ensures places { self.new.places.items ≡ self.old.places.items }
     {
         self.places.reserve(1)?;
@@ -360,6 +362,7 @@ impl Store {
         requires tables { (r : Repository) × IsOf self.old r × AreParents r work.old.least work.old.parents }
         ensures numbers { KeepsNumbers self.old self.new }
         ensures tables { (r : Repository) → IsOf self.old r → AreParents r work.old.least work.old.parents → HasAnswer result → GoesOn self.new work.new }
+        ensures met { self.new.met ≡ met_by result }
         ensures same_collection { self.new.collection ≡ self.old.collection }
         ensures answered { IsTrue G.tells → (r : Repository) (v : View) → IsAt (G.told outside.old) self.old r work.old v →
             IfSome (reply_to result) (λ reply. Answers (G.told outside.new) (session r (phase_of self.old.collection) work.old v) v (Command.Commit branch.now info) self.new.met reply self.new work.new) }
@@ -485,6 +488,7 @@ impl Store {
             → IsNewBatch r v (fields_told fields.now) self.now.slot.end result }
         ensures is_name { IfOk result (λ b. IsHash b.name) }
         ensures some { IfOk result (λ b. 0 < length b.bytes.items) }
+        ensures placed { IfOk result (λ b. (self.now.slot.end ≤ b.commit_at) × (b.commit_at < self.now.slot.end + length b.bytes.items)) }
         ensures fresh { (r : Repository) → IsOf self.now r → IfOk result (λ b. not_existing r b.name ≡ Ok tt) }
         ensures no_fault { IsErrOf result StoreFault.Ground → ⊥ }
         ensures undamaged { IsUndamaged result }

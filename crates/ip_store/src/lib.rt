@@ -2,6 +2,7 @@
 #![tactic(auto)]
 
 mod branches;
+mod cancelling;
 mod collection;
 mod committing;
 mod history;
@@ -12,17 +13,21 @@ mod opening;
 mod phase_tests;
 mod publish;
 mod show;
+mod starting;
 mod store;
+mod sweeping;
 mod trees;
 mod walk;
 mod work;
 
 pub use branches::Branches;
-pub use collection::Collection;
+pub use cancelling::{CancelFault, Cancelled};
+pub use collection::{Collection, Unswept};
 pub use committing::StoreFault;
 pub use ip_spawn::chunk_allowed;
 pub use merging::Merge;
 pub use opening::OpenFault;
 pub use show::Shown;
+pub use starting::CollectFault;
 pub use store::{InitFault, Store};
 pub use work::Work;

@@ -9,6 +9,7 @@ ghost use Rattle.ip_spec.specs.Repository.{Repository, is_retained};
 ghost use Rattle.ip_spec.specs.Step.{with_branch};
 ghost use Rattle.ip_store.specs.Changes.{Appends, Changes, HasAnswer, IsUndamaged, LimitsSpace};
 ghost use Rattle.ip_store.specs.Collecting.{phase_of};
+ghost use Rattle.ip_store.specs.Commits.{met_by};
 ghost use Rattle.ip_store.specs.Faults.{ground_store};
 ghost use Rattle.ip_store.specs.Merging.{merge_reply, AnswersMerge, AppendsMerge, GoesOnFrom, LimitsMerge, MergesAtMoments, IsCourse, IsCourseBy, IsBaseTree, IsJoin, IsJoined, IsForward, IsForwarded, course_in, stopped_by, unless_leaving};
 ghost use Rattle.ip_store.specs.Showing.{IsFetchedOr};
@@ -135,6 +136,7 @@ impl Store {
         requires info { IsInfo info }
         requires tables { (r : Repository) × IsOf self.old r × IsTrue (is_retained r number) }
         ensures tables { (r : Repository) → IsOf self.old r → IsTrue (is_retained r number) → HasAnswer result → (after : Repository) × GoesOnFrom r self.new after }
+        ensures met { self.new.met ≡ met_by result }
         ensures same_collection { self.new.collection ≡ self.old.collection }
         ensures answered { IsTrue G.tells → IsDecisive (D.rule rules.now) → (r : Repository) → Holds self.old (G.told outside.old) r → IsTrue (is_retained r number) →
             IfSome (merge_reply branch.now result) (λ reply. AnswersMerge (D.rule rules.now) (G.told outside.new) r (phase_of self.old.collection) number branch.now info self.new.met reply self.new) }
@@ -255,6 +257,7 @@ impl Store {
         requires info { IsInfo info }
         requires tables { (r : Repository) × IsOf self.old r × IsJoin r (phase_of self.old.collection) branch.now sides.now }
         ensures tables { (r : Repository) → IsOf self.old r → IsJoin r (phase_of self.old.collection) branch.now sides.now → HasAnswer result → (after : Repository) × GoesOnFrom r self.new after }
+        ensures met { self.new.met ≡ met_by result }
         ensures same_collection { self.new.collection ≡ self.old.collection }
         ensures answered { IsTrue G.tells → IsDecisive (D.rule rules.now) → (r : Repository) → Holds self.old (G.told outside.old) r → IsJoin r (phase_of self.old.collection) branch.now sides.now →
             IfSome (merge_reply branch.now result) (λ reply. AnswersMerge (D.rule rules.now) (G.told outside.new) r (phase_of self.old.collection) sides.now.number branch.now info self.new.met reply self.new) }

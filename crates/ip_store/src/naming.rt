@@ -9,6 +9,7 @@ ghost use Rattle.ip_spec.specs.declared.record.Record.TheVariants as Record;
 ghost use Rattle.ip_image.specs.Standing.{IsServedKind};
 ghost use Rattle.ip_image.specs.Appending.{MayName, renamed};
 ghost use Rattle.ip_store.specs.Changes.{Changes, Appends, HasAnswer, IsUndamaged, LimitsSpace};
+ghost use Rattle.ip_store.specs.Commits.{met_by};
 ghost use Rattle.ip_store.specs.Naming.{branch_reply, removed_reply, AnswersSet, AnswersRemove, without_branch, Renames};
 ghost use Rattle.ip_store.specs.Collecting.{IsAbove, phase_of, not_leaving_in};
 ghost use Rattle.ip_store.specs.Store.{IsOf, Holds, IsSound, image_records};
@@ -44,7 +45,7 @@ fn remove_record(alloc: Global, name: &[u8]) -> Result<Record, Memory>
 }
 
 // The bytes of a record.
-fn spelled(alloc: Global, rec: &Record) -> Result<Vec<u8>, Memory>
+pub(crate) fn spelled(alloc: Global, rec: &Record) -> Result<Vec<u8>, Memory>
     requires { Fits 1 rec.now }
     ensures { IfOk result (λ bytes. bytes.items ≡ spelling rec.now) }
 {
@@ -101,6 +102,7 @@ impl Store {
         requires tables { (r : Repository) × IsOf self.old r × IsTrue (is_retained r number) }
         ensures answered { (r : Repository) → IsOf self.old r → IsTrue (is_retained r number) →
             IfSome (branch_reply result) (AnswersSet r (phase_of self.old.collection) name.now number self.new.met self.new) }
+        ensures met { self.new.met ≡ met_by result }
         ensures same_collection { self.new.collection ≡ self.old.collection }
         // Files are only touched where no collection gives up the commit, and there is room for the branch.
         ensures begun { (r : Repository) → IsOf self.old r → IsErrOf result StoreFault.Ground → (not_leaving_in (phase_of self.old.collection) (Some number) ≡ Ok tt) × (room_for_branch r name.now ≡ Ok tt) }
@@ -138,6 +140,7 @@ impl Store {
         requires name { IsBranchName name.now }
         requires tables { (r : Repository) × IsOf self.old r }
         ensures answered { (r : Repository) → IsOf self.old r → IfSome (removed_reply name.now result) (AnswersRemove r (phase_of self.old.collection) name.now self.new.met self.new) }
+        ensures met { self.new.met ≡ met_by result }
         ensures same_collection { self.new.collection ≡ self.old.collection }
         ensures absent { result ≡ Ok false → outside.new ≡ outside.old }
         // Files are only touched where there is such a branch.

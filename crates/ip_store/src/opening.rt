@@ -16,7 +16,7 @@ ghost use Rattle.ip_store.specs.declared.opening.OpenFault.TheVariants as OpenFa
 ghost use Rattle.ip_ground.specs.declared.names.FileName.TheVariants.{Control};
 
 use crate::walk::{Found, read_records};
-use crate::{Branches, Store};
+use crate::{Branches, Store, Unswept};
 use ip_audit::Names;
 use ip_base::Memory;
 use ip_base::limit::BRANCHES_MAX;
@@ -165,6 +165,10 @@ fn finish(index: u8, slot: Slot, found: Found, space: Space) -> Result<Store, Op
         history,
         space,
         collection: None,
+        unswept: Unswept {
+            chunk: slot.first_chunk,
+            attempt: slot.first_attempt,
+        },
         met: nothing_met(),
     })
 }

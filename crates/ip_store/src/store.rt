@@ -6,14 +6,14 @@ ghost use Rattle.ip_ground.specs.Told.{NoFile, ChangesOnly};
 ghost use Rattle.ip_image.specs.Slot.{IsChunkSize, live_index, fresh_control};
 ghost use Rattle.ip_store.specs.Control.{control_in};
 ghost use Rattle.ip_spec.specs.Map.{len};
-ghost use Rattle.ip_spec.specs.Repository.{Repository, next, head, number_named, commit_at};
+ghost use Rattle.ip_spec.specs.Repository.{Repository, next, head, number_named, commit_at, is_retained};
 ghost use Rattle.ip_spec.specs.Machine.{phase_told};
 ghost use Rattle.ip_spec.specs.Step.{below, head_of};
 ghost use Rattle.ip_store.specs.Collecting.{phase_of};
 ghost use Rattle.ip_store.specs.Opening.{Makes};
-ghost use Rattle.ip_store.specs.Store.{IsOf};
+ghost use Rattle.ip_store.specs.Store.{IsOf, place_of_commit};
 
-use crate::{Branches, Collection};
+use crate::{Branches, Collection, Unswept};
 use ip_audit::Names;
 use ip_base::limit::BRANCHES_MAX;
 use ip_base::{Blob, Hash, Items, Memory, Number};
@@ -58,6 +58,8 @@ pub struct Store {
     pub(crate) space: Space,
     // The one that goes on, if any.
     pub(crate) collection: Option<Collection>,
+    // What the next slot says of it.
+    pub(crate) unswept: Unswept,
     pub(crate) met: Met,
 }
 
@@ -165,6 +167,21 @@ impl Store {
     {
         let place = self.names.place_of(name)?;
         Some(Number(self.slot.floor + place))
+    }
+
+    // Where the record of a retained commit lies.
+    pub(crate) fn place_of(&self, number: Number) -> u64
+        requires { (r : Repository) × IsOf self.now r × IsTrue (is_retained r number) }
+        ensures { place_of_commit self.now number ≡ Some result }
+    {
+        match self
+            .places
+            .as_slice()
+            .get((number.get() - self.slot.floor) as usize)
+        {
+            Some(place) => *place,
+            None => unreachable!(),
+        }
     }
 
     /// The name of the retained commit of a number.

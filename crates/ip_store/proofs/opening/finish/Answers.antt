@@ -14,4 +14,5 @@ returns-clause-finishes c = record {
   history = λ records tells. sym tells.history;
   parents_first = λ records tells. tells.parents_first;
   idle = refl;
+  unswept = refl;
 }

@@ -7,6 +7,7 @@ use Rattle.ip_image.specs.Appending.{renamed}
 use Rattle.ip_store.specs.declared.committing.StoreFault.TheVariants as StoreFault
 use Rattle.ip_store.specs.declared.store.Store.{Store}
 use Rattle.ip_store.specs.Changes.{Changes, next_slot}
+use Rattle.ip_store.specs.Collecting.{carried}
 use Rattle.ip_store.proofs.Stepping.{itself, changes_none, stays_still, same_step}
 use Rattle.ip_image.proofs.Renaming.{spelled_is}
 use Rattle.ip_store.proofs.Renamed.{renamed_tables, further, inside, can_rename, was_renamed, rename_cut, stays_renamed, list_renamed, slot_from, may_same}
@@ -28,9 +29,9 @@ returns-in_err-slot-clause-any_moment g c told r held may =
 pub returns-in_err-name_branch-clause-any_moment : goal.returns-in_err-name_branch-clause-any_moment
 returns-in_err-name_branch-clause-any_moment g c told r held may =
     let is : c.from_residual-in_err-name_branch.result ≡ Err StoreFault.Memory = search rules in
-    let store : Store = record { index = c.args.self.now.index; slot = c.args.self.now.slot; names = c.args.self.now.names; branches = c.name_branch.new.branches; history = c.args.self.now.history; places = c.args.self.now.places; space = c.args.self.now.space; collection = c.args.self.now.collection; met = c.args.self.now.met } in
+    let store : Store = record { index = c.args.self.now.index; slot = c.args.self.now.slot; names = c.args.self.now.names; branches = c.name_branch.new.branches; history = c.args.self.now.history; places = c.args.self.now.places; space = c.args.self.now.space; collection = c.args.self.now.collection; unswept = c.args.self.now.unswept; met = c.args.self.now.met } in
     subst (λ res. Changes {A = Unit {0}} r (renamed r c.args.rec) res store (g.G.Ground.told c.args.outside.now) (g.G.Ground.told c.args.outside.now)) (sym is)
-    (changes_none r (renamed r c.args.rec) StoreFault.Memory c.args.self.now store (g.G.Ground.told c.args.outside.now) (record { index = refl; slot = refl; names = refl; places = refl; branches = c.in_err-name_branch.ensures.err; history = refl; space = refl; collection = refl }) held)
+    (changes_none r (renamed r c.args.rec) StoreFault.Memory c.args.self.now store (g.G.Ground.told c.args.outside.now) (record { index = refl; slot = refl; names = refl; places = refl; branches = c.in_err-name_branch.ensures.err; history = refl; space = refl; collection = refl; unswept = refl }) held)
 
 pub durable_step-requires-clause-chunk : goal.durable_step-requires-clause-chunk
 durable_step-requires-clause-chunk g c =
@@ -39,35 +40,35 @@ durable_step-requires-clause-chunk g c =
 
 pub grow-requires-clause-further : goal.grow-requires-clause-further
 grow-requires-clause-further g c =
-    let slot = slot_from c.args.self.now.slot c.args.rec _ c.in_ok-slot.slot (ap length (c.as_slice-bytes.ensures.value ∙ c.in_ok-spelled.ensures)) c.in_ok-slot.ensures in
-    further c.requires.tables.0 c.args.self.now c.requires.tables.1 c.args.rec c.requires.tables.2 c.requires.fits c.requires.served c.in_ok-slot.slot slot.0 slot.1 slot.2
+    let slot = slot_from c.args.self.now c.requires.tables.0 c.args.rec _ c.in_ok-slot.slot c.requires.tables.1 (ap length (c.as_slice-bytes.ensures.value ∙ c.in_ok-spelled.ensures)) c.in_ok-slot.ensures in
+    further c.requires.tables.0 c.args.self.now c.requires.tables.1 c.args.rec c.requires.tables.2 c.requires.fits c.requires.served c.in_ok-slot.slot c.args.self.now.slot.next_attempt slot.0 slot.1 (λ _ _. refl)
 
 pub grow-requires-clause-ends : goal.grow-requires-clause-ends
 grow-requires-clause-ends g c =
-    let slot = slot_from c.args.self.now.slot c.args.rec _ c.in_ok-slot.slot (ap length (c.as_slice-bytes.ensures.value ∙ c.in_ok-spelled.ensures)) c.in_ok-slot.ensures in
-    inside c.requires.tables.0 c.args.self.now c.requires.tables.1 c.args.rec c.requires.tables.2 c.requires.fits c.requires.served c.in_ok-slot.slot slot.0 slot.1 slot.2
+    let slot = slot_from c.args.self.now c.requires.tables.0 c.args.rec _ c.in_ok-slot.slot c.requires.tables.1 (ap length (c.as_slice-bytes.ensures.value ∙ c.in_ok-spelled.ensures)) c.in_ok-slot.ensures in
+    inside c.requires.tables.0 c.args.self.now c.requires.tables.1 c.args.rec c.requires.tables.2 c.requires.fits c.requires.served c.in_ok-slot.slot c.args.self.now.slot.next_attempt slot.0 slot.1 (λ _ _. refl)
 
 pub returns-in_err-durable_step-clause-any_moment : goal.returns-in_err-durable_step-clause-any_moment
 returns-in_err-durable_step-clause-any_moment g c told r held may =
     let is : c.from_residual-in_err-durable_step.result ≡ Err StoreFault.Ground = search rules in
-    let slot = slot_from c.args.self.now.slot c.args.rec _ c.in_ok-slot.slot (ap length (c.as_slice-bytes.ensures.value ∙ c.in_ok-spelled.ensures)) c.in_ok-slot.ensures in
-    let store : Store = record { index = c.args.self.now.index; slot = c.args.self.now.slot; names = c.args.self.now.names; branches = c.name_branch.new.branches; history = c.args.self.now.history; places = c.args.self.now.places; space = c.args.self.now.space; collection = c.args.self.now.collection; met = c.args.self.now.met } in
+    let slot = slot_from c.args.self.now c.requires.tables.0 c.args.rec _ c.in_ok-slot.slot c.requires.tables.1 (ap length (c.as_slice-bytes.ensures.value ∙ c.in_ok-spelled.ensures)) c.in_ok-slot.ensures in
+    let store : Store = record { index = c.args.self.now.index; slot = c.args.self.now.slot; names = c.args.self.now.names; branches = c.name_branch.new.branches; history = c.args.self.now.history; places = c.args.self.now.places; space = c.args.self.now.space; collection = c.args.self.now.collection; unswept = c.args.self.now.unswept; met = c.args.self.now.met } in
     subst (λ res. Changes {A = Unit {0}} r (renamed r c.args.rec) res store (g.G.Ground.told c.args.outside.now) (g.G.Ground.told c.durable_step.new.outside)) (sym is)
-    (rename_cut r c.args.self.now held.tables c.args.rec may c.requires.fits c.requires.served c.in_ok-slot.slot slot.0 slot.1 slot.2 (g.G.Ground.told c.args.outside.now) held (g.G.Ground.told c.durable_step.new.outside) store _
+    (rename_cut r c.args.self.now held.tables c.args.rec may c.requires.fits c.requires.served c.in_ok-slot.slot c.args.self.now.slot.next_attempt slot.0 slot.1 (λ _ _. refl) (g.G.Ground.told c.args.outside.now) held (g.G.Ground.told c.durable_step.new.outside) store _
     (same_step c.args.self.now.slot.end c.args.self.now.slot.end c.args.self.now.index c.args.self.now.index _ (spelling c.args.rec) c.in_ok-slot.slot c.in_ok-slot.slot _ (g.G.Ground.told c.args.outside.now) (g.G.Ground.told c.durable_step.new.outside)
-    refl refl (c.as_slice-bytes.ensures.value ∙ c.in_ok-spelled.ensures) refl (c.durable_step.ensures.does told (can_rename r c.args.self.now held.tables c.args.rec may c.requires.fits c.requires.served c.in_ok-slot.slot slot.0 slot.1 slot.2 (g.G.Ground.told c.args.outside.now) held))))
+    refl refl (c.as_slice-bytes.ensures.value ∙ c.in_ok-spelled.ensures) refl (c.durable_step.ensures.does told (can_rename r c.args.self.now held.tables c.args.rec may c.requires.fits c.requires.served c.in_ok-slot.slot c.args.self.now.slot.next_attempt slot.0 slot.1 (λ _ _. refl) (g.G.Ground.told c.args.outside.now) held))))
 
 pub returns-clause-tables : goal.returns-clause-tables
 returns-clause-tables g c r of may =
-    let slot = slot_from c.args.self.now.slot c.args.rec _ c.in_ok-slot.slot (ap length (c.as_slice-bytes.ensures.value ∙ c.in_ok-spelled.ensures)) c.in_ok-slot.ensures in
-    renamed_tables r c.args.self.now of c.args.rec may c.requires.fits c.requires.served c.in_ok-slot.slot slot.0 slot.1 slot.2 _ refl refl refl c.in_ok-name_branch.ensures.ok refl refl c.grow.ensures refl c.requires.above
+    let slot = slot_from c.args.self.now c.requires.tables.0 c.args.rec _ c.in_ok-slot.slot c.requires.tables.1 (ap length (c.as_slice-bytes.ensures.value ∙ c.in_ok-spelled.ensures)) c.in_ok-slot.ensures in
+    renamed_tables r c.args.self.now of c.args.rec may c.requires.fits c.requires.served c.in_ok-slot.slot c.args.self.now.slot.next_attempt slot.0 slot.1 (λ _ _. refl) _ refl refl refl c.in_ok-name_branch.ensures.ok refl refl c.grow.ensures refl refl c.requires.above
 
 pub returns-clause-any_moment : goal.returns-clause-any_moment
 returns-clause-any_moment g c told r held may =
-    let slot = slot_from c.args.self.now.slot c.args.rec _ c.in_ok-slot.slot (ap length (c.as_slice-bytes.ensures.value ∙ c.in_ok-spelled.ensures)) c.in_ok-slot.ensures in
-    was_renamed r c.args.self.now held.tables c.args.rec may c.requires.fits c.requires.served c.in_ok-slot.slot slot.0 slot.1 slot.2 (g.G.Ground.told c.args.outside.now) held (g.G.Ground.told c.durable_step.new.outside) _ refl refl refl c.in_ok-name_branch.ensures.ok refl refl c.grow.ensures refl c.requires.above
+    let slot = slot_from c.args.self.now c.requires.tables.0 c.args.rec _ c.in_ok-slot.slot c.requires.tables.1 (ap length (c.as_slice-bytes.ensures.value ∙ c.in_ok-spelled.ensures)) c.in_ok-slot.ensures in
+    was_renamed r c.args.self.now held.tables c.args.rec may c.requires.fits c.requires.served c.in_ok-slot.slot c.args.self.now.slot.next_attempt slot.0 slot.1 (λ _ _. refl) (g.G.Ground.told c.args.outside.now) held (g.G.Ground.told c.durable_step.new.outside) _ refl refl refl c.in_ok-name_branch.ensures.ok refl refl c.grow.ensures refl refl c.requires.above
     (same_step c.args.self.now.slot.end c.args.self.now.slot.end c.args.self.now.index c.args.self.now.index _ (spelling c.args.rec) c.in_ok-slot.slot c.in_ok-slot.slot _ (g.G.Ground.told c.args.outside.now) (g.G.Ground.told c.durable_step.new.outside)
-    refl refl (c.as_slice-bytes.ensures.value ∙ c.in_ok-spelled.ensures) refl (c.in_ok-durable_step.ensures.does told (can_rename r c.args.self.now held.tables c.args.rec may c.requires.fits c.requires.served c.in_ok-slot.slot slot.0 slot.1 slot.2 (g.G.Ground.told c.args.outside.now) held)))
+    refl refl (c.as_slice-bytes.ensures.value ∙ c.in_ok-spelled.ensures) refl (c.in_ok-durable_step.ensures.does told (can_rename r c.args.self.now held.tables c.args.rec may c.requires.fits c.requires.served c.in_ok-slot.slot c.args.self.now.slot.next_attempt slot.0 slot.1 (λ _ _. refl) (g.G.Ground.told c.args.outside.now) held)))
 
 pub returns-in_err-spelled-clause-records_stay : goal.returns-in_err-spelled-clause-records_stay
 returns-in_err-spelled-clause-records_stay g c told has r q held now = stays_still c.args.self.now c.args.self.now (itself c.args.self.now) r q (g.G.Ground.told c.args.outside.now) held now
@@ -77,24 +78,24 @@ returns-in_err-slot-clause-records_stay g c told has r q held now = stays_still 
 
 pub returns-in_err-name_branch-clause-records_stay : goal.returns-in_err-name_branch-clause-records_stay
 returns-in_err-name_branch-clause-records_stay g c told has r q held now =
-    stays_still c.args.self.now _ (record { index = refl; slot = refl; names = refl; places = refl; branches = c.in_err-name_branch.ensures.err; history = refl; space = refl; collection = refl }) r q (g.G.Ground.told c.args.outside.now) held now
+    stays_still c.args.self.now _ (record { index = refl; slot = refl; names = refl; places = refl; branches = c.in_err-name_branch.ensures.err; history = refl; space = refl; collection = refl; unswept = refl }) r q (g.G.Ground.told c.args.outside.now) held now
 
 pub returns-clause-records_stay : goal.returns-clause-records_stay
 returns-clause-records_stay g c told has r q held now =
     let may = may_same c.args.self.now c.requires.tables.0 r c.args.rec c.requires.tables.1 held.tables c.requires.tables.2 in
-    let slot = slot_from c.args.self.now.slot c.args.rec _ c.in_ok-slot.slot (ap length (c.as_slice-bytes.ensures.value ∙ c.in_ok-spelled.ensures)) c.in_ok-slot.ensures in
-    stays_renamed r c.args.self.now held.tables c.args.rec may c.requires.fits c.requires.served c.in_ok-slot.slot slot.0 slot.1 slot.2 (g.G.Ground.told c.args.outside.now) held (g.G.Ground.told c.durable_step.new.outside) _ q
+    let slot = slot_from c.args.self.now c.requires.tables.0 c.args.rec _ c.in_ok-slot.slot c.requires.tables.1 (ap length (c.as_slice-bytes.ensures.value ∙ c.in_ok-spelled.ensures)) c.in_ok-slot.ensures in
+    stays_renamed r c.args.self.now held.tables c.args.rec may c.requires.fits c.requires.served c.in_ok-slot.slot c.args.self.now.slot.next_attempt slot.0 slot.1 (λ _ _. refl) (g.G.Ground.told c.args.outside.now) held (g.G.Ground.told c.durable_step.new.outside) _ q
     (same_step c.args.self.now.slot.end c.args.self.now.slot.end c.args.self.now.index c.args.self.now.index _ (spelling c.args.rec) c.in_ok-slot.slot c.in_ok-slot.slot _ (g.G.Ground.told c.args.outside.now) (g.G.Ground.told c.durable_step.new.outside)
-    refl refl (c.as_slice-bytes.ensures.value ∙ c.in_ok-spelled.ensures) refl (c.in_ok-durable_step.ensures.does told (can_rename r c.args.self.now held.tables c.args.rec may c.requires.fits c.requires.served c.in_ok-slot.slot slot.0 slot.1 slot.2 (g.G.Ground.told c.args.outside.now) held))) now
+    refl refl (c.as_slice-bytes.ensures.value ∙ c.in_ok-spelled.ensures) refl (c.in_ok-durable_step.ensures.does told (can_rename r c.args.self.now held.tables c.args.rec may c.requires.fits c.requires.served c.in_ok-slot.slot c.args.self.now.slot.next_attempt slot.0 slot.1 (λ _ _. refl) (g.G.Ground.told c.args.outside.now) held))) now
 
 pub returns-clause-appends : goal.returns-clause-appends
 returns-clause-appends g c told =
-    let slot = slot_from c.args.self.now.slot c.args.rec _ c.in_ok-slot.slot (ap length (c.as_slice-bytes.ensures.value ∙ c.in_ok-spelled.ensures)) c.in_ok-slot.ensures in
+    let slot = slot_from c.args.self.now c.requires.tables.0 c.args.rec _ c.in_ok-slot.slot c.requires.tables.1 (ap length (c.as_slice-bytes.ensures.value ∙ c.in_ok-spelled.ensures)) c.in_ok-slot.ensures in
     record {
-      slot = slot.0 ∙ ap (λ bytes. next_slot c.args.self.now.slot (length bytes) 0) (spelled_is c.args.self.now.slot.end c.args.rec);
+      slot = slot.0 ∙ ap (λ bytes. next_slot (carried c.args.self.now) (length bytes) 0) (spelled_is c.args.self.now.slot.end c.args.rec);
       records = λ r q held now.
           let may = may_same c.args.self.now c.requires.tables.0 r c.args.rec c.requires.tables.1 held.tables c.requires.tables.2 in
-          list_renamed r c.args.self.now held.tables c.args.rec may c.requires.fits c.requires.served c.in_ok-slot.slot slot.0 slot.1 slot.2 (g.G.Ground.told c.args.outside.now) held (g.G.Ground.told c.durable_step.new.outside) _ q
+          list_renamed r c.args.self.now held.tables c.args.rec may c.requires.fits c.requires.served c.in_ok-slot.slot c.args.self.now.slot.next_attempt slot.0 slot.1 (λ _ _. refl) (g.G.Ground.told c.args.outside.now) held (g.G.Ground.told c.durable_step.new.outside) _ q
           (same_step c.args.self.now.slot.end c.args.self.now.slot.end c.args.self.now.index c.args.self.now.index _ (spelling c.args.rec) c.in_ok-slot.slot c.in_ok-slot.slot _ (g.G.Ground.told c.args.outside.now) (g.G.Ground.told c.durable_step.new.outside)
-          refl refl (c.as_slice-bytes.ensures.value ∙ c.in_ok-spelled.ensures) refl (c.in_ok-durable_step.ensures.does told (can_rename r c.args.self.now held.tables c.args.rec may c.requires.fits c.requires.served c.in_ok-slot.slot slot.0 slot.1 slot.2 (g.G.Ground.told c.args.outside.now) held))) now;
+          refl refl (c.as_slice-bytes.ensures.value ∙ c.in_ok-spelled.ensures) refl (c.in_ok-durable_step.ensures.does told (can_rename r c.args.self.now held.tables c.args.rec may c.requires.fits c.requires.served c.in_ok-slot.slot c.args.self.now.slot.next_attempt slot.0 slot.1 (λ _ _. refl) (g.G.Ground.told c.args.outside.now) held))) now;
     }

@@ -1,5 +1,5 @@
 use Rattle.std.proofs.Common.{◌≡◌, ◌+◌, ◌-◌, ◌^◌, ◌≤◌, ◌++◌, length, [], ◌∷◌, ℕ, Some, None, rules, refl, sym, ◌∙◌, ap, subst}
-use Rattle.std.specs.Prelude.{Err, IfSome, position}
+use Rattle.std.specs.Prelude.{Err, position}
 use Rattle.ip_spec.specs.declared.command.Command.TheVariants as Command
 use Rattle.ip_spec.specs.Path.{same_bytes}
 use Rattle.ip_spec.specs.Map.{insert}
@@ -10,8 +10,8 @@ use Rattle.ip_space.specs.SpaceView.{SpaceView, grown}
 use Rattle.ip_store.specs.declared.committing.StoreFault.TheVariants as StoreFault
 use Rattle.ip_store.specs.declared.store.Store.{Store}
 use Rattle.ip_store.specs.Changes.{LimitsSpace, next_slot}
-use Rattle.ip_store.specs.Collecting.{phase_of}
-use Rattle.ip_store.specs.Commits.{Answers, Commits, end_of, repository_after, reply_to, met_by}
+use Rattle.ip_store.specs.Collecting.{phase_of, carried}
+use Rattle.ip_store.specs.Commits.{Commits, end_of, repository_after}
 use Rattle.ip_store.specs.Histories.{with_parents}
 use Rattle.ip_store.specs.Work.{session}
 use Rattle.ip_store.proofs.Histories.{may_enter}
@@ -131,7 +131,7 @@ returns-in_err-durable_step-clause-any_moment g c told r v at =
     (ap (λ (s : Slot). s.end) c.enter-entered.ensures.rest.1) c.enter-entered.ensures.rest.0 refl (can_step r c.args.branch.now c.args.self.now plan of (c.in-Ok.ensures.coming r of) (g.G.Ground.told c.args.outside.now) at.holds) in
     let step = same_step c.enter-entered.new.self.slot.end c.args.self.now.slot.end c.enter-entered.new.self.index c.args.self.now.index c.bytes.result.now plan.batch.bytes.items plan.slot plan.slot _ (g.G.Ground.told c.args.outside.now) (g.G.Ground.told c.durable_step.new.outside)
     (ap (λ (s : Slot). s.end) c.enter-entered.ensures.rest.1) c.enter-entered.ensures.rest.0 c.bytes.ensures refl (c.durable_step.ensures.does told can) in
-    let store : Store = record { index = c.enter-entered.new.self.index; slot = c.enter-entered.new.self.slot; names = c.enter-entered.new.self.names; branches = c.enter-entered.new.self.branches; history = c.enter-entered.new.self.history; places = c.enter-entered.new.self.places; space = c.enter-entered.new.self.space; collection = c.enter-entered.new.self.collection; met = c.nothing_met-self.result } in
+    let store : Store = record { index = c.enter-entered.new.self.index; slot = c.enter-entered.new.self.slot; names = c.enter-entered.new.self.names; branches = c.enter-entered.new.self.branches; history = c.enter-entered.new.self.history; places = c.enter-entered.new.self.places; space = c.enter-entered.new.self.space; collection = c.enter-entered.new.self.collection; unswept = c.enter-entered.new.self.unswept; met = c.nothing_met-self.result } in
     subst (λ res. Commits r (phase_of c.args.self.now.collection) c.args.work.now v c.args.branch.now c.args.info res store (g.G.Ground.told c.args.outside.now) (g.G.Ground.told c.durable_step.new.outside)) (sym is)
     (cut r c.args.work.now v c.args.branch.now c.args.info c.args.self.now plan (c.in-Ok.ensures.coming r of) (c.in-Ok.ensures.planned _ r v of at.lawful) (g.G.Ground.told c.args.outside.now) at (g.G.Ground.told c.durable_step.new.outside) store _ step)
 
@@ -149,7 +149,7 @@ returns-clause-tables g c r of are has =
     let one = some_commit r c.args.work.now.parents c.args.info plan in
     record {
       repository = with_commit r one c.args.branch.now;
-      tables = after_tables r c.args.work.now.parents c.args.branch.now c.args.self.now plan of is one refl refl _ refl (ap (λ (i : ℕ). 1 - i) c.enter-entered.ensures.rest.0) (c.in_default.ensures.ok.0 ∙ ap (λ h. c.args.self.now.names ++ h ∷ []) c.name-name.ensures) (c.in_default.ensures.ok.1 ∙ ap (λ b. insert c.args.self.now.branches b plan.number) (sym is.same_branch)) (may_enter c.args.self.now r of c.args.work.now.parents c.args.work.now.parents refl (retained_parents r c.args.work.now.least c.args.work.now.parents are (c.in-Ok.ensures.there r of))) (c.in_default.ensures.history ∙ ap (with_parents c.args.self.now.history) c.as_slice.ensures) (c.put_place.ensures ∙ (λ i. c.enter-entered.ensures.places i ++ c.commit_at.ensures i ∷ [])) (c.grow.ensures ∙ ap (λ (s : SpaceView). grown s plan.slot.end) c.enter-entered.ensures.rest.2) c.enter-entered.ensures.rest.3;
+      tables = after_tables r c.args.work.now.parents c.args.branch.now c.args.self.now plan of is one refl refl _ refl (ap (λ (i : ℕ). 1 - i) c.enter-entered.ensures.rest.0) (c.in_default.ensures.ok.0 ∙ ap (λ h. c.args.self.now.names ++ h ∷ []) c.name-name.ensures) (c.in_default.ensures.ok.1 ∙ ap (λ b. insert c.args.self.now.branches b plan.number) (sym is.same_branch)) (may_enter c.args.self.now r of c.args.work.now.parents c.args.work.now.parents refl (retained_parents r c.args.work.now.least c.args.work.now.parents are (c.in-Ok.ensures.there r of))) (c.in_default.ensures.history ∙ ap (with_parents c.args.self.now.history) c.as_slice.ensures) (c.put_place.ensures ∙ (λ i. c.enter-entered.ensures.places i ++ c.commit_at.ensures i ∷ [])) (c.grow.ensures ∙ ap (λ (s : SpaceView). grown s plan.slot.end) c.enter-entered.ensures.rest.2) c.enter-entered.ensures.rest.3 c.enter-entered.ensures.rest.4;
       parents = after_parents r c.args.work.now.parents c.args.branch.now c.args.self.now plan of is one refl refl plan.parents is.parents _ (ap Some is.number);
     }
 
@@ -167,7 +167,7 @@ returns-clause-any_moment g c told r v at =
     let step = same_step c.enter-entered.new.self.slot.end c.args.self.now.slot.end c.enter-entered.new.self.index c.args.self.now.index c.bytes.result.now plan.batch.bytes.items plan.slot plan.slot _ (g.G.Ground.told c.args.outside.now) (g.G.Ground.told c.durable_step.new.outside)
     (ap (λ (s : Slot). s.end) c.enter-entered.ensures.rest.1) c.enter-entered.ensures.rest.0 c.bytes.ensures refl (c.in_ok-durable_step.ensures.does told can) in
     made r c.args.work.now v c.args.branch.now c.args.info c.args.self.now plan is planned (g.G.Ground.told c.args.outside.now) at (g.G.Ground.told c.durable_step.new.outside) _ refl (ap (λ (i : ℕ). 1 - i) c.enter-entered.ensures.rest.0)
-    (after_tables r c.args.work.now.parents c.args.branch.now c.args.self.now plan of is one (sym planned.name) refl _ refl (ap (λ (i : ℕ). 1 - i) c.enter-entered.ensures.rest.0) (c.in_default.ensures.ok.0 ∙ ap (λ h. c.args.self.now.names ++ h ∷ []) c.name-name.ensures) (c.in_default.ensures.ok.1 ∙ ap (λ b. insert c.args.self.now.branches b plan.number) (sym is.same_branch)) (may_enter c.args.self.now r of c.args.work.now.parents c.args.work.now.parents refl (retained_parents r c.args.work.now.least c.args.work.now.parents are (c.in-Ok.ensures.there r of))) (c.in_default.ensures.history ∙ ap (with_parents c.args.self.now.history) c.as_slice.ensures) (c.put_place.ensures ∙ (λ i. c.enter-entered.ensures.places i ++ c.commit_at.ensures i ∷ [])) (c.grow.ensures ∙ ap (λ (s : SpaceView). grown s plan.slot.end) c.enter-entered.ensures.rest.2) c.enter-entered.ensures.rest.3) placed (c.grow.ensures ∙ ap (λ (s : SpaceView). grown s plan.slot.end) c.enter-entered.ensures.rest.2) c.name-name.result step
+    (after_tables r c.args.work.now.parents c.args.branch.now c.args.self.now plan of is one (sym planned.name) refl _ refl (ap (λ (i : ℕ). 1 - i) c.enter-entered.ensures.rest.0) (c.in_default.ensures.ok.0 ∙ ap (λ h. c.args.self.now.names ++ h ∷ []) c.name-name.ensures) (c.in_default.ensures.ok.1 ∙ ap (λ b. insert c.args.self.now.branches b plan.number) (sym is.same_branch)) (may_enter c.args.self.now r of c.args.work.now.parents c.args.work.now.parents refl (retained_parents r c.args.work.now.least c.args.work.now.parents are (c.in-Ok.ensures.there r of))) (c.in_default.ensures.history ∙ ap (with_parents c.args.self.now.history) c.as_slice.ensures) (c.put_place.ensures ∙ (λ i. c.enter-entered.ensures.places i ++ c.commit_at.ensures i ∷ [])) (c.grow.ensures ∙ ap (λ (s : SpaceView). grown s plan.slot.end) c.enter-entered.ensures.rest.2) c.enter-entered.ensures.rest.3 c.enter-entered.ensures.rest.4) placed (c.grow.ensures ∙ ap (λ (s : SpaceView). grown s plan.slot.end) c.enter-entered.ensures.rest.2) c.name-name.result step
 
 pub returns-clause-limits : goal.returns-clause-limits
 returns-clause-limits g c told r v at =
@@ -230,7 +230,7 @@ returns-clause-appends g c told r v at =
     let is = c.in-Ok.ensures.coming r of in
     let planned = c.in-Ok.ensures.planned _ r v of at.lawful in
     record {
-      slot = is.slot ∙ ap (λ bytes. next_slot c.args.self.now.slot (length bytes) 1) planned.bytes;
+      slot = is.slot ∙ ap (λ bytes. next_slot (carried c.args.self.now) (length bytes) 1) planned.bytes;
       records = λ r' q before after. list_committed r c.args.work.now v c.args.branch.now c.args.info c.args.self.now plan is planned (g.G.Ground.told c.args.outside.now) at (g.G.Ground.told c.durable_step.new.outside) _
           (let can = same_can_step c.enter-entered.new.self.slot.end c.args.self.now.slot.end c.enter-entered.new.self.index c.args.self.now.index plan.slot plan.slot (g.G.Ground.told c.args.outside.now)
           (ap (λ (s : Slot). s.end) c.enter-entered.ensures.rest.1) c.enter-entered.ensures.rest.0 refl (can_step r c.args.branch.now c.args.self.now plan of is (g.G.Ground.told c.args.outside.now) at.holds) in

@@ -62,7 +62,7 @@ returns-in-Ok-clause-joins g c told decides r branch held is =
 
 pub returns-in-Ok-clause-looks : goal.returns-in-Ok-clause-looks
 returns-in-Ok-clause-looks g c told =
-    let now : Store = record { index = c.tree_of-2.new.self.index; slot = c.tree_of-2.new.self.slot; names = c.tree_of-2.new.self.names; places = c.tree_of-2.new.self.places; branches = c.tree_of-2.new.self.branches; history = c.tree_of-2.new.self.history; space = c.merge_trees.new.space; collection = c.tree_of-2.new.self.collection; met = c.tree_of-2.new.self.met } in
+    let now : Store = record { index = c.tree_of-2.new.self.index; slot = c.tree_of-2.new.self.slot; names = c.tree_of-2.new.self.names; places = c.tree_of-2.new.self.places; branches = c.tree_of-2.new.self.branches; history = c.tree_of-2.new.self.history; space = c.merge_trees.new.space; collection = c.tree_of-2.new.self.collection; unswept = c.tree_of-2.new.self.unswept; met = c.tree_of-2.new.self.met } in
     let same : SameTables c.tree_of-2.new.self now = search rules in
     looks_on (g.G.Ground.told c.args.outside.now) (g.G.Ground.told c.tree_of-2.new.outside) (g.G.Ground.told c.merge_trees.new.outside) c.args.self.now c.tree_of-2.new.self now (looks_on (g.G.Ground.told c.args.outside.now) (g.G.Ground.told c.tree_of.new.outside) (g.G.Ground.told c.tree_of-2.new.outside) c.args.self.now c.tree_of.new.self c.tree_of-2.new.self (looks_on (g.G.Ground.told c.args.outside.now) (g.G.Ground.told c.base_tree.new.outside) (g.G.Ground.told c.tree_of.new.outside) c.args.self.now c.base_tree.new.self c.tree_of.new.self (c.base_tree.ensures.looks told) (c.tree_of.ensures.looks told)) (c.tree_of-2.ensures.looks told)) (looks c.tree_of-2.new.self now same (g.G.Ground.told c.tree_of-2.new.outside) (g.G.Ground.told c.merge_trees.new.outside) (c.merge_trees.ensures.looks.reads told))
 
@@ -76,7 +76,7 @@ returns-clause-joins g c told decides r branch held is =
 
 pub returns-clause-looks : goal.returns-clause-looks
 returns-clause-looks g c told =
-    let now : Store = record { index = c.tree_of-2.new.self.index; slot = c.tree_of-2.new.self.slot; names = c.tree_of-2.new.self.names; places = c.tree_of-2.new.self.places; branches = c.tree_of-2.new.self.branches; history = c.tree_of-2.new.self.history; space = c.merge_trees.new.space; collection = c.tree_of-2.new.self.collection; met = c.tree_of-2.new.self.met } in
+    let now : Store = record { index = c.tree_of-2.new.self.index; slot = c.tree_of-2.new.self.slot; names = c.tree_of-2.new.self.names; places = c.tree_of-2.new.self.places; branches = c.tree_of-2.new.self.branches; history = c.tree_of-2.new.self.history; space = c.merge_trees.new.space; collection = c.tree_of-2.new.self.collection; unswept = c.tree_of-2.new.self.unswept; met = c.tree_of-2.new.self.met } in
     let same : SameTables c.tree_of-2.new.self now = search rules in
     looks_on (g.G.Ground.told c.args.outside.now) (g.G.Ground.told c.tree_of-2.new.outside) (g.G.Ground.told c.merge_trees.new.outside) c.args.self.now c.tree_of-2.new.self now (looks_on (g.G.Ground.told c.args.outside.now) (g.G.Ground.told c.tree_of.new.outside) (g.G.Ground.told c.tree_of-2.new.outside) c.args.self.now c.tree_of.new.self c.tree_of-2.new.self (looks_on (g.G.Ground.told c.args.outside.now) (g.G.Ground.told c.base_tree.new.outside) (g.G.Ground.told c.tree_of.new.outside) c.args.self.now c.base_tree.new.self c.tree_of.new.self (c.base_tree.ensures.looks told) (c.tree_of.ensures.looks told)) (c.tree_of-2.ensures.looks told)) (looks c.tree_of-2.new.self now same (g.G.Ground.told c.tree_of-2.new.outside) (g.G.Ground.told c.merge_trees.new.outside) (c.merge_trees.ensures.looks.reads told))
 

@@ -19,7 +19,7 @@ returns-in_err-found-clause-does g c told =
     c.from_residual-in_err-found.ensures read.there (read.damaged told)
 
 pub returns-clause-tables : goal.returns-clause-tables
-returns-clause-tables g c = let order = c.in_ok-index.ensures.order in tables_at_end c.in_ok-index.index c.in_ok-index.slot order.1 order.0 _ _ _ c.in_ok-found.found c.finish.result c.in_ok-found.ensures.covers c.finish.ensures.finishes
+returns-clause-tables g c = let order = c.in_ok-index.ensures.order in tables_at_end c.in_ok-index.index c.in_ok-index.slot order.1 order.0 _ _ c.in_ok-space.space c.in_ok-space.ensures.view c.in_ok-found.found c.finish.result c.in_ok-found.ensures.covers c.finish.ensures.finishes
 
 pub returns-clause-does : goal.returns-clause-does
 returns-clause-does g c told =

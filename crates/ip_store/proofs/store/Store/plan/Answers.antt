@@ -1,4 +1,4 @@
-use Rattle.std.proofs.Common.{◌≡◌, ◌<◌, rules, sym, ◌∙◌, subst, length, get_or}
+use Rattle.std.proofs.Common.{◌≡◌, rules, sym, ◌∙◌, subst, length}
 use Rattle.std.specs.Prelude.{All, Ok, Err, IsTrue}
 use Rattle.ip_spec.specs.declared.reply.Reply.{Reply}
 use Rattle.ip_spec.specs.Repository.{head, is_retained, name_at}
@@ -8,7 +8,7 @@ use Rattle.ip_image.specs.Appending.{fields_of}
 use Rattle.ip_save.specs.Batches.{fields_told}
 use Rattle.ip_store.specs.declared.committing.Plan.{Plan}
 use Rattle.ip_store.specs.Changes.{IsNextSlot, LimitsSpace}
-use Rattle.ip_store.specs.Collecting.{phase_of}
+use Rattle.ip_store.specs.Collecting.{phase_of, carried}
 use Rattle.ip_store.specs.Commits.{RefusesBy, IsRefusal, end_of, first_refusal}
 use Rattle.ip_store.specs.Work.{IsThere}
 use Rattle.ip_store.proofs.Planning.{told_from, name_from, refused_batch, batch_limits, slot_limits, coming, planned}
@@ -114,7 +114,7 @@ returns-in_err-slot-clause-refused c records r v of lawful =
     let batch = c.in_ok-batch.ensures.made records r v of (lawful.tree there) lawful.short in
     let name : c.in_ok-batch.batch.name ≡ (new_commit r v.map c.args.work.now.parents c.args.info).name = batch.name ∙ name_from r v c.args.work.now.parents c.args.info c.args.branch.now (fields_told c.in_ok-fields.fields) told in
     if_err_is c.from_residual-in_err-slot.result fault (IsRefusal r (phase_of c.args.self.now.collection) c.args.work.now v c.args.branch.now c.args.info) is
-    (refused_short r (phase_of c.args.self.now.collection) c.args.work.now v c.args.branch.now c.args.info first (subst (λ h. not_existing r h ≡ Ok tt) name (c.in_ok-batch.ensures.fresh r of)) c.args.self.now.slot _ fault c.in_err-slot.ensures)
+    (refused_short r (phase_of c.args.self.now.collection) c.args.work.now v c.args.branch.now c.args.info first (subst (λ h. not_existing r h ≡ Ok tt) name (c.in_ok-batch.ensures.fresh r of)) (carried c.args.self.now) _ fault c.in_err-slot.ensures)
 
 pub returns-in_err-slot-clause-space : goal.returns-in_err-slot-clause-space
 returns-in_err-slot-clause-space c records r v of lawful e =
@@ -126,7 +126,7 @@ returns-in_err-slot-clause-space c records r v of lawful e =
     told_from r c.in_ok-fields.fields c.args.info c.args.branch.now c.as_slice-2.result.now c.args.work.now.parents c.as_slice-2.ensures (c.in_ok-fields.ensures.fields r of) (retained_parents r c.args.work.now.least c.args.work.now.parents lawful.parents there) in
     (subst (λ res. LimitsSpace {A = Plan} (end_of r c.args.work.now v c.args.branch.now c.args.info c.args.self.now) res c.args.self.now) (sym is)
     (slot_limits r (phase_of c.args.self.now.collection) c.args.work.now v c.args.branch.now c.args.info first (fields_told c.in_ok-fields.fields) told c.args.self.now of c.in_ok-batch.batch (c.in_ok-batch.ensures.made records r v of (lawful.tree there) lawful.short) fault
-    (subst (λ bytes. IsNextSlot c.args.self.now.slot (length bytes) 1 (Err fault)) c.bytes.ensures c.in_err-slot.ensures))).space e
+    (subst (λ bytes. IsNextSlot (carried c.args.self.now) (length bytes) 1 (Err fault)) c.bytes.ensures c.in_err-slot.ensures))).space e
 
 pub returns-in_err-slot-clause-sequence : goal.returns-in_err-slot-clause-sequence
 returns-in_err-slot-clause-sequence c records r v of lawful e =
@@ -138,7 +138,7 @@ returns-in_err-slot-clause-sequence c records r v of lawful e =
     told_from r c.in_ok-fields.fields c.args.info c.args.branch.now c.as_slice-2.result.now c.args.work.now.parents c.as_slice-2.ensures (c.in_ok-fields.ensures.fields r of) (retained_parents r c.args.work.now.least c.args.work.now.parents lawful.parents there) in
     (subst (λ res. LimitsSpace {A = Plan} (end_of r c.args.work.now v c.args.branch.now c.args.info c.args.self.now) res c.args.self.now) (sym is)
     (slot_limits r (phase_of c.args.self.now.collection) c.args.work.now v c.args.branch.now c.args.info first (fields_told c.in_ok-fields.fields) told c.args.self.now of c.in_ok-batch.batch (c.in_ok-batch.ensures.made records r v of (lawful.tree there) lawful.short) fault
-    (subst (λ bytes. IsNextSlot c.args.self.now.slot (length bytes) 1 (Err fault)) c.bytes.ensures c.in_err-slot.ensures))).sequence e
+    (subst (λ bytes. IsNextSlot (carried c.args.self.now) (length bytes) 1 (Err fault)) c.bytes.ensures c.in_err-slot.ensures))).sequence e
 
 pub returns-in_err-parents-clause-refused : goal.returns-in_err-parents-clause-refused
 returns-in_err-parents-clause-refused c records r v of lawful =
@@ -151,8 +151,8 @@ returns-clause-coming c r of =
     let first : first_refusal r (phase_of c.args.self.now.collection) c.args.work.now.least c.args.work.now.parents c.args.branch.now ≡ Ok tt = none_refuses r (phase_of c.args.self.now.collection) c.args.work.now.least c.args.work.now.parents c.args.branch.now (search rules) (search rules) (search rules) (search rules) in
     let room : room_for_branch r c.args.branch.now ≡ Ok tt = first_room r (phase_of c.args.self.now.collection) c.args.work.now.least c.args.work.now.parents c.args.branch.now first in
     coming r c.args.branch.now c.args.self.now of c.in_ok-fields.fields.number c.in_ok-fields.fields.branch c.in_ok-batch.batch c.in_ok-slot.slot c.in_ok-parents.parents
-    (c.in_ok-fields.ensures.number r of).0 (c.in_ok-fields.ensures.number r of).1 c.in_ok-batch.ensures.is_name c.in_ok-batch.ensures.some room (c.in_ok-batch.ensures.fresh r of)
-    (subst (λ bytes. IsNextSlot c.args.self.now.slot (length bytes) 1 (Ok c.in_ok-slot.slot)) c.bytes.ensures c.in_ok-slot.ensures) c.in_ok-parents.ensures
+    (c.in_ok-fields.ensures.number r of).0 (c.in_ok-fields.ensures.number r of).1 c.in_ok-batch.ensures.is_name c.in_ok-batch.ensures.some c.requires.branch c.in_ok-batch.ensures.placed room (c.in_ok-batch.ensures.fresh r of)
+    (subst (λ bytes. IsNextSlot (carried c.args.self.now) (length bytes) 1 (Ok c.in_ok-slot.slot)) c.bytes.ensures c.in_ok-slot.ensures) c.in_ok-parents.ensures
 
 pub returns-clause-planned : goal.returns-clause-planned
 returns-clause-planned c records r v of lawful =

@@ -1,0 +1,284 @@
+-- A collection that is cancelled.
+--     turns_idle, turns_orphan, turns_done      what the machine answers
+--     over store u met      the store once no collection runs, with what is unswept and what was met.      unswept_now store left      that, where a sweep has left so many
+--     idle_answers, orphan_answers, done_answers      the answers, with the tables.      none_runs      a collection of which a test says so
+--     orphan_left, cut_off, swept_away      what each way out does to what is told, and what the store holds then.      orphan_stays, swept_stays      each record stays
+use Rattle.std.proofs.Common.{◌≡◌, ◌≢◌, ℕ, ◌<◌, Option, Some, None, true, refl, sym, subst, arith}
+use Rattle.std.specs.Prelude.{Bool, false, ◌/◌, ◌≤◌, Result, Ok, Err, IsErrAnd, if◌then◌else◌, ◌==◌}
+use Rattle.std.proofs.lemmas.Bool.Decides.{nat_tests}
+use Rattle.ip_ground.specs.declared.names.FileName.{FileName}
+use Rattle.ip_ground.specs.declared.names.FileName.TheVariants.{Control, Chunk, Prefix, Mapping, Done}
+use Rattle.ip_ground.specs.declared.names.GroundFault.{GroundFault}
+use Rattle.ip_ground.specs.Calls.{Settles}
+use Rattle.ip_ground.specs.Custody.{lent}
+use Rattle.ip_ground.specs.Contents.{Image}
+use Rattle.ip_ground.specs.Told.{Told, lending, IsForeign, IsSettledAs, NoFile}
+use Rattle.ip_ground.proofs.Lending.{settled_at, settled_stays}
+use Rattle.ip_ground.proofs.Spans.{only_more, only_nowhere}
+use Rattle.ip_spec.specs.declared.command.Command.TheVariants as Command
+use Rattle.ip_spec.specs.declared.met.Met.{Met}
+use Rattle.ip_spec.specs.declared.reply.Reply.{Reply}
+use Rattle.ip_spec.specs.Machine.{Phase, Work}
+use Rattle.ip_spec.specs.Repository.{Repository}
+use Rattle.ip_spec.specs.TreeAt.{Records, present}
+use Rattle.ip_spec.specs.Step.{outcome, turned}
+use Rattle.ip_image.specs.declared.slot.Slot.{Slot}
+use Rattle.ip_image.specs.Slot.{IsSlot}
+use Rattle.ip_store.specs.declared.cancelling.CancelFault.{CancelFault}
+use Rattle.ip_store.specs.declared.cancelling.Cancelled.{Cancelled}
+use Rattle.ip_store.specs.declared.collection.Collection.{Collection}
+use Rattle.ip_store.specs.declared.collection.Unswept.{Unswept}
+use Rattle.ip_store.specs.declared.store.Store.{Store}
+use Rattle.ip_store.specs.Cancelling.{Cancels}
+use Rattle.ip_store.specs.Collecting.{phase_of, IsPhase, IsPhaseOf, IsUnswept}
+use Rattle.ip_store.specs.Commits.{Turns, met_nothing}
+use Rattle.ip_store.specs.Starting.{AnswersCall}
+use Rattle.ip_store.specs.Store.{IsOf, Holds, image_records}
+use Rattle.ip_store.specs.Sweeping.{AllBut, IsApart, IsSwept, SweepsFiles, ChangesFor, KeepsFiles, swept_to}
+use Rattle.ip_store.specs.Trees.{RecordsStay}
+use Rattle.ip_store.specs.Work.{state_at}
+use Rattle.ip_store.proofs.Apart.{for_only, for_before, holds_apart, list_apart, recovers_apart, pending_apart, flushed_apart, space_apart}
+use Rattle.ip_store.proofs.KeptFiles.{keeps_itself, keeps_on, keeps_ended, keeps_swept}
+use Rattle.ip_store.proofs.Machine.{asks_none}
+use Rattle.ip_store.proofs.Swept.{foreign_on}
+
+-- ---- the machine
+
+turns_idle : (r : Repository) (o : Option Collection) (work : Work) → o ≡ None → Turns (state_at r (phase_of o) work) Command.Cancel met_nothing Reply.Idle (state_at r Phase.Idle work)
+unfolding outcome turned
+turns_idle r None work none = (
+  record {
+    child = refl;
+    checking = tt;
+    start = λ t. absurd (cc (t));
+    kill = λ t. absurd (cc (t));
+    left = λ l. absurd (omega (arith, l));
+    short = tt;
+    refused = λ t. absurd (cc (t));
+  },
+  refl,
+)
+turns_idle r (Some c) work none = absurd (cc (none))
+
+module _ (r : Repository) (c : Collection) (work : Work) where
+  turns_orphan : c.exit ≡ None → Turns (state_at r (phase_of (Some c)) work) Command.Cancel (record met_nothing { kill_failed = true }) Reply.CancelledOrphan (state_at r Phase.Idle work)
+  unfolding outcome turned
+  turns_orphan none = (
+    record {
+      child = asks_none (phase_of (Some c)) Command.Cancel tt;
+      checking = tt;
+      start = λ t. absurd (cc (t));
+      kill = λ t. (refl, none);
+      left = λ l. absurd (omega (arith, l));
+      short = tt;
+      refused = λ t. absurd (cc (t));
+    },
+    refl,
+  )
+
+  turns_done : (left : ℕ) → Turns (state_at r (phase_of (Some c)) work) Command.Cancel (record met_nothing { left = left }) Reply.Cancelled (state_at r Phase.Idle work)
+  unfolding outcome turned
+  turns_done left = (
+    record {
+      child = asks_none (phase_of (Some c)) Command.Cancel tt;
+      checking = tt;
+      start = λ t. absurd (cc (t));
+      kill = λ t. absurd (cc (t));
+      left = λ l. tt;
+      short = tt;
+      refused = λ t. absurd (cc (t));
+    },
+    refl,
+  )
+
+-- ---- what is unswept
+
+zero_is : (n : ℕ) → (n == 0) ≡ true → n ≡ 0
+zero_is n is = grind (arith, nat_tests)
+
+positive : (n : ℕ) → (n == 0) ≡ false → 1 ≤ n
+positive n is = grind (arith, nat_tests)
+
+-- behind a sweep
+abbrev pub unswept_now : Store → ℕ → Unswept
+unswept_now store left = if left == 0 then swept_to store.slot else store.unswept
+
+swept_by : (s : Slot) → IsSlot s → (b : Bool) → (s.live == 0) ≡ b → IsUnswept s (record { chunk = s.horizon / s.chunk; attempt = if b then s.next_attempt else s.live })
+swept_by s of true is = record { chunk = omega arith; low = (let less = of.live in omega (arith, less)); high = omega arith; live = λ some. absurd (some (zero_is s.live is)) }
+swept_by s of false is = record { chunk = omega arith; low = positive s.live is; high = (let less = of.live in omega (arith, less)); live = λ some. omega arith }
+
+unswept_by : (s : Slot) (x y : Unswept) (b : Bool) → IsUnswept s x → IsUnswept s y → IsUnswept s (if b then x else y)
+unswept_by s x y true one other = one
+unswept_by s x y false one other = other
+
+unswept_is : (store : Store) (r : Repository) (left : ℕ) → IsOf store r → IsUnswept store.slot (unswept_now store left)
+unswept_is store r left of = unswept_by store.slot (swept_to store.slot) store.unswept (left == 0) (swept_by store.slot of.slot (store.slot.live == 0) refl) of.unswept
+
+-- ---- the tables
+
+-- no collection runs, and this is unswept
+abbrev pub over : Store → Unswept → Met → Store
+over store u met = record store { collection = None; unswept = u; met = met }
+
+over_tables : (store : Store) (r : Repository) (u : Unswept) (met : Met) → IsUnswept store.slot u → IsOf store r → IsOf (over store u met) r
+over_tables store r u met unswept of = record {
+  slot = of.slot;
+  index = of.index;
+  floor = of.floor;
+  next = of.next;
+  names = of.names;
+  hashes = of.hashes;
+  branches = of.branches;
+  retained = of.retained;
+  history = of.history;
+  parents_first = of.parents_first;
+  space = of.space;
+  placed = of.placed;
+  phase = tt;
+  unswept = unswept;
+  named = of.named;
+  within = of.within;
+}
+
+pub none_runs : (o : Option Collection) → ((c : Collection) → o ≡ Some c → ⊥) → o ≡ None
+none_runs None not = refl
+none_runs (Some c) not = absurd (not c refl)
+
+module _ (store : Store) (r : Repository) (of : IsOf store r) where
+  abbrev Answers : Store → Reply → Type 0
+  Answers now reply = AnswersCall r store.collection Command.Cancel now reply
+
+  pub idle_answers : (met : Met) → store.collection ≡ None → met ≡ met_nothing → Answers (record store { met = met }) Reply.Idle
+  idle_answers met none nothing = subst (λ (now : Store). Answers now Reply.Idle) (λ i. record store { collection = sym none i; met = sym nothing i }) (record {
+    turns = λ work. turns_idle r store.collection work none;
+    tables = over_tables store r store.unswept met_nothing of.unswept of;
+  })
+
+  module _ (c : Collection) (runs : store.collection ≡ Some c) where
+    pub orphan_answers : (met : Met) → c.exit ≡ None → met ≡ met_nothing → Answers (over store store.unswept (record met { kill_failed = true })) Reply.CancelledOrphan
+    orphan_answers met none nothing = subst (λ (m : Met). Answers (over store store.unswept (record m { kill_failed = true })) Reply.CancelledOrphan) (sym nothing) (record {
+      turns = λ work. subst (λ (o : Option Collection). Turns (state_at r (phase_of o) work) Command.Cancel (record met_nothing { kill_failed = true }) Reply.CancelledOrphan (state_at r Phase.Idle work)) (sym runs) (turns_orphan r c work none);
+      tables = over_tables store r store.unswept (record met_nothing { kill_failed = true }) of.unswept of;
+    })
+
+    -- behind the sweep what was met is noted
+    pub done_answers : (left : ℕ) (swept : Store) (before met : Met) → swept ≡ over store (unswept_now store left) before → met ≡ met_nothing → Answers (record swept { met = record met { left = left } }) Reply.Cancelled
+    done_answers left swept before met is nothing = subst (λ (now : Store). Answers now Reply.Cancelled) (λ i. record (sym is i) { met = record (sym nothing i) { left = left } }) (record {
+      turns = λ work. subst (λ (o : Option Collection). Turns (state_at r (phase_of o) work) Command.Cancel (record met_nothing { left = left }) Reply.Cancelled (state_at r Phase.Idle work)) (sym runs) (turns_done r c work left);
+      tables = over_tables store r (unswept_now store left) (record met_nothing { left = left }) (unswept_is store r left of) of;
+    })
+
+-- ---- what is told
+
+for_settle : (n : ℕ) (these : FileName → Type 0) (u : Unit {0}) (a b : Told) → Settles n (Ok u) a b → ChangesFor n these a b
+for_settle n these u a b settles = record {
+  goes = settles.goes;
+  others = λ file other not. settles.files file;
+  turns = settles.turns;
+  lending = settles.others;
+  said = settles.said;
+}
+
+-- a sweep removes no file of the store
+swept_apart : (s : Slot) (u : Unswept) (file : FileName) → IsSwept s u file → IsApart s file
+swept_apart s u Control is = is
+swept_apart s u (Chunk n) is = is.1
+swept_apart s u (Prefix n) is = is.1
+swept_apart s u (Mapping n) is = is.1
+swept_apart s u (Done n) is = tt
+
+module _ (store : Store) (r : Repository) (a : Told) (holds : Holds store a r) (c : Collection) (runs : store.collection ≡ Some c) where
+  abbrev n : ℕ
+  n = c.job.attempt
+
+  abbrev these : FileName → Type 0
+  these = IsSwept store.slot store.unswept
+
+  phase : IsPhase store.slot r c
+  phase = subst (IsPhaseOf store.slot r) runs holds.tables.phase
+
+  -- its attempt is not the live one, and was drawn
+  other : n ≢ store.slot.live
+  other same = (let told = phase.told in absurd (omega (arith, same, told.live, told.valid.live)))
+
+  below : n < store.slot.next_attempt
+  below = (let told = phase.told in omega (arith, told.attempt))
+
+  apart : (file : FileName) → these file → IsApart store.slot file
+  apart file is = swept_apart store.slot store.unswept file is
+
+  -- each record stays, whatever the store holds then
+  stays_apart : (b : Told) → ChangesFor n these a b → (store' : Store) (q : Repository) (now : Holds store' b q) → RecordsStay (image_records holds) (image_records now)
+  stays_apart b changes store' q now at x there =
+      subst (λ (rs : Records). present rs at ≡ Some x) (sym (list_apart store r a holds n other below these apart b changes now.stands.standing)) there
+
+  module _ (result : Result Cancelled CancelFault) (b : Told) (changes : ChangesFor n these a b) (files : KeepsFiles a b) (u : Unswept) (met : Met) (unswept : IsUnswept store.slot u) where
+    held_now : Holds (over store u met) b r
+    held_now = (let was = holds_apart store r a holds n other below these apart b changes in record {
+      tables = over_tables store r u met unswept was.tables;
+      stands = was.stands;
+      live = was.live;
+      kept = was.kept;
+      pair = was.pair;
+      runs = was.runs;
+      places = was.places;
+    })
+
+    cancels : (result ≡ Ok Cancelled.Done → lending a n ≡ lent → (pair : Image) × IsSettledAs b n pair) → (result ≡ Ok Cancelled.Done → met.left ≡ 0 → (file : FileName) → these file → ¬ IsForeign b file → b.held file ≡ None)
+        → (result ≡ Ok Cancelled.Done → AllBut these met.left b b) → Cancels r c result store.unswept (over store u met) a b
+    cancels settled gone all_but = record {
+      only = changes;
+      files = files;
+      holds = λ ok. held_now;
+      settled = settled;
+      gone = gone;
+      all_but = all_but;
+      recovers = λ pending. recovers_apart store r a holds n other below these apart b changes pending;
+      nothing_pending = λ pending. pending_apart store r a holds n other below these apart b changes pending;
+      flushed = λ pending. flushed_apart store r a holds n other below these apart b changes pending;
+      space = λ pending. space_apart store r a holds n other below these apart b changes pending;
+    }
+
+    not_done : ¬ (result ≡ Ok Cancelled.Done) → Cancels r c result store.unswept (over store u met) a b
+    not_done not = cancels (λ done. absurd (not done)) (λ done. absurd (not done)) (λ done. absurd (not done))
+
+  nowhere : ChangesFor n these a a
+  nowhere = for_only n these a a (only_nowhere a these)
+
+  -- the kill failed
+  pub orphan_left : (met : Met) → Cancels r c (Ok Cancelled.Orphan) store.unswept (over store store.unswept met) a a
+  orphan_left met = not_done (Ok Cancelled.Orphan) a nowhere (keeps_itself a) store.unswept met holds.tables.unswept (λ done. absurd (cc (done)))
+
+  pub orphan_stays : (store' : Store) (q : Repository) (now : Holds store' a q) → RecordsStay (image_records holds) (image_records now)
+  orphan_stays = stays_apart a nowhere
+
+  -- the attempt could not be settled, or it was, and files were removed
+  module _ (x : Collection) (here : store.collection ≡ Some x) where
+    same : x ≡ c
+    same = cc (here, runs)
+
+    pub cut_off : (result : Result Cancelled CancelFault) (e : GroundFault) (b : Told) (met : Met) → IsErrAnd result (λ fault. fault ≡ CancelFault.Ground) → Settles x.job.attempt (Err e) a b → Cancels r c result store.unswept (over store store.unswept met) a b
+    cut_off (Ok way) e b met err settles = absurd err
+    cut_off (Err fault) e b met err settles =
+        not_done (Err fault) b (for_only n these a b (only_more a b NoFile these (λ file none. absurd none) settles.refused)) (keeps_ended a b x.job.attempt (Err e) settles) store.unswept met holds.tables.unswept (λ done. absurd (cc (done)))
+
+    module _ (left : ℕ) (b d : Told) (settles : Settles x.job.attempt (Ok tt) a b) (sweeps : SweepsFiles these left b d) where
+      ours : Settles n (Ok tt) a b
+      ours = subst (λ (y : Collection). Settles y.job.attempt (Ok tt) a b) same settles
+
+      theirs : (file : FileName) → ¬ IsForeign d file → ¬ IsForeign b file
+      theirs file own foreign = own (foreign_on b d sweeps.only.goes sweeps.only.lending file foreign)
+
+      changes : ChangesFor n these a d
+      changes = for_before n these a b d (for_settle n these tt a b ours) sweeps.only
+
+      pub swept_away : (swept : Store) (before met : Met) → swept ≡ over store (unswept_now store left) before → met ≡ met_nothing → Cancels r c (Ok Cancelled.Done) store.unswept (record swept { met = record met { left = left } }) a d
+      swept_away swept before met is nothing =
+          subst (λ (now : Store). Cancels r c (Ok Cancelled.Done) store.unswept now a d) (λ i. record (sym is i) { met = record (sym nothing i) { left = left } })
+          (cancels (Ok Cancelled.Done) d changes (keeps_on a b d (keeps_ended a b n (Ok tt) ours) (keeps_swept b d these left sweeps)) (unswept_now store left) (record met_nothing { left = left }) (unswept_is store r left holds.tables)
+          (λ done was. (b.held, settled_stays n b d b.held these (settled_at n a b was ours) sweeps.only))
+          (λ done zero file this own. sweeps.gone zero file this (theirs file own))
+          (λ done few. (let those = sweeps.all_but few in (those.0, those.1, λ file this own. those.2 file this (theirs file own)))))
+
+      pub swept_stays : (store' : Store) (q : Repository) (now : Holds store' d q) → RecordsStay (image_records holds) (image_records now)
+      swept_stays = stays_apart d changes
