@@ -1,0 +1,34 @@
+-- What a store holds once a collection has begun, and once it was cancelled.
+--     main_retained      a branch is at a retained commit.      begun_tables, cancelled_tables      the store has tables
+use Rattle.std.proofs.Common.{◌≡◌, ℕ, ◌<◌, ◌≤◌, Option, Some, subst, arith, ap, IsTrue}
+use Rattle.std.specs.Prelude.{Result, Ok, Err, IfSome}
+use Rattle.ip_spec.specs.declared.command.Command.TheVariants as Command
+use Rattle.ip_spec.specs.declared.command.Target.TheVariants as Target
+use Rattle.ip_spec.specs.declared.reply.Reply.TheVariants as Reply
+use Rattle.ip_spec.specs.Path.{Bytes}
+use Rattle.ip_spec.specs.Record.{Hash}
+use Rattle.ip_spec.specs.Repository.{Repository, head, is_retained}
+use Rattle.ip_spec.specs.Step.{present}
+use Rattle.ip_store.specs.declared.collection.Collection.{Collection}
+use Rattle.ip_store.specs.declared.store.Store.{Store}
+use Rattle.ip_store.specs.declared.cancelling.CancelFault.{CancelFault}
+use Rattle.ip_store.specs.declared.cancelling.Cancelled.{Cancelled}
+use Rattle.ip_store.specs.Cancelling.{CancelReplies}
+use Rattle.ip_store.specs.Starting.{Replies, AnswersStart, AnswersCall}
+use Rattle.ip_store.specs.Store.{IsOf}
+use Rattle.ip_store.proofs.Phases.{retained_from}
+
+pub main_retained : (store : Store) (r : Repository) → IsOf store r → (name : Bytes) (n : ℕ) → head r name ≡ Some n → IsTrue (is_retained r n)
+main_retained store r of name n is =
+    let inside : (store.slot.floor ≤ n) × (n < store.slot.next) = subst (λ (o : Option ℕ). IfSome o (λ m. (store.slot.floor ≤ m) × (m < store.slot.next))) is (of.retained.each name) in
+    let floor = of.floor in
+    let next = of.next in
+    retained_from r n (omega (arith, floor, inside.0)) (omega (arith, next, inside.1))
+
+pub begun_tables : (r : Repository) (name : Bytes) (n : ℕ) → head r name ≡ Some n → (running : Option Collection) (store : Store) (hash : Hash) → Replies r (Ok hash) (AnswersStart r n running store) → IsOf store r
+begun_tables r name n is running store hash answers = (answers (Target.Branch name) (ap (λ (o : Option ℕ). present o (Reply.NoBranch name)) is)).tables
+
+pub cancelled_tables : (r : Repository) (running : Option Collection) (store : Store) (answer : Result Cancelled CancelFault) (way : Cancelled) → answer ≡ Ok way → CancelReplies answer (AnswersCall r running Command.Cancel store) → IsOf store r
+cancelled_tables r running store (Ok Cancelled.Done) way is answers = answers.tables
+cancelled_tables r running store (Ok Cancelled.Orphan) way is answers = answers.tables
+cancelled_tables r running store (Err fault) way is answers = absurd (cc (is))
