@@ -150,6 +150,8 @@ served_with Form.Show values rest line s e = (tt, joined (command_with Form.Show
 served_with Form.Log values rest line s e = (tt, joined (command_with Form.Log values) line rest s e)
 served_with Form.Lcas values rest line s e = (tt, joined (command_with Form.Lcas values) line rest s e)
 served_with Form.Hash values rest line s e = (tt, joined (command_with Form.Hash values) line rest s e)
+served_with Form.Collect values rest line s e = (tt, joined (command_with Form.Collect values) line rest s e)
+served_with Form.Cancel values rest line s e = (tt, joined (command_with Form.Cancel values) line rest s e)
 served_with Form.Stat values rest line s e = (tt, joined (command_with Form.Stat values) line rest s e)
 
 rest_is : (form : Form) (line rest : Bytes) → line ≡ word_of form ++ rest → drop (length (word_of form)) line ≡ rest
@@ -196,6 +198,8 @@ formed (Command.Show target) line (u, l) = let p = parts (Command.Show target) l
 formed (Command.Log target) line (u, l) = let p = parts (Command.Log target) line l in record { form = Form.Log; values = (target, tt); rest = p.0; words = p.1; line_is = p.2; command = refl }
 formed (Command.Lcas one other) line (u, l) = let p = parts (Command.Lcas one other) line l in record { form = Form.Lcas; values = (one, (other, tt)); rest = p.0; words = p.1; line_is = p.2; command = refl }
 formed (Command.Hash bytes) line (u, l) = let p = parts (Command.Hash bytes) line l in record { form = Form.Hash; values = (bytes, tt); rest = p.0; words = p.1; line_is = p.2; command = refl }
+formed (Command.Collect target) line (u, l) = let p = parts (Command.Collect target) line l in record { form = Form.Collect; values = (target, tt); rest = p.0; words = p.1; line_is = p.2; command = refl }
+formed Command.Cancel line (u, l) = let p = parts Command.Cancel line l in record { form = Form.Cancel; values = tt; rest = p.0; words = p.1; line_is = p.2; command = refl }
 formed Command.Stat line (u, l) = let p = parts Command.Stat line l in record { form = Form.Stat; values = tt; rest = p.0; words = p.1; line_is = p.2; command = refl }
 formed _ line h = absurd h.0
 

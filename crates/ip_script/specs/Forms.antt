@@ -28,6 +28,8 @@ word_of Form.Show = codes "show"
 word_of Form.Log = codes "log"
 word_of Form.Lcas = codes "lcas"
 word_of Form.Hash = codes "hash"
+word_of Form.Collect = codes "collect"
+word_of Form.Cancel = codes "cancel"
 word_of Form.Stat = codes "stat"
 
 abbrev pub fields_of : Form → List Field
@@ -49,6 +51,8 @@ fields_of Form.Show = Reference ∷ []
 fields_of Form.Log = Reference ∷ []
 fields_of Form.Lcas = Reference ∷ Reference ∷ []
 fields_of Form.Hash = Hex ∷ []
+fields_of Form.Collect = Reference ∷ []
+fields_of Form.Cancel = []
 fields_of Form.Stat = []
 
 abbrev pub command_at : Form → Bytes → Command
@@ -70,4 +74,6 @@ command_at Form.Show text = Command.Show (target_of (word_at Reference text))
 command_at Form.Log text = Command.Log (target_of (word_at Reference text))
 command_at Form.Lcas text = Command.Lcas (target_of (word_at Reference text)) (target_of (word_at Reference (left_at Reference text)))
 command_at Form.Hash text = Command.Hash (contents_of (word_at Hex text))
+command_at Form.Collect text = Command.Collect (target_of (word_at Reference text))
+command_at Form.Cancel text = Command.Cancel
 command_at Form.Stat text = Command.Stat

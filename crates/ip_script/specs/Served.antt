@@ -3,7 +3,7 @@
 use Rattle.ip_spec.specs.declared.command.Command.{Command}
 use Rattle.ip_spec.specs.Line.{Grammar, IsLineOf}
 
--- The commands that are served so far: not those of collecting. They come with what they stand on.
+-- The commands that are served so far: not those that hear of a collection's child. They come with what they stand on.
 abbrev pub IsServed : Command → Type 0
 IsServed Command.Empty = Unit {0}
 IsServed (Command.Checkout target) = Unit {0}
@@ -23,6 +23,8 @@ IsServed (Command.Show target) = Unit {0}
 IsServed (Command.Log target) = Unit {0}
 IsServed (Command.Lcas one other) = Unit {0}
 IsServed (Command.Hash bytes) = Unit {0}
+IsServed (Command.Collect target) = Unit {0}
+IsServed Command.Cancel = Unit {0}
 IsServed Command.Stat = Unit {0}
 IsServed command = ⊥
 

@@ -39,10 +39,12 @@ enum Form {
     Log,
     Lcas,
     Hash,
+    Collect,
+    Cancel,
     Stat,
 }
 
-const FORMS: [Form; 19] = [
+const FORMS: [Form; 21] = [
     Form::Empty,
     Form::Checkout,
     Form::Set,
@@ -61,6 +63,8 @@ const FORMS: [Form; 19] = [
     Form::Log,
     Form::Lcas,
     Form::Hash,
+    Form::Collect,
+    Form::Cancel,
     Form::Stat,
 ];
 
@@ -87,6 +91,8 @@ impl Form {
             Form::Log => b"log",
             Form::Lcas => b"lcas",
             Form::Hash => b"hash",
+            Form::Collect => b"collect",
+            Form::Cancel => b"cancel",
             Form::Stat => b"stat",
         }
     }
@@ -119,6 +125,8 @@ impl Form {
             Form::Log => &[Field::Reference],
             Form::Lcas => &[Field::Reference, Field::Reference],
             Form::Hash => &[Field::Hex],
+            Form::Collect => &[Field::Reference],
+            Form::Cancel => &[],
             Form::Stat => &[],
         }
     }
@@ -193,6 +201,8 @@ fn command_of(alloc: Global, form: Form, text: &[u8]) -> Result<Command, Memory>
         Form::Log => Ok(Command::Log(words.target(alloc)?)),
         Form::Lcas => lcas_of(alloc, words),
         Form::Hash => Ok(Command::Hash(words.contents(alloc)?)),
+        Form::Collect => Ok(Command::Collect(words.target(alloc)?)),
+        Form::Cancel => Ok(Command::Cancel),
         Form::Stat => Ok(Command::Stat),
     }
 }

@@ -47,9 +47,13 @@ fn lines_go_wrong_where_the_grammar_says(rt: HostRuntime) {
         (b"merge", Some(5)),
         (b"merges", Some(5)),
         (b"merge x", Some(7)),
-        (b"collect main", Some(2)),
+        (b"collect main", None),
+        (b"collect", Some(7)),
+        (b"collects", Some(7)),
+        (b"collect main x", Some(12)),
         (b"finish", Some(0)),
-        (b"cancel", Some(2)),
+        (b"cancel", None),
+        (b"cancel x", Some(6)),
     ];
     for (line, want) in lines {
         assert_eq!(rt; bad_at(rt.alloc(), line), want, "{line:?}");

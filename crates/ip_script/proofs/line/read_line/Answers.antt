@@ -31,6 +31,13 @@ slice_bounds-command_of-count c =
     let fit = fit_is form line c.word-word.result.now c.fields.result.now c.reach-fit.result c.reach-fit.ensures c.word-word.ensures c.fields.ensures in
     omega (arith, room form line (whole_is form line c.reach-fit.result fit c.if-fit.true), ap length c.word-word.ensures)
 
+pub slice_bounds-command_of-start : goal.slice_bounds-command_of-start
+slice_bounds-command_of-start c =
+    let form = form_at c.loop-form.form-index in
+    let line = c.args.line.now in
+    let fit = fit_is form line c.word-word.result.now c.fields.result.now c.reach-fit.result c.reach-fit.ensures c.word-word.ensures c.fields.ensures in
+    omega (arith, room form line (whole_is form line c.reach-fit.result fit c.if-fit.true), ap length c.word-word.ensures)
+
 pub returns-in-Err-clause-one_word : goal.returns-in-Err-clause-one_word
 returns-in-Err-clause-one_word c no_space e =
     let form = form_at c.loop-form.form-index in
