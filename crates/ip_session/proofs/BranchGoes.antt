@@ -28,9 +28,8 @@ use Rattle.ip_store.specs.Store.{IsOf, Holds}
 use Rattle.ip_store.specs.Work.{AreParents, IsAt, work_at, session}
 use Rattle.ip_store.specs.Views.{IsViewAfter}
 use Rattle.ip_session.specs.declared.session.Session.{Session}
-use Rattle.ip_session.specs.Session.{unasked, IsServing, IsWorking, state_in, met_only, conditions_of, IsDurable, ChangedBy, GoesBy, CutBy}
+use Rattle.ip_session.specs.Session.{unasked, IsServing, IsWorking, state_in, met_only, conditions_of, IsDurable, ChangedBy, OnlyBy, GoesBy, CutBy}
 use Rattle.ip_session.proofs.SessionLemmas.{at, heard_none, plainly, ok_is_short, branch_refused, branch_rm_refused}
-use Rattle.ip_session.proofs.Referring.{IsUnnamed, NamesNone, names_none}
 use Rattle.ip_session.proofs.SessionGoes.{still_goes}
 use Rattle.ip_session.proofs.DurableGoes.{IsWhole, IsTurn, stays, refused_so, fault_so, done_so, reply_so, cut_so, Went, floor_stays, unanswered}
 
@@ -142,18 +141,13 @@ module _ (r : Repository) (phase : Phase) (w : MachineWork) (name : Bytes) (targ
   unnamed : (reply : Reply) → resolve r target ≡ Err reply → Step unasked s set (conditions_of (met_only false)) reply s
   unnamed reply is = (plainly r phase w set false reply tt (λ h. absurd (cc h)), sym (set_turn (met_only false) (Err reply) is))
 
--- no reference is answered `ok`
-never_accepted : (reply : Reply) → IsUnnamed reply → ¬ IsAccepted reply
-never_accepted Reply.Accepted un is = un
-never_accepted _ un is = absurd is
-
 pub unnamed_goes : (a : Told) (s : Session) (met : Met) (r : Repository) (v : View) (here : IsWorking a s r v) (name : Bytes) (target : Target) (reply : Reply) → met ≡ met_only false → resolve r target ≡ Err reply
     → GoesBy unasked a a s (record s { met = met }) r v (Command.Branch name target) reply
-unnamed_goes a s met r v here name target reply e none = still_goes a s met r v here (ChangedBy a.held (Command.Branch name target)) (Step unasked (state_in s r v) (Command.Branch name target)) (IsViewAfter r v (Command.Branch name target)) reply
+unnamed_goes a s met r v here name target reply e none = still_goes a s met r v here (OnlyBy s.store a a (Command.Branch name target)) (Step unasked (state_in s r v) (Command.Branch name target)) (IsViewAfter r v (Command.Branch name target)) reply
     (subst (λ (m : Met). Step unasked (state_in s r v) (Command.Branch name target) (conditions_of m) reply (state_in s r v)) (sym e) (unnamed r (phase_of s.store.collection) (work_at s.work v) name target reply none))
     refl
     (λ long. branch_refused name target r (phase_of s.store.collection) (work_at s.work v))
-    (λ file changed. never_accepted reply (subst NamesNone none (names_none r target)) (accepted_set name target reply changed.0))
+    (only_nowhere a (ChangedBy s.store a.held (Command.Branch name target) reply))
 
 -- the store's answer is the machine's turn, and the work is lawful where it stays so
 turn_of : (b : Told) (s : Session) (store : Store) (r : Repository) (v : View) (command : Command) (reply : Reply) → store.collection ≡ s.store.collection → IsViewAfter r v command reply v → AreParents r s.work.least s.work.parents → AnswersBranch r (phase_of s.store.collection) command store.met reply store

@@ -33,9 +33,12 @@ use Rattle.ip_store.specs.Views.{IsViewAfter}
 use Rattle.ip_store.specs.Work.{work_at, session, IsAt}
 use Rattle.ip_store.specs.Publishing.{MayChange}
 use Rattle.ip_store.proofs.Machine.{AsksNone}
+use Rattle.ip_store.proofs.KeptFiles.{keeps_store}
 use Rattle.ip_store.proofs.Recovering.{recovers_since}
+use Rattle.ip_store.proofs.Stepping.{of_store}
 use Rattle.ip_session.specs.declared.session.Session.{Session}
-use Rattle.ip_session.specs.Session.{unasked, IsWorking, state_in, met_only, conditions_of, IsLong, is_durable, IsDurable, ChangedBy, TouchedBy, GoesBy, CutBy}
+use Rattle.ip_session.specs.Session.{unasked, attempt_of, IsWorking, state_in, met_only, conditions_of, IsLong, is_durable, IsDurable, ChangedBy, TouchedBy, GoesBy, CutBy}
+use Rattle.ip_session.proofs.Changing.{changed_by, nothing_by, changed_so, touched_so, keeps_nothing}
 use Rattle.ip_session.proofs.SessionLemmas.{at, heard_none, nothing_kept, plainly, Refusable}
 
 pub keeps_still : (store : Store) (r after : Repository) (a b : Told) → Holds store a r → NothingPending a → ChangesOnly NoFile a b → IsAtomic a b r after
@@ -94,6 +97,7 @@ kept_view r v (Command.Commit branch info) _ view durable quiet seen = seen
 kept_view r v (Command.Merge target branch info) reply view durable quiet seen = seen
 kept_view r v (Command.Branch name target) reply view durable quiet seen = seen
 kept_view r v (Command.BranchRm name) reply view durable quiet seen = seen
+kept_view r v (Command.Collect target) reply view durable quiet seen = seen
 kept_view r v _ reply view durable quiet seen = absurd (cc durable)
 
 pub record IsTurn (b : Told) (s : Session) (store : Store) (work : Work) (r : Repository) (v : View) (command : Command) (reply : Reply) : Type 0 where
@@ -127,11 +131,13 @@ module _ (a b : Told) (s : Session) (store : Store) (work : Work) (r after : Rep
         gives = step_of r (phase_of s.store.collection) (work_at s.work v) command after whole store.met (heard_as T) reply (session T.next (phase_of store.collection) work T.view) T.turns.1 T.turns.0;
         is_at = T.is_at (subst (Holds store b) (sym repository) does.1);
         seen = T.seen;
-        only = only_more a b NoFile (ChangedBy a.held command reply) (λ file none. absurd none) only;
+        only = nothing_by (attempt_of s.store command) (ChangedBy s.store a.held command reply) a b only;
+        files = keeps_nothing a b only;
+        said = only.said;
         atomic = λ order. keeps_still s.store r T.next a b here.holds order only;
         nothing_pending = λ order. pending_passes a b only.goes (λ file. only.others file (λ none. none)) only.lending order;
         spared = λ long. record { same = state; seen = kept_view r v command reply T.view whole.durable quiet T.seen; refused = whole.refusable r (phase_of s.store.collection) (work_at s.work v) };
-        still = λ long file changed. quiet changed.0;
+        still = λ long. only;
       }
 
   pub fault_so : {A : Type 0} (fault : StoreFault) → IfSome (fault_reply fault) (λ reply. HasAnswer {A = A} (Err fault) → Turn reply) → Changes {A = A} r after (Err fault) store a b → IfSome (fault_reply fault) Went
@@ -153,7 +159,9 @@ module _ (a b : Told) (s : Session) (store : Store) (work : Work) (r after : Rep
         gives = step_of r (phase_of s.store.collection) (work_at s.work v) command after whole store.met (heard_as T) reply (session T.next (phase_of store.collection) work T.view) T.turns.1 T.turns.0;
         is_at = T.is_at (subst (Holds store b) (sym repository) does.ok);
         seen = T.seen;
-        only = only_more a b _ (ChangedBy a.held command reply) (λ file changed. (done, changed)) does.only;
+        only = changed_by (attempt_of s.store command) (ChangedBy s.store a.held command reply) a b (only_more a b _ (ChangedBy s.store a.held command reply) (λ file changed. changed_so s.store a.held command reply file done changed) does.only);
+        files = keeps_store a b (MayChange a.held) (of_store a.held) does.only;
+        said = does.only.said;
         atomic = λ order. subst (λ (q : Repository). IsAtomic a b r q) (sym repository) (does.atomic order);
         nothing_pending = λ order. does.nothing_pending order tt;
         spared = λ long. absurd (short long);
@@ -174,7 +182,9 @@ module _ (a b : Told) (s : Session) (store : Store) (work : Work) (r after : Rep
         reply = t.0;
         after = t.1;
         gives = subst (λ (m : Met). Step unasked (state_in s r v) command (conditions_of m) t.0 t.1) (sym e) (plainly r (phase_of s.store.collection) (work_at s.work v) command false t.0 (durable_asks command durable) (λ h. absurd (cc h)), whole.plain (conditions_of (met_only false)) t refl);
-        only = only_more a b (MayChange a.held) (TouchedBy a.held command) (λ file changed. (durable, changed)) does.only;
+        only = changed_by (attempt_of s.store command) (TouchedBy s.store a.held command) a b (only_more a b (MayChange a.held) (TouchedBy s.store a.held command) (λ file changed. touched_so s.store a.held command file durable changed) does.only);
+        files = keeps_store a b (MayChange a.held) (of_store a.held) does.only;
+        said = does.only.said;
         atomic = λ order. subst (λ (q : Repository). IsAtomic a b r q) (sym repository) (does.atomic order);
       }
 

@@ -2,6 +2,7 @@ pub mod SessionLemmas
 pub mod Referring
 pub mod Seeing
 mod Reading
+pub mod Changing
 pub mod SessionGoes
 pub mod DurableGoes
 pub mod Committing
@@ -10,4 +11,7 @@ pub mod ReadGoes
 pub mod Beginning
 pub mod Placing
 pub mod MergeGoes
+mod Asking
+mod StartGoes
+mod CancelGoes
 mod Running

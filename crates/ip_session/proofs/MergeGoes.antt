@@ -10,7 +10,7 @@ use Rattle.ip_base.specs.declared.limit.Limit.TheVariants as Limit
 use Rattle.ip_ground.specs.declared.names.GroundCounts.{GroundCounts}
 use Rattle.ip_ground.specs.Counts.{FileFault, CountsIf, Counts}
 use Rattle.ip_ground.specs.Told.{Told, NoFile, ChangesOnly}
-use Rattle.ip_ground.proofs.Spans.{only_more}
+use Rattle.ip_ground.proofs.Spans.{only_more, only_nowhere}
 use Rattle.ip_image.specs.Headline.{IsAtomic}
 use Rattle.ip_image.proofs.HeadlineLaws.{pending_passes}
 use Rattle.ip_image.proofs.OneRepository.{one_repository}
@@ -27,6 +27,7 @@ use Rattle.ip_spec.specs.Step.{Refused, ◌>>=◌, present, resolve, both_named,
 use Rattle.ip_spec.specs.Text.{reply_text, hex_text}
 use Rattle.ip_spec.specs.View.{View}
 use Rattle.ip_image.specs.declared.slot.Slot.{Slot}
+use Rattle.ip_store.specs.declared.collection.Unswept.{Unswept}
 use Rattle.ip_store.specs.declared.committing.StoreFault.{StoreFault}
 use Rattle.ip_store.specs.declared.merging.Merge.{Merge}
 use Rattle.ip_store.specs.declared.store.Store.{Store}
@@ -40,14 +41,16 @@ use Rattle.ip_store.specs.Views.{IsViewAfter}
 use Rattle.ip_store.specs.Collecting.{phase_of}
 use Rattle.ip_store.specs.Work.{AreParents, IsAt, work_at, state_at}
 use Rattle.ip_store.specs.declared.collection.Collection.{Collection}
-use Rattle.ip_store.proofs.Stepping.{still_holds}
+use Rattle.ip_store.proofs.Stepping.{still_holds, of_store}
+use Rattle.ip_store.proofs.KeptFiles.{keeps_store}
 use Rattle.ip_store.proofs.Works.{works_stay}
 use Rattle.ip_session.specs.declared.session.Session.{Session}
 use Rattle.ip_session.specs.declared.session.SessionEnd.{SessionEnd}
 use Rattle.ip_session.specs.Placing.{PlacedBy}
-use Rattle.ip_session.specs.Session.{ground_end, IsServing, IsWorking, state_in, met_only, conditions_of, IsLong, IsDurable, ChangedBy, TouchedBy, GoesBy, CutBy, EndsBy, EndsBecause, IsNamed}
+use Rattle.ip_session.specs.Session.{ground_end, IsServing, IsWorking, state_in, met_only, conditions_of, IsLong, IsDurable, attempt_of, ChangedBy, TouchedBy, OnlyBy, GoesBy, CutBy, EndsBy, EndsBecause, IsNamed}
 use Rattle.ip_session.proofs.SessionLemmas.{at, plainly, hex_long, merge_refused}
 use Rattle.ip_session.proofs.Referring.{IsUnnamed, NamesNone, names_none}
+use Rattle.ip_session.proofs.Changing.{nothing_by, keeps_nothing}
 use Rattle.ip_session.proofs.SessionGoes.{still_goes}
 use Rattle.ip_session.proofs.DurableGoes.{keeps_still, answered}
 use Rattle.ip_session.proofs.Placing.{unmoved}
@@ -98,11 +101,6 @@ module _ (target : Target) (branch : Bytes) (info : Info) where
   abbrev merging : Command
   merging = Command.Merge target branch info
 
-  never_made : (reply : Reply) → IsUnnamed reply → ¬ IsDurable reply merging
-  never_made (Reply.Forward name) un done = un
-  never_made (Reply.Merged name) un done = un
-  never_made _ un done = done
-
   unnamed_step : (rule : Rule) (r : Repository) (phase : Phase) (w : MachineWork) (reply : Reply) → resolve r target ≡ Err reply → Step rule (at r phase w) merging (conditions_of (met_only false)) reply (at r phase w)
   unnamed_step rule r phase w reply is =
       let named : both_named (at r phase w) target branch ≡ Err reply = ap (λ (x : Refused ℕ). x >>= λ number. present (head r branch) (Reply.NoBranch branch) >>= λ n. Ok (number, n)) is in (
@@ -111,18 +109,18 @@ module _ (target : Target) (branch : Bytes) (info : Info) where
       )
 
   pub unmerged_goes : (rule : Rule) (a : Told) (s : Session) (met : Met) (r : Repository) (v : View) (here : IsWorking a s r v) (reply : Reply) → met ≡ met_only false → resolve r target ≡ Err reply → GoesBy rule a a s (record s { met = met }) r v merging reply
-  unmerged_goes rule a s met r v here reply e none = still_goes a s met r v here (ChangedBy a.held merging) (Step rule (state_in s r v) merging) (IsViewAfter r v merging) reply
+  unmerged_goes rule a s met r v here reply e none = still_goes a s met r v here (OnlyBy s.store a a merging) (Step rule (state_in s r v) merging) (IsViewAfter r v merging) reply
       (subst (λ (m : Met). Step rule (state_in s r v) merging (conditions_of m) reply (state_in s r v)) (sym e) (unnamed_step rule r (phase_of s.store.collection) (work_at s.work v) reply none))
       refl
       (λ long. merge_refused target branch info r (phase_of s.store.collection) (work_at s.work v))
-      (λ file changed. never_made reply (subst NamesNone none (names_none r target)) changed.0)
+      (only_nowhere a (ChangedBy s.store a.held merging reply))
 
-  pub unmerged_placed : (rule : Rule) (slot : Slot) (s : State) (v : View) (reply : Reply) → resolve s.repository target ≡ Err reply → PlacedBy rule slot slot s v merging reply
-  unmerged_placed rule slot s v reply is = by reply (subst NamesNone is (names_none s.repository target))
+  pub unmerged_placed : (rule : Rule) (slot : Slot) (u : Unswept) (s : State) (v : View) (reply : Reply) → resolve s.repository target ≡ Err reply → PlacedBy rule slot u slot s v merging reply
+  unmerged_placed rule slot u s v reply is = by reply (subst NamesNone is (names_none s.repository target))
     where
-      by : (reply : Reply) → IsUnnamed reply → PlacedBy rule slot slot s v merging reply
-      by (Reply.NoBranch other) un = unmoved slot slot s v merging (Reply.NoBranch other) rule (λ h. h) (λ l e. absurd (cc e)) refl
-      by (Reply.NoCommit hash) un = unmoved slot slot s v merging (Reply.NoCommit hash) rule (λ h. h) (λ l e. absurd (cc e)) refl
+      by : (reply : Reply) → IsUnnamed reply → PlacedBy rule slot u slot s v merging reply
+      by (Reply.NoBranch other) un = unmoved slot u slot s v merging (Reply.NoBranch other) rule (λ h. h) (λ l e. absurd (cc e)) (λ t e. absurd (cc e)) refl
+      by (Reply.NoCommit hash) un = unmoved slot u slot s v merging (Reply.NoCommit hash) rule (λ h. h) (λ l e. absurd (cc e)) (λ t e. absurd (cc e)) refl
       by _ un = absurd un
 
 -- ---- the command
@@ -142,7 +140,7 @@ module _ (rule : Rule) (a b : Told) (s : Session) (store : Store) (phase_is : st
 
   -- the image stands for what it stood for
   stood : ChangesOnly NoFile a b → Holds s.store b r
-  stood only = still_holds s.store s.store (record { index = refl; slot = refl; names = refl; places = refl; branches = refl; history = refl; space = refl; collection = refl }) r a b only here.holds
+  stood only = still_holds s.store s.store (record { index = refl; slot = refl; names = refl; places = refl; branches = refl; history = refl; space = refl; collection = refl; unswept = refl }) r a b only here.holds
 
   works : Stays → (reply : Reply) (A : Answered reply) → IsAt b store A.after s.work v
   works stay reply A = record {
@@ -162,11 +160,13 @@ module _ (rule : Rule) (a b : Told) (s : Session) (store : Store) (phase_is : st
         gives = turns_on reply A;
         is_at = works stay reply A;
         seen = refl;
-        only = only_more a b NoFile (ChangedBy a.held command reply) (λ file none. absurd none) only;
+        only = nothing_by (attempt_of s.store command) (ChangedBy s.store a.held command reply) a b only;
+        files = keeps_nothing a b only;
+        said = only.said;
         atomic = λ order. keeps_still s.store r A.after a b here.holds order only;
         nothing_pending = λ order. pending_passes a b only.goes (λ file. only.others file (λ none. none)) only.lending order;
         spared = λ long. record { same = λ i. state_at (same i) (phase_of (phase_is i)) (work_at s.work v); seen = refl; refused = merge_refused target branch info r (phase_of s.store.collection) (work_at s.work v) };
-        still = λ long file changed. quiet changed.0;
+        still = λ long. only;
       }
 
   done_so : (reply : Reply) → IsDurable reply command → ¬ IsLong reply → Answered reply → Stays → (merge : Merge) (after : Repository) → Changes r after (Ok merge) store a b → Went reply
@@ -178,7 +178,9 @@ module _ (rule : Rule) (a b : Told) (s : Session) (store : Store) (phase_is : st
         gives = turns_on reply A;
         is_at = works stay reply A;
         seen = refl;
-        only = only_more a b _ (ChangedBy a.held command reply) (λ file changed. (done, changed)) does.only;
+        only = only_more a b _ (ChangedBy s.store a.held command reply) (λ file changed. (done, changed)) does.only;
+        files = keeps_store a b (MayChange a.held) (of_store a.held) does.only;
+        said = does.only.said;
         atomic = λ order. subst (λ (q : Repository). IsAtomic a b r q) same (does.atomic order);
         nothing_pending = λ order. does.nothing_pending order tt;
         spared = λ long. absurd (short long);
@@ -211,12 +213,14 @@ module _ (rule : Rule) (a b : Told) (s : Session) (store : Store) (phase_is : st
     reply = M.reply;
     after = state_at M.after (phase_of s.store.collection) (work_at s.work v);
     gives = subst (λ (m : Met). Step rule (state_in s r v) command (conditions_of m) M.reply (state_at M.after (phase_of s.store.collection) (work_at s.work v))) (sym e) (M.turns (work_at s.work v) target named);
-    only = only_more a b (MayChange a.held) (TouchedBy a.held command) (λ file changed. (refl, changed)) M.changes.only;
+    only = only_more a b (MayChange a.held) (TouchedBy s.store a.held command) (λ file changed. (refl, changed)) M.changes.only;
+    files = keeps_store a b (MayChange a.held) (of_store a.held) M.changes.only;
+    said = M.changes.only.said;
     atomic = M.changes.atomic;
   }
 
   abbrev At : Reply → Type 0
-  At reply = PlacedBy rule s.store.slot store.slot (state_in s r v) v command reply
+  At reply = PlacedBy rule s.store.slot s.store.unswept store.slot (state_in s r v) v command reply
 
   abbrev Appended : Result Merge StoreFault → Type 0
   Appended made = AppendsMerge rule (image_records here.holds) r number branch info made s.store store a b
@@ -225,7 +229,7 @@ module _ (rule : Rule) (a b : Told) (s : Session) (store : Store) (phase_is : st
   Limits made = LimitsMerge rule (image_records here.holds) r number branch info made s.store
 
   still_at : (reply : Reply) → ¬ IsDurable reply command → ((l : _) → reply ≢ Reply.Limit l) → store.slot ≡ s.store.slot → At reply
-  still_at reply not none same = unmoved s.store.slot store.slot (state_in s r v) v command reply rule not none same
+  still_at reply not none same = unmoved s.store.slot s.store.unswept store.slot (state_in s r v) v command reply rule not none (λ t e. absurd (cc e)) same
 
   placed : (made : Result Merge StoreFault) → Appended made → Limits made → IfSome (merge_reply branch made) At
   placed (Ok (Merge.Current name)) A L = still_at (Reply.Current name) (λ h. h) (λ l is. absurd (cc is)) (A tt)
@@ -234,12 +238,14 @@ module _ (rule : Rule) (a b : Told) (s : Session) (store : Store) (phase_is : st
     quiet = λ quiet. absurd (quiet tt);
     space = λ _ is. absurd (cc is);
     sequence = λ _ is. absurd (cc is);
+    attempt = λ t is. absurd (cc is);
   }
   placed (Ok (Merge.Merged name)) A L = record {
     done = λ _. record { more = A.more; commits = A.commits; are = (number, named, image_records here.holds, A.are); so = (A.appends.slot, A.room, A.sequence) };
     quiet = λ quiet. absurd (quiet tt);
     space = λ _ is. absurd (cc is);
     sequence = λ _ is. absurd (cc is);
+    attempt = λ t is. absurd (cc is);
   }
   placed (Ok Merge.NoBranch) A L = still_at (Reply.NoBranch branch) (λ h. h) (λ l is. absurd (cc is)) (A tt)
   placed (Ok (Merge.Bases count)) A L = still_at (Reply.Bases count) (λ h. h) (λ l is. absurd (cc is)) (A tt)
@@ -253,18 +259,21 @@ module _ (rule : Rule) (a b : Told) (s : Session) (store : Store) (phase_is : st
     quiet = λ _. A tt;
     space = λ _ is. record { more = L.more; commits = L.commits; are = (number, named, image_records here.holds, L.are); so = L.short };
     sequence = λ _ is. absurd (cc is);
+    attempt = λ t is. absurd (cc is);
   }
   placed (Err (StoreFault.Limit Limit.Sequence)) A L = record {
     done = λ done. absurd done;
     quiet = λ _. A tt;
     space = λ _ is. absurd (cc is);
     sequence = λ _ is. record { more = L.more; commits = L.commits; are = (number, named, image_records here.holds, L.are); so = L.short };
+    attempt = λ t is. absurd (cc is);
   }
   placed (Err (StoreFault.Limit _)) A L = record {
     done = λ done. absurd done;
     quiet = λ _. A tt;
     space = λ _ is. absurd (cc is);
     sequence = λ _ is. absurd (cc is);
+    attempt = λ t is. absurd (cc is);
   }
   placed (Err StoreFault.Memory) A L = still_at Reply.Memory (λ h. h) (λ l is. absurd (cc is)) (A tt)
   placed (Err StoreFault.Ground) A L = tt

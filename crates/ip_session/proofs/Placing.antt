@@ -2,7 +2,7 @@
 --     same_slot      the live slot of a control file that nothing changed
 --     commit_placed, set_placed, remove_placed      what the store says of its calls.      unnamed_placed      no commit has the name that was given
 --     read_placed      a command that may only read
---     lined_placed      the line that spells a command.      quiet_placed      a line with a reply of none.      memory_placed      there was no memory for a reply's text
+--     lined_placed      the line that spells a command.      quiet_placed      a line with a reply of none
 use Rattle.std.proofs.Common.{◌≡◌, ◌≢◌, ℕ, ◌+◌, ◌^◌, ◌<◌, ◌≤◌, Bool, true, false, [], ◌∷◌, refl, sym, ap, ◌∙◌, subst, arith, length, length-append, Ok, Err, Some, IsTrue}
 use Rattle.std.specs.Prelude.{Result, OnOk, IfOk}
 use Rattle.ip_base.specs.declared.info.Info.{Info}
@@ -27,10 +27,11 @@ use Rattle.ip_image.specs.declared.slot.Slot.{Slot}
 use Rattle.ip_image.specs.Appending.{fields_of, bytes_of_records}
 use Rattle.ip_image.proofs.HeadlineLaws.{one_slot}
 use Rattle.ip_image.proofs.Renaming.{spelled_is}
+use Rattle.ip_store.specs.declared.collection.Unswept.{Unswept}
 use Rattle.ip_store.specs.declared.committing.StoreFault.{StoreFault}
 use Rattle.ip_store.specs.declared.store.Store.{Store}
 use Rattle.ip_store.specs.Changes.{Changes, LimitsSpace, Appends, next_slot}
-use Rattle.ip_store.specs.Collecting.{phase_of}
+use Rattle.ip_store.specs.Collecting.{phase_of, carrying, carried}
 use Rattle.ip_store.specs.Commits.{fault_reply, reply_to, records_of, end_of, Commits}
 use Rattle.ip_store.specs.Naming.{branch_reply, removed_reply, without_branch}
 use Rattle.ip_store.specs.Store.{Holds}
@@ -38,7 +39,7 @@ use Rattle.ip_store.proofs.Recovering.{held_has}
 use Rattle.ip_session.specs.declared.session.Session.{Session}
 use Rattle.ip_session.specs.declared.session.SessionEnd.{SessionEnd}
 use Rattle.ip_session.specs.Session.{unasked, IsWorking, state_in, is_durable, IsDurable, HasRead}
-use Rattle.ip_session.specs.Placing.{named_record, appended, commits_in, IsAppended, OfRecords, PlacedBy, PlacedIn}
+use Rattle.ip_session.specs.Placing.{named_record, appended, commits_in, slot_behind, AttemptsLeft, IsAppended, OfRecords, PlacedBy, PlacedIn}
 use Rattle.ip_session.proofs.Referring.{IsUnnamed, NamesNone, names_none}
 use Rattle.ip_session.proofs.DurableGoes.{answered}
 use Rattle.ip_session.proofs.ReadGoes.{none_durable}
@@ -49,7 +50,7 @@ same_slot store store' r q a b before after same =
     one_slot store'.slot store.slot a.held (record { control = live.control; index = live.index; held = sym same ∙ live.held; live = live.live }) (held_has store r a before)
 
 -- no call changed a file
-still_slot : (store store' : Store) (r q : Repository) (a b : Told) → Holds store a r → Holds store' b q → ChangesOnly NoFile a b → store'.slot ≡ store.slot
+pub still_slot : (store store' : Store) (r q : Repository) (a b : Told) → Holds store a r → Holds store' b q → ChangesOnly NoFile a b → store'.slot ≡ store.slot
 still_slot store store' r q a b before after only = same_slot store store' r q a b before after ((only.others Control (λ none. none)).held (λ x. x))
 
 -- a batch is as long as from its begin to its end
@@ -70,50 +71,53 @@ IsPlain slot s v command = IsAppended unasked slot s v command (appended slot s 
 of_these : (slot : Slot) (s : State) (v : View) (command : Command) (Says : (length commits : ℕ) → Type 0) → IsPlain slot s v command → Says (length_of slot s v command) (commits_in command) → OfRecords (IsAppended unasked slot s v command) Says
 of_these slot s v command Says plain so = record { more = appended slot s v command; commits = commits_in command; are = plain; so = so }
 
-module _ (slot slot' : Slot) (s : State) (v : View) (command : Command) (reply : Reply) where
+module _ (slot : Slot) (u : Unswept) (slot' : Slot) (s : State) (v : View) (command : Command) (reply : Reply) where
   -- the store did it
-  did : IsPlain slot s v command → IsDurable reply command → ((l : Limit) → reply ≢ Reply.Limit l) → slot' ≡ next_slot slot (length_of slot s v command) (commits_in command)
-      → (slot.end + length_of slot s v command ≤ 2 ^ 62) × (slot.sequence < 2 ^ 62) → PlacedBy unasked slot slot' s v command reply
-  did plain done none slot_is enough = record {
+  did : IsPlain slot s v command → IsDurable reply command → ((l : Limit) → reply ≢ Reply.Limit l) → ((target : Target) → command ≢ Command.Collect target) → slot' ≡ slot_behind command (carrying slot u) (length_of slot s v command) (commits_in command)
+      → (slot.end + length_of slot s v command ≤ 2 ^ 62) × (slot.sequence < 2 ^ 62) → PlacedBy unasked slot u slot' s v command reply
+  did plain done none other slot_is enough = record {
     done = λ _. of_these slot s v command _ plain (slot_is, enough.0, enough.1);
     quiet = λ quiet. absurd (quiet done);
     space = λ _ limit. absurd (none Limit.Space limit);
     sequence = λ _ limit. absurd (none Limit.Sequence limit);
+    attempt = λ target is. absurd (other target is);
   }
 
   -- nothing was done, and no limit was met
-  pub unmoved : (rule : Rule) → ¬ IsDurable reply command → ((l : Limit) → reply ≢ Reply.Limit l) → slot' ≡ slot → PlacedBy rule slot slot' s v command reply
-  unmoved rule not none same = record {
+  pub unmoved : (rule : Rule) → ¬ IsDurable reply command → ((l : Limit) → reply ≢ Reply.Limit l) → ((target : Target) → command ≡ Command.Collect target → AttemptsLeft slot reply) → slot' ≡ slot → PlacedBy rule slot u slot' s v command reply
+  unmoved rule not none left same = record {
     done = λ done. absurd (not done);
     quiet = λ quiet. same;
     space = λ _ limit. absurd (none Limit.Space limit);
     sequence = λ _ limit. absurd (none Limit.Sequence limit);
+    attempt = left;
   }
 
 -- the store refused it
-refused : {A : Type 0} (slot slot' : Slot) (s : State) (v : View) (command : Command) (fault : StoreFault) (reply : Reply) (store : Store) → IsPlain slot s v command → fault_reply fault ≡ Some reply → store.slot ≡ slot
-    → LimitsSpace {A = A} (slot.end + length_of slot s v command) (Err fault) store → slot' ≡ slot → PlacedBy unasked slot slot' s v command reply
-refused slot slot' s v command (StoreFault.GivenUp number) reply store plain e at limits same = let is : Reply.GivenUp number ≡ reply = cc e in subst (PlacedBy unasked slot slot' s v command) is (unmoved slot slot' s v command (Reply.GivenUp number) unasked (λ h. h) (λ l is. absurd (cc is)) same)
-refused slot slot' s v command (StoreFault.Leaving number) reply store plain e at limits same = let is : Reply.Leaving number ≡ reply = cc e in subst (PlacedBy unasked slot slot' s v command) is (unmoved slot slot' s v command (Reply.Leaving number) unasked (λ h. h) (λ l is. absurd (cc is)) same)
-refused slot slot' s v command (StoreFault.HeadMoved name) reply store plain e at limits same = let is : Reply.HeadMoved name ≡ reply = cc e in subst (PlacedBy unasked slot slot' s v command) is (unmoved slot slot' s v command (Reply.HeadMoved name) unasked (λ h. h) (λ l is. absurd (cc is)) same)
-refused slot slot' s v command (StoreFault.Existing name) reply store plain e at limits same = let is : Reply.Existing name ≡ reply = cc e in subst (PlacedBy unasked slot slot' s v command) is (unmoved slot slot' s v command (Reply.Existing name) unasked (λ h. h) (λ l is. absurd (cc is)) same)
-refused slot slot' s v command (StoreFault.Limit limit) reply store plain e at limits same =
+refused : {A : Type 0} (slot : Slot) (u : Unswept) (slot' : Slot) (s : State) (v : View) (command : Command) (fault : StoreFault) (reply : Reply) (store : Store) → IsPlain slot s v command → ((target : Target) → command ≢ Command.Collect target) → fault_reply fault ≡ Some reply → store.slot ≡ slot
+    → LimitsSpace {A = A} (slot.end + length_of slot s v command) (Err fault) store → slot' ≡ slot → PlacedBy unasked slot u slot' s v command reply
+refused slot u slot' s v command (StoreFault.GivenUp number) reply store plain other e at limits same = let is : Reply.GivenUp number ≡ reply = cc e in subst (PlacedBy unasked slot u slot' s v command) is (unmoved slot u slot' s v command (Reply.GivenUp number) unasked (λ h. h) (λ l is. absurd (cc is)) (λ target is. absurd (other target is)) same)
+refused slot u slot' s v command (StoreFault.Leaving number) reply store plain other e at limits same = let is : Reply.Leaving number ≡ reply = cc e in subst (PlacedBy unasked slot u slot' s v command) is (unmoved slot u slot' s v command (Reply.Leaving number) unasked (λ h. h) (λ l is. absurd (cc is)) (λ target is. absurd (other target is)) same)
+refused slot u slot' s v command (StoreFault.HeadMoved name) reply store plain other e at limits same = let is : Reply.HeadMoved name ≡ reply = cc e in subst (PlacedBy unasked slot u slot' s v command) is (unmoved slot u slot' s v command (Reply.HeadMoved name) unasked (λ h. h) (λ l is. absurd (cc is)) (λ target is. absurd (other target is)) same)
+refused slot u slot' s v command (StoreFault.Existing name) reply store plain other e at limits same = let is : Reply.Existing name ≡ reply = cc e in subst (PlacedBy unasked slot u slot' s v command) is (unmoved slot u slot' s v command (Reply.Existing name) unasked (λ h. h) (λ l is. absurd (cc is)) (λ target is. absurd (other target is)) same)
+refused slot u slot' s v command (StoreFault.Limit limit) reply store plain other e at limits same =
     let is : Reply.Limit limit ≡ reply = cc e in
-    subst (PlacedBy unasked slot slot' s v command) is (record {
+    subst (PlacedBy unasked slot u slot' s v command) is (record {
       done = λ done. absurd done;
       quiet = λ quiet. same;
       space = λ _ is. of_these slot s v command _ plain (limits.space (cc is));
       sequence = λ _ is. let both = limits.sequence (cc is) in of_these slot s v command _ plain (both.0, ap (λ (t : Slot). t.sequence) (sym at) ∙ both.1);
+      attempt = λ target is. absurd (other target is);
     })
-refused slot slot' s v command StoreFault.Memory reply store plain e at limits same = let is : Reply.Memory ≡ reply = cc e in subst (PlacedBy unasked slot slot' s v command) is (unmoved slot slot' s v command Reply.Memory unasked (λ h. h) (λ l is. absurd (cc is)) same)
-refused slot slot' s v command StoreFault.Ground reply store plain e at limits same = absurd (cc e)
-refused slot slot' s v command (StoreFault.Damaged at_ names) reply store plain e at limits same = absurd (cc e)
+refused slot u slot' s v command StoreFault.Memory reply store plain other e at limits same = let is : Reply.Memory ≡ reply = cc e in subst (PlacedBy unasked slot u slot' s v command) is (unmoved slot u slot' s v command Reply.Memory unasked (λ h. h) (λ l is. absurd (cc is)) (λ target is. absurd (other target is)) same)
+refused slot u slot' s v command StoreFault.Ground reply store plain other e at limits same = absurd (cc e)
+refused slot u slot' s v command (StoreFault.Damaged at_ names) reply store plain other e at limits same = absurd (cc e)
 
 -- ---- the durable commands
 
 module _ (a b : Told) (s : Session) (store : Store) (r : Repository) (v : View) (here : IsWorking a s r v) where
   abbrev At : Command → Reply → Type 0
-  At command reply = PlacedBy unasked s.store.slot store.slot (state_in s r v) v command reply
+  At command reply = PlacedBy unasked s.store.slot s.store.unswept store.slot (state_in s r v) v command reply
 
   module _ (branch : Bytes) (info : Info) where
     abbrev committing : Command
@@ -126,11 +130,11 @@ module _ (a b : Told) (s : Session) (store : Store) (r : Repository) (v : View) 
         → OnOk made (Appends (records_of r s.work v branch info s.store) 1 s.store store a b) → At committing reply
     commit_placed (Ok name) reply e does limits appends =
         let is : Reply.Committed name ≡ reply = cc e in
-        subst (At committing) is (did s.store.slot store.slot (state_in s r v) v committing (Reply.Committed name) (refl, refl) tt (λ l is. absurd (cc is)) appends.slot
+        subst (At committing) is (did s.store.slot s.store.unswept store.slot (state_in s r v) v committing (Reply.Committed name) (refl, refl) tt (λ l is. absurd (cc is)) (λ t is. absurd (cc is)) appends.slot
         (subst (λ (n : ℕ). n ≤ 2 ^ 62) length_is limits.enough.0, limits.enough.1))
     commit_placed (Err fault) reply e does limits appends =
         let still = does.refused (refl, answered Hash fault reply e) in
-        refused {A = Hash} s.store.slot store.slot (state_in s r v) v committing fault reply s.store (refl, refl) e refl
+        refused {A = Hash} s.store.slot s.store.unswept store.slot (state_in s r v) v committing fault reply s.store (refl, refl) (λ t is. absurd (cc is)) e refl
         (subst (λ (n : ℕ). LimitsSpace {A = Hash} n (Err fault) s.store) length_is limits)
         (still_slot s.store store r r a b here.holds still.1 still.0)
 
@@ -148,12 +152,12 @@ module _ (a b : Told) (s : Session) (store : Store) (r : Repository) (v : View) 
         → OnOk made (Appends ((s.store.slot.end, Record.BranchSet n name) ∷ []) 0 s.store store a b) → At setting reply
     set_placed (Ok u) reply e does limits appends =
         let is : Reply.Accepted ≡ reply = cc e in
-        subst (At setting) is (did s.store.slot store.slot (state_in s r v) v setting Reply.Accepted (refl, refl) tt (λ l is. absurd (cc is))
-        (appends.slot ∙ ap (λ (k : ℕ). next_slot s.store.slot k 0) (sym (ap length (spelled_is s.store.slot.end (Record.BranchSet n name))) ∙ set_length))
+        subst (At setting) is (did s.store.slot s.store.unswept store.slot (state_in s r v) v setting Reply.Accepted (refl, refl) tt (λ l is. absurd (cc is)) (λ t is. absurd (cc is))
+        (appends.slot ∙ ap (λ (k : ℕ). next_slot (carried s.store) k 0) (sym (ap length (spelled_is s.store.slot.end (Record.BranchSet n name))) ∙ set_length))
         (subst (λ (k : ℕ). k ≤ 2 ^ 62) set_end limits.enough.0, limits.enough.1))
     set_placed (Err fault) reply e does limits appends =
         let still = does.refused (refl, answered (Unit {0}) fault reply e) in
-        refused {A = Unit {0}} s.store.slot store.slot (state_in s r v) v setting fault reply s.store (refl, refl) e refl
+        refused {A = Unit {0}} s.store.slot s.store.unswept store.slot (state_in s r v) v setting fault reply s.store (refl, refl) (λ t is. absurd (cc is)) e refl
         (subst (λ (k : ℕ). LimitsSpace {A = Unit {0}} k (Err fault) s.store) set_end limits)
         (still_slot s.store store r r a b here.holds still.1 still.0)
 
@@ -173,30 +177,30 @@ module _ (a b : Told) (s : Session) (store : Store) (r : Repository) (v : View) 
     remove_placed (Ok true) reply e does limits absent appends =
         let limits = limits (λ is. absurd (cc is)) in
         let is : Reply.Accepted ≡ reply = cc e in
-        subst (At removing) is (did s.store.slot store.slot (state_in s r v) v removing Reply.Accepted (refl, refl) tt (λ l is. absurd (cc is)) (appends refl).slot
+        subst (At removing) is (did s.store.slot s.store.unswept store.slot (state_in s r v) v removing Reply.Accepted (refl, refl) tt (λ l is. absurd (cc is)) (λ t is. absurd (cc is)) (appends refl).slot
         (subst (λ (k : ℕ). k ≤ 2 ^ 62) remove_end limits.enough.0, limits.enough.1))
     remove_placed (Ok false) reply e does limits absent appends =
         let is : Reply.NoBranch name ≡ reply = cc e in
-        subst (At removing) is (unmoved s.store.slot store.slot (state_in s r v) v removing (Reply.NoBranch name) unasked (λ h. h) (λ l is. absurd (cc is))
+        subst (At removing) is (unmoved s.store.slot s.store.unswept store.slot (state_in s r v) v removing (Reply.NoBranch name) unasked (λ h. h) (λ l is. absurd (cc is)) (λ t is. absurd (cc is))
         (same_slot s.store store r (without_branch r name) a b here.holds does.ok (ap (λ (told : Told). told.held Control) (absent refl))))
     remove_placed (Err fault) reply e does limits absent appends =
         let still = does.refused (refl, answered Bool fault reply e) in
-        refused {A = Bool} s.store.slot store.slot (state_in s r v) v removing fault reply s.store (refl, refl) e refl
+        refused {A = Bool} s.store.slot s.store.unswept store.slot (state_in s r v) v removing fault reply s.store (refl, refl) (λ t is. absurd (cc is)) e refl
         (subst (λ (k : ℕ). LimitsSpace {A = Bool} k (Err fault) s.store) remove_end (limits (λ is. absurd (cc is))))
         (still_slot s.store store r r a b here.holds still.1 still.0)
 
-pub unnamed_placed : (slot : Slot) (s : State) (v : View) (name : Bytes) (target : Target) (reply : Reply) → resolve s.repository target ≡ Err reply → PlacedBy unasked slot slot s v (Command.Branch name target) reply
-unnamed_placed slot s v name target reply is = by reply (subst NamesNone is (names_none s.repository target))
+pub unnamed_placed : (slot : Slot) (u : Unswept) (s : State) (v : View) (name : Bytes) (target : Target) (reply : Reply) → resolve s.repository target ≡ Err reply → PlacedBy unasked slot u slot s v (Command.Branch name target) reply
+unnamed_placed slot u s v name target reply is = by reply (subst NamesNone is (names_none s.repository target))
   where
-    by : (reply : Reply) → IsUnnamed reply → PlacedBy unasked slot slot s v (Command.Branch name target) reply
-    by (Reply.NoBranch other) un = unmoved slot slot s v (Command.Branch name target) (Reply.NoBranch other) unasked (λ h. h) (λ l e. absurd (cc e)) refl
-    by (Reply.NoCommit hash) un = unmoved slot slot s v (Command.Branch name target) (Reply.NoCommit hash) unasked (λ h. h) (λ l e. absurd (cc e)) refl
+    by : (reply : Reply) → IsUnnamed reply → PlacedBy unasked slot u slot s v (Command.Branch name target) reply
+    by (Reply.NoBranch other) un = unmoved slot u slot s v (Command.Branch name target) (Reply.NoBranch other) unasked (λ h. h) (λ l e. absurd (cc e)) (λ t e. absurd (cc e)) refl
+    by (Reply.NoCommit hash) un = unmoved slot u slot s v (Command.Branch name target) (Reply.NoCommit hash) unasked (λ h. h) (λ l e. absurd (cc e)) (λ t e. absurd (cc e)) refl
     by _ un = absurd un
 
 -- ---- the others
 
 pub read_placed : (rule : Rule) (tells : Bool) (a b : Told) (s s' : Session) (command : Command) → IsTrue tells → (r : Repository) (v : View) → IsWorking a s r v → (result : Result Reply SessionEnd) → is_durable command ≡ false → HasRead tells a b s s' command result
-    → IfOk result (PlacedBy rule s.store.slot s'.store.slot (state_in s r v) v command)
+    → IfOk result (PlacedBy rule s.store.slot s.store.unswept s'.store.slot (state_in s r v) v command)
 read_placed rule tells a b s s' command told r v here (Ok reply) quiet has =
     let looks = has.looks told in
     record {
@@ -204,27 +208,22 @@ read_placed rule tells a b s s' command told r v here (Ok reply) quiet has =
       quiet = λ not. still_slot s.store s'.store r r a b here.holds (looks.holds r here.holds) looks.reads.only;
       space = λ durable. absurd (cc (sym durable ∙ quiet));
       sequence = λ durable. absurd (cc (sym durable ∙ quiet));
+      attempt = λ target is. absurd (cc (sym quiet ∙ ap is_durable is));
     }
 read_placed rule tells a b s s' command told r v here (Err end) quiet has = tt
 
 -- ---- lines
 
-pub lined_placed : (rule : Rule) (slot slot' : Slot) (s : State) (v : View) (command : Command) (line : Bytes) (result : Result Reply SessionEnd) → IsServedLine command line → ((other : Command) → IsServedLine other line → other ≡ command)
-    → IfOk result (PlacedBy rule slot slot' s v command) → IfOk result (PlacedIn rule slot slot' s v line)
-lined_placed rule slot slot' s v command line (Ok reply) served one placed = record {
-  command = λ other spelled. subst (λ (c : Command). PlacedBy rule slot slot' s v c reply) (sym (one other spelled)) placed;
+pub lined_placed : (rule : Rule) (slot : Slot) (u : Unswept) (slot' : Slot) (s : State) (v : View) (command : Command) (line : Bytes) (result : Result Reply SessionEnd) → IsServedLine command line → ((other : Command) → IsServedLine other line → other ≡ command)
+    → IfOk result (PlacedBy rule slot u slot' s v command) → IfOk result (PlacedIn rule slot u slot' s v line)
+lined_placed rule slot u slot' s v command line (Ok reply) served one placed = record {
+  command = λ other spelled. subst (λ (c : Command). PlacedBy rule slot u slot' s v c reply) (sym (one other spelled)) placed;
   none = λ none. absurd (none command served);
 }
-lined_placed rule slot slot' s v command line (Err end) served one placed = tt
+lined_placed rule slot u slot' s v command line (Err end) served one placed = tt
 
-pub quiet_placed : (rule : Rule) (slot : Slot) (s : State) (v : View) (line : Bytes) (reply : Reply) → ((command : Command) → ¬ IsDurable reply command) → ((l : Limit) → reply ≢ Reply.Limit l) → PlacedIn rule slot slot s v line reply
-quiet_placed rule slot s v line reply not none = record {
-  command = λ command served. unmoved slot slot s v command reply rule (not command) none refl;
-  none = λ _. refl;
-}
-
-pub memory_placed : (rule : Rule) (slot slot' : Slot) (s : State) (v : View) (line : Bytes) (reply : Reply) → ((command : Command) → IsServedLine command line → ¬ IsDurable reply command) → PlacedIn rule slot slot' s v line reply → PlacedIn rule slot slot' s v line Reply.Memory
-memory_placed rule slot slot' s v line reply not placed = record {
-  command = λ command served. unmoved slot slot' s v command Reply.Memory rule (λ h. h) (λ l is. absurd (cc is)) ((placed.command command served).quiet (not command served));
-  none = placed.none;
+pub quiet_placed : (rule : Rule) (slot : Slot) (u : Unswept) (slot' : Slot) (s : State) (v : View) (line : Bytes) (reply : Reply) → ((command : Command) → ¬ IsDurable reply command) → ((l : Limit) → reply ≢ Reply.Limit l) → AttemptsLeft slot reply → slot' ≡ slot → PlacedIn rule slot u slot' s v line reply
+quiet_placed rule slot u slot' s v line reply not none left same = record {
+  command = λ command served. unmoved slot u slot' s v command reply rule (not command) none (λ target is. left) same;
+  none = λ _. same;
 }

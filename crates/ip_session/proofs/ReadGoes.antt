@@ -3,8 +3,7 @@
 --     read_serves      the session goes on serving, whatever is told.      read_goes      it is answered.      read_cut      a fault of the ground or of its files cut it short
 use Rattle.std.proofs.Common.{◌≡◌, ℕ, Bool, true, false, refl, sym, ◌∙◌, subst, Option, Ok, Err, IsTrue}
 use Rattle.std.specs.Prelude.{Result, IfOk, OnErr}
-use Rattle.ip_ground.specs.Told.{Told, NoFile}
-use Rattle.ip_ground.proofs.Spans.{only_more}
+use Rattle.ip_ground.specs.Told.{Told}
 use Rattle.ip_image.proofs.HeadlineLaws.{pending_passes}
 use Rattle.ip_spec.specs.declared.command.Command.{Command}
 use Rattle.ip_spec.specs.declared.met.Met.{Met}
@@ -22,7 +21,8 @@ use Rattle.ip_store.specs.Work.{IsLawful, work_at}
 use Rattle.ip_store.proofs.Machine.{AsksNone}
 use Rattle.ip_session.specs.declared.session.Session.{Session}
 use Rattle.ip_session.specs.declared.session.SessionEnd.{SessionEnd}
-use Rattle.ip_session.specs.Session.{unasked, IsServing, IsWorking, state_in, met_only, conditions_of, is_durable, IsDurable, ChangedBy, TouchedBy, IsAnswered, HasRead, GoesBy, CutBy}
+use Rattle.ip_session.specs.Session.{unasked, attempt_of, IsServing, IsWorking, state_in, met_only, conditions_of, is_durable, IsDurable, ChangedBy, TouchedBy, IsAnswered, HasRead, GoesBy, CutBy}
+use Rattle.ip_session.proofs.Changing.{nothing_by, keeps_nothing}
 use Rattle.ip_session.proofs.SessionLemmas.{plainly}
 use Rattle.ip_session.proofs.DurableGoes.{keeps_still}
 
@@ -32,6 +32,8 @@ none_durable (Reply.Forward hash) (Command.Merge target branch info) e h = absur
 none_durable (Reply.Merged hash) (Command.Merge target branch info) e h = absurd (cc e)
 none_durable Reply.Accepted (Command.Branch name target) e h = absurd (cc e)
 none_durable Reply.Accepted (Command.BranchRm name) e h = absurd (cc e)
+none_durable (Reply.Started hash) (Command.Collect target) e h = absurd (cc e)
+none_durable Reply.StartFault (Command.Collect target) e h = absurd (cc e)
 none_durable _ _ e h = absurd h
 
 -- the turns of all commands but merges are the machine's one answer
@@ -54,11 +56,13 @@ module _ (rule : Rule) (a b : Told) (s s' : Session) (r : Repository) (v : View)
         gives = by_any_rule rule (state_in s r v) command (conditions_of s'.met) reply (state_in s' r A.view) quiet A.gives;
         seen = A.seen;
         is_at = record { holds = holds; lawful = subst (λ (records : ℕ → Option Record). IsLawful records r s'.work A.view) (sym (looks.records r here.holds holds)) A.lawful };
-        only = only_more a b NoFile (ChangedBy a.held command reply) (λ file none. absurd none) looks.reads.only;
+        only = nothing_by (attempt_of s.store command) (ChangedBy s.store a.held command reply) a b looks.reads.only;
+        files = keeps_nothing a b looks.reads.only;
+        said = looks.reads.only.said;
         atomic = λ order. keeps_still s.store r r a b here.holds order looks.reads.only;
         nothing_pending = λ order. pending_passes a b looks.reads.only.goes (λ file. looks.reads.only.others file (λ none. none)) looks.reads.only.lending order;
         spared = λ long. let x = A.spared long in record { same = x.same; seen = x.seen; refused = by_any_rule rule (state_in s r v) command (conditions_of (met_only true)) Reply.Memory (state_in s r v) quiet x.refused };
-        still = λ long file changed. none_durable reply command quiet changed.0;
+        still = λ long. looks.reads.only;
       }
 
   -- the machine's answer, where nothing was met
@@ -70,7 +74,9 @@ module _ (rule : Rule) (a b : Told) (s s' : Session) (r : Repository) (v : View)
         after = t.1;
         gives = subst (λ (m : Met). Step rule (state_in s r v) command (conditions_of m) t.0 t.1) (sym e)
             (plainly r (phase_of s.store.collection) (work_at s.work v) command false t.0 asks (λ h. absurd (cc h)), plain rule (state_in s r v) command (conditions_of (met_only false)) quiet);
-        only = only_more a b NoFile (TouchedBy a.held command) (λ file none. absurd none) looks.reads.only;
+        only = nothing_by (attempt_of s.store command) (TouchedBy s.store a.held command) a b looks.reads.only;
+        files = keeps_nothing a b looks.reads.only;
+        said = looks.reads.only.said;
         atomic = λ order. keeps_still s.store r t.1.repository a b here.holds order looks.reads.only;
       }
 

@@ -126,6 +126,7 @@ same_on store mid now one two = record {
   history = two.history ∙ one.history;
   space = two.space ∙ one.space;
   collection = two.collection ∙ one.collection;
+  unswept = two.unswept ∙ one.unswept;
 }
 
 -- ---- what comes of a call that failed

@@ -4,11 +4,11 @@
 --     written_goes      what was written of its reply
 use Rattle.std.proofs.Common.{◌≡◌, inl, inr, ℕ, ◌^◌, ◌<◌, Bool, true, false, refl, sym, subst, arith, Ok, Err, IsTrue, length}
 use Rattle.std.specs.Prelude.{Result, IfOk, OnErr}
-use Rattle.ip_ground.specs.declared.names.FileName.{FileName}
-use Rattle.ip_ground.specs.declared.names.FileName.TheVariants.{Control}
-use Rattle.ip_ground.specs.Contents.{Image}
-use Rattle.ip_ground.specs.Told.{Told}
-use Rattle.ip_ground.proofs.Spans.{no_moment, only_nowhere, only_more}
+use Rattle.ip_ground.specs.declared.names.GroundCounts.{GroundCounts}
+use Rattle.ip_ground.specs.Told.{Told, NoFile, ChangesOnly}
+use Rattle.ip_ground.proofs.Spans.{no_moment, only_nowhere}
+use Rattle.ip_spawn.specs.Children as spawn
+use Rattle.ip_spawn.specs.declared.spawner.SpawnCounts.{SpawnCounts}
 use Rattle.ip_spec.specs.declared.command.Command.{Command}
 use Rattle.ip_spec.specs.declared.met.Met.{Met}
 use Rattle.ip_spec.specs.declared.reply.Reply.{Reply}
@@ -25,26 +25,31 @@ use Rattle.ip_script.specs.Served.{IsServedLine}
 use Rattle.ip_session.specs.declared.session.Session.{Session}
 use Rattle.ip_session.specs.declared.session.SessionEnd.{SessionEnd}
 use Rattle.ip_store.specs.Views.{IsViewAfter}
-use Rattle.ip_session.specs.Session.{IsWorking, state_in, met_only, conditions_of, IsLong, Writes, IsDurable, ChangedBy, ChangedIn, TouchedBy, TouchedIn, IsViewIn, Goes, GoesBy, GoesIn, CutBy, CutIn}
+use Rattle.ip_session.specs.Asking.{QuietIfLong, Spawns}
+use Rattle.ip_session.specs.Session.{CountsIn, IsWorking, state_in, met_only, conditions_of, IsLong, Writes, OnlyBy, OnlyIn, IsViewIn, Goes, GoesBy, GoesIn, CutBy, CutIn}
 use Rattle.ip_session.proofs.Seeing.{memory_seen, bad_seen}
 use Rattle.ip_session.specs.Placing.{PlacedIn}
-use Rattle.ip_session.proofs.Placing.{memory_placed}
+use Rattle.ip_session.proofs.Asking.{unwritten, whole_asked}
+use Rattle.ip_session.proofs.Changing.{nothing_only, keeps_nothing}
+use Rattle.ip_session.proofs.Placing.{quiet_placed, still_slot}
 use Rattle.ip_session.proofs.SessionLemmas.{memory_is_short, bad_is_short, bad_line}
 
 -- nothing changed but what was met
-pub still_goes : (a : Told) (s : Session) (met : Met) (r : Repository) (v : View) (here : IsWorking a s r v) (Changed : Reply → FileName → Type 0) (Gives : Conditions → Reply → State → Type 0) (Views : Reply → View → Type 0) (reply : Reply) → Gives (conditions_of met) reply (state_in s r v) → Views reply v
-    → (IsLong reply → Gives (conditions_of (met_only true)) Reply.Memory (state_in s r v)) → ((file : FileName) → ¬ Changed reply file) → Goes a a s (record s { met = met }) r v Changed Gives Views reply
-still_goes a s met r v here Changed Gives Views reply gives seen refused none = record {
+pub still_goes : (a : Told) (s : Session) (met : Met) (r : Repository) (v : View) (here : IsWorking a s r v) (Only : Reply → Type 0) (Gives : Conditions → Reply → State → Type 0) (Views : Reply → View → Type 0) (reply : Reply) → Gives (conditions_of met) reply (state_in s r v) → Views reply v
+    → (IsLong reply → Gives (conditions_of (met_only true)) Reply.Memory (state_in s r v)) → Only reply → Goes a a s (record s { met = met }) r v Only Gives Views reply
+still_goes a s met r v here Only Gives Views reply gives seen refused none = record {
   after = r;
   view = v;
   gives = gives;
   is_at = here;
   seen = seen;
-  only = only_nowhere a (Changed reply);
+  only = none;
+  files = keeps_nothing a a (only_nowhere a NoFile);
+  said = (only_nowhere a NoFile).said;
   atomic = λ order t late le. absurd (no_moment a.moment t late le);
   nothing_pending = λ order. order;
   spared = λ long. record { same = refl; seen = refl; refused = refused long };
-  still = λ long. none;
+  still = λ long. only_nowhere a NoFile;
 }
 
 -- ---- lines
@@ -58,11 +63,13 @@ lined rule a b s s' met r v command line reply served one h = record {
   gives = inl (command, served, h.gives);
   is_at = h.is_at;
   seen = record { command = λ other spelled. subst (λ (c : Command). IsViewAfter r v c reply h.view) (sym (one other spelled)) h.seen; none = λ none. absurd (none command served) };
-  only = only_more a b (ChangedBy a.held command reply) (ChangedIn a.held line reply) (λ file changed. (command, served, changed)) h.only;
+  only = record { command = λ other spelled. subst (λ (c : Command). OnlyBy s.store a b c reply) (sym (one other spelled)) h.only; none = λ none. absurd (none command served) };
+  files = h.files;
+  said = h.said;
   atomic = h.atomic;
   nothing_pending = h.nothing_pending;
   spared = λ long. let x = h.spared long in record { same = x.same; seen = x.seen; refused = inl (command, served, x.refused) };
-  still = λ long file (other, spelled, changed). h.still long file (subst (λ (c : Command). ChangedBy a.held c reply file) (one other spelled) changed);
+  still = h.still;
 }
 
 pub lined_ok : (rule : Rule) (a b : Told) (s s' : Session) (met : Met) (r : Repository) (v : View) (command : Command) (line : Bytes) (result : Result Reply SessionEnd) → IsServedLine command line → ((other : Command) → IsServedLine other line → other ≡ command)
@@ -73,20 +80,16 @@ lined_ok rule a b s s' met r v command line (Err end) served one h = tt
 pub lined_cut : (rule : Rule) (a b : Told) (s s' : Session) (met : Met) (r : Repository) (v : View) (command : Command) (line : Bytes) (result : Result Reply SessionEnd) → IsServedLine command line
     → OnErr result (CutBy rule a b (record s { met = met }) s' r v command) → OnErr result (CutIn rule a b s s' r v line)
 lined_cut rule a b s s' met r v command line (Ok reply) served h = tt
-lined_cut rule a b s s' met r v command line (Err end) served h = record { reply = h.reply; after = h.after; gives = inl (command, served, h.gives); only = only_more a b (TouchedBy a.held command) (TouchedIn a.held line) (λ file touched. (command, served, touched)) h.only; atomic = h.atomic }
-
--- a reply that none of the durable commands has
-none_changed : (image : Image) (line : Bytes) (reply : Reply) → ((command : Command) → ¬ IsDurable reply command) → (file : FileName) → ¬ ChangedIn image line reply file
-none_changed image line reply none file changed = none changed.0 changed.2.0
+lined_cut rule a b s s' met r v command line (Err end) served h = record { reply = h.reply; after = h.after; gives = inl (command, served, h.gives); only = (command, served, h.only); files = h.files; said = h.said; atomic = h.atomic }
 
 -- a line that is no command
 pub bad_goes : (rule : Rule) (a : Told) (s : Session) (met : Met) (r : Repository) (v : View) (here : IsWorking a s r v) (line : Bytes) (place : ℕ) → met ≡ met_only false → IsBadAt IsServedLine line place → length line < 2 ^ 64
     → GoesIn rule a a s (record s { met = met }) r v line (Reply.Bad place)
-bad_goes rule a s met r v here line place e bad small = still_goes a s met r v here (ChangedIn a.held line) (LineStep IsServedLine rule (state_in s r v) line) (IsViewIn r v line) (Reply.Bad place)
+bad_goes rule a s met r v here line place e bad small = still_goes a s met r v here (OnlyIn s.store a a line) (LineStep IsServedLine rule (state_in s r v) line) (IsViewIn r v line) (Reply.Bad place)
     (subst (λ (m : Met). LineStep IsServedLine rule (state_in s r v) line (conditions_of m) (Reply.Bad place) (state_in s r v)) (sym e) (bad_line rule (state_in s r v) line place bad))
     (record { command = λ command served. bad_seen r v command place; none = λ none. refl })
     (λ long. absurd (bad_is_short place line bad.in_line small long))
-    (none_changed a.held line (Reply.Bad place) (λ command h. h))
+    (nothing_only s.store a a line (Reply.Bad place) (only_nowhere a NoFile))
 
 refused_in : (r : Repository) (v : View) (line : Bytes) → IsViewIn r v line Reply.Memory v
 refused_in r v line = record { command = λ command served. memory_seen r v command; none = λ none. refl }
@@ -96,28 +99,30 @@ pub refused_goes : (rule : Rule) (a : Told) (s : Session) (met : Met) (r : Repos
     → LineStep IsServedLine rule (state_in s r v) line (conditions_of (met_only true)) Reply.Memory (state_in s r v)
     → GoesIn rule a a s (record s { met = met }) r v line reply
 refused_goes rule a s met r v here line reply e is_memory gives = subst (GoesIn rule a a s (record s { met = met }) r v line) (sym is_memory)
-    (still_goes a s met r v here (ChangedIn a.held line) (LineStep IsServedLine rule (state_in s r v) line) (IsViewIn r v line) Reply.Memory
+    (still_goes a s met r v here (OnlyIn s.store a a line) (LineStep IsServedLine rule (state_in s r v) line) (IsViewIn r v line) Reply.Memory
     (subst (λ (m : Met). LineStep IsServedLine rule (state_in s r v) line (conditions_of m) Reply.Memory (state_in s r v)) (sym e) gives)
     (refused_in r v line)
     (λ long. gives)
-    (none_changed a.held line Reply.Memory (λ command h. h)))
+    (nothing_only s.store a a line Reply.Memory (only_nowhere a NoFile)))
 
 -- ---- texts
 
 -- there was no memory for a long text
-memory_instead : (a b : Told) (s s' : Session) (met : Met) (r : Repository) (v : View) (Changed : Reply → FileName → Type 0) (Gives : Conditions → Reply → State → Type 0) (Views : Reply → View → Type 0) (reply : Reply) → Goes a b s s' r v Changed Gives Views reply → IsLong reply → met ≡ met_only true
-    → Views Reply.Memory v → ((file : FileName) → ¬ Changed Reply.Memory file) → Goes a b s (record s' { met = met }) r v Changed Gives Views Reply.Memory
-memory_instead a b s s' met r v Changed Gives Views reply h long e seen none = record {
+memory_instead : (a b : Told) (s s' : Session) (met : Met) (r : Repository) (v : View) (Only : Reply → Type 0) (Gives : Conditions → Reply → State → Type 0) (Views : Reply → View → Type 0) (reply : Reply) → Goes a b s s' r v Only Gives Views reply → IsLong reply → met ≡ met_only true
+    → Views Reply.Memory v → (ChangesOnly NoFile a b → Only Reply.Memory) → Goes a b s (record s' { met = met }) r v Only Gives Views Reply.Memory
+memory_instead a b s s' met r v Only Gives Views reply h long e seen none = record {
   after = h.after;
   view = h.view;
   gives = let x = h.spared long in subst (λ (m : Met). Gives (conditions_of m) Reply.Memory (state_in s' h.after h.view)) (sym e) (subst (Gives (conditions_of (met_only true)) Reply.Memory) (sym x.same) x.refused);
   is_at = h.is_at;
   seen = subst (Views Reply.Memory) (sym (h.spared long).seen) seen;
-  only = only_more a b (Changed reply) (Changed Reply.Memory) (λ file changed. absurd (h.still long file changed)) h.only;
+  only = none (h.still long);
+  files = h.files;
+  said = h.said;
   atomic = h.atomic;
   nothing_pending = h.nothing_pending;
   spared = λ again. absurd (omega (arith, again, memory_is_short));
-  still = λ again. none;
+  still = λ again. h.still long;
 }
 
 -- of what the ground tells
@@ -125,18 +130,29 @@ abbrev Tells : (tells : Bool) (rule : Rule) (a b : Told) (s s' : Session) (line 
 Tells tells rule a b s s' line reply = IsTrue tells → IsDecisive rule → (r : Repository) (v : View) → IsWorking a s r v → GoesIn rule a b s s' r v line reply
 
 abbrev Places : (tells : Bool) (rule : Rule) (a : Told) (s s' : Session) (line : Bytes) (reply : Reply) → Type 0
-Places tells rule a s s' line reply = IsTrue tells → IsDecisive rule → (r : Repository) (v : View) → IsWorking a s r v → PlacedIn rule s.store.slot s'.store.slot (state_in s r v) v line reply
+Places tells rule a s s' line reply = IsTrue tells → IsDecisive rule → (r : Repository) (v : View) → IsWorking a s r v → PlacedIn rule s.store.slot s.store.unswept s'.store.slot (state_in s r v) v line reply
 
 -- what was written of its reply
-pub written_goes : (tells : Bool) (rule : Rule) (a b : Told) (s s' : Session) (met : Met) (line : Bytes) (reply : Reply) (text : Bytes) → Tells tells rule a b s s' line reply → Writes reply s'.met met text
-    → Places tells rule a s s' line reply → (written : Reply) × (text ≡ reply_text written) × (IsTrue tells → IsDecisive rule → (r : Repository) (v : View) → IsWorking a s r v → GoesIn rule a b s (record s' { met = met }) r v line written × PlacedIn rule s.store.slot s'.store.slot (state_in s r v) v line written)
-written_goes tells rule a b s s' met line reply text goes (inl whole) placed =
-    (reply, whole.1, λ told decisive r v here. (subst (λ (m : Met). GoesIn rule a b s (record s' { met = m }) r v line reply) (sym whole.0) (goes told decisive r v here), placed told decisive r v here))
-written_goes tells rule a b s s' met line reply text goes (inr refused) placed = (
-  Reply.Memory,
-  refused.2,
-  λ told decisive r v here. (
-    memory_instead a b s s' met r v (ChangedIn a.held line) (LineStep IsServedLine rule (state_in s r v) line) (IsViewIn r v line) reply (goes told decisive r v here) refused.0 refused.1 (refused_in r v line) (none_changed a.held line Reply.Memory (λ command h. h)),
-    memory_placed rule s.store.slot s'.store.slot (state_in s r v) v line reply (λ command served done. (goes told decisive r v here).still refused.0 Control (command, served, (done, inl refl))) (placed told decisive r v here),
-  ),
-)
+module _ (tells : Bool) (rule : Rule) (a b : Told) (s s' : Session) (met : Met) (line : Bytes) (reply : Reply) where
+  abbrev Written : Reply → Type 0
+  Written written = IsTrue tells → IsDecisive rule → (r : Repository) (v : View) → IsWorking a s r v → GoesIn rule a b s (record s' { met = met }) r v line written × PlacedIn rule s.store.slot s.store.unswept s'.store.slot (state_in s r v) v line written
+
+  whole_goes : met ≡ s'.met → Tells tells rule a b s s' line reply → Places tells rule a s s' line reply → Written reply
+  whole_goes is goes placed told decisive r v here = (subst (λ (m : Met). GoesIn rule a b s (record s' { met = m }) r v line reply) (sym is) (goes told decisive r v here), placed told decisive r v here)
+
+  memory_goes : IsLong reply → met ≡ met_only true → Tells tells rule a b s s' line reply → Written Reply.Memory
+  memory_goes long is goes told decisive r v here =
+      let went = goes told decisive r v here in (
+        memory_instead a b s s' met r v (OnlyIn s.store a b line) (LineStep IsServedLine rule (state_in s r v) line) (IsViewIn r v line) reply went long is (refused_in r v line) (nothing_only s.store a b line Reply.Memory),
+        quiet_placed rule s.store.slot s.store.unswept s'.store.slot (state_in s r v) v line Reply.Memory (λ command h. h) (λ l is. absurd (cc is)) tt (still_slot s.store s'.store r went.after a b here.holds went.is_at.holds (went.still long)),
+      )
+
+  module _ (spawner_tells : Bool) (x y : spawn.Told) (m n : SpawnCounts) (old new : GroundCounts) (text : Bytes) where
+    pub written_goes : Tells tells rule a b s s' line reply → Writes reply s'.met met text → Places tells rule a s s' line reply → Spawns spawner_tells x y s s' line (Ok reply) m n → CountsIn line (Ok reply) s'.met old new → QuietIfLong old new reply
+        → (written : Reply) × (text ≡ reply_text written) × Spawns spawner_tells x y s (record s' { met = met }) line (Ok written) m n × CountsIn line (Ok written) met old new × Written written
+    written_goes goes (inl whole) placed spawns counts quiet =
+        let told = whole_asked spawner_tells x y s s' met line reply m n old new spawns counts whole.0 in
+        (reply, whole.1, told.0, told.1, whole_goes whole.0 goes placed)
+    written_goes goes (inr refused) placed spawns counts quiet =
+        let told = unwritten spawner_tells x y s s' met line reply m n old new spawns refused.0 quiet refused.1 in
+        (Reply.Memory, refused.2, told.0, told.1, memory_goes refused.0 refused.1 goes)

@@ -265,6 +265,9 @@ commit_refused branch info r phase w = (plainly r phase w (Command.Commit branch
 pub merge_refused : (target : Target) (branch : Bytes) (info : Info) → Refusable (Command.Merge target branch info)
 merge_refused target branch info r phase w = (plainly r phase w (Command.Merge target branch info) true Reply.Memory tt (λ h. tt), (refl, sym (unkept (at r phase w) phase)))
 
+pub collect_refused : (target : Target) → Refusable (Command.Collect target)
+collect_refused target r phase w = (plainly r phase w (Command.Collect target) true Reply.Memory tt (λ h. tt), (refl, sym (unkept (at r phase w) phase)))
+
 -- ---- texts that are short
 
 pub ok_is_short : IsLong Reply.Accepted → ⊥
@@ -279,6 +282,27 @@ pub at_is_short : (name : Hash) → length name ≡ 32 → IsLong (Reply.At name
 unfolding reply_text
 at_is_short name long_name long =
     omega (arith, long, long_name, hex_long name, length-append (codes "at" ++ space ∷ hex_text name) (10 ∷ []), length-append (codes "at") (space ∷ hex_text name))
+
+pub started_is_short : (name : Hash) → length name ≡ 32 → IsLong (Reply.Started name) → ⊥
+unfolding reply_text
+started_is_short name long_name long =
+    omega (arith, long, long_name, hex_long name, length-append (codes "started" ++ space ∷ hex_text name) (10 ∷ []), length-append (codes "started") (space ∷ hex_text name))
+
+pub start_fault_is_short : IsLong Reply.StartFault → ⊥
+unfolding reply_text
+start_fault_is_short long = omega (arith, long)
+
+pub cancelled_is_short : IsLong Reply.Cancelled → ⊥
+unfolding reply_text
+cancelled_is_short long = omega (arith, long)
+
+pub orphan_is_short : IsLong Reply.CancelledOrphan → ⊥
+unfolding reply_text
+orphan_is_short long = omega (arith, long)
+
+pub idle_is_short : IsLong Reply.Idle → ⊥
+unfolding reply_text
+idle_is_short long = omega (arith, long)
 
 pub memory_is_short : length (reply_text Reply.Memory) ≤ 4096
 unfolding reply_text
@@ -351,6 +375,7 @@ pub line_refused : (rule : Rule) (r : Repository) (phase : Phase) (w : Work) (li
 line_refused rule r phase w line (inr (place, bad)) words = inr (record { at = place; bad = bad; unasked = refl; refused = λ h. words; reply_is = refl; same = refl })
 line_refused rule r phase w line (inl (Command.Empty, is)) words = let one : has_space line ≡ false = ap has_space is.1 in absurd (cc (one, words))
 line_refused rule r phase w line (inl (Command.Stat, is)) words = let one : has_space line ≡ false = ap has_space is.1 in absurd (cc (one, words))
+line_refused rule r phase w line (inl (Command.Cancel, is)) words = let one : has_space line ≡ false = ap has_space is.1 in absurd (cc (one, words))
 line_refused rule r phase w line (inl (Command.Set path bytes, is)) words = inl (Command.Set path bytes, is, set_refused path bytes r phase w)
 line_refused rule r phase w line (inl (Command.Get path, is)) words = inl (Command.Get path, is, get_refused path r phase w)
 line_refused rule r phase w line (inl (Command.Checkout target, is)) words = inl (Command.Checkout target, is, checkout_refused target r phase w)
@@ -368,6 +393,7 @@ line_refused rule r phase w line (inl (Command.Show target, is)) words = inl (Co
 line_refused rule r phase w line (inl (Command.Log target, is)) words = inl (Command.Log target, is, log_refused target r phase w)
 line_refused rule r phase w line (inl (Command.Lcas one other, is)) words = inl (Command.Lcas one other, is, lcas_refused one other r phase w)
 line_refused rule r phase w line (inl (Command.Hash bytes, is)) words = inl (Command.Hash bytes, is, hash_refused bytes r phase w)
+line_refused rule r phase w line (inl (Command.Collect target, is)) words = inl (Command.Collect target, is, collect_refused target r phase w)
 line_refused rule r phase w line (inl (_, is)) words = absurd is.0
 
 -- memory was refused, so there was more than one word

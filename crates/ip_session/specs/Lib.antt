@@ -1,3 +1,5 @@
 pub mod Session
 pub mod Placing
 pub mod Running
+pub mod Asking
+pub mod Starting

@@ -1,13 +1,15 @@
 -- Where the records of a command come to lie, and which limit is met.
 --     appended slot s v command      the records that it appends where nothing refuses it, in a state whose tree has this view.      commits_in command      how many commits are among them
+--     slot_behind command slot length commits      the slot behind them.      AttemptsLeft slot reply      there was an attempt left, or none
 --     IsAppended rule slot s v command more commits      these are its records, and so many commits among them
 --     OfRecords Appended Says      of some that it appends this is so, by how many bytes and how many commits they are
---     Placed slot slot' Appended command reply      the slot before and after a command with this reply, by which records it appends
---     PlacedBy rule slot slot' s v command reply, PlacedIn rule slot slot' s v line reply      so of a command, and of a line
+--     Placed slot u slot' Appended command reply      the slot before and after a command with this reply, by which records it appends, of a store in which this was unswept
+--     PlacedBy rule slot u slot' s v command reply, PlacedIn rule slot u slot' s v line reply      so of a command, and of a line
 use Rattle.std.specs.Prelude.{◌≡◌, ℕ, Option, ◌+◌, ◌<◌, ◌≤◌, true, length, [], ◌∷◌, Result, Ok, Err}
 use Rattle.ip_base.specs.declared.limit.TheConstants.{OFFSET_MAX}
 use Rattle.ip_base.specs.declared.limit.Limit.{Limit}
 use Rattle.ip_spec.specs.declared.command.Command.{Command}
+use Rattle.ip_spec.specs.declared.command.Target.{Target}
 use Rattle.ip_spec.specs.declared.record.Record.{Record}
 use Rattle.ip_spec.specs.declared.record.Record.TheVariants as record_of
 use Rattle.ip_spec.specs.declared.reply.Reply.{Reply}
@@ -20,8 +22,11 @@ use Rattle.ip_spec.specs.View.{View}
 use Rattle.ip_script.specs.Served.{IsServedLine}
 use Rattle.ip_image.specs.declared.slot.Slot.{Slot}
 use Rattle.ip_image.specs.Appending.{fields_of, grown_batch, bytes_of_records}
+use Rattle.ip_store.specs.declared.collection.Unswept.{Unswept}
 use Rattle.ip_store.specs.Changes.{next_slot}
+use Rattle.ip_store.specs.Collecting.{carrying}
 use Rattle.ip_store.specs.Merging.{MergeAppends}
+use Rattle.ip_store.specs.Starting.{table_of, begun_slot}
 use Rattle.ip_session.specs.Session.{is_durable, IsDurable}
 
 abbrev pub named_record : ℕ → Bytes → Result ℕ Reply → Records
@@ -33,16 +38,30 @@ abbrev pub appended : Slot → State → View → Command → Records
 appended slot s v (Command.Commit branch info) = grown_batch v (fields_of s.repository s.work.parents info branch) slot.end
 appended slot s v (Command.Branch name target) = named_record slot.end name (resolve s.repository target)
 appended slot s v (Command.BranchRm name) = (slot.end, record_of.BranchRemove name) ∷ []
+appended slot s v (Command.Collect target) = (slot.end, table_of s.repository) ∷ []
 appended slot s v command = []
 
 abbrev pub commits_in : Command → ℕ
 commits_in (Command.Commit branch info) = 1
 commits_in command = 0
 
+-- a collection draws an attempt besides
+abbrev pub slot_behind : Command → Slot → (length commits : ℕ) → Slot
+slot_behind (Command.Collect target) slot length commits = begun_slot slot length
+slot_behind command slot length commits = next_slot slot length commits
+
 -- those of a merge depend on which parts the trees have in one record, by whatever records spell them
 abbrev pub IsAppended : Rule → Slot → State → View → Command → Records → ℕ → Type 0
 IsAppended rule slot s v (Command.Merge target branch info) more commits = (number : ℕ) × (resolve s.repository target ≡ Ok number) × (records : ℕ → Option Record) × MergeAppends rule records s.repository number branch info slot.end more commits
 IsAppended rule slot s v command more commits = (more ≡ appended slot s v command) × (commits ≡ commits_in command)
+
+-- where that many are drawn there is none left
+abbrev pub AttemptsLeft : Slot → Reply → Type 0
+AttemptsLeft slot (Reply.Limit Limit.Attempt) = slot.next_attempt ≡ OFFSET_MAX
+AttemptsLeft slot (Reply.Limit limit) = slot.next_attempt < OFFSET_MAX
+AttemptsLeft slot (Reply.Started name) = slot.next_attempt < OFFSET_MAX
+AttemptsLeft slot Reply.StartFault = slot.next_attempt < OFFSET_MAX
+AttemptsLeft slot reply = Unit {0}
 
 pub record OfRecords (Appended : Records → ℕ → Type 0) (Says : (length commits : ℕ) → Type 0) : Type 0 where
   pub more : Records
@@ -50,16 +69,18 @@ pub record OfRecords (Appended : Records → ℕ → Type 0) (Says : (length com
   pub are : Appended more commits
   pub so : Says (length (bytes_of_records more)) commits
 
--- A place is at most the greatest offset, and a sequence before a durable command is below it: no other reply of the two limits comes, and none where they are kept.
-pub record Placed (slot slot' : Slot) (Appended : Records → ℕ → Type 0) (command : Command) (reply : Reply) : Type 0 where
-  pub done : IsDurable reply command → OfRecords Appended (λ length commits. (slot' ≡ next_slot slot length commits) × (slot.end + length ≤ OFFSET_MAX) × (slot.sequence < OFFSET_MAX))
+-- A place is at most the greatest offset, and a sequence before a durable command is below it: no other reply of the two limits comes, and none where they are kept. The slot behind says what was unswept.
+pub record Placed (slot : Slot) (u : Unswept) (slot' : Slot) (Appended : Records → ℕ → Type 0) (command : Command) (reply : Reply) : Type 0 where
+  pub done : IsDurable reply command → OfRecords Appended (λ length commits. (slot' ≡ slot_behind command (carrying slot u) length commits) × (slot.end + length ≤ OFFSET_MAX) × (slot.sequence < OFFSET_MAX))
   pub quiet : ¬ IsDurable reply command → slot' ≡ slot
   pub space : is_durable command ≡ true → reply ≡ Reply.Limit Limit.Space → OfRecords Appended (λ length commits. OFFSET_MAX < slot.end + length)
   pub sequence : is_durable command ≡ true → reply ≡ Reply.Limit Limit.Sequence → OfRecords Appended (λ length commits. (slot.end + length ≤ OFFSET_MAX) × (slot.sequence ≡ OFFSET_MAX))
+  -- of a collection: it is begun, or one of the two limits is met, only where there is an attempt left, and else that limit is met
+  pub attempt : (target : Target) → command ≡ Command.Collect target → AttemptsLeft slot reply
 
-abbrev pub PlacedBy : Rule → Slot → Slot → State → View → Command → Reply → Type 0
-PlacedBy rule slot slot' s v command reply = Placed slot slot' (IsAppended rule slot s v command) command reply
+abbrev pub PlacedBy : Rule → Slot → Unswept → Slot → State → View → Command → Reply → Type 0
+PlacedBy rule slot u slot' s v command reply = Placed slot u slot' (IsAppended rule slot s v command) command reply
 
-pub record PlacedIn (rule : Rule) (slot slot' : Slot) (s : State) (v : View) (line : Bytes) (reply : Reply) : Type 0 where
-  pub command : (command : Command) → IsServedLine command line → PlacedBy rule slot slot' s v command reply
+pub record PlacedIn (rule : Rule) (slot : Slot) (u : Unswept) (slot' : Slot) (s : State) (v : View) (line : Bytes) (reply : Reply) : Type 0 where
+  pub command : (command : Command) → IsServedLine command line → PlacedBy rule slot u slot' s v command reply
   pub none : ((command : Command) → ¬ IsServedLine command line) → slot' ≡ slot

@@ -18,6 +18,6 @@ pub record Runs (known : Type 0) (rule : Rule) (old new : Told) (s s' : Session)
   -- the reply, the next state and the files are as the machine has them
   pub goes : known → (r : Repository) (v : View) → IsWorking old s r v → IfOk result (GoesBy rule old new s s' r v command)
   -- its records lie behind those that there were
-  pub placed : known → (r : Repository) (v : View) → IsWorking old s r v → IfOk result (PlacedBy rule s.store.slot s'.store.slot (state_in s r v) v command)
+  pub placed : known → (r : Repository) (v : View) → IsWorking old s r v → IfOk result (PlacedBy rule s.store.slot s.store.unswept s'.store.slot (state_in s r v) v command)
   -- a fault of the ground or of its files cut it short
   pub cut : known → (r : Repository) (v : View) → IsWorking old s r v → OnErr result (CutBy rule old new s s' r v command)

@@ -5,13 +5,15 @@
 --     met_only refused      what a command meets that changes no file: nothing but want of memory, if that
 --     is_durable command      it may change files.      IsDurable reply command      and with this reply it did
 --     HasWords command      it is served, with the words that its line may have
---     ChangedBy image command reply, ChangedIn image line reply      the files that a command or a line with this reply may have changed
---     TouchedBy image command, TouchedIn image line      and where it was cut short
+--     attempt_of store command      the attempt that it has to do with.      ChangesBy attempt these old new      no file changes but these and that attempt's
+--     ChangedBy store image command reply      the files that a command with this reply may have changed.      OnlyBy store old new command reply, OnlyIn store old new line reply      none but these, by a command or a line
+--     TouchedBy store image command, TouchesBy store old new command, TouchesIn store old new line      and where it was cut short
+--     CountsBy result command met old new, CountsIn line result met old new      the faults that were counted
 --     IsAnswered records s s' r v command reply      a command was run that changes no file
 --     HasRead tells old new s s' command result      and it may have read records
 --     IsViewIn r v line reply view      the view of the work's tree after a line with this reply
---     Goes old new s s' r v Changed Gives Views reply      a command or a line was run, of which they say the files changed, what the machine gives, and the view after it
---     Cut old new s s' r v Touched Gives      a fault of the ground or of its files cut it short
+--     Goes old new s s' r v Only Gives Views reply      a command or a line was run, of which they say which files alone changed, what the machine gives, and the view after it
+--     Cut old new s s' r v Touches Gives      a fault of the ground or of its files cut it short
 --     GoesBy, CutBy rule .. command, GoesIn, CutIn rule .. line      so of a command, and of a line, by the rules of merges
 --     IsHeld tells told session      the ground tells what the store holds, and the session works over it
 --     EndsBy held end      why a session has ended.      ground_end end      by a fault of the ground
@@ -19,10 +21,12 @@
 --     tree_fault fault      a call on a tree fails as one of the store.      IsEndOf fault end, EndsBecause made end      the session ends by it, or by what a call failed with
 --     IsNamed reply      a commit's name that a merge is answered with is no longer than a name
 --     IsLong reply      the text of such a reply may take memory.      Writes reply met met' text      it was written, or want of it
-use Rattle.std.specs.Prelude.{◌≡◌, ◌⊎◌, ◌<◌, ℕ, Bool, true, false, length, Option, IsTrue, IfOk, IsErr, Result, Ok, Err}
+use Rattle.std.specs.Prelude.{◌≡◌, ◌⊎◌, ◌<◌, ℕ, Bool, true, false, length, Option, Some, None, option_map, IsTrue, IfOk, IsErr, Result, Ok, Err}
 use Rattle.ip_ground.specs.declared.names.FileName.{FileName}
 use Rattle.ip_ground.specs.Contents.{Image}
-use Rattle.ip_ground.specs.Told.{Told, ChangesOnly}
+use Rattle.ip_ground.specs.declared.names.GroundCounts.{GroundCounts}
+use Rattle.ip_ground.specs.Counts.{CountsIf, CountsLeft, FileFault}
+use Rattle.ip_ground.specs.Told.{Told, NoFile, KeepsSaid, ChangesOnly}
 use Rattle.ip_spec.specs.Repository.{Repository}
 use Rattle.ip_spec.specs.View.{View}
 use Rattle.ip_spec.specs.declared.record.Record.{Record}
@@ -40,12 +44,14 @@ use Rattle.ip_script.specs.Served.{IsServed, IsServedLine}
 use Rattle.ip_image.specs.Pending.{NothingPending}
 use Rattle.ip_image.specs.Headline.{IsAtomic}
 use Rattle.ip_store.specs.declared.committing.StoreFault.{StoreFault}
+use Rattle.ip_store.specs.declared.store.Store.{Store}
 pub use Rattle.ip_store.specs.Commits.{conditions_of}
 use Rattle.ip_store.specs.Collecting.{phase_of}
 use Rattle.ip_store.specs.Commits.{met_nothing}
 use Rattle.ip_store.specs.Publishing.{MayChange}
 use Rattle.ip_store.specs.Showing.{fault_from}
 use Rattle.ip_store.specs.Store.{IsOf, image_records}
+use Rattle.ip_store.specs.Sweeping.{IsSwept, ChangesFor, KeepsFiles}
 use Rattle.ip_store.specs.Trees.{OnlyLooks}
 use Rattle.ip_store.specs.Views.{IsViewAfter}
 use Rattle.ip_store.specs.Work.{AreParents, IsLawful, IsAt, session}
@@ -95,6 +101,7 @@ is_durable (Command.Commit branch info) = true
 is_durable (Command.Merge target branch info) = true
 is_durable (Command.Branch name target) = true
 is_durable (Command.BranchRm name) = true
+is_durable (Command.Collect target) = true
 is_durable command = false
 
 abbrev pub IsDurable : Reply → Command → Type 0
@@ -103,21 +110,44 @@ IsDurable (Reply.Forward hash) (Command.Merge target branch info) = Unit {0}
 IsDurable (Reply.Merged hash) (Command.Merge target branch info) = Unit {0}
 IsDurable Reply.Accepted (Command.Branch name target) = Unit {0}
 IsDurable Reply.Accepted (Command.BranchRm name) = Unit {0}
+IsDurable (Reply.Started hash) (Command.Collect target) = Unit {0}
+IsDurable Reply.StartFault (Command.Collect target) = Unit {0}
 IsDurable reply command = ⊥
 
--- of the files before it, by those that the store may change
-abbrev pub ChangedBy : Image → Command → Reply → FileName → Type 0
-ChangedBy image command reply file = IsDurable reply command × MayChange image file
+-- the attempt that a command has to do with: it is drawn by it, or its child is killed
+abbrev pub attempt_of : Store → Command → Option ℕ
+attempt_of store (Command.Collect target) = Some store.slot.next_attempt
+attempt_of store Command.Cancel = option_map (λ c. c.job.attempt) store.collection
+attempt_of store command = None
 
-abbrev pub ChangedIn : Image → Bytes → Reply → FileName → Type 0
-ChangedIn image line reply file = (command : Command) × IsServedLine command line × ChangedBy image command reply file
+-- No file changes but these, and where there is an attempt, its own; no custody changes but that attempt's.
+abbrev pub ChangesBy : Option ℕ → (FileName → Type 0) → Told → Told → Type 0
+ChangesBy None these old new = ChangesOnly these old new
+ChangesBy (Some attempt) these old new = ChangesFor attempt these old new
+
+-- of the files before it, by those that the store may change, or that a sweep removes
+abbrev pub ChangedBy : Store → Image → Command → Reply → FileName → Type 0
+ChangedBy store image Command.Cancel reply file = (reply ≡ Reply.Cancelled) × IsSwept store.slot store.unswept file
+ChangedBy store image command reply file = IsDurable reply command × MayChange image file
 
 -- where a fault cut it short, by its words alone
-abbrev pub TouchedBy : Image → Command → FileName → Type 0
-TouchedBy image command file = (is_durable command ≡ true) × MayChange image file
+abbrev pub TouchedBy : Store → Image → Command → FileName → Type 0
+TouchedBy store image Command.Cancel file = IsSwept store.slot store.unswept file
+TouchedBy store image command file = (is_durable command ≡ true) × MayChange image file
 
-abbrev pub TouchedIn : Image → Bytes → FileName → Type 0
-TouchedIn image line file = (command : Command) × IsServedLine command line × TouchedBy image command file
+abbrev pub OnlyBy : Store → Told → Told → Command → Reply → Type 0
+OnlyBy store old new command reply = ChangesBy (attempt_of store command) (ChangedBy store old.held command reply) old new
+
+-- of a line; one that is no command changes nothing
+pub record OnlyIn (store : Store) (old new : Told) (line : Bytes) (reply : Reply) : Type 0 where
+  pub command : (command : Command) → IsServedLine command line → OnlyBy store old new command reply
+  pub none : ((command : Command) → ¬ IsServedLine command line) → ChangesOnly NoFile old new
+
+abbrev pub TouchesBy : Store → Told → Told → Command → Type 0
+TouchesBy store old new command = ChangesBy (attempt_of store command) (TouchedBy store old.held command) old new
+
+abbrev pub TouchesIn : Store → Told → Told → Bytes → Type 0
+TouchesIn store old new line = (command : Command) × IsServedLine command line × TouchesBy store old new command
 
 -- nothing was changed, and memory may be refused instead
 pub record IsSpared (s s' : State) (v view : View) (Gives : Conditions → Reply → State → Type 0) : Type 0 where
@@ -144,38 +174,43 @@ pub record IsViewIn (r : Repository) (v : View) (line : Bytes) (reply : Reply) (
   pub command : (command : Command) → IsServedLine command line → IsViewAfter r v command reply view
   pub none : ((command : Command) → ¬ IsServedLine command line) → view ≡ v
 
-pub record Goes (old new : Told) (s s' : Session) (r : Repository) (v : View) (Changed : Reply → FileName → Type 0) (Gives : Conditions → Reply → State → Type 0) (Views : Reply → View → Type 0) (reply : Reply) : Type 0 where
+pub record Goes (old new : Told) (s s' : Session) (r : Repository) (v : View) (Only : Reply → Type 0) (Gives : Conditions → Reply → State → Type 0) (Views : Reply → View → Type 0) (reply : Reply) : Type 0 where
   pub after : Repository
   pub view : View
   pub gives : Gives (conditions_of s'.met) reply (state_in s' after view)
   pub is_at : IsWorking new s' after view
   pub seen : Views reply view
-  pub only : ChangesOnly (Changed reply) old new
+  pub only : Only reply
+  -- whichever files it changed: nothing was said, no child's file was written, and what a settled attempt held is there or gone
+  pub files : KeepsFiles old new
+  pub said : KeepsSaid old new
   -- at every moment whatever a crash leaves stands for the repository before or after it
   pub atomic : NothingPending old → IsAtomic old new r after
   pub nothing_pending : NothingPending old → NothingPending new
   pub spared : IsLong reply → IsSpared (state_in s r v) (state_in s' after view) v view Gives
-  pub still : IsLong reply → (file : FileName) → ¬ Changed reply file
+  pub still : IsLong reply → ChangesOnly NoFile old new
 
 -- the reply and the next state are those that the machine gives where none of its writes fails
-pub record Cut (old new : Told) (s s' : Session) (r : Repository) (v : View) (Touched : FileName → Type 0) (Gives : Conditions → Reply → State → Type 0) : Type 0 where
+pub record Cut (old new : Told) (s s' : Session) (r : Repository) (v : View) (Touches : Type 0) (Gives : Conditions → Reply → State → Type 0) : Type 0 where
   pub reply : Reply
   pub after : State
   pub gives : Gives (conditions_of s'.met) reply after
-  pub only : ChangesOnly Touched old new
+  pub only : Touches
+  pub files : KeepsFiles old new
+  pub said : KeepsSaid old new
   pub atomic : NothingPending old → IsAtomic old new r after.repository
 
 abbrev pub GoesBy : Rule → Told → Told → Session → Session → Repository → View → Command → Reply → Type 0
-GoesBy rule old new s s' r v command = Goes old new s s' r v (ChangedBy old.held command) (Step rule (state_in s r v) command) (IsViewAfter r v command)
+GoesBy rule old new s s' r v command = Goes old new s s' r v (OnlyBy s.store old new command) (Step rule (state_in s r v) command) (IsViewAfter r v command)
 
 abbrev pub GoesIn : Rule → Told → Told → Session → Session → Repository → View → Bytes → Reply → Type 0
-GoesIn rule old new s s' r v line = Goes old new s s' r v (ChangedIn old.held line) (LineStep IsServedLine rule (state_in s r v) line) (IsViewIn r v line)
+GoesIn rule old new s s' r v line = Goes old new s s' r v (OnlyIn s.store old new line) (LineStep IsServedLine rule (state_in s r v) line) (IsViewIn r v line)
 
 abbrev pub CutBy : Rule → Told → Told → Session → Session → Repository → View → Command → Type 0
-CutBy rule old new s s' r v command = Cut old new s s' r v (TouchedBy old.held command) (Step rule (state_in s r v) command)
+CutBy rule old new s s' r v command = Cut old new s s' r v (TouchesBy s.store old new command) (Step rule (state_in s r v) command)
 
 abbrev pub CutIn : Rule → Told → Told → Session → Session → Repository → View → Bytes → Type 0
-CutIn rule old new s s' r v line = Cut old new s s' r v (TouchedIn old.held line) (LineStep IsServedLine rule (state_in s r v) line)
+CutIn rule old new s s' r v line = Cut old new s s' r v (TouchesIn s.store old new line) (LineStep IsServedLine rule (state_in s r v) line)
 
 abbrev pub IsHeld : Bool → Told → Session → Type 0
 IsHeld tells told s = IsTrue tells × ((r : Repository) × (v : View) × IsWorking told s r v)
@@ -185,10 +220,25 @@ abbrev pub EndsBy : (held : Type 0) → SessionEnd → Type 0
 EndsBy held SessionEnd.Ground = Unit {0}
 EndsBy held (SessionEnd.Damaged at names) = ¬ held
 
--- The one end at which a fault was counted: at each answer, want of memory among them, the counts are as they were.
+-- the one end at which a fault of a file was counted
 abbrev pub ground_end : SessionEnd → Bool
 ground_end SessionEnd.Ground = true
 ground_end (SessionEnd.Damaged at names) = false
+
+-- Of a command: at each answer the counts are as they were, want of memory among them, but for the removals of a sweep that failed.
+abbrev pub CountsBy : Result Reply SessionEnd → Command → Met → GroundCounts → GroundCounts → Type 0
+CountsBy (Err end) command met old new = CountsIf FileFault (ground_end end) old new
+CountsBy (Ok reply) Command.Cancel met old new = CountsLeft met.left old new
+CountsBy (Ok reply) command met old new = new ≡ old
+
+abbrev pub CountsAny : Result Reply SessionEnd → GroundCounts → GroundCounts → Type 0
+CountsAny (Err end) old new = CountsIf FileFault (ground_end end) old new
+CountsAny (Ok reply) old new = (left : ℕ) × CountsLeft left old new
+
+-- of a line, whichever it is
+pub record CountsIn (line : Bytes) (result : Result Reply SessionEnd) (met : Met) (old new : GroundCounts) : Type 0 where
+  pub command : (command : Command) → IsServedLine command line → CountsBy result command met old new
+  pub any : CountsAny result old new
 
 -- refusals are answered, want of memory among them, and faults of the ground and of its files end the session
 abbrev pub fault_answer : StoreFault → Result Reply SessionEnd

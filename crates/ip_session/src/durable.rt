@@ -1,10 +1,11 @@
 // The commands that may change files.
-ghost use Rattle.std.specs.Prelude.{◌≡◌, false, IsTrue, IfErr};
+ghost use Rattle.std.specs.Prelude.{◌≡◌, false, IsTrue, IfOk, IfErr};
 ghost use Rattle.ip_ground.specs.Counts.{Counts};
 ghost use Rattle.ip_spec.specs.declared.command.Target.{Target};
 ghost use Rattle.ip_spec.specs.declared.command.Command.TheVariants as Command;
 ghost use Rattle.ip_spec.specs.Record.{IsBranchName, IsInfo};
 ghost use Rattle.ip_merge.specs.Rules.{IsDecisive};
+ghost use Rattle.ip_session.specs.Asking.{MeetsNone, TellsNone};
 ghost use Rattle.ip_session.specs.Running.{Runs};
 ghost use Rattle.ip_session.specs.Session.{ground_end, met_only, unasked, IsHeld, EndsBy};
 
@@ -30,6 +31,9 @@ impl Session {
         requires met { self.old.met ≡ met_only false }
         requires tables { IsServing self.old }
         ensures runs { Runs (IsTrue G.tells) unasked (G.told ground.old) (G.told ground.new) self.old self.new (Command.Commit branch.now info) result }
+        ensures same_collection { self.new.store.collection ≡ self.old.store.collection }
+        ensures meets_none { MeetsNone self.new.met }
+        ensures tells_none { IfOk result TellsNone }
         ensures counts { Counts ground_end result (G.counts_of ground.old) (G.counts_of ground.new) }
         ensures cause { IfErr result (EndsBy (IsHeld G.tells (G.told ground.old) self.old)) }
     {
@@ -59,6 +63,9 @@ impl Session {
         requires met { self.old.met ≡ met_only false }
         requires tables { IsServing self.old }
         ensures runs { Runs (IsTrue G.tells × IsDecisive (D.rule rules.now)) (D.rule rules.now) (G.told ground.old) (G.told ground.new) self.old self.new (Command.Merge target branch info) result }
+        ensures same_collection { self.new.store.collection ≡ self.old.store.collection }
+        ensures meets_none { MeetsNone self.new.met }
+        ensures tells_none { IfOk result TellsNone }
         ensures counts { Counts ground_end result (G.counts_of ground.old) (G.counts_of ground.new) }
         ensures cause { IsDecisive (D.rule rules.now) → IfErr result (EndsBy (IsHeld G.tells (G.told ground.old) self.old)) }
     {
@@ -89,6 +96,9 @@ impl Session {
         requires met { self.old.met ≡ met_only false }
         requires tables { IsServing self.old }
         ensures runs { Runs (IsTrue G.tells) unasked (G.told ground.old) (G.told ground.new) self.old self.new (Command.Branch name.now target) result }
+        ensures same_collection { self.new.store.collection ≡ self.old.store.collection }
+        ensures meets_none { MeetsNone self.new.met }
+        ensures tells_none { IfOk result TellsNone }
         ensures counts { Counts ground_end result (G.counts_of ground.old) (G.counts_of ground.new) }
         ensures cause { IfErr result (EndsBy (IsHeld G.tells (G.told ground.old) self.old)) }
     {
@@ -116,6 +126,9 @@ impl Session {
         requires met { self.old.met ≡ met_only false }
         requires tables { IsServing self.old }
         ensures runs { Runs (IsTrue G.tells) unasked (G.told ground.old) (G.told ground.new) self.old self.new (Command.BranchRm name) result }
+        ensures same_collection { self.new.store.collection ≡ self.old.store.collection }
+        ensures meets_none { MeetsNone self.new.met }
+        ensures tells_none { IfOk result TellsNone }
         ensures counts { Counts ground_end result (G.counts_of ground.old) (G.counts_of ground.new) }
         ensures cause { IfErr result (EndsBy (IsHeld G.tells (G.told ground.old) self.old)) }
     {

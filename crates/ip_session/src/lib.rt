@@ -1,6 +1,7 @@
 //! A session: one line, one reply.
 #![tactic(auto)]
 
+mod collecting;
 mod durable;
 mod replies;
 mod session;

@@ -1,11 +1,12 @@
 // What a session answers, and what it meets.
-ghost use Rattle.std.specs.Prelude.{◌≡◌, ◌≤◌, [], true, IfOk, IfErr, length};
+ghost use Rattle.std.specs.Prelude.{◌≡◌, ◌≤◌, [], true, IfOk, IfErr, IfSome, length};
 ghost use Rattle.std.specs.Vec.{vec_capacity};
 ghost use Rattle.ip_spec.specs.declared.reply.Reply.TheVariants as Reply;
 ghost use Rattle.ip_spec.specs.Step.{got_reply, listed_reply};
 ghost use Rattle.ip_store.specs.Commits.{fault_reply, reply_to};
 ghost use Rattle.ip_store.specs.Merging.{merge_reply};
 ghost use Rattle.ip_store.specs.Naming.{branch_reply, removed_reply};
+ghost use Rattle.ip_session.specs.Asking.{MeetsNone, TellsNone};
 ghost use Rattle.ip_session.specs.Session.{met_only, Writes, Fails, fault_answer, tree_fault, IsEndOf, EndsBecause, IsNamed};
 
 use crate::session::SessionEnd;
@@ -35,6 +36,8 @@ pub(crate) fn met_only(refused: bool) -> Met
 pub(crate) fn refuse(met: &mut Met) -> Reply
     ensures reply { result ≡ Reply.Memory }
     ensures met { met.new ≡ met_only true }
+    ensures tells_none { TellsNone result }
+    ensures meets_none { MeetsNone met.new }
 {
     *met = met_only(true);
     Reply::Memory
@@ -42,7 +45,8 @@ pub(crate) fn refuse(met: &mut Met) -> Reply
 
 // What a read of the work's tree is answered with.
 pub(crate) fn got_reply(got: Got) -> Reply
-    ensures { result ≡ got_reply got }
+    ensures value { result ≡ got_reply got }
+    ensures tells_none { TellsNone result }
 {
     match got {
         Got::Value(contents) => Reply::Value(contents),
@@ -53,7 +57,8 @@ pub(crate) fn got_reply(got: Got) -> Reply
 
 // What a listing of the work's tree is answered with.
 pub(crate) fn listed_reply(listed: Listed) -> Reply
-    ensures { result ≡ listed_reply listed }
+    ensures value { result ≡ listed_reply listed }
+    ensures tells_none { TellsNone result }
 {
     match listed {
         Listed::Entries(items) => Reply::List(items),
@@ -64,7 +69,8 @@ pub(crate) fn listed_reply(listed: Listed) -> Reply
 
 // What a durable command is answered with that was not done. A fault of the ground has no answer, nor has one of its files.
 pub(crate) fn fault_reply(fault: &StoreFault) -> Option<Reply>
-    ensures { result ≡ fault_reply fault.now }
+    ensures value { result ≡ fault_reply fault.now }
+    ensures tells_none { IfSome result TellsNone }
 {
     match fault {
         StoreFault::GivenUp(number) => Some(Reply::GivenUp(*number)),
@@ -81,6 +87,7 @@ pub(crate) fn fault_reply(fault: &StoreFault) -> Option<Reply>
 pub(crate) fn reply_to(made: &Result<Hash, StoreFault>) -> Option<Reply>
     ensures reply { result ≡ reply_to made.now }
     ensures long { IfOk made.now (λ name. length name ≡ 32) }
+    ensures tells_none { IfSome result TellsNone }
 {
     match made {
         Ok(name) => {
@@ -96,15 +103,27 @@ pub(crate) fn reply_to(made: &Result<Hash, StoreFault>) -> Option<Reply>
 pub(crate) fn at_reply(name: Hash) -> Reply
     ensures reply { result ≡ Reply.At name }
     ensures long { length name ≡ 32 }
+    ensures tells_none { TellsNone result }
 {
     // It says how long a name is.
     name.as_slice();
     Reply::At(name)
 }
 
+// What a collection is answered with that was begun.
+pub(crate) fn started_reply(name: Hash) -> Reply
+    ensures reply { result ≡ Reply.Started name }
+    ensures long { length name ≡ 32 }
+{
+    // It says how long a name is.
+    name.as_slice();
+    Reply::Started(name)
+}
+
 // What putting a branch at a commit is answered with.
 pub(crate) fn branch_reply(made: &Result<(), StoreFault>) -> Option<Reply>
-    ensures { result ≡ branch_reply made.now }
+    ensures value { result ≡ branch_reply made.now }
+    ensures tells_none { IfSome result TellsNone }
 {
     match made {
         Ok(()) => Some(Reply::Accepted),
@@ -114,7 +133,8 @@ pub(crate) fn branch_reply(made: &Result<(), StoreFault>) -> Option<Reply>
 
 // What taking away the branch of this name is answered with.
 pub(crate) fn removed_reply(name: Blob, made: &Result<bool, StoreFault>) -> Option<Reply>
-    ensures { result ≡ removed_reply name made.now }
+    ensures value { result ≡ removed_reply name made.now }
+    ensures tells_none { IfSome result TellsNone }
 {
     match made {
         Ok(true) => Some(Reply::Accepted),
@@ -131,6 +151,7 @@ pub(crate) fn merge_answer(
     ensures reply { IfOk result (λ reply. merge_reply branch made ≡ Some reply) }
     ensures end { IfErr result (EndsBecause made) }
     ensures long { IfOk result IsNamed }
+    ensures tells_none { IfOk result TellsNone }
 {
     match made {
         Ok(merge) => Ok(merged_reply(branch, merge)),
@@ -144,6 +165,7 @@ fn fault_answer(fault: StoreFault) -> Result<Reply, SessionEnd>
     ensures reply { IfOk result (λ reply. fault_reply fault ≡ Some reply) }
     ensures end { IfErr result (IsEndOf fault) }
     ensures long { IfOk result IsNamed }
+    ensures tells_none { IfOk result TellsNone }
 {
     match fault {
         StoreFault::GivenUp(number) => Ok(Reply::GivenUp(number)),
@@ -161,6 +183,7 @@ fn fault_answer(fault: StoreFault) -> Result<Reply, SessionEnd>
 fn merged_reply(branch: Blob, merge: Merge) -> Reply
     ensures reply { merge_reply branch (Ok merge) ≡ Some result }
     ensures long { IsNamed result }
+    ensures tells_none { TellsNone result }
 {
     match merge {
         Merge::Current(name) => Reply::Current(name),
@@ -182,7 +205,9 @@ fn merged_reply(branch: Blob, merge: Merge) -> Reply
 // What comes of a call of the store that failed: want of memory is met, other refusals are answered, and faults of the ground and of its files
 // end the session.
 pub(crate) fn failed(fault: StoreFault, met: &mut Met) -> Result<Reply, SessionEnd>
-    ensures { Fails fault met.old met.new result }
+    ensures value { Fails fault met.old met.new result }
+    ensures tells_none { IfOk result TellsNone }
+    ensures meets_none { MeetsNone met.old → MeetsNone met.new }
 {
     match fault {
         StoreFault::Memory => Ok(refuse(met)),
@@ -209,7 +234,8 @@ pub(crate) fn tree_fault(fault: TreeFault) -> StoreFault
 
 // What the command is answered with that shows a commit.
 pub(crate) fn shown_reply(shown: Shown) -> Reply
-    ensures { result ≡ Reply.Commit shown.name shown.number shown.root shown.parents shown.info }
+    ensures value { result ≡ Reply.Commit shown.name shown.number shown.root shown.parents shown.info }
+    ensures tells_none { TellsNone result }
 {
     Reply::Commit {
         name: shown.name,

@@ -1,7 +1,9 @@
 // A session: one line, one reply.
-ghost use Rattle.std.specs.Prelude.{◌≡◌, ◌≤◌, [], false, ℕ, Option, IsTrue, IfOk, IfErr, OnOk, OnErr, None, Ok};
+ghost use Rattle.std.specs.Prelude.{◌≡◌, ◌≤◌, [], ◌++◌, List, false, ℕ, Option, IsTrue, IfOk, IfErr, OnOk, OnErr, None, Ok};
 ghost use Rattle.std.specs.Vec.{vec_capacity};
-ghost use Rattle.ip_ground.specs.Counts.{Counts};
+ghost use Rattle.ip_ground.specs.Counts.{Counts, CountsIf, FileFault};
+ghost use Rattle.ip_ground.specs.declared.names.Reaped.{Reaped};
+ghost use Rattle.ip_spawn.specs.declared.job.Job.{Job};
 ghost use Rattle.ip_spec.specs.Map.{len};
 ghost use Rattle.ip_spec.specs.View.{View, no_view};
 ghost use Rattle.ip_spec.specs.declared.record.Record.{Record};
@@ -13,14 +15,15 @@ ghost use Rattle.ip_spec.specs.declared.reply.Reply.{Reply};
 ghost use Rattle.ip_spec.specs.declared.reply.Reply.TheVariants as Reply;
 ghost use Rattle.ip_spec.specs.Step.{resolve, least_with, phase_at};
 ghost use Rattle.ip_spec.specs.Text.{reply_text};
-ghost use Rattle.ip_store.specs.Collecting.{phase_of};
+ghost use Rattle.ip_store.specs.Collecting.{child_of, phase_of};
 ghost use Rattle.ip_store.specs.Commits.{met_nothing};
 ghost use Rattle.ip_store.specs.Store.{IsOf};
 ghost use Rattle.ip_store.specs.Work.{IsLawful, IsThere};
 ghost use Rattle.ip_merge.specs.Rules.{IsDecisive};
+ghost use Rattle.ip_session.specs.Asking.{Asked, HandlesNone, QuietIfLong, MeetsNone, Spawns, TellsNone};
 ghost use Rattle.ip_session.specs.Placing.{PlacedIn};
 ghost use Rattle.ip_session.specs.Running.{Runs};
-ghost use Rattle.ip_session.specs.Session.{ground_end, met_only, IsHeld, EndsBy};
+ghost use Rattle.ip_session.specs.Session.{ground_end, met_only, CountsBy, CountsIn, IsHeld, EndsBy};
 
 use crate::replies::{met_only, put_reply, refuse};
 use ip_base::limit::PARENTS_MAX;
@@ -28,6 +31,7 @@ use ip_base::{Hash, Items, Limit, Number};
 use ip_ground::Ground;
 use ip_merge::Decides;
 use ip_script::{Command, LineFault, Reply, Target, read_line};
+use ip_spawn::Spawner;
 use ip_spec::met::{Met, Phase};
 use ip_store::{Store, Work};
 use sha2::{Digest, Sha256};
@@ -51,6 +55,7 @@ pub(crate) fn resolve(store: &Store, target: Target) -> Result<Number, Reply>
     requires tables { (r : Repository) × IsOf store.now r }
     ensures number { (r : Repository) → IsOf store.now r → result ≡ resolve r target }
     ensures retained { (r : Repository) → IsOf store.now r → IfOk result (λ n. IsTrue (is_retained r n)) }
+    ensures tells_none { IfErr result TellsNone }
 {
     match target {
         Target::Branch(name) => match store.head(name.as_slice()) {
@@ -114,6 +119,8 @@ impl Session {
         requires met { self.old.met ≡ met_only false }
         requires tables { (r : Repository) × IsIn self.old r × IsTrue (is_retained r number) }
         ensures tables { (r : Repository) → IsIn self.old r → IsTrue (is_retained r number) → IsIn self.new r }
+        ensures meets_none { MeetsNone self.new.met }
+        ensures tells_none { TellsNone result }
         ensures same_store { self.new.store ≡ self.old.store }
         ensures answered { (records : ℕ → Option Record) (r : Repository) (v : View) → IsOf self.old.store r → IsLawful records r self.old.work v → IsThere r self.old.work.least → IsTrue (is_retained r number) →
             (target : Target) → resolve r target ≡ Ok number → IsAnswered records self.old self.new r v (Command.Parent target) result }
@@ -137,6 +144,8 @@ impl Session {
         requires met { self.old.met ≡ met_only false }
         requires tables { IsServing self.old }
         ensures tables { (r : Repository) → IsIn self.old r → IsIn self.new r }
+        ensures meets_none { MeetsNone self.new.met }
+        ensures tells_none { TellsNone result }
         ensures same_store { self.new.store ≡ self.old.store }
         ensures answered { (records : ℕ → Option Record) (r : Repository) (v : View) → IsOf self.old.store r → IsLawful records r self.old.work v →
             IsAnswered records self.old self.new r v (Command.Parent target) result }
@@ -155,6 +164,8 @@ impl Session {
         requires met { self.old.met ≡ met_only false }
         requires tables { IsServing self.old }
         ensures tables { (r : Repository) → IsIn self.old r → IsIn self.new r }
+        ensures meets_none { MeetsNone self.new.met }
+        ensures tells_none { TellsNone result }
         ensures same_store { self.new.store ≡ self.old.store }
         ensures answered { (records : ℕ → Option Record) (r : Repository) (v : View) → IsOf self.old.store r → IsLawful records r self.old.work v →
             IsAnswered records self.old self.new r v Command.Branches result }
@@ -170,6 +181,8 @@ impl Session {
         requires met { self.old.met ≡ met_only false }
         requires tables { IsServing self.old }
         ensures tables { (r : Repository) → IsIn self.old r → IsIn self.new r }
+        ensures meets_none { MeetsNone self.new.met }
+        ensures tells_none { TellsNone result }
         ensures same_store { self.new.store ≡ self.old.store }
         ensures answered { (records : ℕ → Option Record) (r : Repository) (v : View) → IsOf self.old.store r → IsLawful records r self.old.work v →
             IsAnswered records self.old self.new r v (Command.Log target) result }
@@ -189,6 +202,8 @@ impl Session {
         requires met { self.old.met ≡ met_only false }
         requires tables { IsServing self.old }
         ensures tables { (r : Repository) → IsIn self.old r → IsIn self.new r }
+        ensures meets_none { MeetsNone self.new.met }
+        ensures tells_none { TellsNone result }
         ensures same_store { self.new.store ≡ self.old.store }
         ensures answered { (records : ℕ → Option Record) (r : Repository) (v : View) → IsOf self.old.store r → IsLawful records r self.old.work v →
             IsAnswered records self.old self.new r v (Command.Lcas one other) result }
@@ -222,17 +237,21 @@ impl Session {
         }
     }
 
-    // Runs a command.
-    fn run<G: Ground, D: Decides>(
+    // Runs a command that has to do with no child.
+    fn plain<G: Ground, D: Decides>(
         &mut self,
         ground: &mut G,
         command: Command,
         rules: &D,
     ) -> Result<Reply, SessionEnd>
         requires words { HasWords command }
+        requires childless { HandlesNone command }
         requires met { self.old.met ≡ met_only false }
         requires tables { IsServing self.old }
         ensures runs { Runs (IsTrue G.tells × IsDecisive (D.rule rules.now)) (D.rule rules.now) (G.told ground.old) (G.told ground.new) self.old self.new command result }
+        ensures same_collection { self.new.store.collection ≡ self.old.store.collection }
+        ensures meets_none { MeetsNone self.new.met }
+        ensures tells_none { IfOk result TellsNone }
         ensures counts { Counts ground_end result (G.counts_of ground.old) (G.counts_of ground.new) }
         ensures cause { IsDecisive (D.rule rules.now) → IfErr result (EndsBy (IsHeld G.tells (G.told ground.old) self.old)) }
     {
@@ -271,27 +290,62 @@ impl Session {
         }
     }
 
-    /// Runs a line's command, a merge by these rules. At `Err` a fault of the ground or of its files cut it short, and the session has ended.
-    pub fn step<G: Ground, D: Decides>(
+    // Runs a command.
+    fn run<G: Ground, P: Spawner, D: Decides>(
         &mut self,
+        dir: &str,
         ground: &mut G,
+        spawner: &mut P,
+        command: Command,
+        rules: &D,
+    ) -> Result<Reply, SessionEnd>
+        requires words { HasWords command }
+        requires met { self.old.met ≡ met_only false }
+        requires tables { IsServing self.old }
+        requires child { P.held spawner.old ≡ child_of self.old.store.collection }
+        ensures runs { Runs (IsTrue G.tells × IsDecisive (D.rule rules.now)) (D.rule rules.now) (G.told ground.old) (G.told ground.new) self.old self.new command result }
+        ensures child { P.held spawner.new ≡ child_of self.new.store.collection }
+        ensures asked { (jobs : List Job) × (ends : List Reaped) × (IsTrue P.tells → P.told spawner.new ≡ record { started = (P.told spawner.old).started ++ jobs; reaped = (P.told spawner.old).reaped ++ ends })
+            × Asked self.old self.new command result jobs ends (P.counts_of spawner.old) (P.counts_of spawner.new) }
+        ensures quiet { IfOk result (QuietIfLong (G.counts_of ground.old) (G.counts_of ground.new)) }
+        ensures counts { CountsBy result command self.new.met (G.counts_of ground.old) (G.counts_of ground.new) }
+        ensures cause { IsDecisive (D.rule rules.now) → IfErr result (EndsBy (IsHeld G.tells (G.told ground.old) self.old)) }
+    {
+        match command {
+            // It speaks to the child of a collection.
+            Command::Collect(target) => self.collect(dir, ground, spawner, target),
+            Command::Cancel => self.cancel(ground, spawner),
+            other => self.plain(ground, other, rules),
+        }
+    }
+
+    /// Runs a line's command, a merge by these rules, and a child of a collection for the store in this folder. At `Err` a fault of the ground or of its files cut it short, and the session has ended.
+    pub fn step<G: Ground, P: Spawner, D: Decides>(
+        &mut self,
+        dir: &str,
+        ground: &mut G,
+        spawner: &mut P,
         line: &[u8],
         rules: &D,
     ) -> Result<Reply, SessionEnd>
         requires tables { IsServing self.old }
+        requires child { P.held spawner.old ≡ child_of self.old.store.collection }
+        ensures child { P.held spawner.new ≡ child_of self.new.store.collection }
+        ensures asked { Spawns P.tells (P.told spawner.old) (P.told spawner.new) self.old self.new line.now result (P.counts_of spawner.old) (P.counts_of spawner.new) }
         ensures tables { IfOk result (λ reply. IsServing self.new) }
         ensures goes { IsTrue G.tells → IsDecisive (D.rule rules.now) → (r : Repository) (v : View) → IsWorking (G.told ground.old) self.old r v →
             IfOk result (GoesIn (D.rule rules.now) (G.told ground.old) (G.told ground.new) self.old self.new r v line.now) }
         ensures placed { IsTrue G.tells → IsDecisive (D.rule rules.now) → (r : Repository) (v : View) → IsWorking (G.told ground.old) self.old r v →
-            IfOk result (PlacedIn (D.rule rules.now) self.old.store.slot self.new.store.slot (state_in self.old r v) v line.now) }
+            IfOk result (PlacedIn (D.rule rules.now) self.old.store.slot self.old.store.unswept self.new.store.slot (state_in self.old r v) v line.now) }
         ensures cut { IsTrue G.tells → IsDecisive (D.rule rules.now) → (r : Repository) (v : View) → IsWorking (G.told ground.old) self.old r v →
             OnErr result (CutIn (D.rule rules.now) (G.told ground.old) (G.told ground.new) self.old self.new r v line.now) }
-        ensures counts { Counts ground_end result (G.counts_of ground.old) (G.counts_of ground.new) }
+        ensures quiet { IfOk result (QuietIfLong (G.counts_of ground.old) (G.counts_of ground.new)) }
+        ensures counts { CountsIn line.now result self.new.met (G.counts_of ground.old) (G.counts_of ground.new) }
         ensures cause { IsDecisive (D.rule rules.now) → IfErr result (EndsBy (IsHeld G.tells (G.told ground.old) self.old)) }
     {
         self.met = met_only(false);
         match read_line(self.alloc, line) {
-            Ok(command) => self.run(ground, command, rules),
+            Ok(command) => self.run(dir, ground, spawner, command, rules),
             Err(LineFault::Bad(at)) => Ok(Reply::Bad(at)),
             Err(LineFault::Memory) => Ok(refuse(&mut self.met)),
         }
@@ -300,9 +354,11 @@ impl Session {
     /// Runs a line's command, a merge by these rules, and writes its reply's text into an empty one. There is room for 4096 bytes; a longer text
     /// may be refused memory, and then the reply is that. At `Err` a fault of the ground or of its files cut the command
     /// short: it has no text, and the session has ended.
-    pub fn answer<G: Ground, D: Decides>(
+    pub fn answer<G: Ground, P: Spawner, D: Decides>(
         &mut self,
+        dir: &str,
         ground: &mut G,
+        spawner: &mut P,
         line: &[u8],
         rules: &D,
         text: &mut Vec<u8>,
@@ -310,18 +366,23 @@ impl Session {
         requires empty { text.old.items ≡ [] }
         requires room { 4096 ≤ vec_capacity text.old }
         requires tables { IsServing self.old }
+        requires child { P.held spawner.old ≡ child_of self.old.store.collection }
+        ensures child { P.held spawner.new ≡ child_of self.new.store.collection }
         ensures room { vec_capacity text.old ≤ vec_capacity text.new }
         ensures silent { OnErr result (text.new.items ≡ []) }
         ensures tables { OnOk result (IsServing self.new) }
-        ensures goes { OnOk result ((reply : Reply) × (text.new.items ≡ reply_text reply) × (IsTrue G.tells → IsDecisive (D.rule rules.now) → (r : Repository) (v : View) → IsWorking (G.told ground.old) self.old r v →
+        ensures goes { OnOk result ((reply : Reply) × (text.new.items ≡ reply_text reply)
+            × Spawns P.tells (P.told spawner.old) (P.told spawner.new) self.old self.new line.now (Ok reply) (P.counts_of spawner.old) (P.counts_of spawner.new)
+            × CountsIn line.now (Ok reply) self.new.met (G.counts_of ground.old) (G.counts_of ground.new) × (IsTrue G.tells → IsDecisive (D.rule rules.now) → (r : Repository) (v : View) → IsWorking (G.told ground.old) self.old r v →
             GoesIn (D.rule rules.now) (G.told ground.old) (G.told ground.new) self.old self.new r v line.now reply
-            × PlacedIn (D.rule rules.now) self.old.store.slot self.new.store.slot (state_in self.old r v) v line.now reply)) }
+            × PlacedIn (D.rule rules.now) self.old.store.slot self.old.store.unswept self.new.store.slot (state_in self.old r v) v line.now reply)) }
         ensures cut { IsTrue G.tells → IsDecisive (D.rule rules.now) → (r : Repository) (v : View) → IsWorking (G.told ground.old) self.old r v →
             OnErr result (CutIn (D.rule rules.now) (G.told ground.old) (G.told ground.new) self.old self.new r v line.now) }
-        ensures counts { Counts ground_end result (G.counts_of ground.old) (G.counts_of ground.new) }
+        ensures ended { IfErr result (λ end. Spawns P.tells (P.told spawner.old) (P.told spawner.new) self.old self.new line.now (Err end) (P.counts_of spawner.old) (P.counts_of spawner.new)
+            × CountsIf FileFault (ground_end end) (G.counts_of ground.old) (G.counts_of ground.new)) }
         ensures cause { IsDecisive (D.rule rules.now) → IfErr result (EndsBy (IsHeld G.tells (G.told ground.old) self.old)) }
     {
-        match self.step(ground, line, rules) {
+        match self.step(dir, ground, spawner, line, rules) {
             Err(end) => Err(end),
             Ok(reply) => {
                 put_reply(&reply, &mut self.met, text);

@@ -1,10 +1,11 @@
 // The commands that read records, and change no file.
-ghost use Rattle.std.specs.Prelude.{◌≡◌, false, IsTrue, IfErr};
+ghost use Rattle.std.specs.Prelude.{◌≡◌, false, IsTrue, IfOk, IfErr};
 ghost use Rattle.ip_ground.specs.Counts.{Counts};
 ghost use Rattle.ip_spec.specs.declared.command.Command.TheVariants as Command;
 ghost use Rattle.ip_spec.specs.Path.{IsPath};
 ghost use Rattle.ip_spec.specs.Repository.{Repository};
 ghost use Rattle.ip_spec.specs.View.{View};
+ghost use Rattle.ip_session.specs.Asking.{MeetsNone, TellsNone};
 ghost use Rattle.ip_session.specs.Session.{ground_end, met_only, HasRead, IsHeld, EndsBy};
 
 use crate::replies::{at_reply, failed, got_reply, listed_reply, refuse, shown_reply, tree_fault};
@@ -26,6 +27,9 @@ impl Session {
         requires met { self.old.met ≡ met_only false }
         requires tables { IsServing self.old }
         ensures reads { HasRead G.tells (G.told ground.old) (G.told ground.new) self.old self.new (Command.Checkout target) result }
+        ensures same_collection { self.new.store.collection ≡ self.old.store.collection }
+        ensures meets_none { MeetsNone self.new.met }
+        ensures tells_none { IfOk result TellsNone }
         ensures counts { Counts ground_end result (G.counts_of ground.old) (G.counts_of ground.new) }
         ensures cause { IfErr result (EndsBy (IsHeld G.tells (G.told ground.old) self.old)) }
     {
@@ -60,6 +64,9 @@ impl Session {
         requires met { self.old.met ≡ met_only false }
         requires tables { IsServing self.old }
         ensures reads { HasRead G.tells (G.told ground.old) (G.told ground.new) self.old self.new (Command.Set path contents) result }
+        ensures same_collection { self.new.store.collection ≡ self.old.store.collection }
+        ensures meets_none { MeetsNone self.new.met }
+        ensures tells_none { IfOk result TellsNone }
         ensures counts { Counts ground_end result (G.counts_of ground.old) (G.counts_of ground.new) }
         ensures cause { IfErr result (EndsBy (IsHeld G.tells (G.told ground.old) self.old)) }
     {
@@ -83,6 +90,9 @@ impl Session {
         requires met { self.old.met ≡ met_only false }
         requires tables { IsServing self.old }
         ensures reads { HasRead G.tells (G.told ground.old) (G.told ground.new) self.old self.new (Command.Rm path) result }
+        ensures same_collection { self.new.store.collection ≡ self.old.store.collection }
+        ensures meets_none { MeetsNone self.new.met }
+        ensures tells_none { IfOk result TellsNone }
         ensures counts { Counts ground_end result (G.counts_of ground.old) (G.counts_of ground.new) }
         ensures cause { IfErr result (EndsBy (IsHeld G.tells (G.told ground.old) self.old)) }
     {
@@ -109,6 +119,9 @@ impl Session {
         requires met { self.old.met ≡ met_only false }
         requires tables { IsServing self.old }
         ensures reads { HasRead G.tells (G.told ground.old) (G.told ground.new) self.old self.new (Command.Graft target from to) result }
+        ensures same_collection { self.new.store.collection ≡ self.old.store.collection }
+        ensures meets_none { MeetsNone self.new.met }
+        ensures tells_none { IfOk result TellsNone }
         ensures counts { Counts ground_end result (G.counts_of ground.old) (G.counts_of ground.new) }
         ensures cause { IfErr result (EndsBy (IsHeld G.tells (G.told ground.old) self.old)) }
     {
@@ -139,6 +152,9 @@ impl Session {
         requires met { self.old.met ≡ met_only false }
         requires tables { IsServing self.old }
         ensures reads { HasRead G.tells (G.told ground.old) (G.told ground.new) self.old self.new (Command.Get path) result }
+        ensures same_collection { self.new.store.collection ≡ self.old.store.collection }
+        ensures meets_none { MeetsNone self.new.met }
+        ensures tells_none { IfOk result TellsNone }
         ensures counts { Counts ground_end result (G.counts_of ground.old) (G.counts_of ground.new) }
         ensures cause { IfErr result (EndsBy (IsHeld G.tells (G.told ground.old) self.old)) }
     {
@@ -163,6 +179,9 @@ impl Session {
         requires met { self.old.met ≡ met_only false }
         requires tables { IsServing self.old }
         ensures reads { HasRead G.tells (G.told ground.old) (G.told ground.new) self.old self.new (Command.List path) result }
+        ensures same_collection { self.new.store.collection ≡ self.old.store.collection }
+        ensures meets_none { MeetsNone self.new.met }
+        ensures tells_none { IfOk result TellsNone }
         ensures counts { Counts ground_end result (G.counts_of ground.old) (G.counts_of ground.new) }
         ensures cause { IfErr result (EndsBy (IsHeld G.tells (G.told ground.old) self.old)) }
     {
@@ -188,6 +207,9 @@ impl Session {
         requires met { self.old.met ≡ met_only false }
         requires tables { IsServing self.old }
         ensures reads { HasRead G.tells (G.told ground.old) (G.told ground.new) self.old self.new (Command.Cat target path) result }
+        ensures same_collection { self.new.store.collection ≡ self.old.store.collection }
+        ensures meets_none { MeetsNone self.new.met }
+        ensures tells_none { IfOk result TellsNone }
         ensures counts { Counts ground_end result (G.counts_of ground.old) (G.counts_of ground.new) }
         ensures cause { IfErr result (EndsBy (IsHeld G.tells (G.told ground.old) self.old)) }
     {
@@ -214,6 +236,9 @@ impl Session {
         requires met { self.old.met ≡ met_only false }
         requires tables { IsServing self.old }
         ensures reads { HasRead G.tells (G.told ground.old) (G.told ground.new) self.old self.new (Command.Show target) result }
+        ensures same_collection { self.new.store.collection ≡ self.old.store.collection }
+        ensures meets_none { MeetsNone self.new.met }
+        ensures tells_none { IfOk result TellsNone }
         ensures counts { Counts ground_end result (G.counts_of ground.old) (G.counts_of ground.new) }
         ensures cause { IfErr result (EndsBy (IsHeld G.tells (G.told ground.old) self.old)) }
     {

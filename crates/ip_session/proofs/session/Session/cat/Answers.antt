@@ -25,11 +25,11 @@ tree_of-requires g c =
 pub returns-in-Err-tree_of-clause-reads : goal.returns-in-Err-tree_of-clause-reads
 returns-in-Err-tree_of-clause-reads g c =
     unfetched_read _ _ _ c.args.self.now c.tree_of.new.self c.tree_of.ensures.same c.tree_of.ensures.looks c.requires.met c.args.target c.in-Ok.number c.in-Ok.ensures.number c.in-Ok.ensures.retained
-    c.failed.new.met (Command.Cat c.args.target c.args.path) c.in-Err-tree_of.fault c.failed.result (cat_refused c.args.target c.args.path) c.failed.ensures c.in-Err-tree_of.ensures.tree
+    c.failed.new.met (Command.Cat c.args.target c.args.path) c.in-Err-tree_of.fault c.failed.result (cat_refused c.args.target c.args.path) c.failed.ensures.value c.in-Err-tree_of.ensures.tree
 
 pub returns-in-Err-tree_of-clause-cause : goal.returns-in-Err-tree_of-clause-cause
 returns-in-Err-tree_of-clause-cause g c =
-    unfetched_ends c.args.self.now _ c.in-Ok.number _ (Command.Cat c.args.target c.args.path) c.failed.new.met c.in-Err-tree_of.fault c.failed.result c.in-Ok.ensures.retained c.failed.ensures
+    unfetched_ends c.args.self.now _ c.in-Ok.number _ (Command.Cat c.args.target c.args.path) c.failed.new.met c.in-Err-tree_of.fault c.failed.result c.in-Ok.ensures.retained c.failed.ensures.value
     c.in-Err-tree_of.ensures.tree
 
 pub returns-in-Ok-get-clause-reads : goal.returns-in-Ok-get-clause-reads
@@ -46,7 +46,7 @@ returns-in-Ok-get-clause-reads g c =
     let of = here.holds.tables in
     let read = c.in-Ok-tree_of.ensures.tree told r here.holds (c.in-Ok.ensures.retained r of) in (
       here.lawful.tree,
-      cat_gives r (phase_of s.store.collection) (work_at s.work v) c.args.target path n c.in-Ok-get.got c.got_reply.result (sym (c.in-Ok.ensures.number r of)) c.got_reply.ensures
+      cat_gives r (phase_of s.store.collection) (work_at s.work v) c.args.target path n c.in-Ok-get.got c.got_reply.result (sym (c.in-Ok.ensures.number r of)) c.got_reply.ensures.value
           (got_behind _ _ s.store mid (c.tree_of.ensures.looks told) r here.holds c.in-Ok-tree_of.tree n (λ (m : Tree). c.in-Ok-get.got ≡ got_at m path) (c.in-Ok-get.ensures.got told) read),
     )))
 
@@ -60,7 +60,7 @@ returns-clause-reads g c =
     let failed = c.failed-in-Err-get in
     read_as _ _ _ s _ (Command.Cat c.args.target c.args.path) command _ (ap (Command.Cat c.args.target) c.steps.ensures)
     (failed_read _ _ _ s c.get.new.self (same_on s.store mid c.get.new.self c.tree_of.ensures.same c.get.ensures.same) (λ told. looks_on _ _ _ s.store mid c.get.new.self (c.tree_of.ensures.looks told) (c.get.ensures.looks told)) c.requires.met
-    s.work.tree failed.new.met command (tree_fault fault) failed.result (cat_refused c.args.target path) (fails_as fault c.tree_fault.result s.met failed.new.met failed.result c.tree_fault.ensures failed.ensures)
+    s.work.tree failed.new.met command (tree_fault fault) failed.result (cat_refused c.args.target path) (fails_as fault c.tree_fault.result s.met failed.new.met failed.result c.tree_fault.ensures failed.ensures.value)
     (λ told r v here.
     let read = c.in-Ok-tree_of.ensures.tree told r here.holds (c.in-Ok.ensures.retained r here.holds.tables) in (
       here.lawful.tree,
@@ -76,7 +76,7 @@ returns-clause-cause g c =
     let command = Command.Cat c.args.target path in
     let fault = c.in-Err-get.fault in
     let failed = c.failed-in-Err-get in
-    ends (tree_fault fault) command s.met failed.new.met failed.result _ (fails_as fault c.tree_fault.result s.met failed.new.met failed.result c.tree_fault.ensures failed.ensures)
+    ends (tree_fault fault) command s.met failed.new.met failed.result _ (fails_as fault c.tree_fault.result s.met failed.new.met failed.result c.tree_fault.ensures failed.ensures.value)
     (λ (told, (r, v, here)).
     let holds = here.holds in
     let read = c.in-Ok-tree_of.ensures.tree told r holds (c.in-Ok.ensures.retained r holds.tables) in (

@@ -29,11 +29,11 @@ tree_of-requires g c =
 pub returns-in-Err-tree_of-clause-reads : goal.returns-in-Err-tree_of-clause-reads
 returns-in-Err-tree_of-clause-reads g c =
     unfetched_read _ _ _ c.args.self.now c.tree_of.new.self c.tree_of.ensures.same c.tree_of.ensures.looks c.requires.met c.args.target c.in-Ok.number c.in-Ok.ensures.number c.in-Ok.ensures.retained
-    c.failed.new.met (Command.Checkout c.args.target) c.in-Err-tree_of.fault c.failed.result (checkout_refused c.args.target) c.failed.ensures c.in-Err-tree_of.ensures.tree
+    c.failed.new.met (Command.Checkout c.args.target) c.in-Err-tree_of.fault c.failed.result (checkout_refused c.args.target) c.failed.ensures.value c.in-Err-tree_of.ensures.tree
 
 pub returns-in-Err-tree_of-clause-cause : goal.returns-in-Err-tree_of-clause-cause
 returns-in-Err-tree_of-clause-cause g c =
-    unfetched_ends c.args.self.now _ c.in-Ok.number _ (Command.Checkout c.args.target) c.failed.new.met c.in-Err-tree_of.fault c.failed.result c.in-Ok.ensures.retained c.failed.ensures
+    unfetched_ends c.args.self.now _ c.in-Ok.number _ (Command.Checkout c.args.target) c.failed.new.met c.in-Err-tree_of.fault c.failed.result c.in-Ok.ensures.retained c.failed.ensures.value
     c.in-Err-tree_of.ensures.tree
 
 pub retained_name-requires : goal.retained_name-requires

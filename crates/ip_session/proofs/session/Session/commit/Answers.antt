@@ -1,4 +1,6 @@
-use Rattle.std.proofs.Common.{sym, ◌∙◌}
+use Rattle.std.proofs.Common.{sym, ◌∙◌, subst}
+use Rattle.ip_session.specs.Asking.{MeetsNone}
+use Rattle.ip_session.proofs.Asking.{faulted}
 use Rattle.ip_session.proofs.Committing.{commit_goes, commit_cut, has_answer}
 use Rattle.ip_session.proofs.Placing.{commit_placed}
 use Rattle.ip_session.proofs.session.Session.commit.Goals as goal
@@ -25,3 +27,6 @@ returns-in-None-clause-runs g c = record {
   placed = λ told r v here. tt;
   cut = λ told r v here. commit_cut _ _ c.args.self.now c.commit-made.new.self c.commit-made.new.work _ r v here c.args.branch.now c.args.info c.commit-made.result c.commit-made.ensures.same_collection (c.commit-made.ensures.any_moment told r v here) c.requires.met;
 }
+
+pub returns-in-Some-clause-meets_none : goal.returns-in-Some-clause-meets_none
+returns-in-Some-clause-meets_none g c = subst MeetsNone (sym (c.met-self.ensures ∙ c.commit-made.ensures.met)) (faulted c.commit-made.result)

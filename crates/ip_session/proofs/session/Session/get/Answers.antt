@@ -21,7 +21,7 @@ returns-in-Ok-clause-reads g c =
     let path = c.steps.result.now in
     read_as _ _ _ s _ (Command.Get c.args.path) (Command.Get path) _ (ap Command.Get c.steps.ensures)
     (same_read _ _ _ s c.get.new.self c.get.ensures.same c.get.ensures.looks c.requires.met s.work.tree (Command.Get path) c.got_reply.result (get_refused path) (λ r v of. refl)
-    (λ told r v here. (here.lawful.tree, got_gives r (phase_of s.store.collection) (work_at s.work v) path c.in-Ok.got c.got_reply.result (there r here.holds.tables) c.got_reply.ensures (c.in-Ok.ensures.got told r v here.holds (here.lawful.tree (there r here.holds.tables))))))
+    (λ told r v here. (here.lawful.tree, got_gives r (phase_of s.store.collection) (work_at s.work v) path c.in-Ok.got c.got_reply.result (there r here.holds.tables) c.got_reply.ensures.value (c.in-Ok.ensures.got told r v here.holds (here.lawful.tree (there r here.holds.tables))))))
 
 pub returns-clause-reads : goal.returns-clause-reads
 returns-clause-reads g c =
@@ -30,7 +30,7 @@ returns-clause-reads g c =
     let path = c.steps.result.now in
     read_as _ _ _ s _ (Command.Get c.args.path) (Command.Get path) _ (ap Command.Get c.steps.ensures)
     (failed_read _ _ _ s c.get.new.self c.get.ensures.same c.get.ensures.looks c.requires.met s.work.tree c.failed.new.met (Command.Get path) (tree_fault c.in-Err.fault) c.failed.result (get_refused path)
-    (fails_as c.in-Err.fault c.tree_fault.result s.met c.failed.new.met c.failed.result c.tree_fault.ensures c.failed.ensures)
+    (fails_as c.in-Err.fault c.tree_fault.result s.met c.failed.new.met c.failed.result c.tree_fault.ensures c.failed.ensures.value)
     (λ told r v here. (here.lawful.tree, free_refuses (state_in s r v) (Command.Get path) c.in-Err.fault (c.in-Err.ensures.got told r v here.holds (here.lawful.tree (there r here.holds.tables))))))
 
 pub returns-clause-cause : goal.returns-clause-cause
@@ -39,5 +39,5 @@ returns-clause-cause g c =
     let there = not_given s c.given_up.result (search rules) c.given_up.ensures in
     let path = c.steps.result.now in
     ends (tree_fault c.in-Err.fault) (Command.Get path) s.met c.failed.new.met c.failed.result _
-    (fails_as c.in-Err.fault c.tree_fault.result s.met c.failed.new.met c.failed.result c.tree_fault.ensures c.failed.ensures)
+    (fails_as c.in-Err.fault c.tree_fault.result s.met c.failed.new.met c.failed.result c.tree_fault.ensures c.failed.ensures.value)
     (λ (told, (r, v, here)). (state_in s r v, free_refuses (state_in s r v) (Command.Get path) c.in-Err.fault (c.in-Err.ensures.got told r v here.holds (here.lawful.tree (there r here.holds.tables)))))

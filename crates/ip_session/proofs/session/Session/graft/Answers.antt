@@ -37,11 +37,11 @@ tree_of-requires g c =
 pub returns-in-Err-tree_of-clause-reads : goal.returns-in-Err-tree_of-clause-reads
 returns-in-Err-tree_of-clause-reads g c =
     unfetched_read _ _ _ c.args.self.now c.tree_of.new.self c.tree_of.ensures.same c.tree_of.ensures.looks c.requires.met c.args.target c.in-Ok.number c.in-Ok.ensures.number c.in-Ok.ensures.retained
-    c.failed.new.met (Command.Graft c.args.target c.args.from c.args.to) c.in-Err-tree_of.fault c.failed.result (graft_refused c.args.target c.args.from c.args.to) c.failed.ensures c.in-Err-tree_of.ensures.tree
+    c.failed.new.met (Command.Graft c.args.target c.args.from c.args.to) c.in-Err-tree_of.fault c.failed.result (graft_refused c.args.target c.args.from c.args.to) c.failed.ensures.value c.in-Err-tree_of.ensures.tree
 
 pub returns-in-Err-tree_of-clause-cause : goal.returns-in-Err-tree_of-clause-cause
 returns-in-Err-tree_of-clause-cause g c =
-    unfetched_ends c.args.self.now _ c.in-Ok.number _ (Command.Graft c.args.target c.args.from c.args.to) c.failed.new.met c.in-Err-tree_of.fault c.failed.result c.in-Ok.ensures.retained c.failed.ensures
+    unfetched_ends c.args.self.now _ c.in-Ok.number _ (Command.Graft c.args.target c.args.from c.args.to) c.failed.new.met c.in-Err-tree_of.fault c.failed.result c.in-Ok.ensures.retained c.failed.ensures.value
     c.in-Err-tree_of.ensures.tree
 
 pub returns-in-Ok-true-clause-reads : goal.returns-in-Ok-true-clause-reads
@@ -98,7 +98,7 @@ returns-clause-reads g c =
     read_as _ _ _ s _ (Command.Graft c.args.target c.args.from c.args.to) command _ (ap₂ (Command.Graft c.args.target) c.steps.ensures c.steps-2.ensures)
     (failed_read _ _ _ s c.graft.new.self (same_on s.store mid c.graft.new.self c.tree_of.ensures.same c.graft.ensures.same)
     (λ told. looks_on _ _ _ s.store mid c.graft.new.self (c.tree_of.ensures.looks told) (c.graft.ensures.looks told)) c.requires.met tree failed.new.met command (tree_fault fault) failed.result (graft_refused c.args.target from to)
-    (fails_as fault c.tree_fault.result s.met failed.new.met failed.result c.tree_fault.ensures failed.ensures)
+    (fails_as fault c.tree_fault.result s.met failed.new.met failed.result c.tree_fault.ensures failed.ensures.value)
     (λ told r v here.
     let of = here.holds.tables in
     let t = c.in-Ok-tree_of.ensures.tree told r here.holds (c.in-Ok.ensures.retained r of) in
@@ -118,7 +118,7 @@ returns-clause-cause g c =
     let command = Command.Graft c.args.target from to in
     let fault = c.in-Err-graft.fault in
     let failed = c.failed-in-Err-graft in
-    ends (tree_fault fault) command s.met failed.new.met failed.result _ (fails_as fault c.tree_fault.result s.met failed.new.met failed.result c.tree_fault.ensures failed.ensures)
+    ends (tree_fault fault) command s.met failed.new.met failed.result _ (fails_as fault c.tree_fault.result s.met failed.new.met failed.result c.tree_fault.ensures failed.ensures.value)
     (λ (told, (r, v, here)).
     let of = here.holds.tables in
     let t = c.in-Ok-tree_of.ensures.tree told r here.holds (c.in-Ok.ensures.retained r of) in

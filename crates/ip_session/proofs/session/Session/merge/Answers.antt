@@ -1,10 +1,12 @@
-use Rattle.std.proofs.Common.{sym, subst}
+use Rattle.std.proofs.Common.{sym, ◌∙◌, subst}
 use Rattle.std.specs.Prelude.{IfSome}
 use Rattle.ip_spec.specs.Path.{Bytes}
 use Rattle.ip_store.specs.Collecting.{phase_of}
 use Rattle.ip_store.specs.Merging.{merge_reply, AnswersMerge, MergesAtMoments, AppendsMerge, LimitsMerge}
 use Rattle.ip_store.specs.Store.{image_records}
+use Rattle.ip_session.specs.Asking.{MeetsNone}
 use Rattle.ip_session.specs.Session.{state_in}
+use Rattle.ip_session.proofs.Asking.{faulted}
 use Rattle.ip_session.proofs.MergeGoes.{has_reply, merge_ends, merge_counts, answer_counts, merge_serves, unmerged_goes, unmerged_placed, merge_goes, merge_cut, merge_placed}
 use Rattle.ip_session.proofs.session.Session.merge.Goals as goal
 
@@ -14,7 +16,7 @@ returns-in-Err-clause-runs g c =
     record {
       serving = c.requires.tables;
       goes = λ known r v here. unmerged_goes c.args.target c.args.branch c.args.info rule _ c.args.self.now c.args.self.now.met r v here c.in-Err.reply c.requires.met (sym (c.in-Err.ensures.number r here.holds.tables));
-      placed = λ known r v here. unmerged_placed c.args.target c.args.branch c.args.info rule _ (state_in c.args.self.now r v) v c.in-Err.reply (sym (c.in-Err.ensures.number r here.holds.tables));
+      placed = λ known r v here. unmerged_placed c.args.target c.args.branch c.args.info rule _ _ (state_in c.args.self.now r v) v c.in-Err.reply (sym (c.in-Err.ensures.number r here.holds.tables));
       cut = λ known r v here. tt;
     }
 
@@ -78,3 +80,6 @@ returns-in-Err-merge_answer-clause-counts g c = merge_counts c.merge_into-made.r
 pub returns-in-Err-merge_answer-clause-cause : goal.returns-in-Err-merge_answer-clause-cause
 returns-in-Err-merge_answer-clause-cause g c decisive = merge_ends c.merge_into-made.result c.in-Err-merge_answer.end _ c.in-Err-merge_answer.ensures.end
     (λ (told, (r, v, here)). c.merge_into-made.ensures.undamaged told decisive r here.holds (c.in-Ok.ensures.retained r here.holds.tables))
+
+pub returns-in-Ok-merge_answer-clause-meets_none : goal.returns-in-Ok-merge_answer-clause-meets_none
+returns-in-Ok-merge_answer-clause-meets_none g c = subst MeetsNone (sym (c.met-self.ensures ∙ c.merge_into-made.ensures.met)) (faulted c.merge_into-made.result)

@@ -43,7 +43,7 @@ returns-clause-reads g c =
     let path = c.steps.result.now in
     read_as _ _ _ s _ (Command.Rm c.args.path) (Command.Rm path) _ (ap Command.Rm c.steps.ensures)
     (failed_read _ _ _ s c.remove.new.self c.remove.ensures.same c.remove.ensures.looks c.requires.met c.remove.new.tree c.failed.new.met (Command.Rm path) (tree_fault c.in-Err.fault) c.failed.result (rm_refused path)
-    (fails_as c.in-Err.fault c.tree_fault.result s.met c.failed.new.met c.failed.result c.tree_fault.ensures c.failed.ensures)
+    (fails_as c.in-Err.fault c.tree_fault.result s.met c.failed.new.met c.failed.result c.tree_fault.ensures c.failed.ensures.value)
     (λ told r v here. let not_removed = c.in-Err.ensures.removes told r v here.holds (here.lawful.tree (there r here.holds.tables)) in ((λ still. not_removed.view), free_refuses (state_in s r v) (Command.Rm path) c.in-Err.fault not_removed.cause)))
 
 pub returns-clause-cause : goal.returns-clause-cause
@@ -52,7 +52,7 @@ returns-clause-cause g c =
     let there = not_given s c.given_up.result (search rules) c.given_up.ensures in
     let path = c.steps.result.now in
     ends (tree_fault c.in-Err.fault) (Command.Rm path) s.met c.failed.new.met c.failed.result _
-    (fails_as c.in-Err.fault c.tree_fault.result s.met c.failed.new.met c.failed.result c.tree_fault.ensures c.failed.ensures)
+    (fails_as c.in-Err.fault c.tree_fault.result s.met c.failed.new.met c.failed.result c.tree_fault.ensures c.failed.ensures.value)
     (λ (told, (r, v, here)).
     let not_removed = c.in-Err.ensures.removes told r v here.holds (here.lawful.tree (there r here.holds.tables)) in
     (state_in s r v, free_refuses (state_in s r v) (Command.Rm path) c.in-Err.fault not_removed.cause))

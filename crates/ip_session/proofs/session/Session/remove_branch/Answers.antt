@@ -10,6 +10,8 @@ use Rattle.ip_store.specs.Changes.{Changes, LimitsSpace, Appends}
 use Rattle.ip_store.specs.Collecting.{phase_of}
 use Rattle.ip_store.specs.Naming.{removed_reply, AnswersRemove, without_branch}
 use Rattle.ip_store.proofs.Works.{works_stay}
+use Rattle.ip_session.specs.Asking.{MeetsNone}
+use Rattle.ip_session.proofs.Asking.{faulted}
 use Rattle.ip_session.proofs.BranchGoes.{serves, remove_goes, remove_cut, is_ground_removed}
 use Rattle.ip_session.proofs.Placing.{remove_placed}
 use Rattle.ip_session.proofs.session.Session.remove_branch.Goals as goal
@@ -22,19 +24,19 @@ returns-in-Some-clause-runs g c = record {
       let store = c.remove_branch-made.new.self in
       let answers = subst (λ (n : Bytes). IfSome (removed_reply n made) (AnswersRemove r (phase_of c.args.self.now.store.collection) n store.met store)) c.as_slice.ensures (c.remove_branch-made.ensures.answered r is.0) in
       serves r (phase_of c.args.self.now.store.collection) (Command.BranchRm c.args.name) store.met c.in-Some.reply store c.args.self.now is.1
-      (subst (λ (o : Option Reply). IfSome o (AnswersRemove r (phase_of c.args.self.now.store.collection) c.args.name store.met store)) (sym c.removed_reply.ensures ∙ c.in-Some.is) answers);
+      (subst (λ (o : Option Reply). IfSome o (AnswersRemove r (phase_of c.args.self.now.store.collection) c.args.name store.met store)) (sym c.removed_reply.ensures.value ∙ c.in-Some.is) answers);
   goes = λ told r v here.
       let made = c.remove_branch-made.result in
       let store = c.remove_branch-made.new.self in
       remove_goes _ _ c.args.self.now store _ r v here c.args.name made c.remove_branch-made.ensures.same_collection
       (subst (λ (n : Bytes). Changes {A = Bool} r (without_branch r n) made store (g.G.Ground.told c.args.ground.now) (g.G.Ground.told c.remove_branch-made.new.outside)) c.as_slice.ensures (c.remove_branch-made.ensures.any_moment told r here.holds))
       (λ has q now kept parents. record { holds = now; lawful = works_stay _ _ r q _ v here.lawful (λ there. c.remove_branch-made.ensures.records_stay told has r q here.holds now) (omega (arith, kept)) parents })
-      c.in-Some.reply c.met-self.ensures (sym c.removed_reply.ensures ∙ c.in-Some.is) (λ absent. ap g.G.Ground.told (c.remove_branch-made.ensures.absent absent))
+      c.in-Some.reply c.met-self.ensures (sym c.removed_reply.ensures.value ∙ c.in-Some.is) (λ absent. ap g.G.Ground.told (c.remove_branch-made.ensures.absent absent))
       (subst (λ (n : Bytes). IfSome (removed_reply n made) (AnswersRemove r (phase_of c.args.self.now.store.collection) n store.met store)) c.as_slice.ensures (c.remove_branch-made.ensures.answered r here.holds.tables));
   placed = λ told r v here.
       let made = c.remove_branch-made.result in
       let store = c.remove_branch-made.new.self in
-      remove_placed _ _ c.args.self.now store r v here c.args.name made c.in-Some.reply (sym c.removed_reply.ensures ∙ c.in-Some.is)
+      remove_placed _ _ c.args.self.now store r v here c.args.name made c.in-Some.reply (sym c.removed_reply.ensures.value ∙ c.in-Some.is)
       (subst (λ (n : Bytes). Changes {A = Bool} r (without_branch r n) made store (g.G.Ground.told c.args.ground.now) (g.G.Ground.told c.remove_branch-made.new.outside)) c.as_slice.ensures (c.remove_branch-made.ensures.any_moment told r here.holds))
       (subst (λ (n : Bytes). made ≢ Ok false → LimitsSpace (c.args.self.now.store.slot.end + length (spelling (Record.BranchRemove n))) made c.args.self.now.store) c.as_slice.ensures c.remove_branch-made.ensures.limits)
       (λ absent. ap g.G.Ground.told (c.remove_branch-made.ensures.absent absent))
@@ -55,5 +57,8 @@ returns-in-None-clause-runs g c = record {
       (subst (λ (n : Bytes). Changes {A = Bool} r (without_branch r n) made store (g.G.Ground.told c.args.ground.now) (g.G.Ground.told c.remove_branch-made.new.outside)) c.as_slice.ensures (c.remove_branch-made.ensures.any_moment told r here.holds))
       (λ has q now kept parents. record { holds = now; lawful = works_stay _ _ r q _ v here.lawful (λ there. c.remove_branch-made.ensures.records_stay told has r q here.holds now) (omega (arith, kept)) parents })
       c.requires.met
-      (subst (λ (n : Bytes). IsSome (head r n)) c.as_slice.ensures (c.remove_branch-made.ensures.begun r here.holds.tables (is_ground_removed c.args.name made c.remove_branch-made.ensures.undamaged (sym c.removed_reply.ensures ∙ c.in-None.is))));
+      (subst (λ (n : Bytes). IsSome (head r n)) c.as_slice.ensures (c.remove_branch-made.ensures.begun r here.holds.tables (is_ground_removed c.args.name made c.remove_branch-made.ensures.undamaged (sym c.removed_reply.ensures.value ∙ c.in-None.is))));
 }
+
+pub returns-in-Some-clause-meets_none : goal.returns-in-Some-clause-meets_none
+returns-in-Some-clause-meets_none g c = subst MeetsNone (sym (c.met-self.ensures ∙ c.remove_branch-made.ensures.met)) (faulted c.remove_branch-made.result)

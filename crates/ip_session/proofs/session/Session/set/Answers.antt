@@ -31,7 +31,7 @@ returns-clause-reads g c =
     let bytes = c.as_slice.result.now in
     read_as _ _ _ s _ (Command.Set c.args.path c.args.contents) (Command.Set path bytes) _ (ap₂ Command.Set c.steps.ensures c.as_slice.ensures)
     (failed_read _ _ _ s c.set.new.self c.set.ensures.same c.set.ensures.looks c.requires.met c.set.new.tree c.failed.new.met (Command.Set path bytes) (tree_fault c.in-Err.fault) c.failed.result (set_refused path bytes)
-    (fails_as c.in-Err.fault c.tree_fault.result s.met c.failed.new.met c.failed.result c.tree_fault.ensures c.failed.ensures)
+    (fails_as c.in-Err.fault c.tree_fault.result s.met c.failed.new.met c.failed.result c.tree_fault.ensures c.failed.ensures.value)
     (λ told r v here. let not_set = c.in-Err.ensures.sets told r v here.holds (here.lawful.tree (there r here.holds.tables)) in ((λ still. not_set.view), set_refuses r (phase_of s.store.collection) (work_at s.work v) path bytes c.in-Err.fault (there r here.holds.tables) not_set.cause)))
 
 pub returns-clause-cause : goal.returns-clause-cause
@@ -41,7 +41,7 @@ returns-clause-cause g c =
     let path = c.steps.result.now in
     let bytes = c.as_slice.result.now in
     ends (tree_fault c.in-Err.fault) (Command.Set path bytes) s.met c.failed.new.met c.failed.result _
-    (fails_as c.in-Err.fault c.tree_fault.result s.met c.failed.new.met c.failed.result c.tree_fault.ensures c.failed.ensures)
+    (fails_as c.in-Err.fault c.tree_fault.result s.met c.failed.new.met c.failed.result c.tree_fault.ensures c.failed.ensures.value)
     (λ (told, (r, v, here)).
     let not_set = c.in-Err.ensures.sets told r v here.holds (here.lawful.tree (there r here.holds.tables)) in
     (state_in s r v, set_refuses r (phase_of s.store.collection) (work_at s.work v) path bytes c.in-Err.fault (there r here.holds.tables) not_set.cause))

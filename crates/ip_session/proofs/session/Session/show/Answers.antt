@@ -27,20 +27,20 @@ returns-in-Ok-show-clause-reads g c =
     (λ told r v here.
     let of = here.holds.tables in (
       here.lawful.tree,
-      shown_gives r (phase_of s.store.collection) (work_at s.work v) c.args.target c.in-Ok.number _ c.shown_reply.result (sym (c.in-Ok.ensures.number r of)) c.shown_reply.ensures
+      shown_gives r (phase_of s.store.collection) (work_at s.work v) c.args.target c.in-Ok.number _ c.shown_reply.result (sym (c.in-Ok.ensures.number r of)) c.shown_reply.ensures.value
           (c.in-Ok-show.ensures.shows told r here.holds (c.in-Ok.ensures.retained r of)),
     ))
 
 pub returns-in-Err-show-clause-reads : goal.returns-in-Err-show-clause-reads
 returns-in-Err-show-clause-reads g c =
     let s = c.args.self.now in
-    failed_read _ _ _ s c.show.new.self c.show.ensures.same c.show.ensures.looks c.requires.met s.work.tree c.failed.new.met (Command.Show c.args.target) c.in-Err-show.fault c.failed.result (show_refused c.args.target) c.failed.ensures
+    failed_read _ _ _ s c.show.new.self c.show.ensures.same c.show.ensures.looks c.requires.met s.work.tree c.failed.new.met (Command.Show c.args.target) c.in-Err-show.fault c.failed.result (show_refused c.args.target) c.failed.ensures.value
     (λ told r v here. (here.lawful.tree, unshown_refuses r c.in-Ok.number (state_in s r v) (Command.Show c.args.target) c.in-Err-show.fault (c.in-Err-show.ensures.shows told r here.holds (c.in-Ok.ensures.retained r here.holds.tables))))
 
 pub returns-in-Err-show-clause-cause : goal.returns-in-Err-show-clause-cause
 returns-in-Err-show-clause-cause g c =
     let s = c.args.self.now in
-    ends c.in-Err-show.fault (Command.Show c.args.target) s.met c.failed.new.met c.failed.result _ c.failed.ensures
+    ends c.in-Err-show.fault (Command.Show c.args.target) s.met c.failed.new.met c.failed.result _ c.failed.ensures.value
     (λ (told, (r, v, here)). (
       state_in s r v,
       unshown_refuses r c.in-Ok.number (state_in s r v) (Command.Show c.args.target) c.in-Err-show.fault (c.in-Err-show.ensures.shows told r here.holds (c.in-Ok.ensures.retained r here.holds.tables)),

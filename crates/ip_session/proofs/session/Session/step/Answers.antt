@@ -1,4 +1,4 @@
-use Rattle.std.proofs.Common.{rules, sym, subst, Err}
+use Rattle.std.proofs.Common.{rules, sym, ap, subst, refl, false, Err}
 use Rattle.ip_spec.specs.declared.command.LineFault.{LineFault}
 use Rattle.ip_spec.specs.Line.{Reads}
 use Rattle.ip_script.specs.Served.{IsServedLine}
@@ -6,6 +6,8 @@ use Rattle.ip_script.proofs.LineLaw.{one_command}
 use Rattle.ip_script.proofs.ReadLaw.{each_line}
 use Rattle.ip_store.specs.Collecting.{phase_of}
 use Rattle.ip_store.specs.Work.{work_at}
+use Rattle.ip_spec.specs.declared.met.Met.{Met}
+use Rattle.ip_session.proofs.Asking.{lined_asked, lined_counts, nothing_spawned, none_counts, none_met}
 use Rattle.ip_session.proofs.SessionLemmas.{line_refused, has_words}
 use Rattle.ip_session.proofs.SessionGoes.{lined_ok, lined_cut, bad_goes, refused_goes}
 use Rattle.ip_session.proofs.Placing.{lined_placed, quiet_placed}
@@ -33,12 +35,31 @@ returns-in-Err-Memory-clause-goes g c told decisive r v here = refused_goes _ _ 
     (line_refused (g.D.Decides.rule c.args.rules.now) r (phase_of c.args.self.now.store.collection) (work_at c.args.self.now.work v) c.args.line.now (each_line c.args.line.now) (has_words c.args.line.now c.in-Err-Memory.field-0 c.in-Err-Memory.field-0-is c.in-Err-Memory.ensures.one_word))
 
 pub returns-in-Ok-clause-placed : goal.returns-in-Ok-clause-placed
-returns-in-Ok-clause-placed g c told decisive r v here = lined_placed _ _ _ _ v c.in-Ok.command c.args.line.now c.run.result c.in-Ok.ensures.reads
+returns-in-Ok-clause-placed g c told decisive r v here = lined_placed _ _ _ _ _ v c.in-Ok.command c.args.line.now c.run.result c.in-Ok.ensures.reads
     (λ other spelled. one_command c.args.line.now other c.in-Ok.command spelled c.in-Ok.ensures.reads) (c.run.ensures.runs.placed (told, decisive) r v here)
 
 pub returns-in-Err-Bad-clause-placed : goal.returns-in-Err-Bad-clause-placed
-returns-in-Err-Bad-clause-placed g c told decisive r v here = quiet_placed _ _ _ v c.args.line.now (Reply.Bad c.in-Err-Bad.at) (λ command h. h) (λ l is. absurd (cc is))
+returns-in-Err-Bad-clause-placed g c told decisive r v here = quiet_placed _ _ _ _ _ v c.args.line.now (Reply.Bad c.in-Err-Bad.at) (λ command h. h) (λ l is. absurd (cc is)) tt refl
 
 pub returns-in-Err-Memory-clause-placed : goal.returns-in-Err-Memory-clause-placed
 returns-in-Err-Memory-clause-placed g c told decisive r v here =
-    subst (PlacedIn (g.D.Decides.rule c.args.rules.now) c.args.self.now.store.slot c.args.self.now.store.slot (state_in c.args.self.now r v) v c.args.line.now) (sym c.refuse.ensures.reply) (quiet_placed _ _ _ v c.args.line.now Reply.Memory (λ command h. h) (λ l is. absurd (cc is)))
+    subst (PlacedIn (g.D.Decides.rule c.args.rules.now) c.args.self.now.store.slot c.args.self.now.store.unswept c.args.self.now.store.slot (state_in c.args.self.now r v) v c.args.line.now) (sym c.refuse.ensures.reply) (quiet_placed _ _ _ _ _ v c.args.line.now Reply.Memory (λ command h. h) (λ l is. absurd (cc is)) tt refl)
+
+pub returns-in-Ok-clause-asked : goal.returns-in-Ok-clause-asked
+returns-in-Ok-clause-asked g c = lined_asked _ _ _ c.args.self.now c.run.new.self c.met_only-self.result c.in-Ok.command c.args.line.now c.run.result _ _ c.in-Ok.ensures.reads
+    (λ other spelled. one_command c.args.line.now other c.in-Ok.command spelled c.in-Ok.ensures.reads) c.run.ensures.asked
+
+pub returns-in-Ok-clause-counts : goal.returns-in-Ok-clause-counts
+returns-in-Ok-clause-counts g c = lined_counts c.in-Ok.command c.args.line.now c.run.result c.run.new.self.met _ _ (λ other spelled. one_command c.args.line.now other c.in-Ok.command spelled c.in-Ok.ensures.reads) c.run.ensures.counts
+
+pub returns-in-Err-Bad-clause-asked : goal.returns-in-Err-Bad-clause-asked
+returns-in-Err-Bad-clause-asked g c = nothing_spawned _ _ c.args.self.now _ c.args.line.now (Reply.Bad c.in-Err-Bad.at) _ tt (none_met c.met_only-self.result false c.met_only-self.ensures)
+
+pub returns-in-Err-Bad-clause-counts : goal.returns-in-Err-Bad-clause-counts
+returns-in-Err-Bad-clause-counts g c = none_counts c.args.line.now (Reply.Bad c.in-Err-Bad.at) c.met_only-self.result _ (ap (λ (m : Met). m.left) c.met_only-self.ensures)
+
+pub returns-in-Err-Memory-clause-asked : goal.returns-in-Err-Memory-clause-asked
+returns-in-Err-Memory-clause-asked g c = nothing_spawned _ _ c.args.self.now _ c.args.line.now c.refuse.result _ c.refuse.ensures.tells_none c.refuse.ensures.meets_none
+
+pub returns-in-Err-Memory-clause-counts : goal.returns-in-Err-Memory-clause-counts
+returns-in-Err-Memory-clause-counts g c = none_counts c.args.line.now c.refuse.result c.refuse.new.met _ (ap (λ (m : Met). m.left) c.refuse.ensures.met)

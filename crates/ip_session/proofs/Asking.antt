@@ -1,0 +1,495 @@
+-- What a command asks of the spawner, and what is counted meanwhile.
+--     nothing_asked      it asks nothing.      plain_asked      so for a command that has to do with no child.      nothing_spawned      for a line
+--     none_met, faulted      no child was met.      start_asked      a collection was to begin.      start_quiet, start_counts      what was counted of the ground.      start_ends      how the session may end
+--     cancel_asked, cancel_counts, cancel_quiet      so of one that was to end
+--     handles_of      a command is one of the others.      plain_counts, plain_quiet      so of these.      asked_as, counts_as      by another name of the command
+--     lined_asked, lined_counts      so of the line that spells a command.      any_counts, none_counts      of any line, and of one that is none
+--     whole_asked, unwritten      a reply's text was written, or there was no memory for it
+use Rattle.std.proofs.Common.{◌≡◌, ◌≢◌, ◌↔◌, ◌⊎◌, inl, inr, ℕ, ◌-◌, ◌^◌, ◌≤◌, ◌++◌, Bool, true, false, List, [], ◌∷◌, refl, sym, ap, ◌∙◌, subst, arith, Option, Some, None, Ok, Err, IsTrue, length, append-nil}
+use Rattle.std.specs.Prelude.{Result, IfOk, OnOk, IfErr, IsErrOf, IsSome, IsSomeAnd, is_err, is_some, not}
+use Rattle.ip_ground.specs.declared.names.GroundCounts.{GroundCounts}
+use Rattle.ip_ground.specs.declared.names.Reaped.{Reaped}
+use Rattle.ip_ground.specs.Counts.{Counts, CountsLeft, Rose}
+use Rattle.ip_spawn.proofs.Rising.{rose_counted}
+use Rattle.ip_spawn.specs.Children.{told_after}
+use Rattle.ip_spawn.specs.Children as spawn
+use Rattle.ip_spawn.specs.Counts as spawned
+use Rattle.ip_spawn.specs.declared.job.Job.{Job}
+use Rattle.ip_spawn.specs.declared.spawner.SpawnCounts.{SpawnCounts}
+use Rattle.ip_spec.specs.declared.command.Command.{Command}
+use Rattle.ip_spec.specs.declared.command.Target.{Target}
+use Rattle.ip_spec.specs.declared.met.Met.{Met}
+use Rattle.ip_spec.specs.declared.reply.Reply.{Reply}
+use Rattle.ip_spec.specs.Machine.{exit_kept}
+use Rattle.ip_spec.specs.Path.{Bytes}
+use Rattle.ip_spec.specs.Step.{IsMet}
+use Rattle.ip_spec.specs.View.{no_view}
+use Rattle.ip_spec.specs.Record.{Hash}
+use Rattle.ip_spec.specs.Repository.{Repository}
+use Rattle.ip_script.specs.Served.{IsServedLine}
+use Rattle.ip_store.specs.declared.cancelling.CancelFault.{CancelFault}
+use Rattle.ip_store.specs.declared.cancelling.Cancelled.{Cancelled}
+use Rattle.ip_store.specs.declared.collection.Collection.{Collection}
+use Rattle.ip_store.specs.declared.committing.StoreFault.{StoreFault}
+use Rattle.ip_store.specs.declared.starting.CollectFault.{CollectFault}
+use Rattle.ip_store.specs.declared.store.Store.{Store}
+use Rattle.ip_store.specs.Cancelling.{CancelReplies, met_by_cancel, CountsCancel, IsKilled}
+use Rattle.ip_store.specs.Collecting.{phase_of}
+use Rattle.ip_store.specs.Commits as commits
+use Rattle.ip_store.specs.Commits.{met_by}
+use Rattle.ip_store.specs.Faults.{ground_start}
+use Rattle.ip_store.specs.Starting.{AnswersCall, branch_name_at, met_by_start, IsBegun, IsTurnedDown, IsJobAt, started_by}
+use Rattle.ip_store.specs.Work.{work_at, state_at}
+use Rattle.ip_session.specs.declared.session.Session.{Session}
+use Rattle.ip_session.specs.declared.session.SessionEnd.{SessionEnd}
+use Rattle.ip_session.specs.Asking.{HasStarted, HandlesNone, TellsNone, MeetsNone, QuietIfLong, Asked, Spawns}
+use Rattle.ip_session.specs.Session.{met_only, IsLong, CountsBy, CountsAny, CountsIn, EndsBy, ground_end}
+use Rattle.ip_session.specs.Starting.{HeldReplies, StartReplies, cancel_answer}
+use Rattle.ip_session.proofs.SessionLemmas.{started_is_short, cancelled_is_short, orphan_is_short, idle_is_short}
+
+-- two facts on what there is
+pub both_some : {X : Type 0} (o : Option X) (P Q : X → Type 0) (R : Type 0) → ((x : X) → P x → Q x → R) → IsSomeAnd o P → IsSomeAnd o Q → R
+both_some None P Q R each p q = absurd p
+both_some (Some x) P Q R each p q = each x p q
+
+-- ---- nothing is asked
+
+abbrev pub AskedSo : (tells : Bool) (x y : spawn.Told) (s s' : Session) (command : Command) (result : Result Reply SessionEnd) (m n : SpawnCounts) → Type 0
+AskedSo tells x y s s' command result m n = (jobs : List Job) × (ends : List Reaped) × (IsTrue tells → y ≡ record { started = x.started ++ jobs; reaped = x.reaped ++ ends }) × Asked s s' command result jobs ends m n
+
+-- and nothing was added to what is told
+none_added : (x : spawn.Told) → x ≡ record { started = x.started ++ []; reaped = x.reaped ++ [] }
+none_added x = λ i. record { started = sym (append-nil x.started) i; reaped = sym (append-nil x.reaped) i }
+
+never_failed : {A : Type 0} (b : Bool) → b ≡ false → IsTrue b → A
+never_failed b is failed = absurd (cc (is, failed))
+
+pub asks_nothing : (s s' : Session) (command : Command) (result : Result Reply SessionEnd) (m : SpawnCounts) → ¬ HasStarted result → result ≢ Ok Reply.Cancelled → MeetsNone s'.met → Asked s s' command result [] [] m m
+asks_nothing s s' command result m never over met = record {
+  started = λ has. absurd (never has);
+  none_started = λ _. refl;
+  running = refl;
+  waits = refl;
+  reaps = omega arith;
+  none_reaped = λ _. (refl, refl);
+  cancelled = λ is. absurd (over is);
+  spawn_faults = omega arith;
+  start = λ failed. never_failed s'.met.start_failed met.0 failed;
+  kill = λ failed. never_failed s'.met.kill_failed met.1 failed;
+}
+
+pub nothing_asked : (tells : Bool) (x y : spawn.Told) (s s' : Session) (command : Command) (result : Result Reply SessionEnd) (m n : SpawnCounts) → y ≡ x → n ≡ m → ¬ HasStarted result → result ≢ Ok Reply.Cancelled → MeetsNone s'.met → AskedSo tells x y s s' command result m n
+nothing_asked tells x y s s' command result m n same still never over met =
+    ([], [], λ _. same ∙ none_added x, subst (λ (k : SpawnCounts). Asked s s' command result [] [] m k) (sym still) (asks_nothing s s' command result m never over met))
+
+tells_start : (result : Result Reply SessionEnd) → IfOk result TellsNone → ¬ HasStarted result
+tells_start (Ok (Reply.Started name)) none has = none
+tells_start (Ok _) none has = has
+tells_start (Err end) none has = has
+
+tells_over : (result : Result Reply SessionEnd) → IfOk result TellsNone → result ≢ Ok Reply.Cancelled
+tells_over result none is = subst (λ (x : Result Reply SessionEnd). IfOk x TellsNone) is none
+
+pub plain_asked : (tells : Bool) (x : spawn.Told) (s s' : Session) (command : Command) (result : Result Reply SessionEnd) (m : SpawnCounts) → IfOk result TellsNone → MeetsNone s'.met → AskedSo tells x x s s' command result m m
+plain_asked tells x s s' command result m none met = nothing_asked tells x x s s' command result m m refl refl (tells_start result none) (tells_over result none) met
+
+pub none_met : (met : Met) (refused : Bool) → met ≡ met_only refused → MeetsNone met
+none_met met refused is = (ap (λ (m : Met). m.start_failed) is, ap (λ (m : Met). m.kill_failed) is)
+
+-- by a call of the store that has to do with no child
+pub faulted : {A : Type 0} (made : Result A StoreFault) → MeetsNone (met_by made)
+faulted (Ok x) = (refl, refl)
+faulted (Err (StoreFault.Limit limit)) = (refl, refl)
+faulted (Err StoreFault.Memory) = (refl, refl)
+faulted (Err _) = (refl, refl)
+
+-- ---- a collection is to begin
+
+-- none did
+module _ (tells : Bool) (x y : spawn.Told) (s s' : Session) (target : Target) (m n : SpawnCounts) (same : (y ≡ x) × (n ≡ m)) where
+  abbrev None_of : Result Reply SessionEnd → Type 0
+  None_of result = AskedSo tells x y s s' (Command.Collect target) result m n
+
+  unstarted : (result : Result Reply SessionEnd) (reply : Reply) → result ≡ Ok reply → TellsNone reply → MeetsNone s'.met → None_of result
+  unstarted result reply is none met = subst None_of (sym is) (nothing_asked tells x y s s' (Command.Collect target) (Ok reply) m n same.0 same.1 (tells_start (Ok reply) none) (tells_over (Ok reply) none) met)
+
+  unended : (result : Result Reply SessionEnd) (end : SessionEnd) → result ≡ Err end → MeetsNone s'.met → None_of result
+  unended result end is met = subst None_of (sym is) (nothing_asked tells x y s s' (Command.Collect target) (Err end) m n same.0 same.1 (λ h. h) (λ e. absurd (cc e)) met)
+
+meets : (m m' : Met) → m ≡ m' → MeetsNone m' → MeetsNone m
+meets m m' is none = subst MeetsNone (sym is) none
+
+module _ (tells : Bool) (x y : spawn.Told) (s : Session) (store : Store) (r : Repository) (target : Target) (number : ℕ) (met : Met) (result : Result Reply SessionEnd) (m n : SpawnCounts) where
+  abbrev now : Session
+  now = record s { store = store; met = met }
+
+  abbrev Begun : Result Hash CollectFault → Type 0
+  Begun begun = (job : Job) × IsJobAt s.store number store.slot job × OnOk begun (store.collection ≡ Some (record { commit = number; job = job; exit = None }))
+      × (IsTrue tells → y ≡ record { started = x.started ++ started_by job begun; reaped = x.reaped }) × spawned.Counts false false false (is_err begun) m n
+
+  pub start_asked : (begun : Result Hash CollectFault) → StartReplies r begun store.met met result → store.met ≡ met_by_start begun → (IsTurnedDown begun ⊎ IsErrOf begun CollectFault.Ground → (y ≡ x) × (n ≡ m)) → (IsBegun begun → Begun begun)
+      → AskedSo tells x y s now (Command.Collect target) result m n
+  start_asked (Ok name) says is_met still asked =
+      let (job, at, runs, told, counts) = asked tt in
+      let none : MeetsNone met = meets met (met_by_start (Ok name)) (says.1 ∙ is_met) (refl, refl) in (
+        job ∷ [],
+        [],
+        λ t. told t ∙ (λ i. record { started = x.started ++ job ∷ []; reaped = sym (append-nil x.reaped) i }),
+        record {
+          started = λ _. subst (λ (o : Option Collection). IsSomeAnd o (λ c. (job ∷ [] ≡ c.job ∷ []) × (c.exit ≡ None) × IsJobAt s.store c.commit store.slot c.job)) (sym runs) (refl, refl, at);
+          none_started = λ not. absurd (not (subst HasStarted (sym says.0) tt));
+          running = counts.running;
+          waits = counts.waits;
+          reaps = omega (arith, counts.reaps);
+          none_reaped = λ _. (refl, counts.reaps);
+          cancelled = λ is. absurd (cc (sym says.0 ∙ is));
+          spawn_faults = counts.spawn_faults;
+          start = λ failed. never_failed met.start_failed none.0 failed;
+          kill = λ failed. never_failed met.kill_failed none.1 failed;
+        },
+      )
+  start_asked (Err CollectFault.Start) says is_met still asked =
+      let (job, at, runs, told, counts) = asked tt in (
+        [],
+        [],
+        λ t. told t ∙ (λ i. record { started = x.started ++ []; reaped = sym (append-nil x.reaped) i }),
+        record {
+          started = λ has. absurd (subst HasStarted says.0 has);
+          none_started = λ not. refl;
+          running = counts.running;
+          waits = counts.waits;
+          reaps = omega (arith, counts.reaps);
+          none_reaped = λ _. (refl, counts.reaps);
+          cancelled = λ is. absurd (cc (sym says.0 ∙ is));
+          spawn_faults = counts.spawn_faults;
+          start = λ failed. counts.cause refl;
+          kill = λ failed. never_failed met.kill_failed (ap (λ (k : Met). k.kill_failed) (says.1 ∙ is_met)) failed;
+        },
+      )
+  start_asked (Err (CollectFault.Busy name)) says is_met still asked = unstarted tells x y s now target m n (still (inl tt)) result (Reply.Busy name) says.0 tt (meets met commits.met_nothing (says.1 ∙ is_met) (refl, refl))
+  start_asked (Err (CollectFault.Limit limit)) says is_met still asked = unstarted tells x y s now target m n (still (inl tt)) result (Reply.Limit limit) says.0 tt (meets met (met_by_start (Err (CollectFault.Limit limit))) (says.1 ∙ is_met) (refl, refl))
+  start_asked (Err CollectFault.Memory) says is_met still asked = unstarted tells x y s now target m n (still (inl tt)) result Reply.Memory says.0 tt (meets met (met_by_start (Err CollectFault.Memory)) (says.1 ∙ is_met) (refl, refl))
+  start_asked (Err CollectFault.Ground) says is_met still asked = unended tells x y s now target m n (still (inr refl)) result SessionEnd.Ground says.0 (meets met commits.met_nothing (says.1 ∙ is_met) (refl, refl))
+  start_asked (Err (CollectFault.Held place)) says is_met still asked = both_some (branch_name_at r place) _ _ (AskedSo tells x y s now (Command.Collect target) result m n) each says says
+    where
+      each : (name : Bytes) → (reply : Reply) × (result ≡ Ok reply) × HeldReplies name store.met met reply → (reply : Reply) × (result ≡ Ok reply) × HeldReplies name store.met met reply → AskedSo tells x y s now (Command.Collect target) result m n
+      each name (reply, is, inl told) other = unstarted tells x y s now target m n (still (inl tt)) result (Reply.Held name) (is ∙ ap Ok told.0) tt (meets met commits.met_nothing (told.1 ∙ is_met) (refl, refl))
+      each name (reply, is, inr short) other = unstarted tells x y s now target m n (still (inl tt)) result Reply.Memory (is ∙ ap Ok short.0) tt (meets met (met_only true) short.1 (refl, refl))
+
+-- what was counted of the ground
+module _ (r : Repository) (before met : Met) (result : Result Reply SessionEnd) (target : Target) (old new : GroundCounts) where
+  counts_ok : (reply : Reply) → result ≡ Ok reply → new ≡ old → CountsBy result (Command.Collect target) met old new
+  counts_ok reply is same = subst (λ (x : Result Reply SessionEnd). CountsBy x (Command.Collect target) met old new) (sym is) same
+
+  pub start_counts : (begun : Result Hash CollectFault) → StartReplies r begun before met result → Counts ground_start begun old new → CountsBy result (Command.Collect target) met old new
+  start_counts (Ok name) says counts = counts_ok (Reply.Started name) says.0 counts
+  start_counts (Err CollectFault.Start) says counts = counts_ok Reply.StartFault says.0 counts
+  start_counts (Err (CollectFault.Busy name)) says counts = counts_ok (Reply.Busy name) says.0 counts
+  start_counts (Err (CollectFault.Limit limit)) says counts = counts_ok (Reply.Limit limit) says.0 counts
+  start_counts (Err CollectFault.Memory) says counts = counts_ok Reply.Memory says.0 counts
+  start_counts (Err CollectFault.Ground) says counts = subst (λ (x : Result Reply SessionEnd). CountsBy x (Command.Collect target) met old new) (sym says.0) counts
+  start_counts (Err (CollectFault.Held place)) says counts = both_some (branch_name_at r place) _ _ (CountsBy result (Command.Collect target) met old new) (λ name h other. counts_ok h.0 h.1 counts) says says
+
+  -- a long reply is no start
+  pub start_quiet : (begun : Result Hash CollectFault) → StartReplies r begun before met result → CountsBy result (Command.Collect target) met old new → IfOk result (QuietIfLong old new)
+  start_quiet begun says counts = by result counts (λ name is. whole begun says name is)
+    where
+      by : (result : Result Reply SessionEnd) → CountsBy result (Command.Collect target) met old new → ((name : Hash) → result ≡ Ok (Reply.Started name) → ¬ IsLong (Reply.Started name)) → IfOk result (QuietIfLong old new)
+      by (Ok (Reply.Started name)) counts short = λ long. absurd (short name refl long)
+      by (Ok _) counts short = λ long. (λ h. h, counts)
+      by (Err end) counts short = tt
+
+      other : {X : Type 0} (reply : Reply) (name : Hash) → result ≡ Ok reply → result ≡ Ok (Reply.Started name) → ¬ HasStarted (Ok reply) → X
+      other reply name is started never = absurd (never (subst HasStarted (sym started ∙ is) tt))
+
+      whole : (begun : Result Hash CollectFault) → StartReplies r begun before met result → (name : Hash) → result ≡ Ok (Reply.Started name) → ¬ IsLong (Reply.Started name)
+      whole (Ok own) says name is long = (let same : own ≡ name = cc (sym says.0 ∙ is) in started_is_short name (subst (λ (h : Hash). length h ≡ 32) same says.2) long)
+      whole (Err CollectFault.Start) says name is long = other Reply.StartFault name says.0 is (λ h. h)
+      whole (Err (CollectFault.Busy h)) says name is long = other (Reply.Busy h) name says.0 is (λ h. h)
+      whole (Err (CollectFault.Limit limit)) says name is long = other (Reply.Limit limit) name says.0 is (λ h. h)
+      whole (Err CollectFault.Memory) says name is long = other Reply.Memory name says.0 is (λ h. h)
+      whole (Err CollectFault.Ground) says name is long = absurd (cc (sym says.0 ∙ is))
+      whole (Err (CollectFault.Held place)) says name is long = both_some (branch_name_at r place) _ _ ⊥ (λ own h again. held own h.0 h.1 h.2) says says
+        where
+          held : (own : Bytes) (reply : Reply) → result ≡ Ok reply → HeldReplies own before met reply → ⊥
+          held own reply is_it (inl told) = other (Reply.Held own) name (is_it ∙ ap Ok told.0) is (λ h. h)
+          held own reply is_it (inr short) = other Reply.Memory name (is_it ∙ ap Ok short.0) is (λ h. h)
+
+-- the session ends by a fault of the ground alone
+pub start_ends : (r : Repository) (before met : Met) (result : Result Reply SessionEnd) (held : Type 0) (begun : Result Hash CollectFault) → StartReplies r begun before met result → IfErr result (EndsBy held)
+start_ends r before met result held begun says = by begun says
+  where
+    Ends : Result Reply SessionEnd → Type 0
+    Ends result = IfErr result (EndsBy held)
+
+    told : (reply : Reply) → result ≡ Ok reply → Ends result
+    told reply is = subst Ends (sym is) tt
+
+    by : (begun : Result Hash CollectFault) → StartReplies r begun before met result → Ends result
+    by (Ok name) says = told (Reply.Started name) says.0
+    by (Err CollectFault.Start) says = told Reply.StartFault says.0
+    by (Err (CollectFault.Busy name)) says = told (Reply.Busy name) says.0
+    by (Err (CollectFault.Limit limit)) says = told (Reply.Limit limit) says.0
+    by (Err CollectFault.Memory) says = told Reply.Memory says.0
+    by (Err CollectFault.Ground) says = subst Ends (sym says.0) tt
+    by (Err (CollectFault.Held place)) says = both_some (branch_name_at r place) _ _ (Ends result) (λ name h other. told h.0 h.1) says says
+
+-- ---- one is to end
+
+none_left : (c : GroundCounts) → CountsLeft 0 c c
+none_left c = record { rose = inl (omega arith); none = λ _. refl; file_faults = refl; say_faults = refl }
+
+pub cancel_counts : (done : Result Cancelled CancelFault) (met : Met) (left : ℕ) (old new : GroundCounts) → met ≡ met_by_cancel done left → CountsCancel done met.left old new → CountsBy (cancel_answer done) Command.Cancel met old new
+cancel_counts (Ok Cancelled.Done) met left old new is counts = counts
+cancel_counts (Ok Cancelled.Orphan) met left old new is counts = subst (λ (k : ℕ). CountsLeft k old new) (sym (ap (λ (m : Met). m.left) is)) (subst (CountsLeft 0 old) (sym counts) (none_left old))
+cancel_counts (Err CancelFault.Idle) met left old new is counts = subst (λ (k : ℕ). CountsLeft k old new) (sym (ap (λ (m : Met). m.left) is)) (subst (CountsLeft 0 old) (sym counts) (none_left old))
+cancel_counts (Err CancelFault.Ground) met left old new is counts = counts
+
+pub cancel_quiet : (done : Result Cancelled CancelFault) (old new : GroundCounts) → IfOk (cancel_answer done) (QuietIfLong old new)
+cancel_quiet (Ok Cancelled.Done) old new = λ long. absurd (cancelled_is_short long)
+cancel_quiet (Ok Cancelled.Orphan) old new = λ long. absurd (orphan_is_short long)
+cancel_quiet (Err CancelFault.Idle) old new = λ long. absurd (idle_is_short long)
+cancel_quiet (Err CancelFault.Ground) old new = tt
+
+pub cancel_ends : (done : Result Cancelled CancelFault) (held : Type 0) → IfErr (cancel_answer done) (EndsBy held)
+cancel_ends (Ok Cancelled.Done) held = tt
+cancel_ends (Ok Cancelled.Orphan) held = tt
+cancel_ends (Err CancelFault.Idle) held = tt
+cancel_ends (Err CancelFault.Ground) held = tt
+
+module _ (tells : Bool) (x y : spawn.Told) (s : Session) (store : Store) (met : Met) (done : Result Cancelled CancelFault) (left : ℕ) (is_met : met ≡ met_by_cancel done left) (m n : SpawnCounts) where
+  abbrev Over : Type 0
+  Over = AskedSo tells x y s (record s { store = store; met = met }) Command.Cancel (cancel_answer done) m n
+
+  abbrev Killed : Collection → Type 0
+  Killed c = (end : Option Reaped) × IsKilled c done end × (IsTrue tells → y ≡ told_after end x) × spawned.Counts false false (is_some end) (not (is_some end)) m n
+
+  start_never : (done : Result Cancelled CancelFault) → (met_by_cancel done left).start_failed ≡ false
+  start_never (Ok Cancelled.Done) = refl
+  start_never (Ok Cancelled.Orphan) = refl
+  start_never (Err fault) = refl
+
+  no_start : met.start_failed ≡ false
+  no_start = ap (λ (k : Met). k.start_failed) is_met ∙ start_never done
+
+  -- only where the kill failed
+  kill_so : (done : Result Cancelled CancelFault) → done ≢ Ok Cancelled.Orphan → (met_by_cancel done left).kill_failed ≡ false
+  kill_so (Ok Cancelled.Done) not = refl
+  kill_so (Ok Cancelled.Orphan) not = absurd (not refl)
+  kill_so (Err fault) not = refl
+
+  no_kill : done ≢ Ok Cancelled.Orphan → met.kill_failed ≡ false
+  no_kill not = ap (λ (k : Met). k.kill_failed) is_met ∙ kill_so done not
+
+  never_started : (done : Result Cancelled CancelFault) → ¬ HasStarted (cancel_answer done)
+  never_started (Ok Cancelled.Done) has = has
+  never_started (Ok Cancelled.Orphan) has = has
+  never_started (Err CancelFault.Idle) has = has
+  never_started (Err CancelFault.Ground) has = has
+
+  done_of : (done : Result Cancelled CancelFault) → cancel_answer done ≡ Ok Reply.Cancelled → done ≡ Ok Cancelled.Done
+  done_of (Ok Cancelled.Done) is = refl
+  done_of (Ok Cancelled.Orphan) is = absurd (cc is)
+  done_of (Err CancelFault.Idle) is = absurd (cc is)
+  done_of (Err CancelFault.Ground) is = absurd (cc is)
+
+  -- none runs
+  pub idle_asked : done ≡ Err CancelFault.Idle → y ≡ x → n ≡ m → Over
+  idle_asked is same still = nothing_asked tells x y s (record s { store = store; met = met }) Command.Cancel (cancel_answer done) m n same still (never_started done) (λ over. absurd (cc (sym (done_of done over) ∙ is))) (no_start, no_kill (λ orphan. absurd (cc (sym orphan ∙ is))))
+
+  -- its child had been reaped
+  pub kept_asked : (c : Collection) → s.store.collection ≡ Some c → IsSome c.exit → done ≢ Ok Cancelled.Orphan → y ≡ x → n ≡ m → Over
+  kept_asked c runs kept not same still = (
+    [],
+    [],
+    λ _. same ∙ none_added x,
+    record {
+      started = λ has. absurd (never_started done has);
+      none_started = λ _. refl;
+      running = ap (λ (k : SpawnCounts). k.running) still;
+      waits = ap (λ (k : SpawnCounts). k.waits) still;
+      reaps = (let e = ap (λ (k : SpawnCounts). k.reaps) still in omega (arith, e));
+      none_reaped = λ not. absurd (not refl);
+      cancelled = λ is. inr (subst (λ (o : Option Collection). IsSome (exit_kept (phase_of o))) (sym runs) kept);
+      spawn_faults = (let e = ap (λ (k : SpawnCounts). k.spawn_faults) still in omega (arith, e));
+      start = λ failed. never_failed met.start_failed no_start failed;
+      kill = λ failed. never_failed met.kill_failed (no_kill not) failed;
+    },
+  )
+
+  -- its child was killed
+  pub killed_asked : (c : Collection) → m.reaps ≤ 2 ^ 64 - 1 → Killed c → Over
+  killed_asked c small (Some reaped, killed, told, counts) = (
+    [],
+    reaped ∷ [],
+    λ t. told t ∙ (λ i. record { started = sym (append-nil x.started) i; reaped = x.reaped ++ reaped ∷ [] }),
+    record {
+      started = λ has. absurd (never_started done has);
+      none_started = λ _. refl;
+      running = counts.running;
+      waits = counts.waits;
+      reaps = elim reaped_one [ inl more ↦ omega (arith, more) | inr full ↦ omega (arith, full, small) ];
+      none_reaped = λ not. absurd (not refl);
+      cancelled = λ is. inl reaped_one;
+      spawn_faults = counts.spawn_faults;
+      start = λ failed. never_failed met.start_failed no_start failed;
+      kill = λ failed. never_failed met.kill_failed (no_kill (λ orphan. absurd (cc (killed.orphan.0 orphan)))) failed;
+    },
+  )
+    where
+      reaped_one : Rose m.reaps n.reaps
+      reaped_one = subst (Rose m.reaps) (sym counts.reaps) (rose_counted m.reaps)
+  killed_asked c small (None, killed, told, counts) = (
+    [],
+    [],
+    λ t. told t ∙ none_added x,
+    record {
+      started = λ has. absurd (never_started done has);
+      none_started = λ _. refl;
+      running = counts.running;
+      waits = counts.waits;
+      reaps = omega (arith, counts.reaps);
+      none_reaped = λ not. absurd (not refl);
+      cancelled = λ is. absurd (cc (sym (done_of done is) ∙ killed.orphan.1 refl));
+      spawn_faults = counts.spawn_faults;
+      start = λ failed. never_failed met.start_failed no_start failed;
+      kill = λ failed. counts.cause refl;
+    },
+  )
+
+  -- a kept exit is that of no orphan
+  kept_orphan : (r : Repository) (c : Collection) (x : Result Cancelled CancelFault) → s.store.collection ≡ Some c → IsSome c.exit → store.met ≡ met_by_cancel x left → CancelReplies x (AnswersCall r s.store.collection Command.Cancel store) → x ≢ Ok Cancelled.Orphan
+  kept_orphan r c (Ok Cancelled.Done) runs kept e A is = absurd (cc is)
+  kept_orphan r c (Ok Cancelled.Orphan) runs kept e A is =
+      let met : IsMet (state_at r (phase_of s.store.collection) (work_at s.work no_view)) Command.Cancel (commits.conditions_of store.met) Reply.CancelledOrphan = (A.turns (work_at s.work no_view)).0 in
+      let none : exit_kept (phase_of s.store.collection) ≡ None = (met.kill (subst IsTrue (sym (ap (λ (k : Met). k.kill_failed) e)) refl)).1 in
+      let gone : c.exit ≡ None = subst (λ (o : Option Collection). exit_kept (phase_of o) ≡ None) runs none in
+      absurd (cc (subst IsSome gone kept))
+  kept_orphan r c (Err fault) runs kept e A is = absurd (cc is)
+
+  pub cancel_asked : (r : Repository) → (s.store.collection ≡ None) ↔ (done ≡ Err CancelFault.Idle) → CancelReplies done (AnswersCall r s.store.collection Command.Cancel store) → store.met ≡ met_by_cancel done left → (done ≡ Err CancelFault.Idle → (y ≡ x) × (n ≡ m))
+      → ((c : Collection) → s.store.collection ≡ Some c → IsSome c.exit → (y ≡ x) × (n ≡ m)) → m.reaps ≤ 2 ^ 64 - 1 → ((c : Collection) → s.store.collection ≡ Some c → c.exit ≡ None → Killed c) → Over
+  cancel_asked r either A e idle kept small killed = by s.store.collection refl
+    where
+      one : (c : Collection) → s.store.collection ≡ Some c → (exit : Option Reaped) → c.exit ≡ exit → Over
+      one c is None none = killed_asked c small (killed c is none)
+      one c is (Some reaped) some = (let there : IsSome c.exit = ap is_some some in let same = kept c is there in kept_asked c is there (kept_orphan r c done is there e A) same.0 same.1)
+
+      by : (o : Option Collection) → s.store.collection ≡ o → Over
+      by None is = (let none = either.0 is in let same = idle none in idle_asked none same.0 same.1)
+      by (Some c) is = one c is c.exit refl
+
+-- ---- the other commands
+
+pub handles_of : (command : Command) → ((target : Target) → command ≢ Command.Collect target) → command ≢ Command.Cancel → HandlesNone command
+handles_of (Command.Collect target) start end = start target refl
+handles_of Command.Cancel start end = end refl
+handles_of _ start end = tt
+
+pub plain_counts : (command : Command) (result : Result Reply SessionEnd) (met : Met) (old new : GroundCounts) → HandlesNone command → Counts ground_end result old new → CountsBy result command met old new
+plain_counts command (Err end) met old new handles counts = counts
+plain_counts Command.Cancel (Ok reply) met old new handles counts = absurd handles
+plain_counts _ (Ok reply) met old new handles counts = counts
+
+pub plain_quiet : (result : Result Reply SessionEnd) (old new : GroundCounts) → IfOk result TellsNone → Counts ground_end result old new → IfOk result (QuietIfLong old new)
+plain_quiet (Ok reply) old new none counts = λ long. (tells_start (Ok reply) none, counts)
+plain_quiet (Err end) old new none counts = tt
+
+-- by another name of the command
+pub asked_as : (tells : Bool) (x y : spawn.Told) (s s' : Session) (command command' : Command) (result : Result Reply SessionEnd) (m n : SpawnCounts) → command ≡ command' → AskedSo tells x y s s' command' result m n → AskedSo tells x y s s' command result m n
+asked_as tells x y s s' command command' result m n is asked = subst (λ (c : Command). AskedSo tells x y s s' c result m n) (sym is) asked
+
+pub counts_as : (command command' : Command) (result : Result Reply SessionEnd) (met : Met) (old new : GroundCounts) → command ≡ command' → CountsBy result command' met old new → CountsBy result command met old new
+counts_as command command' result met old new is counts = subst (λ (c : Command). CountsBy result c met old new) (sym is) counts
+
+-- ---- lines
+
+pub lined_asked : (tells : Bool) (x y : spawn.Told) (s s' : Session) (met : Met) (command : Command) (line : Bytes) (result : Result Reply SessionEnd) (m n : SpawnCounts) → IsServedLine command line → ((other : Command) → IsServedLine other line → other ≡ command)
+    → AskedSo tells x y (record s { met = met }) s' command result m n → Spawns tells x y s s' line result m n
+lined_asked tells x y s s' met command line result m n served one (jobs, ends, told, asked) = record {
+  jobs = jobs;
+  ends = ends;
+  told = told;
+  asked = record {
+    command = λ other spelled. subst (λ (c : Command). Asked s s' c result jobs ends m n) (sym (one other spelled)) (record {
+      started = asked.started;
+      none_started = asked.none_started;
+      running = asked.running;
+      waits = asked.waits;
+      reaps = asked.reaps;
+      none_reaped = asked.none_reaped;
+      cancelled = asked.cancelled;
+      spawn_faults = asked.spawn_faults;
+      start = asked.start;
+      kill = asked.kill;
+    });
+    none = λ none. absurd (none command served);
+  };
+}
+
+pub nothing_spawned : (tells : Bool) (x : spawn.Told) (s s' : Session) (line : Bytes) (reply : Reply) (m : SpawnCounts) → TellsNone reply → MeetsNone s'.met → Spawns tells x x s s' line (Ok reply) m m
+nothing_spawned tells x s s' line reply m none met = record {
+  jobs = [];
+  ends = [];
+  told = λ _. none_added x;
+  asked = record {
+    command = λ command served. asks_nothing s s' command (Ok reply) m (tells_start (Ok reply) none) (tells_over (Ok reply) none) met;
+    none = λ _. (refl, refl, refl);
+  };
+}
+
+any_counts : (command : Command) (result : Result Reply SessionEnd) (met : Met) (old new : GroundCounts) → CountsBy result command met old new → CountsAny result old new
+any_counts command (Err end) met old new counts = counts
+any_counts Command.Cancel (Ok reply) met old new counts = (met.left, counts)
+any_counts _ (Ok reply) met old new counts = (0, subst (CountsLeft 0 old) (sym counts) (none_left old))
+
+pub lined_counts : (command : Command) (line : Bytes) (result : Result Reply SessionEnd) (met : Met) (old new : GroundCounts) → ((other : Command) → IsServedLine other line → other ≡ command) → CountsBy result command met old new → CountsIn line result met old new
+lined_counts command line result met old new one counts = record {
+  command = λ other spelled. subst (λ (c : Command). CountsBy result c met old new) (sym (one other spelled)) counts;
+  any = any_counts command result met old new counts;
+}
+
+nothing_counted : (command : Command) (reply : Reply) (met : Met) (c : GroundCounts) → met.left ≡ 0 → CountsBy (Ok reply) command met c c
+nothing_counted Command.Cancel reply met c zero = subst (λ (k : ℕ). CountsLeft k c c) (sym zero) (none_left c)
+nothing_counted _ reply met c zero = refl
+
+pub none_counts : (line : Bytes) (reply : Reply) (met : Met) (c : GroundCounts) → met.left ≡ 0 → CountsIn line (Ok reply) met c c
+none_counts line reply met c zero = record {
+  command = λ command served. nothing_counted command reply met c zero;
+  any = (0, none_left c);
+}
+
+-- ---- texts
+
+module _ (tells : Bool) (x y : spawn.Told) (s s' : Session) (met : Met) (line : Bytes) (reply : Reply) (m n : SpawnCounts) (old new : GroundCounts) where
+  abbrev Told_so : Met → Reply → Type 0
+  Told_so now written = Spawns tells x y s (record s' { met = now }) line (Ok written) m n × CountsIn line (Ok written) now old new
+
+  pub whole_asked : Spawns tells x y s s' line (Ok reply) m n → CountsIn line (Ok reply) s'.met old new → met ≡ s'.met → Told_so met reply
+  whole_asked spawns counts is = subst (λ (k : Met). Told_so k reply) (sym is) (spawns, counts)
+
+  -- there was no memory for a long text
+  pub unwritten : Spawns tells x y s s' line (Ok reply) m n → IsLong reply → QuietIfLong old new reply → met ≡ met_only true → Told_so met Reply.Memory
+  unwritten spawns long quiet is = subst (λ (k : Met). Told_so k Reply.Memory) (sym is) (
+    record {
+      jobs = spawns.jobs;
+      ends = spawns.ends;
+      told = spawns.told;
+      asked = record {
+        command = λ command served. (let asked = spawns.asked.command command served in record {
+          started = λ has. absurd has;
+          none_started = λ not. asked.none_started (quiet long).0;
+          running = asked.running;
+          waits = asked.waits;
+          reaps = asked.reaps;
+          none_reaped = asked.none_reaped;
+          cancelled = λ is. absurd (cc is);
+          spawn_faults = asked.spawn_faults;
+          start = λ failed. absurd (cc failed);
+          kill = λ failed. absurd (cc failed);
+        });
+        none = spawns.asked.none;
+      };
+    },
+    subst (CountsIn line (Ok Reply.Memory) (met_only true) old) (sym (quiet long).1) (none_counts line Reply.Memory (met_only true) old refl),
+  )

@@ -1,0 +1,80 @@
+-- What a command asks of the spawner.
+--     HasStarted result      the answer that a child was started
+--     Asked s s' command result jobs ends before after      these jobs were started, and children reaped that ended so
+--     AskedIn s s' line result jobs ends before after      so by a line
+--     LetsGo before after      what is counted while one is let go
+--     HandlesNone command      it has to do with no child.      TellsNone reply, MeetsNone met      no child is told by the reply, and none was met
+--     QuietIfLong old new reply      a long reply tells of no child, and no fault was counted before it
+--     Spawns tells old new s s' line result before after      some were, and the spawner tells it
+use Rattle.std.specs.Prelude.{◌≡◌, ◌≢◌, ◌⊎◌, ◌≤◌, List, [], ◌∷◌, ◌++◌, Bool, false, None, IsSome, IsSomeAnd, IsTrue, Result, Ok}
+use Rattle.ip_ground.specs.Counts.{Rose}
+use Rattle.ip_ground.specs.declared.names.GroundCounts.{GroundCounts}
+use Rattle.ip_ground.specs.declared.names.Reaped.{Reaped}
+use Rattle.ip_spawn.specs.Children.{Told}
+use Rattle.ip_spawn.specs.declared.job.Job.{Job}
+use Rattle.ip_spawn.specs.declared.spawner.SpawnCounts.{SpawnCounts}
+use Rattle.ip_spec.specs.declared.command.Command.{Command}
+use Rattle.ip_spec.specs.declared.met.Met.{Met}
+use Rattle.ip_spec.specs.declared.reply.Reply.{Reply}
+use Rattle.ip_spec.specs.Machine.{exit_kept}
+use Rattle.ip_spec.specs.Path.{Bytes}
+use Rattle.ip_script.specs.Served.{IsServedLine}
+use Rattle.ip_store.specs.Collecting.{phase_of}
+use Rattle.ip_store.specs.Starting.{IsJobAt}
+use Rattle.ip_session.specs.declared.session.Session.{Session}
+use Rattle.ip_session.specs.declared.session.SessionEnd.{SessionEnd}
+use Rattle.ip_session.specs.Session.{IsLong}
+
+abbrev pub HasStarted : Result Reply SessionEnd → Type 0
+HasStarted (Ok (Reply.Started name)) = Unit {0}
+HasStarted result = ⊥
+
+abbrev pub HandlesNone : Command → Type 0
+HandlesNone (Command.Collect target) = ⊥
+HandlesNone Command.Cancel = ⊥
+HandlesNone command = Unit {0}
+
+abbrev pub TellsNone : Reply → Type 0
+TellsNone (Reply.Started name) = ⊥
+TellsNone Reply.Cancelled = ⊥
+TellsNone reply = Unit {0}
+
+abbrev pub MeetsNone : Met → Type 0
+MeetsNone met = (met.start_failed ≡ false) × (met.kill_failed ≡ false)
+
+-- so want of memory may be told in its place
+abbrev pub QuietIfLong : GroundCounts → GroundCounts → Reply → Type 0
+QuietIfLong old new reply = IsLong reply → (¬ HasStarted (Ok reply)) × (new ≡ old)
+
+-- No child is looked at or waited for. One is started by `collect` alone, where it says so, and one is reaped by `cancel` alone.
+pub record Asked (s s' : Session) (command : Command) (result : Result Reply SessionEnd) (jobs : List Job) (ends : List Reaped) (before after : SpawnCounts) : Type 0 where
+  -- the job is that of the collection that goes on
+  pub started : HasStarted result → IsSomeAnd s'.store.collection (λ c. (jobs ≡ c.job ∷ []) × (c.exit ≡ None) × IsJobAt s.store c.commit s'.store.slot c.job)
+  pub none_started : ¬ HasStarted result → jobs ≡ []
+  pub running : after.running ≡ before.running
+  pub waits : after.waits ≡ before.waits
+  pub reaps : before.reaps ≤ after.reaps
+  pub none_reaped : command ≢ Command.Cancel → (ends ≡ []) × (after.reaps ≡ before.reaps)
+  -- a kill reaps, and a child that had been reaped needs none
+  pub cancelled : result ≡ Ok Reply.Cancelled → Rose before.reaps after.reaps ⊎ IsSome (exit_kept (phase_of s.store.collection))
+  pub spawn_faults : before.spawn_faults ≤ after.spawn_faults
+  pub start : IsTrue s'.met.start_failed → Rose before.spawn_faults after.spawn_faults
+  pub kill : IsTrue s'.met.kill_failed → Rose before.spawn_faults after.spawn_faults
+
+-- a line that is no command asks nothing
+pub record AskedIn (s s' : Session) (line : Bytes) (result : Result Reply SessionEnd) (jobs : List Job) (ends : List Reaped) (before after : SpawnCounts) : Type 0 where
+  pub command : (command : Command) → IsServedLine command line → Asked s s' command result jobs ends before after
+  pub none : ((command : Command) → ¬ IsServedLine command line) → (jobs ≡ []) × (ends ≡ []) × (after ≡ before)
+
+pub record Spawns (tells : Bool) (old new : Told) (s s' : Session) (line : Bytes) (result : Result Reply SessionEnd) (before after : SpawnCounts) : Type 0 where
+  pub jobs : List Job
+  pub ends : List Reaped
+  pub told : IsTrue tells → new ≡ record { started = old.started ++ jobs; reaped = old.reaped ++ ends }
+  pub asked : AskedIn s s' line result jobs ends before after
+
+-- no child is looked at, waited for or started
+pub record LetsGo (before after : SpawnCounts) : Type 0 where
+  pub running : after.running ≡ before.running
+  pub waits : after.waits ≡ before.waits
+  pub reaps : before.reaps ≤ after.reaps
+  pub spawn_faults : before.spawn_faults ≤ after.spawn_faults

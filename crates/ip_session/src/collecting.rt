@@ -1,0 +1,147 @@
+// The commands of a collection.
+ghost use Rattle.std.specs.Prelude.{◌≡◌, ◌≤◌, ◌++◌, List, length, false, None, IsTrue, IfOk, IfErr, IsSome, IsSomeAnd};
+ghost use Rattle.ip_ground.specs.declared.names.Reaped.{Reaped};
+ghost use Rattle.ip_spawn.specs.declared.job.Job.{Job};
+ghost use Rattle.ip_spec.specs.declared.command.Command.TheVariants as Command;
+ghost use Rattle.ip_spec.specs.Repository.{Repository};
+ghost use Rattle.ip_store.specs.Collecting.{child_of};
+ghost use Rattle.ip_store.specs.Starting.{branch_name_at};
+ghost use Rattle.ip_store.specs.Store.{IsOf};
+ghost use Rattle.ip_session.specs.Asking.{Asked, QuietIfLong, LetsGo};
+ghost use Rattle.ip_session.specs.Running.{Runs};
+ghost use Rattle.ip_session.specs.Session.{met_only, unasked, CountsBy, EndsBy, IsHeld};
+ghost use Rattle.ip_session.specs.Starting.{cancel_answer, HeldReplies, IsFound, StartReplies};
+
+use crate::replies::{refuse, started_reply};
+use crate::session::{Session, SessionEnd, resolve};
+use ip_base::{Blob, Hash};
+use ip_ground::Ground;
+use ip_script::{Reply, Target};
+use ip_spawn::Spawner;
+use ip_spec::met::{Met, Phase};
+use ip_store::{CancelFault, Cancelled, CollectFault, Store};
+use std::alloc::Global;
+
+// The reply that tells the branch which stands against a collection.
+fn held_reply(alloc: Global, store: &Store, met: &mut Met, place: u32) -> Reply
+    requires { (r : Repository) × IsOf store.now r × IsSome (branch_name_at r place) }
+    ensures { (r : Repository) → IsOf store.now r → IsSomeAnd (branch_name_at r place) (λ name. HeldReplies name met.old met.new result) }
+{
+    match store.branch_at(place) {
+        Some((name, _)) => match Blob::copy_of(alloc, name) {
+            Ok(name) => Reply::Held(name),
+            Err(_) => refuse(met),
+        },
+        None => unreachable!(),
+    }
+}
+
+// What came of a collection that was to begin.
+fn start_reply(
+    alloc: Global,
+    store: &Store,
+    met: &mut Met,
+    begun: &Result<Hash, CollectFault>,
+) -> Result<Reply, SessionEnd>
+    requires { (r : Repository) × IsFound r store.now begun.now }
+    ensures { (r : Repository) → IsFound r store.now begun.now → StartReplies r begun.now met.old met.new result }
+{
+    match begun {
+        Ok(name) => Ok(started_reply(*name)),
+        Err(CollectFault::Busy(name)) => Ok(Reply::Busy(*name)),
+        Err(CollectFault::Held(place)) => Ok(held_reply(alloc, store, met, *place)),
+        Err(CollectFault::Limit(limit)) => Ok(Reply::Limit(*limit)),
+        Err(CollectFault::Start) => Ok(Reply::StartFault),
+        Err(CollectFault::Ground) => Err(SessionEnd::Ground),
+        Err(CollectFault::Memory) => Ok(Reply::Memory),
+    }
+}
+
+// What came of a collection that was to end.
+fn cancel_answer(done: Result<Cancelled, CancelFault>) -> Result<Reply, SessionEnd>
+    ensures { result ≡ cancel_answer done }
+{
+    match done {
+        Ok(Cancelled::Done) => Ok(Reply::Cancelled),
+        Ok(Cancelled::Orphan) => Ok(Reply::CancelledOrphan),
+        Err(CancelFault::Idle) => Ok(Reply::Idle),
+        Err(CancelFault::Ground) => Err(SessionEnd::Ground),
+    }
+}
+
+impl Session {
+    ghost use Rattle.ip_session.specs.Session.{IsServing};
+
+    // Begins a collection at the commit that a reference names, by a child for the store in this folder.
+    pub(crate) fn collect<G: Ground, P: Spawner>(
+        &mut self,
+        dir: &str,
+        ground: &mut G,
+        spawner: &mut P,
+        target: Target,
+    ) -> Result<Reply, SessionEnd>
+        requires met { self.old.met ≡ met_only false }
+        requires tables { IsServing self.old }
+        requires child { P.held spawner.old ≡ child_of self.old.store.collection }
+        ensures runs { Runs (IsTrue G.tells) unasked (G.told ground.old) (G.told ground.new) self.old self.new (Command.Collect target) result }
+        ensures child { P.held spawner.new ≡ child_of self.new.store.collection }
+        ensures asked { (jobs : List Job) × (ends : List Reaped) × (IsTrue P.tells → P.told spawner.new ≡ record { started = (P.told spawner.old).started ++ jobs; reaped = (P.told spawner.old).reaped ++ ends })
+            × Asked self.old self.new (Command.Collect target) result jobs ends (P.counts_of spawner.old) (P.counts_of spawner.new) }
+        ensures quiet { IfOk result (QuietIfLong (G.counts_of ground.old) (G.counts_of ground.new)) }
+        ensures counts { CountsBy result (Command.Collect target) self.new.met (G.counts_of ground.old) (G.counts_of ground.new) }
+        ensures cause { IfErr result (EndsBy (IsHeld G.tells (G.told ground.old) self.old)) }
+    {
+        if let Phase::Collecting { commit, .. } = self.store.phase() {
+            return Ok(Reply::Busy(self.store.retained_name(commit)));
+        }
+        let number = match resolve(&self.store, target) {
+            Ok(number) => number,
+            Err(reply) => return Ok(reply),
+        };
+        let begun = self
+            .store
+            .start_collect(self.alloc, ground, spawner, dir, number);
+        self.met = self.store.met();
+        start_reply(self.alloc, &self.store, &mut self.met, &begun)
+    }
+
+    // Gives the collection up that runs.
+    pub(crate) fn cancel<G: Ground, P: Spawner>(
+        &mut self,
+        ground: &mut G,
+        spawner: &mut P,
+    ) -> Result<Reply, SessionEnd>
+        requires met { self.old.met ≡ met_only false }
+        requires tables { IsServing self.old }
+        requires child { P.held spawner.old ≡ child_of self.old.store.collection }
+        ensures runs { Runs (IsTrue G.tells) unasked (G.told ground.old) (G.told ground.new) self.old self.new Command.Cancel result }
+        ensures child { P.held spawner.new ≡ child_of self.new.store.collection }
+        ensures asked { (jobs : List Job) × (ends : List Reaped) × (IsTrue P.tells → P.told spawner.new ≡ record { started = (P.told spawner.old).started ++ jobs; reaped = (P.told spawner.old).reaped ++ ends })
+            × Asked self.old self.new Command.Cancel result jobs ends (P.counts_of spawner.old) (P.counts_of spawner.new) }
+        ensures quiet { IfOk result (QuietIfLong (G.counts_of ground.old) (G.counts_of ground.new)) }
+        ensures counts { CountsBy result Command.Cancel self.new.met (G.counts_of ground.old) (G.counts_of ground.new) }
+        ensures cause { IfErr result (EndsBy (IsHeld G.tells (G.told ground.old) self.old)) }
+    {
+        // It says that each count is one of 64 bits.
+        spawner.counts();
+        let done = self.store.cancel(ground, spawner);
+        self.met = self.store.met();
+        cancel_answer(done)
+    }
+}
+
+impl Session {
+    /// Lets go of the child that is held, if one is: it is killed once. Then the session is over.
+    pub fn let_go<P: Spawner>(&self, spawner: &mut P)
+        requires child { P.held spawner.old ≡ child_of self.now.store.collection }
+        ensures none_held { P.held spawner.new ≡ None }
+        ensures told { (ends : List Reaped) × (length ends ≤ 1) × (IsTrue P.tells → P.told spawner.new ≡ record { started = (P.told spawner.old).started; reaped = (P.told spawner.old).reaped ++ ends }) }
+        ensures counts { LetsGo (P.counts_of spawner.old) (P.counts_of spawner.new) }
+    {
+        // It says that each count is one of 64 bits.
+        spawner.counts();
+        if let Phase::Collecting { kept: false, .. } = self.store.phase() {
+            let _ = spawner.kill();
+        }
+    }
+}
