@@ -1,23 +1,26 @@
 -- Counts of faults over calls, and in turns.
 --     spawns_itself, spawns_on      nor does a spawner's
 --     falls_same, say_falls, falls_if, falls_of      no count falls, where those that may rise are in their type's range
+--     removals_itself, removals_on, falls_removals      none rises but that of removals.      removals_any      so it is of a session that answered
+--     serving_of, serving_on      so the ground counts, where it serves
 --     later_of, counts_same      so it is of what a turn tells of them.      still_at      and of a turn that tells what the ground counted at first
 --     attach_counts, attached_same      a folder could not be bound, or was
 --     ended_counts      the end of a session counts what its status says
 --     follow_more      turns one after another, while no fault of a file is counted
 use Rattle.std.specs.Prelude.{is_err}
-use Rattle.std.proofs.Common.{◌≡◌, ℕ, ◌-◌, ◌^◌, ◌≤◌, Bool, true, false, List, [], ◌∷◌, ◌++◌, inl, inr, refl, sym, ap, ap₂, ◌∙◌, subst, arith, None, Some, Result, Ok, Err}
+use Rattle.std.proofs.Common.{◌≡◌, ℕ, ◌+◌, ◌-◌, ◌^◌, ◌≤◌, Bool, true, false, List, [], ◌∷◌, ◌++◌, inl, inr, refl, sym, ap, ap₂, ◌∙◌, subst, arith, None, Some, Result, Ok, Err}
 use Rattle.ip_ground.specs.declared.names.GroundCounts.{GroundCounts}
 use Rattle.ip_ground.specs.declared.names.GroundFault.{GroundFault}
-use Rattle.ip_ground.specs.Counts.{Rose, NoneFalls, FileFault, SayFault, CountsIf, CountsAs}
+use Rattle.ip_ground.specs.Counts.{Rose, RoseBy, NoneFalls, FileFault, SayFault, CountsIf, CountsAs}
 use Rattle.ip_ground.proofs.Rising.{falls_itself}
 use Rattle.ip_image.specs.declared.counts.TurnCounts.{TurnCounts}
 use Rattle.ip_session.specs.declared.session.SessionEnd.{SessionEnd}
-use Rattle.ip_session.specs.Session.{ground_end}
+use Rattle.ip_session.specs.Session.{ground_end, CountsAny}
+use Rattle.ip_spec.specs.declared.reply.Reply.{Reply}
 use Rattle.ip_app.specs.declared.turn_log.Turn.{Turn}
 use Rattle.ip_app.specs.declared.statuses.Status.{Status}
 use Rattle.ip_app.specs.declared.statuses.Status.TheVariants as status
-use Rattle.ip_app.specs.Serving.{ended_status, CountsOf}
+use Rattle.ip_app.specs.Serving.{ended_status, CountsOf, OnlyRemovals, CountsServing}
 use Rattle.ip_spawn.specs.declared.spawner.SpawnCounts.{SpawnCounts}
 use Rattle.ip_app.specs.Turns.{turn_counts, SpawnsLater, IsLater, Follow}
 
@@ -65,10 +68,62 @@ pub attached_same : (r : Result (Unit {0}) GroundFault) (a b : GroundCounts) →
 attached_same (Ok u) a b e same = same
 attached_same (Err fault) a b e counted = absurd (cc e)
 
-pub ended_counts : (end : SessionEnd) (a b : GroundCounts) → CountsIf FileFault (ground_end end) a b → CountsOf (ended_status end) a b
-ended_counts SessionEnd.Ground a b counted = counted
-ended_counts (SessionEnd.Damaged at None) a b same = same
-ended_counts (SessionEnd.Damaged at (Some (want, got))) a b same = same
+-- ---- none but removals
+
+pub removals_itself : (a : GroundCounts) → OnlyRemovals a a
+removals_itself a = record { file_faults = refl; say_faults = refl; remove_faults = omega arith }
+
+pub removals_same : (a b : GroundCounts) → b ≡ a → OnlyRemovals a b
+removals_same a b e = subst (OnlyRemovals a) (sym e) (removals_itself a)
+
+pub removals_on : (a b c : GroundCounts) → OnlyRemovals a b → OnlyRemovals b c → OnlyRemovals a c
+removals_on a b c one other = record { file_faults = other.file_faults ∙ one.file_faults; say_faults = other.say_faults ∙ one.say_faults; remove_faults = omega (arith, one.remove_faults, other.remove_faults) }
+
+pub falls_removals : (a b : GroundCounts) → OnlyRemovals a b → NoneFalls a b
+falls_removals a b h = record { file_faults = (let same = h.file_faults in omega (arith, same)); remove_faults = h.remove_faults; say_faults = (let same = h.say_faults in omega (arith, same)) }
+
+up_by : (n a b : ℕ) → a ≤ 2 ^ 64 - 1 → RoseBy n a b → a ≤ b
+up_by n a b small (inl h) = omega arith
+up_by n a b small (inr h) = omega arith
+
+-- of a session that answered, whatever the line
+pub removals_any : (reply : Reply) (a b : GroundCounts) → a.remove_faults ≤ 2 ^ 64 - 1 → CountsAny (Ok reply) a b → OnlyRemovals a b
+removals_any reply a b small any = record { file_faults = any.1.file_faults; say_faults = any.1.say_faults; remove_faults = up_by any.0 a.remove_faults b.remove_faults small any.1.rose }
+
+pub serving_of : (s : Status) (a b : GroundCounts) → CountsOf s a b → CountsServing s a b
+serving_of status.GroundFault a b h = record { rose = h.rose; say_faults = h.say_faults; remove_faults = (let same = h.remove_faults in omega (arith, same)) }
+serving_of status.SayFault a b h = record { rose = h.rose; file_faults = h.file_faults; remove_faults = (let same = h.remove_faults in omega (arith, same)) }
+serving_of status.Done a b h = removals_same a b h
+serving_of status.Unfinished a b h = removals_same a b h
+serving_of (status.Limit bound) a b h = removals_same a b h
+serving_of status.ReadFault a b h = removals_same a b h
+serving_of status.Usage a b h = removals_same a b h
+serving_of status.NoStore a b h = removals_same a b h
+serving_of (status.Damaged file at) a b h = removals_same a b h
+serving_of (status.DamagedRecord at) a b h = removals_same a b h
+serving_of (status.DamagedName at want got) a b h = removals_same a b h
+serving_of status.Memory a b h = removals_same a b h
+serving_of status.Exists a b h = removals_same a b h
+
+pub serving_on : (s : Status) (a b c : GroundCounts) → OnlyRemovals a b → CountsServing s b c → CountsServing s a c
+serving_on status.GroundFault a b c one h = record { rose = subst (λ (n : ℕ). Rose n c.file_faults) one.file_faults h.rose; say_faults = h.say_faults ∙ one.say_faults; remove_faults = omega (arith, one.remove_faults, h.remove_faults) }
+serving_on status.SayFault a b c one h = record { rose = subst (λ (n : ℕ). Rose n c.say_faults) one.say_faults h.rose; file_faults = h.file_faults ∙ one.file_faults; remove_faults = omega (arith, one.remove_faults, h.remove_faults) }
+serving_on status.Done a b c one h = removals_on a b c one h
+serving_on status.Unfinished a b c one h = removals_on a b c one h
+serving_on (status.Limit bound) a b c one h = removals_on a b c one h
+serving_on status.ReadFault a b c one h = removals_on a b c one h
+serving_on status.Usage a b c one h = removals_on a b c one h
+serving_on status.NoStore a b c one h = removals_on a b c one h
+serving_on (status.Damaged file at) a b c one h = removals_on a b c one h
+serving_on (status.DamagedRecord at) a b c one h = removals_on a b c one h
+serving_on (status.DamagedName at want got) a b c one h = removals_on a b c one h
+serving_on status.Memory a b c one h = removals_on a b c one h
+serving_on status.Exists a b c one h = removals_on a b c one h
+
+pub ended_counts : (end : SessionEnd) (a b : GroundCounts) → CountsIf FileFault (ground_end end) a b → CountsServing (ended_status end) a b
+ended_counts SessionEnd.Ground a b counted = serving_of status.GroundFault a b counted
+ended_counts (SessionEnd.Damaged at None) a b same = removals_same a b same
+ended_counts (SessionEnd.Damaged at (Some (want, got))) a b same = removals_same a b same
 
 -- ---- in turns
 
@@ -89,9 +144,9 @@ unfolding counted_as
 counts_same a b m files removals = ap₂ (counted_as m) (sym files) (sym removals)
 
 -- no fault was counted since
-pub still_at : (first now : GroundCounts) (m n : SpawnCounts) (last : TurnCounts) → last ≡ turn_counts now n → now ≡ first → last.file_faults ≤ (turn_counts first m).file_faults
+pub still_at : (first now : GroundCounts) (m n : SpawnCounts) (last : TurnCounts) → last ≡ turn_counts now n → OnlyRemovals first now → last.file_faults ≤ (turn_counts first m).file_faults
 still_at first now m n last is same =
-    let e : last.file_faults ≡ (turn_counts first m).file_faults = ap (λ (c : TurnCounts). c.file_faults) is ∙ ap (λ (c : GroundCounts). c.file_faults) same in
+    let e : last.file_faults ≡ (turn_counts first m).file_faults = ap (λ (c : TurnCounts). c.file_faults) is ∙ same.file_faults in
     omega (arith, e)
 
 follow_rises : (first last : TurnCounts) (turns : List Turn) → Follow first turns last → first.file_faults ≤ last.file_faults

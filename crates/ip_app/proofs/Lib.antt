@@ -3,6 +3,7 @@ pub mod LivePair
 pub mod SameFiles
 pub mod Moments
 pub mod Counting
+pub mod Happened
 pub mod RuleCases
 pub mod RunLemmas
 pub mod TurnLemmas

@@ -9,7 +9,7 @@ use Rattle.ip_ground.specs.declared.names.FileName.{FileName}
 use Rattle.ip_ground.specs.declared.names.FileName.TheVariants.{Control}
 use Rattle.ip_ground.specs.declared.names.GroundFault.{GroundFault}
 use Rattle.ip_ground.specs.Contents.{Content}
-use Rattle.ip_ground.specs.Told.{Told, said, NoFile, Only, KeepsPast, IsPossibleNow, ChangesOnly, SyncsOnly}
+use Rattle.ip_ground.specs.Told.{Told, said, NoFile, Only, KeepsPast, KeepsSaid, IsPossibleNow, ChangesOnly, SyncsOnly}
 use Rattle.ip_ground.specs.Calls.{Says}
 use Rattle.ip_ground.proofs.Spans.{said_now, syncs_none}
 use Rattle.ip_image.specs.Standing.{StandsFor}
@@ -40,11 +40,11 @@ module _ (mid new : Told) (text : Bytes) (result : Result (Unit {0}) GroundFault
       (λ t late le. subst (λ (bytes : Bytes). (n : ℕ) × (n ≤ length bytes) × (new.said_at t ≡ said mid ++ take n bytes)) e (says.front t late le))
       (recovers_since store after mid holds order new says.files says.lending)
 
-  pub turned_moments : (old : Told) (these : FileName → Type 0) → ChangesOnly these old mid → (reply : Bytes) → text ≡ reply → (before after : Repository) → IsAtomic old mid before after
+  pub turned_moments : (old : Told) → KeepsPast old mid → KeepsSaid old mid → (reply : Bytes) → text ≡ reply → (before after : Repository) → IsAtomic old mid before after
       → (store : Store) → Holds store mid after → NothingPending mid → Turning old new reply before after
-  turned_moments old these only reply e before after keeps store holds order =
-      turning_on old mid new reply before after says.goes (said_now old mid only.goes only.said)
-      (turns_quietly old mid reply before after only.said keeps)
+  turned_moments old goes quiet reply e before after keeps store holds order =
+      turning_on old mid new reply before after says.goes (said_now old mid goes quiet)
+      (turns_quietly old mid reply before after quiet keeps)
       (saying reply e store before after holds order)
 
 -- A command that was cut short leaves a ground that may be served again.

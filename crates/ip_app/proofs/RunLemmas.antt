@@ -1,17 +1,18 @@
 -- A run that goes on by a line, and how it ends.
 use Rattle.std.specs.Prelude.{◌≢◌, IfSome}
-use Rattle.std.proofs.Common.{true, ◌≡◌, inl, inr, ℕ, ◌≤◌, Bool, false, List, [], ◌∷◌, ◌++◌, length, refl, sym, ap, ap₂, ◌∙◌, subst, arith, append_assoc, length-append, map, IsTrue, All, take, drop, Some, None, Result}
+use Rattle.std.proofs.Common.{true, ◌≡◌, inl, inr, ℕ, ◌≤◌, Bool, false, List, [], ◌∷◌, ◌++◌, length, refl, sym, ap, ap₂, ◌∙◌, subst, arith, append_assoc, length-append, map, IsTrue, All, take, drop, Option, Some, None, Result}
 use Rattle.std.proofs.lemmas.Bool.{cases_lt}
 use Rattle.std.proofs.lemmas.List.{map-append, take-append-drop}
 use Rattle.std.proofs.lemmas.List.Elements.{All-append, All-cons, All-nil}
 use Rattle.ip_ground.specs.declared.names.FileName.TheVariants.{Control}
-use Rattle.ip_ground.specs.declared.names.GroundCounts.{GroundCounts}
 use Rattle.ip_ground.specs.declared.names.GroundFault.{GroundFault}
+use Rattle.ip_ground.specs.declared.names.Reaped.{Reaped}
+use Rattle.ip_spawn.specs.Children as spawn
+use Rattle.ip_spawn.specs.declared.spawner.SpawnCounts.{SpawnCounts}
 use Rattle.ip_ground.specs.Counts.{Rose}
 use Rattle.ip_ground.specs.Told.{Told, said, ChangesOnly, SyncsOnly, Only, NoFile}
 use Rattle.ip_ground.specs.Calls.{Says}
-use Rattle.ip_ground.proofs.Spans.{goes_nowhere, only_nowhere, goes_on, stays_on, custody_on, said_now, only_more}
-use Rattle.ip_ground.proofs.Passing.{stays_itself}
+use Rattle.ip_ground.proofs.Spans.{said_now, lending_now}
 use Rattle.ip_ground.proofs.Rising.{none_falls_on}
 use Rattle.ip_image.specs.declared.counts.TurnCounts.{TurnCounts}
 use Rattle.ip_image.specs.declared.slot.Slot.{Slot}
@@ -27,14 +28,18 @@ use Rattle.ip_spec.specs.Merge.{Rule}
 use Rattle.ip_ground.specs.Contents.{Image, Content, bytes_of}
 use Rattle.ip_spec.specs.View.{View, no_view}
 use Rattle.ip_spec.specs.Repository.{Repository, no_repository}
-use Rattle.ip_spec.specs.Machine.{State, opened}
+use Rattle.ip_spec.specs.Machine.{State, Phase, opened}
 use Rattle.ip_merge.specs.Rules.{IsDecisive}
 use Rattle.ip_script.specs.Served.{IsServedLine}
 use Rattle.ip_spec.specs.Script.{whole_lines, LineStep}
 use Rattle.ip_spec.specs.Text.{reply_text}
+use Rattle.ip_store.specs.declared.collection.Unswept.{Unswept}
 use Rattle.ip_store.specs.Control.{control_in}
 use Rattle.ip_store.specs.Publishing.{IsOfStore}
 use Rattle.ip_store.specs.Opening.{RecoversOnceOpen}
+use Rattle.ip_store.specs.Collecting.{phase_of, child_of}
+use Rattle.ip_store.specs.Sweeping.{KeepsFiles}
+use Rattle.ip_store.proofs.KeptFiles.{keeps_on, keeps_store, keeps_custody, stays_goes}
 use Rattle.ip_store.proofs.Recovering.{held_has}
 use Rattle.ip_session.specs.declared.session.Session.{Session}
 use Rattle.ip_session.specs.Session.{IsServing, IsWorking, state_in}
@@ -50,11 +55,13 @@ use Rattle.ip_app.specs.Exchanges.{Exchange, conditions, answer_of, Run, after_a
 use Rattle.ip_session.specs.Placing.{PlacedIn}
 use Rattle.ip_session.specs.Session.{IsViewIn}
 use Rattle.ip_app.specs.Places.{Places}
-use Rattle.ip_app.specs.Turns.{turn_counts, IsLater, Follow}
-use Rattle.ip_app.specs.Outside.{Outside, Tells, Knows, GoesOn, KeepsFiles}
-use Rattle.ip_app.specs.Serving.{SaysPart, TurnedIn, Stopped, Unsaid, CountsOf, Stops, Served}
+use Rattle.ip_app.specs.Happening.{Happens, jobs_in, ends_in}
+use Rattle.ip_app.specs.Turns.{turn_counts, SpawnsLater, IsLater, Follow}
+use Rattle.ip_app.specs.Outside.{Outside, Tells, Knows, GoesOn, IsUnasked}
+use Rattle.ip_app.specs.Serving.{SaysPart, TurnedIn, Stopped, Unsaid, CountsOf, OnlyRemovals, CountsServing, Stops, Served}
 use Rattle.ip_app.specs.Run.{CouldNotOpen, IsUntouched, IsOpened, Begins, is_cut_off, Row, IsBehindOpening, Serves, EndsWhereAllIsWell}
-use Rattle.ip_app.proofs.Counting.{spawns_on, still_at, follow_more}
+use Rattle.ip_app.proofs.Counting.{spawns_on, removals_same, removals_on, serving_of, serving_on, still_at, follow_more}
+use Rattle.ip_app.proofs.Happened.{happen_more, told_with, spawned_more}
 use Rattle.ip_app.proofs.LivePair.{owns_pending, live_before}
 use Rattle.ip_app.proofs.SameFiles.{stands_after}
 use Rattle.ip_app.proofs.Moments.{headline_none, headline_turn}
@@ -86,6 +93,7 @@ goes_on_then : (a b c : Outside) → GoesOn a b → GoesOn b c → GoesOn a c
 goes_on_then a b c g h = record {
   source_tells = h.source_tells ∙ g.source_tells;
   ground_tells = h.ground_tells ∙ g.ground_tells;
+  spawner_tells = h.spawner_tells ∙ g.spawner_tells;
   log_tells = λ t. g.log_tells (h.log_tells t);
   read_faults = omega (arith, g.read_faults, h.read_faults);
   counts = none_falls_on a.counts b.counts c.counts g.counts h.counts;
@@ -94,25 +102,12 @@ goes_on_then a b c g h = record {
 
 -- ---- files
 
-pub keeps_itself : (a : Told) → KeepsFiles a a
-keeps_itself a = record { goes = goes_nowhere a; others = λ file others. stays_itself a file; lending = (only_nowhere a NoFile).lending }
-
-pub keeps_on : (a b c : Told) → KeepsFiles a b → KeepsFiles b c → KeepsFiles a c
-keeps_on a b c first next = record {
-  goes = goes_on a b c first.goes next.goes;
-  others = λ file others. stays_on a b c file first.goes next.goes (first.others file others) (next.others file others);
-  lending = λ n. custody_on a b c n first.goes next.goes (first.lending n) (next.lending n);
-}
-
-pub keeps_two : (a b : Told) → ChangesOnly IsOfStore a b → KeepsFiles a b
-keeps_two a b only = record { goes = only.goes; others = only.others; lending = only.lending }
-
 -- while the control file alone may be synced
 pub keeps_unchanged : (a b : Told) → SyncsOnly (Only Control) a b → KeepsFiles a b
-keeps_unchanged a b only = keeps_two a b (only_more a b (Only Control) IsOfStore (λ file is. inl is) only.changes)
+keeps_unchanged a b only = keeps_store a b (Only Control) (λ file is. inl is) only.changes
 
 pub keeps_said : (bytes : Bytes) (r : Result (Unit {0}) GroundFault) (a b : Told) → Says bytes r a b → KeepsFiles a b
-keeps_said bytes r a b says = record { goes = says.goes; others = λ file others. says.files file; lending = says.lending }
+keeps_said bytes r a b says = keeps_custody a b says.goes (λ n. lending_now a b says.goes n (says.lending n)) (λ file others. stays_goes a b file (says.files file))
 
 -- the control file is no attempt's, so it stays
 pub same_control : (a b : Told) → ChangesOnly NoFile a b → control_in b.held ≡ control_in a.held
@@ -140,9 +135,9 @@ follow_turn rule decisive old mid lines counts counts' s h x begins ends rises =
     (follow_more first counts (turns_in h.exchanges) x.turn (still_at old.counts mid.counts old.spawns mid.spawns counts h.counts_now h.no_fault) h.follow begins rises))
 
 -- one exchange more
-places_more : (rule : Rule) (slot : Slot) (s : State) (v : View) (xs : List Exchange) (mid : Slot) (w : View) (x : Exchange) (last : Slot) (view : View) → Places rule slot s v xs mid w → x.after.work.tree ≡ view.map → IsViewIn (after_all s xs).repository w x.line x.reply view → PlacedIn rule mid last (after_all s xs) w x.line x.reply → Places rule slot s v (xs ++ x ∷ []) last view
-places_more rule slot s v [] mid w x last view h tree seen placed = (last, view, tree, subst (λ (u : View). IsViewIn s.repository u x.line x.reply view) h.1 seen, subst (λ (a : Slot). PlacedIn rule a last s v x.line x.reply) h.0 (subst (λ (u : View). PlacedIn rule mid last s u x.line x.reply) h.1 placed), (refl, refl))
-places_more rule slot s v (y ∷ xs) mid w x last view h tree seen placed = (h.0, h.1, h.2, h.3, h.4, places_more rule h.0 y.after h.1 xs mid w x last view h.5 tree seen placed)
+places_more : (rule : Rule) (slot : Slot) (s : State) (v : View) (xs : List Exchange) (mid : Slot) (w : View) (x : Exchange) (unswept : Unswept) (last : Slot) (view : View) → Places rule slot s v xs mid w → x.after.work.tree ≡ view.map → IsViewIn (after_all s xs).repository w x.line x.reply view → PlacedIn rule mid unswept last (after_all s xs) w x.line x.reply → Places rule slot s v (xs ++ x ∷ []) last view
+places_more rule slot s v [] mid w x unswept last view h tree seen placed = (last, unswept, view, tree, subst (λ (u : View). IsViewIn s.repository u x.line x.reply view) h.1 seen, subst (λ (a : Slot). PlacedIn rule a unswept last s v x.line x.reply) h.0 (subst (λ (u : View). PlacedIn rule mid unswept last s u x.line x.reply) h.1 placed), (refl, refl))
+places_more rule slot s v (y ∷ xs) mid w x unswept last view h tree seen placed = (h.0, h.1, h.2, h.3, h.4, h.5, places_more rule h.0 y.after h.2 xs mid w x unswept last view h.6 tree seen placed)
 
 -- one line more was served
 pub served_more : (rule : Rule) (decisive : Bool) (old mid new : Outside) (lines lines' : Lines) (counts counts' : TurnCounts) (s s' : Session) (h : Served rule decisive old mid lines counts s) → TurnedIn rule h.known mid new lines lines' counts counts' s s' h.repository h.view → Served rule decisive old new lines' counts' s'
@@ -173,9 +168,9 @@ served_more rule decisive old mid new lines lines' counts counts' s s' h turned 
       now_at = λ g. sym (turned.now_at g) ∙ sym (after_more (opened h.first) h.exchanges x);
       slot = h.slot;
       live = h.live;
-      places = λ g. places_more rule h.slot (opened h.first) no_view h.exchanges s.store.slot h.view x s'.store.slot turned.view (h.places g) (ap (λ (state : State). state.work.tree) (turned.now_at g))
+      places = λ g. places_more rule h.slot (opened h.first) no_view h.exchanges s.store.slot h.view x s.store.unswept s'.store.slot turned.view (h.places g) (ap (λ (state : State). state.work.tree) (turned.now_at g))
           (subst (λ (state : State). IsViewIn state.repository h.view x.line x.reply turned.view) (h.now_at g) (turned.seen g))
-          (subst (λ (state : State). PlacedIn rule s.store.slot s'.store.slot state h.view x.line x.reply) (h.now_at g) (turned.placed g));
+          (subst (λ (state : State). PlacedIn rule s.store.slot s.store.unswept s'.store.slot state h.view x.line x.reply) (h.now_at g) (turned.placed g));
       said = λ g. turned.said g ∙ (ap (λ (u : Bytes). u ++ reply_text x.reply) (h.said g) ∙ (append_assoc (said old.told) (texts_in h.exchanges) (reply_text x.reply) ∙ ap (λ (u : Bytes). said old.told ++ u) (sym (texts_more h.exchanges x))));
       opened_at = h.opened_at;
       headline = λ g order. headline_turn (h.opened_at g) old.told mid.told new.told (opened h.first) h.exchanges x (h.headline g order) (t.files g).goes (h.over g) (h.said g)
@@ -183,17 +178,25 @@ served_more rule decisive old mid new lines lines' counts counts' s s' h turned 
       over = λ g. let was = h.over g in let later = (t.files g).goes.later in omega (arith, was, later);
       nothing_pending = λ g order. turned.nothing_pending g (h.nothing_pending g order);
       noted = λ l. t.noted l ∙ (ap (λ u. u ++ x.turn ∷ []) (h.noted (t.goes_on.log_tells l)) ∙ (append_assoc old.turns (turns_in h.exchanges) (x.turn ∷ []) ∙ ap (λ u. old.turns ++ u) (sym (map-append (λ x. x.turn) h.exchanges (x ∷ [])))));
-      no_fault = turned.no_fault ∙ h.no_fault;
+      no_fault = removals_on old.counts mid.counts new.counts h.no_fault turned.no_fault;
+      phases = happen_more (opened h.first) h.exchanges x h.phases (subst (λ (phase : Phase). Happens phase x) h.phase turned.happens);
+      phase = sym turned.phase ∙ sym (ap (λ (state : State). state.phase) (after_more (opened h.first) h.exchanges x));
+      spawned = λ b. spawned_more old.spawned mid.spawned new.spawned h.exchanges x (h.spawned b) (turned.spawned (told_before _ _ h.goes_on.spawner_tells b));
+      child = turned.child;
       counts_now = t.until;
       follow = follow_turn rule decisive old mid lines counts counts' s h x t.begins_at t.ends_at t.rises;
       reads = t.reads ∙ h.reads;
     }
 
+-- nothing was started, nor reaped
+told_none : (told : spawn.Told) → told ≡ told_with (told.started ++ []) (told.reaped ++ [])
+told_none told = ap₂ told_with (sym (append_nil told.started)) (sym (append_nil told.reaped))
+
 -- no line was served yet
 pub served_first : (rule : Rule) (decisive : Bool) → (IsTrue decisive → IsDecisive rule) → (old now : Outside) (lines : Lines) (counts : TurnCounts) (s : Session) (r : Repository) (v : View) → v ≡ no_view → (known : (b : Bool) × (Knows decisive old → IsTrue b) × (IsTrue b → Knows decisive old)) → IsServing s → state_in s r v ≡ opened r → (Tells old → IsWorking now.told s r v) → (Tells old → StandsFor old.told.held r)
     → (opening : IsTrue old.ground_tells → RecoversOnceOpen old.told now.told) → ((tells : Tells old) → (opening tells.0).since ≤ now.told.moment)
-    → counts ≡ turn_counts old.counts old.spawns → now.counts ≡ old.counts → now.spawns ≡ old.spawns → now.read_faults ≡ old.read_faults → GoesOn old now → (IsTrue old.ground_tells → SyncsOnly (Only Control) old.told now.told) → now.left ≡ old.left → now.turns ≡ old.turns → pending lines ≡ [] → lines.taken ≡ 0 → Served rule decisive old now lines counts s
-served_first rule decisive by_rule old now lines counts s r v none_known known serving begun working began opening over counted no_fault unasked reads g f left turns none zero =
+    → counts ≡ turn_counts old.counts old.spawns → now.counts ≡ old.counts → IsUnasked old now → s.store.collection ≡ None → old.held ≡ None → now.read_faults ≡ old.read_faults → GoesOn old now → (IsTrue old.ground_tells → SyncsOnly (Only Control) old.told now.told) → now.left ≡ old.left → now.turns ≡ old.turns → pending lines ≡ [] → lines.taken ≡ 0 → Served rule decisive old now lines counts s
+served_first rule decisive by_rule old now lines counts s r v none_known known serving begun working began opening over counted no_fault unasked idle alone reads g f left turns none zero =
     record {
       known = known.0;
       known_so = known.1;
@@ -225,16 +228,20 @@ served_first rule decisive by_rule old now lines counts s r v none_known known s
       headline = λ is order. let told = (known.2 is).0.0 in headline_none old.told now.told (f told) (opening told) r (began (known.2 is).0) order;
       nothing_pending = λ is order. (opening (known.2 is).0.0).nothing_pending order;
       noted = λ b. turns ∙ sym (append_nil old.turns);
-      no_fault = no_fault;
-      counts_now = counted ∙ ap₂ turn_counts (sym no_fault) (sym unasked);
+      no_fault = removals_same old.counts now.counts no_fault;
+      phases = tt;
+      phase = ap phase_of idle;
+      spawned = λ b. unasked.spawned ∙ told_none old.spawned;
+      child = unasked.held ∙ (alone ∙ sym (ap child_of idle));
+      counts_now = counted ∙ ap₂ turn_counts (sym no_fault) (sym unasked.spawns);
       follow = counted;
       reads = reads;
     }
 
 -- no line was served at all
-pub serves_none : (rule : Rule) (decisive : Bool) (old new : Outside) (s : Status) → GoesOn old new → (IsTrue old.ground_tells → SyncsOnly (Only Control) old.told new.told) → (IsTrue old.ground_tells → RecoversOnceOpen old.told new.told) → new.left ≡ old.left → new.turns ≡ old.turns → new.read_faults ≡ old.read_faults
+pub serves_none : (rule : Rule) (decisive : Bool) (old new : Outside) (s : Status) → GoesOn old new → (IsTrue old.ground_tells → SyncsOnly (Only Control) old.told new.told) → (IsTrue old.ground_tells → RecoversOnceOpen old.told new.told) → new.left ≡ old.left → new.turns ≡ old.turns → IsUnasked old new → new.read_faults ≡ old.read_faults
     → (IsBehindOpening s [] → ⊥) → Begins s old (opened no_repository) [] → CountsOf s old.counts new.counts → Row decisive s old new [] → Serves rule decisive old new s
-serves_none rule decisive old new s g f opening left turns reads unopened begins counted row =
+serves_none rule decisive old new s g f opening left turns unasked reads unopened begins counted row =
     let first = opened no_repository in
     let quiet : IsTrue old.ground_tells → said new.told ≡ said old.told = λ b. said_now old.told new.told (f b).changes.goes (f b).changes.said in
     record {
@@ -262,31 +269,36 @@ serves_none rule decisive old new s g f opening left turns reads unopened begins
       notes = record {
         noted = λ b. turns ∙ sym (append_nil old.turns);
         follow = λ behind. absurd (unopened behind);
-        counted = counted;
+        counted = serving_of s old.counts new.counts counted;
         reads = λ other. reads;
+      };
+      children = record {
+        happen = record { whole = []; cut = []; all = refl; one = omega arith; none = λ _. refl; happen = tt };
+        spawned = λ b. ([], omega arith, unasked.spawned ∙ (told_none old.spawned ∙ ap (told_with (old.spawned.started ++ [])) (sym (append_nil (old.spawned.reaped ++ [])))));
+        none_held = λ alone. unasked.held ∙ alone;
       };
       row = row;
     }
 
 -- the store could not be opened
-pub begins_unopened : (rule : Rule) (decisive : Bool) (old new : Outside) (s : Status) → GoesOn old new → (IsTrue old.ground_tells → SyncsOnly (Only Control) old.told new.told) → (IsTrue old.ground_tells → RecoversOnceOpen old.told new.told) → new.left ≡ old.left → new.turns ≡ old.turns → new.read_faults ≡ old.read_faults
+pub begins_unopened : (rule : Rule) (decisive : Bool) (old new : Outside) (s : Status) → GoesOn old new → (IsTrue old.ground_tells → SyncsOnly (Only Control) old.told new.told) → (IsTrue old.ground_tells → RecoversOnceOpen old.told new.told) → new.left ≡ old.left → new.turns ≡ old.turns → IsUnasked old new → new.read_faults ≡ old.read_faults
     → CouldNotOpen s old.ground_tells old.told → CountsOf s old.counts new.counts → Serves rule decisive old new s
-begins_unopened rule decisive old new s g f opening left turns reads could_not counted = by_status s could_not counted
+begins_unopened rule decisive old new s g f opening left turns unasked reads could_not counted = by_status s could_not counted
   where
     untouched : IsUntouched old new []
-    untouched = record { none_taken = refl; left = left; said_nothing = λ told. said_now old.told new.told (f told).changes.goes (f told).changes.said; only = f; turns = turns }
+    untouched = record { none_taken = refl; left = left; said_nothing = λ told. said_now old.told new.told (f told).changes.goes (f told).changes.said; only = f; turns = turns; unasked = unasked }
 
     by_status : (s : Status) → CouldNotOpen s old.ground_tells old.told → CountsOf s old.counts new.counts → Serves rule decisive old new s
-    by_status status.NoStore h n = serves_none rule decisive old new status.NoStore g f opening left turns reads (λ b. b) refl n (untouched, h)
-    by_status (status.Damaged file at) h n = serves_none rule decisive old new (status.Damaged file at) g f opening left turns reads (λ b. b) refl n (untouched, λ tells. h tells.0 tells.1)
-    by_status status.GroundFault h n = serves_none rule decisive old new status.GroundFault g f opening left turns reads (λ some. some refl) (inl refl) n tt
+    by_status status.NoStore h n = serves_none rule decisive old new status.NoStore g f opening left turns unasked reads (λ b. b) refl n (untouched, h)
+    by_status (status.Damaged file at) h n = serves_none rule decisive old new (status.Damaged file at) g f opening left turns unasked reads (λ b. b) refl n (untouched, λ tells. h tells.0 tells.1)
+    by_status status.GroundFault h n = serves_none rule decisive old new status.GroundFault g f opening left turns unasked reads (λ some. some refl) (inl refl) n tt
     by_status status.Done h n = absurd h
     by_status status.Usage h n = absurd h
     by_status (status.DamagedRecord at) h n = absurd h
     by_status (status.DamagedName at want got) h n = absurd h
     by_status status.ReadFault h n = absurd h
     by_status status.SayFault h n = absurd h
-    by_status status.Memory h n = serves_none rule decisive old new status.Memory g f opening left turns reads (λ b. b) refl n untouched
+    by_status status.Memory h n = serves_none rule decisive old new status.Memory g f opening left turns unasked reads (λ b. b) refl n untouched
     by_status (status.Limit bound) h n = absurd h
     by_status status.Unfinished h n = absurd h
     by_status status.Exists h n = absurd h
@@ -312,11 +324,11 @@ record Ended (decisive : Bool) (s : Status) (old new : Outside) (taken : Bytes) 
   row : Row decisive s old new taken
   whole : is_cut_off s ≡ false
   begins : Begins s old first xs
-  counted : CountsOf s old.counts new.counts
+  counted : CountsServing s old.counts new.counts
   reads : s ≢ status.ReadFault → new.read_faults ≡ old.read_faults
 
 -- the row of a status with which reading ended
-row_of : (decisive : Bool) (s : Status) (old mid new : Outside) (taken : Bytes) (first : State) (xs : List Exchange) → IsOpened old first → EndsReading s (length (last_piece taken)) (length taken) (IsTrue old.source_tells → new.left ≡ []) → new.counts ≡ old.counts → mid.read_faults ≡ old.read_faults
+row_of : (decisive : Bool) (s : Status) (old mid new : Outside) (taken : Bytes) (first : State) (xs : List Exchange) → IsOpened old first → EndsReading s (length (last_piece taken)) (length taken) (IsTrue old.source_tells → new.left ≡ []) → OnlyRemovals old.counts new.counts → mid.read_faults ≡ old.read_faults
     → IsCaused s mid.read_faults new.read_faults → Ended decisive s old new taken first xs
 row_of decisive status.Done old mid new taken first xs o e n f c = record { row = e; whole = refl; begins = o; counted = n; reads = λ other. c ∙ f }
 row_of decisive status.Unfinished old mid new taken first xs o e n f c = record { row = e; whole = refl; begins = o; counted = n; reads = λ other. c ∙ f }
@@ -343,22 +355,50 @@ placed_from rule decisive old mid lines counts session h b slot live =
     let is = h.known_so b in
     subst (λ (t : Slot). Places rule t (opened h.first) no_view h.exchanges session.store.slot h.view) (one_slot h.slot slot old.told.held (h.live is) live) (h.places is)
 
+-- The child that was held is let go at the end.
+abbrev pub let_go_as : Outside → spawn.Told → Option ℕ → SpawnCounts → Outside
+let_go_as new spawned held spawns = record new { spawned = spawned; held = held; spawns = spawns }
+
+pub record LetsGoAs (new : Outside) (spawned : spawn.Told) (held : Option ℕ) (spawns : SpawnCounts) : Type 0 where
+  pub ends : List Reaped
+  pub few : length ends ≤ 1
+  pub told : IsTrue new.spawner_tells → spawned ≡ told_with new.spawned.started (new.spawned.reaped ++ ends)
+  pub none : held ≡ None
+  pub later : SpawnsLater new.spawns spawns
+
+goes_on_gone : (old new : Outside) (spawned : spawn.Told) (held : Option ℕ) (spawns : SpawnCounts) → SpawnsLater new.spawns spawns → GoesOn old new → GoesOn old (let_go_as new spawned held spawns)
+goes_on_gone old new spawned held spawns later g = record {
+  source_tells = g.source_tells;
+  ground_tells = g.ground_tells;
+  spawner_tells = g.spawner_tells;
+  log_tells = g.log_tells;
+  read_faults = g.read_faults;
+  counts = g.counts;
+  spawns = spawns_on old.spawns new.spawns spawns g.spawns later;
+}
+
+-- what was started and reaped in these exchanges, and then
+told_gone : (old new : Outside) (spawned : spawn.Told) (xs : List Exchange) (ends : List Reaped) → new.spawned ≡ told_with (old.spawned.started ++ jobs_in xs) (old.spawned.reaped ++ ends_in xs) → spawned ≡ told_with new.spawned.started (new.spawned.reaped ++ ends)
+    → spawned ≡ told_with (old.spawned.started ++ jobs_in xs) ((old.spawned.reaped ++ ends_in xs) ++ ends)
+told_gone old new spawned xs ends so then_gone = then_gone ∙ ap (λ (t : spawn.Told). told_with t.started (t.reaped ++ ends)) so
+
 -- the source is read no further
-serves_stopped : (rule : Rule) (decisive : Bool) (s : Status) (old mid new : Outside) (lines lines' : Lines) (counts counts' : TurnCounts) (session : Session) (h : Served rule decisive old mid lines counts session) → Stopped s h.known mid new lines lines' counts counts' (state_in session h.repository h.view) → Serves rule decisive old new s
-serves_stopped rule decisive s old mid new lines lines' counts counts' session h t =
+serves_stopped : (rule : Rule) (decisive : Bool) (s : Status) (old mid new : Outside) (lines lines' : Lines) (counts counts' : TurnCounts) (session : Session) (h : Served rule decisive old mid lines counts session) → Stopped s h.known mid new lines lines' counts counts' (state_in session h.repository h.view)
+    → (spawned : spawn.Told) (held : Option ℕ) (spawns : SpawnCounts) → LetsGoAs new spawned held spawns → Serves rule decisive old (let_go_as new spawned held spawns) s
+serves_stopped rule decisive s old mid new lines lines' counts counts' session h t spawned held spawns gone =
     let first = opened h.first in
     let taken = h.done ++ t.rest in
     let whole : whole_lines taken ≡ lines_in h.exchanges ++ [] = h.lines_then t.rest ∙ ap (λ u. lines_in h.exchanges ++ u) (whole_lines-rest t.rest t.no_line_feed) in
     let rest : last_piece taken ≡ t.rest = h.rest_then t.rest ∙ last_piece-rest t.rest t.no_line_feed in
     let long : lines'.taken ≡ length taken = omega (arith, h.count, t.count, length-append h.done t.rest) in
-    let end = row_of decisive s old mid new taken first h.exchanges h.began (ends_along s (length t.rest) (length (last_piece taken)) lines'.taken (length taken) _ _ t.ends (ap length (sym rest)) long (λ e b. e (told_before _ _ h.goes_on.source_tells b))) (t.no_fault ∙ h.no_fault) h.reads t.cause in
+    let end = row_of decisive s old mid (let_go_as new spawned held spawns) taken first h.exchanges h.began (ends_along s (length t.rest) (length (last_piece taken)) lines'.taken (length taken) _ _ t.ends (ap length (sym rest)) long (λ e b. e (told_before _ _ h.goes_on.source_tells b))) (subst (OnlyRemovals old.counts) (sym t.no_fault) h.no_fault) h.reads t.cause in
     let known : IsTrue old.ground_tells → IsTrue decisive → NothingPending old.told → IsTrue h.known = λ b d order. h.known_so ((b, owns_pending old.told order), d) in
     let quiet : Knows decisive old → said new.told ≡ said old.told ++ texts_in h.exchanges = λ b. t.same_said ∙ h.said (h.known_so b) in
     record {
       taken = taken;
       exchanges = h.exchanges;
       first = first;
-      goes_on = goes_on_then old mid new h.goes_on t.goes_on;
+      goes_on = goes_on_gone old new spawned held spawns gone.later (goes_on_then old mid new h.goes_on t.goes_on);
       begins = end.begins;
       first_is = refl;
       replies = record {
@@ -380,17 +420,23 @@ serves_stopped rule decisive s old mid new lines lines' counts counts' session h
       };
       notes = record {
         noted = λ l. t.same_turns ∙ h.noted (t.goes_on.log_tells l);
-        follow = λ behind. subst (λ (e : TurnCounts). Follow (turn_counts old.counts old.spawns) (turns_in h.exchanges) e) (h.counts_now ∙ ap₂ turn_counts (sym t.no_fault) (sym t.unasked)) h.follow;
+        follow = λ behind. (new.spawns, gone.later, subst (λ (e : TurnCounts). Follow (turn_counts old.counts old.spawns) (turns_in h.exchanges) e) (h.counts_now ∙ ap₂ turn_counts (sym t.no_fault) (sym t.unasked.spawns)) h.follow);
         counted = end.counted;
         reads = end.reads;
+      };
+      children = record {
+        happen = record { whole = h.exchanges; cut = []; all = append_nil h.exchanges; one = omega arith; none = λ _. refl; happen = h.phases };
+        spawned = λ b. (gone.ends, gone.few, told_gone old new spawned h.exchanges gone.ends (t.unasked.spawned ∙ h.spawned b) (gone.told (told_before _ _ (goes_on_then old mid new h.goes_on t.goes_on).spawner_tells b)));
+        none_held = λ _. gone.none;
       };
       row = end.row;
     }
 
 -- a reply could not be said
 serves_unsaid : (rule : Rule) (decisive : Bool) (s : Status) (old mid new : Outside) (lines lines' : Lines) (counts counts' : TurnCounts) (session : Session) (h : Served rule decisive old mid lines counts session) → is_cut_off s ≡ true → ((xs : List Exchange) → Begins s old (opened h.first) xs)
-    → Unsaid rule s h.known mid new lines lines' counts counts' (state_in session h.repository h.view) → ((taken : Bytes) → Row decisive s old new taken) → Serves rule decisive old new s
-serves_unsaid rule decisive s old mid new lines lines' counts counts' session h cut opened_so u row =
+    → Unsaid rule s h.known mid new lines lines' counts counts' (state_in session h.repository h.view) → ((taken : Bytes) (last : Outside) → Row decisive s old last taken)
+    → (spawned : spawn.Told) (held : Option ℕ) (spawns : SpawnCounts) → LetsGoAs new spawned held spawns → Serves rule decisive old (let_go_as new spawned held spawns) s
+serves_unsaid rule decisive s old mid new lines lines' counts counts' session h cut opened_so u row spawned held spawns gone =
     let first = opened h.first in
     let x = u.exchange in
     let t = u.turned in
@@ -402,7 +448,7 @@ serves_unsaid rule decisive s old mid new lines lines' counts counts' session h 
       taken = done ++ pending lines';
       exchanges = xs;
       first = first;
-      goes_on = goes_on_then old mid new h.goes_on t.goes_on;
+      goes_on = goes_on_gone old new spawned held spawns gone.later (goes_on_then old mid new h.goes_on t.goes_on);
       begins = opened_so xs;
       first_is = refl;
       replies = record {
@@ -425,19 +471,25 @@ serves_unsaid rule decisive s old mid new lines lines' counts counts' session h 
       };
       notes = record {
         noted = λ l. t.noted l ∙ (ap (λ u. u ++ x.turn ∷ []) (h.noted (t.goes_on.log_tells l)) ∙ (append_assoc old.turns (turns_in h.exchanges) (x.turn ∷ []) ∙ ap (λ u. old.turns ++ u) (sym (map-append (λ x. x.turn) h.exchanges (x ∷ [])))));
-        follow = λ behind. subst (λ (e : TurnCounts). Follow (turn_counts old.counts old.spawns) (turns_in xs) e) t.until (follow_turn rule decisive old mid lines counts counts' session h x t.begins_at t.ends_at t.rises);
-        counted = subst (λ (c : GroundCounts). CountsOf s c new.counts) h.no_fault u.counted;
+        follow = λ behind. (new.spawns, gone.later, subst (λ (e : TurnCounts). Follow (turn_counts old.counts old.spawns) (turns_in xs) e) t.until (follow_turn rule decisive old mid lines counts counts' session h x t.begins_at t.ends_at t.rises));
+        counted = serving_on s old.counts mid.counts new.counts h.no_fault u.counted;
         reads = λ other. t.reads ∙ h.reads;
       };
-      row = row (done ++ pending lines');
+      children = record {
+        happen = record { whole = h.exchanges; cut = x ∷ []; all = refl; one = omega arith; none = λ c. absurd (cc (c, cut)); happen = h.phases };
+        spawned = λ b. (gone.ends, gone.few, told_gone old new spawned xs gone.ends (spawned_more old.spawned mid.spawned new.spawned h.exchanges x (h.spawned b) (u.spawned (told_before _ _ h.goes_on.spawner_tells b))) (gone.told (told_before _ _ (goes_on_then old mid new h.goes_on t.goes_on).spawner_tells b)));
+        none_held = λ _. gone.none;
+      };
+      row = row (done ++ pending lines') (let_go_as new spawned held spawns);
     }
 
 -- how a run ends
-pub serves_stop : (rule : Rule) (decisive : Bool) (s : Status) (old mid new : Outside) (lines lines' : Lines) (counts counts' : TurnCounts) (session : Session) (h : Served rule decisive old mid lines counts session) → Stops rule s h.known mid new lines lines' counts counts' (state_in session h.repository h.view) → Serves rule decisive old new s
-serves_stop rule decisive status.SayFault old mid new lines lines' counts counts' session h u = serves_unsaid rule decisive status.SayFault old mid new lines lines' counts counts' session h refl (λ xs b. h.began b) u (λ taken. tt)
-serves_stop rule decisive status.GroundFault old mid new lines lines' counts counts' session h u = serves_unsaid rule decisive status.GroundFault old mid new lines lines' counts counts' session h refl (λ xs. inr h.began) u (λ taken. tt)
-serves_stop rule decisive (status.DamagedRecord at) old mid new lines lines' counts counts' session h u = serves_unsaid rule decisive (status.DamagedRecord at) old mid new lines lines' counts counts' session h refl (λ xs b. h.began b) u.0 (λ taken b. u.1 (h.known_so b))
-serves_stop rule decisive (status.DamagedName at want got) old mid new lines lines' counts counts' session h u = serves_unsaid rule decisive (status.DamagedName at want got) old mid new lines lines' counts counts' session h refl (λ xs b. h.began b) u.0 (λ taken b. u.1 (h.known_so b))
+pub serves_stop : (rule : Rule) (decisive : Bool) (s : Status) (old mid new : Outside) (lines lines' : Lines) (counts counts' : TurnCounts) (session : Session) (h : Served rule decisive old mid lines counts session) → Stops rule s h.known mid new lines lines' counts counts' (state_in session h.repository h.view)
+    → (spawned : spawn.Told) (held : Option ℕ) (spawns : SpawnCounts) → LetsGoAs new spawned held spawns → Serves rule decisive old (let_go_as new spawned held spawns) s
+serves_stop rule decisive status.SayFault old mid new lines lines' counts counts' session h u = serves_unsaid rule decisive status.SayFault old mid new lines lines' counts counts' session h refl (λ xs b. h.began b) u (λ taken last. tt)
+serves_stop rule decisive status.GroundFault old mid new lines lines' counts counts' session h u = serves_unsaid rule decisive status.GroundFault old mid new lines lines' counts counts' session h refl (λ xs. inr h.began) u (λ taken last. tt)
+serves_stop rule decisive (status.DamagedRecord at) old mid new lines lines' counts counts' session h u = serves_unsaid rule decisive (status.DamagedRecord at) old mid new lines lines' counts counts' session h refl (λ xs b. h.began b) u.0 (λ taken last b. u.1 (h.known_so b))
+serves_stop rule decisive (status.DamagedName at want got) old mid new lines lines' counts counts' session h u = serves_unsaid rule decisive (status.DamagedName at want got) old mid new lines lines' counts counts' session h refl (λ xs b. h.began b) u.0 (λ taken last b. u.1 (h.known_so b))
 serves_stop rule decisive status.Done old mid new lines lines' counts counts' session h u = serves_stopped rule decisive status.Done old mid new lines lines' counts counts' session h u
 serves_stop rule decisive status.Unfinished old mid new lines lines' counts counts' session h u = serves_stopped rule decisive status.Unfinished old mid new lines lines' counts counts' session h u
 serves_stop rule decisive (status.Limit l) old mid new lines lines' counts counts' session h u = serves_stopped rule decisive (status.Limit l) old mid new lines lines' counts counts' session h u
@@ -458,7 +510,7 @@ stands_open image r stands none =
     absurd (cc (is_none, is))
 
 -- its row, or what was counted, excludes each status but those of its script
-pub ends_by_script : (decisive : Bool) → IsTrue decisive → (s : Status) (old new : Outside) (taken : Bytes) → Row decisive s old new taken → CountsOf s old.counts new.counts → EndsWhereAllIsWell old new s
+pub ends_by_script : (decisive : Bool) → IsTrue decisive → (s : Status) (old new : Outside) (taken : Bytes) → Row decisive s old new taken → CountsServing s old.counts new.counts → EndsWhereAllIsWell old new s
 ends_by_script decisive sure status.Done old new taken r n told stands calm = tt
 ends_by_script decisive sure status.Unfinished old new taken r n told stands calm = tt
 ends_by_script decisive sure (status.Limit b) old new taken r n told stands calm = tt

@@ -3,13 +3,15 @@
 --     files_of, said_of, part_of      the files and what was said, once the reply was said, or not
 --     settled      what is there in any case, and so where it is known.      went_to, cut_to      what a session did with a line, where it is known to work
 --     stops_reading      why a source is read no further.      ended_short, stops_ended      the session has ended
-use Rattle.std.proofs.Common.{◌≡◌, ◌+◌, ◌++◌, [], ◌∷◌, length, refl, sym, ◌∙◌, subst, Bool, true, false, None, Some, OnOk, Result, IsTrue}
+use Rattle.std.proofs.Common.{◌≡◌, ◌+◌, ◌++◌, List, [], ◌∷◌, length, refl, sym, ◌∙◌, subst, Bool, true, false, None, Some, OnOk, Result, IsTrue}
 use Rattle.ip_ground.specs.declared.names.GroundCounts.{GroundCounts}
 use Rattle.ip_ground.specs.declared.names.GroundFault.{GroundFault}
+use Rattle.ip_ground.specs.declared.names.Reaped.{Reaped}
+use Rattle.ip_spawn.specs.declared.job.Job.{Job}
 use Rattle.ip_ground.specs.Counts.{NoneFalls}
-use Rattle.ip_ground.specs.Told.{Told, said, ChangesOnly}
+use Rattle.ip_ground.specs.Told.{Told, said, KeepsPast, KeepsSaid}
 use Rattle.ip_ground.specs.Calls.{Says}
-use Rattle.ip_ground.proofs.Spans.{only_more, said_now}
+use Rattle.ip_ground.proofs.Spans.{said_now}
 use Rattle.ip_image.specs.declared.counts.TurnCounts.{TurnCounts}
 use Rattle.ip_spec.specs.declared.met.Met.{Met}
 use Rattle.ip_spec.specs.declared.reply.Reply.{Reply}
@@ -18,8 +20,8 @@ use Rattle.ip_spec.specs.Path.{Bytes}
 use Rattle.ip_spec.specs.Machine.{State}
 use Rattle.ip_script.specs.Served.{IsServedLine}
 use Rattle.ip_spec.specs.Script.{LineStep}
-use Rattle.ip_store.specs.Publishing.{IsOfStore}
-use Rattle.ip_store.proofs.Stepping.{of_store}
+use Rattle.ip_store.specs.Sweeping.{KeepsFiles}
+use Rattle.ip_store.proofs.KeptFiles.{keeps_on}
 use Rattle.ip_app.specs.declared.lines.Lines.{Lines}
 use Rattle.ip_session.specs.declared.session.SessionEnd.{SessionEnd}
 use Rattle.ip_app.specs.declared.statuses.Status.{Status}
@@ -27,9 +29,9 @@ use Rattle.ip_app.specs.declared.statuses.Status.TheVariants as status
 use Rattle.ip_app.specs.Pending.{pending}
 use Rattle.ip_app.specs.Reading.{GetsLine}
 use Rattle.ip_app.specs.Exchanges.{Exchange}
-use Rattle.ip_app.specs.Outside.{Outside, GoesOn, KeepsFiles}
+use Rattle.ip_app.specs.Outside.{Outside, GoesOn}
 use Rattle.ip_session.specs.declared.session.Session.{Session}
-use Rattle.ip_session.specs.Session.{state_in, IsWorking, conditions_of, ChangedIn, TouchedIn, EndsBy, IsViewIn, GoesIn, CutIn}
+use Rattle.ip_session.specs.Session.{state_in, IsWorking, conditions_of, EndsBy, IsViewIn, GoesIn, CutIn}
 use Rattle.ip_image.specs.Pending.{NothingPending}
 use Rattle.ip_image.specs.Headline.{IsAtomic}
 use Rattle.ip_spec.specs.Repository.{Repository}
@@ -37,19 +39,16 @@ use Rattle.ip_spec.specs.View.{View}
 use Rattle.ip_app.specs.Serving.{SaysPart, Turned, Stopped, Unsaid, Stops, is_cut_short, ended_status}
 use Rattle.ip_app.specs.Turns.{turn_counts, IsLater}
 use Rattle.ip_app.proofs.Counting.{later_of}
-use Rattle.ip_app.proofs.RunLemmas.{append_nil, keeps_on, keeps_two, keeps_said, says_part}
+use Rattle.ip_app.proofs.Happened.{exchange_of}
+use Rattle.ip_app.proofs.RunLemmas.{append_nil, keeps_said, says_part}
 
--- a line's exchange
-abbrev pub exchange_of : Bytes → Met → TurnCounts → TurnCounts → Reply → State → Exchange
-exchange_of line met before later reply after = record { line = line; turn = record { met = met; before = before; after = later }; difference = None; reply = reply; after = after }
-
-pub turned_of : (rule : Rule) (known : Bool) (old new : Outside) (lines lines' : Lines) (counts counts' : TurnCounts) (state after : State) (line read : Bytes) (met told_met : Met) (reply : Reply) (mid : GroundCounts) → GoesOn old new → (IsTrue known → KeepsFiles old.told new.told)
+pub turned_of : (rule : Rule) (known : Bool) (old new : Outside) (lines lines' : Lines) (counts counts' : TurnCounts) (state after : State) (line read : Bytes) (met told_met : Met) (jobs : List Job) (ends : List Reaped) (reply : Reply) (mid : GroundCounts) → GoesOn old new → (IsTrue known → KeepsFiles old.told new.told)
     → GetsLine line old.source_tells (pending lines ++ old.left) (pending lines' ++ new.left) → lines'.taken + length (pending lines) ≡ lines.taken + (length line + 1) + length (pending lines') → new.read_faults ≡ old.read_faults
     → (IsTrue known → LineStep IsServedLine rule state read (conditions_of met) reply after) → read ≡ line → told_met ≡ met
     → (IsTrue new.log_tells → new.turns ≡ old.turns ++ record { met = told_met; before = counts; after = counts' } ∷ [])
     → counts' ≡ turn_counts mid new.spawns → counts ≡ turn_counts old.counts old.spawns → NoneFalls old.counts mid → turn_counts mid new.spawns ≡ turn_counts new.counts new.spawns
-    → Turned rule known old new lines lines' counts counts' state (exchange_of line told_met counts counts' reply after)
-turned_of rule known old new lines lines' counts counts' state after line read met told_met reply mid g files gets count reads step same same_met noted counted before falls still = record {
+    → Turned rule known old new lines lines' counts counts' state (exchange_of line told_met counts counts' jobs ends reply after)
+turned_of rule known old new lines lines' counts counts' state after line read met told_met jobs ends reply mid g files gets count reads step same same_met noted counted before falls still = record {
   goes_on = g;
   files = files;
   front = gets.front;
@@ -65,16 +64,12 @@ turned_of rule known old new lines lines' counts counts' state after line read m
   reads = reads;
 }
 
--- whatever the line and the reply, no files are changed but two
-pub two_of : (line : Bytes) (given : Reply) (a b : Told) → ChangesOnly (ChangedIn a.held line given) a b → ChangesOnly IsOfStore a b
-two_of line given a b only = only_more a b (ChangedIn a.held line given) IsOfStore (λ file changed. of_store a.held file changed.2.1) only
-
-module _ (old mid new : Told) (line : Bytes) (given : Reply) (only : ChangesOnly (ChangedIn old.held line given) old mid) (text : Bytes) (r : Result (Unit {0}) GroundFault) (says : Says text r mid new) where
+module _ (old mid new : Told) (files : KeepsFiles old mid) (still : KeepsSaid old mid) (text : Bytes) (r : Result (Unit {0}) GroundFault) (says : Says text r mid new) where
   quiet : said mid ≡ said old
-  quiet = said_now old mid only.goes only.said
+  quiet = said_now old mid files.goes still
 
   pub files_of : KeepsFiles old new
-  files_of = keeps_on old mid new (keeps_two old mid (two_of line given old mid only)) (keeps_said text r mid new says)
+  files_of = keeps_on old mid new files (keeps_said text r mid new says)
 
   pub said_of : (reply : Bytes) → text ≡ reply → OnOk r (said new ≡ said old ++ reply)
   said_of reply e = subst (λ (t : Bytes). OnOk r (said new ≡ said old ++ t)) e (subst (λ (s : Bytes). OnOk r (said new ≡ s ++ text)) quiet says.ok)
@@ -83,8 +78,8 @@ module _ (old mid new : Told) (line : Bytes) (given : Reply) (only : ChangesOnly
   part_of reply e = subst (λ (t : Bytes). SaysPart t (said old) (said new)) e (subst (λ (s : Bytes). SaysPart text s (said new)) quiet (says_part text r mid new says))
 
 -- nothing of the reply was said
-abbrev pub nothing_said : (old new : Told) (reply : Bytes) → ChangesOnly IsOfStore old new → SaysPart reply (said old) (said new)
-nothing_said old new reply only = ([], reply, refl, said_now old new only.goes only.said ∙ sym (append_nil (said old)))
+abbrev pub nothing_said : (old new : Told) (reply : Bytes) → KeepsPast old new → KeepsSaid old new → SaysPart reply (said old) (said new)
+nothing_said old new reply goes still = ([], reply, refl, said_now old new goes still ∙ sym (append_nil (said old)))
 
 pub stops_reading : (rule : Rule) (s : Status) (known : Bool) (old new : Outside) (lines lines' : Lines) (counts counts' : TurnCounts) (state : State) → Stopped s known old new lines lines' counts counts' state → Stops rule s known old new lines lines' counts counts' state
 stops_reading rule status.SayFault known old new lines lines' counts counts' state t = absurd t.ends
@@ -120,22 +115,24 @@ pub record GoesTo (rule : Rule) (old new : Told) (s s' : Session) (r : Repositor
   pub gives : LineStep IsServedLine rule (state_in s r v) line (conditions_of s'.met) reply (state_in s' x.0 x.1)
   pub working : IsWorking new s' x.0 x.1
   pub seen : IsViewIn r v line reply x.1
-  pub only : ChangesOnly (ChangedIn old.held line reply) old new
+  pub files : KeepsFiles old new
+  pub said : KeepsSaid old new
   pub atomic : NothingPending old → IsAtomic old new r x.0
   pub nothing_pending : NothingPending old → NothingPending new
 
 pub went_to : (rule : Rule) (known : Bool) (old new : Told) (s s' : Session) (r : Repository) (v : View) (line : Bytes) (reply : Reply) → (IsTrue known → GoesIn rule old new s s' r v line reply)
     → (x : Repository × View) × (IsTrue known → GoesTo rule old new s s' r v line reply x)
 went_to rule known old new s s' r v line reply goes = settled (GoesTo rule old new s s' r v line reply) known (r, v)
-    (λ is. let h = goes is in ((h.after, h.view), record { gives = h.gives; working = h.is_at; seen = h.seen; only = h.only; atomic = h.atomic; nothing_pending = h.nothing_pending }))
+    (λ is. let h = goes is in ((h.after, h.view), record { gives = h.gives; working = h.is_at; seen = h.seen; files = h.files; said = h.said; atomic = h.atomic; nothing_pending = h.nothing_pending }))
 
 -- or it was cut short, with this reply and this state of the machine
 pub record CutTo (rule : Rule) (old new : Told) (s s' : Session) (r : Repository) (v : View) (line : Bytes) (x : Reply × State) : Type 0 where
   pub gives : LineStep IsServedLine rule (state_in s r v) line (conditions_of s'.met) x.0 x.1
-  pub only : ChangesOnly IsOfStore old new
+  pub files : KeepsFiles old new
+  pub said : KeepsSaid old new
   pub atomic : NothingPending old → IsAtomic old new r x.1.repository
 
 pub cut_to : (rule : Rule) (known : Bool) (old new : Told) (s s' : Session) (r : Repository) (v : View) (line : Bytes) → (IsTrue known → CutIn rule old new s s' r v line)
     → (x : Reply × State) × (IsTrue known → CutTo rule old new s s' r v line x)
 cut_to rule known old new s s' r v line cut = settled (CutTo rule old new s s' r v line) known (Reply.Accepted, state_in s r v)
-    (λ is. let h = cut is in ((h.reply, h.after), record { gives = h.gives; only = only_more old new (TouchedIn old.held line) IsOfStore (λ file touched. of_store old.held file touched.2.1) h.only; atomic = h.atomic }))
+    (λ is. let h = cut is in ((h.reply, h.after), record { gives = h.gives; files = h.files; said = h.said; atomic = h.atomic }))

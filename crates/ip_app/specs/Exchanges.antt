@@ -2,6 +2,8 @@
 --     Run rule first exchanges      each is a step of the machine, from the state of the one before it
 --     lines_in, turns_in, texts_in      their lines, their turns in the log, and the texts of their replies
 use Rattle.std.specs.Prelude.{List, [], ◌∷◌, map, Option}
+use Rattle.ip_ground.specs.declared.names.Reaped.{Reaped}
+use Rattle.ip_spawn.specs.declared.job.Job.{Job}
 use Rattle.ip_spec.specs.Path.{Bytes}
 use Rattle.ip_spec.specs.Merge.{Rule}
 use Rattle.ip_spec.specs.declared.reply.Difference.{Difference}
@@ -17,6 +19,9 @@ pub record Exchange : Type 0 where
   pub turn : Turn
   -- how the two files of a child that has ended differ from the valid ones
   pub difference : Option Difference
+  -- the children that were started in it, and how those ended that were reaped
+  pub started : List Job
+  pub reaped : List Reaped
   pub reply : Reply
   pub after : State
 

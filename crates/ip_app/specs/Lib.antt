@@ -1,5 +1,6 @@
 pub mod Ending
 pub mod Exchanges
+pub mod Happening
 pub mod Lines
 pub mod Outside
 pub mod Pending

@@ -2,15 +2,14 @@
 --     Outside, outside      the record, and how the traits' ghost members make it
 --     Tells outside      the ground tells its content, and no child changes the live pair.      Knows decisive outside      and the rules of merges are known to be decisive
 --     GoesOn old new      what no call changes: who tells, and that no count falls. A log may tell no more
---     KeepsFiles old new      at no moment has a file changed but the chunks and the control file, or was synced, and none was lent or settled
-use Rattle.std.specs.Prelude.{ℕ, ◌≤◌, ◌≡◌, Bool, IsTrue, List}
-use Rattle.ip_ground.specs.declared.names.FileName.{FileName}
+--     IsUnasked old new      nothing was asked of the spawner
+use Rattle.std.specs.Prelude.{ℕ, ◌≤◌, ◌≡◌, Bool, Option, IsTrue, List}
 use Rattle.ip_ground.specs.declared.names.GroundCounts.{GroundCounts}
 use Rattle.ip_ground.specs.Counts.{NoneFalls}
-use Rattle.ip_ground.specs.Told.{Told, KeepsPast, KeepsFile, KeepsCustody}
+use Rattle.ip_ground.specs.Told.{Told}
 use Rattle.ip_spec.specs.Path.{Bytes}
-use Rattle.ip_store.specs.Publishing.{IsOfStore}
 use Rattle.ip_store.specs.Store.{OwnsLive}
+use Rattle.ip_spawn.specs.Children as spawn
 use Rattle.ip_spawn.specs.declared.spawner.SpawnCounts.{SpawnCounts}
 use Rattle.ip_app.specs.declared.turn_log.Turn.{Turn}
 use Rattle.ip_app.specs.Turns.{SpawnsLater}
@@ -23,19 +22,25 @@ pub record Outside : Type 1 where
   pub ground_tells : Bool
   pub told : Told
   pub counts : GroundCounts
-  -- what the spawner counted
+  -- what the spawner tells of its children, the attempt of the one that it holds, and what it counted
+  pub spawner_tells : Bool
+  pub spawned : spawn.Told
+  pub held : Option ℕ
   pub spawns : SpawnCounts
   pub log_tells : Bool
   pub turns : List Turn
 
-abbrev pub outside : {S G P L : Type 0} → Bool → (S → Bytes) → (S → ℕ) → Bool → (G → Told) → (G → GroundCounts) → (P → SpawnCounts) → (L → Bool) → (L → List Turn) → S → G → P → L → Outside
-outside source_tells left read_faults ground_tells told_of counts_of spawns_of log_tells turns s g p l = record {
+abbrev pub outside : {S G P L : Type 0} → Bool → (S → Bytes) → (S → ℕ) → Bool → (G → Told) → (G → GroundCounts) → Bool → (P → spawn.Told) → (P → Option ℕ) → (P → SpawnCounts) → (L → Bool) → (L → List Turn) → S → G → P → L → Outside
+outside source_tells left read_faults ground_tells told_of counts_of spawner_tells spawned_of held_of spawns_of log_tells turns s g p l = record {
   source_tells = source_tells;
   left = left s;
   read_faults = read_faults s;
   ground_tells = ground_tells;
   told = told_of g;
   counts = counts_of g;
+  spawner_tells = spawner_tells;
+  spawned = spawned_of p;
+  held = held_of p;
   spawns = spawns_of p;
   log_tells = log_tells l;
   turns = turns l;
@@ -50,12 +55,13 @@ Knows decisive outside = Tells outside × IsTrue decisive
 pub record GoesOn (old new : Outside) : Type 0 where
   pub source_tells : new.source_tells ≡ old.source_tells
   pub ground_tells : new.ground_tells ≡ old.ground_tells
+  pub spawner_tells : new.spawner_tells ≡ old.spawner_tells
   pub log_tells : IsTrue new.log_tells → IsTrue old.log_tells
   pub read_faults : old.read_faults ≤ new.read_faults
   pub counts : NoneFalls old.counts new.counts
   pub spawns : SpawnsLater old.spawns new.spawns
 
-pub record KeepsFiles (old new : Told) : Type 0 where
-  pub goes : KeepsPast old new
-  pub others : (file : FileName) → ¬ IsOfStore file → KeepsFile old new file
-  pub lending : (attempt : ℕ) → KeepsCustody old new attempt
+pub record IsUnasked (old new : Outside) : Type 0 where
+  pub spawned : new.spawned ≡ old.spawned
+  pub held : new.held ≡ old.held
+  pub spawns : new.spawns ≡ old.spawns

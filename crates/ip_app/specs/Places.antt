@@ -6,13 +6,15 @@ use Rattle.ip_spec.specs.Machine.{State}
 use Rattle.ip_spec.specs.Merge.{Rule}
 use Rattle.ip_spec.specs.View.{View, no_view}
 use Rattle.ip_image.specs.declared.slot.Slot.{Slot}
+use Rattle.ip_store.specs.declared.collection.Unswept.{Unswept}
 use Rattle.ip_session.specs.Placing.{PlacedIn}
 use Rattle.ip_session.specs.Session.{IsViewIn}
 use Rattle.ip_app.specs.Exchanges.{Exchange}
 
 abbrev pub Places : Rule → Slot → State → View → List Exchange → Slot → View → Type 0
 Places rule slot s v [] slot' v' = (slot' ≡ slot) × (v' ≡ v)
-Places rule slot s v (x ∷ exchanges) slot' v' = (next : Slot) × (view : View) × (x.after.work.tree ≡ view.map) × IsViewIn s.repository v x.line x.reply view × PlacedIn rule slot next s v x.line x.reply × Places rule next x.after view exchanges slot' v'
+Places rule slot s v (x ∷ exchanges) slot' v' =
+    (next : Slot) × (u : Unswept) × (view : View) × (x.after.work.tree ≡ view.map) × IsViewIn s.repository v x.line x.reply view × PlacedIn rule slot u next s v x.line x.reply × Places rule next x.after view exchanges slot' v'
 
 pub record PlacesIn (rule : Rule) (is_cut_off : Bool) (slot : Slot) (first : State) (exchanges : List Exchange) : Type 0 where
   pub whole : List Exchange

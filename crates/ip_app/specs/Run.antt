@@ -1,11 +1,12 @@
 -- What a call of the program does, from what is told when it begins to what is told when it returns.
 --     Inits, Serves      one record for each call; its last field is the row of the status. Of replies and states it is said where the rules of merges are known to be
 --         decisive, for what such a merge makes of the files is one thing alone: where `decisive` is true
---     Replies, Reopens, Notes      of a serving call: its replies, what its files stand for, and its log and counts
+--     Replies, Reopens, Notes, AsksChildren      of a serving call: its replies, what its files stand for, its log and counts, and its children
 --     EndsAsBytes, EndsWhereAllIsWell      of a serving call: the source's bytes give the status; and which statuses need a fault
 --     LeavesAll      of a call that is refused: nothing changes
 use Rattle.std.specs.Prelude.{ℕ, ◌≤◌, ◌≡◌, ◌≢◌, ◌⊎◌, Bool, true, false, IsTrue, List, [], ◌++◌, length, map, All, None, IsSome, Result, Ok, Err}
 use Rattle.ip_ground.specs.declared.names.FileName.TheVariants.{Control}
+use Rattle.ip_ground.specs.declared.names.Reaped.{Reaped}
 use Rattle.ip_ground.specs.Counts.{Rose}
 use Rattle.ip_ground.specs.Custody.{own}
 use Rattle.ip_ground.specs.Told.{Told, said, lending, ChangesOnly, SyncsOnly, Only, NoFile, IsSynced, EachImageNow}
@@ -25,15 +26,18 @@ use Rattle.ip_store.specs.declared.opening.OpenFault.{OpenFault}
 use Rattle.ip_store.specs.declared.store.Store.{Store}
 use Rattle.ip_store.specs.Opening.{RecoversOnceOpen}
 use Rattle.ip_store.specs.Store.{IsOf, OwnsLive, Holds}
+use Rattle.ip_store.specs.Sweeping.{KeepsFiles}
+use Rattle.ip_spawn.specs.declared.spawner.SpawnCounts.{SpawnCounts}
 use Rattle.ip_app.specs.declared.statuses.Status.{Status}
 use Rattle.ip_app.specs.Lines.{longest_line, last_piece}
 use Rattle.ip_app.specs.Reading.{EndsReading}
 use Rattle.ip_app.specs.Ending.{ending_of, IsOfBytes}
 use Rattle.ip_app.specs.Exchanges.{Exchange, answer_of, Run, lines_in, turns_in, texts_in, after_all}
-use Rattle.ip_app.specs.Serving.{is_cut_short, CountsOf}
+use Rattle.ip_app.specs.Happening.{HappenIn, jobs_in, ends_in}
+use Rattle.ip_app.specs.Serving.{is_cut_short, CountsOf, CountsServing}
 use Rattle.ip_app.specs.Places.{PlacesIn}
-use Rattle.ip_app.specs.Turns.{turn_counts, Follow}
-use Rattle.ip_app.specs.Outside.{Outside, Tells, Knows, GoesOn, KeepsFiles}
+use Rattle.ip_app.specs.Turns.{turn_counts, SpawnsLater, Follow}
+use Rattle.ip_app.specs.Outside.{Outside, Tells, Knows, GoesOn, IsUnasked}
 
 -- ---- opening
 
@@ -96,13 +100,14 @@ pub record SaysUpTo (status : Status) (begun : Type 0) (exchanges : List Exchang
   pub said_is : new ≡ old ++ texts_in whole ++ part
   pub silent : is_cut_short status ≡ true → part ≡ []
 
--- no byte was taken, no command begun, nothing said, and no file changed at any moment, nor any but the control file synced
+-- no byte was taken, no command begun, nothing said, no child asked for, and no file changed at any moment, nor any but the control file synced
 pub record IsUntouched (old new : Outside) (taken : Bytes) : Type 0 where
   pub none_taken : taken ≡ []
   pub left : new.left ≡ old.left
   pub said_nothing : IsTrue old.ground_tells → said new.told ≡ said old.told
   pub only : IsTrue old.ground_tells → SyncsOnly (Only Control) old.told new.told
   pub turns : new.turns ≡ old.turns
+  pub unasked : IsUnasked old new
 
 abbrev pub ReadingEnds : Status → Outside → Outside → Bytes → Type 0
 ReadingEnds status old new taken = EndsReading status (length (last_piece taken)) (length taken) (IsTrue old.source_tells → new.left ≡ [])
@@ -156,17 +161,25 @@ pub record Reopens (decisive : Bool) (old new : Outside) (status : Status) (exch
   pub again : IsTrue old.ground_tells → IsTrue decisive → MayServe old.told → MayServe new.told
   -- in the end the files stand for the repository after all of them, unless a fault of the ground or of its files cut the last one short
   pub stands : Knows decisive old → is_cut_short status ≡ false → StandsFor old.told.held first.repository → StandsFor new.told.held (after_all first exchanges).repository
-  -- at no moment does a file change but the chunks and the control file, and nothing is lent
+  -- of the files that are no chunk and not the control file none is written but by a child: it stays or is removed
   pub files : Knows decisive old → KeepsFiles old.told new.told
 
 -- What was noted in the log, and what was counted.
 pub record Notes (old new : Outside) (status : Status) (exchanges : List Exchange) : Type 0 where
   -- the log has their turns, each beginning with the counts that the one before it ended with, from those of the call's begin to those of its end
   pub noted : IsTrue new.log_tells → new.turns ≡ old.turns ++ turns_in exchanges
-  pub follow : IsBehindOpening status exchanges → Follow (turn_counts old.counts old.spawns) (turns_in exchanges) (turn_counts new.counts new.spawns)
+  pub follow : IsBehindOpening status exchanges → (last : SpawnCounts) × SpawnsLater last new.spawns × Follow (turn_counts old.counts old.spawns) (turns_in exchanges) (turn_counts new.counts last)
   -- a fault of the ground or of output ends the call: it was counted, and no other was
-  pub counted : CountsOf status old.counts new.counts
+  pub counted : CountsServing status old.counts new.counts
   pub reads : status ≢ Status.ReadFault → new.read_faults ≡ old.read_faults
+
+-- What was asked of the spawner.
+pub record AsksChildren (old new : Outside) (status : Status) (exchanges : List Exchange) : Type 0 where
+  -- what each command met of it is what happened
+  pub happen : HappenIn (is_cut_off status) exchanges
+  -- it has started what the commands started, and reaped what they reaped, and at the end it was let go of one more at most
+  pub spawned : IsTrue old.spawner_tells → (ends : List Reaped) × (length ends ≤ 1) × (new.spawned ≡ record { started = old.spawned.started ++ jobs_in exchanges; reaped = (old.spawned.reaped ++ ends_in exchanges) ++ ends })
+  pub none_held : old.held ≡ None → new.held ≡ None
 
 -- Of these bytes taken, and these exchanges from this state on.
 pub record Serves (rule : Rule) (decisive : Bool) (old new : Outside) (status : Status) : Type 0 where
@@ -180,6 +193,7 @@ pub record Serves (rule : Rule) (decisive : Bool) (old new : Outside) (status : 
   pub replies : Replies rule decisive old new status taken exchanges first
   pub reopens : Reopens decisive old new status exchanges first
   pub notes : Notes old new status exchanges
+  pub children : AsksChildren old new status exchanges
   -- why it ends so
   pub row : Row decisive status old new taken
 
@@ -237,6 +251,7 @@ pub record Inits (chunk : ℕ) (old new : Outside) (status : Status) : Type 0 wh
   pub goes_on : GoesOn old new
   pub left : new.left ≡ old.left
   pub turns : new.turns ≡ old.turns
+  pub unasked : IsUnasked old new
   -- at no moment does another file change, and nothing is said
   pub only : IsTrue old.ground_tells → ChangesOnly (Only Control) old.told new.told
   -- a fault of the ground was counted, where the status says so, and of no other kind
@@ -252,3 +267,4 @@ pub record LeavesAll (old new : Outside) : Type 0 where
   pub turns : new.turns ≡ old.turns
   pub only : ChangesOnly NoFile old.told new.told
   pub counts : new.counts ≡ old.counts
+  pub unasked : IsUnasked old new

@@ -6,7 +6,7 @@
 -- Of what a session does most is said where it is known to work: where `known` is true. It is for a whole run, from what the ground told at first.
 use Rattle.std.specs.Prelude.{ℕ, ◌+◌, ◌≤◌, ◌≡◌, Bool, true, false, IsTrue, List, [], ◌∷◌, ◌++◌, length, map, All, Some, None}
 use Rattle.ip_ground.specs.declared.names.GroundCounts.{GroundCounts}
-use Rattle.ip_ground.specs.Counts.{FileFault, SayFault}
+use Rattle.ip_ground.specs.Counts.{Rose, FileFault, SayFault}
 use Rattle.ip_ground.specs.Told.{Told, said}
 use Rattle.ip_image.specs.declared.counts.TurnCounts.{TurnCounts}
 use Rattle.ip_image.specs.Standing.{StandsFor}
@@ -15,13 +15,15 @@ use Rattle.ip_image.specs.Pending.{HasLive, NothingPending}
 use Rattle.ip_image.specs.Headline.{MayServe, Turning, Headline}
 use Rattle.ip_spec.specs.Merge.{Rule}
 use Rattle.ip_spec.specs.Path.{Bytes, line_feed}
-use Rattle.ip_spec.specs.Machine.{State, opened}
+use Rattle.ip_spec.specs.Machine.{State, Phase, opened}
 use Rattle.ip_spec.specs.Repository.{Repository}
 use Rattle.ip_spec.specs.View.{View, no_view}
 use Rattle.ip_merge.specs.Rules.{IsDecisive}
 use Rattle.ip_script.specs.Served.{IsServedLine}
 use Rattle.ip_spec.specs.Script.{whole_lines, LineStep}
 use Rattle.ip_spec.specs.Text.{reply_text}
+use Rattle.ip_store.specs.Collecting.{phase_of, child_of}
+use Rattle.ip_store.specs.Sweeping.{KeepsFiles}
 use Rattle.ip_session.specs.declared.session.Session.{Session}
 use Rattle.ip_session.specs.declared.session.SessionEnd.{SessionEnd}
 use Rattle.ip_app.specs.declared.statuses.Status.{Status}
@@ -30,10 +32,11 @@ use Rattle.ip_app.specs.Lines.{longest_line, HasNoLineFeed, last_piece}
 use Rattle.ip_app.specs.Pending.{pending}
 use Rattle.ip_app.specs.Reading.{EndsReading, IsCaused}
 use Rattle.ip_app.specs.Exchanges.{Exchange, conditions, answer_of, Run, lines_in, turns_in, texts_in, after_all}
+use Rattle.ip_app.specs.Happening.{Happens, AllHappen, jobs_in, ends_in}
 use Rattle.ip_session.specs.Placing.{PlacedIn}
 use Rattle.ip_app.specs.Places.{Places}
 use Rattle.ip_app.specs.Turns.{turn_counts, IsLater, Follow}
-use Rattle.ip_app.specs.Outside.{Outside, Tells, Knows, GoesOn, KeepsFiles}
+use Rattle.ip_app.specs.Outside.{Outside, Tells, Knows, GoesOn, IsUnasked}
 use Rattle.ip_session.specs.Session.{IsServing, IsWorking, state_in, IsViewIn}
 
 -- what was said grew by a part from the front of the bytes
@@ -43,6 +46,12 @@ SaysPart bytes old new = (part : Bytes) × (rest : Bytes) × (part ++ rest ≡ b
 -- the ground tells its content, the session works over it in this repository, and a merge comes to one thing alone
 abbrev pub Works : Rule → Bool → Told → Session → Repository → View → Type 0
 Works rule tells told s r v = IsTrue tells × IsWorking told s r v × IsDecisive rule
+
+-- no fault but of removals, which a sweep passes over
+pub record OnlyRemovals (old new : GroundCounts) : Type 0 where
+  pub file_faults : new.file_faults ≡ old.file_faults
+  pub say_faults : new.say_faults ≡ old.say_faults
+  pub remove_faults : old.remove_faults ≤ new.remove_faults
 
 pub record Turned (rule : Rule) (known : Bool) (old new : Outside) (lines lines' : Lines) (counts counts' : TurnCounts) (state : State) (x : Exchange) : Type 0 where
   pub goes_on : GoesOn old new
@@ -66,8 +75,12 @@ pub record TurnedIn (rule : Rule) (known : Bool) (old new : Outside) (lines line
   pub turned : Turned rule known old new lines lines' counts counts' (state_in s r v) exchange
   pub now_at : IsTrue known → exchange.after ≡ state_in s' after view
   pub seen : IsTrue known → IsViewIn r v exchange.line exchange.reply view
-  pub placed : IsTrue known → PlacedIn rule s.store.slot s'.store.slot (state_in s r v) v exchange.line exchange.reply
-  pub no_fault : new.counts ≡ old.counts
+  pub placed : IsTrue known → PlacedIn rule s.store.slot s.store.unswept s'.store.slot (state_in s r v) v exchange.line exchange.reply
+  pub no_fault : OnlyRemovals old.counts new.counts
+  pub happens : Happens (phase_of s.store.collection) exchange
+  pub phase : exchange.after.phase ≡ phase_of s'.store.collection
+  pub spawned : IsTrue old.spawner_tells → new.spawned ≡ record { started = old.spawned.started ++ exchange.started; reaped = old.spawned.reaped ++ exchange.reaped }
+  pub child : new.held ≡ child_of s'.store.collection
   pub serving : IsServing s'
   pub working : IsTrue known → IsWorking new.told s' after view
   pub said : IsTrue known → said new.told ≡ said old.told ++ reply_text exchange.reply
@@ -91,7 +104,7 @@ pub record Stopped (status : Status) (known : Bool) (old new : Outside) (lines l
   pub same_turns : new.turns ≡ old.turns
   pub same_counts : counts' ≡ counts
   pub no_fault : new.counts ≡ old.counts
-  pub unasked : new.spawns ≡ old.spawns
+  pub unasked : IsUnasked old new
 
 -- how a call ends whose session has ended
 abbrev pub ended_status : SessionEnd → Status
@@ -106,11 +119,28 @@ is_cut_short (Status.DamagedRecord at) = true
 is_cut_short (Status.DamagedName at want got) = true
 is_cut_short _ = false
 
--- what a call that ends so has counted of the ground's faults
+-- what a call that ends so has counted of the ground's faults, where it makes a store
 abbrev pub CountsOf : Status → GroundCounts → GroundCounts → Type 0
 CountsOf Status.GroundFault old new = FileFault old new
 CountsOf Status.SayFault old new = SayFault old new
 CountsOf _ old new = new ≡ old
+
+-- besides those of removals, one of a file, or of output
+pub record AFileFault (old new : GroundCounts) : Type 0 where
+  pub rose : Rose old.file_faults new.file_faults
+  pub say_faults : new.say_faults ≡ old.say_faults
+  pub remove_faults : old.remove_faults ≤ new.remove_faults
+
+pub record ASayFault (old new : GroundCounts) : Type 0 where
+  pub rose : Rose old.say_faults new.say_faults
+  pub file_faults : new.file_faults ≡ old.file_faults
+  pub remove_faults : old.remove_faults ≤ new.remove_faults
+
+-- and where it serves
+abbrev pub CountsServing : Status → GroundCounts → GroundCounts → Type 0
+CountsServing Status.GroundFault old new = AFileFault old new
+CountsServing Status.SayFault old new = ASayFault old new
+CountsServing _ old new = OnlyRemovals old new
 
 -- The line was the last: its reply was not said, or only a part of it. Of a command that a fault of the ground or of its
 -- files cuts short, the reply and the state are those that it has where none of its writes fails.
@@ -118,7 +148,9 @@ pub record Unsaid (rule : Rule) (status : Status) (known : Bool) (old new : Outs
   pub exchange : Exchange
   pub turned : Turned rule known old new lines lines' counts counts' state exchange
   -- of the ground a fault was counted, where the status says so, and of no other kind
-  pub counted : CountsOf status old.counts new.counts
+  pub counted : CountsServing status old.counts new.counts
+  -- what was started and reaped in it
+  pub spawned : IsTrue old.spawner_tells → new.spawned ≡ record { started = old.spawned.started ++ exchange.started; reaped = old.spawned.reaped ++ exchange.reaped }
   pub part : IsTrue known → SaysPart (reply_text exchange.reply) (said old.told) (said new.told)
   -- a command that was cut short says nothing
   pub silent : (is : IsTrue known) → is_cut_short status ≡ true → (part is).0 ≡ []
@@ -164,7 +196,11 @@ pub record Served (rule : Rule) (decisive : Bool) (old now : Outside) (lines : L
   pub headline : (is : IsTrue known) → NothingPending old.told → Headline (opened_at is) old.told now.told (opened first) (map answer_of exchanges)
   pub nothing_pending : IsTrue known → NothingPending old.told → NothingPending now.told
   pub noted : IsTrue now.log_tells → now.turns ≡ old.turns ++ turns_in exchanges
-  pub no_fault : now.counts ≡ old.counts
+  pub no_fault : OnlyRemovals old.counts now.counts
+  pub phases : AllHappen Phase.Idle exchanges
+  pub phase : phase_of session.store.collection ≡ (after_all (opened first) exchanges).phase
+  pub spawned : IsTrue old.spawner_tells → now.spawned ≡ record { started = old.spawned.started ++ jobs_in exchanges; reaped = old.spawned.reaped ++ ends_in exchanges }
+  pub child : now.held ≡ child_of session.store.collection
   pub counts_now : counts ≡ turn_counts now.counts now.spawns
   pub follow : Follow (turn_counts old.counts old.spawns) (turns_in exchanges) counts
   pub reads : now.read_faults ≡ old.read_faults

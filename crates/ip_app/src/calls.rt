@@ -1,5 +1,5 @@
 // The program's calls.
-ghost use Rattle.std.specs.Prelude.{◌≡◌, ◌⊎◌, ℕ, Bool, IsTrue};
+ghost use Rattle.std.specs.Prelude.{◌≡◌, ◌⊎◌, ℕ, Bool, None, IsTrue};
 ghost use Rattle.ip_ground.specs.declared.names.FileName.TheVariants.{Control};
 ghost use Rattle.ip_ground.specs.Counts.{NoneFalls};
 ghost use Rattle.ip_ground.specs.Told.{ChangesOnly, Only};
@@ -60,26 +60,26 @@ pub fn run<S: Source, G: Ground, P: Spawner, D: Decides, L: Log>(
     rules: &D,
     log: &mut L,
 ) -> Status
-    // No command asks the spawner for anything so far.
-    ensures unasked { spawner.new ≡ spawner.old }
+    requires child { P.held spawner.old ≡ None }
+    ensures none_held { P.held spawner.new ≡ None }
     // Only where the words ask for nothing that the program does; and where they do, it is this, or want of memory, and nothing is changed.
     ensures usage { result ≡ Status.Usage → AsksNothing (texts_of words.now) }
     ensures refused { AsksNothing (texts_of words.now) → (result ≡ Status.Usage) ⊎ (result ≡ Status.Memory) }
-    ensures nothing { let told = outside S.tells S.left S.read_faults G.tells G.told G.counts_of P.counts_of L.tells L.turns in
+    ensures nothing { let told = outside S.tells S.left S.read_faults G.tells G.told G.counts_of P.tells P.told P.held P.counts_of L.tells L.turns in
         AsksNothing (texts_of words.now) → LeavesAll (told source.old ground.old spawner.old log.old) (told source.new ground.new spawner.new log.new) }
-    ensures init { let told = outside S.tells S.left S.read_faults G.tells G.told G.counts_of P.counts_of L.tells L.turns in
+    ensures init { let told = outside S.tells S.left S.read_faults G.tells G.told G.counts_of P.tells P.told P.held P.counts_of L.tells L.turns in
         (folder : Bytes) (chunk : ℕ) → Asks (texts_of words.now) (making folder chunk) →
         Inits chunk (told source.old ground.old spawner.old log.old) (told source.new ground.new spawner.new log.new) result }
     // Of replies and states it speaks where the rules are known to be decisive, which `decisive` says.
-    ensures serve { let told = outside S.tells S.left S.read_faults G.tells G.told G.counts_of P.counts_of L.tells L.turns in
+    ensures serve { let told = outside S.tells S.left S.read_faults G.tells G.told G.counts_of P.tells P.told P.held P.counts_of L.tells L.turns in
         (folder : Bytes) → Asks (texts_of words.now) (serving folder) → (decisive : Bool) → (IsTrue decisive → IsDecisive (D.rule rules.now)) →
         Serves (D.rule rules.now) decisive (told source.old ground.old spawner.old log.old) (told source.new ground.new spawner.new log.new) result }
     // Where the source tells its bytes, these alone give the status, in whatever pieces they came.
-    ensures bytes { let told = outside S.tells S.left S.read_faults G.tells G.told G.counts_of P.counts_of L.tells L.turns in
+    ensures bytes { let told = outside S.tells S.left S.read_faults G.tells G.told G.counts_of P.tells P.told P.held P.counts_of L.tells L.turns in
         (folder : Bytes) → Asks (texts_of words.now) (serving folder) →
         EndsAsBytes (told source.old ground.old spawner.old log.old) result }
     // Where no fault is counted and the store stands, it ends by the script, or for want of memory.
-    ensures complete { let told = outside S.tells S.left S.read_faults G.tells G.told G.counts_of P.counts_of L.tells L.turns in
+    ensures complete { let told = outside S.tells S.left S.read_faults G.tells G.told G.counts_of P.tells P.told P.held P.counts_of L.tells L.turns in
         (folder : Bytes) → Asks (texts_of words.now) (serving folder) → IsDecisive (D.rule rules.now) →
         EndsWhereAllIsWell (told source.old ground.old spawner.old log.old) (told source.new ground.new spawner.new log.new) result }
 {

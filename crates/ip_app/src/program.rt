@@ -30,7 +30,7 @@ fn called(rt: &HostRuntime) -> Status {
     };
     let mut source = Stdin::new(rt.stdin());
     let mut folder = Folder::new(rt, rt.alloc());
-    // No command asks for a child so far, and it would start none.
+    // So far it starts no child: each start fails.
     let mut children = Scripted::new(rt.alloc(), Vec::new(rt.alloc()), Vec::new(rt.alloc()));
     run(
         rt.alloc(),

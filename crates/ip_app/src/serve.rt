@@ -5,6 +5,7 @@ ghost use Rattle.ip_ground.specs.declared.names.FileName.TheVariants.{Control};
 ghost use Rattle.ip_merge.specs.Rules.{IsDecisive};
 ghost use Rattle.ip_spec.specs.Repository.{Repository};
 ghost use Rattle.ip_spec.specs.View.{View};
+ghost use Rattle.ip_store.specs.Collecting.{child_of};
 ghost use Rattle.ip_store.specs.Opening.{RecoversOnceOpen};
 ghost use Rattle.ip_app.specs.Outside.{outside};
 ghost use Rattle.ip_app.specs.Turns.{turn_counts};
@@ -57,6 +58,7 @@ impl LineRoom {
     // Takes a line, runs its command, notes it and says its reply. `Err` says why there is no further turn.
     fn turn<S: Source, G: Ground, P: Spawner, D: Decides, L: Log>(
         &mut self,
+        folder: &str,
         session: &mut Session,
         counts: &mut TurnCounts,
         source: &mut S,
@@ -68,13 +70,16 @@ impl LineRoom {
         requires roomy { IsRoomy self.old }
         requires counted { counts.old ≡ turn_counts (G.counts_of ground.old) (P.counts_of spawner.old) }
         requires small { counts.old.file_faults ≤ 2 ^ 64 - 1 }
+        requires removals { counts.old.remove_faults ≤ 2 ^ 64 - 1 }
         requires tables { IsServing session.old }
+        requires child { P.held spawner.old ≡ child_of session.old.store.collection }
         ensures roomy { IsRoomy self.new }
-        ensures unasked { spawner.new ≡ spawner.old }
-        ensures turned { let told = outside S.tells S.left S.read_faults G.tells G.told G.counts_of P.counts_of L.tells L.turns in
+        ensures removals { counts.new.remove_faults ≤ 2 ^ 64 - 1 }
+        ensures child { P.held spawner.new ≡ child_of session.new.store.collection }
+        ensures turned { let told = outside S.tells S.left S.read_faults G.tells G.told G.counts_of P.tells P.told P.held P.counts_of L.tells L.turns in
             (known : Bool) (r : Repository) (v : View) → (IsTrue known → Works (D.rule rules.now) G.tells (G.told ground.old) session.old r v) →
             OnOk result (TurnedIn (D.rule rules.now) known (told source.old ground.old spawner.old log.old) (told source.new ground.new spawner.new log.new) self.old.lines self.new.lines counts.old counts.new session.old session.new r v) }
-        ensures stops { let told = outside S.tells S.left S.read_faults G.tells G.told G.counts_of P.counts_of L.tells L.turns in
+        ensures stops { let told = outside S.tells S.left S.read_faults G.tells G.told G.counts_of P.tells P.told P.held P.counts_of L.tells L.turns in
             (known : Bool) (r : Repository) (v : View) → (IsTrue known → Works (D.rule rules.now) G.tells (G.told ground.old) session.old r v) →
             IfErr result (λ status. Stops (D.rule rules.now) status known (told source.old ground.old spawner.old log.old) (told source.new ground.new spawner.new log.new) self.old.lines self.new.lines counts.old counts.new (state_in session.old r v)) }
     {
@@ -84,7 +89,7 @@ impl LineRoom {
             return Err(status);
         }
         let before = *counts;
-        let answered = session.answer(ground, &self.line, rules, &mut self.text);
+        let answered = session.answer(folder, ground, spawner, &self.line, rules, &mut self.text);
         *counts = turn_counts(ground.counts(), spawner.counts());
         log.note(&Turn {
             met: session.met(),
@@ -156,16 +161,16 @@ pub fn serve<S: Source, G: Ground, P: Spawner, D: Decides, L: Log>(
     rules: &D,
     log: &mut L,
 ) -> Status
-    // No command asks it for anything so far.
-    ensures unasked { spawner.new ≡ spawner.old }
-    ensures serves { let told = outside S.tells S.left S.read_faults G.tells G.told G.counts_of P.counts_of L.tells L.turns in
+    requires child { P.held spawner.old ≡ None }
+    ensures none_held { P.held spawner.new ≡ None }
+    ensures serves { let told = outside S.tells S.left S.read_faults G.tells G.told G.counts_of P.tells P.told P.held P.counts_of L.tells L.turns in
         (decisive : Bool) → (IsTrue decisive → IsDecisive (D.rule rules.now)) →
         Serves (D.rule rules.now) decisive (told source.old ground.old spawner.old log.old) (told source.new ground.new spawner.new log.new) result }
     // Where the source tells its bytes, these alone give the status, in whatever pieces they came.
-    ensures bytes { let told = outside S.tells S.left S.read_faults G.tells G.told G.counts_of P.counts_of L.tells L.turns in
+    ensures bytes { let told = outside S.tells S.left S.read_faults G.tells G.told G.counts_of P.tells P.told P.held P.counts_of L.tells L.turns in
         EndsAsBytes (told source.old ground.old spawner.old log.old) result }
     // Where no fault is counted and the store stands, it ends by the script, or for want of memory.
-    ensures complete { let told = outside S.tells S.left S.read_faults G.tells G.told G.counts_of P.counts_of L.tells L.turns in
+    ensures complete { let told = outside S.tells S.left S.read_faults G.tells G.told G.counts_of P.tells P.told P.held P.counts_of L.tells L.turns in
         IsDecisive (D.rule rules.now) → EndsWhereAllIsWell (told source.old ground.old spawner.old log.old) (told source.new ground.new spawner.new log.new) result }
 {
     let mut counts = turn_counts(ground.counts(), spawner.counts());
@@ -179,6 +184,7 @@ pub fn serve<S: Source, G: Ground, P: Spawner, D: Decides, L: Log>(
     let mut session = Session::new(alloc, store);
     'lines: loop {
         if let Err(status) = room.turn(
+            folder,
             &mut session,
             &mut counts,
             source,
@@ -187,6 +193,7 @@ pub fn serve<S: Source, G: Ground, P: Spawner, D: Decides, L: Log>(
             rules,
             log,
         ) {
+            session.let_go(spawner);
             return status;
         }
     }

@@ -1,15 +1,19 @@
 // Calls of the program: stores are made and served.
+ghost use Rattle.std.specs.Prelude.{◌≡◌, None};
+
 use ip_app::{Log, ProgramRules, Silent, Status, run};
 use ip_base::Blob;
 use ip_ground::{Bench, Ground};
 use ip_merge::Decides;
 use ip_script::{Bytes, Source};
-use ip_spawn::Scripted;
+use ip_spawn::{Scripted, Spawner};
 use std::alloc::{AllocError, Global};
 use std::test::Fail;
 
 /// A spawner that can start no child.
-pub fn childless(alloc: Global) -> Scripted {
+pub fn childless(alloc: Global) -> Scripted
+    ensures { ⟦<Scripted as Spawner>⟧.held result ≡ None }
+{
     Scripted::new(alloc, Vec::new(alloc), Vec::new(alloc))
 }
 
@@ -87,9 +91,24 @@ pub fn serve_by<S: Source, G: Ground, D: Decides, L: Log>(
     rules: &D,
     log: &mut L,
 ) -> Result<Status, AllocError> {
-    let words = words(alloc, &["ipstore", "serve", "mem"])?;
     let mut spawner = childless(alloc);
-    Ok(run(alloc, &words, source, ground, &mut spawner, rules, log))
+    serve_with(alloc, source, ground, &mut spawner, rules, log)
+}
+
+/// Serves a source by these rules, with children that this spawner starts. How that ends: it holds none then.
+pub fn serve_with<S: Source, G: Ground, P: Spawner, D: Decides, L: Log>(
+    alloc: Global,
+    source: &mut S,
+    ground: &mut G,
+    spawner: &mut P,
+    rules: &D,
+    log: &mut L,
+) -> Result<Status, AllocError>
+    requires child { P.held spawner.old ≡ None }
+    ensures none_held { P.held spawner.new ≡ None }
+{
+    let words = words(alloc, &["ipstore", "serve", "mem"])?;
+    Ok(run(alloc, &words, source, ground, spawner, rules, log))
 }
 
 /// Serves a script. How that ends.

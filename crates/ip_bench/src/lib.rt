@@ -6,8 +6,8 @@ mod files;
 mod transcript;
 
 pub use calls::{
-    answers, answers_on, bench, childless, init, init_with, serve, serve_by, source, store_after,
-    told_after, words,
+    answers, answers_on, bench, childless, init, init_with, serve, serve_by, serve_with, source,
+    store_after, told_after, words,
 };
 pub use files::{bytes_of, count_lines, fresh_control, put_value, slot_after_one_commit};
-pub use transcript::{play, play_by, play_on, replies_of, script_of};
+pub use transcript::{play, play_by, play_on, play_with, replies_of, script_of};

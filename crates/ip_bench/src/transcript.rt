@@ -1,8 +1,11 @@
 // Transcripts: texts in which each line of a script stands behind `> `, and its reply below it.
-use crate::calls::{bench, init, serve_by, source};
+ghost use Rattle.std.specs.Prelude.{◌≡◌, None};
+
+use crate::calls::{bench, childless, init, serve_with, source};
 use ip_app::{ProgramRules, Silent, Status};
 use ip_ground::Bench;
 use ip_merge::Decides;
+use ip_spawn::Spawner;
 use std::alloc::{AllocError, Global};
 use std::test::Fail;
 
@@ -73,9 +76,37 @@ pub fn play_by<D: Decides>(
     rules: &D,
     transcript: &str,
 ) -> Result<(), Fail> {
+    let mut spawner = childless(alloc);
+    play_all(alloc, ground, &mut spawner, rules, transcript)
+}
+
+/// Plays a transcript over a ground with a store, by the program's rules, with children that this spawner starts.
+pub fn play_with<P: Spawner>(
+    alloc: Global,
+    ground: &mut Bench,
+    spawner: &mut P,
+    transcript: &str,
+) -> Result<(), Fail>
+    requires child { P.held spawner.old ≡ None }
+    ensures none_held { P.held spawner.new ≡ None }
+{
+    play_all(alloc, ground, spawner, &ProgramRules, transcript)
+}
+
+// Serves the script of a transcript to its end.
+fn play_all<P: Spawner, D: Decides>(
+    alloc: Global,
+    ground: &mut Bench,
+    spawner: &mut P,
+    rules: &D,
+    transcript: &str,
+) -> Result<(), Fail>
+    requires child { P.held spawner.old ≡ None }
+    ensures none_held { P.held spawner.new ≡ None }
+{
     let before = ground.said(alloc)?.len();
     let mut script = source(alloc, &script_of(alloc, transcript)?, &[])?;
-    let status = serve_by(alloc, &mut script, ground, rules, &mut Silent)?;
+    let status = serve_with(alloc, &mut script, ground, spawner, rules, &mut Silent)?;
     let said = ground.said(alloc)?;
     let said = said.get(before..).unwrap_or(&[]);
     if said != replies_of(alloc, transcript)?.as_slice() {

@@ -20,8 +20,8 @@ use Rattle.ip_app.proofs.calls.run.Goals as goal
 
 -- nothing was done
 serves_nothing : (rule : Rule) (decisive : Bool) (s : Outside) → Serves rule decisive s s status.Memory
-serves_nothing rule decisive s = begins_unopened rule decisive s s status.Memory (record { source_tells = refl; ground_tells = refl; log_tells = λ t. t; read_faults = le_refl s.read_faults; counts = falls_itself s.counts; spawns = spawns_itself s.spawns })
-    (λ told. syncs_none s.told s.told (Only Control) (only_nowhere s.told NoFile)) (λ told. opening_none s.told s.told (only_nowhere s.told NoFile)) refl refl refl tt refl
+serves_nothing rule decisive s = begins_unopened rule decisive s s status.Memory (record { source_tells = refl; ground_tells = refl; spawner_tells = refl; log_tells = λ t. t; read_faults = le_refl s.read_faults; counts = falls_itself s.counts; spawns = spawns_itself s.spawns })
+    (λ told. syncs_none s.told s.told (Only Control) (only_nowhere s.told NoFile)) (λ told. opening_none s.told s.told (only_nowhere s.told NoFile)) refl refl (record { spawned = refl; held = refl; spawns = refl }) refl tt refl
 
 inits_with : (n m : ℕ) (old new : Outside) (s : Status) → n ≡ m → Inits n old new s → Inits m old new s
 inits_with n m old new s e h = subst (λ (k : ℕ). Inits k old new s) e h
@@ -55,7 +55,7 @@ returns-in-Init-clause-init g c folder chunk asks =
     let words = texts_of c.args.words.now in
     let read = subst (λ (call : Call). Asks words (shown call)) c.in-Init.is (asked_for words _ _ c.in-Ok-Some.field-0-is c.in-Ok-Some.ensures) in
     inits_with _ chunk _ _ c.init.result (same_size words _ _ _ _ read asks)
-    (record { goes_on = record { source_tells = refl; ground_tells = refl; log_tells = λ t. t; read_faults = le_refl _; counts = c.init.ensures.counts; spawns = spawns_itself _ }; left = refl; turns = refl; only = c.init.ensures.only; counted = c.init.ensures.counted; row = c.init.ensures.row })
+    (record { goes_on = record { source_tells = refl; ground_tells = refl; spawner_tells = refl; log_tells = λ t. t; read_faults = le_refl _; counts = c.init.ensures.counts; spawns = spawns_itself _ }; left = refl; turns = refl; unasked = record { spawned = refl; held = refl; spawns = refl }; only = c.init.ensures.only; counted = c.init.ensures.counted; row = c.init.ensures.row })
 
 pub returns-in-Init-clause-complete : goal.returns-in-Init-clause-complete
 returns-in-Init-clause-complete g c folder asks decisive =

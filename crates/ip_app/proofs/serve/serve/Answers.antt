@@ -3,11 +3,14 @@ use Rattle.std.proofs.Math.Nat.{le_refl}
 use Rattle.ip_ground.specs.declared.names.GroundCounts.{GroundCounts}
 use Rattle.ip_image.specs.declared.counts.TurnCounts.{TurnCounts}
 use Rattle.ip_spec.specs.Merge.{Rule}
+use Rattle.ip_store.specs.declared.store.Store.{Store}
+use Rattle.ip_store.specs.Collecting.{child_of}
 use Rattle.ip_merge.specs.Rules.{IsDecisive}
 use Rattle.ip_app.specs.declared.statuses.Status.TheVariants as status
 use Rattle.ip_app.specs.Turns.{turn_counts}
 use Rattle.ip_app.proofs.Counting.{spawns_itself, falls_same, falls_of}
 use Rattle.ip_app.proofs.EndingLaw.{ends_as_bytes}
+use Rattle.ip_app.proofs.Happened.{later_gone}
 use Rattle.ip_app.proofs.LivePair.{live_in, known_or_not, with_flag}
 use Rattle.ip_app.proofs.RunLemmas.{serves_stop, served_first, served_more, ends_by_script, begins_unopened}
 use Rattle.ip_spec.specs.View.{no_view}
@@ -23,22 +26,26 @@ returns-in-Err-clause-serves g c decisive by_rule =
     let files : c.counts.result.file_faults ≤ 2 ^ 64 - 1 = search rules in
     let says : c.counts.result.say_faults ≤ 2 ^ 64 - 1 = search rules in
     let falls = falls_of c.in-Err.status _ _ (subst (λ (n : GroundCounts). n.file_faults ≤ 2 ^ 64 - 1) c.counts.ensures files) (subst (λ (n : GroundCounts). n.say_faults ≤ 2 ^ 64 - 1) c.counts.ensures says) c.in-Err.ensures.counted in
-    begins_unopened _ decisive _ _ _ (record { source_tells = refl; ground_tells = refl; log_tells = λ t. t; read_faults = le_refl (g.S.Source.read_faults c.args.source.now); counts = falls; spawns = spawns_itself (g.P.Spawner.counts_of c.args.spawner.now) })
-    c.open_in.ensures.only c.open_in.ensures.opening refl refl refl c.in-Err.ensures.refused c.in-Err.ensures.counted
+    begins_unopened _ decisive _ _ _ (record { source_tells = refl; ground_tells = refl; spawner_tells = refl; log_tells = λ t. t; read_faults = le_refl (g.S.Source.read_faults c.args.source.now); counts = falls; spawns = spawns_itself (g.P.Spawner.counts_of c.args.spawner.now) })
+    c.open_in.ensures.only c.open_in.ensures.opening refl refl (record { spawned = refl; held = refl; spawns = refl }) refl c.in-Err.ensures.refused c.in-Err.ensures.counted
 
 pub returns-in_default-clause-serves : goal.returns-in_default-clause-serves
-returns-in_default-clause-serves g c decisive by_rule = begins_unopened _ decisive _ _ status.Memory (record { source_tells = refl; ground_tells = refl; log_tells = λ t. t; read_faults = le_refl (g.S.Source.read_faults c.args.source.now); counts = falls_same _ _ c.in-Ok.ensures.no_fault; spawns = spawns_itself (g.P.Spawner.counts_of c.args.spawner.now) })
-    c.open_in.ensures.only c.open_in.ensures.opening refl refl refl tt c.in-Ok.ensures.no_fault
+returns-in_default-clause-serves g c decisive by_rule = begins_unopened _ decisive _ _ status.Memory (record { source_tells = refl; ground_tells = refl; spawner_tells = refl; log_tells = λ t. t; read_faults = le_refl (g.S.Source.read_faults c.args.source.now); counts = falls_same _ _ c.in-Ok.ensures.no_fault; spawns = spawns_itself (g.P.Spawner.counts_of c.args.spawner.now) })
+    c.open_in.ensures.only c.open_in.ensures.opening refl refl (record { spawned = refl; held = refl; spawns = refl }) refl tt c.in-Ok.ensures.no_fault
 
 pub lines-init : goal.lines-init
 lines-init g c =
     let opened = c.in-Ok.ensures.opened in
+    let idle = ap (λ (store : Store). store.collection) c.new-session.ensures.store ∙ c.in-Ok.ensures.idle in
+    let child = c.requires.child ∙ sym (ap child_of idle) in
+    let removals : c.counts.result.remove_faults ≤ 2 ^ 64 - 1 = search rules in
     record {
       roomy = c.in-Ok-new.ensures.roomy;
-      unasked = refl;
+      removals = subst (λ (n : ℕ). n ≤ 2 ^ 64 - 1) (sym (ap (λ (t : TurnCounts). t.remove_faults) (c.turn_counts-counts.ensures ∙ ap₂ turn_counts c.counts.ensures c.counts-2.ensures))) (subst (λ (n : GroundCounts). n.remove_faults ≤ 2 ^ 64 - 1) c.counts.ensures removals);
+      child = child;
       served = λ decisive by_rule. served_first _ decisive by_rule _ _ c.in-Ok-new.room.lines c.turn_counts-counts.result c.new-session.result opened.repository no_view refl (with_flag _ decisive (known_or_not g.G.Ground.tells _ (λ told owns. live_in _ _ (opened.stands told owns)))) (opened.repository, c.new-session.ensures.is_in opened.repository opened.tables) (c.new-session.ensures.state c.in-Ok.ensures.idle opened.repository)
-          (λ tells. begins_working _ c.new-session.result _ opened.repository c.new-session.ensures.store c.new-session.ensures.lawful (opened.holds tells.0 tells.1)) (λ tells. opened.stands tells.0 tells.1) opened.opening (λ tells. opened.over tells.0 tells.1) (c.turn_counts-counts.ensures ∙ ap₂ turn_counts c.counts.ensures c.counts-2.ensures) c.in-Ok.ensures.no_fault refl refl
-          (record { source_tells = refl; ground_tells = refl; log_tells = λ t. t; read_faults = le_refl (g.S.Source.read_faults c.args.source.now); counts = falls_same _ _ c.in-Ok.ensures.no_fault; spawns = spawns_itself (g.P.Spawner.counts_of c.args.spawner.now) })
+          (λ tells. begins_working _ c.new-session.result _ opened.repository c.new-session.ensures.store c.new-session.ensures.lawful (opened.holds tells.0 tells.1)) (λ tells. opened.stands tells.0 tells.1) opened.opening (λ tells. opened.over tells.0 tells.1) (c.turn_counts-counts.ensures ∙ ap₂ turn_counts c.counts.ensures c.counts-2.ensures) c.in-Ok.ensures.no_fault (record { spawned = refl; held = refl; spawns = refl }) idle c.requires.child refl
+          (record { source_tells = refl; ground_tells = refl; spawner_tells = refl; log_tells = λ t. t; read_faults = le_refl (g.S.Source.read_faults c.args.source.now); counts = falls_same _ _ c.in-Ok.ensures.no_fault; spawns = spawns_itself (g.P.Spawner.counts_of c.args.spawner.now) })
           c.open_in.ensures.only refl refl c.in-Ok-new.ensures.pending c.in-Ok-new.ensures.taken;
     }
 
@@ -49,20 +56,25 @@ turn-requires g c =
     record {
       roomy = c.lines.invariant.roomy;
       counted = served.counts_now;
-      small = subst (λ (n : ℕ). n ≤ 2 ^ 64 - 1) (sym (ap (λ (t : TurnCounts). t.file_faults) served.counts_now ∙ ap (λ (n : GroundCounts). n.file_faults) served.no_fault)) (subst (λ (n : GroundCounts). n.file_faults ≤ 2 ^ 64 - 1) c.counts.ensures told);
+      small = subst (λ (n : ℕ). n ≤ 2 ^ 64 - 1) (sym (ap (λ (t : TurnCounts). t.file_faults) served.counts_now ∙ served.no_fault.file_faults)) (subst (λ (n : GroundCounts). n.file_faults ≤ 2 ^ 64 - 1) c.counts.ensures told);
+      removals = c.lines.invariant.removals;
       tables = served.serving;
+      child = c.lines.invariant.child;
     }
 
 pub returns-in-Err-turn-clause-serves : goal.returns-in-Err-turn-clause-serves
 returns-in-Err-turn-clause-serves g c decisive by_rule =
     let served = c.lines.invariant.served decisive by_rule in
+    let gone = c.let_go.ensures.told in
     serves_stop _ decisive c.in-Err-turn.status _ _ _ c.lines.room.lines c.turn.new.self.lines c.lines.counts c.turn.new.counts c.lines.session served (c.in-Err-turn.ensures.stops served.known served.repository served.view (λ is. ((served.tells is).0, served.working is, served.is_decisive is)))
+    (g.P.Spawner.told c.let_go.new.spawner) (g.P.Spawner.held c.let_go.new.spawner) (g.P.Spawner.counts_of c.let_go.new.spawner) (record { ends = gone.0; few = gone.1; told = gone.2; none = c.let_go.ensures.none_held; later = later_gone _ _ c.let_go.ensures.counts })
 
 pub lines-preserved : goal.lines-preserved
 lines-preserved g c =
     record {
       roomy = c.turn.ensures.roomy;
-      unasked = c.turn.ensures.unasked ∙ c.lines.invariant.unasked;
+      removals = c.turn.ensures.removals;
+      child = c.turn.ensures.child;
       served = λ decisive by_rule. let served = c.lines.invariant.served decisive by_rule in served_more _ decisive _ _ _ c.lines.room.lines c.turn.new.self.lines c.lines.counts c.turn.new.counts c.lines.session c.turn.new.session served (c.in_default-turn.ensures.turned served.known served.repository served.view (λ is. ((served.tells is).0, served.working is, served.is_decisive is)));
     }
 
