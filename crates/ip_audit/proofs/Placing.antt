@@ -1,5 +1,5 @@
 -- A list of names and the map of their places, as names come and go.
-use Rattle.std.proofs.Common.{◌⊎◌, inl, inr, ◌≡◌, ℕ, zero, suc, ◌+◌, ◌<◌, arith, Bool, true, false, cond, List, [], ◌∷◌, ◌++◌, length, Option, Some, None, Ok, Err, refl, sym, ◌∙◌, ap}
+use Rattle.std.proofs.Common.{◌⊎◌, inl, inr, ◌≡◌, ℕ, zero, suc, ◌+◌, ◌<◌, arith, Bool, true, false, cond, List, [], ◌∷◌, ◌++◌, length, take, drop, get_or, Option, Some, None, Ok, Err, refl, sym, ◌∙◌, ap, subst}
 use Rattle.std.specs.Prelude.{slice_get, position, Result, OnOk, is_err}
 use Rattle.std.specs.List.{position_from}
 use Rattle.std.specs.BTreeMap.{BTreeMap, get}
@@ -11,6 +11,7 @@ use Rattle.std.specs.declared.cmp.Ordering.TheVariants.{Less, Equal, Greater}
 use Rattle.std.proofs.lemmas.Map.Lookups.{exact_bytes}
 use Rattle.std.proofs.lemmas.Iterator.Adapters.{position_from-zero}
 use Rattle.std.proofs.lemmas.List.Quantifiers.{position-Some}
+use Rattle.std.proofs.lemmas.Option.{slice_get-get_or}
 use Rattle.ip_spec.specs.Path.{bytes_cmp, same_bytes}
 use Rattle.ip_spec.specs.Record.{Hash}
 use Rattle.ip_audit.specs.Placed.{ArePlaced}
@@ -141,3 +142,36 @@ popped names m n name placed updates = record { each = each; once = once }
 pub on_ok : {A E : Type 0} (r : Result A E) (P : Type 0) → is_err r ≡ false → OnOk r P → P
 on_ok (Ok x) P e p = p
 on_ok (Err x) P e p = absurd (cc (e))
+
+-- ---- those from a place on
+
+take_at : (xs : List Hash) (i j : ℕ) (x : Hash) → slice_get (take i xs) j ≡ Some x → (j < i) × (slice_get xs j ≡ Some x)
+take_at xs zero j x is = absurd (cc (is))
+take_at [] (suc i) j x is = absurd (cc (is))
+take_at (y ∷ xs) (suc i) zero x is = (omega arith, is)
+take_at (y ∷ xs) (suc i) (suc j) x is = let rest = take_at xs i j x is in ((let low = rest.0 in omega (arith, low)), rest.1)
+
+drop_at : (xs : List Hash) (from j : ℕ) (x : Hash) → slice_get (drop from xs) j ≡ Some x → slice_get xs (from + j) ≡ Some x
+drop_at [] zero j x is = absurd (cc (is))
+drop_at [] (suc from) j x is = absurd (cc (is))
+drop_at (y ∷ xs) zero j x is = (let e : j ≡ 0 + j = omega arith in subst (λ (n : ℕ). slice_get (y ∷ xs) n ≡ Some x) e is)
+drop_at (y ∷ xs) (suc from) j x is = (let e : suc (from + j) ≡ suc from + j = omega arith in subst (λ (n : ℕ). slice_get (y ∷ xs) n ≡ Some x) e (drop_at xs from j x is))
+
+none_of : (xs : List Hash) (x : Hash) → ((j : ℕ) → slice_get xs j ≡ Some x → ⊥) → place_in xs x ≡ None
+none_of xs x not = by (place_in xs x) refl
+  where
+    by : (o : Option ℕ) → place_in xs x ≡ o → place_in xs x ≡ None
+    by None e = e
+    by (Some j) e =
+        let found = position-Some (λ n. same_bytes n x) xs j [] e in
+        absurd (not j (slice_get-get_or xs j [] found.0 ∙ ap Some (same_is (get_or xs j []) x found.1)))
+
+-- no name comes twice
+pub new_behind : (names : List Hash) (m : BTreeMap Hash ℕ) → ArePlaced names m → (from n i : ℕ) (x : Hash) → slice_get (take n (drop from names)) i ≡ Some x → place_in (take i (take n (drop from names))) x ≡ None
+new_behind names m placed from n i x here = none_of (take i (take n (drop from names))) x (λ j there.
+    let before = take_at (take n (drop from names)) i j x there in
+    let one = placed.once (from + j) x (drop_at names from j x (take_at (drop from names) n j x before.1).1) in
+    let other = placed.once (from + i) x (drop_at names from i x (take_at (drop from names) n i x here).1) in
+    let same : from + j ≡ from + i = cc (one, other) in
+    let low = before.0 in
+    absurd (omega (arith, same, low)))

@@ -1,5 +1,5 @@
 // The names of commits.
-ghost use Rattle.std.specs.Prelude.{◌≡◌, ◌-◌, None, [], ◌∷◌, ◌++◌, length, slice_get, take, position, OnOk, OnErr, option_copied};
+ghost use Rattle.std.specs.Prelude.{◌≡◌, ◌-◌, None, [], ◌∷◌, ◌++◌, ◌≤◌, length, slice_get, take, drop, position, IfOk, OnOk, OnErr, option_copied};
 ghost use Rattle.ip_spec.specs.Path.{same_bytes};
 
 use ip_base::{Hash, Memory};
@@ -70,6 +70,18 @@ impl Names {
             return Err(Memory);
         }
         Ok(())
+    }
+
+    /// The names from a place on, in a list of their own.
+    pub fn copy_from(&self, alloc: Global, from: usize) -> Result<Names, Memory>
+        requires { from ≤ length self.now }
+        ensures { IfOk result (λ names. names ≡ drop from self.now) }
+    {
+        let mut names = Names::new(alloc);
+        for name in &self.names[from..] {
+            names.push(*name)?;
+        }
+        Ok(names)
     }
 
     /// Takes the last name away, where there is one. It takes no memory.

@@ -6,7 +6,9 @@ ghost use Rattle.ip_ground.specs.Told.{NoFile, ChangesOnly};
 ghost use Rattle.ip_spec.specs.TreeAt.{Records};
 ghost use Rattle.ip_spawn.specs.Jobs.{IsValid as IsValidJob};
 ghost use Rattle.ip_image.specs.Collection.{Found, found_in};
+ghost use Rattle.ip_image.specs.Virtual.{RowsFit, placed, total};
 ghost use Rattle.ip_space.specs.SpaceView.{IsReadable};
+ghost use Rattle.ip_keep.specs.Runs.{FitRuns, joined, left_of};
 ghost use Rattle.ip_keep.specs.Whole.{AreRecords};
 ghost use Rattle.ip_check.specs.declared.check.Stage.TheVariants as Stage;
 ghost use Rattle.ip_check.specs.declared.check.Outcome.TheVariants as Outcome;
@@ -24,7 +26,7 @@ use crate::mapping::compare_mapping;
 use crate::prefix::{compare_stretch, stretch_from};
 use ip_base::Memory;
 use ip_ground::{FileName, Ground};
-use ip_keep::{Keep, KeepFault};
+use ip_keep::{Keep, KeepFault, Runs};
 use ip_space::Space;
 use ip_spawn::Job;
 use ip_spec::reply::{Difference, Produced};
@@ -108,6 +110,18 @@ impl Check {
         ensures { result + self.now.keep.next ≡ self.now.job.end }
     {
         self.keep.left()
+    }
+
+    /// The maximal runs of the records that are kept, ascending: once the verdict is there, all of them.
+    pub fn runs(&self) -> Runs<'_>
+        requires { IsCheck self.now }
+        ensures runs { left_of result ≡ self.now.keep.kept }
+        ensures fit { FitRuns (left_of result) }
+        ensures rows { RowsFit self.now.job.horizon (placed 0 (joined self.now.keep.kept)) }
+        ensures total { total self.now.keep.kept ≤ 2 ^ 62 }
+        ensures few { length (joined self.now.keep.kept) ≤ 2 ^ 62 }
+    {
+        self.keep.runs()
     }
 
     /// Looks at up to so many records, one at least, and says what comes of it; `More` where so many were looked at and it is not through. Nothing
