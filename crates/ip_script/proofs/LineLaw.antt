@@ -6,7 +6,6 @@ use Rattle.ip_spec.specs.Path.{Bytes, same_bytes}
 use Rattle.ip_spec.specs.Record.{Info}
 use Rattle.ip_spec.specs.declared.command.Command.{Command}
 use Rattle.ip_spec.specs.Line.{LineOf, first_word, forms_of, IsLineOf, IsInfoText, IsBadAt}
-use Rattle.ip_script.specs.Served.{IsServedLine}
 use Rattle.ip_script.specs.declared.field.Field.{Field}
 use Rattle.ip_script.specs.declared.field.Field.TheVariants.{Date, Author, Message}
 use Rattle.ip_script.specs.declared.line.Form.{Form}
@@ -131,37 +130,39 @@ pub ordered : (form : Form) → Ordered (fields_of form)
 ordered Form.Empty = tt
 ordered _ = tt
 
-served_with : (form : Form) (values : Values (fields_of form)) (rest line : Bytes) → AreValues (fields_of form) values rest → line ≡ word_of form ++ rest → IsServedLine (command_with form values) line
-served_with Form.Empty values rest line s e = (tt, joined (command_with Form.Empty values) line rest s e)
-served_with Form.Checkout values rest line s e = (tt, joined (command_with Form.Checkout values) line rest s e)
-served_with Form.Set values rest line s e = (tt, joined (command_with Form.Set values) line rest s e)
-served_with Form.Rm values rest line s e = (tt, joined (command_with Form.Rm values) line rest s e)
-served_with Form.Graft values rest line s e = (tt, joined (command_with Form.Graft values) line rest s e)
-served_with Form.Parent values rest line s e = (tt, joined (command_with Form.Parent values) line rest s e)
-served_with Form.Get values rest line s e = (tt, joined (command_with Form.Get values) line rest s e)
-served_with Form.List values rest line s e = (tt, joined (command_with Form.List values) line rest s e)
-served_with Form.Cat values rest line s e = (tt, joined (command_with Form.Cat values) line rest s e)
-served_with Form.Commit values rest line (name, more, is, s, f) e = (tt, joined (command_with Form.Commit values) line rest (name, more, is, info_joined values.1 more s, f) e)
-served_with Form.Merge values rest line (ref, most, is, (name, more, named, s, f), g) e = (tt, joined (command_with Form.Merge values) line rest (ref, most, is, (name, more, named, info_joined values.1.1 more s, f), g) e)
-served_with Form.Branch values rest line s e = (tt, joined (command_with Form.Branch values) line rest s e)
-served_with Form.BranchRm values rest line s e = (tt, joined (command_with Form.BranchRm values) line rest s e)
-served_with Form.Branches values rest line s e = (tt, joined (command_with Form.Branches values) line rest s e)
-served_with Form.Show values rest line s e = (tt, joined (command_with Form.Show values) line rest s e)
-served_with Form.Log values rest line s e = (tt, joined (command_with Form.Log values) line rest s e)
-served_with Form.Lcas values rest line s e = (tt, joined (command_with Form.Lcas values) line rest s e)
-served_with Form.Hash values rest line s e = (tt, joined (command_with Form.Hash values) line rest s e)
-served_with Form.Collect values rest line s e = (tt, joined (command_with Form.Collect values) line rest s e)
-served_with Form.Cancel values rest line s e = (tt, joined (command_with Form.Cancel values) line rest s e)
-served_with Form.Stat values rest line s e = (tt, joined (command_with Form.Stat values) line rest s e)
+line_with : (form : Form) (values : Values (fields_of form)) (rest line : Bytes) → AreValues (fields_of form) values rest → line ≡ word_of form ++ rest → IsLineOf (command_with form values) line
+line_with Form.Empty values rest line s e = joined (command_with Form.Empty values) line rest s e
+line_with Form.Checkout values rest line s e = joined (command_with Form.Checkout values) line rest s e
+line_with Form.Set values rest line s e = joined (command_with Form.Set values) line rest s e
+line_with Form.Rm values rest line s e = joined (command_with Form.Rm values) line rest s e
+line_with Form.Graft values rest line s e = joined (command_with Form.Graft values) line rest s e
+line_with Form.Parent values rest line s e = joined (command_with Form.Parent values) line rest s e
+line_with Form.Get values rest line s e = joined (command_with Form.Get values) line rest s e
+line_with Form.List values rest line s e = joined (command_with Form.List values) line rest s e
+line_with Form.Cat values rest line s e = joined (command_with Form.Cat values) line rest s e
+line_with Form.Commit values rest line (name, more, is, s, f) e = joined (command_with Form.Commit values) line rest (name, more, is, info_joined values.1 more s, f) e
+line_with Form.Merge values rest line (ref, most, is, (name, more, named, s, f), g) e = joined (command_with Form.Merge values) line rest (ref, most, is, (name, more, named, info_joined values.1.1 more s, f), g) e
+line_with Form.Branch values rest line s e = joined (command_with Form.Branch values) line rest s e
+line_with Form.BranchRm values rest line s e = joined (command_with Form.BranchRm values) line rest s e
+line_with Form.Branches values rest line s e = joined (command_with Form.Branches values) line rest s e
+line_with Form.Show values rest line s e = joined (command_with Form.Show values) line rest s e
+line_with Form.Log values rest line s e = joined (command_with Form.Log values) line rest s e
+line_with Form.Lcas values rest line s e = joined (command_with Form.Lcas values) line rest s e
+line_with Form.Hash values rest line s e = joined (command_with Form.Hash values) line rest s e
+line_with Form.Collect values rest line s e = joined (command_with Form.Collect values) line rest s e
+line_with Form.Look values rest line s e = joined (command_with Form.Look values) line rest s e
+line_with Form.Finish values rest line s e = joined (command_with Form.Finish values) line rest s e
+line_with Form.Cancel values rest line s e = joined (command_with Form.Cancel values) line rest s e
+line_with Form.Stat values rest line s e = joined (command_with Form.Stat values) line rest s e
 
 rest_is : (form : Form) (line rest : Bytes) → line ≡ word_of form ++ rest → drop (length (word_of form)) line ≡ rest
 rest_is form line rest e = ap (drop (length (word_of form))) e ∙ drop_at (word_of form) rest (length (word_of form)) refl
 
 -- a line of a form is of a command
-pub command_in : (form : Form) (line : Bytes) → IsOf form line → IsServedLine (said_by form line) line
+pub command_in : (form : Form) (line : Bytes) → IsOf form line → IsLineOf (said_by form line) line
 command_in form line (rest, fields, e) =
-    subst (λ (c : Command). IsServedLine c line) (sym (ap (command_at form) (rest_is form line rest e) ∙ command_is form rest))
-    (served_with form (values_at (fields_of form) rest) rest line (are_read (fields_of form) rest (ordered form) fields) e)
+    subst (λ (c : Command). IsLineOf c line) (sym (ap (command_at form) (rest_is form line rest e) ∙ command_is form rest))
+    (line_with form (values_at (fields_of form) rest) rest line (are_read (fields_of form) rest (ordered form) fields) e)
 
 -- the form of a command's line, and its values there
 record Formed (c : Command) (line : Bytes) : Type 0 where
@@ -172,39 +173,40 @@ record Formed (c : Command) (line : Bytes) : Type 0 where
   line_is : line ≡ word_of form ++ rest
   command : c ≡ command_with form values
 
-formed : (c : Command) (line : Bytes) → IsServedLine c line → Formed c line
-formed Command.Empty line (u, l) = let p = parts Command.Empty line l in record { form = Form.Empty; values = tt; rest = p.0; words = p.1; line_is = p.2; command = refl }
-formed (Command.Checkout target) line (u, l) = let p = parts (Command.Checkout target) line l in record { form = Form.Checkout; values = (target, tt); rest = p.0; words = p.1; line_is = p.2; command = refl }
-formed (Command.Set path bytes) line (u, l) = let p = parts (Command.Set path bytes) line l in record { form = Form.Set; values = (path, (bytes, tt)); rest = p.0; words = p.1; line_is = p.2; command = refl }
-formed (Command.Rm path) line (u, l) = let p = parts (Command.Rm path) line l in record { form = Form.Rm; values = (path, tt); rest = p.0; words = p.1; line_is = p.2; command = refl }
-formed (Command.Graft target from to) line (u, l) = let p = parts (Command.Graft target from to) line l in record { form = Form.Graft; values = (target, (from, (to, tt))); rest = p.0; words = p.1; line_is = p.2; command = refl }
-formed (Command.Parent target) line (u, l) = let p = parts (Command.Parent target) line l in record { form = Form.Parent; values = (target, tt); rest = p.0; words = p.1; line_is = p.2; command = refl }
-formed (Command.Get path) line (u, l) = let p = parts (Command.Get path) line l in record { form = Form.Get; values = (path, tt); rest = p.0; words = p.1; line_is = p.2; command = refl }
-formed (Command.List path) line (u, l) = let p = parts (Command.List path) line l in record { form = Form.List; values = (path, tt); rest = p.0; words = p.1; line_is = p.2; command = refl }
-formed (Command.Cat target path) line (u, l) = let p = parts (Command.Cat target path) line l in record { form = Form.Cat; values = (target, (path, tt)); rest = p.0; words = p.1; line_is = p.2; command = refl }
-formed (Command.Commit branch info) line (u, l) =
+formed : (c : Command) (line : Bytes) → IsLineOf c line → Formed c line
+formed Command.Empty line l = let p = parts Command.Empty line l in record { form = Form.Empty; values = tt; rest = p.0; words = p.1; line_is = p.2; command = refl }
+formed (Command.Checkout target) line l = let p = parts (Command.Checkout target) line l in record { form = Form.Checkout; values = (target, tt); rest = p.0; words = p.1; line_is = p.2; command = refl }
+formed (Command.Set path bytes) line l = let p = parts (Command.Set path bytes) line l in record { form = Form.Set; values = (path, (bytes, tt)); rest = p.0; words = p.1; line_is = p.2; command = refl }
+formed (Command.Rm path) line l = let p = parts (Command.Rm path) line l in record { form = Form.Rm; values = (path, tt); rest = p.0; words = p.1; line_is = p.2; command = refl }
+formed (Command.Graft target from to) line l = let p = parts (Command.Graft target from to) line l in record { form = Form.Graft; values = (target, (from, (to, tt))); rest = p.0; words = p.1; line_is = p.2; command = refl }
+formed (Command.Parent target) line l = let p = parts (Command.Parent target) line l in record { form = Form.Parent; values = (target, tt); rest = p.0; words = p.1; line_is = p.2; command = refl }
+formed (Command.Get path) line l = let p = parts (Command.Get path) line l in record { form = Form.Get; values = (path, tt); rest = p.0; words = p.1; line_is = p.2; command = refl }
+formed (Command.List path) line l = let p = parts (Command.List path) line l in record { form = Form.List; values = (path, tt); rest = p.0; words = p.1; line_is = p.2; command = refl }
+formed (Command.Cat target path) line l = let p = parts (Command.Cat target path) line l in record { form = Form.Cat; values = (target, (path, tt)); rest = p.0; words = p.1; line_is = p.2; command = refl }
+formed (Command.Commit branch info) line l =
     let p = parts (Command.Commit branch info) line l in
     let s = p.1 in
     record { form = Form.Commit; values = (branch, (info.date, (info.author, (info.message, tt)))); rest = p.0; words = (s.0, s.1, s.2, info_split info s.1 s.3, s.4); line_is = p.2; command = refl }
-formed (Command.Merge target branch info) line (u, l) =
+formed (Command.Merge target branch info) line l =
     let p = parts (Command.Merge target branch info) line l in
     let s = p.1 in
     let t = s.3 in
     record { form = Form.Merge; values = (target, (branch, (info.date, (info.author, (info.message, tt))))); rest = p.0; words = (s.0, s.1, s.2, (t.0, t.1, t.2, info_split info t.1 t.3, t.4), s.4); line_is = p.2; command = refl }
-formed (Command.Branch name target) line (u, l) = let p = parts (Command.Branch name target) line l in record { form = Form.Branch; values = (name, (target, tt)); rest = p.0; words = p.1; line_is = p.2; command = refl }
-formed (Command.BranchRm name) line (u, l) = let p = parts (Command.BranchRm name) line l in record { form = Form.BranchRm; values = (name, tt); rest = p.0; words = p.1; line_is = p.2; command = refl }
-formed Command.Branches line (u, l) = let p = parts Command.Branches line l in record { form = Form.Branches; values = tt; rest = p.0; words = p.1; line_is = p.2; command = refl }
-formed (Command.Show target) line (u, l) = let p = parts (Command.Show target) line l in record { form = Form.Show; values = (target, tt); rest = p.0; words = p.1; line_is = p.2; command = refl }
-formed (Command.Log target) line (u, l) = let p = parts (Command.Log target) line l in record { form = Form.Log; values = (target, tt); rest = p.0; words = p.1; line_is = p.2; command = refl }
-formed (Command.Lcas one other) line (u, l) = let p = parts (Command.Lcas one other) line l in record { form = Form.Lcas; values = (one, (other, tt)); rest = p.0; words = p.1; line_is = p.2; command = refl }
-formed (Command.Hash bytes) line (u, l) = let p = parts (Command.Hash bytes) line l in record { form = Form.Hash; values = (bytes, tt); rest = p.0; words = p.1; line_is = p.2; command = refl }
-formed (Command.Collect target) line (u, l) = let p = parts (Command.Collect target) line l in record { form = Form.Collect; values = (target, tt); rest = p.0; words = p.1; line_is = p.2; command = refl }
-formed Command.Cancel line (u, l) = let p = parts Command.Cancel line l in record { form = Form.Cancel; values = tt; rest = p.0; words = p.1; line_is = p.2; command = refl }
-formed Command.Stat line (u, l) = let p = parts Command.Stat line l in record { form = Form.Stat; values = tt; rest = p.0; words = p.1; line_is = p.2; command = refl }
-formed _ line h = absurd h.0
+formed (Command.Branch name target) line l = let p = parts (Command.Branch name target) line l in record { form = Form.Branch; values = (name, (target, tt)); rest = p.0; words = p.1; line_is = p.2; command = refl }
+formed (Command.BranchRm name) line l = let p = parts (Command.BranchRm name) line l in record { form = Form.BranchRm; values = (name, tt); rest = p.0; words = p.1; line_is = p.2; command = refl }
+formed Command.Branches line l = let p = parts Command.Branches line l in record { form = Form.Branches; values = tt; rest = p.0; words = p.1; line_is = p.2; command = refl }
+formed (Command.Show target) line l = let p = parts (Command.Show target) line l in record { form = Form.Show; values = (target, tt); rest = p.0; words = p.1; line_is = p.2; command = refl }
+formed (Command.Log target) line l = let p = parts (Command.Log target) line l in record { form = Form.Log; values = (target, tt); rest = p.0; words = p.1; line_is = p.2; command = refl }
+formed (Command.Lcas one other) line l = let p = parts (Command.Lcas one other) line l in record { form = Form.Lcas; values = (one, (other, tt)); rest = p.0; words = p.1; line_is = p.2; command = refl }
+formed (Command.Hash bytes) line l = let p = parts (Command.Hash bytes) line l in record { form = Form.Hash; values = (bytes, tt); rest = p.0; words = p.1; line_is = p.2; command = refl }
+formed (Command.Collect target) line l = let p = parts (Command.Collect target) line l in record { form = Form.Collect; values = (target, tt); rest = p.0; words = p.1; line_is = p.2; command = refl }
+formed Command.Look line l = let p = parts Command.Look line l in record { form = Form.Look; values = tt; rest = p.0; words = p.1; line_is = p.2; command = refl }
+formed Command.Finish line l = let p = parts Command.Finish line l in record { form = Form.Finish; values = tt; rest = p.0; words = p.1; line_is = p.2; command = refl }
+formed Command.Cancel line l = let p = parts Command.Cancel line l in record { form = Form.Cancel; values = tt; rest = p.0; words = p.1; line_is = p.2; command = refl }
+formed Command.Stat line l = let p = parts Command.Stat line l in record { form = Form.Stat; values = tt; rest = p.0; words = p.1; line_is = p.2; command = refl }
 
 -- a command's line is of a form, whose reading gives the command
-pub form_in : (c : Command) (line : Bytes) → IsServedLine c line → (form : Form) × IsOf form line × (c ≡ said_by form line)
+pub form_in : (c : Command) (line : Bytes) → IsLineOf c line → (form : Form) × IsOf form line × (c ≡ said_by form line)
 form_in c line h =
     let f = formed c line h in (
       f.form,
@@ -250,13 +252,13 @@ one_form f g line s t = sym (named f) ∙ (ap (form_named FORMS) (sym (first_is 
 
 -- ---- a line is of one command, and goes wrong at one place
 
-pub one_command : (line : Bytes) (c d : Command) → IsServedLine c line → IsServedLine d line → c ≡ d
+pub one_command : (line : Bytes) (c d : Command) → IsLineOf c line → IsLineOf d line → c ≡ d
 one_command line c d h g =
     let f = form_in c line h in
     let k = form_in d line g in
     f.2 ∙ (ap (λ (form : Form). said_by form line) (one_form f.0 k.0 line f.1 k.1) ∙ sym k.2)
 
-pub one_place : (line : Bytes) (a b : ℕ) → IsBadAt IsServedLine line a → IsBadAt IsServedLine line b → a ≡ b
+pub one_place : (line : Bytes) (a b : ℕ) → IsBadAt IsLineOf line a → IsBadAt IsLineOf line b → a ≡ b
 one_place line a b h g = elim (lt_or_ge a b) [
   | inl less ↦ absurd (h.longest b less g.in_line g.begins)
   | inr more ↦ elim (lt_or_ge b a) [ inl less ↦ absurd (g.longest a less h.in_line h.begins) | inr less ↦ omega (arith, more, less) ]

@@ -7,8 +7,7 @@ use Rattle.std.proofs.lemmas.List.Folds.{list_any-append}
 use Rattle.std.proofs.lemmas.Bool.{cases_Bool}
 use Rattle.ip_spec.specs.Path.{Bytes, same_bytes}
 use Rattle.ip_spec.specs.declared.command.Command.{Command}
-use Rattle.ip_spec.specs.Line.{Begins, IsBadAt}
-use Rattle.ip_script.specs.Served.{IsServedLine}
+use Rattle.ip_spec.specs.Line.{Begins, IsBadAt, IsLineOf}
 use Rattle.ip_script.specs.declared.field.Field.{Field}
 use Rattle.ip_script.specs.declared.line.Form.{Form}
 use Rattle.ip_script.specs.declared.line.Fit.{Fit}
@@ -26,8 +25,8 @@ use Rattle.ip_script.proofs.LineLaw.{said_by, command_in, form_in, ordered}
 pub room : (form : Form) (line : Bytes) → IsOf form line → length (word_of form) ≤ length line
 room form line (rest, fields, e) = omega (arith, ap length e, length-append (word_of form) rest)
 
-pub is_read : (form : Form) (line text : Bytes) (c : Command) → IsOf form line → text ≡ drop (length (word_of form)) line → c ≡ command_at form text → IsServedLine c line
-is_read form line text c is t e = subst (λ (d : Command). IsServedLine d line) (sym (e ∙ ap (command_at form) t)) (command_in form line is)
+pub is_read : (form : Form) (line text : Bytes) (c : Command) → IsOf form line → text ≡ drop (length (word_of form)) line → c ≡ command_at form text → IsLineOf c line
+is_read form line text c is t e = subst (λ (d : Command). IsLineOf d line) (sym (e ∙ ap (command_at form) t)) (command_in form line is)
 
 -- a line without a space is of a form without fields
 pub one_word : (form : Form) (line : Bytes) → IsOf form line → list_any (λ b. b == 32) line ≡ false → fields_of form ≡ []
@@ -74,14 +73,14 @@ index_low form = below _ _ (index_tested form)
 -- a line was held against the first so many forms, and goes along with one of them for most bytes
 pub record Tried (line : Bytes) (tried most : ℕ) : Type 0 where
   pub within : most ≤ length line
-  pub begins : Begins IsServedLine (take most line)
+  pub begins : Begins IsLineOf (take most line)
   pub none : (k : ℕ) → k < tried → ¬ (IsOf (form_at k) line)
   pub longest : (k : ℕ) → k < tried → (n : ℕ) → most < n → n ≤ length line → (more : Bytes) → ¬ (IsOf (form_at k) (take n line ++ more))
 
 pub tried_none : (line : Bytes) → Tried line 0 0
 tried_none line = record {
   within = omega arith;
-  begins = (Command.Empty, codes "empty", (tt, refl));
+  begins = (Command.Empty, codes "empty", refl);
   none = λ k l. absurd (omega (arith, l));
   longest = λ k l. absurd (omega (arith, l));
 }
@@ -118,11 +117,11 @@ no_contradiction h = cc
 last_or_earlier : (k i : ℕ) → k < i + 1 → (k < i) ⊎ (k ≡ i)
 last_or_earlier k i h = elim (lt_or_ge k i) [ inl l ↦ inl l | inr m ↦ inr (omega (arith, h, m)) ]
 
-fit_begins : (form : Form) (line : Bytes) (fit : Fit) → Reaches (IsOf form) 0 line fit → Begins IsServedLine (take fit.at line)
+fit_begins : (form : Form) (line : Bytes) (fit : Fit) → Reaches (IsOf form) 0 line fit → Begins IsLineOf (take fit.at line)
 fit_begins form line fit r =
     let at : r.k ≡ fit.at = omega (arith, r.at_is) in
     let text = take r.k line ++ r.begins.0 in
-    subst (λ n. Begins IsServedLine (take n line)) at (said_by form text, r.begins.0, command_in form text r.begins.1)
+    subst (λ n. Begins IsLineOf (take n line)) at (said_by form text, r.begins.0, command_in form text r.begins.1)
 
 -- what `max` of two numbers answers
 greater_is : (now a b : ℕ) → now ≡ ord_max nat_cmp a b → now ≡ max a b
@@ -134,7 +133,7 @@ tried_more line i most now form fit t is e part max_is =
     let r = reached form line fit e in
     record {
       within = omega (arith, grown, t.within, r.at_is, r.high);
-      begins = subst (λ n. Begins IsServedLine (take n line)) (sym grown) (at_greater (λ n. Begins IsServedLine (take n line)) most fit.at t.begins (fit_begins form line fit r));
+      begins = subst (λ n. Begins IsLineOf (take n line)) (sym grown) (at_greater (λ n. Begins IsLineOf (take n line)) most fit.at t.begins (fit_begins form line fit r));
       none = λ k l s. elim (last_or_earlier k i l) [
         | inl earlier ↦ t.none k earlier s
         | inr last ↦ no_contradiction (sym (r.is_whole (subst (λ f. IsOf f line) (ap form_at last ∙ sym is) s)) ∙ part)
@@ -145,7 +144,7 @@ tried_more line i most now form fit t is e part max_is =
       ];
     }
 
-pub tried_all : (line : Bytes) (i most : ℕ) → length FORMS ≤ i → Tried line i most → IsBadAt IsServedLine line most
+pub tried_all : (line : Bytes) (i most : ℕ) → length FORMS ≤ i → Tried line i most → IsBadAt IsLineOf line most
 tried_all line i most all t = record {
   no_command = λ c h. let f = form_in c line h in t.none (index_of f.0) (omega (arith, index_low f.0, all)) (subst (λ g. IsOf g line) (sym (at_index f.0)) f.1);
   in_line = t.within;
@@ -156,10 +155,10 @@ tried_all line i most all t = record {
 }
 
 -- each line is of a command, or goes wrong at a place
-pub each_line : (line : Bytes) → ((command : Command) × IsServedLine command line) ⊎ ((at : ℕ) × IsBadAt IsServedLine line at)
+pub each_line : (line : Bytes) → ((command : Command) × IsLineOf command line) ⊎ ((at : ℕ) × IsBadAt IsLineOf line at)
 each_line line = from (length FORMS) 0 0 refl (tried_none line)
   where
-    from : (left i most : ℕ) → i + left ≡ length FORMS → Tried line i most → ((command : Command) × IsServedLine command line) ⊎ ((at : ℕ) × IsBadAt IsServedLine line at)
+    from : (left i most : ℕ) → i + left ≡ length FORMS → Tried line i most → ((command : Command) × IsLineOf command line) ⊎ ((at : ℕ) × IsBadAt IsLineOf line at)
     from zero i most e t = inr (most, tried_all line i most (omega (arith, e)) t)
     from (suc left) i most e t =
         let form = form_at i in

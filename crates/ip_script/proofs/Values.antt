@@ -98,5 +98,7 @@ command_with Form.Log (target, none) = Command.Log target
 command_with Form.Lcas (one, (other, none)) = Command.Lcas one other
 command_with Form.Hash (bytes, none) = Command.Hash bytes
 command_with Form.Collect (target, none) = Command.Collect target
+command_with Form.Look values = Command.Look
+command_with Form.Finish values = Command.Finish
 command_with Form.Cancel values = Command.Cancel
 command_with Form.Stat values = Command.Stat

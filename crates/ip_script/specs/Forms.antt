@@ -1,4 +1,4 @@
--- The forms of the lines that are served: a first word, and fields behind it.
+-- The forms of lines: a first word, and fields behind it.
 --     word_of form, fields_of form      its first word, and the fields behind it
 --     command_at form text      the command of a form whose words these are
 use Rattle.std.specs.Prelude.{List, [], ◌∷◌, codes}
@@ -29,6 +29,8 @@ word_of Form.Log = codes "log"
 word_of Form.Lcas = codes "lcas"
 word_of Form.Hash = codes "hash"
 word_of Form.Collect = codes "collect"
+word_of Form.Look = codes "look"
+word_of Form.Finish = codes "finish"
 word_of Form.Cancel = codes "cancel"
 word_of Form.Stat = codes "stat"
 
@@ -52,6 +54,8 @@ fields_of Form.Log = Reference ∷ []
 fields_of Form.Lcas = Reference ∷ Reference ∷ []
 fields_of Form.Hash = Hex ∷ []
 fields_of Form.Collect = Reference ∷ []
+fields_of Form.Look = []
+fields_of Form.Finish = []
 fields_of Form.Cancel = []
 fields_of Form.Stat = []
 
@@ -75,5 +79,7 @@ command_at Form.Log text = Command.Log (target_of (word_at Reference text))
 command_at Form.Lcas text = Command.Lcas (target_of (word_at Reference text)) (target_of (word_at Reference (left_at Reference text)))
 command_at Form.Hash text = Command.Hash (contents_of (word_at Hex text))
 command_at Form.Collect text = Command.Collect (target_of (word_at Reference text))
+command_at Form.Look text = Command.Look
+command_at Form.Finish text = Command.Finish
 command_at Form.Cancel text = Command.Cancel
 command_at Form.Stat text = Command.Stat

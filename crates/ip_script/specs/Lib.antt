@@ -2,5 +2,4 @@ pub mod Brief
 pub mod Dates
 pub mod Fields
 pub mod Forms
-pub mod Served
 pub mod Words

@@ -5,8 +5,7 @@ ghost use Rattle.ip_base.specs.PathText.{space};
 ghost use Rattle.ip_spec.specs.Path.{Bytes};
 ghost use Rattle.ip_spec.specs.declared.command.Command.{Command};
 ghost use Rattle.ip_spec.specs.declared.command.LineFault.TheVariants as LineFault;
-ghost use Rattle.ip_spec.specs.Line.{Reads, IsBadAt};
-ghost use Rattle.ip_script.specs.Served.{IsServedLine};
+ghost use Rattle.ip_spec.specs.Line.{Reads, IsBadAt, IsLineOf};
 ghost use Rattle.ip_script.specs.Fields.{reach};
 ghost use Rattle.ip_script.specs.Forms.{word_of, fields_of, command_at};
 ghost use Rattle.ip_script.specs.Words.{left_of};
@@ -18,7 +17,7 @@ use ip_base::Memory;
 use ip_spec::command::{Command, LineFault};
 use std::alloc::Global;
 
-/// The commands that are served, by the form of their lines.
+/// The commands, by the form of their lines.
 #[derive(Clone, Copy, Debug, PartialEq, Eq)]
 enum Form {
     Empty,
@@ -40,11 +39,13 @@ enum Form {
     Lcas,
     Hash,
     Collect,
+    Look,
+    Finish,
     Cancel,
     Stat,
 }
 
-const FORMS: [Form; 21] = [
+const FORMS: [Form; 23] = [
     Form::Empty,
     Form::Checkout,
     Form::Set,
@@ -64,6 +65,8 @@ const FORMS: [Form; 21] = [
     Form::Lcas,
     Form::Hash,
     Form::Collect,
+    Form::Look,
+    Form::Finish,
     Form::Cancel,
     Form::Stat,
 ];
@@ -92,6 +95,8 @@ impl Form {
             Form::Lcas => b"lcas",
             Form::Hash => b"hash",
             Form::Collect => b"collect",
+            Form::Look => b"look",
+            Form::Finish => b"finish",
             Form::Cancel => b"cancel",
             Form::Stat => b"stat",
         }
@@ -126,6 +131,8 @@ impl Form {
             Form::Lcas => &[Field::Reference, Field::Reference],
             Form::Hash => &[Field::Hex],
             Form::Collect => &[Field::Reference],
+            Form::Look => &[],
+            Form::Finish => &[],
             Form::Cancel => &[],
             Form::Stat => &[],
         }
@@ -202,6 +209,8 @@ fn command_of(alloc: Global, form: Form, text: &[u8]) -> Result<Command, Memory>
         Form::Lcas => lcas_of(alloc, words),
         Form::Hash => Ok(Command::Hash(words.contents(alloc)?)),
         Form::Collect => Ok(Command::Collect(words.target(alloc)?)),
+        Form::Look => Ok(Command::Look),
+        Form::Finish => Ok(Command::Finish),
         Form::Cancel => Ok(Command::Cancel),
         Form::Stat => Ok(Command::Stat),
     }
@@ -249,7 +258,7 @@ fn lcas_of(alloc: Global, mut words: Words<'_>) -> Result<Command, Memory>
 
 /// The command that a line spells, or how many of its bytes begin one. A line of one word takes no memory.
 pub fn read_line(alloc: Global, line: &[u8]) -> Result<Command, LineFault>
-    ensures reads { Reads IsServedLine line.now result }
+    ensures reads { Reads IsLineOf line.now result }
     ensures one_word { IsFalse (list_any (λ b. b == space) line.now) → result ≢ Err LineFault.Memory }
 {
     let mut most = 0;
@@ -269,7 +278,7 @@ pub fn read_line(alloc: Global, line: &[u8]) -> Result<Command, LineFault>
 
 /// Each line is of a command or goes wrong at a place. It is of one command at most, and goes wrong at one place at most.
 pub fn grammar()
-    ensures each { (line : Bytes) → ((command : Command) × IsServedLine command line) ⊎ ((at : ℕ) × IsBadAt IsServedLine line at) }
-    ensures one { (line : Bytes) (c d : Command) → IsServedLine c line → IsServedLine d line → c ≡ d }
-    ensures place { (line : Bytes) (a b : ℕ) → IsBadAt IsServedLine line a → IsBadAt IsServedLine line b → a ≡ b }
+    ensures each { (line : Bytes) → ((command : Command) × IsLineOf command line) ⊎ ((at : ℕ) × IsBadAt IsLineOf line at) }
+    ensures one { (line : Bytes) (c d : Command) → IsLineOf c line → IsLineOf d line → c ≡ d }
+    ensures place { (line : Bytes) (a b : ℕ) → IsBadAt IsLineOf line a → IsBadAt IsLineOf line b → a ≡ b }
 {}
