@@ -1,0 +1,221 @@
+// Real children.
+ghost use Rattle.std.specs.Prelude.{◌≡◌, ◌++◌, ◌∷◌, None, Some, IfOk, string_bytes};
+ghost use Rattle.std.specs.Process.{command_program, command_args, command_dir, exit_code};
+ghost use Rattle.ip_host.specs.Children.{child_words, exit_by, exit_told};
+
+use crate::names::path_of;
+use ip_ground::{Exit, FileName, Reaped};
+use ip_spawn::{Job, Look, SpawnCounts, SpawnFault, Spawner};
+use std::alloc::{AllocError, Global};
+use std::fs::{Files, exists};
+use std::io;
+use std::process::{Child, Command, ExitStatus, Processes, Stdio, SystemProcess};
+
+// A child that was started and has not been waited for.
+#[derive(Drop)]
+struct Held {
+    attempt: u64,
+    child: Child,
+    // where its done file stands, once it is through
+    done: String,
+}
+
+impl Held {
+    // Waits until it has ended, and says how.
+    fn wait(&mut self) -> io::Result<Reaped>
+        ensures exit { IfOk result (λ reaped. exit_told self.new.child ≡ Some reaped.exit) }
+        ensures attempt { IfOk result (λ reaped. reaped.attempt ≡ self.old.attempt) }
+        ensures same { self.new.attempt ≡ self.old.attempt }
+    {
+        let status = self.child.wait()?;
+        Ok(Reaped {
+            attempt: self.attempt,
+            exit: exit_of(status),
+        })
+    }
+
+    // Ends it, and says how it ended. It is looked at before: one that others have waited for gets no signal, since its
+    // number may be another's by now.
+    fn end(&mut self) -> io::Result<Reaped>
+        ensures exit { IfOk result (λ reaped. exit_told self.new.child ≡ Some reaped.exit) }
+        ensures attempt { IfOk result (λ reaped. reaped.attempt ≡ self.old.attempt) }
+    {
+        self.child.try_wait()?;
+        self.child.kill()?;
+        self.wait()
+    }
+}
+
+/// Children that are processes of the system, each started as `PROGRAM worker DIR J1 .. J8`: the folder, and the job's
+/// numbers in decimal, in the order of its fields. Its input is empty, and what it writes to its outputs is dropped. It
+/// runs where this process runs, with the same environment, and has no file of this process.
+///
+/// A look says that the child runs while the done file of its attempt is absent, and waits for it otherwise. So one that
+/// ended without that file is met by a wait or a kill. A child that is ended is ended by a signal that it cannot catch.
+/// A fault is a call of the system that failed, or want of memory, which a start alone takes. Where others wait for the
+/// child (the system does, in a process that ignores SIGCHLD) no call can say how it ended, and each is a fault. A drop
+/// neither waits for the child that is held nor ends it.
+#[derive(Drop)]
+pub struct Children<R: Processes<Started = SystemProcess> + Files + Drop> {
+    rt: R,
+    alloc: Global,
+    program: String,
+    held: Option<Held>,
+    counts: SpawnCounts,
+}
+
+impl<R: Processes<Started = SystemProcess> + Files + Drop> Children<R> {
+    ghost use Rattle.std.specs.Prelude.{IsSome, is_ok, is_err, true, false};
+    ghost use Rattle.ip_ground.specs.declared.names.FileName.TheVariants.{Done};
+    ghost use Rattle.ip_spawn.specs.Children.{end_reaped, held_after};
+    ghost use Rattle.ip_spawn.specs.Counts.{Counts};
+    ghost use Rattle.ip_spawn.specs.declared.spawner.SpawnCounts.{SpawnCounts};
+    ghost use Rattle.ip_host.specs.Names.{slash, file_text};
+
+    /// No child yet, and no fault. A program without a slash in its name is looked for in the search path.
+    pub fn new(rt: R, alloc: Global, program: String) -> Children<R>
+        ensures held { ⟦<Children<R> as Spawner>⟧.held result ≡ None }
+        ensures counts { ⟦<Children<R> as Spawner>⟧.counts_of result ≡ record { running = 0; waits = 0; reaps = 0; spawn_faults = 0 } }
+    {
+        Children {
+            rt,
+            alloc,
+            program,
+            held: None,
+            counts: SpawnCounts {
+                running: 0,
+                waits: 0,
+                reaps: 0,
+                spawn_faults: 0,
+            },
+        }
+    }
+
+    // Starts the program with the child's words.
+    fn begin(&self, dir: &str, job: &Job) -> io::Result<Held>
+        ensures attempt { IfOk result (λ held. held.attempt ≡ job.now.attempt) }
+        ensures done { IfOk result (λ held. string_bytes held.done ≡ dir.now ++ slash ∷ file_text (Done job.now.attempt)) }
+    {
+        let done = path_of(self.alloc, dir, FileName::Done(job.attempt))?;
+        let mut command = command_of(self.alloc, self.program.as_str(), dir, job)?;
+        let child = command.spawn(&self.rt)?;
+        Ok(Held {
+            attempt: job.attempt,
+            child,
+            done,
+        })
+    }
+
+    // Counts a fault.
+    fn fault(&mut self) -> SpawnFault
+        ensures only { self.new ≡ record self.old { counts = self.new.counts } }
+        ensures counts { Counts false false false true self.old.counts self.new.counts }
+    {
+        self.counts.spawn_faults = self.counts.spawn_faults.saturating_add(1);
+        SpawnFault
+    }
+
+    // Waits for the child that is held, which is held no more once it has ended.
+    fn reap(&mut self) -> Result<Reaped, SpawnFault>
+        requires { IsSome (⟦<Children<R> as Spawner>⟧.held self.old) }
+        ensures attempt { IfOk result (λ reaped. ⟦<Children<R> as Spawner>⟧.held self.old ≡ Some reaped.attempt) }
+        ensures held { ⟦<Children<R> as Spawner>⟧.held self.new ≡ held_after (end_reaped result) (⟦<Children<R> as Spawner>⟧.held self.old) }
+        ensures counts { Counts false false (is_ok result) (is_err result) self.old.counts self.new.counts }
+    {
+        let Some(mut held) = self.held.take() else {
+            unreachable!()
+        };
+        let Ok(reaped) = held.wait() else {
+            self.held = Some(held);
+            return Err(self.fault());
+        };
+        self.counts.reaps = self.counts.reaps.saturating_add(1);
+        Ok(reaped)
+    }
+}
+
+impl<R: Processes<Started = SystemProcess> + Files + Drop> Spawner for Children<R> {
+    ghost use Rattle.std.specs.Prelude.{false, option_map};
+    ghost use Rattle.ip_spawn.specs.Children.{blank};
+
+    ghost tells = { false };
+
+    ghost told = { λ _. blank };
+
+    ghost held = { λ children. option_map (λ held. held.attempt) children.held };
+
+    ghost counts_of = { λ children. children.counts };
+
+    fn start(&mut self, dir: &str, job: &Job) -> Result<(), SpawnFault> {
+        match self.begin(dir, job) {
+            Ok(held) => {
+                self.held = Some(held);
+                Ok(())
+            }
+            Err(_) => Err(self.fault()),
+        }
+    }
+
+    fn look(&mut self) -> Result<Look, SpawnFault> {
+        let Some(held) = &self.held else {
+            unreachable!()
+        };
+        match exists(&self.rt, held.done.as_str()) {
+            Ok(true) => self.reap().map(Look::Ended),
+            Ok(false) => {
+                self.counts.running = self.counts.running.saturating_add(1);
+                Ok(Look::Running)
+            }
+            Err(_) => Err(self.fault()),
+        }
+    }
+
+    fn wait(&mut self) -> Result<Reaped, SpawnFault> {
+        self.counts.waits = self.counts.waits.saturating_add(1);
+        self.reap()
+    }
+
+    fn kill(&mut self) -> Result<Reaped, SpawnFault> {
+        let Some(mut held) = self.held.take() else {
+            unreachable!()
+        };
+        let Ok(reaped) = held.end() else {
+            return Err(self.fault());
+        };
+        self.counts.reaps = self.counts.reaps.saturating_add(1);
+        Ok(reaped)
+    }
+
+    fn counts(&self) -> SpawnCounts {
+        self.counts
+    }
+}
+
+// The program with a child's words. It runs where this process does, so the folder's name means the same to it.
+fn command_of(alloc: Global, program: &str, dir: &str, job: &Job) -> Result<Command, AllocError>
+    ensures program { IfOk result (λ command. command_program command ≡ program.now) }
+    ensures words { IfOk result (λ command. command_args command ≡ child_words dir.now job.now) }
+    ensures place { IfOk result (λ command. command_dir command ≡ None) }
+{
+    let mut command = Command::new(alloc, program)?;
+    command.arg("worker")?.arg(dir)?;
+    for number in job.numbers() {
+        let word = format!(in alloc; "{number}")?;
+        command.arg(word.as_str())?;
+    }
+    command
+        .stdin(Stdio::null())
+        .stdout(Stdio::null())
+        .stderr(Stdio::null());
+    Ok(command)
+}
+
+// How a child ended, by its status.
+fn exit_of(status: ExitStatus) -> Exit
+    ensures { result ≡ exit_by (exit_code status) }
+{
+    match status.code() {
+        Some(code) => Exit::Code(code),
+        None => Exit::Signal,
+    }
+}
