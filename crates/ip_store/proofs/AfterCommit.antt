@@ -31,19 +31,20 @@ use Rattle.ip_spec.specs.View.{View}
 use Rattle.ip_spec.specs.Batch.{AreEndToEnd, KnownStand, commit_of, sources, with_batch}
 use Rattle.ip_spec.proofs.BatchLaws.{batch_lies, batch_stands, sources_stand}
 use Rattle.ip_spec.proofs.TreeAtLaws.{more_part}
+use Rattle.ip_spec.proofs.Widths.{none_wider}
 use Rattle.ip_spec.specs.Step.{as_parent, new_commit, with_commit, entries_limit, Turned, IsMet}
 use Rattle.ip_image.specs.declared.slot.Slot.{Slot}
 use Rattle.ip_image.specs.declared.layout.Layout.{Layout}
 use Rattle.ip_image.specs.Slot.{IsSlot}
-use Rattle.ip_image.specs.Standing.{StandsFor, AreRetained}
+use Rattle.ip_image.specs.Standing.{Standing, StandsFor, AreGood, AreRetained, terms_of}
 use Rattle.ip_image.specs.Appending.{AddsBytes, SameGeneration, fields_of}
 use Rattle.ip_image.specs.Pending.{HasLive}
 use Rattle.ip_image.proofs.AppendingLaws.{stands_grown}
 use Rattle.ip_image.proofs.OneRepository.{all_records}
-use Rattle.ip_image.proofs.PairLaws.{Has}
-use Rattle.ip_image.proofs.StayingRecords.{has_right}
+use Rattle.ip_image.proofs.PairLaws.{Has, Rises}
+use Rattle.ip_image.proofs.StayingRecords.{has_right, ordered_rises}
 use Rattle.ip_save.specs.Batches.{commit_place}
-use Rattle.ip_image.proofs.TreeBatch.{found_together}
+use Rattle.ip_image.proofs.TreeBatch.{found_together, tree_behind}
 use Rattle.ip_history.specs.History.{History, HasParentsFirst}
 use Rattle.ip_history.proofs.Parents.{first_push}
 use Rattle.ip_tree.specs.declared.tree.Tree as lazy
@@ -59,20 +60,24 @@ use Rattle.ip_store.specs.declared.work.Work.{Work}
 use Rattle.ip_store.specs.Commits.{IsNext, IsPlan, IsRefusal, Commits, Answers, Turns, repository_after, fault_reply, met_of, conditions_of, met_nothing, records_of}
 use Rattle.ip_space.specs.SpaceView.{SpaceView, grown}
 use Rattle.ip_store.specs.Placed.{IsSpaceOf}
-use Rattle.ip_store.specs.Publishing.{CanStep, MakesStep}
+use Rattle.ip_store.specs.Publishing.{CanStep, IsWritten, MakesStep}
 use Rattle.ip_store.specs.Changes.{next_slot}
-use Rattle.ip_store.specs.Collecting.{IsPhase, IsPhaseOf, phase_of, carried}
+use Rattle.ip_store.specs.Collecting.{IsPhase, IsPhaseOf, Collects, not_leaving_in, phase_of, carried}
 use Rattle.ip_store.specs.Rooted.{IsRooted}
 use Rattle.ip_store.specs.Store.{IsOf, Holds, SameTables, image_records}
 use Rattle.ip_store.specs.Trees.{RecordsStay}
 use Rattle.ip_store.specs.Views.{IsStored, IsViewAfter}
 use Rattle.ip_store.specs.Work.{AreParents, IsLawful, IsAt, least_of, session}
+use Rattle.ip_store.proofs.BatchRests.{batch_rests, known_staying, rooted_rests}
+use Rattle.ip_store.proofs.BatchRests.{staying as staying_records}
+use Rattle.ip_store.proofs.CollectsOn.{RestsBy, collects_on, unwritten}
+use Rattle.ip_store.proofs.Going.{highs, rising_push, going_to, going_on}
 use Rattle.ip_store.proofs.Recovering.{held_has}
 use Rattle.ip_store.proofs.BatchKinds.{batch_commit}
-use Rattle.ip_store.proofs.Phases.{phase_to, phase_on, retained_is, set_heads}
+use Rattle.ip_store.proofs.Phases.{least_above, oldest_above, phase_to, phase_on, retained_is, set_heads}
 use Rattle.ip_store.proofs.RootedViews.{rooted_stored}
-use Rattle.ip_store.proofs.Listed.{within_fits, same_records, records_below, found_here}
-use Rattle.ip_store.proofs.Stepping.{same_holds, space_same, unswept_same, within_same, may_step, changed, list_after, stays_made, cut_short, same_can_step, same_step}
+use Rattle.ip_store.proofs.Listed.{good_here, records_ordered, within_fits, same_records, records_below, found_here}
+use Rattle.ip_store.proofs.Stepping.{same_holds, space_same, unswept_same, within_same, rising_same, may_step, changed, list_after, stays_made, cut_short, same_can_step, same_step}
 use Rattle.ip_store.proofs.BranchNames.{named_set}
 use Rattle.ip_store.proofs.NextSlot.{HasRoom, next_room, next_is, next_generation, next_space, unswept_on, within_on}
 use Rattle.ip_store.proofs.Histories.{history_committed}
@@ -150,6 +155,11 @@ module _ (r : Repository) (parents : List ℕ) (branch : Bytes) (store : Store) 
     named = named_set r.branches branch (next r) is.is_branch of.named;
     within = within_same live_after store'.slot (store.places.items ++ plan.batch.commit_at ∷ []) store'.places.items (slot ∙ is.slot) places
         (within_on store.slot live_after store.places.items (plan.batch.commit_at ∷ []) (omega arith) (omega arith) of.within (((let h = of.slot.horizon in let low = is.placed.0 in omega (arith, h, low)), is.placed.1), tt));
+    rising = rising_same live_after store'.slot (store.places.items ++ plan.batch.commit_at ∷ []) store'.places.items (slot ∙ is.slot) places
+        (rising_push store.slot.horizon store.slot.end plan.batch.commit_at store.places.items (let h = of.slot.horizon in let low = is.placed.0 in omega (arith, h, low)) is.placed.0
+        (highs store.slot.horizon store.slot.end store.places.items of.within) of.rising);
+    going = going_to store.slot.floor store'.slot.floor (store.places.items ++ plan.batch.commit_at ∷ []) store'.places.items store.unswept store'.unswept (grown store.space plan.slot.end) store'.space store.collection store'.collection (ap (λ (s : Slot). s.floor) (slot ∙ is.slot)) places unswept space collection
+        (going_on store.slot.floor plan.slot.end store.places.items (plan.batch.commit_at ∷ []) store.unswept store.space store.collection of.going);
   }
 
   pub after_parents : (ns : List ℕ) → ns ≡ next r ∷ [] → (least : Option ℕ) → least ≡ Some (next r) → AreParents after least ns
@@ -248,11 +258,49 @@ module _ (r : Repository) (work : Work) (v : View) (branch : Bytes) (info : Info
   to_next : (b : Told) (res : Result (Unit {0}) GroundFault) → Step b res → MakesStep store.slot.end plan.batch.bytes.items (1 - store.index) next_live res a b
   to_next b res step = same_step store.slot.end store.slot.end store.index store.index plan.batch.bytes.items plan.batch.bytes.items plan.slot next_live res a b refl refl refl coming.slot step
 
+  -- ---- while a collection goes on
+
+  abbrev records : Records
+  records = held.stands.standing.records
+
+  rise : Rises records
+  rise = ordered_rises 0 records store.slot.end (records_ordered store a r held)
+
+  good : AreGood store.slot [] records
+  good = good_here store a r held
+
+  -- the tree took from no commit that goes, so the batch refers to nothing that goes
+  rests : RestsBy held all store.collection
+  rests c same collects =
+      let job = (subst (IsPhaseOf store.slot r) same of.phase).told in
+      let collectable = collects.collectable in
+      let set = collectable.core.keeps in
+      let some = job.valid.some in
+      let inside = job.end in
+      let least = least_above c work.least (subst (λ (o : Option Collection). not_leaving_in (phase_of o) work.least ≡ Ok tt) same is.stays) in
+      let oldest = oldest_above c.commit v.oldest work.parents (subst (λ (o : Option ℕ). IfSome o (λ n. c.commit ≤ n)) at.lawful.least least) in
+      let rooted = rooted_rests records c.job.horizon collects.kept set store.slot rise good collectable.commit collectable.here v (subst (λ (low : ℕ). IfSome v.oldest (λ n. low ≤ n)) (sym collectable.number) oldest) (at.lawful.rooted is.there) in
+      let staying = known_staying records c.job.horizon collects.kept set rise store.slot.end v known rooted in
+      batch_rests records c.job.horizon collects.kept store.slot.end (records_ordered store a r held) (omega (arith, some, inside)) (terms_of store.slot) v (fields_of r work.parents info branch)
+      (tree_behind (terms_of store.slot) v (sources v) (fields_of r work.parents info branch) store.slot.end (staying_records records c.job.horizon collects.kept) staying
+      (sources_stand (present (staying_records records c.job.horizon collects.kept)) v store.slot.end staying) is.may.is_tree (λ p. (let most = none_wider v.map p in let narrow = is.may.narrow in omega (arith, most, narrow))))
+
+  collects_after : (b : Told) (store' : Store) → store'.slot ≡ plan.slot → store'.collection ≡ store.collection → IsOf store' (repository_after r (phase_of store.collection) work v branch info) → Step b (Ok tt)
+      → (B : Standing b.held) → IfSome store'.collection (Collects b store'.slot B.records (repository_after r (phase_of store.collection) work v branch info))
+  collects_after b store' slot collection tables step B =
+      let next : Repository = repository_after r (phase_of store.collection) work v branch info in
+      subst (λ (o : Option Collection). IfSome o (Collects b store'.slot B.records next)) (sym collection)
+      (subst (λ (t : Slot). IfSome store.collection (Collects b t B.records next)) (sym (slot ∙ coming.slot))
+      (collects_on store r next a b held (IsWritten store.slot.chunk store.slot.end) (to_next b (Ok tt) step).only (unwritten store.slot.chunk store.slot.end) next_live refl (let some = coming.some in omega (arith, some)) there.ends
+      all all_lie (phase_to store'.slot next_live next store'.collection store.collection (sym (slot ∙ coming.slot)) (sym collection) tables.phase) rests B
+      (list_after r next store store.slot.next_attempt 1 plan.batch.bytes.items of there a held stands_new b (to_next b (Ok tt) step) all (within_fits store.slot of.slot all is.within) all_lie is.bytes B)))
+
   pub made : (b : Told) (store' : Store) → store'.slot ≡ plan.slot → store'.index ≡ 1 - store.index → IsOf store' made_is
-      → store'.places.items ≡ store.places.items ++ plan.batch.commit_at ∷ [] → store'.space ≡ grown store.space plan.slot.end → (name : Hash) → Step b (Ok tt) → Commits r (phase_of store.collection) work v branch info (Ok name) store' a b
-  made b store' slot index tables places space name step =
+      → store'.places.items ≡ store.places.items ++ plan.batch.commit_at ∷ [] → store'.space ≡ grown store.space plan.slot.end → store'.collection ≡ store.collection
+      → (name : Hash) → Step b (Ok tt) → Commits r (phase_of store.collection) work v branch info (Ok name) store' a b
+  made b store' slot index tables places space collection name step =
       changed r (repository_after r (phase_of store.collection) work v branch info) store store.slot.next_attempt 1 plan.batch.bytes.items of there a held stands_new b (to_next b (Ok tt) step)
-      all (within_fits store.slot of.slot all is.within) all_lie is.bytes store' (slot ∙ coming.slot) index (ap (λ (view : SpaceView). view.runs) space) (subst (IsOf store') (sym after_is) tables) (places ∙ ap (λ (ps : List ℕ). store.places.items ++ ps) (sym is.place)) name
+      all (within_fits store.slot of.slot all is.within) all_lie is.bytes store' (slot ∙ coming.slot) index (ap (λ (view : SpaceView). view.runs) space) (subst (IsOf store') (sym after_is) tables) (places ∙ ap (λ (ps : List ℕ). store.places.items ++ ps) (sym is.place)) (collects_after b store' slot collection (subst (IsOf store') (sym after_is) tables) step) name
 
   pub held_after : (b : Told) (store' : Store) (name : Hash) → Commits r (phase_of store.collection) work v branch info (Ok name) store' a b → Holds store' b made_is
   held_after b store' name is = subst (Holds store' b) after_is is.ok

@@ -1,9 +1,10 @@
 -- A change of files that are apart from the store, and of the custody of one attempt that is not live.
+--     beside_for, beside_only, beside_on      what changes beside the attempt, of a call and of two behind one another
 --     for_only, for_lend      the change of a call.      for_more      of fewer files.      for_behind, for_before      of two behind one another, one of which leaves custody as it is
---     holds_apart      the store holds what it held.      recovers_apart, pending_apart, flushed_apart      what a crash leaves of it recovers, and nothing comes to be pending
+--     holds_apart      the store holds what it held, where no collection runs.      recovers_apart, pending_apart, flushed_apart      what a crash leaves of it recovers, and nothing comes to be pending
 --     space_apart      a child that was told of its slot reads no other bytes.      list_apart      and the image has the same records
 use Rattle.std.proofs.Common.{◌≡◌, ◌≢◌, inl, inr, ℕ, ◌<◌, ◌≤◌, sym, ◌∙◌, ap, subst, arith}
-use Rattle.std.specs.Prelude.{Result}
+use Rattle.std.specs.Prelude.{Result, Option, None, IfSome}
 use Rattle.std.proofs.lemmas.Bool.{cases_lt, cases_eq}
 use Rattle.ip_ground.specs.declared.names.FileName.{FileName}
 use Rattle.ip_ground.specs.declared.names.FileName.TheVariants.{Control, Chunk, Mapping, Prefix}
@@ -22,12 +23,28 @@ use Rattle.ip_image.specs.Headline.{RecoversTo}
 use Rattle.ip_image.proofs.HeadlineLaws.{recovers, one_slot}
 use Rattle.ip_chunks.proofs.Borders.{some_size, chunk_up}
 use Rattle.ip_store.specs.declared.store.Store.{Store}
+use Rattle.ip_store.specs.declared.collection.Collection.{Collection}
+use Rattle.ip_store.specs.Collecting.{Collects}
 use Rattle.ip_store.specs.Store.{Holds, OwnsPair}
-use Rattle.ip_store.specs.Sweeping.{IsApart, ChangesFor}
+use Rattle.ip_store.specs.Sweeping.{IsApart, ChangesBeside, ChangesFor}
 use Rattle.ip_store.proofs.Listed.{same_list, holds_on}
 use Rattle.ip_store.proofs.Recovering.{LeavesPairOf, held_has, pair_left, pair_now, pair_alike, pending_of, recovers_now}
 
 -- ---- changes
+
+pub beside_for : (n : ℕ) (these : FileName → Type 0) (a b : Told) → ChangesFor n these a b → ChangesBeside n these a b
+beside_for n these a b changes = record { goes = changes.goes; others = changes.others; lending = changes.lending; said = changes.said }
+
+pub beside_only : (n : ℕ) (these : FileName → Type 0) (a b : Told) → ChangesOnly these a b → ChangesBeside n these a b
+beside_only n these a b only = record { goes = only.goes; others = λ file other not. only.others file other; lending = λ other not. only.lending other; said = only.said }
+
+pub beside_on : (n : ℕ) (these : FileName → Type 0) (a b c : Told) → ChangesBeside n these a b → ChangesBeside n these b c → ChangesBeside n these a c
+beside_on n these a b c first next = record {
+  goes = goes_on a b c first.goes next.goes;
+  others = λ file other not. stays_on a b c file first.goes next.goes (first.others file other not) (next.others file other not);
+  lending = λ other not. custody_on a b c other first.goes next.goes (first.lending other not) (next.lending other not);
+  said = said_on a b c first.goes next.goes first.said next.said;
+}
 
 pub for_only : (n : ℕ) (these : FileName → Type 0) (a b : Told) → ChangesOnly these a b → ChangesFor n these a b
 for_only n these a b only = record {
@@ -95,8 +112,8 @@ module _ (n : ℕ) (these : FileName → Type 0) (a b c : Told) where
 
 -- ---- the store
 
-module _ (store : Store) (r : Repository) (a : Told) (holds : Holds store a r) (n : ℕ) (other : n ≢ store.slot.live) (below : n < store.slot.next_attempt)
-    (these : FileName → Type 0) (apart : (file : FileName) → these file → IsApart store.slot file) (b : Told) (changes : ChangesFor n these a b) where
+module _ (store : Store) (r : Repository) (a : Told) (holds : Holds store a r) (none : store.collection ≡ None) (n : ℕ) (other : n ≢ store.slot.live) (below : n < store.slot.next_attempt)
+    (these : FileName → Type 0) (apart : (file : FileName) → these file → IsApart store.slot file) (b : Told) (changes : ChangesBeside n these a b) where
   has : HasLive store.slot a.held
   has = held_has store r a holds
 
@@ -104,10 +121,10 @@ module _ (store : Store) (r : Repository) (a : Told) (holds : Holds store a r) (
   keeps file here not = changes.others file (λ this. here (apart file this)) not
 
   control : KeepsFile a b Control
-  control = keeps Control (λ none. none) (λ none. none)
+  control = keeps Control (λ no. no) (λ no. no)
 
   chunk : (at : ℕ) → store.slot.horizon ≤ at → KeepsFile a b (Chunk (chunk_of store.slot.chunk at))
-  chunk at low = keeps (Chunk (chunk_of store.slot.chunk at)) not_below (λ none. none)
+  chunk at low = keeps (Chunk (chunk_of store.slot.chunk at)) not_below (λ no. no)
     where
       not_below : ¬ IsApart store.slot (Chunk (chunk_of store.slot.chunk at))
       not_below less = let rises = chunk_up store.slot.chunk (some_size store.slot.chunk holds.tables.slot.chunk) store.slot.horizon at low in absurd (omega (arith, less, rises))
@@ -127,19 +144,19 @@ module _ (store : Store) (r : Repository) (a : Told) (holds : Holds store a r) (
   same : SameSpace store.slot a.held b.held
   unfolding chunk_byte
   same = record {
-    chunks = λ at low high. ap (λ (c : Content). byte_of c (place_in_chunk store.slot.chunk at)) ((chunk at low).held (λ none. none));
+    chunks = λ at low high. ap (λ (c : Content). byte_of c (place_in_chunk store.slot.chunk at)) ((chunk at low).held (λ no. no));
     mapping = λ live. mapping.held (holds.pair live).mapping;
     prefix = λ live. prefix.held (holds.pair live).prefix;
   }
 
   same_control : b.held Control ≡ a.held Control
-  same_control = control.held (λ none. none)
+  same_control = control.held (λ no. no)
 
   kept : IsSynced b Control
-  kept content left = left_now a b Control (λ (c : Content). c ≡ a.held Control) changes.goes holds.kept (each_stays a b Control (λ (c : Content). c ≡ a.held Control) (λ none. none) control holds.kept) content left ∙ sym same_control
+  kept content left = left_now a b Control (λ (c : Content). c ≡ a.held Control) changes.goes holds.kept (each_stays a b Control (λ (c : Content). c ≡ a.held Control) (λ no. no) control holds.kept) content left ∙ sym same_control
 
   pub holds_apart : Holds store b r
-  holds_apart = holds_on store a r holds b same_control same kept pair_on
+  holds_apart = holds_on store a r holds b same_control same kept pair_on (subst (λ (o : Option Collection). IfSome o (Collects b store.slot holds.stands.standing.records r)) (sym none) tt)
 
   -- whichever proof says that it stands
   pub list_apart : (B : Standing b.held) → B.records ≡ holds.stands.standing.records
@@ -168,16 +185,16 @@ module _ (store : Store) (r : Repository) (a : Told) (holds : Holds store a r) (
     IsByte at content = byte_of content (place_in_chunk store.slot.chunk at) ≡ chunk_byte store.slot.chunk a.held at
 
     bytes_at : (t : ℕ) → a.moment < t → t ≤ b.moment → (at : ℕ) → store.slot.horizon ≤ at → at < store.slot.end → (content : Content) → b.may_leave t (Chunk (chunk_of store.slot.chunk at)) content → IsByte at content
-    bytes_at t after le at low high content left = pending.chunks store.slot has at low high content ((chunk at low).left (λ none. none) t content after le left)
+    bytes_at t after le at low high content left = pending.chunks store.slot has at low high content ((chunk at low).left (λ no. no) t content after le left)
 
     bytes_now : (at : ℕ) → store.slot.horizon ≤ at → at < store.slot.end → (content : Content) → b.may_leave b.moment (Chunk (chunk_of store.slot.chunk at)) content → byte_of content (place_in_chunk store.slot.chunk at) ≡ chunk_byte store.slot.chunk b.held at
     bytes_now at low high content left =
         let was = pending.chunks store.slot has at low high in
-        left_now a b (Chunk (chunk_of store.slot.chunk at)) (IsByte at) changes.goes was (each_stays a b (Chunk (chunk_of store.slot.chunk at)) (IsByte at) (λ none. none) (chunk at low) was) content left ∙ sym (same.chunks at low high)
+        left_now a b (Chunk (chunk_of store.slot.chunk at)) (IsByte at) changes.goes was (each_stays a b (Chunk (chunk_of store.slot.chunk at)) (IsByte at) (λ no. no) (chunk at low) was) content left ∙ sym (same.chunks at low high)
 
     pub recovers_apart : (t : ℕ) → a.moment < t → t ≤ b.moment → RecoversTo (crash_at b t) r
     recovers_apart t after le =
-        recovers (crash_at b t) a.held r store.slot holds.stands has (λ content left. holds.kept content (control.left (λ none. none) t content after le left)) (bytes_at t after le) (pair_at t after le) (drawn_at t after le)
+        recovers (crash_at b t) a.held r store.slot holds.stands has (λ content left. holds.kept content (control.left (λ no. no) t content after le left)) (bytes_at t after le) (pair_at t after le) (drawn_at t after le)
 
     pub pending_apart : NothingPending b
     pending_apart =

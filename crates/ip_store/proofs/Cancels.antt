@@ -1,9 +1,12 @@
 -- A collection that is cancelled.
 --     turns_idle, turns_orphan, turns_done      what the machine answers
 --     over store u met      the store once no collection runs, with what is unswept and what was met.      unswept_now store left      that, where a sweep has left so many
+--     over_tables, over_holds      what it holds then.      unswept_is      and what is unswept
 --     idle_answers, orphan_answers, done_answers      the answers, with the tables.      none_runs      a collection of which a test says so
+--     idle, held_idle      the store without it holds what it held.      phase, other, below      its attempt is not the live one, and was drawn
+--     for_settle      an attempt is settled
 --     orphan_left, cut_off, swept_away      what each way out does to what is told, and what the store holds then.      orphan_stays, swept_stays      each record stays
-use Rattle.std.proofs.Common.{◌≡◌, ◌≢◌, ℕ, ◌<◌, Option, Some, None, true, refl, sym, subst, arith}
+use Rattle.std.proofs.Common.{◌∙◌, ap, ◌≡◌, ◌≢◌, ℕ, ◌<◌, Option, Some, None, true, refl, sym, subst, arith}
 use Rattle.std.specs.Prelude.{Bool, false, ◌/◌, ◌≤◌, Result, Ok, Err, IsErrAnd, if◌then◌else◌, ◌==◌}
 use Rattle.std.proofs.lemmas.Bool.Decides.{nat_tests}
 use Rattle.ip_ground.specs.declared.names.FileName.{FileName}
@@ -37,7 +40,7 @@ use Rattle.ip_store.specs.Store.{IsOf, Holds, image_records}
 use Rattle.ip_store.specs.Sweeping.{AllBut, IsApart, IsSwept, SweepsFiles, ChangesFor, KeepsFiles, swept_to}
 use Rattle.ip_store.specs.Trees.{RecordsStay}
 use Rattle.ip_store.specs.Work.{state_at}
-use Rattle.ip_store.proofs.Apart.{for_only, for_before, holds_apart, list_apart, recovers_apart, pending_apart, flushed_apart, space_apart}
+use Rattle.ip_store.proofs.Apart.{beside_for, for_only, for_before, holds_apart, list_apart, recovers_apart, pending_apart, flushed_apart, space_apart}
 use Rattle.ip_store.proofs.KeptFiles.{keeps_itself, keeps_on, keeps_ended, keeps_swept}
 use Rattle.ip_store.proofs.Machine.{asks_none}
 use Rattle.ip_store.proofs.Swept.{foreign_on}
@@ -111,7 +114,7 @@ unswept_by : (s : Slot) (x y : Unswept) (b : Bool) → IsUnswept s x → IsUnswe
 unswept_by s x y true one other = one
 unswept_by s x y false one other = other
 
-unswept_is : (store : Store) (r : Repository) (left : ℕ) → IsOf store r → IsUnswept store.slot (unswept_now store left)
+pub unswept_is : (store : Store) (r : Repository) (left : ℕ) → IsOf store r → IsUnswept store.slot (unswept_now store left)
 unswept_is store r left of = unswept_by store.slot (swept_to store.slot) store.unswept (left == 0) (swept_by store.slot of.slot (store.slot.live == 0) refl) of.unswept
 
 -- ---- the tables
@@ -120,7 +123,11 @@ unswept_is store r left of = unswept_by store.slot (swept_to store.slot) store.u
 abbrev pub over : Store → Unswept → Met → Store
 over store u met = record store { collection = None; unswept = u; met = met }
 
-over_tables : (store : Store) (r : Repository) (u : Unswept) (met : Met) → IsUnswept store.slot u → IsOf store r → IsOf (over store u met) r
+-- the same, whatever says that none runs
+abbrev pub ending : Store → Option Collection → Unswept → Met → Store
+ending store o u met = record store { collection = o; unswept = u; met = met }
+
+pub over_tables : (store : Store) (r : Repository) (u : Unswept) (met : Met) → IsUnswept store.slot u → IsOf store r → IsOf (over store u met) r
 over_tables store r u met unswept of = record {
   slot = of.slot;
   index = of.index;
@@ -138,6 +145,24 @@ over_tables store r u met unswept of = record {
   unswept = unswept;
   named = of.named;
   within = of.within;
+  rising = of.rising;
+  going = tt;
+}
+
+all_over : (store : Store) (o : Option Collection) (u : Unswept) (met : Met) → o ≡ None → (swept : Store) → swept ≡ ending store o u met → swept ≡ over store u met
+all_over store o u met gone swept is = is ∙ ap (λ (p : Option Collection). ending store p u met) gone
+
+-- where it holds a repository so does the store once the collection is over
+abbrev pub over_holds : (store : Store) (r : Repository) (u : Unswept) (met : Met) (told : Told) → IsUnswept store.slot u → Holds store told r → Holds (over store u met) told r
+over_holds store r u met told unswept held = record {
+  tables = over_tables store r u met unswept held.tables;
+  stands = held.stands;
+  live = held.live;
+  kept = held.kept;
+  pair = held.pair;
+  runs = held.runs;
+  places = held.places;
+  collects = tt;
 }
 
 pub none_runs : (o : Option Collection) → ((c : Collection) → o ≡ Some c → ⊥) → o ≡ None
@@ -148,29 +173,29 @@ module _ (store : Store) (r : Repository) (of : IsOf store r) where
   abbrev Answers : Store → Reply → Type 0
   Answers now reply = AnswersCall r store.collection Command.Cancel now reply
 
-  pub idle_answers : (met : Met) → store.collection ≡ None → met ≡ met_nothing → Answers (record store { met = met }) Reply.Idle
-  idle_answers met none nothing = subst (λ (now : Store). Answers now Reply.Idle) (λ i. record store { collection = sym none i; met = sym nothing i }) (record {
+  pub idle_answers : (o : Option Collection) → o ≡ None → (met : Met) → store.collection ≡ None → met ≡ met_nothing → Answers (ending store o store.unswept met) Reply.Idle
+  idle_answers o gone met none nothing = subst (λ (now : Store). Answers now Reply.Idle) (λ i. ending store (sym gone i) store.unswept (sym nothing i)) (record {
     turns = λ work. turns_idle r store.collection work none;
     tables = over_tables store r store.unswept met_nothing of.unswept of;
   })
 
   module _ (c : Collection) (runs : store.collection ≡ Some c) where
-    pub orphan_answers : (met : Met) → c.exit ≡ None → met ≡ met_nothing → Answers (over store store.unswept (record met { kill_failed = true })) Reply.CancelledOrphan
-    orphan_answers met none nothing = subst (λ (m : Met). Answers (over store store.unswept (record m { kill_failed = true })) Reply.CancelledOrphan) (sym nothing) (record {
+    pub orphan_answers : (o : Option Collection) → o ≡ None → (met : Met) → c.exit ≡ None → met ≡ met_nothing → Answers (ending store o store.unswept (record met { kill_failed = true })) Reply.CancelledOrphan
+    orphan_answers o gone met none nothing = subst (λ (now : Store). Answers now Reply.CancelledOrphan) (λ i. ending store (sym gone i) store.unswept (record (sym nothing i) { kill_failed = true })) (record {
       turns = λ work. subst (λ (o : Option Collection). Turns (state_at r (phase_of o) work) Command.Cancel (record met_nothing { kill_failed = true }) Reply.CancelledOrphan (state_at r Phase.Idle work)) (sym runs) (turns_orphan r c work none);
       tables = over_tables store r store.unswept (record met_nothing { kill_failed = true }) of.unswept of;
     })
 
     -- behind the sweep what was met is noted
-    pub done_answers : (left : ℕ) (swept : Store) (before met : Met) → swept ≡ over store (unswept_now store left) before → met ≡ met_nothing → Answers (record swept { met = record met { left = left } }) Reply.Cancelled
-    done_answers left swept before met is nothing = subst (λ (now : Store). Answers now Reply.Cancelled) (λ i. record (sym is i) { met = record (sym nothing i) { left = left } }) (record {
+    pub done_answers : (o : Option Collection) → o ≡ None → (left : ℕ) (swept : Store) (before met : Met) → swept ≡ ending store o (unswept_now store left) before → met ≡ met_nothing → Answers (record swept { met = record met { left = left } }) Reply.Cancelled
+    done_answers o gone left swept before met is nothing = subst (λ (now : Store). Answers now Reply.Cancelled) (λ i. record (sym (all_over store o (unswept_now store left) before gone swept is) i) { met = record (sym nothing i) { left = left } }) (record {
       turns = λ work. subst (λ (o : Option Collection). Turns (state_at r (phase_of o) work) Command.Cancel (record met_nothing { left = left }) Reply.Cancelled (state_at r Phase.Idle work)) (sym runs) (turns_done r c work left);
       tables = over_tables store r (unswept_now store left) (record met_nothing { left = left }) (unswept_is store r left of) of;
     })
 
 -- ---- what is told
 
-for_settle : (n : ℕ) (these : FileName → Type 0) (u : Unit {0}) (a b : Told) → Settles n (Ok u) a b → ChangesFor n these a b
+pub for_settle : (n : ℕ) (these : FileName → Type 0) (u : Unit {0}) (a b : Told) → Settles n (Ok u) a b → ChangesFor n these a b
 for_settle n these u a b settles = record {
   goes = settles.goes;
   others = λ file other not. settles.files file;
@@ -180,7 +205,7 @@ for_settle n these u a b settles = record {
 }
 
 -- a sweep removes no file of the store
-swept_apart : (s : Slot) (u : Unswept) (file : FileName) → IsSwept s u file → IsApart s file
+pub swept_apart : (s : Slot) (u : Unswept) (file : FileName) → IsSwept s u file → IsApart s file
 swept_apart s u Control is = is
 swept_apart s u (Chunk n) is = is.1
 swept_apart s u (Prefix n) is = is.1
@@ -191,17 +216,24 @@ module _ (store : Store) (r : Repository) (a : Told) (holds : Holds store a r) (
   abbrev n : ℕ
   n = c.job.attempt
 
+  -- the store as it is once the collection is over
+  abbrev pub idle : Store
+  idle = over store store.unswept store.met
+
+  abbrev pub held_idle : Holds idle a r
+  held_idle = over_holds store r store.unswept store.met a holds.tables.unswept holds
+
   abbrev these : FileName → Type 0
   these = IsSwept store.slot store.unswept
 
-  phase : IsPhase store.slot r c
+  pub phase : IsPhase store.slot r c
   phase = subst (IsPhaseOf store.slot r) runs holds.tables.phase
 
   -- its attempt is not the live one, and was drawn
-  other : n ≢ store.slot.live
+  pub other : n ≢ store.slot.live
   other same = (let told = phase.told in absurd (omega (arith, same, told.live, told.valid.live)))
 
-  below : n < store.slot.next_attempt
+  pub below : n < store.slot.next_attempt
   below = (let told = phase.told in omega (arith, told.attempt))
 
   apart : (file : FileName) → these file → IsApart store.slot file
@@ -209,20 +241,13 @@ module _ (store : Store) (r : Repository) (a : Told) (holds : Holds store a r) (
 
   -- each record stays, whatever the store holds then
   stays_apart : (b : Told) → ChangesFor n these a b → (store' : Store) (q : Repository) (now : Holds store' b q) → RecordsStay (image_records holds) (image_records now)
+  unfolding held_idle
   stays_apart b changes store' q now at x there =
-      subst (λ (rs : Records). present rs at ≡ Some x) (sym (list_apart store r a holds n other below these apart b changes now.stands.standing)) there
+      subst (λ (rs : Records). present rs at ≡ Some x) (sym (list_apart idle r a held_idle refl n other below these apart b (beside_for n these a b changes) now.stands.standing)) there
 
   module _ (result : Result Cancelled CancelFault) (b : Told) (changes : ChangesFor n these a b) (files : KeepsFiles a b) (u : Unswept) (met : Met) (unswept : IsUnswept store.slot u) where
     held_now : Holds (over store u met) b r
-    held_now = (let was = holds_apart store r a holds n other below these apart b changes in record {
-      tables = over_tables store r u met unswept was.tables;
-      stands = was.stands;
-      live = was.live;
-      kept = was.kept;
-      pair = was.pair;
-      runs = was.runs;
-      places = was.places;
-    })
+    held_now = over_holds idle r u met b unswept (holds_apart idle r a held_idle refl n other below these apart b (beside_for n these a b changes))
 
     cancels : (result ≡ Ok Cancelled.Done → lending a n ≡ lent → (pair : Image) × IsSettledAs b n pair) → (result ≡ Ok Cancelled.Done → met.left ≡ 0 → (file : FileName) → these file → ¬ IsForeign b file → b.held file ≡ None)
         → (result ≡ Ok Cancelled.Done → AllBut these met.left b b) → Cancels r c result store.unswept (over store u met) a b
@@ -233,10 +258,10 @@ module _ (store : Store) (r : Repository) (a : Told) (holds : Holds store a r) (
       settled = settled;
       gone = gone;
       all_but = all_but;
-      recovers = λ pending. recovers_apart store r a holds n other below these apart b changes pending;
-      nothing_pending = λ pending. pending_apart store r a holds n other below these apart b changes pending;
-      flushed = λ pending. flushed_apart store r a holds n other below these apart b changes pending;
-      space = λ pending. space_apart store r a holds n other below these apart b changes pending;
+      recovers = λ pending. recovers_apart idle r a held_idle refl n other below these apart b (beside_for n these a b changes) pending;
+      nothing_pending = λ pending. pending_apart idle r a held_idle refl n other below these apart b (beside_for n these a b changes) pending;
+      flushed = λ pending. flushed_apart idle r a held_idle refl n other below these apart b (beside_for n these a b changes) pending;
+      space = λ pending. space_apart idle r a held_idle refl n other below these apart b (beside_for n these a b changes) pending;
     }
 
     not_done : ¬ (result ≡ Ok Cancelled.Done) → Cancels r c result store.unswept (over store u met) a b
@@ -246,8 +271,8 @@ module _ (store : Store) (r : Repository) (a : Told) (holds : Holds store a r) (
   nowhere = for_only n these a a (only_nowhere a these)
 
   -- the kill failed
-  pub orphan_left : (met : Met) → Cancels r c (Ok Cancelled.Orphan) store.unswept (over store store.unswept met) a a
-  orphan_left met = not_done (Ok Cancelled.Orphan) a nowhere (keeps_itself a) store.unswept met holds.tables.unswept (λ done. absurd (cc (done)))
+  pub orphan_left : (o : Option Collection) → o ≡ None → (met : Met) → Cancels r c (Ok Cancelled.Orphan) store.unswept (ending store o store.unswept met) a a
+  orphan_left o gone met = subst (λ (p : Option Collection). Cancels r c (Ok Cancelled.Orphan) store.unswept (ending store p store.unswept met) a a) (sym gone) (not_done (Ok Cancelled.Orphan) a nowhere (keeps_itself a) store.unswept met holds.tables.unswept (λ done. absurd (cc (done))))
 
   pub orphan_stays : (store' : Store) (q : Repository) (now : Holds store' a q) → RecordsStay (image_records holds) (image_records now)
   orphan_stays = stays_apart a nowhere
@@ -257,10 +282,10 @@ module _ (store : Store) (r : Repository) (a : Told) (holds : Holds store a r) (
     same : x ≡ c
     same = cc (here, runs)
 
-    pub cut_off : (result : Result Cancelled CancelFault) (e : GroundFault) (b : Told) (met : Met) → IsErrAnd result (λ fault. fault ≡ CancelFault.Ground) → Settles x.job.attempt (Err e) a b → Cancels r c result store.unswept (over store store.unswept met) a b
-    cut_off (Ok way) e b met err settles = absurd err
-    cut_off (Err fault) e b met err settles =
-        not_done (Err fault) b (for_only n these a b (only_more a b NoFile these (λ file none. absurd none) settles.refused)) (keeps_ended a b x.job.attempt (Err e) settles) store.unswept met holds.tables.unswept (λ done. absurd (cc (done)))
+    pub cut_off : (o : Option Collection) → o ≡ None → (result : Result Cancelled CancelFault) (e : GroundFault) (b : Told) (met : Met) → IsErrAnd result (λ fault. fault ≡ CancelFault.Ground) → Settles x.job.attempt (Err e) a b → Cancels r c result store.unswept (ending store o store.unswept met) a b
+    cut_off o gone (Ok way) e b met err settles = absurd err
+    cut_off o gone (Err fault) e b met err settles = subst (λ (p : Option Collection). Cancels r c (Err fault) store.unswept (ending store p store.unswept met) a b) (sym gone)
+        (not_done (Err fault) b (for_only n these a b (only_more a b NoFile these (λ file none. absurd none) settles.refused)) (keeps_ended a b x.job.attempt (Err e) settles) store.unswept met holds.tables.unswept (λ done. absurd (cc (done))))
 
     module _ (left : ℕ) (b d : Told) (settles : Settles x.job.attempt (Ok tt) a b) (sweeps : SweepsFiles these left b d) where
       ours : Settles n (Ok tt) a b
@@ -272,9 +297,9 @@ module _ (store : Store) (r : Repository) (a : Told) (holds : Holds store a r) (
       changes : ChangesFor n these a d
       changes = for_before n these a b d (for_settle n these tt a b ours) sweeps.only
 
-      pub swept_away : (swept : Store) (before met : Met) → swept ≡ over store (unswept_now store left) before → met ≡ met_nothing → Cancels r c (Ok Cancelled.Done) store.unswept (record swept { met = record met { left = left } }) a d
-      swept_away swept before met is nothing =
-          subst (λ (now : Store). Cancels r c (Ok Cancelled.Done) store.unswept now a d) (λ i. record (sym is i) { met = record (sym nothing i) { left = left } })
+      pub swept_away : (o : Option Collection) → o ≡ None → (swept : Store) (before met : Met) → swept ≡ ending store o (unswept_now store left) before → met ≡ met_nothing → Cancels r c (Ok Cancelled.Done) store.unswept (record swept { met = record met { left = left } }) a d
+      swept_away o gone swept before met is nothing =
+          subst (λ (now : Store). Cancels r c (Ok Cancelled.Done) store.unswept now a d) (λ i. record (sym (all_over store o (unswept_now store left) before gone swept is) i) { met = record (sym nothing i) { left = left } })
           (cancels (Ok Cancelled.Done) d changes (keeps_on a b d (keeps_ended a b n (Ok tt) ours) (keeps_swept b d these left sweeps)) (unswept_now store left) (record met_nothing { left = left }) (unswept_is store r left holds.tables)
           (λ done was. (b.held, settled_stays n b d b.held these (settled_at n a b was ours) sweeps.only))
           (λ done zero file this own. sweeps.gone zero file this (theirs file own))

@@ -32,7 +32,7 @@ use Rattle.ip_store.proofs.JoinAnswers.{merged_of, answers_joined, moments_joine
 use Rattle.ip_store.proofs.JoinedTrees.{join_outcome, join_good, join_view, join_lawful, join_parents, join_there, goes_on_from}
 use Rattle.ip_store.proofs.Phases.{stays_least}
 use Rattle.ip_store.proofs.Listed.{same_records}
-use Rattle.ip_store.proofs.Looked.{changes_behind, appends_behind}
+use Rattle.ip_store.proofs.LookedUp.{changes_behind, appends_behind}
 use Rattle.ip_store.proofs.MergeExits.{slot_still}
 use Rattle.ip_store.proofs.Stepping.{same_tables}
 

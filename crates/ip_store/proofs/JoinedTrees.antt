@@ -53,9 +53,8 @@ use Rattle.ip_store.specs.Work.{AreParents, IsLawful, IsThere, least_of}
 use Rattle.ip_store.specs.Collecting.{not_leaving_in}
 use Rattle.ip_store.specs.Rooted.{IsRooted}
 use Rattle.ip_store.proofs.Histories.{shows_of, common_retained}
-use Rattle.ip_store.proofs.Phases.{parents_on, retained_is}
+use Rattle.ip_store.proofs.Phases.{head_retained, parents_on, retained_is}
 use Rattle.ip_store.proofs.RootedViews.{rooted_made}
-use Rattle.ip_store.proofs.Tables.{head_retained}
 use Rattle.ip_store.proofs.MergedMaps.{short_merged, long_merged, longest_short, made_map}
 
 -- ---- limits
@@ -333,4 +332,4 @@ pub forward_from : (r : Repository) (phase : Phase) (branch : Bytes) (at number 
 forward_from r phase branch at number is_head here course = record { at = at; is_head = is_head; retained = here; not_current = course.0; forward = course.1 }
 
 pub at_head : (store : Store) (r : Repository) → IsOf store r → (branch : Bytes) (found : Option ℕ) (n : ℕ) → found ≡ head r branch → found ≡ Some n → (head r branch ≡ Some n) × IsTrue (is_retained r n)
-at_head store r of branch found n same is = (sym same ∙ is, head_retained store r of branch n (ap (λ m. get m branch) (sym of.branches) ∙ sym same ∙ is))
+at_head store r of branch found n same is = (sym same ∙ is, head_retained store r of branch n (sym same ∙ is))

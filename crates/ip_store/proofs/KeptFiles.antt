@@ -4,21 +4,21 @@
 --     one_attempt      a file is one attempt's
 --     keeps_itself, keeps_on      what is kept over no time, and over two spans behind one another
 --     keeps_custody      where each file but those of the store stays or is removed, and no custody changes.      keeps_store, keeps_swept      so where files of the store alone change, and where files are removed
---     keeps_lent, keeps_ended      where an attempt is lent, and where it is settled
+--     keeps_lent, keeps_ended, keeps_synced      where an attempt is lent, where it is settled, and where a file is synced
 use Rattle.std.proofs.Common.{◌≡◌, ◌≢◌, ◌⊎◌, inl, inr, ℕ, ◌≤◌, refl, sym, ◌∙◌, ap, subst, arith}
-use Rattle.std.specs.Prelude.{Bool, false, Result, Ok, Err}
+use Rattle.std.specs.Prelude.{Bool, true, false, ◌==◌, if◌then◌else◌, Result, Ok, Err}
 use Rattle.std.proofs.lemmas.Bool.{cases_lt, cases_eq}
 use Rattle.ip_ground.specs.declared.names.FileName.{FileName}
 use Rattle.ip_ground.specs.declared.names.FileName.TheVariants.{Control, Chunk, Prefix, Mapping, Done}
 use Rattle.ip_ground.specs.declared.names.GroundFault.{GroundFault}
-use Rattle.ip_ground.specs.Calls.{Removes, Lends, Settles}
+use Rattle.ip_ground.specs.Calls.{Removes, Lends, Syncs, Settles}
 use Rattle.ip_ground.specs.Contents.{Content, Image}
 use Rattle.ip_ground.specs.Custody as custody
-use Rattle.ip_ground.specs.Custody.{Custody, own, lent, settled, custody_of, after_settle, is_same_file, IsOfAttempt}
+use Rattle.ip_ground.specs.Custody.{Custody, own, lent, settled, custody_of, with_synced, after_sync, after_settle, is_same_file, IsOfAttempt}
 use Rattle.ip_ground.specs.Files.{no_true, file_itself, cases_file}
-use Rattle.ip_ground.specs.Told.{Told, lending, IsForeign, KeepsPast, KeepsFile, KeepsCustody, ChangesLeft, NoFile, ChangesOnly}
-use Rattle.ip_ground.proofs.Lending.{of_attempt, own_settled}
-use Rattle.ip_ground.proofs.Spans.{left_now, lending_now, goes_on, only_nowhere}
+use Rattle.ip_ground.specs.Told.{Told, lending, IsForeign, KeepsPast, SyncsAtMost, KeepsFile, KeepsCustody, ChangesLeft, NoFile, ChangesOnly}
+use Rattle.ip_ground.proofs.Lending.{of_attempt, own_settled, settled_syncs}
+use Rattle.ip_ground.proofs.Spans.{left_now, lending_now, goes_on, only_nowhere, at_most}
 use Rattle.ip_store.specs.Publishing.{IsOfStore}
 use Rattle.ip_store.specs.Sweeping.{IsSameOrGone, StaysOrGoes, SweepsFiles, NeverWritten, KeepsSettled, KeepsFiles}
 
@@ -67,8 +67,11 @@ left_on a b c file first next one other t x after le left = elim (cases_lt b.mom
     From : Content → Type 0
     From y = (before : Content) × a.may_leave a.moment file before × IsSameOrGone before y
 
+synced_goes : (a b : Told) (file : FileName) → SyncsAtMost a b file → StaysOrGoes a b file
+synced_goes a b file stays = record { held = λ mine. inl (stays.held mine); left = λ firm t x after le left. (x, stays.left firm t x after le left, inl refl) }
+
 pub stays_goes : (a b : Told) (file : FileName) → KeepsFile a b file → StaysOrGoes a b file
-stays_goes a b file stays = record { held = λ mine. inl (stays.held mine); left = λ firm t x after le left. (x, stays.left firm t x after le left, inl refl) }
+stays_goes a b file stays = synced_goes a b file (at_most a b file stays)
 
 pub goes_both : (a b c : Told) (file : FileName) → KeepsPast a b → KeepsPast b c → custody_of (lending b) file ≡ custody_of (lending a) file → StaysOrGoes a b file → StaysOrGoes b c file → StaysOrGoes a c file
 goes_both a b c file first next same one other = record {
@@ -196,6 +199,39 @@ module _ (a b : Told) where
       | inl same ↦ subst (λ (k : ℕ). IsKeptAs k pair) (sym same) (ends_kept n u settles kept (lending a n) refl pair synced (subst (λ (k : ℕ). lending b k ≡ settled pair synced) same is))
       | inr differ ↦ other_kept n settles.goes (λ file apart. settles.files file) settles.others m pair synced differ kept is
     ];
+  }
+
+  -- ---- a file is synced
+
+  -- what was not settled is not settled then
+  sync_if : (b : Bool) (one : FileName) (k : Custody) → with_synced one k ≡ k → (if b then with_synced one k else k) ≡ k
+  sync_if true one k same = same
+  sync_if false one k same = refl
+
+  sync_leaves : (one : FileName) (n : ℕ) (k : Custody) → ((file : FileName) → with_synced file k ≡ k) → after_sync one n k ≡ k
+  sync_leaves Control n k same = refl
+  sync_leaves (Chunk m) n k same = refl
+  sync_leaves (Prefix m) n k same = sync_if (m == n) (Prefix m) k (same (Prefix m))
+  sync_leaves (Mapping m) n k same = sync_if (m == n) (Mapping m) k (same (Mapping m))
+  sync_leaves (Done m) n k same = sync_if (m == n) (Done m) k (same (Done m))
+
+  synced_kept : (one : FileName) (u : Unit {0}) → Syncs one (Ok u) a b → KeepsSettled a → (n : ℕ) (was : Custody) → lending a n ≡ was → (pair : Image) (synced : FileName → Bool) → lending b n ≡ settled pair synced → IsKeptAs n pair
+  synced_kept one u syncs kept n own was pair synced is file of =
+      (let both = sym is ∙ syncs.lending n ∙ ap (after_sync one n) was ∙ sync_leaves one n own (λ file. refl) in absurd (cc (both)))
+  synced_kept one u syncs kept n lent was pair synced is file of =
+      (let both = sym is ∙ syncs.lending n ∙ ap (after_sync one n) was ∙ sync_leaves one n lent (λ file. refl) in absurd (cc (both)))
+  synced_kept one u syncs kept n (settled old flags) was pair synced is file of =
+      let now = settled_syncs n a b old one (Ok u) (flags, was) syncs in
+      let both : settled old now.0 ≡ settled pair synced = sym now.1 ∙ is in
+      let same : old ≡ pair = cc (both) in
+      gone_both (pair file) (a.held file) (b.held file) (subst (λ (image : Image). IsSameOrGone (image file) (a.held file)) same (kept n old flags was file of)) (inl ((syncs.files file).held (own_settled n a old file (flags, was) of)))
+
+  pub keeps_synced : (one : FileName) (res : Result (Unit {0}) GroundFault) → Syncs one res a b → KeepsFiles a b
+  keeps_synced one (Err e) syncs = nothing_else syncs.refused
+  keeps_synced one (Ok u) syncs = record {
+    goes = syncs.goes;
+    written = λ file not. written_by file syncs.goes (synced_goes a b file (syncs.files file));
+    settled = λ kept n pair synced is. synced_kept one u syncs kept n (lending a n) refl pair synced is;
   }
 
 pub keeps_itself : (a : Told) → KeepsFiles a a

@@ -3,12 +3,23 @@ mod Making
 mod Spelling
 mod Keyed
 mod Steps
+mod Turning
+mod FinishTurns
+mod FinishSpans
+mod FinishMoments
+mod FinishEnds
+mod FinishCalls
+mod FewerRecords
+mod WorksRemain
+mod BatchRests
+mod CollectsOn
 mod Tables
 pub mod Phases
 pub mod RootedViews
 pub mod Machine
 mod BatchKinds
 mod SpelledTrees
+pub mod Going
 mod Hashes
 mod Planning
 mod NextSlot
@@ -16,10 +27,12 @@ mod BranchNames
 pub mod Recovering
 pub mod Apart
 pub mod KeptFiles
+pub mod Ended
+mod Swapped
 mod Started
 mod TableRecords
 pub mod Stepping
-mod Looked
+mod LookedUp
 mod MergedMaps
 pub mod Editing
 mod Renamed
@@ -49,3 +62,9 @@ mod OpenedStores
 mod Listing
 mod Swept
 mod Cancels
+mod Until
+mod Judged
+mod Remaining
+mod HeldPair
+mod SwapStep
+mod Accepting

@@ -6,7 +6,7 @@
 --     over, records_good, records_parts, records_below      of the records of the image that a store holds: the space reads them; what each of them is, and of what it is a part; where it lies
 --     same_list, same_records      of two images of which one reads as the other did; and of one image, whichever proof says that it stands
 use Rattle.std.proofs.Common.{◌≡◌, ◌≢◌, ◌⊎◌, inl, inr, ℕ, zero, suc, ◌+◌, ◌≤◌, List, [], ◌∷◌, ◌++◌, map, length, refl, sym, ◌∙◌, ap, subst, arith, append_assoc, append-nil, length-append}
-use Rattle.std.specs.Prelude.{◌<◌, Bool, true, false, cond, Option, Some, slice_get}
+use Rattle.std.specs.Prelude.{◌<◌, Bool, true, false, cond, Option, Some, IfSome, slice_get}
 use Rattle.std.specs.Ordering.{nat_cmp, eq_by_cmp}
 use Rattle.std.specs.List.{AllByRecursion, AllZip}
 use Rattle.std.proofs.lemmas.List.Elements.{filter_map-append, recursion_from_All}
@@ -48,6 +48,8 @@ use Rattle.ip_space.specs.SpaceView.{IsReadable, records_of}
 use Rattle.ip_store.specs.declared.store.Store.{Store}
 use Rattle.ip_store.specs.Placed.{places_in, IsCommitAt, AreCommitsAt}
 use Rattle.ip_tree.specs.Reads.{IsOver}
+use Rattle.ip_store.specs.declared.collection.Collection.{Collection}
+use Rattle.ip_store.specs.Collecting.{Collects}
 use Rattle.ip_store.specs.Store.{IsOf, OwnsPair, Holds, image_records}
 
 pub newest : (s : Slot) → IsSlot s → s.version ≡ newest_version
@@ -303,7 +305,7 @@ module _ (store : Store) (told : Told) (r : Repository) (holds : Holds store tol
   pub records_parts : (at : ℕ) (x : Record) → image_records holds at ≡ Some x → reference_kind x ≡ 2 → IsSomePart (image_records holds) at
   records_parts at x is kind = part_of_good store.slot [] A.records good_here at x is kind
 
-  records_ordered : Ordered 0 A.records store.slot.end
+  pub records_ordered : Ordered 0 A.records store.slot.end
   records_ordered = lies_ordered told.held (layout_of store.slot) has.live.fields.horizon A.records (chunk_lies told.held store.slot has A)
 
   -- each is found
@@ -333,8 +335,8 @@ module _ (store : Store) (told : Told) (r : Repository) (holds : Holds store tol
         records_go_on told.held new.held store.slot store.slot [] A B has has_new (same_generation_itself store.slot) refl (λ k d low. absurd (omega (arith, low)))
         (record { same = same; added = λ k low. absurd (omega (arith, low)) }) ∙ append-nil A.records
 
-    pub holds_on : IsSynced new Control → OwnsPair new store.slot → Holds store new r
-    holds_on kept owns =
+    pub holds_on : IsSynced new Control → OwnsPair new store.slot → IfSome store.collection (Collects new store.slot A.records r) → Holds store new r
+    holds_on kept owns collects =
         let stands : StandsFor new.held r = stands_still told.held new.held r store.slot store.slot holds.stands has has_new (same_generation_itself store.slot) refl refl same in
         record {
           tables = holds.tables;
@@ -344,6 +346,7 @@ module _ (store : Store) (told : Told) (r : Repository) (holds : Holds store tol
           pair = owns;
           runs = holds.runs ∙ ap (map run_of) (sym (same_rows told.held new.held store.slot store.slot has has_new (same_generation_itself store.slot) A stands.standing same.mapping));
           places = holds.places ∙ ap places_in (sym (same_list stands.standing));
+          collects = subst (λ (rs : Records). IfSome store.collection (Collects new store.slot rs r)) (sym (same_list stands.standing)) collects;
         }
 
 -- ---- two ways to hold

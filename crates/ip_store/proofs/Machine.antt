@@ -118,6 +118,9 @@ module _ (r : Repository) (phase : Phase) (least : Option ℕ) (parents : List �
   pub first_there : IsThere r least
   first_there = there_is r least (first_of given (moved >> (not_leaving_in phase least >> room_for_branch r branch)) is)
 
+  pub first_stays : not_leaving_in phase least ≡ Ok tt
+  first_stays = first_of (not_leaving_in phase least) (room_for_branch r branch) (behind_it moved (not_leaving_in phase least >> room_for_branch r branch) (behind_it given (moved >> (not_leaving_in phase least >> room_for_branch r branch)) is))
+
   pub first_room : room_for_branch r branch ≡ Ok tt
   first_room = behind_it (not_leaving_in phase least) (room_for_branch r branch) (behind_it moved (not_leaving_in phase least >> room_for_branch r branch) (behind_it given (moved >> (not_leaving_in phase least >> room_for_branch r branch)) is))
 

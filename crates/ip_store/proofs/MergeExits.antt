@@ -35,7 +35,7 @@ use Rattle.ip_store.specs.Merging.{merge_reply, IsTurn, GoesOnFrom, AnswersMerge
 use Rattle.ip_store.specs.Store.{IsOf, Holds, SameTables}
 use Rattle.ip_store.specs.Work.{AreParents}
 use Rattle.ip_store.proofs.JoinedTrees.{within_long, within_wide}
-use Rattle.ip_store.proofs.Looked.{changes_looked}
+use Rattle.ip_store.proofs.LookedUp.{changes_looked}
 use Rattle.ip_store.proofs.MergeTurns.{IsQuiet, some_turn, turn_memory, turn_forward, forward_space, forward_sequence, turn_conflict, refused_tree}
 use Rattle.ip_store.proofs.Noted.{noted_itself, noted_back, noted_met}
 use Rattle.ip_store.proofs.Recovering.{held_has}

@@ -38,6 +38,7 @@ use Rattle.ip_store.specs.declared.walk.Found.{Found}
 use Rattle.ip_store.specs.Control.{control_in}
 use Rattle.ip_space.specs.SpaceView.{SpaceView, IsReadable, byte_at, stretches_of}
 use Rattle.ip_space.proofs.Stayed.{readable_stays}
+use Rattle.ip_store.specs.Collecting.{IsGoing, Collects}
 use Rattle.ip_store.specs.Placed.{places_in, IsSpaceOf}
 use Rattle.ip_store.specs.Walk.{Tells, Covers, BadRecord}
 use Rattle.ip_store.specs.Found.{IsReached, FoundIn, FindsSlot, FindsGeneration, Finished, Finishes}
@@ -48,7 +49,7 @@ use Rattle.ip_store.proofs.Recovering.{recovers_from}
 use Rattle.ip_store.proofs.Hashes.{sha_is_hash}
 use Rattle.ip_store.proofs.Listed.{places_size}
 use Rattle.ip_store.proofs.BranchNames.{named_all, placed_within}
-use Rattle.ip_store.proofs.Stepping.{space_same, unswept_same, within_same}
+use Rattle.ip_store.proofs.Stepping.{space_same, unswept_same, within_same, rising_same}
 use Rattle.ip_store.proofs.Reading.{own, control_passes}
 use Rattle.ip_store.proofs.OpenedImages.{has_live, form_damaged, generation_stays, pair_damaged, bad_damaged, misfit_damaged, standing_of, whole_from, repository_of, repository_names, repository_history, repository_floor, repository_branches, repository_tags, repository_size, commits_are}
 
@@ -106,6 +107,8 @@ module _ (index : ℕ) (s : Slot) (is : IsSlot s) (below : index < 2) (found : F
             (record { chunk = is.first_chunk; low = is.first_attempt_low; high = is.first_attempt_high; live = is.first_attempt_live });
         named = subst (λ (m : Branching). All (λ e. IsBranchName e.0) m.entries) (sym branches) (named_all s records tells.good);
         within = within_same s store.slot (places_in records) store.places.items finished.slot (sym (finished.places records tells)) (placed_within s s.end records tells.good beyond);
+        rising = rising_same s store.slot found.places.items store.places.items finished.slot (sym (finished.places records tells) ∙ sym tells.places) tells.rising;
+        going = subst (λ o. IfSome o (IsGoing store.slot.floor store.places.items store.unswept store.space)) (sym finished.idle) tt;
       }
 
   pub holds_of : (told : Told) → IsLive (control_in told.held) index s → (rows : List Row) → Generation told.held (layout_of s) rows → (space : SpaceView) → IsSpaceOf s space → space.runs ≡ map run_of rows
@@ -124,6 +127,7 @@ module _ (index : ℕ) (s : Slot) (is : IsSlot s) (below : index < 2) (found : F
     pair = subst (OwnsPair told) (sym finished.slot) owns;
     runs = ap (λ (v : SpaceView). v.runs) space_is ∙ runs;
     places = sym (finished.places records tells);
+    collects = subst (λ o. IfSome o (Collects told store.slot records (repository_of s records tells.good))) (sym finished.idle) tt;
   }
 
 -- ---- finding the slot

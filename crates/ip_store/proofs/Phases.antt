@@ -1,11 +1,12 @@
 -- What keeps a store's phase, and what works rest on while a collection may give commits up.
 --     no_phase, phase_to      of a store that no collection runs over, and of the same fields.      phase_on      behind a durable step
+--     retained_from, retained_is      numbers that are retained.      head_retained      a branch is at such a one
 --     set_heads, named_heads      no branch comes to lie below the collection's commit
 --     there_is, there_none, none_given      a work of which a test says so was not given up
---     removed_above, set_above, ahead_above      a record puts no branch below the collection's commit.      stays_least      a merge rests on no commit below it
+--     removed_above, set_above, ahead_above      a record puts no branch below the collection's commit.      least_above, oldest_above      nor did a work, or its tree, take from one below      stays_least      a merge rests on no commit below it
 --     retained_parents, parents_on      the parents of a work that was not given up are retained; and later on too
-use Rattle.std.proofs.Common.{◌≡◌, ℕ, ◌<◌, ◌≤◌, Bool, true, false, List, refl, sym, ap, subst, ◌∙◌, arith, Option, Some, None}
-use Rattle.std.specs.Prelude.{Ok, All, IfSome, IsSomeAnd, IsTrue, cond, min, not, nat_le, nat_lt, ◌&&◌, if◌then◌else◌}
+use Rattle.std.proofs.Common.{◌≡◌, ℕ, ◌<◌, ◌≤◌, Bool, true, false, List, [], ◌∷◌, refl, sym, ap, subst, ◌∙◌, arith, Option, Some, None}
+use Rattle.std.specs.Prelude.{Ok, All, fold, IfSome, IsSomeAnd, IsTrue, cond, min, not, nat_le, nat_lt, ◌&&◌, if◌then◌else◌}
 use Rattle.std.proofs.lemmas.Bool.Decides.{nat_tests}
 use Rattle.std.specs.Cmp.Lexicographic.{nat_list_cmp_total}
 use Rattle.std.specs.Ordering.{eq_by_cmp}
@@ -16,7 +17,7 @@ use Rattle.ip_spec.specs.Map.{Map, get, insert, remove, from_entries, get-insert
 use Rattle.ip_spec.specs.Path.{Bytes, bytes_cmp}
 use Rattle.ip_spec.specs.Record.{Names}
 use Rattle.ip_spec.specs.Repository.{Repository, next, is_retained}
-use Rattle.ip_spec.specs.Step.{below, unless_some}
+use Rattle.ip_spec.specs.Step.{below, least_with, unless_some}
 use Rattle.ip_image.specs.declared.slot.Slot.{Slot}
 use Rattle.ip_image.specs.Appending.{MayName}
 use Rattle.ip_image.specs.Standing.{names_after}
@@ -25,7 +26,9 @@ use Rattle.ip_image.proofs.Tables.{made_again}
 use Rattle.ip_store.specs.declared.collection.Collection.{Collection}
 use Rattle.ip_store.specs.declared.collection.Unswept.{Unswept}
 use Rattle.ip_store.specs.Collecting.{IsJobOf, IsPhase, IsPhaseOf, IsAbove, phase_of, not_leaving_in}
+use Rattle.ip_store.specs.Store.{IsOf}
 use Rattle.ip_store.specs.Work.{AreParents, IsThere}
+use Rattle.ip_store.specs.declared.store.Store.{Store}
 use Rattle.ip_store.proofs.NextSlot.{slot_behind}
 
 pub no_phase : (s : Slot) (r : Repository) (o : Option Collection) → o ≡ None → IsPhaseOf s r o
@@ -53,6 +56,14 @@ retained_from r n low high = between r.floor n (next r) low high
 
 pub retained_is : (r : Repository) (n : ℕ) → IsTrue (is_retained r n) → (r.floor ≤ n) × (n < next r)
 retained_is r n is = within r.floor n (next r) is
+
+-- a branch is at a retained commit
+pub head_retained : (store : Store) (r : Repository) → IsOf store r → (name : Bytes) (n : ℕ) → get r.branches name ≡ Some n → IsTrue (is_retained r n)
+head_retained store r of name n is =
+    let inside : (store.slot.floor ≤ n) × (n < store.slot.next) = subst (λ (o : Option ℕ). IfSome o (λ m. (store.slot.floor ≤ m) × (m < store.slot.next))) is (of.retained.each name) in
+    let floor = of.floor in
+    let next = of.next in
+    retained_from r n (omega (arith, floor, inside.0)) (omega (arith, next, inside.1))
 
 -- ---- branches
 
@@ -162,6 +173,17 @@ set_above (Some c) number name is = by_test (nat_lt number c.commit) refl is
     by_test : (b : Bool) → nat_lt number c.commit ≡ b → unless_some (if b then Some number else None) Reply.Leaving ≡ Ok tt → c.commit ≤ number
     by_test true e is = absurd (cc (is))
     by_test false e is = grind (arith, nat_tests)
+
+-- so of what a work took from
+pub least_above : (c : Collection) (least : Option ℕ) → not_leaving_in (phase_of (Some c)) least ≡ Ok tt → IfSome least (λ n. c.commit ≤ n)
+least_above c None is = tt
+least_above c (Some number) is = set_above (Some c) number [] is
+
+-- the number that is the least with others is not below it
+pub oldest_above : (low : ℕ) (o : Option ℕ) (ns : List ℕ) → IfSome (fold least_with o ns) (λ n. low ≤ n) → IfSome o (λ n. low ≤ n)
+oldest_above low None ns is = tt
+oldest_above low (Some m) [] is = is
+oldest_above low (Some m) (n ∷ ns) is = let less : low ≤ min m n = oldest_above low (Some (min m n)) ns is in omega (arith, less)
 
 -- where a branch moves on from its commit it stays above
 pub ahead_above : (s : Slot) (r : Repository) (o : Option Collection) (name : Bytes) (at number : ℕ) → IsPhaseOf s r o → get r.branches name ≡ Some at → at ≤ number → IsAbove o (Record.BranchSet number name)

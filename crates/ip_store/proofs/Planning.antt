@@ -34,7 +34,7 @@ use Rattle.ip_store.specs.Store.{IsOf}
 use Rattle.ip_store.specs.Collecting.{phase_of, carried}
 use Rattle.ip_store.specs.Work.{IsLawful, IsThere}
 use Rattle.ip_store.proofs.BatchKinds.{batch_served, batch_places}
-use Rattle.ip_store.proofs.Machine.{First, first_there, first_room, refused_name, refused_short, refused_memory, turn_is_done}
+use Rattle.ip_store.proofs.Machine.{First, first_there, first_stays, first_room, refused_name, refused_short, refused_memory, turn_is_done}
 use Rattle.ip_store.proofs.Phases.{retained_parents}
 use Rattle.ip_store.proofs.Tables.{none_named}
 
@@ -183,5 +183,6 @@ module _ (records : ℕ → Option Record) (r : Repository) (work : Work) (v : V
             (batch_served v (fields_of r work.parents info branch) store.slot.end 1
             (subst (λ f. All (λ (x : ℕ × Record). Fits 1 x.1) (grown_batch v f store.slot.end)) told is_batch.fits));
         there = there;
+        stays = first_stays r (phase_of store.collection) work.least work.parents branch first_is;
         turn = turn_is_done r (phase_of store.collection) work v branch info first_is new_is;
       }

@@ -2,7 +2,7 @@
 --     renamed_tables      the tables after it.      can_rename      what the durable step asks
 --     was_renamed, rename_cut      the relation of a call that was made, and of one that a fault cut short
 --     space_renamed, list_renamed      the bytes of the records before it, and the records
-use Rattle.std.proofs.Common.{◌≡◌, ℕ, ◌-◌, ◌^◌, ◌<◌, ◌≤◌, Bool, true, false, List, [], ◌∷◌, ◌++◌, length, Option, Some, None, refl, sym, ◌∙◌, ap, subst, arith, append-nil}
+use Rattle.std.proofs.Common.{◌≡◌, inl, inr, ℕ, ◌-◌, ◌^◌, ◌<◌, ◌≤◌, Bool, true, false, List, [], ◌∷◌, ◌++◌, length, Option, Some, None, refl, sym, ◌∙◌, ap, subst, arith, append-nil}
 use Rattle.std.specs.Prelude.{Result, Ok, Err, All, IfSome, not, nat_le, nat_lt, ◌&&◌, cond}
 use Rattle.std.proofs.lemmas.Bool.Decides.{nat_tests}
 use Rattle.std.specs.Cmp.Lexicographic.{nat_list_cmp_total}
@@ -18,9 +18,13 @@ use Rattle.ip_spec.specs.Repository.{Repository, next}
 use Rattle.ip_image.specs.declared.slot.Slot.{Slot}
 use Rattle.ip_image.specs.declared.layout.Layout.{Layout}
 use Rattle.ip_image.specs.Slot.{IsSlot}
-use Rattle.ip_image.specs.Standing.{StandsFor, AreRetained, IsServedKind, names_after}
+use Rattle.ip_image.specs.Standing.{Standing, StandsFor, AreRetained, IsServedKind, names_after}
 use Rattle.ip_image.specs.Appending.{AddsBytes, SameGeneration, MayName, renamed}
 use Rattle.ip_image.specs.Pending.{HasLive, SameSpace}
+use Rattle.ip_image.proofs.PairLaws.{Has}
+use Rattle.ip_image.proofs.StayingRecords.{In, refs_of}
+use Rattle.ip_spec.proofs.Spelling.{some_bytes}
+use Rattle.ip_store.specs.declared.collection.Collection.{Collection}
 use Rattle.ip_image.proofs.Renaming.{get_without, few_without, spelled_is, stands_renamed}
 use Rattle.ip_image.proofs.Tables.{made_again}
 use Rattle.ip_history.specs.History.{HasParentsFirst}
@@ -28,13 +32,15 @@ use Rattle.ip_store.specs.declared.committing.StoreFault.{StoreFault}
 use Rattle.ip_store.specs.declared.store.Store.{Store}
 use Rattle.ip_space.specs.SpaceView.{SpaceView, grown}
 use Rattle.ip_store.specs.Changes.{Changes, next_slot, IsNextSlot}
-use Rattle.ip_store.specs.Collecting.{IsAbove, carried}
+use Rattle.ip_store.specs.Collecting.{IsAbove, IsGoing, Collects, carried}
 use Rattle.ip_store.specs.Placed.{places_in, IsSpaceOf}
-use Rattle.ip_store.specs.Publishing.{CanStep, MakesStep}
+use Rattle.ip_store.specs.Publishing.{CanStep, IsWritten, MakesStep}
 use Rattle.ip_store.specs.Store.{IsOf, Holds, image_records}
 use Rattle.ip_store.specs.Trees.{RecordsStay}
+use Rattle.ip_store.proofs.CollectsOn.{collects_on, unwritten}
+use Rattle.ip_store.proofs.Going.{going_to, going_on}
 use Rattle.ip_store.proofs.Recovering.{held_has}
-use Rattle.ip_store.proofs.Stepping.{list_after, may_step, adds_now, changed, stays_made, cut_short, space_same, unswept_same, within_same, same_can_step, same_step}
+use Rattle.ip_store.proofs.Stepping.{list_after, may_step, adds_now, changed, stays_made, cut_short, space_same, unswept_same, within_same, rising_same, same_can_step, same_step}
 use Rattle.ip_store.proofs.BranchNames.{named_after}
 use Rattle.ip_store.proofs.NextSlot.{slot_behind, HasRoom, next_room, next_is, next_generation, next_space, unswept_on, within_on}
 use Rattle.ip_store.proofs.Phases.{DrawsNone, phase_to, phase_named}
@@ -73,6 +79,12 @@ no_place r at (Record.BranchSet number name) may = refl
 no_place r at (Record.BranchRemove name) may = refl
 no_place r at (Record.BranchTable rows) may = refl
 no_place r at _ may = absurd may
+
+none_referred : (r : Repository) (x : Record) → MayName r x → (at : ℕ) → In (refs_of x) at → ⊥
+none_referred r (Record.BranchSet number name) may at ref = ref
+none_referred r (Record.BranchRemove name) may at ref = ref
+none_referred r (Record.BranchTable rows) may at ref = ref
+none_referred r _ may at ref = absurd may
 
 module _ (r : Repository) (store : Store) (of : IsOf store r) where
   retained_set : (name : Bytes) (number : ℕ) → IsAmong store.slot number → (q : Bytes) → IfSome (get (insert r.branches name number) q) (IsAmong store.slot)
@@ -140,6 +152,9 @@ module _ (r : Repository) (store : Store) (of : IsOf store r) where
       named = named_after 1 r.branches x fits of.named;
       within = within_same next_live store'.slot store.places.items store'.places.items (slot' ∙ slot_is) places
           (subst (All (λ at. (next_live.horizon ≤ at) × (at < next_live.end))) (append-nil store.places.items) (within_on store.slot next_live store.places.items [] (omega arith) (omega arith) of.within tt));
+      rising = rising_same next_live store'.slot store.places.items store'.places.items (slot' ∙ slot_is) places of.rising;
+      going = going_to store.slot.floor store'.slot.floor store.places.items store'.places.items store.unswept store'.unswept (grown store.space slot.end) store'.space store.collection store'.collection (ap (λ (s : Slot). s.floor) (slot' ∙ slot_is)) places unswept space collection
+          (subst (λ (ps : List ℕ). IfSome store.collection (IsGoing store.slot.floor ps store.unswept (grown store.space slot.end))) (append-nil store.places.items) (going_on store.slot.floor slot.end store.places.items [] store.unswept store.space store.collection of.going));
     }
 
     -- the space goes on as far
@@ -167,12 +182,26 @@ module _ (r : Repository) (store : Store) (of : IsOf store r) where
       to_next : (b : Told) (res : Result (Unit {0}) GroundFault) → Step b res → MakesStep store.slot.end (spelling x) (1 - store.index) next_live res a b
       to_next b res step = same_step store.slot.end store.slot.end store.index store.index (spelling x) (spelling x) slot next_live res a b refl refl refl slot_is step
 
+      -- a record of branches refers to nothing
+      renamed_collects : (b : Told) (store' : Store) → store'.slot ≡ slot → store'.collection ≡ store.collection → IsOf store' after → Step b (Ok tt) → (B : Standing b.held) → IfSome store'.collection (Collects b store'.slot B.records after)
+      renamed_collects b store' slot' collection tables step B =
+          subst (λ (o : Option Collection). IfSome o (Collects b store'.slot B.records after)) (sym collection)
+          (subst (λ (t : Slot). IfSome store.collection (Collects b t B.records after)) (sym (slot' ∙ slot_is))
+          (collects_on store r after a b held (IsWritten store.slot.chunk store.slot.end) (to_next b (Ok tt) step).only (unwritten store.slot.chunk store.slot.end) next_live refl (let few = some_bytes x in omega (arith, few)) room.ends
+          ((store.slot.end, x) ∷ []) (refl, refl) (phase_to store'.slot next_live after store'.collection store.collection (sym (slot' ∙ slot_is)) (sym collection) tables.phase)
+          (λ c is collects y has at ref. absurd (no_refs may y has at ref)) B
+          (list_after r after store attempt 0 (spelling x) of room a held stands_new b (to_next b (Ok tt) step) ((store.slot.end, x) ∷ []) (fits, tt) (refl, refl) (spelled_is store.slot.end x) B)))
+        where
+          no_refs : MayName r x → (y : ℕ × Record) → Has ((store.slot.end, x) ∷ []) y → (at : ℕ) → In (refs_of y.1) at → ⊥
+          no_refs may y (inl same) at ref = none_referred r x may at (subst (λ (z : ℕ × Record). In (refs_of z.1) at) (sym same) ref)
+          no_refs may y (inr none) at ref = none
+
       pub was_renamed : (b : Told) (store' : Store) → store'.slot ≡ slot → store'.index ≡ 1 - store.index → store'.names ≡ store.names → store'.branches ≡ names_after Names.branches store.branches x → store'.history ≡ store.history
           → store'.places.items ≡ store.places.items → store'.space ≡ grown store.space slot.end → store'.collection ≡ store.collection → store'.unswept ≡ store.unswept → IsAbove store.collection x → Step b (Ok tt) → Changes {A = Unit {0}} r after (Ok tt) store' a b
       was_renamed b store' slot' index names branches history places space collection unswept above step =
           changed r after store attempt 0 (spelling x) of room a held stands_new b (to_next b (Ok tt) step)
           ((store.slot.end, x) ∷ []) (fits, tt) (refl, refl) (spelled_is store.slot.end x) store' (slot' ∙ slot_is) index (ap (λ (view : SpaceView). view.runs) space) (renamed_tables store' slot' index names branches history places space collection unswept above)
-          (places ∙ sym (append-nil store.places.items) ∙ ap (λ (ps : List ℕ). store.places.items ++ ps) (sym (no_place r store.slot.end x may))) tt
+          (places ∙ sym (append-nil store.places.items) ∙ ap (λ (ps : List ℕ). store.places.items ++ ps) (sym (no_place r store.slot.end x may))) (renamed_collects b store' slot' collection (renamed_tables store' slot' index names branches history places space collection unswept above) step) tt
 
       -- each record stays
       pub stays_renamed : (b : Told) (store' : Store) (q : Repository) → Step b (Ok tt) → (now : Holds store' b q) → RecordsStay (image_records held) (image_records now)

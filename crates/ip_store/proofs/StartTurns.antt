@@ -4,7 +4,7 @@
 --     started_phase      what the collection is to the slot and to the repository
 --     starts_none      nothing was done.      starts_noted, begins_noted      of the store that noted it, what was done.      begins_stays      each record stays
 use Rattle.std.proofs.Common.{◌≡◌, ◌⊎◌, inl, inr, ℕ, [], ◌∷◌, Option, Some, None, true, false, refl, sym, ◌∙◌, ap, subst, arith}
-use Rattle.std.specs.Prelude.{Result, Ok, Err, IsSomeAnd, IsTrue, nat_le, nat_lt, ◌&&◌}
+use Rattle.std.specs.Prelude.{Result, Ok, Err, IfSome, IsSomeAnd, IsTrue, nat_le, nat_lt, ◌&&◌}
 use Rattle.ip_base.specs.declared.limit.Limit.{Limit}
 use Rattle.ip_ground.specs.Told.{Told}
 use Rattle.ip_ground.proofs.Spans.{only_nowhere}
@@ -24,7 +24,7 @@ use Rattle.ip_store.specs.declared.collection.Collection.{Collection}
 use Rattle.ip_store.specs.declared.starting.CollectFault.{CollectFault}
 use Rattle.ip_store.specs.declared.starting.Start.{Start}
 use Rattle.ip_store.specs.declared.store.Store.{Store}
-use Rattle.ip_store.specs.Collecting.{phase_of, IsPhaseOf}
+use Rattle.ip_store.specs.Collecting.{IsGoing, Collects, phase_of, IsPhaseOf}
 use Rattle.ip_store.specs.Commits.{Turns, conditions_of, met_nothing}
 use Rattle.ip_store.specs.Publishing.{MayChange}
 use Rattle.ip_store.specs.Starting.{branch_name_at, met_by_start, Replies, AnswersStart, IsBegun, RefusesStart, IsStart, Begins, StartsCollection, table_of}
@@ -135,8 +135,8 @@ module _ (r : Repository) (target : Target) (number : ℕ) (named : resolve r ta
 abbrev pub running : Store → Option Collection → Met → Store
 running store o met = record store { collection = o; met = met }
 
-pub running_tables : (store : Store) (r : Repository) (o : Option Collection) (met : Met) → IsPhaseOf store.slot r o → IsOf store r → IsOf (running store o met) r
-running_tables store r o met phase of = record {
+pub running_tables : (store : Store) (r : Repository) (o : Option Collection) (met : Met) → IsPhaseOf store.slot r o → IfSome o (IsGoing store.slot.floor store.places.items store.unswept store.space) → IsOf store r → IsOf (running store o met) r
+running_tables store r o met phase going of = record {
   slot = of.slot;
   index = of.index;
   floor = of.floor;
@@ -153,17 +153,21 @@ running_tables store r o met phase of = record {
   unswept = of.unswept;
   named = of.named;
   within = of.within;
+  rising = of.rising;
+  going = going;
 }
 
-pub running_holds : (store : Store) (r : Repository) (o : Option Collection) (met : Met) (told : Told) → IsPhaseOf store.slot r o → Holds store told r → Holds (running store o met) told r
-running_holds store r o met told phase held = record {
-  tables = running_tables store r o met phase held.tables;
+pub running_holds : (store : Store) (r : Repository) (o : Option Collection) (met : Met) (told : Told) → IsPhaseOf store.slot r o → IfSome o (IsGoing store.slot.floor store.places.items store.unswept store.space)
+    → (held : Holds store told r) → IfSome o (Collects told store.slot held.stands.standing.records r) → Holds (running store o met) told r
+running_holds store r o met told phase going held collects = record {
+  tables = running_tables store r o met phase going held.tables;
   stands = held.stands;
   live = held.live;
   kept = held.kept;
   pair = held.pair;
   runs = held.runs;
   places = held.places;
+  collects = collects;
 }
 
 -- ---- the answers
@@ -177,7 +181,7 @@ module _ (r : Repository) (store : Store) (number : ℕ) (of : IsOf store r) whe
   noted fault = record store { met = met_by_start (Err fault) }
 
   noted_tables : (fault : CollectFault) → IsOf (noted fault) r
-  noted_tables fault = running_tables store r store.collection (met_by_start (Err fault)) of.phase of
+  noted_tables fault = running_tables store r store.collection (met_by_start (Err fault)) of.phase of.going of
 
   abbrev Refusal : CollectFault → Type 0
   Refusal fault = Replies r (Err fault) (AnswersStart r number store.collection (noted fault))
@@ -239,7 +243,7 @@ module _ (r : Repository) (number : ℕ) (before : Option Collection) (idle : be
   failed of target named = record {
     turns = λ work. subst (λ (p : Option Collection). Turns (state_at r (phase_of before) work) (Command.Collect target) (met_by_start (Err CollectFault.Start)) Reply.StartFault (state_at r (phase_of p) work)) (idle ∙ sym none)
         (turns_unstarted r target number named before work idle free);
-    tables = running_tables store r store.collection (met_by_start (Err CollectFault.Start)) of.phase of;
+    tables = running_tables store r store.collection (met_by_start (Err CollectFault.Start)) of.phase of.going of;
   }
 
   -- of the two faults that it ends with
@@ -251,14 +255,14 @@ module _ (r : Repository) (number : ℕ) (before : Option Collection) (idle : be
   failed_answers (CollectFault.Limit limit) is of = no_end (CollectFault.Limit limit) (λ e. absurd (cc (e))) (λ e. absurd (cc (e))) is
   failed_answers CollectFault.Memory is of = no_end CollectFault.Memory (λ e. absurd (cc (e))) (λ e. absurd (cc (e))) is
 
-  pub begun_answers : IsOf store r → (job : Job) → IsPhaseOf store.slot r (Some (record { commit = number; job = job; exit = None })) → AnswersStart r number before (running store (Some (record { commit = number; job = job; exit = None })) met_nothing) (Reply.Started (name_at r number))
-  begun_answers of job phase target named = record {
+  pub begun_answers : IsOf store r → (job : Job) → IsPhaseOf store.slot r (Some (record { commit = number; job = job; exit = None; check = None })) → IsGoing store.slot.floor store.places.items store.unswept store.space (record { commit = number; job = job; exit = None; check = None }) → AnswersStart r number before (running store (Some (record { commit = number; job = job; exit = None; check = None })) met_nothing) (Reply.Started (name_at r number))
+  begun_answers of job phase going target named = record {
     turns = λ work. turns_begun r target number named before work idle free;
-    tables = running_tables store r (Some (record { commit = number; job = job; exit = None })) met_nothing phase of;
+    tables = running_tables store r (Some (record { commit = number; job = job; exit = None; check = None })) met_nothing phase going of;
   }
 
-pub started_phase : (r : Repository) (store : Store) (number : ℕ) (start : Start) (s : Slot) → IsTrue (is_retained r number) → held_branch r number ≡ None → IsStart r store number start → s ≡ start.slot → IsPhaseOf s r (Some (record { commit = number; job = start.job; exit = None }))
-started_phase r store number start s retained free is same = subst (λ (t : Slot). IsPhaseOf t r (Some (record { commit = number; job = start.job; exit = None }))) (sym same) (record {
+pub started_phase : (r : Repository) (store : Store) (number : ℕ) (start : Start) (s : Slot) → IsTrue (is_retained r number) → held_branch r number ≡ None → IsStart r store number start → s ≡ start.slot → IsPhaseOf s r (Some (record { commit = number; job = start.job; exit = None; check = None }))
+started_phase r store number start s retained free is same = subst (λ (t : Slot). IsPhaseOf t r (Some (record { commit = number; job = start.job; exit = None; check = None }))) (sym same) (record {
   retained = retained;
   heads = none_below r number free;
   told = is.job.of;
@@ -299,13 +303,14 @@ pub begins_noted : (r : Repository) (store now : Store) (o : Option Collection) 
 begins_noted r store now o met old new none is = record {
   slot = is.slot;
   records = λ q before after. is.records q before (record {
-    tables = running_tables (running now o met) q now.collection now.met (subst (IsPhaseOf now.slot q) (sym none) tt) after.tables;
+    tables = running_tables (running now o met) q now.collection now.met (subst (IsPhaseOf now.slot q) (sym none) tt) (subst (λ (p : Option Collection). IfSome p (IsGoing now.slot.floor now.places.items now.unswept now.space)) (sym none) tt) after.tables;
     stands = after.stands;
     live = after.live;
     kept = after.kept;
     pair = after.pair;
     runs = after.runs;
     places = after.places;
+    collects = subst (λ (p : Option Collection). IfSome p (Collects new now.slot after.stands.standing.records q)) (sym none) tt;
   });
 }
 

@@ -1,6 +1,7 @@
 -- How a collection begins: what stands against it.
 --     Below r number rest place      no branch before this place is below the number, and these are the ones from there on
 --     below_first, below_next      at the first one, and past one that isn't.      below_found, below_none      at one that is, and past the last
+--     place_within      each commit's record lies where it may
 --     table_there      the record that is made of the store's branches.      planned      what will be done
 use Rattle.std.proofs.Common.{◌≡◌, ℕ, zero, suc, ◌+◌, ◌<◌, ◌≤◌, Bool, true, false, List, [], ◌∷◌, map, length, Option, Some, None, refl, sym, ◌∙◌, ap, subst, arith, cond, Vec}
 use Rattle.std.specs.Prelude.{◌-◌, ◌^◌, ◌↔◌, All, IsSomeAnd, Ok, nat_lt, slice_get}
@@ -79,7 +80,7 @@ pub table_there : (r : Repository) (store : Store) → IsOf store r → (x : Rec
 table_there r store of x is = is ∙ ap (λ m. Record.BranchTable (map branch_row m.entries)) (sym of.branches)
 
 -- each commit's record lies where it may
-place_within : (P : ℕ → Type 0) (places : List ℕ) (k at : ℕ) → All P places → slice_get places k ≡ Some at → P at
+pub place_within : (P : ℕ → Type 0) (places : List ℕ) (k at : ℕ) → All P places → slice_get places k ≡ Some at → P at
 place_within P places k at all is = by places k (recursion_from_All P places all) is
   where
     by : (places : List ℕ) (k : ℕ) → AllByRecursion P places → slice_get places k ≡ Some at → P at

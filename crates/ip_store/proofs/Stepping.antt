@@ -4,7 +4,7 @@
 --     same_tables, same_holds, same_changes, same_appends      a store with the same tables.      changes_none      the relation of a call that was refused
 --     same_can_step, same_step      what a step asks and does, of a slot and bytes that are the same
 use Rattle.std.proofs.Common.{◌≡◌, ◌≢◌, ◌⊎◌, inl, inr, ℕ, ◌+◌, ◌-◌, ◌<◌, ◌≤◌, List, ◌++◌, length, refl, sym, ◌∙◌, ap, subst, arith, length-append}
-use Rattle.std.specs.Prelude.{Option, Some, Result, Ok, Err, All, map}
+use Rattle.std.specs.Prelude.{Option, Some, IfSome, Result, Ok, Err, All, map}
 use Rattle.std.specs.List.{AllByRecursion}
 use Rattle.std.proofs.lemmas.Bool.{cases_lt}
 use Rattle.std.proofs.lemmas.List.Elements.{filter_map-append, All-from_recursion}
@@ -14,7 +14,7 @@ use Rattle.ip_ground.specs.declared.names.FileName.TheVariants.{Control, Chunk, 
 use Rattle.ip_ground.specs.declared.names.GroundFault.{GroundFault}
 use Rattle.ip_ground.specs.Contents.{Content, Image, Possible, bytes_of}
 use Rattle.ip_ground.specs.Custody as custody
-use Rattle.ip_ground.specs.Told.{Told, NoFile, KeepsFile, ChangesOnly}
+use Rattle.ip_ground.specs.Told.{Told, KeepsPast, NoFile, KeepsFile, ChangesOnly}
 use Rattle.ip_ground.proofs.Durable.{kept_passes}
 use Rattle.ip_ground.proofs.Spans.{only_nowhere, only_more, lending_now, at_most}
 use Rattle.ip_spec.specs.declared.met.Met.{Met}
@@ -48,12 +48,13 @@ use Rattle.ip_store.specs.declared.collection.Unswept.{Unswept}
 use Rattle.ip_store.specs.declared.committing.StoreFault.{StoreFault}
 use Rattle.ip_store.specs.declared.store.Store.{Store}
 use Rattle.ip_store.specs.Changes.{HasAnswer, Changes, Appends}
-use Rattle.ip_store.specs.Collecting.{IsUnswept}
+use Rattle.ip_store.specs.Collecting.{IsUnswept, Collects}
 use Rattle.ip_store.specs.Publishing.{front_in, CanStep, MakesStep, IsWritten, MayChange, IsOfStore}
 use Rattle.ip_space.specs.SpaceView.{SpaceView, OnlyReads}
-use Rattle.ip_store.specs.Placed.{place_of, places_in, IsSpaceOf}
+use Rattle.ip_store.specs.Placed.{place_of, places_in, AreRising, IsSpaceOf}
 use Rattle.ip_store.specs.Store.{IsOf, OwnsPair, Holds, SameTables, image_records}
 use Rattle.ip_store.specs.Trees.{RecordsStay, OnlyLooks}
+use Rattle.ip_store.proofs.Going.{going_to, collects_to, collects_still}
 use Rattle.ip_store.proofs.Listed.{AreNewest, newest, same_rows, more_records, space_stays, pair_stays, same_list, same_records, holds_on}
 use Rattle.ip_store.proofs.NextSlot.{slot_behind, HasRoom, next_is, next_generation}
 use Rattle.ip_store.proofs.Phases.{phase_to}
@@ -77,6 +78,9 @@ unswept_same s t one other slot same is = subst (λ (v : Slot). IsUnswept v othe
 pub within_same : (s t : Slot) (places other : List ℕ) → t ≡ s → other ≡ places → All (λ at. (s.horizon ≤ at) × (at < s.end)) places → All (λ at. (t.horizon ≤ at) × (at < t.end)) other
 within_same s t places other slot same is =
     subst (λ (v : Slot). All (λ at. (v.horizon ≤ at) × (at < v.end)) other) (sym slot) (subst (All (λ at. (s.horizon ≤ at) × (at < s.end))) (sym same) is)
+
+pub rising_same : (s t : Slot) (places other : List ℕ) → t ≡ s → other ≡ places → AreRising s.horizon places → AreRising t.horizon other
+rising_same s t places other slot same is = subst (λ (v : Slot). AreRising v.horizon other) (sym slot) (subst (AreRising s.horizon) (sym same) is)
 
 -- calls that change no file leave the bytes of all records, and the live pair to nobody else
 still_space : (s : Slot) (a b : Told) → ChangesOnly NoFile a b → OwnsPair a s → SameSpace s a.held b.held
@@ -104,6 +108,8 @@ module _ (store store' : Store) (same : SameTables store store') where
     unswept = unswept_same store.slot store'.slot store.unswept store'.unswept same.slot same.unswept of.unswept;
     named = of.named;
     within = within_same store.slot store'.slot store.places.items store'.places.items same.slot same.places of.within;
+    rising = rising_same store.slot store'.slot store.places.items store'.places.items same.slot same.places of.rising;
+    going = going_to store.slot.floor store'.slot.floor store.places.items store'.places.items store.unswept store'.unswept store.space store'.space store.collection store'.collection (ap (λ (s : Slot). s.floor) same.slot) same.places same.unswept same.space same.collection of.going;
   }
 
   pub same_holds : (r : Repository) (a : Told) → Holds store a r → Holds store' a r
@@ -115,11 +121,13 @@ module _ (store store' : Store) (same : SameTables store store') where
     pair = subst (OwnsPair a) (sym same.slot) held.pair;
     runs = ap (λ (space : SpaceView). space.runs) same.space ∙ held.runs;
     places = same.places ∙ held.places;
+    collects = collects_to a store.slot store'.slot held.stands.standing.records r store.collection store'.collection same.slot same.collection held.collects;
   }
 
   -- and where no file was changed
   pub still_holds : (r : Repository) (a b : Told) → ChangesOnly NoFile a b → Holds store a r → Holds store' b r
-  still_holds r a b only held = same_holds r b (holds_on store a r held b ((only.others Control (λ none. none)).held (λ x. x)) (still_space store.slot a b only held.pair) (kept_passes Control own a b only held.kept) (still_pair store.slot a b only held.pair))
+  still_holds r a b only held = same_holds r b (holds_on store a r held b ((only.others Control (λ none. none)).held (λ x. x)) (still_space store.slot a b only held.pair) (kept_passes Control own a b only held.kept) (still_pair store.slot a b only held.pair)
+      (collects_still a b store.slot held.stands.standing.records r store.collection only.goes only.lending (λ file n of. only.others file (λ none. none)) held.collects))
 
   -- by the same records
   pub still_records : (q r : Repository) (a b : Told) → ChangesOnly NoFile a b → (held : Holds store a q) (still : Holds store' b r) → image_records still ≡ image_records held
@@ -196,11 +204,11 @@ chunks_left size from end bytes told image ends left holds at low high content h
     (λ may. left (at - from) inside content may ∙ sym (holds (at - from) inside)) here
 
 -- where no moment passed, nothing is pending that was not
-none_since : (a b : Told) (these : FileName → Type 0) → ChangesOnly these a b → b.moment ≤ a.moment → AllFlushed (crash_now a) → AllFlushed (crash_now b)
-none_since a b these only still flushed =
-    let same : b.moment ≡ a.moment = omega (arith, still, only.goes.later) in
-    flushed_less (crash_now a) (crash_now b) (λ file content left. subst (λ (t : ℕ). a.may_leave t file content) same (only.goes.left b.moment file content still left))
-    (λ attempt. lending_now a b only.goes attempt (only.lending attempt)) flushed
+pub none_since : (a b : Told) → KeepsPast a b → b.moment ≤ a.moment → AllFlushed (crash_now a) → AllFlushed (crash_now b)
+none_since a b goes still flushed =
+    let same : b.moment ≡ a.moment = omega (arith, still, goes.later) in
+    flushed_less (crash_now a) (crash_now b) (λ file content left. subst (λ (t : ℕ). a.may_leave t file content) same (goes.left b.moment file content still left))
+    (λ attempt. goes.lending b.moment attempt still ∙ ap (λ (t : ℕ). a.lending_at t attempt) same) flushed
 
 -- The slot behind it may draw attempts.
 module _ (r after : Repository) (store : Store) (attempt commits : ℕ) (bytes : List ℕ) (of : IsOf store r) (room : HasRoom store.slot attempt (length bytes) commits) (a : Told) (held : Holds store a r) where
@@ -304,7 +312,7 @@ module _ (r after : Repository) (store : Store) (attempt commits : ℕ) (bytes :
   pub flushed_now : (b : Told) (res : Result (Unit {0}) GroundFault) → Step b res → NothingPending a → AllFlushed (crash_now b)
   flushed_now b res step pending = elim (cases_lt a.moment b.moment) [
     | inl later ↦ flushed_at b res step pending b.moment later (omega arith)
-    | inr still ↦ none_since a b (IsWritten store.slot.chunk store.slot.end) step.only still (recovers_now store r a held pending).flushed
+    | inr still ↦ none_since a b step.only.goes still (recovers_now store r a held pending).flushed
   ]
 
   pub keeps_space : (b : Told) (res : Result (Unit {0}) GroundFault) → Step b res → NothingPending a → (u : Slot) → HasLive u a.held → KeepsSpace u a b
@@ -349,7 +357,8 @@ module _ (r after : Repository) (store : Store) (attempt commits : ℕ) (bytes :
             (All-from_recursion (λ (x : ℕ × Record). Fits next.version x.1) more (subst (λ (v : ℕ). AllByRecursion (λ (x : ℕ × Record). Fits v x.1) more) (sym (newest store.slot of.slot)) fit))
             (subst (λ (bs : List ℕ). AddsBytes store.slot bs a.held b.held) spelled (adds_now b step))
 
-        module _ (store' : Store) (slot : store'.slot ≡ next) (index : store'.index ≡ 1 - store.index) (space : store'.space.runs ≡ store.space.runs) (tables : IsOf store' after) (places : store'.places.items ≡ store.places.items ++ places_in more) where
+        module _ (store' : Store) (slot : store'.slot ≡ next) (index : store'.index ≡ 1 - store.index) (space : store'.space.runs ≡ store.space.runs) (tables : IsOf store' after) (places : store'.places.items ≡ store.places.items ++ places_in more)
+            (collects : (B : Standing b.held) → IfSome store'.collection (Collects b store'.slot B.records after)) where
           live_now : IsLive (bytes_of (b.held Control)) store'.index store'.slot
           live_now = subst (λ (i : ℕ). IsLive (bytes_of (b.held Control)) i store'.slot) (sym index)
               (subst (λ (u : Slot). IsLive (bytes_of (b.held Control)) (1 - store.index) u) (sym slot) (is_live (b.held Control) (1 - store.index) next step.held.0 next_there))
@@ -363,6 +372,7 @@ module _ (r after : Repository) (store : Store) (attempt commits : ℕ) (bytes :
             pair = subst (OwnsPair b) (sym slot) (λ live. record { mapping = (mapping_stays b (Ok tt) step).own (held.pair live).mapping; prefix = (prefix_stays b (Ok tt) step).own (held.pair live).prefix });
             runs = space ∙ held.runs ∙ ap (map run_of) (sym (same_rows a.held b.held store.slot next old_has (has_now b step) generation held.stands.standing stands_now.standing (adds_now b step).same.mapping));
             places = places ∙ ap (λ (ps : List ℕ). ps ++ places_in more) held.places ∙ sym (filter_map-append place_of held.stands.standing.records more) ∙ ap places_in (sym (list_after stands_now.standing));
+            collects = collects stands_now.standing;
           }
 
           pending_now : NothingPending a → NothingPending b

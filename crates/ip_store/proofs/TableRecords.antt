@@ -1,9 +1,10 @@
 -- The record of all branches as they are.
 --     table_may, table_same      it may stand behind the records of the repository, and changes no branch
 --     table_fits      it is within its bounds
+--     all_heads      what is so of the head of each name is so of each head
 --     none_below      where none is held below a number, no branch is below it
 use Rattle.std.proofs.Common.{◌≡◌, ℕ, ◌*◌, ◌<◌, ◌≤◌, ◌^◌, Bool, true, false, cond, T, List, [], ◌∷◌, ◌++◌, map, length, Option, Some, None, refl, sym, ◌∙◌, ap, subst, arith, length-append}
-use Rattle.std.specs.Prelude.{◌&&◌, IfSome, flat_map, nat_lt, suc}
+use Rattle.std.specs.Prelude.{◌&&◌, All, IfSome, flat_map, nat_lt, suc}
 use Rattle.std.specs.Option.{option_map}
 use Rattle.std.specs.Ordering.{is_eq, is_lt}
 use Rattle.std.specs.declared.cmp.Ordering.{Ordering}
@@ -14,7 +15,7 @@ use Rattle.std.specs.List.{AllByRecursion}
 use Rattle.std.proofs.lemmas.Bool.Decides.{nat_tests}
 use Rattle.std.proofs.lemmas.List.Elements.{All-from_recursion, recursion_from_All}
 use Rattle.ip_spec.specs.declared.record.Branch.{Branch}
-use Rattle.ip_spec.specs.Map.{get, from_entries}
+use Rattle.ip_spec.specs.Map.{Map, get, from_entries}
 use Rattle.ip_spec.specs.Path.{Bytes, bytes_cmp}
 use Rattle.ip_spec.specs.Record.{Fits, IsBranchName, IsU64, are_rising, body, short_text, u16, u64}
 use Rattle.ip_spec.specs.Repository.{Repository}
@@ -84,6 +85,14 @@ each_found (x ∷ es) sorted = (
   ap (λ o. cond (is_eq o) (Some x.1) (find bytes_cmp x.0 es)) (step_itself x.0),
   found_later x es es (both_first _ _ sorted) (each_found es (both_second _ _ sorted)),
 )
+
+heads_found : (P : ℕ → Type 0) (all es : Entries) → ((name : Bytes) → IfSome (find bytes_cmp name all) P) → AllByRecursion (IsFound all) es → AllByRecursion (λ (e : Bytes × ℕ). P e.1) es
+heads_found P all [] each found = tt
+heads_found P all (e ∷ es) each (first, rest) = (subst (λ (o : Option ℕ). IfSome o P) first (each e.0), heads_found P all es each rest)
+
+-- so what is so of the head of each name is so of each head
+pub all_heads : (P : ℕ → Type 0) (m : Map bytes_cmp ℕ) → ((name : Bytes) → IfSome (get m name) P) → All (λ (e : Bytes × ℕ). P e.1) m.entries
+all_heads P m each = All-from_recursion (λ (e : Bytes × ℕ). P e.1) m.entries (heads_found P m.entries m.entries each (each_found m.entries m.sorted))
 
 -- ---- within bounds
 

@@ -42,16 +42,6 @@ module _ (store : Store) (r : Repository) (of : IsOf store r) where
   pub not_there : (h : Hash) → is_some (position (λ n. same_bytes n h) store.names) ≡ false → not_existing r h ≡ Ok tt
   not_there h is = ap (λ b. refuse_if b (Reply.Existing h)) (named_some h ∙ is)
 
-  -- a branch is at a retained commit
-  pub head_retained : (name : Bytes) (n : ℕ) → get store.branches name ≡ Some n → IsTrue (is_retained r n)
-  head_retained name n is =
-      let found : get r.branches name ≡ Some n = ap (λ m. get m name) of.branches ∙ is in
-      let inside : (store.slot.floor ≤ n) × (n < store.slot.next) = subst (λ o. IfSome o (λ k. (store.slot.floor ≤ k) × (k < store.slot.next))) found (of.retained.each name) in
-      within r.floor n (next r) (subst (λ (k : ℕ). k ≤ n) (sym of.floor) inside.0) (subst (λ (k : ℕ). n < k) (sym of.next) inside.1)
-    where
-      within : (low n high : ℕ) → low ≤ n → n < high → (nat_le low n && nat_lt n high) ≡ true
-      within low n high l h = grind (arith, nat_tests)
-
   split : (low n high : ℕ) → (nat_le low n && nat_lt n high) ≡ true → (low ≤ n) × (n < high)
   split low n high e = (grind (arith, nat_tests), grind (arith, nat_tests))
 

@@ -5,8 +5,16 @@
 --     IsPhaseOf s r collection      what a collection is to the slot and to the repository
 --     child_of collection      the attempt of the child that is held
 --     IsUnswept s u      what a store with this live slot has of what is unswept.      carrying s u, carried store      the live slot with that
+--     IsGoing floor places u space c      where the record of its commit lies, that a sweep begins at its attempt at most, and the check that it keeps
+--     until end records      those below an end.      HasEnded told records c      its child, and how far its check is.      IsOfChild told records c exit      whose the attempt is
+--     Collects told s space records r c      where the ground tells: what the swap asks of the records, and what was checked of them and of the files
 --     IsAbove collection x      the record puts no branch below the commit of the collection
-use Rattle.std.specs.Prelude.{◌≡◌, ◌≢◌, ℕ, ◌+◌, ◌/◌, ◌≤◌, Option, Some, None, IsTrue, IfSome, Ok}
+use Rattle.std.specs.Prelude.{◌≡◌, ◌≢◌, ◌⊎◌, ℕ, ◌+◌, ◌-◌, ◌/◌, ◌≤◌, List, filter, Option, Some, None, is_some, IsTrue, IsSome, IfSome, Ok, nat_lt, slice_get}
+use Rattle.ip_ground.specs.declared.names.FileName.TheVariants.{Prefix, Mapping}
+use Rattle.ip_ground.specs.declared.names.Reaped.{Reaped}
+use Rattle.ip_ground.specs.Contents.{Image}
+use Rattle.ip_ground.specs.Custody.{lent}
+use Rattle.ip_ground.specs.Told.{Told, lending, IsSettledAs}
 use Rattle.ip_spawn.specs.Jobs.{IsValid}
 use Rattle.ip_spawn.specs.declared.job.Job.{Job}
 use Rattle.ip_spec.specs.declared.record.Record.{Record}
@@ -17,7 +25,13 @@ use Rattle.ip_spec.specs.Map.{get}
 use Rattle.ip_spec.specs.Path.{Bytes}
 use Rattle.ip_spec.specs.Repository.{Repository, is_retained}
 use Rattle.ip_spec.specs.Step.{Refused, below, unless_some}
+use Rattle.ip_spec.specs.TreeAt.{Records, present}
 use Rattle.ip_image.specs.declared.slot.Slot.{Slot}
+use Rattle.ip_image.specs.Collected.{IsCollectable}
+use Rattle.ip_image.specs.Collection.{found_in}
+use Rattle.ip_space.specs.SpaceView.{SpaceView, grown}
+use Rattle.ip_check.specs.CheckView.{CheckView}
+use Rattle.ip_check.specs.Checking.{IsCheck, IsChecking}
 use Rattle.ip_store.specs.declared.collection.Collection.{Collection}
 use Rattle.ip_store.specs.declared.collection.Unswept.{Unswept}
 use Rattle.ip_store.specs.declared.store.Store.{Store}
@@ -56,6 +70,35 @@ abbrev pub IsAbove : Option Collection → Record → Type 0
 IsAbove None x = Unit {0}
 IsAbove (Some c) (record_of.BranchSet number name) = c.commit ≤ number
 IsAbove (Some c) x = Unit {0}
+
+-- Over any ground. A check is kept only of a child that has ended, and of the records up to the job's end.
+pub record IsGoing (floor : ℕ) (places : List ℕ) (u : Unswept) (space : SpaceView) (c : Collection) : Type 0 where
+  pub placed : slice_get places (c.commit - floor) ≡ Some c.job.horizon
+  pub drawn : u.attempt ≤ c.job.attempt
+  pub check : IfSome c.check (λ check. IsCheck check × (check.job ≡ c.job) × (check.keep.space ≡ grown space c.job.end) × IsSome c.exit)
+
+abbrev pub until : ℕ → Records → Records
+until end records = filter (λ (x : ℕ × Record). nat_lt x.0 end) records
+
+-- Its attempt is settled, the pair as it was then, and a check that is kept is true of it.
+pub record HasEnded (told : Told) (records : Records) (c : Collection) : Type 0 where
+  pub pair : Image
+  pub settled : IsSettledAs told c.job.attempt pair
+  pub mapping : told.held (Mapping c.job.attempt) ≡ pair (Mapping c.job.attempt)
+  pub prefix : told.held (Prefix c.job.attempt) ≡ pair (Prefix c.job.attempt)
+  pub checked : IfSome c.check (IsChecking (until c.job.end records) (found_in told.held c.job.attempt))
+
+-- the attempt is lent until the exit is known
+abbrev pub IsOfChild : Told → Records → Collection → Option Reaped → Type 0
+IsOfChild told records c None = lending told c.job.attempt ≡ lent
+IsOfChild told records c (Some reaped) = HasEnded told records c
+
+-- The records up to the job's end are those that there were when it began: one begins there, or it is the end.
+pub record Collects (told : Told) (s : Slot) (records : Records) (r : Repository) (c : Collection) : Type 0 where
+  pub kept : List ℕ
+  pub collectable : IsCollectable records r s.horizon c.commit c.job.horizon c.job.end kept (is_some c.exit)
+  pub border : (c.job.end ≡ s.end) ⊎ IsSome (present records c.job.end)
+  pub child : IsOfChild told records c c.exit
 
 -- while its exit is not known
 abbrev pub child_of : Option Collection → Option ℕ

@@ -162,6 +162,7 @@ pub record IsPlan (r : Repository) (work : Work) (v : View) (branch : Bytes) (in
   pub may : MayGrow r v.map work.parents info branch
   pub within : AreWithin store.slot.version (records_of r work v branch info store)
   pub there : IsThere r work.least
+  pub stays : not_leaving_in (phase_of store.collection) work.least ≡ Ok tt
   pub turn : turned (session r (phase_of store.collection) work v) (Command.Commit branch info) (conditions_of met_nothing) ≡ committed r (phase_of store.collection) work v branch info
 
 pub record GoesOn (store : Store) (work : Work) : Type 0 where

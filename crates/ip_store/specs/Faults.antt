@@ -6,6 +6,8 @@ use Rattle.ip_store.specs.declared.opening.OpenFault.{OpenFault}
 use Rattle.ip_store.specs.declared.opening.OpenFault.TheVariants as opening
 use Rattle.ip_store.specs.declared.starting.CollectFault.{CollectFault}
 use Rattle.ip_store.specs.declared.starting.CollectFault.TheVariants as starting
+use Rattle.ip_store.specs.declared.finishing.FinishFault.{FinishFault}
+use Rattle.ip_store.specs.declared.finishing.FinishFault.TheVariants as finishing
 use Rattle.ip_store.specs.declared.committing.StoreFault.{StoreFault}
 use Rattle.ip_store.specs.declared.committing.StoreFault.TheVariants as store
 
@@ -36,3 +38,12 @@ ground_start (starting.Held place) = false
 ground_start (starting.Limit limit) = false
 ground_start starting.Start = false
 ground_start starting.Memory = false
+
+abbrev pub ground_finish : FinishFault → Bool
+ground_finish finishing.Ground = true
+ground_finish finishing.Idle = false
+ground_finish finishing.Wait = false
+ground_finish (finishing.Rejected rejection) = false
+ground_finish (finishing.Limit limit) = false
+ground_finish (finishing.Damaged at) = false
+ground_finish finishing.Memory = false

@@ -14,6 +14,10 @@ pub mod Collecting
 pub mod Starting
 pub mod Sweeping
 pub mod Cancelling
+pub mod Finishing
+pub mod Judging
+pub mod Swapping
+pub mod Ending
 pub mod Rooted
 pub mod Store
 pub mod Walk

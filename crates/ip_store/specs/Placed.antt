@@ -1,10 +1,11 @@
 -- Where the records of a store's commits stand.
 --     places_in records      the offsets of the commit records, in their order
+--     AreRising from places      they ascend
 --     IsSpaceOf s space      a space is that of a slot's records
 --     SpellsCommit records n c m      a record spells the commit of a number, whose tree stands where it says
 --     IsCommitAt records n place m      such a record stands at a place
 --     AreCommitsAt records number places ms      each of the commits from this number on stands so, at its place
-use Rattle.std.specs.Prelude.{◌≡◌, ℕ, suc, List, [], ◌∷◌, map, filter_map, Option, Some, None}
+use Rattle.std.specs.Prelude.{◌≡◌, ℕ, suc, ◌+◌, ◌≤◌, List, [], ◌∷◌, map, filter_map, Option, Some, None}
 use Rattle.ip_spec.specs.declared.record.Record.{Record}
 use Rattle.ip_spec.specs.declared.record.CommitRecord.{CommitRecord}
 use Rattle.ip_spec.specs.Record.{name_of}
@@ -22,6 +23,11 @@ place_of (at, r) = None
 
 abbrev pub places_in : Records → List ℕ
 places_in records = filter_map place_of records
+
+-- ascending, from here on
+abbrev pub AreRising : ℕ → List ℕ → Type 0
+AreRising from [] = Unit {0}
+AreRising from (at ∷ places) = (from ≤ at) × AreRising (at + 1) places
 
 pub record IsSpaceOf (s : Slot) (space : SpaceView) : Type 0 where
   pub layout : space.layout ≡ layout_of s

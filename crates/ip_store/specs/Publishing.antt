@@ -3,13 +3,14 @@
 --     StandsAs size from live bytes image      this slot is live, and these bytes stand in the chunks
 --     CanStep end slot fields told      what a step begins with
 --     MakesStep end bytes slot fields result old new      what it does.      IsWritten size end file      which files it may change
+--     TurnsGate slot fields result old new      what making a slot live does that names no more bytes
 --     MayChange image file      those that a call may change which keeps the image's store.      IsOfStore file      and any such call
 use Rattle.std.specs.Prelude.{◌≡◌, ◌⊎◌, ℕ, ◌-◌, ◌≤◌, List, ◌++◌, Result, OnOk}
 use Rattle.ip_ground.specs.declared.names.FileName.{FileName}
 use Rattle.ip_ground.specs.declared.names.FileName.TheVariants.{Control}
 use Rattle.ip_ground.specs.declared.names.GroundFault.{GroundFault}
 use Rattle.ip_ground.specs.Contents.{Image}
-use Rattle.ip_ground.specs.Told.{Told, EachImage, ChangesOnly, IsSynced}
+use Rattle.ip_ground.specs.Told.{Told, EachImage, EachSince, Only, ChangesOnly, IsSynced}
 use Rattle.ip_image.specs.declared.slot.Slot.{Slot}
 use Rattle.ip_image.specs.Slot.{slot_bytes}
 use Rattle.ip_image.specs.Pending.{HasLive}
@@ -55,3 +56,10 @@ pub record MakesStep (end : ℕ) (bytes : List ℕ) (slot : ℕ) (fields : Slot)
   pub images : Leaves fields.chunk fields.horizon (front_in fields end old.held) old
       → EachImage old new (λ said image. StandsAs fields.chunk fields.horizon (live_of (control old)) (front_in fields end old.held) image
       ⊎ StandsAs fields.chunk fields.horizon (live_slot slot (slot_bytes fields)) (front_in fields end old.held ++ bytes) image)
+
+-- At every moment the live slot is the one from before or this one. Ok: it is the latter.
+pub record TurnsGate (slot : ℕ) (fields : Slot) (result : Result (Unit {0}) GroundFault) (old new : Told) : Type 0 where
+  pub only : ChangesOnly (Only Control) old new
+  pub live : EachSince old new Control (λ content. (live_of content ≡ live_of (control old)) ⊎ (live_of content ≡ live_slot slot (slot_bytes fields)))
+  pub kept : OnOk result (IsSynced new Control)
+  pub opens : OnOk result (live_of (control new) ≡ live_slot slot (slot_bytes fields))

@@ -4,6 +4,7 @@
 --     met_by_start result      what was met
 --     AnswersCall r running command store reply      the reply and the next phase are the machine's, for what was met, and the repository stays
 --     AnswersStart r number running store reply      so for a collection at this commit, whatever names it
+--     new_collection number job      the collection then
 --     IsBegun result      the attempt was drawn, whether a child was started or not.      IsTurnedDown result      nothing was done
 --     LimitsStart end result store      which limit is met.      IsFree r number store      nothing stands against a collection there.      RefusesStart r number store fault      or this
 --     begun_slot s length      the slot behind the record of branches
@@ -77,6 +78,10 @@ pub record AnswersCall (r : Repository) (running : Option Collection) (command :
 
 abbrev pub AnswersStart : Repository → ℕ → Option Collection → Store → Reply → Type 0
 AnswersStart r number running store reply = (target : Target) → resolve r target ≡ Ok number → AnswersCall r running (Command.Collect target) store reply
+
+-- the collection, while its child is not heard of
+abbrev pub new_collection : ℕ → Job → Collection
+new_collection number job = record { commit = number; job = job; exit = None; check = None }
 
 -- behind the durable step
 abbrev pub IsBegun : {A : Type 0} → Result A CollectFault → Type 0

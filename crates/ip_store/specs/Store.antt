@@ -1,10 +1,10 @@
 -- What an open store holds.
---     IsOf store r      its tables are the repository's, in its history parents come first, and a collection goes on at one of its commits, if any does
+--     IsOf store r      its tables are the repository's, in its history parents come first, and a collection goes on at one of its commits, if any does, and is kept with its check
 --     OwnsPair told s      no child changes the live pair of a slot.      OwnsLive told      nor that of the slot that is live
---     Holds store told r      so are its tables, and so is what the ground reads as; its places are those of the commits' records
+--     Holds store told r      so are its tables, and so is what the ground reads as; its places are those of the commits' records; and a collection that goes on may be accepted, once it is checked
 --     SameTables store other      they differ in what was met alone.      place_of_commit store number      where the record of a commit lies
 --     image_records holds      the records of the image that it holds, which are among those of its space
-use Rattle.std.specs.Prelude.{◌≡◌, ◌≢◌, ℕ, ◌-◌, ◌<◌, ◌≤◌, length, map, All, Option, slice_get}
+use Rattle.std.specs.Prelude.{◌≡◌, ◌≢◌, ℕ, ◌-◌, ◌<◌, ◌≤◌, length, map, All, Option, IfSome, slice_get}
 use Rattle.ip_ground.specs.declared.names.FileName.TheVariants.{Control}
 use Rattle.ip_ground.specs.Told.{Told, IsSynced}
 use Rattle.ip_spec.specs.Record.{IsHash, IsBranchName}
@@ -18,9 +18,9 @@ use Rattle.ip_image.specs.Standing.{StandsFor, AreRetained}
 use Rattle.ip_image.specs.Virtual.{run_of}
 use Rattle.ip_history.specs.History.{HasParentsFirst, history_of}
 use Rattle.ip_space.specs.Pair.{IsOwnPair}
-use Rattle.ip_store.specs.Collecting.{IsPhaseOf, IsUnswept}
+use Rattle.ip_store.specs.Collecting.{IsPhaseOf, IsUnswept, IsGoing, Collects}
 use Rattle.ip_store.specs.Control.{control_in}
-use Rattle.ip_store.specs.Placed.{places_in, IsSpaceOf}
+use Rattle.ip_store.specs.Placed.{places_in, AreRising, IsSpaceOf}
 use Rattle.ip_store.specs.declared.store.Store.{Store}
 
 pub record IsOf (store : Store) (r : Repository) : Type 0 where
@@ -38,9 +38,11 @@ pub record IsOf (store : Store) (r : Repository) : Type 0 where
   pub placed : length store.places.items ≡ length r.commits
   pub phase : IsPhaseOf store.slot r store.collection
   pub unswept : IsUnswept store.slot store.unswept
+  pub going : IfSome store.collection (IsGoing store.slot.floor store.places.items store.unswept store.space)
   -- each name has the form of one, and each commit's record lies from the horizon on
   pub named : All (λ e. IsBranchName e.0) r.branches.entries
   pub within : All (λ at. (store.slot.horizon ≤ at) × (at < store.slot.end)) store.places.items
+  pub rising : AreRising store.slot.horizon store.places.items
 
 abbrev pub OwnsPair : Told → Slot → Type 0
 OwnsPair told s = s.live ≢ 0 → IsOwnPair told (layout_of s)
@@ -57,6 +59,7 @@ pub record Holds (store : Store) (told : Told) (r : Repository) : Type 0 where
   pub runs : store.space.runs ≡ map run_of stands.standing.rows
   -- the records of the image are those of the space, so that there each commit's record stands at its place, and its tree where that says
   pub places : store.places.items ≡ places_in stands.standing.records
+  pub collects : IfSome store.collection (Collects told store.slot stands.standing.records r)
 
 abbrev pub image_records : {store : Store} {told : Told} {r : Repository} → Holds store told r → ℕ → Option Record
 image_records holds = present holds.stands.standing.records

@@ -6,13 +6,14 @@
 --     SweepsFiles these left old new      what removals of these files do
 --     NeverWritten old new file      none but its child wrote it.      KeepsSettled told      each file of a settled attempt is what it was then, or gone.      KeepsFiles old new      of all files of attempts
 --     IsApart s file      no record of the slot lies in the file, nor the slot
---     ChangesFor attempt these old new      no other file changes, and no custody but this attempt's
-use Rattle.std.specs.Prelude.{◌≡◌, ◌≢◌, ◌⊎◌, ◌==◌, ℕ, ◌-◌, ◌/◌, ◌^◌, ◌<◌, ◌≤◌, List, length, Contains, None, Bool, if◌then◌else◌}
+--     ChangesBeside attempt these old new      no other file changes, and no custody but this attempt's.      ChangesFor attempt these old new      nor this one more than once
+--     EndsTo before now      how custody goes on while a child ends and its files are synced.      EndsFor attempt these old new      so does this attempt's
+use Rattle.std.specs.Prelude.{◌≡◌, ◌≢◌, ◌⊎◌, ◌==◌, ℕ, ◌-◌, ◌/◌, ◌^◌, ◌<◌, ◌≤◌, List, length, Contains, None, Bool, IsTrue, if◌then◌else◌}
 use Rattle.ip_ground.specs.declared.names.FileName.{FileName}
 use Rattle.ip_ground.specs.declared.names.FileName.TheVariants.{Control, Chunk, Prefix, Mapping, Done}
 use Rattle.ip_ground.specs.Contents.{Content, Image}
 use Rattle.ip_ground.specs.Custody as custody
-use Rattle.ip_ground.specs.Custody.{IsOfAttempt, settled, custody_of}
+use Rattle.ip_ground.specs.Custody.{Custody, own, lent, settled, custody_of, IsOfAttempt}
 use Rattle.ip_ground.specs.Told.{Told, lending, ChangesLeft, KeepsPast, KeepsFile, KeepsSaid, KeepsCustody, TurnsCustody, ChangesOnly, IsForeign, IsLoose}
 use Rattle.ip_image.specs.declared.slot.Slot.{Slot}
 use Rattle.ip_store.specs.declared.collection.Unswept.{Unswept}
@@ -68,12 +69,36 @@ IsApart s (Mapping n) = n ≢ s.live
 IsApart s (Done n) = Unit {0}
 
 -- Nothing is said. The attempt's files are whoever's they are.
+pub record ChangesBeside (attempt : ℕ) (these : FileName → Type 0) (old new : Told) : Type 0 where
+  pub goes : KeepsPast old new
+  pub others : (file : FileName) → ¬ these file → ¬ IsOfAttempt attempt file → KeepsFile old new file
+  pub lending : (other : ℕ) → other ≢ attempt → KeepsCustody old new other
+  pub said : KeepsSaid old new
+
+-- Besides, at each moment the attempt is as it was before or as it is now.
 pub record ChangesFor (attempt : ℕ) (these : FileName → Type 0) (old new : Told) : Type 0 where
   pub goes : KeepsPast old new
   pub others : (file : FileName) → ¬ these file → ¬ IsOfAttempt attempt file → KeepsFile old new file
   pub turns : TurnsCustody old new attempt
   pub lending : (other : ℕ) → other ≢ attempt → KeepsCustody old new other
   pub said : KeepsSaid old new
+
+-- It stays, or a lent attempt is settled; one that is settled holds what it held, and more of its files may be synced.
+abbrev pub EndsTo : Custody → Custody → Type 0
+EndsTo own own = Unit {0}
+EndsTo lent lent = Unit {0}
+EndsTo lent (settled pair synced) = Unit {0}
+EndsTo (settled pair synced) (settled later more) = (later ≡ pair) × ((file : FileName) → IsTrue (synced file) → IsTrue (more file))
+EndsTo before now = ⊥
+
+-- At each moment since, the custody of the attempt lies between what it was before and what it is now.
+abbrev pub EndsCustody : Told → Told → ℕ → Type 0
+EndsCustody old new attempt = (moment : ℕ) → old.moment < moment → moment ≤ new.moment → EndsTo (lending old attempt) (new.lending_at moment attempt) × EndsTo (new.lending_at moment attempt) (lending new attempt)
+
+-- Over several calls behind one another, in which the attempt is settled and then its files are synced.
+pub record EndsFor (attempt : ℕ) (these : FileName → Type 0) (old new : Told) : Type 0 where
+  pub beside : ChangesBeside attempt these old new
+  pub ends : EndsCustody old new attempt
 
 -- at no moment from old on was it the child's, or loose: an attempt that was lent and settled in between has files that its child wrote
 abbrev pub NeverForeign : Told → Told → FileName → Type 0

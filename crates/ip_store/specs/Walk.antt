@@ -24,7 +24,7 @@ use Rattle.ip_space.specs.SpaceView.{SpaceView, IsReadable, byte_at, stretches_o
 use Rattle.ip_space.specs.Scanning.{IsCurrent}
 use Rattle.ip_space.specs.declared.fault.FetchFault.{FetchFault}
 use Rattle.ip_store.specs.Histories.{history_in}
-use Rattle.ip_store.specs.Placed.{places_in}
+use Rattle.ip_store.specs.Placed.{places_in, AreRising}
 use Rattle.ip_store.specs.declared.opening.OpenFault.{OpenFault}
 use Rattle.ip_store.specs.declared.walk.Found.{Found}
 use Rattle.ip_store.specs.declared.walk.Walk.{Walk}
@@ -40,6 +40,7 @@ pub record Tells (s : Slot) (found : Found) (before : Records) : Type 0 where
   pub audited : Audited found.audit before
   pub terms : found.audit.terms ≡ terms_of s
   pub places : found.places.items ≡ places_in before
+  pub rising : AreRising s.horizon found.places.items
   pub branches : found.branches ≡ named Names.branches before
   pub history : found.history ≡ history_in s.floor before
   pub parents_first : HasParentsFirst found.history

@@ -78,10 +78,9 @@ impl Store {
         ensures counts { CountsCancel result self.new.met.left (G.counts_of outside.old) (G.counts_of outside.new) }
     {
         self.met = nothing_met();
-        let Some(collection) = self.collection else {
+        let Some(collection) = self.collection.take() else {
             return Err(CancelFault::Idle);
         };
-        self.collection = None;
         let reaped = match collection.exit {
             Some(reaped) => reaped,
             None => match spawner.kill() {

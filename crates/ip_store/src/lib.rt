@@ -3,8 +3,10 @@
 
 mod branches;
 mod cancelling;
+mod checking;
 mod collection;
 mod committing;
+mod finishing;
 mod history;
 mod merging;
 mod naming;
@@ -15,6 +17,7 @@ mod publish;
 mod show;
 mod starting;
 mod store;
+mod swapping;
 mod sweeping;
 mod trees;
 mod walk;
@@ -24,6 +27,7 @@ pub use branches::Branches;
 pub use cancelling::{CancelFault, Cancelled};
 pub use collection::{Collection, Unswept};
 pub use committing::StoreFault;
+pub use finishing::{Collected, FinishFault, Looked, Rejection};
 pub use ip_spawn::chunk_allowed;
 pub use merging::Merge;
 pub use opening::OpenFault;

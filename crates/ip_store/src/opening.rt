@@ -107,7 +107,7 @@ fn slot_damaged(index: u8) -> OpenFault
 }
 
 // Where the records of a slot lie.
-fn layout_of(slot: &Slot) -> Layout
+pub(crate) fn layout_of(slot: &Slot) -> Layout
     ensures { result ≡ layout_of slot.now }
 {
     Layout {

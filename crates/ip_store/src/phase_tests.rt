@@ -67,10 +67,17 @@ fn collect(store: &mut Store, commit: u64) -> bool
     requires { (r : Repository) × IsOf store.old r }
     ensures { (r : Repository) → IsOf store.old r → IsOf store.new r }
 {
+    if commit < store.slot.floor {
+        return false;
+    }
+    if commit >= store.slot.next {
+        return false;
+    }
+    let horizon = store.place_of(Number(commit));
     let slot = &store.slot;
     let job = Job {
         attempt: slot.next_attempt - 1,
-        horizon: slot.horizon,
+        horizon,
         end: slot.end,
         chunk: slot.chunk,
         live: slot.live,
@@ -78,7 +85,10 @@ fn collect(store: &mut Store, commit: u64) -> bool
         prefix_len: slot.prefix_len,
         rows: slot.rows,
     };
-    if !job.valid() || commit < slot.floor || commit >= slot.next {
+    if !job.valid() {
+        return false;
+    }
+    if store.unswept.attempt > job.attempt {
         return false;
     }
     if !store.branches.are_within(commit, slot.next) {
@@ -88,6 +98,7 @@ fn collect(store: &mut Store, commit: u64) -> bool
         commit: Number(commit),
         job,
         exit: None,
+        check: None,
     });
     true
 }

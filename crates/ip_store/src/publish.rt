@@ -9,7 +9,9 @@ ghost use Rattle.std.specs.Prelude.{◌+◌, ◌<◌, ◌≤◌, length, IsTrue,
 ghost use Rattle.ip_base.specs.declared.limit.TheConstants.{OFFSET_MAX};
 ghost use Rattle.ip_ground.specs.Counts.{CountsAs, FileFault};
 ghost use Rattle.ip_image.specs.Slot.{IsChunkSize};
-ghost use Rattle.ip_store.specs.Publishing.{CanStep, MakesStep};
+ghost use Rattle.ip_control.specs.Changes.{control, IsReady};
+ghost use Rattle.ip_control.specs.Live.{live_of, IsNewer};
+ghost use Rattle.ip_store.specs.Publishing.{CanStep, MakesStep, TurnsGate};
 
 use ip_chunks::Chunks;
 use ip_control::{Slot, open_gate, prepare};
@@ -33,6 +35,17 @@ pub fn durable_step<G: Ground>(
     let chunks = Chunks { size: fields.chunk };
     chunks.append(outside, end, bytes)?;
     chunks.sync_range(outside, end, end + bytes.len() as u64)?;
+    prepare(outside, slot, fields)?;
+    open_gate(outside, slot)
+}
+
+/// Makes slot 0 or 1, which is not live, ready with these fields, and opens its gate. Nothing of the control file may be pending.
+/// After a fault something may be.
+pub fn turn_gate<G: Ground>(outside: &mut G, slot: u8, fields: &Slot) -> Result<(), GroundFault>
+    requires which { slot < 2 }
+    ensures does { IsTrue G.tells → IsReady slot (G.told outside.old) → IsNewer fields.now.sequence (live_of (control (G.told outside.old))) → TurnsGate slot fields.now result (G.told outside.old) (G.told outside.new) }
+    ensures counts { CountsAs FileFault result (G.counts_of outside.old) (G.counts_of outside.new) }
+{
     prepare(outside, slot, fields)?;
     open_gate(outside, slot)
 }

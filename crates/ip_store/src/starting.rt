@@ -8,9 +8,9 @@ ghost use Rattle.ip_spec.specs.Record.{spelling};
 ghost use Rattle.ip_spec.specs.declared.record.Record.TheVariants as Record;
 ghost use Rattle.ip_spec.specs.Repository.{Repository, is_retained, name_at};
 ghost use Rattle.ip_spec.specs.Step.{held_branch};
-ghost use Rattle.ip_store.specs.Collecting.{child_of};
+ghost use Rattle.ip_store.specs.Collecting.{child_of, IsGoing, Collects};
 ghost use Rattle.ip_store.specs.Faults.{ground_start};
-ghost use Rattle.ip_store.specs.Starting.{table_of, branch_name_at, branch_row, Replies, met_by_start, AnswersStart, IsBegun, IsTurnedDown, LimitsStart, IsJobAt, IsFree, RefusesStart, started_by, IsStart, Begins, StartsCollection};
+ghost use Rattle.ip_store.specs.Starting.{new_collection, table_of, branch_name_at, branch_row, Replies, met_by_start, AnswersStart, IsBegun, IsTurnedDown, LimitsStart, IsJobAt, IsFree, RefusesStart, started_by, IsStart, Begins, StartsCollection};
 ghost use Rattle.ip_store.specs.Store.{IsOf, Holds, image_records};
 ghost use Rattle.ip_store.specs.Trees.{RecordsStay};
 ghost use Rattle.ip_store.specs.declared.starting.CollectFault.TheVariants as CollectFault;
@@ -178,6 +178,10 @@ impl Store {
         requires child { P.held spawner.old ≡ None }
         ensures tables { (r : Repository) (number : ℕ) → IsOf self.old r → IsStart r self.old number start.now → IsBegun result → IsOf self.new r }
         ensures slot { IsBegun result → self.new.slot ≡ start.now.slot }
+        ensures going { IsBegun result → (r : Repository) (number : ℕ) → IsOf self.old r → IsStart r self.old number start.now →
+            IsGoing self.new.slot.floor self.new.places.items self.new.unswept self.new.space (new_collection number start.now.job) }
+        ensures collects { IsTrue G.tells → (r : Repository) (number : ℕ) → Holds self.old (G.told outside.old) r → IsStart r self.old number start.now → IsTrue (is_retained r number) → held_branch r number ≡ None → (now : Holds self.new (G.told outside.new) r) →
+            OnOk result (Collects (G.told outside.new) self.new.slot now.stands.standing.records r (new_collection number start.now.job)) }
         ensures rest { (self.new.collection ≡ None) × (self.new.met ≡ self.old.met) }
         ensures fault { IsErr result → (result ≡ Err CollectFault.Start) ⊎ (result ≡ Err CollectFault.Ground) }
         ensures child { P.held spawner.new ≡ (if is_ok result then Some start.now.job.attempt else None) }
@@ -226,7 +230,7 @@ impl Store {
         ensures turned_down { IsTurnedDown result → (outside.new ≡ outside.old) × (self.new ≡ record self.old { met = met_by_start result }) }
         ensures unasked { IsTurnedDown result ⊎ IsErrOf result CollectFault.Ground → spawner.new ≡ spawner.old }
         // One child was started, or its start failed.
-        ensures asked { IsBegun result → (job : Job) × IsJobAt self.old number self.new.slot job × OnOk result (self.new.collection ≡ Some (record { commit = number; job = job; exit = None }))
+        ensures asked { IsBegun result → (job : Job) × IsJobAt self.old number self.new.slot job × OnOk result (self.new.collection ≡ Some (new_collection number job))
             × (IsTrue P.tells → P.told spawner.new ≡ record { started = (P.told spawner.old).started ++ started_by job result; reaped = (P.told spawner.old).reaped })
             × spawn.Counts false false false (is_err result) (P.counts_of spawner.old) (P.counts_of spawner.new) }
         // Files are only touched where no collection runs, no branch is below the commit, and there is an attempt left.
@@ -252,6 +256,7 @@ impl Store {
             commit: number,
             job: start.job,
             exit: None,
+            check: None,
         });
         self.noted_start(Ok(name))
     }

@@ -1,11 +1,8 @@
-use Rattle.std.proofs.Common.{sym, subst}
-use Rattle.ip_store.specs.Store.{IsOf}
-use Rattle.ip_store.proofs.phase_tests.collect.Goals.{then-not-valid-via-then-not-valid, then-not-valid-via-else-not-valid+then-commit-slot, then-not-valid-via-else-not-valid+else-commit-slot+then-commit-slot-2}
+use Rattle.std.proofs.Common.{arith}
+use Rattle.ip_store.proofs.Phases.{retained_from}
 use Rattle.ip_store.proofs.phase_tests.collect.Goals as goal
 
-pub returns-then-not-valid : goal.returns-then-not-valid
-returns-then-not-valid c r of = elim c.then-not-valid.branch [
-  | then-not-valid-via-then-not-valid w ↦ subst (λ s. IsOf s r) (sym w.store-is) of
-  | then-not-valid-via-else-not-valid+then-commit-slot w ↦ subst (λ s. IsOf s r) (sym w.store-is) of
-  | then-not-valid-via-else-not-valid+else-commit-slot+then-commit-slot-2 w ↦ subst (λ s. IsOf s r) (sym w.store-is) of
-]
+pub place_of-horizon-requires : goal.place_of-horizon-requires
+place_of-horizon-requires c =
+    let of = c.requires.1 in
+    (c.requires.0, of, retained_from c.requires.0 c.args.commit (omega (arith, of.floor, c.if-commit-store.false)) (omega (arith, of.next, c.if-commit-store-2.false)))

@@ -1,30 +1,32 @@
+use Rattle.std.proofs.Common.{sym, ◌∙◌}
 use Rattle.ip_store.proofs.Cancels.{none_runs, idle_answers, orphan_answers, done_answers, orphan_left, orphan_stays, cut_off, swept_away, swept_stays}
 use Rattle.ip_store.proofs.store.Store.cancel.Goals as goal
 
 pub returns-in_default-clause-answered : goal.returns-in_default-clause-answered
-returns-in_default-clause-answered g c r of = idle_answers c.args.self.now r of _ (none_runs c.args.self.now.collection c.in_default.not-Some) c.nothing_met-self.ensures
+returns-in_default-clause-answered g c r of = idle_answers c.args.self.now r of _ c.take.ensures.after _ (none_runs c.args.self.now.collection (λ x e. c.in_default.not-Some x (c.take.ensures.value ∙ e))) c.nothing_met-self.ensures
 
 pub returns-in-Err-clause-answered : goal.returns-in-Err-clause-answered
-returns-in-Err-clause-answered g c r of = orphan_answers c.args.self.now r of c.in-Some.collection c.in-Some.is c.nothing_met.result c.in-None.is c.nothing_met.ensures
+returns-in-Err-clause-answered g c r of = orphan_answers c.args.self.now r of c.in-Some.collection (sym c.take.ensures.value ∙ c.in-Some.is) _ c.take.ensures.after c.nothing_met.result c.in-None.is c.nothing_met.ensures
 
 pub returns-in-Err-clause-any_moment : goal.returns-in-Err-clause-any_moment
-returns-in-Err-clause-any_moment g c told r holds x runs = orphan_left c.args.self.now r _ holds x runs _
+returns-in-Err-clause-any_moment g c told r holds x runs = orphan_left c.args.self.now r _ holds x runs _ c.take.ensures.after _
 
 pub returns-in-Err-clause-records_stay : goal.returns-in-Err-clause-records_stay
-returns-in-Err-clause-records_stay g c told ok r q held now = orphan_stays c.args.self.now r _ held c.in-Some.collection c.in-Some.is _ q now
+returns-in-Err-clause-records_stay g c told ok r q held now = orphan_stays c.args.self.now r _ held c.in-Some.collection (sym c.take.ensures.value ∙ c.in-Some.is) _ q now
 
 pub returns-in_err-settle-clause-any_moment : goal.returns-in_err-settle-clause-any_moment
 returns-in_err-settle-clause-any_moment g c told r holds x runs =
-    cut_off c.args.self.now r _ holds x runs c.in-Some.collection c.in-Some.is c.from_residual.result c.in_err-settle.field-0.0 _ _ c.from_residual.ensures.1 (c.in_err-settle.ensures.does told)
+    cut_off c.args.self.now r _ holds x runs c.in-Some.collection (sym c.take.ensures.value ∙ c.in-Some.is) _ c.take.ensures.after c.from_residual.result c.in_err-settle.field-0.0 _ _ c.from_residual.ensures.1 (c.in_err-settle.ensures.does told)
 
 pub returns-clause-answered : goal.returns-clause-answered
-returns-clause-answered g c r of = done_answers c.args.self.now r of c.in-Some.collection c.in-Some.is c.sweep-left.result c.sweep-left.new.self c.nothing_met-self.result c.nothing_met-2.result c.sweep-left.ensures.unswept c.nothing_met-2.ensures
+returns-clause-answered g c r of =
+    done_answers c.args.self.now r of c.in-Some.collection (sym c.take.ensures.value ∙ c.in-Some.is) c.take.new.self c.take.ensures.after c.sweep-left.result c.sweep-left.new.self c.nothing_met-self.result c.nothing_met-2.result c.sweep-left.ensures.unswept c.nothing_met-2.ensures
 
 pub returns-clause-any_moment : goal.returns-clause-any_moment
 returns-clause-any_moment g c told r holds x runs =
-    swept_away c.args.self.now r _ holds x runs c.in-Some.collection c.in-Some.is c.sweep-left.result _ _ (c.in_ok-settle.ensures.does told) (c.sweep-left.ensures.does told)
-    c.sweep-left.new.self c.nothing_met-self.result c.nothing_met-2.result c.sweep-left.ensures.unswept c.nothing_met-2.ensures
+    swept_away c.args.self.now r _ holds x runs c.in-Some.collection (sym c.take.ensures.value ∙ c.in-Some.is) c.sweep-left.result _ _ (c.in_ok-settle.ensures.does told) (c.sweep-left.ensures.does told)
+    c.take.new.self c.take.ensures.after c.sweep-left.new.self c.nothing_met-self.result c.nothing_met-2.result c.sweep-left.ensures.unswept c.nothing_met-2.ensures
 
 pub returns-clause-records_stay : goal.returns-clause-records_stay
 returns-clause-records_stay g c told ok r q held now =
-    swept_stays c.args.self.now r _ held c.in-Some.collection c.in-Some.is c.in-Some.collection c.in-Some.is c.sweep-left.result _ _ (c.in_ok-settle.ensures.does told) (c.sweep-left.ensures.does told) _ q now
+    swept_stays c.args.self.now r _ held c.in-Some.collection (sym c.take.ensures.value ∙ c.in-Some.is) c.in-Some.collection (sym c.take.ensures.value ∙ c.in-Some.is) c.sweep-left.result _ _ (c.in_ok-settle.ensures.does told) (c.sweep-left.ensures.does told) _ q now

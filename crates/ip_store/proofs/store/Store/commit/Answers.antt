@@ -167,7 +167,7 @@ returns-clause-any_moment g c told r v at =
     let step = same_step c.enter-entered.new.self.slot.end c.args.self.now.slot.end c.enter-entered.new.self.index c.args.self.now.index c.bytes.result.now plan.batch.bytes.items plan.slot plan.slot _ (g.G.Ground.told c.args.outside.now) (g.G.Ground.told c.durable_step.new.outside)
     (ap (λ (s : Slot). s.end) c.enter-entered.ensures.rest.1) c.enter-entered.ensures.rest.0 c.bytes.ensures refl (c.in_ok-durable_step.ensures.does told can) in
     made r c.args.work.now v c.args.branch.now c.args.info c.args.self.now plan is planned (g.G.Ground.told c.args.outside.now) at (g.G.Ground.told c.durable_step.new.outside) _ refl (ap (λ (i : ℕ). 1 - i) c.enter-entered.ensures.rest.0)
-    (after_tables r c.args.work.now.parents c.args.branch.now c.args.self.now plan of is one (sym planned.name) refl _ refl (ap (λ (i : ℕ). 1 - i) c.enter-entered.ensures.rest.0) (c.in_default.ensures.ok.0 ∙ ap (λ h. c.args.self.now.names ++ h ∷ []) c.name-name.ensures) (c.in_default.ensures.ok.1 ∙ ap (λ b. insert c.args.self.now.branches b plan.number) (sym is.same_branch)) (may_enter c.args.self.now r of c.args.work.now.parents c.args.work.now.parents refl (retained_parents r c.args.work.now.least c.args.work.now.parents are (c.in-Ok.ensures.there r of))) (c.in_default.ensures.history ∙ ap (with_parents c.args.self.now.history) c.as_slice.ensures) (c.put_place.ensures ∙ (λ i. c.enter-entered.ensures.places i ++ c.commit_at.ensures i ∷ [])) (c.grow.ensures ∙ ap (λ (s : SpaceView). grown s plan.slot.end) c.enter-entered.ensures.rest.2) c.enter-entered.ensures.rest.3 c.enter-entered.ensures.rest.4) placed (c.grow.ensures ∙ ap (λ (s : SpaceView). grown s plan.slot.end) c.enter-entered.ensures.rest.2) c.name-name.result step
+    (after_tables r c.args.work.now.parents c.args.branch.now c.args.self.now plan of is one (sym planned.name) refl _ refl (ap (λ (i : ℕ). 1 - i) c.enter-entered.ensures.rest.0) (c.in_default.ensures.ok.0 ∙ ap (λ h. c.args.self.now.names ++ h ∷ []) c.name-name.ensures) (c.in_default.ensures.ok.1 ∙ ap (λ b. insert c.args.self.now.branches b plan.number) (sym is.same_branch)) (may_enter c.args.self.now r of c.args.work.now.parents c.args.work.now.parents refl (retained_parents r c.args.work.now.least c.args.work.now.parents are (c.in-Ok.ensures.there r of))) (c.in_default.ensures.history ∙ ap (with_parents c.args.self.now.history) c.as_slice.ensures) (c.put_place.ensures ∙ (λ i. c.enter-entered.ensures.places i ++ c.commit_at.ensures i ∷ [])) (c.grow.ensures ∙ ap (λ (s : SpaceView). grown s plan.slot.end) c.enter-entered.ensures.rest.2) c.enter-entered.ensures.rest.3 c.enter-entered.ensures.rest.4) placed (c.grow.ensures ∙ ap (λ (s : SpaceView). grown s plan.slot.end) c.enter-entered.ensures.rest.2) c.enter-entered.ensures.rest.3 c.name-name.result step
 
 pub returns-clause-limits : goal.returns-clause-limits
 returns-clause-limits g c told r v at =

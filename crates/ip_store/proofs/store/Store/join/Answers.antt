@@ -14,7 +14,7 @@ use Rattle.ip_store.specs.Store.{image_records}
 use Rattle.ip_store.specs.Work.{AreParents}
 use Rattle.ip_store.proofs.JoinDone.{looked_stays, join_limits, done_tables, done_answers, done_moments, done_limits, done_appends, is_at}
 use Rattle.ip_store.proofs.JoinedTrees.{join_parents}
-use Rattle.ip_store.proofs.Looked.{stays_behind}
+use Rattle.ip_store.proofs.LookedUp.{stays_behind}
 use Rattle.ip_store.proofs.MergeExits.{conflict, join_failed, join_undamaged, moments_failed, noted_merged, noted_moments, noted_limits}
 use Rattle.ip_store.proofs.MergeStill.{still_answers, still_moments, still_goes, memory_answers, memory_moments}
 use Rattle.ip_store.proofs.Noted.{noted_stays}

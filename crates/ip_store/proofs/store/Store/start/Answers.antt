@@ -2,7 +2,7 @@ use Rattle.std.proofs.Common.{◌≡◌, rules, refl, sym, ◌∙◌, subst, Ok,
 use Rattle.ip_spec.specs.Record.{spelling}
 use Rattle.ip_store.specs.declared.starting.CollectFault.TheVariants as CollectFault
 use Rattle.ip_store.specs.Starting.{table_of, StartsCollection}
-use Rattle.ip_store.proofs.Begun.{begun, begun_tables, can_begin, starts_cut, starts_lent, begun_list}
+use Rattle.ip_store.proofs.Begun.{begun, begun_tables, begun_going, begun_collects, can_begin, starts_cut, starts_lent, begun_list}
 use Rattle.ip_store.proofs.Stepping.{same_step}
 use Rattle.ip_store.proofs.store.Store.start.Goals as goal
 
@@ -62,3 +62,16 @@ returns-in-Err-clause-any_moment g c told r number held is =
     (same_step c.args.self.now.slot.end c.args.self.now.slot.end c.args.self.now.index c.args.self.now.index c.as_slice.result.now (spelling (table_of r)) c.args.start.now.slot c.args.start.now.slot (Ok tt) (g.G.Ground.told c.args.outside.now) (g.G.Ground.told c.durable_step.new.outside)
     refl refl (c.as_slice.ensures.value ∙ is.bytes) refl (c.in_ok-durable_step.ensures.does told (can_begin r c.args.self.now number c.args.start.now held.tables is c.requires.idle (g.G.Ground.told c.args.outside.now) held)))
     (g.G.Ground.told c.lend.new.self) c.lend.result (c.lend.ensures.does told) (Err CollectFault.Start) (λ begins. (c.in_ok-lend.ensures.does told).ok)
+
+pub returns-in-Ok-clause-going : goal.returns-in-Ok-clause-going
+returns-in-Ok-clause-going g c begins r number of is = begun_going r c.args.self.now number c.args.start.now of is c.grow.new.self
+
+pub returns-in-Err-clause-going : goal.returns-in-Err-clause-going
+returns-in-Err-clause-going g c begins r number of is = begun_going r c.args.self.now number c.args.start.now of is c.grow.new.self
+
+pub returns-in-Ok-clause-collects : goal.returns-in-Ok-clause-collects
+returns-in-Ok-clause-collects g c told r number held is retained free now =
+    begun_collects r c.args.self.now number c.args.start.now held.tables is c.requires.idle (g.G.Ground.told c.args.outside.now) held c.grow.new.self c.grow.ensures (g.G.Ground.told c.durable_step.new.outside)
+    (same_step c.args.self.now.slot.end c.args.self.now.slot.end c.args.self.now.index c.args.self.now.index c.as_slice.result.now (spelling (table_of r)) c.args.start.now.slot c.args.start.now.slot (Ok tt) (g.G.Ground.told c.args.outside.now) (g.G.Ground.told c.durable_step.new.outside)
+    refl refl (c.as_slice.ensures.value ∙ is.bytes) refl (c.in_ok-durable_step.ensures.does told (can_begin r c.args.self.now number c.args.start.now held.tables is c.requires.idle (g.G.Ground.told c.args.outside.now) held)))
+    (g.G.Ground.told c.lend.new.self) c.lend.result (c.lend.ensures.does told) retained free (c.in_ok-lend.ensures.does told).ok now

@@ -57,7 +57,7 @@ returns-in-Err-start-clause-any_moment g c told r held =
     starts_noted r c.in-Ok.start.job.attempt c.args.self.now.slot.next_attempt (Err c.in-Err-start.fault) c.noted_start-in-Err-start.result c.start.new.self c.noted_start-in-Err-start.new.self
     (g.G.Ground.told c.args.outside.now) (g.G.Ground.told c.start.new.outside) (sym planned.job.attempt) (λ begins. subst IsBegun c.noted_start-in-Err-start.ensures.answer begins)
     (λ now. subst (λ (store : Store). Holds store (g.G.Ground.told c.start.new.outside) r) (sym c.noted_start-in-Err-start.ensures.met)
-    (running_holds c.start.new.self r c.start.new.self.collection (met_by_start (Err c.in-Err-start.fault)) (g.G.Ground.told c.start.new.outside) now.tables.phase now))
+    (running_holds c.start.new.self r c.start.new.self.collection (met_by_start (Err c.in-Err-start.fault)) (g.G.Ground.told c.start.new.outside) now.tables.phase now.tables.going now now.collects))
     (c.in-Err-start.ensures.any_moment told r c.args.number held planned)
 
 pub returns-clause-answered : goal.returns-clause-answered
@@ -69,13 +69,13 @@ returns-clause-answered g c r of retained =
     (subst (λ (name : Hash). AnswersStart r c.args.number c.args.self.now.collection c.noted_start-2.new.self (Reply.Started name)) (sym (c.retained_name-name.ensures r of retained))
     (subst (λ (store : Store). AnswersStart r c.args.number c.args.self.now.collection store (Reply.Started (name_at r c.args.number))) (sym c.noted_start-2.ensures.met)
     (begun_answers r c.args.number c.args.self.now.collection free.0 free.1 c.start.new.self c.start.ensures.rest.0 now c.in-Ok.start.job
-    (started_phase r c.args.self.now c.args.number c.in-Ok.start c.start.new.self.slot retained free.1 planned (c.in-Ok-start.ensures.slot tt)))))
+    (started_phase r c.args.self.now c.args.number c.in-Ok.start c.start.new.self.slot retained free.1 planned (c.in-Ok-start.ensures.slot tt)) (c.in-Ok-start.ensures.going tt r c.args.number of planned))))
 
 pub returns-clause-begins : goal.returns-clause-begins
 returns-clause-begins g c told begins r of =
     let retained = same_retained c.args.self.now c.requires.tables.0 r c.args.number c.requires.tables.1 of c.requires.tables.2 in
     subst (λ (store : Store). Begins r c.args.self.now store (g.G.Ground.told c.args.outside.now) (g.G.Ground.told c.start.new.outside)) (sym c.noted_start-2.ensures.met)
-    (begins_noted r c.args.self.now c.start.new.self (Some (record { commit = c.args.number; job = c.in-Ok.start.job; exit = None })) met_nothing (g.G.Ground.told c.args.outside.now) (g.G.Ground.told c.start.new.outside) c.start.ensures.rest.0
+    (begins_noted r c.args.self.now c.start.new.self (Some (record { commit = c.args.number; job = c.in-Ok.start.job; exit = None; check = None })) met_nothing (g.G.Ground.told c.args.outside.now) (g.G.Ground.told c.start.new.outside) c.start.ensures.rest.0
     (c.in-Ok-start.ensures.begins told tt r c.args.number of (c.in-Ok.ensures.planned r of retained)))
 
 pub returns-clause-records_stay : goal.returns-clause-records_stay
@@ -90,6 +90,7 @@ returns-clause-any_moment g c told r held =
     starts_noted r c.in-Ok.start.job.attempt c.args.self.now.slot.next_attempt (Ok tt) c.noted_start-2.result c.start.new.self c.noted_start-2.new.self
     (g.G.Ground.told c.args.outside.now) (g.G.Ground.told c.start.new.outside) (sym planned.job.attempt) (λ begins. tt)
     (λ now. subst (λ (store : Store). Holds store (g.G.Ground.told c.start.new.outside) r) (sym c.noted_start-2.ensures.met)
-    (running_holds c.start.new.self r (Some (record { commit = c.args.number; job = c.in-Ok.start.job; exit = None })) met_nothing (g.G.Ground.told c.start.new.outside)
-    (started_phase r c.args.self.now c.args.number c.in-Ok.start c.start.new.self.slot retained free.1 planned (c.in-Ok-start.ensures.slot tt)) now))
+    (running_holds c.start.new.self r (Some (record { commit = c.args.number; job = c.in-Ok.start.job; exit = None; check = None })) met_nothing (g.G.Ground.told c.start.new.outside)
+    (started_phase r c.args.self.now c.args.number c.in-Ok.start c.start.new.self.slot retained free.1 planned (c.in-Ok-start.ensures.slot tt))
+    (c.in-Ok-start.ensures.going tt r c.args.number held.tables planned) now (c.in-Ok-start.ensures.collects told r c.args.number held planned retained free.1 now)))
     (c.in-Ok-start.ensures.any_moment told r c.args.number held planned)

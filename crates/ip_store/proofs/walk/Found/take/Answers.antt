@@ -19,5 +19,5 @@ returns-in-Ok c s before is fits may tells beyond =
     let took = c.in_ok-take.ensures in
     let good = took.fits before tells.audited beyond in
     let placed : c.enter_place.new.places.items ≡ c.args.self.now.places.items ++ places_in ((c.args.at, c.args.rec) ∷ []) = search rules in
-    takes_good s before c.args.at c.args.rec _ _ fits may tells good (took.goes_on before tells.audited beyond) took.terms placed c.in-Ok.ensures.branches
+    takes_good s before c.args.at c.args.rec _ _ fits may tells beyond good (took.goes_on before tells.audited beyond) took.terms placed c.in-Ok.ensures.branches
     (record_enters s before c.args.at s.version c.args.rec c.args.self.now.history tells.history fits (subst (λ (t : Terms). RecordFits t before c.args.at c.args.rec) tells.terms good)) c.in-Ok.ensures.history
