@@ -13,15 +13,6 @@ use Rattle.ip_store.specs.declared.starting.CollectFault.{CollectFault}
 use Rattle.ip_store.specs.declared.store.Store.{Store}
 use Rattle.ip_store.specs.Starting.{branch_name_at, Replies, AnswersStart}
 use Rattle.ip_store.specs.Store.{IsOf}
-use Rattle.ip_store.proofs.Phases.{retained_from}
-
--- a branch is at a retained commit, which it names
-pub main_retained : (store : Store) (r : Repository) → IsOf store r → (name : Bytes) (n : ℕ) → head r name ≡ Some n → IsTrue (is_retained r n)
-main_retained store r of name n is =
-    let inside : (store.slot.floor ≤ n) × (n < store.slot.next) = subst (λ (o : Option ℕ). IfSome o (λ m. (store.slot.floor ≤ m) × (m < store.slot.next))) is (of.retained.each name) in
-    let floor = of.floor in
-    let next = of.next in
-    retained_from r n (omega (arith, floor, inside.0)) (omega (arith, next, inside.1))
 
 module _ (r : Repository) (name : Bytes) (number : ℕ) (is : head r name ≡ Some number) (running : Option Collection) (store : Store) where
   named : resolve r (Target.Branch name) ≡ Ok number

@@ -1,5 +1,5 @@
 -- What a store holds once a collection has begun, and once it was cancelled.
---     main_retained      a branch is at a retained commit.      begun_tables, cancelled_tables      the store has tables
+--     begun_tables, cancelled_tables      the store has tables
 use Rattle.std.proofs.Common.{◌≡◌, ℕ, ◌<◌, ◌≤◌, Option, Some, subst, arith, ap, IsTrue}
 use Rattle.std.specs.Prelude.{Result, Ok, Err, IfSome}
 use Rattle.ip_spec.specs.declared.command.Command.TheVariants as Command
@@ -16,14 +16,6 @@ use Rattle.ip_store.specs.declared.cancelling.Cancelled.{Cancelled}
 use Rattle.ip_store.specs.Cancelling.{CancelReplies}
 use Rattle.ip_store.specs.Starting.{Replies, AnswersStart, AnswersCall}
 use Rattle.ip_store.specs.Store.{IsOf}
-use Rattle.ip_store.proofs.Phases.{retained_from}
-
-pub main_retained : (store : Store) (r : Repository) → IsOf store r → (name : Bytes) (n : ℕ) → head r name ≡ Some n → IsTrue (is_retained r n)
-main_retained store r of name n is =
-    let inside : (store.slot.floor ≤ n) × (n < store.slot.next) = subst (λ (o : Option ℕ). IfSome o (λ m. (store.slot.floor ≤ m) × (m < store.slot.next))) is (of.retained.each name) in
-    let floor = of.floor in
-    let next = of.next in
-    retained_from r n (omega (arith, floor, inside.0)) (omega (arith, next, inside.1))
 
 pub begun_tables : (r : Repository) (name : Bytes) (n : ℕ) → head r name ≡ Some n → (running : Option Collection) (store : Store) (hash : Hash) → Replies r (Ok hash) (AnswersStart r n running store) → IsOf store r
 begun_tables r name n is running store hash answers = (answers (Target.Branch name) (ap (λ (o : Option ℕ). present o (Reply.NoBranch name)) is)).tables

@@ -4,7 +4,7 @@ use Rattle.ip_spec.specs.declared.command.Target.{Target}
 use Rattle.ip_spec.specs.declared.reply.Reply.{Reply}
 use Rattle.ip_spec.specs.Repository.{head}
 use Rattle.ip_spec.specs.Step.{present, resolve}
-use Rattle.ip_store_tests.proofs.Retained.{head_retained}
+use Rattle.ip_store.proofs.Phases.{head_retained}
 use Rattle.ip_store_tests.proofs.opening_tests.renamed.Goals as goal
 
 pub set_branch-requires-clause-tables : goal.set_branch-requires-clause-tables
