@@ -18,6 +18,7 @@ use Rattle.ip_spawn.specs.declared.job.Job.{Job}
 use Rattle.ip_spawn.specs.declared.spawner.SpawnCounts.{SpawnCounts}
 use Rattle.ip_spec.specs.declared.command.Command.{Command}
 use Rattle.ip_spec.specs.declared.command.Target.{Target}
+use Rattle.ip_spec.specs.declared.met.Child.TheVariants as Child
 use Rattle.ip_spec.specs.declared.met.Met.{Met}
 use Rattle.ip_spec.specs.declared.reply.Reply.{Reply}
 use Rattle.ip_spec.specs.Machine.{exit_kept}
@@ -26,7 +27,7 @@ use Rattle.ip_spec.specs.Step.{IsMet}
 use Rattle.ip_spec.specs.View.{no_view}
 use Rattle.ip_spec.specs.Record.{Hash}
 use Rattle.ip_spec.specs.Repository.{Repository}
-use Rattle.ip_script.specs.Served.{IsServedLine}
+use Rattle.ip_spec.specs.Line.{IsLineOf}
 use Rattle.ip_store.specs.declared.cancelling.CancelFault.{CancelFault}
 use Rattle.ip_store.specs.declared.cancelling.Cancelled.{Cancelled}
 use Rattle.ip_store.specs.declared.collection.Collection.{Collection}
@@ -58,20 +59,24 @@ abbrev pub AskedSo : (tells : Bool) (x y : spawn.Told) (s s' : Session) (command
 AskedSo tells x y s s' command result m n = (jobs : List Job) × (ends : List Reaped) × (IsTrue tells → y ≡ record { started = x.started ++ jobs; reaped = x.reaped ++ ends }) × Asked s s' command result jobs ends m n
 
 -- and nothing was added to what is told
-none_added : (x : spawn.Told) → x ≡ record { started = x.started ++ []; reaped = x.reaped ++ [] }
+pub none_added : (x : spawn.Told) → x ≡ record { started = x.started ++ []; reaped = x.reaped ++ [] }
 none_added x = λ i. record { started = sym (append-nil x.started) i; reaped = sym (append-nil x.reaped) i }
 
-never_failed : {A : Type 0} (b : Bool) → b ≡ false → IsTrue b → A
+pub never_failed : {A : Type 0} (b : Bool) → b ≡ false → IsTrue b → A
 never_failed b is failed = absurd (cc (is, failed))
 
 pub asks_nothing : (s s' : Session) (command : Command) (result : Result Reply SessionEnd) (m : SpawnCounts) → ¬ HasStarted result → result ≢ Ok Reply.Cancelled → MeetsNone s'.met → Asked s s' command result [] [] m m
 asks_nothing s s' command result m never over met = record {
   started = λ has. absurd (never has);
   none_started = λ _. refl;
-  running = refl;
-  waits = refl;
+  running = λ is. absurd (cc (sym met.2 ∙ is));
+  not_running = λ _. refl;
+  waits = omega arith;
+  no_wait = λ _. refl;
   reaps = omega arith;
   none_reaped = λ _. (refl, refl);
+  heard = λ reaped is. absurd (cc (sym met.2 ∙ is));
+  unheard = λ is. absurd (cc (sym met.2 ∙ is));
   cancelled = λ is. absurd (over is);
   spawn_faults = omega arith;
   start = λ failed. never_failed s'.met.start_failed met.0 failed;
@@ -94,14 +99,14 @@ pub plain_asked : (tells : Bool) (x : spawn.Told) (s s' : Session) (command : Co
 plain_asked tells x s s' command result m none met = nothing_asked tells x x s s' command result m m refl refl (tells_start result none) (tells_over result none) met
 
 pub none_met : (met : Met) (refused : Bool) → met ≡ met_only refused → MeetsNone met
-none_met met refused is = (ap (λ (m : Met). m.start_failed) is, ap (λ (m : Met). m.kill_failed) is)
+none_met met refused is = (ap (λ (m : Met). m.start_failed) is, ap (λ (m : Met). m.kill_failed) is, ap (λ (m : Met). m.child) is)
 
 -- by a call of the store that has to do with no child
 pub faulted : {A : Type 0} (made : Result A StoreFault) → MeetsNone (met_by made)
-faulted (Ok x) = (refl, refl)
-faulted (Err (StoreFault.Limit limit)) = (refl, refl)
-faulted (Err StoreFault.Memory) = (refl, refl)
-faulted (Err _) = (refl, refl)
+faulted (Ok x) = (refl, refl, refl)
+faulted (Err (StoreFault.Limit limit)) = (refl, refl, refl)
+faulted (Err StoreFault.Memory) = (refl, refl, refl)
+faulted (Err _) = (refl, refl, refl)
 
 -- ---- a collection is to begin
 
@@ -124,24 +129,28 @@ module _ (tells : Bool) (x y : spawn.Told) (s : Session) (store : Store) (r : Re
   now = record s { store = store; met = met }
 
   abbrev Begun : Result Hash CollectFault → Type 0
-  Begun begun = (job : Job) × IsJobAt s.store number store.slot job × OnOk begun (store.collection ≡ Some (record { commit = number; job = job; exit = None }))
+  Begun begun = (job : Job) × IsJobAt s.store number store.slot job × OnOk begun (store.collection ≡ Some (record { commit = number; job = job; exit = None; check = None }))
       × (IsTrue tells → y ≡ record { started = x.started ++ started_by job begun; reaped = x.reaped }) × spawned.Counts false false false (is_err begun) m n
 
   pub start_asked : (begun : Result Hash CollectFault) → StartReplies r begun store.met met result → store.met ≡ met_by_start begun → (IsTurnedDown begun ⊎ IsErrOf begun CollectFault.Ground → (y ≡ x) × (n ≡ m)) → (IsBegun begun → Begun begun)
       → AskedSo tells x y s now (Command.Collect target) result m n
   start_asked (Ok name) says is_met still asked =
       let (job, at, runs, told, counts) = asked tt in
-      let none : MeetsNone met = meets met (met_by_start (Ok name)) (says.1 ∙ is_met) (refl, refl) in (
+      let none : MeetsNone met = meets met (met_by_start (Ok name)) (says.1 ∙ is_met) (refl, refl, refl) in (
         job ∷ [],
         [],
         λ t. told t ∙ (λ i. record { started = x.started ++ job ∷ []; reaped = sym (append-nil x.reaped) i }),
         record {
           started = λ _. subst (λ (o : Option Collection). IsSomeAnd o (λ c. (job ∷ [] ≡ c.job ∷ []) × (c.exit ≡ None) × IsJobAt s.store c.commit store.slot c.job)) (sym runs) (refl, refl, at);
           none_started = λ not. absurd (not (subst HasStarted (sym says.0) tt));
-          running = counts.running;
-          waits = counts.waits;
+          running = λ is. absurd (cc (sym none.2 ∙ is));
+          not_running = λ _. counts.running;
+          waits = omega (arith, counts.waits);
+          no_wait = λ _. counts.waits;
           reaps = omega (arith, counts.reaps);
           none_reaped = λ _. (refl, counts.reaps);
+          heard = λ reaped is. absurd (cc (sym none.2 ∙ is));
+          unheard = λ is. absurd (cc (sym none.2 ∙ is));
           cancelled = λ is. absurd (cc (sym says.0 ∙ is));
           spawn_faults = counts.spawn_faults;
           start = λ failed. never_failed met.start_failed none.0 failed;
@@ -149,32 +158,37 @@ module _ (tells : Bool) (x y : spawn.Told) (s : Session) (store : Store) (r : Re
         },
       )
   start_asked (Err CollectFault.Start) says is_met still asked =
-      let (job, at, runs, told, counts) = asked tt in (
+      let (job, at, runs, told, counts) = asked tt in
+      let none : met.child ≡ Child.NotAsked = ap (λ (k : Met). k.child) (says.1 ∙ is_met) in (
         [],
         [],
         λ t. told t ∙ (λ i. record { started = x.started ++ []; reaped = sym (append-nil x.reaped) i }),
         record {
           started = λ has. absurd (subst HasStarted says.0 has);
           none_started = λ not. refl;
-          running = counts.running;
-          waits = counts.waits;
+          running = λ is. absurd (cc (sym none ∙ is));
+          not_running = λ _. counts.running;
+          waits = omega (arith, counts.waits);
+          no_wait = λ _. counts.waits;
           reaps = omega (arith, counts.reaps);
           none_reaped = λ _. (refl, counts.reaps);
+          heard = λ reaped is. absurd (cc (sym none ∙ is));
+          unheard = λ is. absurd (cc (sym none ∙ is));
           cancelled = λ is. absurd (cc (sym says.0 ∙ is));
           spawn_faults = counts.spawn_faults;
           start = λ failed. counts.cause refl;
           kill = λ failed. never_failed met.kill_failed (ap (λ (k : Met). k.kill_failed) (says.1 ∙ is_met)) failed;
         },
       )
-  start_asked (Err (CollectFault.Busy name)) says is_met still asked = unstarted tells x y s now target m n (still (inl tt)) result (Reply.Busy name) says.0 tt (meets met commits.met_nothing (says.1 ∙ is_met) (refl, refl))
-  start_asked (Err (CollectFault.Limit limit)) says is_met still asked = unstarted tells x y s now target m n (still (inl tt)) result (Reply.Limit limit) says.0 tt (meets met (met_by_start (Err (CollectFault.Limit limit))) (says.1 ∙ is_met) (refl, refl))
-  start_asked (Err CollectFault.Memory) says is_met still asked = unstarted tells x y s now target m n (still (inl tt)) result Reply.Memory says.0 tt (meets met (met_by_start (Err CollectFault.Memory)) (says.1 ∙ is_met) (refl, refl))
-  start_asked (Err CollectFault.Ground) says is_met still asked = unended tells x y s now target m n (still (inr refl)) result SessionEnd.Ground says.0 (meets met commits.met_nothing (says.1 ∙ is_met) (refl, refl))
+  start_asked (Err (CollectFault.Busy name)) says is_met still asked = unstarted tells x y s now target m n (still (inl tt)) result (Reply.Busy name) says.0 tt (meets met commits.met_nothing (says.1 ∙ is_met) (refl, refl, refl))
+  start_asked (Err (CollectFault.Limit limit)) says is_met still asked = unstarted tells x y s now target m n (still (inl tt)) result (Reply.Limit limit) says.0 tt (meets met (met_by_start (Err (CollectFault.Limit limit))) (says.1 ∙ is_met) (refl, refl, refl))
+  start_asked (Err CollectFault.Memory) says is_met still asked = unstarted tells x y s now target m n (still (inl tt)) result Reply.Memory says.0 tt (meets met (met_by_start (Err CollectFault.Memory)) (says.1 ∙ is_met) (refl, refl, refl))
+  start_asked (Err CollectFault.Ground) says is_met still asked = unended tells x y s now target m n (still (inr refl)) result SessionEnd.Ground says.0 (meets met commits.met_nothing (says.1 ∙ is_met) (refl, refl, refl))
   start_asked (Err (CollectFault.Held place)) says is_met still asked = both_some (branch_name_at r place) _ _ (AskedSo tells x y s now (Command.Collect target) result m n) each says says
     where
       each : (name : Bytes) → (reply : Reply) × (result ≡ Ok reply) × HeldReplies name store.met met reply → (reply : Reply) × (result ≡ Ok reply) × HeldReplies name store.met met reply → AskedSo tells x y s now (Command.Collect target) result m n
-      each name (reply, is, inl told) other = unstarted tells x y s now target m n (still (inl tt)) result (Reply.Held name) (is ∙ ap Ok told.0) tt (meets met commits.met_nothing (told.1 ∙ is_met) (refl, refl))
-      each name (reply, is, inr short) other = unstarted tells x y s now target m n (still (inl tt)) result Reply.Memory (is ∙ ap Ok short.0) tt (meets met (met_only true) short.1 (refl, refl))
+      each name (reply, is, inl told) other = unstarted tells x y s now target m n (still (inl tt)) result (Reply.Held name) (is ∙ ap Ok told.0) tt (meets met commits.met_nothing (told.1 ∙ is_met) (refl, refl, refl))
+      each name (reply, is, inr short) other = unstarted tells x y s now target m n (still (inl tt)) result Reply.Memory (is ∙ ap Ok short.0) tt (meets met (met_only true) short.1 (refl, refl, refl))
 
 -- what was counted of the ground
 module _ (r : Repository) (before met : Met) (result : Result Reply SessionEnd) (target : Target) (old new : GroundCounts) where
@@ -191,13 +205,27 @@ module _ (r : Repository) (before met : Met) (result : Result Reply SessionEnd) 
   start_counts (Err (CollectFault.Held place)) says counts = both_some (branch_name_at r place) _ _ (CountsBy result (Command.Collect target) met old new) (λ name h other. counts_ok h.0 h.1 counts) says says
 
   -- a long reply is no start
-  pub start_quiet : (begun : Result Hash CollectFault) → StartReplies r begun before met result → CountsBy result (Command.Collect target) met old new → IfOk result (QuietIfLong old new)
-  start_quiet begun says counts = by result counts (λ name is. whole begun says name is)
+  pub start_quiet : (begun : Result Hash CollectFault) → StartReplies r begun before met result → before ≡ met_by_start begun → CountsBy result (Command.Collect target) met old new → IfOk result (QuietIfLong met old new)
+  start_quiet begun says is_met counts = by result (unheard begun says is_met) counts (λ name is. whole begun says name is)
     where
-      by : (result : Result Reply SessionEnd) → CountsBy result (Command.Collect target) met old new → ((name : Hash) → result ≡ Ok (Reply.Started name) → ¬ IsLong (Reply.Started name)) → IfOk result (QuietIfLong old new)
-      by (Ok (Reply.Started name)) counts short = λ long. absurd (short name refl long)
-      by (Ok _) counts short = λ long. (λ h. h, counts)
-      by (Err end) counts short = tt
+      by : (result : Result Reply SessionEnd) → met.child ≡ Child.NotAsked → CountsBy result (Command.Collect target) met old new → ((name : Hash) → result ≡ Ok (Reply.Started name) → ¬ IsLong (Reply.Started name)) → IfOk result (QuietIfLong met old new)
+      by (Ok (Reply.Started name)) none counts short = λ long. absurd (short name refl long)
+      by (Ok _) none counts short = λ long. (λ h. h, none, counts)
+      by (Err end) none counts short = tt
+
+      -- no child was asked
+      unheard : (begun : Result Hash CollectFault) → StartReplies r begun before met result → before ≡ met_by_start begun → met.child ≡ Child.NotAsked
+      unheard (Ok name) says is_met = ap (λ (k : Met). k.child) (says.1 ∙ is_met)
+      unheard (Err (CollectFault.Held place)) says is_met = both_some (branch_name_at r place) _ _ (met.child ≡ Child.NotAsked) (λ own h again. held_unheard own h.0 h.2) says says
+        where
+          held_unheard : (own : Bytes) (reply : Reply) → HeldReplies own before met reply → met.child ≡ Child.NotAsked
+          held_unheard own reply (inl told) = ap (λ (k : Met). k.child) (told.1 ∙ is_met)
+          held_unheard own reply (inr short) = ap (λ (k : Met). k.child) short.1
+      unheard (Err (CollectFault.Limit limit)) says is_met = ap (λ (k : Met). k.child) (says.1 ∙ is_met)
+      unheard (Err CollectFault.Start) says is_met = ap (λ (k : Met). k.child) (says.1 ∙ is_met)
+      unheard (Err CollectFault.Memory) says is_met = ap (λ (k : Met). k.child) (says.1 ∙ is_met)
+      unheard (Err (CollectFault.Busy name)) says is_met = ap (λ (k : Met). k.child) (says.1 ∙ is_met)
+      unheard (Err CollectFault.Ground) says is_met = ap (λ (k : Met). k.child) (says.1 ∙ is_met)
 
       other : {X : Type 0} (reply : Reply) (name : Hash) → result ≡ Ok reply → result ≡ Ok (Reply.Started name) → ¬ HasStarted (Ok reply) → X
       other reply name is started never = absurd (never (subst HasStarted (sym started ∙ is) tt))
@@ -236,7 +264,7 @@ start_ends r before met result held begun says = by begun says
 
 -- ---- one is to end
 
-none_left : (c : GroundCounts) → CountsLeft 0 c c
+pub none_left : (c : GroundCounts) → CountsLeft 0 c c
 none_left c = record { rose = inl (omega arith); none = λ _. refl; file_faults = refl; say_faults = refl }
 
 pub cancel_counts : (done : Result Cancelled CancelFault) (met : Met) (left : ℕ) (old new : GroundCounts) → met ≡ met_by_cancel done left → CountsCancel done met.left old new → CountsBy (cancel_answer done) Command.Cancel met old new
@@ -245,11 +273,11 @@ cancel_counts (Ok Cancelled.Orphan) met left old new is counts = subst (λ (k : 
 cancel_counts (Err CancelFault.Idle) met left old new is counts = subst (λ (k : ℕ). CountsLeft k old new) (sym (ap (λ (m : Met). m.left) is)) (subst (CountsLeft 0 old) (sym counts) (none_left old))
 cancel_counts (Err CancelFault.Ground) met left old new is counts = counts
 
-pub cancel_quiet : (done : Result Cancelled CancelFault) (old new : GroundCounts) → IfOk (cancel_answer done) (QuietIfLong old new)
-cancel_quiet (Ok Cancelled.Done) old new = λ long. absurd (cancelled_is_short long)
-cancel_quiet (Ok Cancelled.Orphan) old new = λ long. absurd (orphan_is_short long)
-cancel_quiet (Err CancelFault.Idle) old new = λ long. absurd (idle_is_short long)
-cancel_quiet (Err CancelFault.Ground) old new = tt
+pub cancel_quiet : (done : Result Cancelled CancelFault) (met : Met) (old new : GroundCounts) → IfOk (cancel_answer done) (QuietIfLong met old new)
+cancel_quiet (Ok Cancelled.Done) met old new = λ long. absurd (cancelled_is_short long)
+cancel_quiet (Ok Cancelled.Orphan) met old new = λ long. absurd (orphan_is_short long)
+cancel_quiet (Err CancelFault.Idle) met old new = λ long. absurd (idle_is_short long)
+cancel_quiet (Err CancelFault.Ground) met old new = tt
 
 pub cancel_ends : (done : Result Cancelled CancelFault) (held : Type 0) → IfErr (cancel_answer done) (EndsBy held)
 cancel_ends (Ok Cancelled.Done) held = tt
@@ -271,6 +299,14 @@ module _ (tells : Bool) (x y : spawn.Told) (s : Session) (store : Store) (met : 
 
   no_start : met.start_failed ≡ false
   no_start = ap (λ (k : Met). k.start_failed) is_met ∙ start_never done
+
+  child_never : (done : Result Cancelled CancelFault) → (met_by_cancel done left).child ≡ Child.NotAsked
+  child_never (Ok Cancelled.Done) = refl
+  child_never (Ok Cancelled.Orphan) = refl
+  child_never (Err fault) = refl
+
+  no_child : met.child ≡ Child.NotAsked
+  no_child = ap (λ (k : Met). k.child) is_met ∙ child_never done
 
   -- only where the kill failed
   kill_so : (done : Result Cancelled CancelFault) → done ≢ Ok Cancelled.Orphan → (met_by_cancel done left).kill_failed ≡ false
@@ -295,7 +331,7 @@ module _ (tells : Bool) (x y : spawn.Told) (s : Session) (store : Store) (met : 
 
   -- none runs
   pub idle_asked : done ≡ Err CancelFault.Idle → y ≡ x → n ≡ m → Over
-  idle_asked is same still = nothing_asked tells x y s (record s { store = store; met = met }) Command.Cancel (cancel_answer done) m n same still (never_started done) (λ over. absurd (cc (sym (done_of done over) ∙ is))) (no_start, no_kill (λ orphan. absurd (cc (sym orphan ∙ is))))
+  idle_asked is same still = nothing_asked tells x y s (record s { store = store; met = met }) Command.Cancel (cancel_answer done) m n same still (never_started done) (λ over. absurd (cc (sym (done_of done over) ∙ is))) (no_start, no_kill (λ orphan. absurd (cc (sym orphan ∙ is))), no_child)
 
   -- its child had been reaped
   pub kept_asked : (c : Collection) → s.store.collection ≡ Some c → IsSome c.exit → done ≢ Ok Cancelled.Orphan → y ≡ x → n ≡ m → Over
@@ -306,10 +342,14 @@ module _ (tells : Bool) (x y : spawn.Told) (s : Session) (store : Store) (met : 
     record {
       started = λ has. absurd (never_started done has);
       none_started = λ _. refl;
-      running = ap (λ (k : SpawnCounts). k.running) still;
-      waits = ap (λ (k : SpawnCounts). k.waits) still;
+      running = λ is. absurd (cc (sym no_child ∙ is));
+      not_running = λ _. ap (λ (k : SpawnCounts). k.running) still;
+      waits = (let e = ap (λ (k : SpawnCounts). k.waits) still in omega (arith, e));
+      no_wait = λ _. ap (λ (k : SpawnCounts). k.waits) still;
       reaps = (let e = ap (λ (k : SpawnCounts). k.reaps) still in omega (arith, e));
-      none_reaped = λ not. absurd (not refl);
+      none_reaped = λ not. absurd (not tt);
+      heard = λ reaped is. absurd (cc (sym no_child ∙ is));
+      unheard = λ is. absurd (cc (sym no_child ∙ is));
       cancelled = λ is. inr (subst (λ (o : Option Collection). IsSome (exit_kept (phase_of o))) (sym runs) kept);
       spawn_faults = (let e = ap (λ (k : SpawnCounts). k.spawn_faults) still in omega (arith, e));
       start = λ failed. never_failed met.start_failed no_start failed;
@@ -326,10 +366,14 @@ module _ (tells : Bool) (x y : spawn.Told) (s : Session) (store : Store) (met : 
     record {
       started = λ has. absurd (never_started done has);
       none_started = λ _. refl;
-      running = counts.running;
-      waits = counts.waits;
+      running = λ is. absurd (cc (sym no_child ∙ is));
+      not_running = λ _. counts.running;
+      waits = omega (arith, counts.waits);
+      no_wait = λ _. counts.waits;
       reaps = elim reaped_one [ inl more ↦ omega (arith, more) | inr full ↦ omega (arith, full, small) ];
-      none_reaped = λ not. absurd (not refl);
+      none_reaped = λ not. absurd (not tt);
+      heard = λ reaped is. absurd (cc (sym no_child ∙ is));
+      unheard = λ is. absurd (cc (sym no_child ∙ is));
       cancelled = λ is. inl reaped_one;
       spawn_faults = counts.spawn_faults;
       start = λ failed. never_failed met.start_failed no_start failed;
@@ -346,10 +390,14 @@ module _ (tells : Bool) (x y : spawn.Told) (s : Session) (store : Store) (met : 
     record {
       started = λ has. absurd (never_started done has);
       none_started = λ _. refl;
-      running = counts.running;
-      waits = counts.waits;
+      running = λ is. absurd (cc (sym no_child ∙ is));
+      not_running = λ _. counts.running;
+      waits = omega (arith, counts.waits);
+      no_wait = λ _. counts.waits;
       reaps = omega (arith, counts.reaps);
-      none_reaped = λ not. absurd (not refl);
+      none_reaped = λ not. absurd (not tt);
+      heard = λ reaped is. absurd (cc (sym no_child ∙ is));
+      unheard = λ is. absurd (cc (sym no_child ∙ is));
       cancelled = λ is. absurd (cc (sym (done_of done is) ∙ killed.orphan.1 refl));
       spawn_faults = counts.spawn_faults;
       start = λ failed. never_failed met.start_failed no_start failed;
@@ -381,19 +429,23 @@ module _ (tells : Bool) (x y : spawn.Told) (s : Session) (store : Store) (met : 
 
 -- ---- the other commands
 
-pub handles_of : (command : Command) → ((target : Target) → command ≢ Command.Collect target) → command ≢ Command.Cancel → HandlesNone command
-handles_of (Command.Collect target) start end = start target refl
-handles_of Command.Cancel start end = end refl
-handles_of _ start end = tt
+pub handles_of : (command : Command) → ((target : Target) → command ≢ Command.Collect target) → command ≢ Command.Look → command ≢ Command.Finish → command ≢ Command.Cancel → HandlesNone command
+handles_of (Command.Collect target) start look finish end = start target refl
+handles_of Command.Look start look finish end = look refl
+handles_of Command.Finish start look finish end = finish refl
+handles_of Command.Cancel start look finish end = end refl
+handles_of _ start look finish end = tt
 
 pub plain_counts : (command : Command) (result : Result Reply SessionEnd) (met : Met) (old new : GroundCounts) → HandlesNone command → Counts ground_end result old new → CountsBy result command met old new
 plain_counts command (Err end) met old new handles counts = counts
+plain_counts Command.Look (Ok reply) met old new handles counts = absurd handles
+plain_counts Command.Finish (Ok reply) met old new handles counts = absurd handles
 plain_counts Command.Cancel (Ok reply) met old new handles counts = absurd handles
 plain_counts _ (Ok reply) met old new handles counts = counts
 
-pub plain_quiet : (result : Result Reply SessionEnd) (old new : GroundCounts) → IfOk result TellsNone → Counts ground_end result old new → IfOk result (QuietIfLong old new)
-plain_quiet (Ok reply) old new none counts = λ long. (tells_start (Ok reply) none, counts)
-plain_quiet (Err end) old new none counts = tt
+pub plain_quiet : (result : Result Reply SessionEnd) (met : Met) (old new : GroundCounts) → IfOk result TellsNone → MeetsNone met → Counts ground_end result old new → IfOk result (QuietIfLong met old new)
+plain_quiet (Ok reply) met old new none meets counts = λ long. (tells_start (Ok reply) none, meets.2, counts)
+plain_quiet (Err end) met old new none meets counts = tt
 
 -- by another name of the command
 pub asked_as : (tells : Bool) (x y : spawn.Told) (s s' : Session) (command command' : Command) (result : Result Reply SessionEnd) (m n : SpawnCounts) → command ≡ command' → AskedSo tells x y s s' command' result m n → AskedSo tells x y s s' command result m n
@@ -404,7 +456,7 @@ counts_as command command' result met old new is counts = subst (λ (c : Command
 
 -- ---- lines
 
-pub lined_asked : (tells : Bool) (x y : spawn.Told) (s s' : Session) (met : Met) (command : Command) (line : Bytes) (result : Result Reply SessionEnd) (m n : SpawnCounts) → IsServedLine command line → ((other : Command) → IsServedLine other line → other ≡ command)
+pub lined_asked : (tells : Bool) (x y : spawn.Told) (s s' : Session) (met : Met) (command : Command) (line : Bytes) (result : Result Reply SessionEnd) (m n : SpawnCounts) → IsLineOf command line → ((other : Command) → IsLineOf other line → other ≡ command)
     → AskedSo tells x y (record s { met = met }) s' command result m n → Spawns tells x y s s' line result m n
 lined_asked tells x y s s' met command line result m n served one (jobs, ends, told, asked) = record {
   jobs = jobs;
@@ -415,9 +467,13 @@ lined_asked tells x y s s' met command line result m n served one (jobs, ends, t
       started = asked.started;
       none_started = asked.none_started;
       running = asked.running;
+      not_running = asked.not_running;
       waits = asked.waits;
+      no_wait = asked.no_wait;
       reaps = asked.reaps;
       none_reaped = asked.none_reaped;
+      heard = asked.heard;
+      unheard = asked.unheard;
       cancelled = asked.cancelled;
       spawn_faults = asked.spawn_faults;
       start = asked.start;
@@ -440,16 +496,20 @@ nothing_spawned tells x s s' line reply m none met = record {
 
 any_counts : (command : Command) (result : Result Reply SessionEnd) (met : Met) (old new : GroundCounts) → CountsBy result command met old new → CountsAny result old new
 any_counts command (Err end) met old new counts = counts
+any_counts Command.Look (Ok reply) met old new counts = (met.left, counts)
+any_counts Command.Finish (Ok reply) met old new counts = (met.left, counts)
 any_counts Command.Cancel (Ok reply) met old new counts = (met.left, counts)
 any_counts _ (Ok reply) met old new counts = (0, subst (CountsLeft 0 old) (sym counts) (none_left old))
 
-pub lined_counts : (command : Command) (line : Bytes) (result : Result Reply SessionEnd) (met : Met) (old new : GroundCounts) → ((other : Command) → IsServedLine other line → other ≡ command) → CountsBy result command met old new → CountsIn line result met old new
+pub lined_counts : (command : Command) (line : Bytes) (result : Result Reply SessionEnd) (met : Met) (old new : GroundCounts) → ((other : Command) → IsLineOf other line → other ≡ command) → CountsBy result command met old new → CountsIn line result met old new
 lined_counts command line result met old new one counts = record {
   command = λ other spelled. subst (λ (c : Command). CountsBy result c met old new) (sym (one other spelled)) counts;
   any = any_counts command result met old new counts;
 }
 
 nothing_counted : (command : Command) (reply : Reply) (met : Met) (c : GroundCounts) → met.left ≡ 0 → CountsBy (Ok reply) command met c c
+nothing_counted Command.Look reply met c zero = subst (λ (k : ℕ). CountsLeft k c c) (sym zero) (none_left c)
+nothing_counted Command.Finish reply met c zero = subst (λ (k : ℕ). CountsLeft k c c) (sym zero) (none_left c)
 nothing_counted Command.Cancel reply met c zero = subst (λ (k : ℕ). CountsLeft k c c) (sym zero) (none_left c)
 nothing_counted _ reply met c zero = refl
 
@@ -469,7 +529,7 @@ module _ (tells : Bool) (x y : spawn.Told) (s s' : Session) (met : Met) (line : 
   whole_asked spawns counts is = subst (λ (k : Met). Told_so k reply) (sym is) (spawns, counts)
 
   -- there was no memory for a long text
-  pub unwritten : Spawns tells x y s s' line (Ok reply) m n → IsLong reply → QuietIfLong old new reply → met ≡ met_only true → Told_so met Reply.Memory
+  pub unwritten : Spawns tells x y s s' line (Ok reply) m n → IsLong reply → QuietIfLong s'.met old new reply → met ≡ met_only true → Told_so met Reply.Memory
   unwritten spawns long quiet is = subst (λ (k : Met). Told_so k Reply.Memory) (sym is) (
     record {
       jobs = spawns.jobs;
@@ -479,10 +539,14 @@ module _ (tells : Bool) (x y : spawn.Told) (s s' : Session) (met : Met) (line : 
         command = λ command served. (let asked = spawns.asked.command command served in record {
           started = λ has. absurd has;
           none_started = λ not. asked.none_started (quiet long).0;
-          running = asked.running;
+          running = λ is. absurd (cc is);
+          not_running = λ _. asked.not_running (λ is. absurd (cc (sym (quiet long).1 ∙ is)));
           waits = asked.waits;
+          no_wait = asked.no_wait;
           reaps = asked.reaps;
           none_reaped = asked.none_reaped;
+          heard = λ reaped is. absurd (cc is);
+          unheard = λ is. absurd (cc is);
           cancelled = λ is. absurd (cc is);
           spawn_faults = asked.spawn_faults;
           start = λ failed. absurd (cc failed);
@@ -491,5 +555,5 @@ module _ (tells : Bool) (x y : spawn.Told) (s s' : Session) (met : Met) (line : 
         none = spawns.asked.none;
       };
     },
-    subst (CountsIn line (Ok Reply.Memory) (met_only true) old) (sym (quiet long).1) (none_counts line Reply.Memory (met_only true) old refl),
+    subst (CountsIn line (Ok Reply.Memory) (met_only true) old) (sym (quiet long).2) (none_counts line Reply.Memory (met_only true) old refl),
   )

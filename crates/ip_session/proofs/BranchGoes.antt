@@ -143,7 +143,7 @@ module _ (r : Repository) (phase : Phase) (w : MachineWork) (name : Bytes) (targ
 
 pub unnamed_goes : (a : Told) (s : Session) (met : Met) (r : Repository) (v : View) (here : IsWorking a s r v) (name : Bytes) (target : Target) (reply : Reply) → met ≡ met_only false → resolve r target ≡ Err reply
     → GoesBy unasked a a s (record s { met = met }) r v (Command.Branch name target) reply
-unnamed_goes a s met r v here name target reply e none = still_goes a s met r v here (OnlyBy s.store a a (Command.Branch name target)) (Step unasked (state_in s r v) (Command.Branch name target)) (IsViewAfter r v (Command.Branch name target)) reply
+unnamed_goes a s met r v here name target reply e none = still_goes a s met r v here (OnlyBy s.store a a (Command.Branch name target)) (Step unasked (state_in s r v) (Command.Branch name target)) (IsViewAfter r v (Command.Branch name target)) reply (ap (λ (m : Met). m.child) e)
     (subst (λ (m : Met). Step unasked (state_in s r v) (Command.Branch name target) (conditions_of m) reply (state_in s r v)) (sym e) (unnamed r (phase_of s.store.collection) (work_at s.work v) name target reply none))
     refl
     (λ long. branch_refused name target r (phase_of s.store.collection) (work_at s.work v))

@@ -7,6 +7,7 @@ use Rattle.ip_ground.specs.declared.names.FileName.{FileName}
 use Rattle.ip_ground.specs.Told.{Told, NoFile, ChangesOnly}
 use Rattle.ip_ground.proofs.Spans.{only_nowhere}
 use Rattle.ip_spec.specs.declared.command.Command.{Command}
+use Rattle.ip_spec.specs.declared.met.Child.TheVariants as Child
 use Rattle.ip_spec.specs.declared.met.Met.{Met}
 use Rattle.ip_spec.specs.declared.reply.Reply.{Reply}
 use Rattle.ip_spec.specs.Machine.{Phase, Work as MachineWork}
@@ -30,11 +31,11 @@ use Rattle.ip_store.proofs.Stepping.{same_holds, stays_still}
 use Rattle.ip_store.proofs.Works.{works_stay}
 use Rattle.ip_session.specs.declared.session.Session.{Session}
 use Rattle.ip_session.specs.Placing.{PlacedBy}
-use Rattle.ip_session.specs.Session.{unasked, IsServing, IsWorking, state_in, met_only, conditions_of, IsLong, attempt_of, ChangesBy, ChangedBy, TouchedBy, GoesBy, CutBy}
+use Rattle.ip_session.specs.Session.{unasked, IsServing, IsWorking, state_in, met_only, conditions_of, IsLong, attempt_of, hears, ChangesBy, ChangedBy, TouchedBy, GoesBy, CutBy}
 use Rattle.ip_session.specs.Starting.{cancel_answer}
-use Rattle.ip_session.proofs.Changing.{keeps_nothing, nothing_by, never_cancelled}
+use Rattle.ip_session.proofs.Changing.{keeps_nothing, nothing_by, none_durable}
 use Rattle.ip_session.proofs.Placing.{unmoved}
-use Rattle.ip_session.proofs.SessionLemmas.{at, plainly, cancelled_is_short, orphan_is_short, idle_is_short}
+use Rattle.ip_session.proofs.SessionLemmas.{at, plainly, heard_none, unjudged, cancelled_is_short, orphan_is_short, idle_is_short}
 use Rattle.ip_session.proofs.StartGoes.{step_turned}
 
 -- the repository stays, whatever the answer is
@@ -77,26 +78,31 @@ module _ (a b : Told) (s : Session) (store : Store) (met : Met) (left : ℕ) (do
     At reply = PlacedBy unasked s.store.slot s.store.unswept store.slot (state_in s r v) v Command.Cancel reply
 
     pub cancel_placed : (done : Result Cancelled CancelFault) → IfOk (cancel_answer done) At
-    cancel_placed (Ok Cancelled.Done) = unmoved s.store.slot s.store.unswept store.slot (state_in s r v) v Command.Cancel Reply.Cancelled unasked (never_cancelled Reply.Cancelled) (λ l is. absurd (cc is)) (λ t is. absurd (cc is)) slot_is
-    cancel_placed (Ok Cancelled.Orphan) = unmoved s.store.slot s.store.unswept store.slot (state_in s r v) v Command.Cancel Reply.CancelledOrphan unasked (never_cancelled Reply.CancelledOrphan) (λ l is. absurd (cc is)) (λ t is. absurd (cc is)) slot_is
-    cancel_placed (Err CancelFault.Idle) = unmoved s.store.slot s.store.unswept store.slot (state_in s r v) v Command.Cancel Reply.Idle unasked (never_cancelled Reply.Idle) (λ l is. absurd (cc is)) (λ t is. absurd (cc is)) slot_is
+    cancel_placed (Ok Cancelled.Done) = unmoved s.store.slot s.store.unswept store.slot (state_in s r v) v Command.Cancel Reply.Cancelled unasked (none_durable Reply.Cancelled Command.Cancel refl) (λ h. h) (λ l is. absurd (cc is)) (λ t is. absurd (cc is)) slot_is
+    cancel_placed (Ok Cancelled.Orphan) = unmoved s.store.slot s.store.unswept store.slot (state_in s r v) v Command.Cancel Reply.CancelledOrphan unasked (none_durable Reply.CancelledOrphan Command.Cancel refl) (λ h. h) (λ l is. absurd (cc is)) (λ t is. absurd (cc is)) slot_is
+    cancel_placed (Err CancelFault.Idle) = unmoved s.store.slot s.store.unswept store.slot (state_in s r v) v Command.Cancel Reply.Idle unasked (none_durable Reply.Idle Command.Cancel refl) (λ h. h) (λ l is. absurd (cc is)) (λ t is. absurd (cc is)) slot_is
     cancel_placed (Err CancelFault.Ground) = tt
 
     gives : (reply : Reply) → Answers r reply → Step unasked (state_in s r v) Command.Cancel (conditions_of met) reply (state_in after_it r v)
     gives reply A = subst (λ (m : Met). Step unasked (state_in s r v) Command.Cancel (conditions_of m) reply (state_in after_it r v)) (sym is_met) (step_turned (state_in s r v) Command.Cancel store.met reply (state_in after_it r v) tt (A.turns (work_at s.work v)))
+
+    unheard : (reply : Reply) → Answers r reply → met.child ≡ Child.NotAsked
+    unheard reply A = ap (λ (m : Met). m.child) is_met ∙ heard_none (phase_of s.store.collection) Command.Cancel tt store.met.child (A.turns (work_at s.work v)).0.child
 
     -- none runs
     pub idle_goes : SameTables s.store store → b ≡ a → Answers r Reply.Idle → Went Reply.Idle
     idle_goes same told A = subst (λ (t : Told). GoesBy unasked a t s after_it r v Command.Cancel Reply.Idle) (sym told) (record {
       after = r;
       view = v;
+      difference = None;
       gives = gives Reply.Idle A;
+      judged = unjudged a a s after_it r v (unheard Reply.Idle A);
       is_at = (let holds = same_holds s.store store same r a here.holds in record {
         holds = holds;
         lawful = works_stay (image_records here.holds) (image_records holds) r r s.work v here.lawful (λ there. stays_still s.store store same r r a here.holds holds) (omega arith) here.lawful.parents;
       });
       seen = refl;
-      only = nothing_by (attempt_of s.store Command.Cancel) (ChangedBy s.store a.held Command.Cancel Reply.Idle) a a (only_nowhere a NoFile);
+      only = nothing_by (hears Command.Cancel) (attempt_of s.store Command.Cancel) (ChangedBy s.store a.held Command.Cancel Reply.Idle) a a (only_nowhere a NoFile);
       files = keeps_nothing a a (only_nowhere a NoFile);
       said = (only_nowhere a NoFile).said;
       atomic = λ order t late le. absurd (omega (arith, late, le));
@@ -107,20 +113,22 @@ module _ (a b : Told) (s : Session) (store : Store) (met : Met) (left : ℕ) (do
 
     -- one does
     module _ (c : Collection) (runs : s.store.collection ≡ Some c) (M : Cancels r c done s.store.unswept store a b) where
-      by_attempt : (these : FileName → Type 0) → ChangesFor c.job.attempt these a b → ChangesBy (attempt_of s.store Command.Cancel) these a b
-      by_attempt these changes = subst (λ (o : Option Collection). ChangesBy (option_map (λ x. x.job.attempt) o) these a b) (sym runs) changes
+      by_attempt : (these : FileName → Type 0) → ChangesFor c.job.attempt these a b → ChangesBy false (attempt_of s.store Command.Cancel) these a b
+      by_attempt these changes = subst (λ (o : Option Collection). ChangesBy false (option_map (λ x. x.job.attempt) o) these a b) (sym runs) changes
 
       swept : (file : FileName) → IsSwept store.slot s.store.unswept file → IsSwept s.store.slot s.store.unswept file
       swept file is = subst (λ (t : Slot). IsSwept t s.store.unswept file) slot_is is
 
       over_goes : (reply : Reply) → IsOk done → Answers r reply → ¬ IsLong reply → ((q : Repository) (now : Holds store b q) → RecordsStay (image_records here.holds) (image_records now))
-          → ChangesBy (attempt_of s.store Command.Cancel) (ChangedBy s.store a.held Command.Cancel reply) a b → Went reply
+          → ChangesBy false (attempt_of s.store Command.Cancel) (ChangedBy s.store a.held Command.Cancel reply) a b → Went reply
       over_goes reply is A short stay only =
           let holds = M.holds is in
           record {
             after = r;
             view = v;
+            difference = None;
             gives = gives reply A;
+            judged = unjudged a b s after_it r v (unheard reply A);
             is_at = record { holds = holds; lawful = works_stay (image_records here.holds) (image_records holds) r r s.work v here.lawful (λ there. stay r holds) (omega arith) here.lawful.parents };
             seen = refl;
             only = only;
@@ -137,7 +145,7 @@ module _ (a b : Told) (s : Session) (store : Store) (met : Met) (left : ℕ) (do
       cancel_goes (Ok Cancelled.Done) is not A stay orphan = over_goes Reply.Cancelled (ap is_ok is) A cancelled_is_short (stay refl)
           (by_attempt (ChangedBy s.store a.held Command.Cancel Reply.Cancelled) (for_more c.job.attempt (IsSwept store.slot s.store.unswept) (ChangedBy s.store a.held Command.Cancel Reply.Cancelled) a b (λ file this. (refl, swept file this)) M.only))
       cancel_goes (Ok Cancelled.Orphan) is not A stay orphan = over_goes Reply.CancelledOrphan (ap is_ok is) A orphan_is_short (stay refl)
-          (nothing_by (attempt_of s.store Command.Cancel) (ChangedBy s.store a.held Command.Cancel Reply.CancelledOrphan) a b (subst (ChangesOnly NoFile a) (sym (orphan refl)) (only_nowhere a NoFile)))
+          (nothing_by (hears Command.Cancel) (attempt_of s.store Command.Cancel) (ChangedBy s.store a.held Command.Cancel Reply.CancelledOrphan) a b (subst (ChangesOnly NoFile a) (sym (orphan refl)) (only_nowhere a NoFile)))
       cancel_goes (Err CancelFault.Idle) is not A stay orphan = absurd (not refl)
       cancel_goes (Err CancelFault.Ground) is not A stay orphan = tt
 
@@ -147,7 +155,9 @@ module _ (a b : Told) (s : Session) (store : Store) (met : Met) (left : ℕ) (do
           record {
             reply = t.0;
             after = t.1;
+            difference = None;
             gives = subst (λ (m : Met). Step unasked (state_in s r v) Command.Cancel (conditions_of m) t.0 t.1) (sym e) (plainly r (phase_of s.store.collection) (work_at s.work v) Command.Cancel false t.0 tt (λ h. absurd (cc h)), refl);
+            judged = unjudged a b s after_it r v (ap (λ (m : Met). m.child) e);
             only = by_attempt (TouchedBy s.store a.held Command.Cancel) (for_more c.job.attempt (IsSwept store.slot s.store.unswept) (TouchedBy s.store a.held Command.Cancel) a b swept M.only);
             files = M.files;
             said = M.only.said;

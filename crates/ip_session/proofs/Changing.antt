@@ -1,8 +1,8 @@
 -- Which files a command changes that may have to do with an attempt.
 --     changed_by      these files alone, whether there is an attempt or not.      nothing_by      none
---     keeps_nothing      no file of an attempt was written.      changed_so, touched_so      by a durable command.      nothing_only      nothing changed, by whatever line
+--     none_durable      a command that is not durable did nothing that is.      keeps_nothing      no file of an attempt was written.      changed_so, touched_so      by a durable command.      nothing_only      nothing changed, by whatever line
 --     handles_none      the command has to do with no child, so it is no collection
-use Rattle.std.proofs.Common.{◌≡◌, ◌≢◌, ℕ, true, subst, Option, Some, None}
+use Rattle.std.proofs.Common.{Bool, ◌≡◌, ◌≢◌, ℕ, true, false, refl, subst, Option, Some, None}
 use Rattle.ip_ground.specs.declared.names.FileName.{FileName}
 use Rattle.ip_ground.specs.Contents.{Image}
 use Rattle.ip_ground.specs.Told.{Told, NoFile, ChangesOnly}
@@ -15,40 +15,49 @@ use Rattle.ip_store.specs.declared.store.Store.{Store}
 use Rattle.ip_store.specs.Publishing.{MayChange}
 use Rattle.ip_store.specs.Sweeping.{KeepsFiles}
 use Rattle.ip_store.proofs.Apart.{for_only}
+use Rattle.ip_store.proofs.Ended.{ends_only}
 use Rattle.ip_store.proofs.KeptFiles.{keeps_store}
 use Rattle.ip_session.specs.Asking.{HandlesNone}
-use Rattle.ip_session.specs.Session.{attempt_of, is_durable, IsDurable, ChangesBy, ChangedBy, TouchedBy, OnlyIn}
+use Rattle.ip_session.specs.Session.{attempt_of, hears, is_durable, IsDurable, ChangesBy, ChangedBy, TouchedBy, OnlyIn}
 
-pub changed_by : (attempt : Option ℕ) (these : FileName → Type 0) (a b : Told) → ChangesOnly these a b → ChangesBy attempt these a b
-changed_by None these a b only = only
-changed_by (Some n) these a b only = for_only n these a b only
+pub changed_by : (heard : Bool) (attempt : Option ℕ) (these : FileName → Type 0) (a b : Told) → ChangesOnly these a b → ChangesBy heard attempt these a b
+changed_by false None these a b only = only
+changed_by true None these a b only = only
+changed_by false (Some n) these a b only = for_only n these a b only
+changed_by true (Some n) these a b only = ends_only n these a b only
 
-pub nothing_by : (attempt : Option ℕ) (these : FileName → Type 0) (a b : Told) → ChangesOnly NoFile a b → ChangesBy attempt these a b
-nothing_by attempt these a b only = changed_by attempt these a b (only_more a b NoFile these (λ file none. absurd none) only)
+pub nothing_by : (heard : Bool) (attempt : Option ℕ) (these : FileName → Type 0) (a b : Told) → ChangesOnly NoFile a b → ChangesBy heard attempt these a b
+nothing_by heard attempt these a b only = changed_by heard attempt these a b (only_more a b NoFile these (λ file none. absurd none) only)
 
-pub never_cancelled : (reply : Reply) → ¬ IsDurable reply Command.Cancel
-never_cancelled (Reply.Committed hash) done = done
-never_cancelled (Reply.Forward hash) done = done
-never_cancelled (Reply.Merged hash) done = done
-never_cancelled Reply.Accepted done = done
-never_cancelled (Reply.Started hash) done = done
-never_cancelled Reply.StartFault done = done
-never_cancelled _ done = done
+-- by a command that is none
+pub none_durable : (reply : Reply) (command : Command) → is_durable command ≡ false → ¬ IsDurable reply command
+none_durable (Reply.Committed hash) (Command.Commit branch info) e h = absurd (cc e)
+none_durable (Reply.Forward hash) (Command.Merge target branch info) e h = absurd (cc e)
+none_durable (Reply.Merged hash) (Command.Merge target branch info) e h = absurd (cc e)
+none_durable Reply.Accepted (Command.Branch name target) e h = absurd (cc e)
+none_durable Reply.Accepted (Command.BranchRm name) e h = absurd (cc e)
+none_durable (Reply.Started hash) (Command.Collect target) e h = absurd (cc e)
+none_durable Reply.StartFault (Command.Collect target) e h = absurd (cc e)
+none_durable _ _ e h = absurd h
 
 pub keeps_nothing : (a b : Told) → ChangesOnly NoFile a b → KeepsFiles a b
 keeps_nothing a b only = keeps_store a b NoFile (λ file none. absurd none) only
 
 pub changed_so : (store : Store) (image : Image) (command : Command) (reply : Reply) (file : FileName) → IsDurable reply command → MayChange image file → ChangedBy store image command reply file
-changed_so store image Command.Cancel reply file done may = absurd (never_cancelled reply done)
+changed_so store image Command.Look reply file done may = absurd (none_durable reply Command.Look refl done)
+changed_so store image Command.Finish reply file done may = absurd (none_durable reply Command.Finish refl done)
+changed_so store image Command.Cancel reply file done may = absurd (none_durable reply Command.Cancel refl done)
 changed_so store image _ reply file done may = (done, may)
 
 pub touched_so : (store : Store) (image : Image) (command : Command) (file : FileName) → is_durable command ≡ true → MayChange image file → TouchedBy store image command file
+touched_so store image Command.Look file durable may = absurd (cc durable)
+touched_so store image Command.Finish file durable may = absurd (cc durable)
 touched_so store image Command.Cancel file durable may = absurd (cc durable)
 touched_so store image _ file durable may = (durable, may)
 
 pub nothing_only : (store : Store) (a b : Told) (line : Bytes) (reply : Reply) → ChangesOnly NoFile a b → OnlyIn store a b line reply
 nothing_only store a b line reply only = record {
-  command = λ command served. nothing_by (attempt_of store command) (ChangedBy store a.held command reply) a b only;
+  command = λ command served. nothing_by (hears command) (attempt_of store command) (ChangedBy store a.held command reply) a b only;
   none = λ none. only;
 }
 

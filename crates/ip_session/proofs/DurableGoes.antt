@@ -37,9 +37,9 @@ use Rattle.ip_store.proofs.KeptFiles.{keeps_store}
 use Rattle.ip_store.proofs.Recovering.{recovers_since}
 use Rattle.ip_store.proofs.Stepping.{of_store}
 use Rattle.ip_session.specs.declared.session.Session.{Session}
-use Rattle.ip_session.specs.Session.{unasked, attempt_of, IsWorking, state_in, met_only, conditions_of, IsLong, is_durable, IsDurable, ChangedBy, TouchedBy, GoesBy, CutBy}
+use Rattle.ip_session.specs.Session.{unasked, attempt_of, hears, IsWorking, state_in, met_only, conditions_of, IsLong, is_durable, IsDurable, ChangedBy, TouchedBy, GoesBy, CutBy}
 use Rattle.ip_session.proofs.Changing.{changed_by, nothing_by, changed_so, touched_so, keeps_nothing}
-use Rattle.ip_session.proofs.SessionLemmas.{at, heard_none, nothing_kept, plainly, Refusable}
+use Rattle.ip_session.proofs.SessionLemmas.{at, heard_none, unjudged, nothing_kept, plainly, Refusable}
 
 pub keeps_still : (store : Store) (r after : Repository) (a b : Told) → Holds store a r → NothingPending a → ChangesOnly NoFile a b → IsAtomic a b r after
 keeps_still store r after a b holds order only t late le =
@@ -128,10 +128,12 @@ module _ (a b : Told) (s : Session) (store : Store) (work : Work) (r after : Rep
       record {
         after = T.next;
         view = T.view;
+        difference = None;
         gives = step_of r (phase_of s.store.collection) (work_at s.work v) command after whole store.met (heard_as T) reply (session T.next (phase_of store.collection) work T.view) T.turns.1 T.turns.0;
+        judged = unjudged a b s after_it r v (heard_as T);
         is_at = T.is_at (subst (Holds store b) (sym repository) does.1);
         seen = T.seen;
-        only = nothing_by (attempt_of s.store command) (ChangedBy s.store a.held command reply) a b only;
+        only = nothing_by (hears command) (attempt_of s.store command) (ChangedBy s.store a.held command reply) a b only;
         files = keeps_nothing a b only;
         said = only.said;
         atomic = λ order. keeps_still s.store r T.next a b here.holds order only;
@@ -156,10 +158,12 @@ module _ (a b : Told) (s : Session) (store : Store) (work : Work) (r after : Rep
       record {
         after = T.next;
         view = T.view;
+        difference = None;
         gives = step_of r (phase_of s.store.collection) (work_at s.work v) command after whole store.met (heard_as T) reply (session T.next (phase_of store.collection) work T.view) T.turns.1 T.turns.0;
+        judged = unjudged a b s after_it r v (heard_as T);
         is_at = T.is_at (subst (Holds store b) (sym repository) does.ok);
         seen = T.seen;
-        only = changed_by (attempt_of s.store command) (ChangedBy s.store a.held command reply) a b (only_more a b _ (ChangedBy s.store a.held command reply) (λ file changed. changed_so s.store a.held command reply file done changed) does.only);
+        only = changed_by (hears command) (attempt_of s.store command) (ChangedBy s.store a.held command reply) a b (only_more a b _ (ChangedBy s.store a.held command reply) (λ file changed. changed_so s.store a.held command reply file done changed) does.only);
         files = keeps_store a b (MayChange a.held) (of_store a.held) does.only;
         said = does.only.said;
         atomic = λ order. subst (λ (q : Repository). IsAtomic a b r q) (sym repository) (does.atomic order);
@@ -181,8 +185,10 @@ module _ (a b : Told) (s : Session) (store : Store) (work : Work) (r after : Rep
       record {
         reply = t.0;
         after = t.1;
+        difference = None;
         gives = subst (λ (m : Met). Step unasked (state_in s r v) command (conditions_of m) t.0 t.1) (sym e) (plainly r (phase_of s.store.collection) (work_at s.work v) command false t.0 (durable_asks command durable) (λ h. absurd (cc h)), whole.plain (conditions_of (met_only false)) t refl);
-        only = changed_by (attempt_of s.store command) (TouchedBy s.store a.held command) a b (only_more a b (MayChange a.held) (TouchedBy s.store a.held command) (λ file changed. touched_so s.store a.held command file durable changed) does.only);
+        judged = unjudged a b s (record s { store = store; work = work; met = met }) r v (ap (λ (m : Met). m.child) e);
+        only = changed_by (hears command) (attempt_of s.store command) (TouchedBy s.store a.held command) a b (only_more a b (MayChange a.held) (TouchedBy s.store a.held command) (λ file changed. touched_so s.store a.held command file durable changed) does.only);
         files = keeps_store a b (MayChange a.held) (of_store a.held) does.only;
         said = does.only.said;
         atomic = λ order. subst (λ (q : Repository). IsAtomic a b r q) (sym repository) (does.atomic order);

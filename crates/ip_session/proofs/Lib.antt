@@ -14,4 +14,6 @@ pub mod MergeGoes
 mod Asking
 mod StartGoes
 mod CancelGoes
+mod FinishGoes
+mod FinishAsked
 mod Running

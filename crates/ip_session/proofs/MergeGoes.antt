@@ -3,7 +3,7 @@
 --     unmerged_goes      no commit has the name that was given.      merge_serves      the session goes on serving, whatever is told
 --     merge_placed, unmerged_placed      where its records lie
 --     has_reply      what has a reply is an answer.      merge_ends, merge_counts, answer_counts      what comes of one that has none, and which faults were counted
-use Rattle.std.proofs.Common.{◌≡◌, ◌≢◌, ℕ, false, [], ◌∷◌, ◌++◌, length, refl, sym, ap, subst, arith, Option, Some, Ok, Err, length-append}
+use Rattle.std.proofs.Common.{◌≡◌, ◌≢◌, ℕ, false, [], ◌∷◌, ◌++◌, length, refl, sym, ap, subst, arith, Option, Some, None, Ok, Err, length-append}
 use Rattle.std.specs.Prelude.{Result, MatchResult, IfSome, codes}
 use Rattle.ip_base.specs.declared.info.Info.{Info}
 use Rattle.ip_base.specs.declared.limit.Limit.TheVariants as Limit
@@ -46,9 +46,9 @@ use Rattle.ip_store.proofs.KeptFiles.{keeps_store}
 use Rattle.ip_store.proofs.Works.{works_stay}
 use Rattle.ip_session.specs.declared.session.Session.{Session}
 use Rattle.ip_session.specs.declared.session.SessionEnd.{SessionEnd}
-use Rattle.ip_session.specs.Placing.{PlacedBy}
-use Rattle.ip_session.specs.Session.{ground_end, IsServing, IsWorking, state_in, met_only, conditions_of, IsLong, IsDurable, attempt_of, ChangedBy, TouchedBy, OnlyBy, GoesBy, CutBy, EndsBy, EndsBecause, IsNamed}
-use Rattle.ip_session.proofs.SessionLemmas.{at, plainly, hex_long, merge_refused}
+use Rattle.ip_session.specs.Placing.{HasCollected, PlacedBy}
+use Rattle.ip_session.specs.Session.{ground_end, IsServing, IsWorking, state_in, met_only, conditions_of, IsLong, IsDurable, attempt_of, hears, ChangedBy, TouchedBy, OnlyBy, GoesBy, CutBy, EndsBy, EndsBecause, IsNamed}
+use Rattle.ip_session.proofs.SessionLemmas.{at, plainly, heard_none, unjudged, hex_long, merge_refused}
 use Rattle.ip_session.proofs.Referring.{IsUnnamed, NamesNone, names_none}
 use Rattle.ip_session.proofs.Changing.{nothing_by, keeps_nothing}
 use Rattle.ip_session.proofs.SessionGoes.{still_goes}
@@ -109,7 +109,7 @@ module _ (target : Target) (branch : Bytes) (info : Info) where
       )
 
   pub unmerged_goes : (rule : Rule) (a : Told) (s : Session) (met : Met) (r : Repository) (v : View) (here : IsWorking a s r v) (reply : Reply) → met ≡ met_only false → resolve r target ≡ Err reply → GoesBy rule a a s (record s { met = met }) r v merging reply
-  unmerged_goes rule a s met r v here reply e none = still_goes a s met r v here (OnlyBy s.store a a merging) (Step rule (state_in s r v) merging) (IsViewAfter r v merging) reply
+  unmerged_goes rule a s met r v here reply e none = still_goes a s met r v here (OnlyBy s.store a a merging) (Step rule (state_in s r v) merging) (IsViewAfter r v merging) reply (ap (λ (m : Met). m.child) e)
       (subst (λ (m : Met). Step rule (state_in s r v) merging (conditions_of m) reply (state_in s r v)) (sym e) (unnamed_step rule r (phase_of s.store.collection) (work_at s.work v) reply none))
       refl
       (λ long. merge_refused target branch info r (phase_of s.store.collection) (work_at s.work v))
@@ -119,8 +119,8 @@ module _ (target : Target) (branch : Bytes) (info : Info) where
   unmerged_placed rule slot u s v reply is = by reply (subst NamesNone is (names_none s.repository target))
     where
       by : (reply : Reply) → IsUnnamed reply → PlacedBy rule slot u slot s v merging reply
-      by (Reply.NoBranch other) un = unmoved slot u slot s v merging (Reply.NoBranch other) rule (λ h. h) (λ l e. absurd (cc e)) (λ t e. absurd (cc e)) refl
-      by (Reply.NoCommit hash) un = unmoved slot u slot s v merging (Reply.NoCommit hash) rule (λ h. h) (λ l e. absurd (cc e)) (λ t e. absurd (cc e)) refl
+      by (Reply.NoBranch other) un = unmoved slot u slot s v merging (Reply.NoBranch other) rule (λ h. h) (λ h. h) (λ l e. absurd (cc e)) (λ t e. absurd (cc e)) refl
+      by (Reply.NoCommit hash) un = unmoved slot u slot s v merging (Reply.NoCommit hash) rule (λ h. h) (λ h. h) (λ l e. absurd (cc e)) (λ t e. absurd (cc e)) refl
       by _ un = absurd un
 
 -- ---- the command
@@ -157,10 +157,12 @@ module _ (rule : Rule) (a b : Told) (s : Session) (store : Store) (phase_is : st
       record {
         after = A.after;
         view = v;
+        difference = None;
         gives = turns_on reply A;
+        judged = unjudged a b s (record s { store = store; met = store.met }) r v (heard_none (phase_of s.store.collection) command tt store.met.child (turns_on reply A).0.child);
         is_at = works stay reply A;
         seen = refl;
-        only = nothing_by (attempt_of s.store command) (ChangedBy s.store a.held command reply) a b only;
+        only = nothing_by (hears command) (attempt_of s.store command) (ChangedBy s.store a.held command reply) a b only;
         files = keeps_nothing a b only;
         said = only.said;
         atomic = λ order. keeps_still s.store r A.after a b here.holds order only;
@@ -175,7 +177,9 @@ module _ (rule : Rule) (a b : Told) (s : Session) (store : Store) (phase_is : st
       record {
         after = A.after;
         view = v;
+        difference = None;
         gives = turns_on reply A;
+        judged = unjudged a b s (record s { store = store; met = store.met }) r v (heard_none (phase_of s.store.collection) command tt store.met.child (turns_on reply A).0.child);
         is_at = works stay reply A;
         seen = refl;
         only = only_more a b _ (ChangedBy s.store a.held command reply) (λ file changed. (done, changed)) does.only;
@@ -212,7 +216,9 @@ module _ (rule : Rule) (a b : Told) (s : Session) (store : Store) (phase_is : st
   merge_cut met made e M = record {
     reply = M.reply;
     after = state_at M.after (phase_of s.store.collection) (work_at s.work v);
+    difference = None;
     gives = subst (λ (m : Met). Step rule (state_in s r v) command (conditions_of m) M.reply (state_at M.after (phase_of s.store.collection) (work_at s.work v))) (sym e) (M.turns (work_at s.work v) target named);
+    judged = unjudged a b s (record s { store = store; met = met }) r v (ap (λ (m : Met). m.child) e);
     only = only_more a b (MayChange a.held) (TouchedBy s.store a.held command) (λ file changed. (refl, changed)) M.changes.only;
     files = keeps_store a b (MayChange a.held) (of_store a.held) M.changes.only;
     said = M.changes.only.said;
@@ -228,54 +234,64 @@ module _ (rule : Rule) (a b : Told) (s : Session) (store : Store) (phase_is : st
   abbrev Limits : Result Merge StoreFault → Type 0
   Limits made = LimitsMerge rule (image_records here.holds) r number branch info made s.store
 
-  still_at : (reply : Reply) → ¬ IsDurable reply command → ((l : _) → reply ≢ Reply.Limit l) → store.slot ≡ s.store.slot → At reply
-  still_at reply not none same = unmoved s.store.slot s.store.unswept store.slot (state_in s r v) v command reply rule not none (λ t e. absurd (cc e)) same
+  still_at : (reply : Reply) → ¬ IsDurable reply command → ¬ HasCollected reply command → ((l : _) → reply ≢ Reply.Limit l) → store.slot ≡ s.store.slot → At reply
+  still_at reply not over none same = unmoved s.store.slot s.store.unswept store.slot (state_in s r v) v command reply rule not over none (λ t e. absurd (cc e)) same
 
   placed : (made : Result Merge StoreFault) → Appended made → Limits made → IfSome (merge_reply branch made) At
-  placed (Ok (Merge.Current name)) A L = still_at (Reply.Current name) (λ h. h) (λ l is. absurd (cc is)) (A tt)
+  placed (Ok (Merge.Current name)) A L = still_at (Reply.Current name) (λ h. h) (λ h. h) (λ l is. absurd (cc is)) (A tt)
   placed (Ok (Merge.Forward name)) A L = record {
     done = λ _. record { more = A.more; commits = A.commits; are = (number, named, image_records here.holds, A.are); so = (A.appends.slot, A.room, A.sequence) };
-    quiet = λ quiet. absurd (quiet tt);
+    quiet = λ quiet _. absurd (quiet tt);
+    collected = λ floor left may is. absurd may;
+    ended = λ may is. absurd may;
     space = λ _ is. absurd (cc is);
     sequence = λ _ is. absurd (cc is);
     attempt = λ t is. absurd (cc is);
   }
   placed (Ok (Merge.Merged name)) A L = record {
     done = λ _. record { more = A.more; commits = A.commits; are = (number, named, image_records here.holds, A.are); so = (A.appends.slot, A.room, A.sequence) };
-    quiet = λ quiet. absurd (quiet tt);
+    quiet = λ quiet _. absurd (quiet tt);
+    collected = λ floor left may is. absurd may;
+    ended = λ may is. absurd may;
     space = λ _ is. absurd (cc is);
     sequence = λ _ is. absurd (cc is);
     attempt = λ t is. absurd (cc is);
   }
-  placed (Ok Merge.NoBranch) A L = still_at (Reply.NoBranch branch) (λ h. h) (λ l is. absurd (cc is)) (A tt)
-  placed (Ok (Merge.Bases count)) A L = still_at (Reply.Bases count) (λ h. h) (λ l is. absurd (cc is)) (A tt)
-  placed (Ok (Merge.Conflict path)) A L = still_at (Reply.Conflict path) (λ h. h) (λ l is. absurd (cc is)) (A tt)
-  placed (Err (StoreFault.GivenUp left)) A L = still_at (Reply.GivenUp left) (λ h. h) (λ l is. absurd (cc is)) (A tt)
-  placed (Err (StoreFault.Leaving left)) A L = still_at (Reply.Leaving left) (λ h. h) (λ l is. absurd (cc is)) (A tt)
-  placed (Err (StoreFault.HeadMoved name)) A L = still_at (Reply.HeadMoved name) (λ h. h) (λ l is. absurd (cc is)) (A tt)
-  placed (Err (StoreFault.Existing name)) A L = still_at (Reply.Existing name) (λ h. h) (λ l is. absurd (cc is)) (A tt)
+  placed (Ok Merge.NoBranch) A L = still_at (Reply.NoBranch branch) (λ h. h) (λ h. h) (λ l is. absurd (cc is)) (A tt)
+  placed (Ok (Merge.Bases count)) A L = still_at (Reply.Bases count) (λ h. h) (λ h. h) (λ l is. absurd (cc is)) (A tt)
+  placed (Ok (Merge.Conflict path)) A L = still_at (Reply.Conflict path) (λ h. h) (λ h. h) (λ l is. absurd (cc is)) (A tt)
+  placed (Err (StoreFault.GivenUp left)) A L = still_at (Reply.GivenUp left) (λ h. h) (λ h. h) (λ l is. absurd (cc is)) (A tt)
+  placed (Err (StoreFault.Leaving left)) A L = still_at (Reply.Leaving left) (λ h. h) (λ h. h) (λ l is. absurd (cc is)) (A tt)
+  placed (Err (StoreFault.HeadMoved name)) A L = still_at (Reply.HeadMoved name) (λ h. h) (λ h. h) (λ l is. absurd (cc is)) (A tt)
+  placed (Err (StoreFault.Existing name)) A L = still_at (Reply.Existing name) (λ h. h) (λ h. h) (λ l is. absurd (cc is)) (A tt)
   placed (Err (StoreFault.Limit Limit.Space)) A L = record {
     done = λ done. absurd done;
-    quiet = λ _. A tt;
+    quiet = λ _ _. A tt;
+    collected = λ floor left may is. absurd may;
+    ended = λ may is. absurd may;
     space = λ _ is. record { more = L.more; commits = L.commits; are = (number, named, image_records here.holds, L.are); so = L.short };
     sequence = λ _ is. absurd (cc is);
     attempt = λ t is. absurd (cc is);
   }
   placed (Err (StoreFault.Limit Limit.Sequence)) A L = record {
     done = λ done. absurd done;
-    quiet = λ _. A tt;
+    quiet = λ _ _. A tt;
+    collected = λ floor left may is. absurd may;
+    ended = λ may is. absurd may;
     space = λ _ is. absurd (cc is);
     sequence = λ _ is. record { more = L.more; commits = L.commits; are = (number, named, image_records here.holds, L.are); so = L.short };
     attempt = λ t is. absurd (cc is);
   }
   placed (Err (StoreFault.Limit _)) A L = record {
     done = λ done. absurd done;
-    quiet = λ _. A tt;
+    quiet = λ _ _. A tt;
+    collected = λ floor left may is. absurd may;
+    ended = λ may is. absurd may;
     space = λ _ is. absurd (cc is);
     sequence = λ _ is. absurd (cc is);
     attempt = λ t is. absurd (cc is);
   }
-  placed (Err StoreFault.Memory) A L = still_at Reply.Memory (λ h. h) (λ l is. absurd (cc is)) (A tt)
+  placed (Err StoreFault.Memory) A L = still_at Reply.Memory (λ h. h) (λ h. h) (λ l is. absurd (cc is)) (A tt)
   placed (Err StoreFault.Ground) A L = tt
   placed (Err (StoreFault.Damaged at_ names)) A L = tt
 

@@ -22,7 +22,7 @@ use Rattle.ip_spec.specs.Step.{resolve, with_branch}
 use Rattle.ip_spec.specs.TreeAt.{Records}
 use Rattle.ip_spec.specs.View.{View}
 use Rattle.ip_spec.proofs.BatchLaws.{batch_lies}
-use Rattle.ip_script.specs.Served.{IsServedLine}
+use Rattle.ip_spec.specs.Line.{IsLineOf}
 use Rattle.ip_image.specs.declared.slot.Slot.{Slot}
 use Rattle.ip_image.specs.Appending.{fields_of, bytes_of_records}
 use Rattle.ip_image.proofs.HeadlineLaws.{one_slot}
@@ -38,11 +38,12 @@ use Rattle.ip_store.specs.Store.{Holds}
 use Rattle.ip_store.proofs.Recovering.{held_has}
 use Rattle.ip_session.specs.declared.session.Session.{Session}
 use Rattle.ip_session.specs.declared.session.SessionEnd.{SessionEnd}
+use Rattle.ip_session.specs.Asking.{MayReap}
 use Rattle.ip_session.specs.Session.{unasked, IsWorking, state_in, is_durable, IsDurable, HasRead}
-use Rattle.ip_session.specs.Placing.{named_record, appended, commits_in, slot_behind, AttemptsLeft, IsAppended, OfRecords, PlacedBy, PlacedIn}
+use Rattle.ip_session.specs.Placing.{HasCollected, named_record, appended, commits_in, slot_behind, AttemptsLeft, IsAppended, OfRecords, PlacedBy, PlacedIn}
 use Rattle.ip_session.proofs.Referring.{IsUnnamed, NamesNone, names_none}
 use Rattle.ip_session.proofs.DurableGoes.{answered}
-use Rattle.ip_session.proofs.ReadGoes.{none_durable}
+use Rattle.ip_session.proofs.Changing.{none_durable}
 
 pub same_slot : (store store' : Store) (r q : Repository) (a b : Told) → Holds store a r → Holds store' b q → b.held Control ≡ a.held Control → store'.slot ≡ store.slot
 same_slot store store' r q a b before after same =
@@ -71,47 +72,60 @@ IsPlain slot s v command = IsAppended unasked slot s v command (appended slot s 
 of_these : (slot : Slot) (s : State) (v : View) (command : Command) (Says : (length commits : ℕ) → Type 0) → IsPlain slot s v command → Says (length_of slot s v command) (commits_in command) → OfRecords (IsAppended unasked slot s v command) Says
 of_these slot s v command Says plain so = record { more = appended slot s v command; commits = commits_in command; are = plain; so = so }
 
+-- a command that may reap a child appends no records
+never_reaps : (command : Command) (reply : Reply) → MayReap command → ¬ IsDurable reply command
+never_reaps Command.Look reply may done = none_durable reply Command.Look refl done
+never_reaps Command.Finish reply may done = none_durable reply Command.Finish refl done
+never_reaps Command.Cancel reply may done = none_durable reply Command.Cancel refl done
+never_reaps _ reply may done = absurd may
+
 module _ (slot : Slot) (u : Unswept) (slot' : Slot) (s : State) (v : View) (command : Command) (reply : Reply) where
   -- the store did it
   did : IsPlain slot s v command → IsDurable reply command → ((l : Limit) → reply ≢ Reply.Limit l) → ((target : Target) → command ≢ Command.Collect target) → slot' ≡ slot_behind command (carrying slot u) (length_of slot s v command) (commits_in command)
       → (slot.end + length_of slot s v command ≤ 2 ^ 62) × (slot.sequence < 2 ^ 62) → PlacedBy unasked slot u slot' s v command reply
   did plain done none other slot_is enough = record {
     done = λ _. of_these slot s v command _ plain (slot_is, enough.0, enough.1);
-    quiet = λ quiet. absurd (quiet done);
+    quiet = λ quiet _. absurd (quiet done);
+    collected = λ floor left may is. absurd (never_reaps command reply may done);
+    ended = λ may limit. absurd (none Limit.Sequence limit);
     space = λ _ limit. absurd (none Limit.Space limit);
     sequence = λ _ limit. absurd (none Limit.Sequence limit);
     attempt = λ target is. absurd (other target is);
   }
 
   -- nothing was done, and no limit was met
-  pub unmoved : (rule : Rule) → ¬ IsDurable reply command → ((l : Limit) → reply ≢ Reply.Limit l) → ((target : Target) → command ≡ Command.Collect target → AttemptsLeft slot reply) → slot' ≡ slot → PlacedBy rule slot u slot' s v command reply
-  unmoved rule not none left same = record {
+  pub unmoved : (rule : Rule) → ¬ IsDurable reply command → ¬ HasCollected reply command → ((l : Limit) → reply ≢ Reply.Limit l) → ((target : Target) → command ≡ Command.Collect target → AttemptsLeft slot reply) → slot' ≡ slot → PlacedBy rule slot u slot' s v command reply
+  unmoved rule not over none left same = record {
     done = λ done. absurd (not done);
-    quiet = λ quiet. same;
+    quiet = λ quiet _. same;
+    collected = λ floor left may is. absurd (over (subst (λ (x : Reply). HasCollected x command) (sym is) may));
+    ended = λ may limit. absurd (none Limit.Sequence limit);
     space = λ _ limit. absurd (none Limit.Space limit);
     sequence = λ _ limit. absurd (none Limit.Sequence limit);
     attempt = left;
   }
 
 -- the store refused it
-refused : {A : Type 0} (slot : Slot) (u : Unswept) (slot' : Slot) (s : State) (v : View) (command : Command) (fault : StoreFault) (reply : Reply) (store : Store) → IsPlain slot s v command → ((target : Target) → command ≢ Command.Collect target) → fault_reply fault ≡ Some reply → store.slot ≡ slot
+refused : {A : Type 0} (slot : Slot) (u : Unswept) (slot' : Slot) (s : State) (v : View) (command : Command) (fault : StoreFault) (reply : Reply) (store : Store) → IsPlain slot s v command → ((target : Target) → command ≢ Command.Collect target) → ¬ MayReap command → fault_reply fault ≡ Some reply → store.slot ≡ slot
     → LimitsSpace {A = A} (slot.end + length_of slot s v command) (Err fault) store → slot' ≡ slot → PlacedBy unasked slot u slot' s v command reply
-refused slot u slot' s v command (StoreFault.GivenUp number) reply store plain other e at limits same = let is : Reply.GivenUp number ≡ reply = cc e in subst (PlacedBy unasked slot u slot' s v command) is (unmoved slot u slot' s v command (Reply.GivenUp number) unasked (λ h. h) (λ l is. absurd (cc is)) (λ target is. absurd (other target is)) same)
-refused slot u slot' s v command (StoreFault.Leaving number) reply store plain other e at limits same = let is : Reply.Leaving number ≡ reply = cc e in subst (PlacedBy unasked slot u slot' s v command) is (unmoved slot u slot' s v command (Reply.Leaving number) unasked (λ h. h) (λ l is. absurd (cc is)) (λ target is. absurd (other target is)) same)
-refused slot u slot' s v command (StoreFault.HeadMoved name) reply store plain other e at limits same = let is : Reply.HeadMoved name ≡ reply = cc e in subst (PlacedBy unasked slot u slot' s v command) is (unmoved slot u slot' s v command (Reply.HeadMoved name) unasked (λ h. h) (λ l is. absurd (cc is)) (λ target is. absurd (other target is)) same)
-refused slot u slot' s v command (StoreFault.Existing name) reply store plain other e at limits same = let is : Reply.Existing name ≡ reply = cc e in subst (PlacedBy unasked slot u slot' s v command) is (unmoved slot u slot' s v command (Reply.Existing name) unasked (λ h. h) (λ l is. absurd (cc is)) (λ target is. absurd (other target is)) same)
-refused slot u slot' s v command (StoreFault.Limit limit) reply store plain other e at limits same =
+refused slot u slot' s v command (StoreFault.GivenUp number) reply store plain other reaps e at limits same = let is : Reply.GivenUp number ≡ reply = cc e in subst (PlacedBy unasked slot u slot' s v command) is (unmoved slot u slot' s v command (Reply.GivenUp number) unasked (λ h. h) (λ h. h) (λ l is. absurd (cc is)) (λ target is. absurd (other target is)) same)
+refused slot u slot' s v command (StoreFault.Leaving number) reply store plain other reaps e at limits same = let is : Reply.Leaving number ≡ reply = cc e in subst (PlacedBy unasked slot u slot' s v command) is (unmoved slot u slot' s v command (Reply.Leaving number) unasked (λ h. h) (λ h. h) (λ l is. absurd (cc is)) (λ target is. absurd (other target is)) same)
+refused slot u slot' s v command (StoreFault.HeadMoved name) reply store plain other reaps e at limits same = let is : Reply.HeadMoved name ≡ reply = cc e in subst (PlacedBy unasked slot u slot' s v command) is (unmoved slot u slot' s v command (Reply.HeadMoved name) unasked (λ h. h) (λ h. h) (λ l is. absurd (cc is)) (λ target is. absurd (other target is)) same)
+refused slot u slot' s v command (StoreFault.Existing name) reply store plain other reaps e at limits same = let is : Reply.Existing name ≡ reply = cc e in subst (PlacedBy unasked slot u slot' s v command) is (unmoved slot u slot' s v command (Reply.Existing name) unasked (λ h. h) (λ h. h) (λ l is. absurd (cc is)) (λ target is. absurd (other target is)) same)
+refused slot u slot' s v command (StoreFault.Limit limit) reply store plain other reaps e at limits same =
     let is : Reply.Limit limit ≡ reply = cc e in
     subst (PlacedBy unasked slot u slot' s v command) is (record {
       done = λ done. absurd done;
-      quiet = λ quiet. same;
+      quiet = λ quiet _. same;
+      collected = λ floor left may is. absurd (cc is);
+      ended = λ may is. absurd (reaps may);
       space = λ _ is. of_these slot s v command _ plain (limits.space (cc is));
       sequence = λ _ is. let both = limits.sequence (cc is) in of_these slot s v command _ plain (both.0, ap (λ (t : Slot). t.sequence) (sym at) ∙ both.1);
       attempt = λ target is. absurd (other target is);
     })
-refused slot u slot' s v command StoreFault.Memory reply store plain other e at limits same = let is : Reply.Memory ≡ reply = cc e in subst (PlacedBy unasked slot u slot' s v command) is (unmoved slot u slot' s v command Reply.Memory unasked (λ h. h) (λ l is. absurd (cc is)) (λ target is. absurd (other target is)) same)
-refused slot u slot' s v command StoreFault.Ground reply store plain other e at limits same = absurd (cc e)
-refused slot u slot' s v command (StoreFault.Damaged at_ names) reply store plain other e at limits same = absurd (cc e)
+refused slot u slot' s v command StoreFault.Memory reply store plain other reaps e at limits same = let is : Reply.Memory ≡ reply = cc e in subst (PlacedBy unasked slot u slot' s v command) is (unmoved slot u slot' s v command Reply.Memory unasked (λ h. h) (λ h. h) (λ l is. absurd (cc is)) (λ target is. absurd (other target is)) same)
+refused slot u slot' s v command StoreFault.Ground reply store plain other reaps e at limits same = absurd (cc e)
+refused slot u slot' s v command (StoreFault.Damaged at_ names) reply store plain other reaps e at limits same = absurd (cc e)
 
 -- ---- the durable commands
 
@@ -134,7 +148,7 @@ module _ (a b : Told) (s : Session) (store : Store) (r : Repository) (v : View) 
         (subst (λ (n : ℕ). n ≤ 2 ^ 62) length_is limits.enough.0, limits.enough.1))
     commit_placed (Err fault) reply e does limits appends =
         let still = does.refused (refl, answered Hash fault reply e) in
-        refused {A = Hash} s.store.slot s.store.unswept store.slot (state_in s r v) v committing fault reply s.store (refl, refl) (λ t is. absurd (cc is)) e refl
+        refused {A = Hash} s.store.slot s.store.unswept store.slot (state_in s r v) v committing fault reply s.store (refl, refl) (λ t is. absurd (cc is)) (λ may. may) e refl
         (subst (λ (n : ℕ). LimitsSpace {A = Hash} n (Err fault) s.store) length_is limits)
         (still_slot s.store store r r a b here.holds still.1 still.0)
 
@@ -157,7 +171,7 @@ module _ (a b : Told) (s : Session) (store : Store) (r : Repository) (v : View) 
         (subst (λ (k : ℕ). k ≤ 2 ^ 62) set_end limits.enough.0, limits.enough.1))
     set_placed (Err fault) reply e does limits appends =
         let still = does.refused (refl, answered (Unit {0}) fault reply e) in
-        refused {A = Unit {0}} s.store.slot s.store.unswept store.slot (state_in s r v) v setting fault reply s.store (refl, refl) (λ t is. absurd (cc is)) e refl
+        refused {A = Unit {0}} s.store.slot s.store.unswept store.slot (state_in s r v) v setting fault reply s.store (refl, refl) (λ t is. absurd (cc is)) (λ may. may) e refl
         (subst (λ (k : ℕ). LimitsSpace {A = Unit {0}} k (Err fault) s.store) set_end limits)
         (still_slot s.store store r r a b here.holds still.1 still.0)
 
@@ -181,11 +195,11 @@ module _ (a b : Told) (s : Session) (store : Store) (r : Repository) (v : View) 
         (subst (λ (k : ℕ). k ≤ 2 ^ 62) remove_end limits.enough.0, limits.enough.1))
     remove_placed (Ok false) reply e does limits absent appends =
         let is : Reply.NoBranch name ≡ reply = cc e in
-        subst (At removing) is (unmoved s.store.slot s.store.unswept store.slot (state_in s r v) v removing (Reply.NoBranch name) unasked (λ h. h) (λ l is. absurd (cc is)) (λ t is. absurd (cc is))
+        subst (At removing) is (unmoved s.store.slot s.store.unswept store.slot (state_in s r v) v removing (Reply.NoBranch name) unasked (λ h. h) (λ h. h) (λ l is. absurd (cc is)) (λ t is. absurd (cc is))
         (same_slot s.store store r (without_branch r name) a b here.holds does.ok (ap (λ (told : Told). told.held Control) (absent refl))))
     remove_placed (Err fault) reply e does limits absent appends =
         let still = does.refused (refl, answered Bool fault reply e) in
-        refused {A = Bool} s.store.slot s.store.unswept store.slot (state_in s r v) v removing fault reply s.store (refl, refl) (λ t is. absurd (cc is)) e refl
+        refused {A = Bool} s.store.slot s.store.unswept store.slot (state_in s r v) v removing fault reply s.store (refl, refl) (λ t is. absurd (cc is)) (λ may. may) e refl
         (subst (λ (k : ℕ). LimitsSpace {A = Bool} k (Err fault) s.store) remove_end (limits (λ is. absurd (cc is))))
         (still_slot s.store store r r a b here.holds still.1 still.0)
 
@@ -193,28 +207,30 @@ pub unnamed_placed : (slot : Slot) (u : Unswept) (s : State) (v : View) (name : 
 unnamed_placed slot u s v name target reply is = by reply (subst NamesNone is (names_none s.repository target))
   where
     by : (reply : Reply) → IsUnnamed reply → PlacedBy unasked slot u slot s v (Command.Branch name target) reply
-    by (Reply.NoBranch other) un = unmoved slot u slot s v (Command.Branch name target) (Reply.NoBranch other) unasked (λ h. h) (λ l e. absurd (cc e)) (λ t e. absurd (cc e)) refl
-    by (Reply.NoCommit hash) un = unmoved slot u slot s v (Command.Branch name target) (Reply.NoCommit hash) unasked (λ h. h) (λ l e. absurd (cc e)) (λ t e. absurd (cc e)) refl
+    by (Reply.NoBranch other) un = unmoved slot u slot s v (Command.Branch name target) (Reply.NoBranch other) unasked (λ h. h) (λ h. h) (λ l e. absurd (cc e)) (λ t e. absurd (cc e)) refl
+    by (Reply.NoCommit hash) un = unmoved slot u slot s v (Command.Branch name target) (Reply.NoCommit hash) unasked (λ h. h) (λ h. h) (λ l e. absurd (cc e)) (λ t e. absurd (cc e)) refl
     by _ un = absurd un
 
 -- ---- the others
 
-pub read_placed : (rule : Rule) (tells : Bool) (a b : Told) (s s' : Session) (command : Command) → IsTrue tells → (r : Repository) (v : View) → IsWorking a s r v → (result : Result Reply SessionEnd) → is_durable command ≡ false → HasRead tells a b s s' command result
+pub read_placed : (rule : Rule) (tells : Bool) (a b : Told) (s s' : Session) (command : Command) → IsTrue tells → (r : Repository) (v : View) → IsWorking a s r v → (result : Result Reply SessionEnd) → is_durable command ≡ false → ¬ MayReap command → HasRead tells a b s s' command result
     → IfOk result (PlacedBy rule s.store.slot s.store.unswept s'.store.slot (state_in s r v) v command)
-read_placed rule tells a b s s' command told r v here (Ok reply) quiet has =
+read_placed rule tells a b s s' command told r v here (Ok reply) quiet reaps has =
     let looks = has.looks told in
     record {
       done = λ done. absurd (none_durable reply command quiet done);
-      quiet = λ not. still_slot s.store s'.store r r a b here.holds (looks.holds r here.holds) looks.reads.only;
+      quiet = λ not _. still_slot s.store s'.store r r a b here.holds (looks.holds r here.holds) looks.reads.only;
+      collected = λ floor left may is. absurd (reaps may);
+      ended = λ may is. absurd (reaps may);
       space = λ durable. absurd (cc (sym durable ∙ quiet));
       sequence = λ durable. absurd (cc (sym durable ∙ quiet));
       attempt = λ target is. absurd (cc (sym quiet ∙ ap is_durable is));
     }
-read_placed rule tells a b s s' command told r v here (Err end) quiet has = tt
+read_placed rule tells a b s s' command told r v here (Err end) quiet reaps has = tt
 
 -- ---- lines
 
-pub lined_placed : (rule : Rule) (slot : Slot) (u : Unswept) (slot' : Slot) (s : State) (v : View) (command : Command) (line : Bytes) (result : Result Reply SessionEnd) → IsServedLine command line → ((other : Command) → IsServedLine other line → other ≡ command)
+pub lined_placed : (rule : Rule) (slot : Slot) (u : Unswept) (slot' : Slot) (s : State) (v : View) (command : Command) (line : Bytes) (result : Result Reply SessionEnd) → IsLineOf command line → ((other : Command) → IsLineOf other line → other ≡ command)
     → IfOk result (PlacedBy rule slot u slot' s v command) → IfOk result (PlacedIn rule slot u slot' s v line)
 lined_placed rule slot u slot' s v command line (Ok reply) served one placed = record {
   command = λ other spelled. subst (λ (c : Command). PlacedBy rule slot u slot' s v c reply) (sym (one other spelled)) placed;
@@ -222,8 +238,8 @@ lined_placed rule slot u slot' s v command line (Ok reply) served one placed = r
 }
 lined_placed rule slot u slot' s v command line (Err end) served one placed = tt
 
-pub quiet_placed : (rule : Rule) (slot : Slot) (u : Unswept) (slot' : Slot) (s : State) (v : View) (line : Bytes) (reply : Reply) → ((command : Command) → ¬ IsDurable reply command) → ((l : Limit) → reply ≢ Reply.Limit l) → AttemptsLeft slot reply → slot' ≡ slot → PlacedIn rule slot u slot' s v line reply
-quiet_placed rule slot u slot' s v line reply not none left same = record {
-  command = λ command served. unmoved slot u slot' s v command reply rule (not command) none (λ target is. left) same;
+pub quiet_placed : (rule : Rule) (slot : Slot) (u : Unswept) (slot' : Slot) (s : State) (v : View) (line : Bytes) (reply : Reply) → ((command : Command) → ¬ IsDurable reply command) → ((command : Command) → ¬ HasCollected reply command) → ((l : Limit) → reply ≢ Reply.Limit l) → AttemptsLeft slot reply → slot' ≡ slot → PlacedIn rule slot u slot' s v line reply
+quiet_placed rule slot u slot' s v line reply not over none left same = record {
+  command = λ command served. unmoved slot u slot' s v command reply rule (not command) (over command) none (λ target is. left) same;
   none = λ _. same;
 }

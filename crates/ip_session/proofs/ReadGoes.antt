@@ -1,7 +1,7 @@
 -- What a session does that ran a command which may only read.
 --     by_any_rule      the step of a command that is no merge is the same by any rule
 --     read_serves      the session goes on serving, whatever is told.      read_goes      it is answered.      read_cut      a fault of the ground or of its files cut it short
-use Rattle.std.proofs.Common.{◌≡◌, ℕ, Bool, true, false, refl, sym, ◌∙◌, subst, Option, Ok, Err, IsTrue}
+use Rattle.std.proofs.Common.{◌≡◌, ℕ, Bool, true, false, refl, sym, ap, ◌∙◌, subst, Option, None, Ok, Err, IsTrue}
 use Rattle.std.specs.Prelude.{Result, IfOk, OnErr}
 use Rattle.ip_ground.specs.Told.{Told}
 use Rattle.ip_image.proofs.HeadlineLaws.{pending_passes}
@@ -21,20 +21,10 @@ use Rattle.ip_store.specs.Work.{IsLawful, work_at}
 use Rattle.ip_store.proofs.Machine.{AsksNone}
 use Rattle.ip_session.specs.declared.session.Session.{Session}
 use Rattle.ip_session.specs.declared.session.SessionEnd.{SessionEnd}
-use Rattle.ip_session.specs.Session.{unasked, attempt_of, IsServing, IsWorking, state_in, met_only, conditions_of, is_durable, IsDurable, ChangedBy, TouchedBy, IsAnswered, HasRead, GoesBy, CutBy}
+use Rattle.ip_session.specs.Session.{unasked, attempt_of, hears, IsServing, IsWorking, state_in, met_only, conditions_of, is_durable, ChangedBy, TouchedBy, IsAnswered, HasRead, GoesBy, CutBy}
 use Rattle.ip_session.proofs.Changing.{nothing_by, keeps_nothing}
-use Rattle.ip_session.proofs.SessionLemmas.{plainly}
+use Rattle.ip_session.proofs.SessionLemmas.{plainly, heard_none, unjudged}
 use Rattle.ip_session.proofs.DurableGoes.{keeps_still}
-
-pub none_durable : (reply : Reply) (command : Command) → is_durable command ≡ false → ¬ IsDurable reply command
-none_durable (Reply.Committed hash) (Command.Commit branch info) e h = absurd (cc e)
-none_durable (Reply.Forward hash) (Command.Merge target branch info) e h = absurd (cc e)
-none_durable (Reply.Merged hash) (Command.Merge target branch info) e h = absurd (cc e)
-none_durable Reply.Accepted (Command.Branch name target) e h = absurd (cc e)
-none_durable Reply.Accepted (Command.BranchRm name) e h = absurd (cc e)
-none_durable (Reply.Started hash) (Command.Collect target) e h = absurd (cc e)
-none_durable Reply.StartFault (Command.Collect target) e h = absurd (cc e)
-none_durable _ _ e h = absurd h
 
 -- the turns of all commands but merges are the machine's one answer
 plain : (rule : Rule) (s : State) (command : Command) (met : Conditions) → is_durable command ≡ false → Turns rule s command met (answer s command met)
@@ -53,10 +43,12 @@ module _ (rule : Rule) (a b : Told) (s s' : Session) (r : Repository) (v : View)
       record {
         after = r;
         view = A.view;
+        difference = None;
         gives = by_any_rule rule (state_in s r v) command (conditions_of s'.met) reply (state_in s' r A.view) quiet A.gives;
+        judged = unjudged a b s s' r v (heard_none (phase_of s.store.collection) command asks s'.met.child A.gives.0.child);
         seen = A.seen;
         is_at = record { holds = holds; lawful = subst (λ (records : ℕ → Option Record). IsLawful records r s'.work A.view) (sym (looks.records r here.holds holds)) A.lawful };
-        only = nothing_by (attempt_of s.store command) (ChangedBy s.store a.held command reply) a b looks.reads.only;
+        only = nothing_by (hears command) (attempt_of s.store command) (ChangedBy s.store a.held command reply) a b looks.reads.only;
         files = keeps_nothing a b looks.reads.only;
         said = looks.reads.only.said;
         atomic = λ order. keeps_still s.store r r a b here.holds order looks.reads.only;
@@ -72,9 +64,11 @@ module _ (rule : Rule) (a b : Told) (s s' : Session) (r : Repository) (v : View)
       record {
         reply = t.0;
         after = t.1;
+        difference = None;
         gives = subst (λ (m : Met). Step rule (state_in s r v) command (conditions_of m) t.0 t.1) (sym e)
             (plainly r (phase_of s.store.collection) (work_at s.work v) command false t.0 asks (λ h. absurd (cc h)), plain rule (state_in s r v) command (conditions_of (met_only false)) quiet);
-        only = nothing_by (attempt_of s.store command) (TouchedBy s.store a.held command) a b looks.reads.only;
+        judged = unjudged a b s s' r v (ap (λ (m : Met). m.child) e);
+        only = nothing_by (hears command) (attempt_of s.store command) (TouchedBy s.store a.held command) a b looks.reads.only;
         files = keeps_nothing a b looks.reads.only;
         said = looks.reads.only.said;
         atomic = λ order. keeps_still s.store r t.1.repository a b here.holds order looks.reads.only;

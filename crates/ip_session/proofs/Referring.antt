@@ -2,7 +2,7 @@
 --     X_unnamed      a reference names none.      X_done      they do
 --     parent_known, parent_full, parent_done      the commit is a parent already, there are as many as there may be, or it is added
 --     IsUnnamed, names_none      the replies of a reference that names none
---     head_retained, named_retained      what a reference names is retained.      not_below      and what is retained is not below the floor
+--     named_retained      what a reference names is retained.      not_below      and what is retained is not below the floor
 use Rattle.std.proofs.Common.{◌≡◌, ℕ, ◌+◌, ◌<◌, ◌≤◌, ◌==◌, Bool, true, false, List, [], ◌∷◌, ◌++◌, map, length, refl, sym, ap, ◌∙◌, subst, arith, Option, Some, None, Ok, Err, IsTrue}
 use Rattle.std.specs.Prelude.{◌&&◌, IfSome, nat_le, nat_lt, position, reverse, option_map}
 use Rattle.std.specs.List.{list_any}
@@ -21,6 +21,7 @@ use Rattle.ip_spec.specs.Machine.{Phase, Work, State}
 use Rattle.ip_spec.specs.Step.{Refused, present, ◌>>=◌, ◌>>◌, refuse_if, or_refused, Turned, not_given_up, parents_limit, entries_limit, steps_limit, resolve, with_parent, graft_turn, least_with, head_of, commit_reply, got_reply, Step, outcome}
 use Rattle.ip_store.specs.declared.store.Store.{Store}
 use Rattle.ip_store.specs.Store.{IsOf}
+use Rattle.ip_store.proofs.Phases.{head_retained}
 use Rattle.ip_session.specs.Session.{unasked, met_only, conditions_of}
 use Rattle.ip_session.proofs.SessionLemmas.{at, plainly, NoneGivenUp, still_there, behind, tested as refused_by_test, passes, stays_in}
 
@@ -58,13 +59,6 @@ from_floor low high n h = grind (arith, nat_tests)
 
 pub not_below : (r : Repository) (n : ℕ) → IsTrue (is_retained r n) → r.floor ≤ n
 not_below r n retained = from_floor r.floor (next r) n retained
-
-pub head_retained : (store : Store) (r : Repository) → IsOf store r → (name : Bytes) (n : ℕ) → head r name ≡ Some n → IsTrue (is_retained r n)
-head_retained store r of name n is =
-    let low = of.floor in
-    let high = of.next in
-    let b : (store.slot.floor ≤ n) × (n < store.slot.next) = subst (λ (o : Option ℕ). IfSome o (λ m. (store.slot.floor ≤ m) × (m < store.slot.next))) is (of.retained.each name) in
-    within r.floor (next r) n (omega (arith, low, b.0)) (omega (arith, high, b.1))
 
 placed : (p : Commit → Bool) (cs all : List Commit) (k : ℕ) → cs ≡ all → position p all ≡ Some k → k < length all
 placed p [] all k e h = absurd (cc (ap (position p) e ∙ h))

@@ -16,6 +16,7 @@ use Rattle.ip_store.specs.Work.{IsLawful}
 use Rattle.ip_store.proofs.Machine.{AsksNone}
 use Rattle.ip_session.specs.declared.session.Session.{Session}
 use Rattle.ip_session.specs.declared.session.SessionEnd.{SessionEnd}
+use Rattle.ip_session.specs.Asking.{HandlesNone, MayReap}
 use Rattle.ip_session.specs.Running.{Runs}
 use Rattle.ip_session.specs.Session.{unasked, IsIn, IsServing, HasRead, IsAnswered, is_durable, met_only}
 use Rattle.ip_session.proofs.Placing.{read_placed}
@@ -38,16 +39,28 @@ by_any_rule tells rule a b s s' _ result plain runs = record {
   cut = λ known r v here. runs.cut known.0 r v here;
 }
 
-module _ (tells : Bool) (rule : Rule) (a b : Told) (s s' : Session) (command command' : Command) (is : command ≡ command') (quiet : is_durable command' ≡ false) (asks : AsksNone command') (unmet : s.met ≡ met_only false) (serving : IsServing s) where
+-- a command that has to do with no child asks none, and reaps none
+asks_of : (command : Command) → HandlesNone command → AsksNone command
+asks_of Command.Look handles = handles
+asks_of Command.Finish handles = handles
+asks_of _ handles = tt
+
+none_reaps : (command : Command) → HandlesNone command → ¬ MayReap command
+none_reaps Command.Look handles may = handles
+none_reaps Command.Finish handles may = handles
+none_reaps Command.Cancel handles may = handles
+none_reaps _ handles may = may
+
+module _ (tells : Bool) (rule : Rule) (a b : Told) (s s' : Session) (command command' : Command) (is : command ≡ command') (quiet : is_durable command' ≡ false) (handles : HandlesNone command') (unmet : s.met ≡ met_only false) (serving : IsServing s) where
   pub runs_read : (result : Result Reply SessionEnd) → HasRead tells a b s s' command' result → Runs (IsTrue tells × IsDecisive rule) rule a b s s' command result
   runs_read result has = runs_as (IsTrue tells × IsDecisive rule) rule a b s s' command command' result is (record {
     serving = read_serves tells a b s s' command' result serving has;
-    goes = λ known r v here. read_goes rule tells a b s s' command' known.0 r v here result quiet asks has;
-    placed = λ known r v here. read_placed rule tells a b s s' command' known.0 r v here result quiet has;
-    cut = λ known r v here. read_cut rule tells a b s s' command' known.0 r v here result quiet asks unmet has;
+    goes = λ known r v here. read_goes rule tells a b s s' command' known.0 r v here result quiet (asks_of command' handles) has;
+    placed = λ known r v here. read_placed rule tells a b s s' command' known.0 r v here result quiet (none_reaps command' handles) has;
+    cut = λ known r v here. read_cut rule tells a b s s' command' known.0 r v here result quiet (asks_of command' handles) unmet has;
   })
 
-module _ (tells : Bool) (rule : Rule) (a : Told) (s s' : Session) (command command' : Command) (is : command ≡ command') (quiet : is_durable command' ≡ false) (asks : AsksNone command') (unmet : s.met ≡ met_only false) (serving : IsServing s) where
+module _ (tells : Bool) (rule : Rule) (a : Told) (s s' : Session) (command command' : Command) (is : command ≡ command') (quiet : is_durable command' ≡ false) (handles : HandlesNone command') (unmet : s.met ≡ met_only false) (serving : IsServing s) where
   pub runs_within : (reply : Reply) → ((r : Repository) → IsIn s r → IsIn s' r) → s'.store ≡ s.store
       → ((records : ℕ → Option Record) (r : Repository) (v : View) → IsOf s.store r → IsLawful records r s.work v → IsAnswered records s s' r v command' reply) → Runs (IsTrue tells × IsDecisive rule) rule a a s s' command (Ok reply)
-  runs_within reply tables same answered = runs_read tells rule a a s s' command command' is quiet asks unmet serving (Ok reply) (within_read tells a s s' command' reply tables same answered)
+  runs_within reply tables same answered = runs_read tells rule a a s s' command command' is quiet handles unmet serving (Ok reply) (within_read tells a s s' command' reply tables same answered)

@@ -2,7 +2,7 @@
 --     still_goes      nothing changed but what was met
 --     lined_ok, lined_cut      the line that spells a command.      bad_goes      a line that is none.      refused_goes      memory was refused
 --     written_goes      what was written of its reply
-use Rattle.std.proofs.Common.{◌≡◌, inl, inr, ℕ, ◌^◌, ◌<◌, Bool, true, false, refl, sym, subst, arith, Ok, Err, IsTrue, length}
+use Rattle.std.proofs.Common.{◌≡◌, inl, inr, ℕ, ◌^◌, ◌<◌, Bool, true, false, refl, sym, ap, subst, arith, None, Ok, Err, IsTrue, length}
 use Rattle.std.specs.Prelude.{Result, IfOk, OnErr}
 use Rattle.ip_ground.specs.declared.names.GroundCounts.{GroundCounts}
 use Rattle.ip_ground.specs.Told.{Told, NoFile, ChangesOnly}
@@ -10,9 +10,10 @@ use Rattle.ip_ground.proofs.Spans.{no_moment, only_nowhere}
 use Rattle.ip_spawn.specs.Children as spawn
 use Rattle.ip_spawn.specs.declared.spawner.SpawnCounts.{SpawnCounts}
 use Rattle.ip_spec.specs.declared.command.Command.{Command}
+use Rattle.ip_spec.specs.declared.met.Child.TheVariants as Child
 use Rattle.ip_spec.specs.declared.met.Met.{Met}
 use Rattle.ip_spec.specs.declared.reply.Reply.{Reply}
-use Rattle.ip_spec.specs.Line.{IsBadAt}
+use Rattle.ip_spec.specs.Line.{IsBadAt, IsLineOf}
 use Rattle.ip_spec.specs.Merge.{Rule}
 use Rattle.ip_spec.specs.Path.{Bytes}
 use Rattle.ip_spec.specs.Repository.{Repository}
@@ -21,7 +22,6 @@ use Rattle.ip_spec.specs.Script.{LineStep}
 use Rattle.ip_spec.specs.Text.{reply_text}
 use Rattle.ip_spec.specs.View.{View}
 use Rattle.ip_merge.specs.Rules.{IsDecisive}
-use Rattle.ip_script.specs.Served.{IsServedLine}
 use Rattle.ip_session.specs.declared.session.Session.{Session}
 use Rattle.ip_session.specs.declared.session.SessionEnd.{SessionEnd}
 use Rattle.ip_store.specs.Views.{IsViewAfter}
@@ -32,15 +32,17 @@ use Rattle.ip_session.specs.Placing.{PlacedIn}
 use Rattle.ip_session.proofs.Asking.{unwritten, whole_asked}
 use Rattle.ip_session.proofs.Changing.{nothing_only, keeps_nothing}
 use Rattle.ip_session.proofs.Placing.{quiet_placed, still_slot}
-use Rattle.ip_session.proofs.SessionLemmas.{memory_is_short, bad_is_short, bad_line}
+use Rattle.ip_session.proofs.SessionLemmas.{unjudged, memory_is_short, bad_is_short, bad_line}
 
 -- nothing changed but what was met
-pub still_goes : (a : Told) (s : Session) (met : Met) (r : Repository) (v : View) (here : IsWorking a s r v) (Only : Reply → Type 0) (Gives : Conditions → Reply → State → Type 0) (Views : Reply → View → Type 0) (reply : Reply) → Gives (conditions_of met) reply (state_in s r v) → Views reply v
+pub still_goes : (a : Told) (s : Session) (met : Met) (r : Repository) (v : View) (here : IsWorking a s r v) (Only : Reply → Type 0) (Gives : Conditions → Reply → State → Type 0) (Views : Reply → View → Type 0) (reply : Reply) → met.child ≡ Child.NotAsked → Gives (conditions_of met) reply (state_in s r v) → Views reply v
     → (IsLong reply → Gives (conditions_of (met_only true)) Reply.Memory (state_in s r v)) → Only reply → Goes a a s (record s { met = met }) r v Only Gives Views reply
-still_goes a s met r v here Only Gives Views reply gives seen refused none = record {
+still_goes a s met r v here Only Gives Views reply heard gives seen refused none = record {
   after = r;
   view = v;
+  difference = None;
   gives = gives;
+  judged = unjudged a a s (record s { met = met }) r v heard;
   is_at = here;
   seen = seen;
   only = none;
@@ -55,12 +57,14 @@ still_goes a s met r v here Only Gives Views reply gives seen refused none = rec
 -- ---- lines
 
 -- the line that spells the command, and no other one; what was met before does not matter
-lined : (rule : Rule) (a b : Told) (s s' : Session) (met : Met) (r : Repository) (v : View) (command : Command) (line : Bytes) (reply : Reply) → IsServedLine command line → ((other : Command) → IsServedLine other line → other ≡ command)
+lined : (rule : Rule) (a b : Told) (s s' : Session) (met : Met) (r : Repository) (v : View) (command : Command) (line : Bytes) (reply : Reply) → IsLineOf command line → ((other : Command) → IsLineOf other line → other ≡ command)
     → GoesBy rule a b (record s { met = met }) s' r v command reply → GoesIn rule a b s s' r v line reply
 lined rule a b s s' met r v command line reply served one h = record {
   after = h.after;
   view = h.view;
+  difference = h.difference;
   gives = inl (command, served, h.gives);
+  judged = h.judged;
   is_at = h.is_at;
   seen = record { command = λ other spelled. subst (λ (c : Command). IsViewAfter r v c reply h.view) (sym (one other spelled)) h.seen; none = λ none. absurd (none command served) };
   only = record { command = λ other spelled. subst (λ (c : Command). OnlyBy s.store a b c reply) (sym (one other spelled)) h.only; none = λ none. absurd (none command served) };
@@ -72,21 +76,21 @@ lined rule a b s s' met r v command line reply served one h = record {
   still = h.still;
 }
 
-pub lined_ok : (rule : Rule) (a b : Told) (s s' : Session) (met : Met) (r : Repository) (v : View) (command : Command) (line : Bytes) (result : Result Reply SessionEnd) → IsServedLine command line → ((other : Command) → IsServedLine other line → other ≡ command)
+pub lined_ok : (rule : Rule) (a b : Told) (s s' : Session) (met : Met) (r : Repository) (v : View) (command : Command) (line : Bytes) (result : Result Reply SessionEnd) → IsLineOf command line → ((other : Command) → IsLineOf other line → other ≡ command)
     → IfOk result (GoesBy rule a b (record s { met = met }) s' r v command) → IfOk result (GoesIn rule a b s s' r v line)
 lined_ok rule a b s s' met r v command line (Ok reply) served one h = lined rule a b s s' met r v command line reply served one h
 lined_ok rule a b s s' met r v command line (Err end) served one h = tt
 
-pub lined_cut : (rule : Rule) (a b : Told) (s s' : Session) (met : Met) (r : Repository) (v : View) (command : Command) (line : Bytes) (result : Result Reply SessionEnd) → IsServedLine command line
+pub lined_cut : (rule : Rule) (a b : Told) (s s' : Session) (met : Met) (r : Repository) (v : View) (command : Command) (line : Bytes) (result : Result Reply SessionEnd) → IsLineOf command line
     → OnErr result (CutBy rule a b (record s { met = met }) s' r v command) → OnErr result (CutIn rule a b s s' r v line)
 lined_cut rule a b s s' met r v command line (Ok reply) served h = tt
-lined_cut rule a b s s' met r v command line (Err end) served h = record { reply = h.reply; after = h.after; gives = inl (command, served, h.gives); only = (command, served, h.only); files = h.files; said = h.said; atomic = h.atomic }
+lined_cut rule a b s s' met r v command line (Err end) served h = record { reply = h.reply; after = h.after; difference = h.difference; gives = inl (command, served, h.gives); judged = h.judged; only = (command, served, h.only); files = h.files; said = h.said; atomic = h.atomic }
 
 -- a line that is no command
-pub bad_goes : (rule : Rule) (a : Told) (s : Session) (met : Met) (r : Repository) (v : View) (here : IsWorking a s r v) (line : Bytes) (place : ℕ) → met ≡ met_only false → IsBadAt IsServedLine line place → length line < 2 ^ 64
+pub bad_goes : (rule : Rule) (a : Told) (s : Session) (met : Met) (r : Repository) (v : View) (here : IsWorking a s r v) (line : Bytes) (place : ℕ) → met ≡ met_only false → IsBadAt IsLineOf line place → length line < 2 ^ 64
     → GoesIn rule a a s (record s { met = met }) r v line (Reply.Bad place)
-bad_goes rule a s met r v here line place e bad small = still_goes a s met r v here (OnlyIn s.store a a line) (LineStep IsServedLine rule (state_in s r v) line) (IsViewIn r v line) (Reply.Bad place)
-    (subst (λ (m : Met). LineStep IsServedLine rule (state_in s r v) line (conditions_of m) (Reply.Bad place) (state_in s r v)) (sym e) (bad_line rule (state_in s r v) line place bad))
+bad_goes rule a s met r v here line place e bad small = still_goes a s met r v here (OnlyIn s.store a a line) (LineStep IsLineOf rule (state_in s r v) line) (IsViewIn r v line) (Reply.Bad place) (ap (λ (m : Met). m.child) e)
+    (subst (λ (m : Met). LineStep IsLineOf rule (state_in s r v) line (conditions_of m) (Reply.Bad place) (state_in s r v)) (sym e) (bad_line rule (state_in s r v) line place bad))
     (record { command = λ command served. bad_seen r v command place; none = λ none. refl })
     (λ long. absurd (bad_is_short place line bad.in_line small long))
     (nothing_only s.store a a line (Reply.Bad place) (only_nowhere a NoFile))
@@ -96,11 +100,11 @@ refused_in r v line = record { command = λ command served. memory_seen r v comm
 
 -- a line that was refused memory
 pub refused_goes : (rule : Rule) (a : Told) (s : Session) (met : Met) (r : Repository) (v : View) (here : IsWorking a s r v) (line : Bytes) (reply : Reply) → met ≡ met_only true → reply ≡ Reply.Memory
-    → LineStep IsServedLine rule (state_in s r v) line (conditions_of (met_only true)) Reply.Memory (state_in s r v)
+    → LineStep IsLineOf rule (state_in s r v) line (conditions_of (met_only true)) Reply.Memory (state_in s r v)
     → GoesIn rule a a s (record s { met = met }) r v line reply
 refused_goes rule a s met r v here line reply e is_memory gives = subst (GoesIn rule a a s (record s { met = met }) r v line) (sym is_memory)
-    (still_goes a s met r v here (OnlyIn s.store a a line) (LineStep IsServedLine rule (state_in s r v) line) (IsViewIn r v line) Reply.Memory
-    (subst (λ (m : Met). LineStep IsServedLine rule (state_in s r v) line (conditions_of m) Reply.Memory (state_in s r v)) (sym e) gives)
+    (still_goes a s met r v here (OnlyIn s.store a a line) (LineStep IsLineOf rule (state_in s r v) line) (IsViewIn r v line) Reply.Memory (ap (λ (m : Met). m.child) e)
+    (subst (λ (m : Met). LineStep IsLineOf rule (state_in s r v) line (conditions_of m) Reply.Memory (state_in s r v)) (sym e) gives)
     (refused_in r v line)
     (λ long. gives)
     (nothing_only s.store a a line Reply.Memory (only_nowhere a NoFile)))
@@ -113,7 +117,9 @@ memory_instead : (a b : Told) (s s' : Session) (met : Met) (r : Repository) (v :
 memory_instead a b s s' met r v Only Gives Views reply h long e seen none = record {
   after = h.after;
   view = h.view;
+  difference = None;
   gives = let x = h.spared long in subst (λ (m : Met). Gives (conditions_of m) Reply.Memory (state_in s' h.after h.view)) (sym e) (subst (Gives (conditions_of (met_only true)) Reply.Memory) (sym x.same) x.refused);
+  judged = unjudged a b s (record s' { met = met }) r v (ap (λ (m : Met). m.child) e);
   is_at = h.is_at;
   seen = subst (Views Reply.Memory) (sym (h.spared long).seen) seen;
   only = none (h.still long);
@@ -143,12 +149,12 @@ module _ (tells : Bool) (rule : Rule) (a b : Told) (s s' : Session) (met : Met) 
   memory_goes : IsLong reply → met ≡ met_only true → Tells tells rule a b s s' line reply → Written Reply.Memory
   memory_goes long is goes told decisive r v here =
       let went = goes told decisive r v here in (
-        memory_instead a b s s' met r v (OnlyIn s.store a b line) (LineStep IsServedLine rule (state_in s r v) line) (IsViewIn r v line) reply went long is (refused_in r v line) (nothing_only s.store a b line Reply.Memory),
-        quiet_placed rule s.store.slot s.store.unswept s'.store.slot (state_in s r v) v line Reply.Memory (λ command h. h) (λ l is. absurd (cc is)) tt (still_slot s.store s'.store r went.after a b here.holds went.is_at.holds (went.still long)),
+        memory_instead a b s s' met r v (OnlyIn s.store a b line) (LineStep IsLineOf rule (state_in s r v) line) (IsViewIn r v line) reply went long is (refused_in r v line) (nothing_only s.store a b line Reply.Memory),
+        quiet_placed rule s.store.slot s.store.unswept s'.store.slot (state_in s r v) v line Reply.Memory (λ command h. h) (λ command h. h) (λ l is. absurd (cc is)) tt (still_slot s.store s'.store r went.after a b here.holds went.is_at.holds (went.still long)),
       )
 
   module _ (spawner_tells : Bool) (x y : spawn.Told) (m n : SpawnCounts) (old new : GroundCounts) (text : Bytes) where
-    pub written_goes : Tells tells rule a b s s' line reply → Writes reply s'.met met text → Places tells rule a s s' line reply → Spawns spawner_tells x y s s' line (Ok reply) m n → CountsIn line (Ok reply) s'.met old new → QuietIfLong old new reply
+    pub written_goes : Tells tells rule a b s s' line reply → Writes reply s'.met met text → Places tells rule a s s' line reply → Spawns spawner_tells x y s s' line (Ok reply) m n → CountsIn line (Ok reply) s'.met old new → QuietIfLong s'.met old new reply
         → (written : Reply) × (text ≡ reply_text written) × Spawns spawner_tells x y s (record s' { met = met }) line (Ok written) m n × CountsIn line (Ok written) met old new × Written written
     written_goes goes (inl whole) placed spawns counts quiet =
         let told = whole_asked spawner_tells x y s s' met line reply m n old new spawns counts whole.0 in

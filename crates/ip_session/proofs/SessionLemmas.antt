@@ -1,43 +1,51 @@
 -- What the machine gives to the commands that a session runs.
 --     at r phase w      the machine's state of a session that is idle.      X_done, X_refused      what it gives to the command
+--     heard_none      a command that asks no child heard none, so that no pair was judged (unjudged) and nothing is kept of it (nothing_kept)
 --     NoneGivenUp r w      no commit that the work took from was given up, so that (still_there) the machine goes on
 --     AsksWork command, given_up      what the machine gives where the work was given up
 --     behind, tested      the steps of a chain
 --     X_is_short      the text of a reply takes no memory
 --     line_refused, bad_line      what it gives to a line
-use Rattle.std.proofs.Common.{◌≡◌, ◌≢◌, ◌⊎◌, inl, inr, ℕ, ◌*◌, ◌^◌, ◌<◌, ◌≤◌, ◌==◌, Bool, true, false, [], ◌∷◌, ◌++◌, length, refl, sym, ap, ◌∙◌, arith, Option, Some, None, Ok, Err, IsTrue, length-append}
+use Rattle.std.proofs.Common.{◌≡◌, ◌≢◌, ◌⊎◌, inl, inr, ℕ, suc, ℤ, pos, negsuc, ◌*◌, ◌^◌, ◌<◌, ◌≤◌, ◌==◌, Bool, true, false, [], ◌∷◌, ◌++◌, length, refl, sym, ap, ◌∙◌, arith, Option, Some, None, Ok, Err, IsTrue, length-append, w32}
+use lib.Signed.{mag}
+use mir.Val.{SFits}
 use Rattle.std.specs.Prelude.{nat_lt, if◌then◌else◌, codes, Result, IfSome, IsFalse}
-use Rattle.std.specs.List.{list_any}
-use Rattle.std.specs.Fmt.{decimal}
+use Rattle.std.specs.List.{join_with_byte, list_any}
+use Rattle.std.specs.Fmt.{decimal, signed_decimal}
 use Rattle.std.proofs.lemmas.Bool.Decides.{nat_tests}
 use Rattle.std.proofs.lemmas.Fmt.{length-decimal-le}
 use Rattle.sha2.specs.Sha256.{sha256}
 use Rattle.ip_base.specs.declared.info.Info.{Info}
 use Rattle.ip_base.specs.declared.limit.Limit.{Limit}
+use Rattle.ip_ground.specs.Told.{Told}
 use Rattle.ip_spec.specs.declared.command.Command.{Command}
 use Rattle.ip_spec.specs.declared.command.Target.{Target}
 use Rattle.ip_spec.specs.declared.command.LineFault.{LineFault}
 use Rattle.ip_spec.specs.declared.reply.Reply.{Reply}
 use Rattle.ip_spec.specs.Map.{len}
 use Rattle.ip_spec.specs.Merge.{Rule}
-use Rattle.ip_spec.specs.Path.{Bytes, Path, space}
+use Rattle.ip_spec.specs.Path.{Bytes, Path, space, line_feed}
 use Rattle.ip_spec.specs.Tree.{Tree, put, remove, subtree, is_empty, got_at, listed_at, widest}
 use Rattle.ip_spec.specs.Repository.{Repository, next}
 use Rattle.ip_spec.specs.declared.met.Child.{Child}
-use Rattle.ip_spec.specs.Machine.{Work, State, Phase, empty_work}
+use Rattle.ip_spec.specs.declared.reply.Difference.{Difference}
+use Rattle.ip_spec.specs.declared.reply.Produced.{Produced}
+use Rattle.ip_spec.specs.declared.reply.Seen.{Seen}
+use Rattle.ip_spec.specs.Machine.{Work, State, Phase, Exit, empty_work}
 use Rattle.ip_spec.specs.Step.{phase_at, Refused, ◌>>◌, refuse_if, unless_some, or_refused, Turned, below, not_given_up, not_too_wide, contents_limit, entries_limit, IsMet, MayHear, MayRefuse, Step, state_with_exit, got_reply, listed_reply, outcome}
-use Rattle.ip_spec.specs.Line.{IsBadAt}
-use Rattle.ip_script.specs.Served.{IsServedLine}
+use Rattle.ip_spec.specs.Line.{IsBadAt, IsLineOf}
 use Rattle.ip_spec.specs.Script.{LineStep}
 use Rattle.ip_spec.specs.Record.{Hash}
-use Rattle.ip_spec.specs.Text.{reply_text, hex_text}
+use Rattle.ip_spec.specs.Text.{reply_text, hex_text, produced_text, seen_text}
+use Rattle.ip_spec.specs.View.{View}
 use Rattle.ip_store.specs.Store.{IsOf}
 use Rattle.ip_store.specs.declared.collection.Collection.{Collection}
 use Rattle.ip_store.specs.declared.store.Store.{Store}
 use Rattle.ip_store.specs.Collecting.{IsPhaseOf, phase_of}
 use Rattle.ip_store.proofs.Machine.{AsksNone, asks_none, unkept}
 use Rattle.ip_store.proofs.Phases.{retained_is}
-use Rattle.ip_session.specs.Session.{unasked, met_only, conditions_of, IsLong}
+use Rattle.ip_session.specs.declared.session.Session.{Session}
+use Rattle.ip_session.specs.Session.{unasked, met_only, conditions_of, IsLong, IsJudgedIn}
 
 abbrev pub at : Repository → Phase → Work → State
 at r phase w = record { repository = r; phase = phase; work = w }
@@ -64,7 +72,11 @@ heard_none (Phase.Collecting c (Some reaped)) Command.Look plain child is = absu
 heard_none (Phase.Collecting c (Some reaped)) Command.Finish plain child is = absurd plain
 heard_none (Phase.Collecting c (Some reaped)) _ plain child is = is
 
--- so nothing is kept of it
+-- so no pair was judged
+pub unjudged : (a b : Told) (s s' : Session) (r : Repository) (v : View) → s'.met.child ≡ Child.NotAsked → IsJudgedIn a b s s' r v None
+unjudged a b s s' r v heard here c reaped runs ended = absurd (cc (sym heard ∙ ended))
+
+-- and nothing is kept of it
 pub nothing_kept : (s : State) (child : Child) → child ≡ Child.NotAsked → state_with_exit s s.phase child ≡ s
 nothing_kept s child is = ap (λ (heard : Child). state_with_exit s s.phase heard) is ∙ unkept s s.phase
 
@@ -304,6 +316,78 @@ pub idle_is_short : IsLong Reply.Idle → ⊥
 unfolding reply_text
 idle_is_short long = omega (arith, long)
 
+pub running_is_short : IsLong Reply.Running → ⊥
+unfolding reply_text
+running_is_short long = omega (arith, long)
+
+pub wait_fault_is_short : IsLong Reply.WaitFault → ⊥
+unfolding reply_text
+wait_fault_is_short long = omega (arith, long)
+
+pub limit_is_short : (limit : Limit) → IsLong (Reply.Limit limit) → ⊥
+unfolding reply_text
+limit_is_short Limit.Contents long = omega (arith, long)
+limit_is_short Limit.Depth long = omega (arith, long)
+limit_is_short Limit.Entries long = omega (arith, long)
+limit_is_short Limit.Parents long = omega (arith, long)
+limit_is_short Limit.Branches long = omega (arith, long)
+limit_is_short Limit.Space long = omega (arith, long)
+limit_is_short Limit.Sequence long = omega (arith, long)
+limit_is_short Limit.Attempt long = omega (arith, long)
+
+pub checking_is_short : (left : ℕ) → left < 2 ^ 64 → IsLong (Reply.Checking left) → ⊥
+unfolding reply_text
+checking_is_short left small long =
+    let digits : length (decimal left) ≤ 20 = length-decimal-le 20 left (omega arith) (omega (arith, small)) small in
+    omega (arith, long, digits, length-append (decimal left) (10 ∷ []))
+
+pub collected_is_short : (floor left : ℕ) → floor < 2 ^ 64 → left < 2 ^ 64 → IsLong (Reply.Collected floor left) → ⊥
+unfolding reply_text
+collected_is_short floor left low small long = by (nat_lt 0 left) long
+  where
+    digits : length (decimal floor) ≤ 20
+    digits = length-decimal-le 20 floor (omega arith) (omega (arith, low)) low
+
+    more : length (decimal left) ≤ 20
+    more = length-decimal-le 20 left (omega arith) (omega (arith, small)) small
+
+    last : Bytes
+    last = codes "left" ++ space ∷ decimal left
+
+    words : Bytes
+    words = decimal floor ++ space ∷ last
+
+    by : (b : Bool) → 4096 < length (join_with_byte space (codes "collected" ∷ decimal floor ∷ (if b then codes "left" ∷ decimal left ∷ [] else [])) ++ line_feed ∷ []) → ⊥
+    by true long = omega (arith, long, digits, more, length-append (decimal floor) (space ∷ last), length-append words (10 ∷ []))
+    by false long = omega (arith, long, digits, length-append (decimal floor) (10 ∷ []))
+
+signed_short : (z : ℤ) → mag z < 2 ^ 63 → length (signed_decimal z) ≤ 21
+signed_short (pos n) small = (let digits : length (decimal n) ≤ 20 = length-decimal-le 20 n (omega arith) (omega (arith, small)) (omega (arith, small)) in omega (arith, digits))
+signed_short (negsuc n) small = (let digits : length (decimal (suc n)) ≤ 20 = length-decimal-le 20 (suc n) (omega arith) (omega (arith, small)) (omega (arith, small)) in omega (arith, digits))
+
+pub exit_is_short : (exit : Exit) → ((z : ℤ) → exit ≡ Exit.Code z → SFits w32 z) → IsLong (Reply.RejectedExit exit) → ⊥
+unfolding reply_text
+exit_is_short (Exit.Code z) fits long = (let small = (fits z refl).sfits in let digits = signed_short z (omega (arith, small)) in omega (arith, long, digits, length-append (signed_decimal z) (10 ∷ [])))
+exit_is_short Exit.Signal fits long = omega (arith, long)
+
+produced_short : (file : Produced) → length (produced_text file) ≤ 7
+produced_short Produced.Mapping = omega arith
+produced_short Produced.Prefix = omega arith
+
+seen_short : (seen : Seen) → length (seen_text seen) ≤ 4
+seen_short (Seen.Byte b) = (let h = hex_long (b ∷ []) in omega (arith, h))
+seen_short Seen.End = omega arith
+seen_short Seen.Absent = omega arith
+
+pub rejected_is_short : (d : Difference) → d.at < 2 ^ 64 → IsLong (Reply.Rejected d) → ⊥
+unfolding reply_text
+rejected_is_short d small long =
+    let digits : length (decimal d.at) ≤ 20 = length-decimal-le 20 d.at (omega arith) (omega (arith, small)) small in
+    let last : Bytes = seen_text d.want ++ space ∷ seen_text d.got in
+    let places : Bytes = decimal d.at ++ space ∷ last in
+    let words : Bytes = produced_text d.file ++ space ∷ places in
+    omega (arith, long, digits, produced_short d.file, seen_short d.want, seen_short d.got, length-append (seen_text d.want) (space ∷ seen_text d.got), length-append (decimal d.at) (space ∷ last), length-append (produced_text d.file) (space ∷ places), length-append words (10 ∷ []))
+
 pub memory_is_short : length (reply_text Reply.Memory) ≤ 4096
 unfolding reply_text
 memory_is_short = omega arith
@@ -363,19 +447,21 @@ given_is_short store r is number below long =
 -- ---- lines
 
 -- a place where the line goes wrong
-pub bad_line : (rule : Rule) (s : State) (line : Bytes) (place : ℕ) → IsBadAt IsServedLine line place → LineStep IsServedLine rule s line (conditions_of (met_only false)) (Reply.Bad place) s
+pub bad_line : (rule : Rule) (s : State) (line : Bytes) (place : ℕ) → IsBadAt IsLineOf line place → LineStep IsLineOf rule s line (conditions_of (met_only false)) (Reply.Bad place) s
 bad_line rule s line place bad = inr (record { at = place; bad = bad; unasked = refl; refused = λ h. absurd (cc h); reply_is = refl; same = refl })
 
 abbrev pub has_space : Bytes → Bool
 has_space line = list_any (λ b. b == space) line
 
 -- a line of more than one word may be refused memory
-pub line_refused : (rule : Rule) (r : Repository) (phase : Phase) (w : Work) (line : Bytes) → ((command : Command) × IsServedLine command line) ⊎ ((place : ℕ) × IsBadAt IsServedLine line place) → has_space line ≡ true
-    → LineStep IsServedLine rule (at r phase w) line (conditions_of (met_only true)) Reply.Memory (at r phase w)
+pub line_refused : (rule : Rule) (r : Repository) (phase : Phase) (w : Work) (line : Bytes) → ((command : Command) × IsLineOf command line) ⊎ ((place : ℕ) × IsBadAt IsLineOf line place) → has_space line ≡ true
+    → LineStep IsLineOf rule (at r phase w) line (conditions_of (met_only true)) Reply.Memory (at r phase w)
 line_refused rule r phase w line (inr (place, bad)) words = inr (record { at = place; bad = bad; unasked = refl; refused = λ h. words; reply_is = refl; same = refl })
-line_refused rule r phase w line (inl (Command.Empty, is)) words = let one : has_space line ≡ false = ap has_space is.1 in absurd (cc (one, words))
-line_refused rule r phase w line (inl (Command.Stat, is)) words = let one : has_space line ≡ false = ap has_space is.1 in absurd (cc (one, words))
-line_refused rule r phase w line (inl (Command.Cancel, is)) words = let one : has_space line ≡ false = ap has_space is.1 in absurd (cc (one, words))
+line_refused rule r phase w line (inl (Command.Empty, is)) words = let one : has_space line ≡ false = ap has_space is in absurd (cc (one, words))
+line_refused rule r phase w line (inl (Command.Look, is)) words = let one : has_space line ≡ false = ap has_space is in absurd (cc (one, words))
+line_refused rule r phase w line (inl (Command.Finish, is)) words = let one : has_space line ≡ false = ap has_space is in absurd (cc (one, words))
+line_refused rule r phase w line (inl (Command.Stat, is)) words = let one : has_space line ≡ false = ap has_space is in absurd (cc (one, words))
+line_refused rule r phase w line (inl (Command.Cancel, is)) words = let one : has_space line ≡ false = ap has_space is in absurd (cc (one, words))
 line_refused rule r phase w line (inl (Command.Set path bytes, is)) words = inl (Command.Set path bytes, is, set_refused path bytes r phase w)
 line_refused rule r phase w line (inl (Command.Get path, is)) words = inl (Command.Get path, is, get_refused path r phase w)
 line_refused rule r phase w line (inl (Command.Checkout target, is)) words = inl (Command.Checkout target, is, checkout_refused target r phase w)
@@ -394,7 +480,6 @@ line_refused rule r phase w line (inl (Command.Log target, is)) words = inl (Com
 line_refused rule r phase w line (inl (Command.Lcas one other, is)) words = inl (Command.Lcas one other, is, lcas_refused one other r phase w)
 line_refused rule r phase w line (inl (Command.Hash bytes, is)) words = inl (Command.Hash bytes, is, hash_refused bytes r phase w)
 line_refused rule r phase w line (inl (Command.Collect target, is)) words = inl (Command.Collect target, is, collect_refused target r phase w)
-line_refused rule r phase w line (inl (_, is)) words = absurd is.0
 
 -- memory was refused, so there was more than one word
 pub has_words : (line : Bytes) (fault : LineFault) → fault ≡ LineFault.Memory → (IsFalse (has_space line) → ◌≢◌ {A = Result Command LineFault} (Err fault) (Err LineFault.Memory)) → has_space line ≡ true

@@ -39,7 +39,7 @@ use Rattle.ip_store.proofs.Stepping.{in_itself, same_holds, stays_still}
 use Rattle.ip_store.proofs.Works.{works_stay}
 use Rattle.ip_session.specs.declared.session.Session.{Session}
 use Rattle.ip_session.specs.declared.session.SessionEnd.{SessionEnd}
-use Rattle.ip_session.specs.Placing.{PlacedBy, AttemptsLeft}
+use Rattle.ip_session.specs.Placing.{HasCollected, PlacedBy, AttemptsLeft}
 use Rattle.ip_session.specs.Session.{unasked, IsServing, IsWorking, state_in, met_only, conditions_of, IsLong, IsDurable, ChangedBy, TouchedBy, OnlyBy, GoesBy, CutBy}
 use Rattle.ip_session.specs.Starting.{HeldReplies, IsFound, StartReplies}
 use Rattle.ip_session.proofs.Asking.{both_some}
@@ -47,10 +47,10 @@ use Rattle.ip_session.proofs.Changing.{keeps_nothing, nothing_by}
 use Rattle.ip_session.proofs.Placing.{unmoved}
 use Rattle.ip_session.proofs.Referring.{IsUnnamed, NamesNone, names_none}
 use Rattle.ip_session.proofs.SessionGoes.{still_goes}
-use Rattle.ip_session.proofs.SessionLemmas.{at, plainly, collect_refused, started_is_short, start_fault_is_short}
+use Rattle.ip_session.proofs.SessionLemmas.{at, plainly, heard_none, unjudged, collect_refused, started_is_short, start_fault_is_short}
 
 -- with want of memory the next state is what is kept, and else the machine's answer
-chosen : {A B : Type 0} (b : Bool) (x y : A × B) (reply : A) (next : B) → (if b then x else y) ≡ (reply, next) → MatchBool b ((reply ≡ x.0) × (next ≡ x.1)) ((reply, next) ≡ y)
+pub chosen : {A B : Type 0} (b : Bool) (x y : A × B) (reply : A) (next : B) → (if b then x else y) ≡ (reply, next) → MatchBool b ((reply ≡ x.0) × (next ≡ x.1)) ((reply, next) ≡ y)
 chosen true x y reply next e = (ap (λ t. t.0) (sym e), ap (λ t. t.1) (sym e))
 chosen false x y reply next e = sym e
 
@@ -145,11 +145,11 @@ module _ (a : Told) (s : Session) (r : Repository) (v : View) (here : IsWorking 
   quietly reply = GoesBy unasked a a s s r v (Command.Collect target) reply
 
   quiet_goes : (reply : Reply) → s.met ≡ met_only false → Step unasked (state_in s r v) (Command.Collect target) (conditions_of (met_only false)) reply (state_in s r v) → quietly reply
-  quiet_goes reply e step = still_goes a s s.met r v here (OnlyBy s.store a a (Command.Collect target)) (Step unasked (state_in s r v) (Command.Collect target)) (IsViewAfter r v (Command.Collect target)) reply
+  quiet_goes reply e step = still_goes a s s.met r v here (OnlyBy s.store a a (Command.Collect target)) (Step unasked (state_in s r v) (Command.Collect target)) (IsViewAfter r v (Command.Collect target)) reply (ap (λ (m : Met). m.child) e)
       (subst (λ (m : Met). Step unasked (state_in s r v) (Command.Collect target) (conditions_of m) reply (state_in s r v)) (sym e) step)
       refl
       (λ long. collect_refused target r (phase_of s.store.collection) (work_at s.work v))
-      (nothing_by (Some s.store.slot.next_attempt) (ChangedBy s.store a.held (Command.Collect target) reply) a a (only_nowhere a NoFile))
+      (nothing_by false (Some s.store.slot.next_attempt) (ChangedBy s.store a.held (Command.Collect target) reply) a a (only_nowhere a NoFile))
 
   pub busy_goes : (n : ℕ) → s.met ≡ met_only false → phase_at (phase_of s.store.collection) ≡ Some n → quietly (Reply.Busy (name_at r n))
   busy_goes n e running = quiet_goes (Reply.Busy (name_at r n)) e (busy_step r (phase_of s.store.collection) (work_at s.work v) target n running)
@@ -158,14 +158,14 @@ module _ (a : Told) (s : Session) (r : Repository) (v : View) (here : IsWorking 
   unnamed_start reply e idle none = quiet_goes reply e (unnamed_step r (phase_of s.store.collection) (work_at s.work v) target reply idle none)
 
 pub busy_placed : (slot : Slot) (u : Unswept) (s : State) (v : View) (target : Target) (name : Hash) → PlacedBy unasked slot u slot s v (Command.Collect target) (Reply.Busy name)
-busy_placed slot u s v target name = unmoved slot u slot s v (Command.Collect target) (Reply.Busy name) unasked (λ h. h) (λ l is. absurd (cc is)) (λ t is. tt) refl
+busy_placed slot u s v target name = unmoved slot u slot s v (Command.Collect target) (Reply.Busy name) unasked (λ h. h) (λ h. h) (λ l is. absurd (cc is)) (λ t is. tt) refl
 
 pub unnamed_start_placed : (slot : Slot) (u : Unswept) (s : State) (v : View) (target : Target) (reply : Reply) → resolve s.repository target ≡ Err reply → PlacedBy unasked slot u slot s v (Command.Collect target) reply
 unnamed_start_placed slot u s v target reply is = by reply (subst NamesNone is (names_none s.repository target))
   where
     by : (reply : Reply) → IsUnnamed reply → PlacedBy unasked slot u slot s v (Command.Collect target) reply
-    by (Reply.NoBranch other) un = unmoved slot u slot s v (Command.Collect target) (Reply.NoBranch other) unasked (λ h. h) (λ l e. absurd (cc e)) (λ t e. tt) refl
-    by (Reply.NoCommit hash) un = unmoved slot u slot s v (Command.Collect target) (Reply.NoCommit hash) unasked (λ h. h) (λ l e. absurd (cc e)) (λ t e. tt) refl
+    by (Reply.NoBranch other) un = unmoved slot u slot s v (Command.Collect target) (Reply.NoBranch other) unasked (λ h. h) (λ h. h) (λ l e. absurd (cc e)) (λ t e. tt) refl
+    by (Reply.NoCommit hash) un = unmoved slot u slot s v (Command.Collect target) (Reply.NoCommit hash) unasked (λ h. h) (λ h. h) (λ l e. absurd (cc e)) (λ t e. tt) refl
     by _ un = absurd un
 
 -- ---- the store was asked
@@ -194,7 +194,9 @@ module _ (a b : Told) (s : Session) (store : Store) (r : Repository) (v : View) 
       record {
         after = r;
         view = v;
+        difference = None;
         gives = gives reply A;
+        judged = unjudged a b s (after_it store.met) r v (heard_none (phase_of s.store.collection) command tt store.met.child (gives reply A).0.child);
         is_at = record { holds = holds; lawful = works_stay (image_records here.holds) (image_records holds) r r s.work v here.lawful (λ there. stay r holds) (omega arith) here.lawful.parents };
         seen = refl;
         only = for_more s.store.slot.next_attempt (MayChange a.held) (ChangedBy s.store a.held command reply) a b (λ file may. (done, may)) M.only;
@@ -222,13 +224,15 @@ module _ (a b : Told) (s : Session) (store : Store) (r : Repository) (v : View) 
         quiet = record {
           after = r;
           view = v;
+          difference = None;
           gives = step;
+          judged = unjudged a a s (record s { store = met_alone; met = now }) r v (heard_none (phase_of s.store.collection) command tt now.child step.0.child);
           is_at = record {
             holds = holds_alone;
             lawful = works_stay (image_records here.holds) (image_records holds_alone) r r s.work v here.lawful (λ there. stays_still s.store met_alone (in_itself s.store met) r r a here.holds holds_alone) (omega arith) here.lawful.parents;
           };
           seen = refl;
-          only = nothing_by (Some s.store.slot.next_attempt) (ChangedBy s.store a.held command reply) a a (only_nowhere a NoFile);
+          only = nothing_by false (Some s.store.slot.next_attempt) (ChangedBy s.store a.held command reply) a a (only_nowhere a NoFile);
           files = keeps_nothing a a (only_nowhere a NoFile);
           said = (only_nowhere a NoFile).said;
           atomic = λ order t late le. absurd (omega (arith, late, le));
@@ -268,7 +272,9 @@ module _ (a b : Told) (s : Session) (store : Store) (r : Repository) (v : View) 
       record {
         reply = t.0;
         after = t.1;
+        difference = None;
         gives = subst (λ (m : Met). Step unasked (state_in s r v) command (conditions_of m) t.0 t.1) (sym e) (plainly r (phase_of s.store.collection) (work_at s.work v) command false t.0 tt (λ h. absurd (cc h)), refl);
+        judged = unjudged a b s (after_it met) r v (ap (λ (m : Met). m.child) e);
         only = for_more s.store.slot.next_attempt (MayChange a.held) (TouchedBy s.store a.held command) a b (λ file may. (refl, may)) M.only;
         files = M.files;
         said = M.only.said;
@@ -321,19 +327,23 @@ module _ (a b : Told) (s : Session) (store : Store) (r : Repository) (v : View) 
         enough.1,
       );
     };
-    quiet = λ quiet. absurd (quiet done);
+    quiet = λ quiet _. absurd (quiet done);
+    collected = λ floor left may is. absurd may;
+    ended = λ may is. absurd may;
     space = λ _ is. absurd (none Limit.Space is);
     sequence = λ _ is. absurd (none Limit.Sequence is);
     attempt = λ t is. left;
   }
 
-  stays_at : (reply : Reply) → ¬ IsDurable reply command → ((l : Limit) → reply ≢ Reply.Limit l) → AttemptsLeft s.store.slot reply → store.slot ≡ s.store.slot → At reply
-  stays_at reply not none left same = unmoved s.store.slot s.store.unswept store.slot (state_in s r v) v command reply unasked not none (λ t is. left) same
+  stays_at : (reply : Reply) → ¬ IsDurable reply command → ¬ HasCollected reply command → ((l : Limit) → reply ≢ Reply.Limit l) → AttemptsLeft s.store.slot reply → store.slot ≡ s.store.slot → At reply
+  stays_at reply not over none left same = unmoved s.store.slot s.store.unswept store.slot (state_in s r v) v command reply unasked not over none (λ t is. left) same
 
   limited_at : (limit : Limit) → MayBeShort limit → LimitsStart ends_at (Err (CollectFault.Limit limit)) s.store → store.slot ≡ s.store.slot → At (Reply.Limit limit)
   limited_at limit may limits same = record {
     done = λ done. absurd done;
-    quiet = λ quiet. same;
+    quiet = λ quiet _. same;
+    collected = λ floor left may is. absurd may;
+    ended = λ may is. absurd may;
     space = λ _ is. record {
       more = (s.store.slot.end, table_of r) ∷ [];
       commits = 0;
@@ -366,8 +376,8 @@ module _ (a b : Told) (s : Session) (store : Store) (r : Repository) (v : View) 
       at_it reply is x = subst (λ (y : Result Reply SessionEnd). IfOk y At) (sym is) x
 
       held : store.slot ≡ s.store.slot → (name : Bytes) → (reply : Reply) × (result ≡ Ok reply) × HeldReplies name store.met met reply → Answers (Reply.Held name) → IfOk result At
-      held same name (reply, is, inl told) A = at_it (Reply.Held name) (is ∙ ap Ok told.0) (stays_at (Reply.Held name) (λ h. h) (λ l e. absurd (cc e)) tt same)
-      held same name (reply, is, inr short) A = at_it Reply.Memory (is ∙ ap Ok short.0) (stays_at Reply.Memory (λ h. h) (λ l e. absurd (cc e)) tt same)
+      held same name (reply, is, inl told) A = at_it (Reply.Held name) (is ∙ ap Ok told.0) (stays_at (Reply.Held name) (λ h. h) (λ h. h) (λ l e. absurd (cc e)) tt same)
+      held same name (reply, is, inr short) A = at_it Reply.Memory (is ∙ ap Ok short.0) (stays_at Reply.Memory (λ h. h) (λ h. h) (λ l e. absurd (cc e)) tt same)
 
       may_be : (limit : Limit) → Answers (Reply.Limit limit) → store.met ≡ met_by_start (Err (CollectFault.Limit limit)) → MayBeShort limit
       may_be limit A is_met = (subst (λ (m : Met). IsMet (state_in s r v) command (conditions_of m) (Reply.Limit limit)) is_met ((A target named).turns (work_at s.work v)).0).short.1
@@ -376,9 +386,9 @@ module _ (a b : Told) (s : Session) (store : Store) (r : Repository) (v : View) 
           → (IsBegun begun → Begins r s.store store a b) → (IsTurnedDown begun → store.slot ≡ s.store.slot) → IfOk result At
       by (Ok name) says A is_met limits begins down = (let enough = limits.enough tt in at_it (Reply.Started name) says.0 (drawn_at (Reply.Started name) tt (λ l e. absurd (cc e)) enough.0 (begins tt) (enough.1, enough.2)))
       by (Err CollectFault.Start) says A is_met limits begins down = (let enough = limits.enough tt in at_it Reply.StartFault says.0 (drawn_at Reply.StartFault tt (λ l e. absurd (cc e)) enough.0 (begins tt) (enough.1, enough.2)))
-      by (Err (CollectFault.Busy name)) says A is_met limits begins down = at_it (Reply.Busy name) says.0 (stays_at (Reply.Busy name) (λ h. h) (λ l e. absurd (cc e)) tt (down tt))
+      by (Err (CollectFault.Busy name)) says A is_met limits begins down = at_it (Reply.Busy name) says.0 (stays_at (Reply.Busy name) (λ h. h) (λ h. h) (λ l e. absurd (cc e)) tt (down tt))
       by (Err (CollectFault.Limit limit)) says A is_met limits begins down = at_it (Reply.Limit limit) says.0 (limited_at limit (may_be limit A is_met) limits (down tt))
-      by (Err CollectFault.Memory) says A is_met limits begins down = at_it Reply.Memory says.0 (stays_at Reply.Memory (λ h. h) (λ l e. absurd (cc e)) tt (down tt))
+      by (Err CollectFault.Memory) says A is_met limits begins down = at_it Reply.Memory says.0 (stays_at Reply.Memory (λ h. h) (λ h. h) (λ l e. absurd (cc e)) tt (down tt))
       by (Err CollectFault.Ground) says A is_met limits begins down = subst (λ (y : Result Reply SessionEnd). IfOk y At) (sym says.0) tt
       by (Err (CollectFault.Held place)) says A is_met limits begins down = both_some (branch_name_at r place) _ _ (IfOk result At) (held (down tt)) says A
 

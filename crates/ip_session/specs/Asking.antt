@@ -3,10 +3,11 @@
 --     Asked s s' command result jobs ends before after      these jobs were started, and children reaped that ended so
 --     AskedIn s s' line result jobs ends before after      so by a line
 --     LetsGo before after      what is counted while one is let go
---     HandlesNone command      it has to do with no child.      TellsNone reply, MeetsNone met      no child is told by the reply, and none was met
---     QuietIfLong old new reply      a long reply tells of no child, and no fault was counted before it
+--     HandlesNone command      it has to do with no child.      MayReap command      it may reap one.      TellsNone reply, MeetsNone met      no child is told by the reply, and none was met
+--     HeardOf c kept reaped ends before after      how the child ended that was heard of: it was reaped now, or its exit was kept
+--     QuietIfLong met old new reply      a long reply tells of no child, none was met, and no fault was counted before it
 --     Spawns tells old new s s' line result before after      some were, and the spawner tells it
-use Rattle.std.specs.Prelude.{◌≡◌, ◌≢◌, ◌⊎◌, ◌≤◌, List, [], ◌∷◌, ◌++◌, Bool, false, None, IsSome, IsSomeAnd, IsTrue, Result, Ok}
+use Rattle.std.specs.Prelude.{◌≡◌, ◌≢◌, ◌⊎◌, ◌≤◌, List, [], ◌∷◌, ◌++◌, Bool, false, Some, None, IsSome, IsSomeAnd, IsTrue, Result, Ok}
 use Rattle.ip_ground.specs.Counts.{Rose}
 use Rattle.ip_ground.specs.declared.names.GroundCounts.{GroundCounts}
 use Rattle.ip_ground.specs.declared.names.Reaped.{Reaped}
@@ -14,11 +15,13 @@ use Rattle.ip_spawn.specs.Children.{Told}
 use Rattle.ip_spawn.specs.declared.job.Job.{Job}
 use Rattle.ip_spawn.specs.declared.spawner.SpawnCounts.{SpawnCounts}
 use Rattle.ip_spec.specs.declared.command.Command.{Command}
+use Rattle.ip_spec.specs.declared.met.Child.TheVariants as Child
 use Rattle.ip_spec.specs.declared.met.Met.{Met}
 use Rattle.ip_spec.specs.declared.reply.Reply.{Reply}
 use Rattle.ip_spec.specs.Machine.{exit_kept}
 use Rattle.ip_spec.specs.Path.{Bytes}
-use Rattle.ip_script.specs.Served.{IsServedLine}
+use Rattle.ip_spec.specs.Line.{IsLineOf}
+use Rattle.ip_store.specs.declared.collection.Collection.{Collection}
 use Rattle.ip_store.specs.Collecting.{phase_of}
 use Rattle.ip_store.specs.Starting.{IsJobAt}
 use Rattle.ip_session.specs.declared.session.Session.{Session}
@@ -31,8 +34,16 @@ HasStarted result = ⊥
 
 abbrev pub HandlesNone : Command → Type 0
 HandlesNone (Command.Collect target) = ⊥
+HandlesNone Command.Look = ⊥
+HandlesNone Command.Finish = ⊥
 HandlesNone Command.Cancel = ⊥
 HandlesNone command = Unit {0}
+
+abbrev pub MayReap : Command → Type 0
+MayReap Command.Look = Unit {0}
+MayReap Command.Finish = Unit {0}
+MayReap Command.Cancel = Unit {0}
+MayReap command = ⊥
 
 abbrev pub TellsNone : Reply → Type 0
 TellsNone (Reply.Started name) = ⊥
@@ -40,21 +51,31 @@ TellsNone Reply.Cancelled = ⊥
 TellsNone reply = Unit {0}
 
 abbrev pub MeetsNone : Met → Type 0
-MeetsNone met = (met.start_failed ≡ false) × (met.kill_failed ≡ false)
+MeetsNone met = (met.start_failed ≡ false) × (met.kill_failed ≡ false) × (met.child ≡ Child.NotAsked)
 
 -- so want of memory may be told in its place
-abbrev pub QuietIfLong : GroundCounts → GroundCounts → Reply → Type 0
-QuietIfLong old new reply = IsLong reply → (¬ HasStarted (Ok reply)) × (new ≡ old)
+abbrev pub QuietIfLong : Met → GroundCounts → GroundCounts → Reply → Type 0
+QuietIfLong met old new reply = IsLong reply → (¬ HasStarted (Ok reply)) × (met.child ≡ Child.NotAsked) × (new ≡ old)
 
--- No child is looked at or waited for. One is started by `collect` alone, where it says so, and one is reaped by `cancel` alone.
+-- by a command that began while the collection ran
+abbrev pub HeardOf : Collection → Reaped → List Reaped → SpawnCounts → SpawnCounts → Type 0
+HeardOf c reaped ends before after = (reaped.attempt ≡ c.job.attempt) × (((c.exit ≡ None) × (ends ≡ reaped ∷ []) × Rose before.reaps after.reaps) ⊎ ((c.exit ≡ Some reaped) × (ends ≡ []) × (after ≡ before)))
+
+-- A child is started by `collect` alone, where it says so. One is looked at by `look` alone, and waited for by `finish` alone; these two and `cancel` may reap it.
 pub record Asked (s s' : Session) (command : Command) (result : Result Reply SessionEnd) (jobs : List Job) (ends : List Reaped) (before after : SpawnCounts) : Type 0 where
   -- the job is that of the collection that goes on
   pub started : HasStarted result → IsSomeAnd s'.store.collection (λ c. (jobs ≡ c.job ∷ []) × (c.exit ≡ None) × IsJobAt s.store c.commit s'.store.slot c.job)
   pub none_started : ¬ HasStarted result → jobs ≡ []
-  pub running : after.running ≡ before.running
-  pub waits : after.waits ≡ before.waits
+  -- it was seen to run where that is met, and else not
+  pub running : s'.met.child ≡ Child.Running → Rose before.running after.running
+  pub not_running : s'.met.child ≢ Child.Running → after.running ≡ before.running
+  pub waits : before.waits ≤ after.waits
+  pub no_wait : command ≢ Command.Finish → after.waits ≡ before.waits
   pub reaps : before.reaps ≤ after.reaps
-  pub none_reaped : command ≢ Command.Cancel → (ends ≡ []) × (after.reaps ≡ before.reaps)
+  pub none_reaped : ¬ MayReap command → (ends ≡ []) × (after.reaps ≡ before.reaps)
+  -- what is met of it is what the spawner answered now, or what was kept
+  pub heard : (reaped : Reaped) → s'.met.child ≡ Child.Ended reaped → IsSomeAnd s.store.collection (λ c. HeardOf c reaped ends before after)
+  pub unheard : s'.met.child ≡ Child.Fault → Rose before.spawn_faults after.spawn_faults
   -- a kill reaps, and a child that had been reaped needs none
   pub cancelled : result ≡ Ok Reply.Cancelled → Rose before.reaps after.reaps ⊎ IsSome (exit_kept (phase_of s.store.collection))
   pub spawn_faults : before.spawn_faults ≤ after.spawn_faults
@@ -63,8 +84,8 @@ pub record Asked (s s' : Session) (command : Command) (result : Result Reply Ses
 
 -- a line that is no command asks nothing
 pub record AskedIn (s s' : Session) (line : Bytes) (result : Result Reply SessionEnd) (jobs : List Job) (ends : List Reaped) (before after : SpawnCounts) : Type 0 where
-  pub command : (command : Command) → IsServedLine command line → Asked s s' command result jobs ends before after
-  pub none : ((command : Command) → ¬ IsServedLine command line) → (jobs ≡ []) × (ends ≡ []) × (after ≡ before)
+  pub command : (command : Command) → IsLineOf command line → Asked s s' command result jobs ends before after
+  pub none : ((command : Command) → ¬ IsLineOf command line) → (jobs ≡ []) × (ends ≡ []) × (after ≡ before)
 
 pub record Spawns (tells : Bool) (old new : Told) (s s' : Session) (line : Bytes) (result : Result Reply SessionEnd) (before after : SpawnCounts) : Type 0 where
   pub jobs : List Job

@@ -3,6 +3,7 @@
 --     slot_behind command slot length commits      the slot behind them.      AttemptsLeft slot reply      there was an attempt left, or none
 --     IsAppended rule slot s v command more commits      these are its records, and so many commits among them
 --     OfRecords Appended Says      of some that it appends this is so, by how many bytes and how many commits they are
+--     IsSwappedAt slot u commit slot'      the slot behind a swap to the pair of a collection at this commit.      HasCollected reply command      one was accepted
 --     Placed slot u slot' Appended command reply      the slot before and after a command with this reply, by which records it appends, of a store in which this was unswept
 --     PlacedBy rule slot u slot' s v command reply, PlacedIn rule slot u slot' s v line reply      so of a command, and of a line
 use Rattle.std.specs.Prelude.{◌≡◌, ℕ, Option, ◌+◌, ◌<◌, ◌≤◌, true, length, [], ◌∷◌, Result, Ok, Err}
@@ -19,7 +20,7 @@ use Rattle.ip_spec.specs.Path.{Bytes}
 use Rattle.ip_spec.specs.Step.{resolve}
 use Rattle.ip_spec.specs.TreeAt.{Records}
 use Rattle.ip_spec.specs.View.{View}
-use Rattle.ip_script.specs.Served.{IsServedLine}
+use Rattle.ip_spec.specs.Line.{IsLineOf}
 use Rattle.ip_image.specs.declared.slot.Slot.{Slot}
 use Rattle.ip_image.specs.Appending.{fields_of, grown_batch, bytes_of_records}
 use Rattle.ip_store.specs.declared.collection.Unswept.{Unswept}
@@ -27,6 +28,7 @@ use Rattle.ip_store.specs.Changes.{next_slot}
 use Rattle.ip_store.specs.Collecting.{carrying}
 use Rattle.ip_store.specs.Merging.{MergeAppends}
 use Rattle.ip_store.specs.Starting.{table_of, begun_slot}
+use Rattle.ip_session.specs.Asking.{MayReap}
 use Rattle.ip_session.specs.Session.{is_durable, IsDurable}
 
 abbrev pub named_record : ℕ → Bytes → Result ℕ Reply → Records
@@ -69,10 +71,27 @@ pub record OfRecords (Appended : Records → ℕ → Type 0) (Says : (length com
   pub are : Appended more commits
   pub so : Says (length (bytes_of_records more)) commits
 
+-- It names the pair of the attempt that was drawn last: where its records begin, how many bytes and how many rows it has is the pair's.
+pub record IsSwappedAt (slot : Slot) (u : Unswept) (commit : ℕ) (slot' : Slot) : Type 0 where
+  pub horizon : ℕ
+  pub length : ℕ
+  pub rows : ℕ
+  pub is : slot' ≡ record (carrying slot u) { sequence = slot.sequence + 1; horizon = horizon; floor = commit; live = slot'.live; prefix_len = length; rows = rows }
+  pub drawn : slot'.live + 1 ≡ slot.next_attempt
+  pub sequence : slot.sequence < OFFSET_MAX
+
+-- a collection was accepted by it
+abbrev pub HasCollected : Reply → Command → Type 0
+HasCollected (Reply.Collected floor left) command = MayReap command
+HasCollected reply command = ⊥
+
 -- A place is at most the greatest offset, and a sequence before a durable command is below it: no other reply of the two limits comes, and none where they are kept. The slot behind says what was unswept.
 pub record Placed (slot : Slot) (u : Unswept) (slot' : Slot) (Appended : Records → ℕ → Type 0) (command : Command) (reply : Reply) : Type 0 where
   pub done : IsDurable reply command → OfRecords Appended (λ length commits. (slot' ≡ slot_behind command (carrying slot u) length commits) × (slot.end + length ≤ OFFSET_MAX) × (slot.sequence < OFFSET_MAX))
-  pub quiet : ¬ IsDurable reply command → slot' ≡ slot
+  pub quiet : ¬ IsDurable reply command → ¬ HasCollected reply command → slot' ≡ slot
+  -- of a collection that was accepted, and of one whose slot would pass the greatest sequence
+  pub collected : (floor left : ℕ) → MayReap command → reply ≡ Reply.Collected floor left → IsSwappedAt slot u floor slot'
+  pub ended : MayReap command → reply ≡ Reply.Limit Limit.Sequence → slot.sequence ≡ OFFSET_MAX
   pub space : is_durable command ≡ true → reply ≡ Reply.Limit Limit.Space → OfRecords Appended (λ length commits. OFFSET_MAX < slot.end + length)
   pub sequence : is_durable command ≡ true → reply ≡ Reply.Limit Limit.Sequence → OfRecords Appended (λ length commits. (slot.end + length ≤ OFFSET_MAX) × (slot.sequence ≡ OFFSET_MAX))
   -- of a collection: it is begun, or one of the two limits is met, only where there is an attempt left, and else that limit is met
@@ -82,5 +101,5 @@ abbrev pub PlacedBy : Rule → Slot → Unswept → Slot → State → View → 
 PlacedBy rule slot u slot' s v command reply = Placed slot u slot' (IsAppended rule slot s v command) command reply
 
 pub record PlacedIn (rule : Rule) (slot : Slot) (u : Unswept) (slot' : Slot) (s : State) (v : View) (line : Bytes) (reply : Reply) : Type 0 where
-  pub command : (command : Command) → IsServedLine command line → PlacedBy rule slot u slot' s v command reply
-  pub none : ((command : Command) → ¬ IsServedLine command line) → slot' ≡ slot
+  pub command : (command : Command) → IsLineOf command line → PlacedBy rule slot u slot' s v command reply
+  pub none : ((command : Command) → ¬ IsLineOf command line) → slot' ≡ slot

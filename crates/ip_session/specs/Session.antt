@@ -4,14 +4,16 @@
 --     unasked      a rule for commands that ask none
 --     met_only refused      what a command meets that changes no file: nothing but want of memory, if that
 --     is_durable command      it may change files.      IsDurable reply command      and with this reply it did
---     HasWords command      it is served, with the words that its line may have
---     attempt_of store command      the attempt that it has to do with.      ChangesBy attempt these old new      no file changes but these and that attempt's
---     ChangedBy store image command reply      the files that a command with this reply may have changed.      OnlyBy store old new command reply, OnlyIn store old new line reply      none but these, by a command or a line
+--     HasWords command      its words are those that its line may have
+--     attempt_of store command      the attempt that it has to do with.      hears command      its child is heard of
+--     ChangesBy heard attempt these old new      no file changes but these and that attempt's
+--     ChangedAtEnd store reply file      a file that one changes which hears of a child.      ChangedBy store image command reply      the files that a command with this reply may have changed.      OnlyBy store old new command reply, OnlyIn store old new line reply      none but these, by a command or a line
 --     TouchedBy store image command, TouchesBy store old new command, TouchesIn store old new line      and where it was cut short
 --     CountsBy result command met old new, CountsIn line result met old new      the faults that were counted
 --     IsAnswered records s s' r v command reply      a command was run that changes no file
 --     HasRead tells old new s s' command result      and it may have read records
 --     IsViewIn r v line reply view      the view of the work's tree after a line with this reply
+--     conditions_with met difference      what was met.      IsJudgedIn old new s s' r v difference      the difference is the settled pair's
 --     Goes old new s s' r v Only Gives Views reply      a command or a line was run, of which they say which files alone changed, what the machine gives, and the view after it
 --     Cut old new s s' r v Touches Gives      a fault of the ground or of its files cut it short
 --     GoesBy, CutBy rule .. command, GoesIn, CutIn rule .. line      so of a command, and of a line, by the rules of merges
@@ -21,8 +23,10 @@
 --     tree_fault fault      a call on a tree fails as one of the store.      IsEndOf fault end, EndsBecause made end      the session ends by it, or by what a call failed with
 --     IsNamed reply      a commit's name that a merge is answered with is no longer than a name
 --     IsLong reply      the text of such a reply may take memory.      Writes reply met met' text      it was written, or want of it
-use Rattle.std.specs.Prelude.{◌≡◌, ◌⊎◌, ◌<◌, ℕ, Bool, true, false, length, Option, Some, None, option_map, IsTrue, IfOk, IsErr, Result, Ok, Err}
+use Rattle.std.specs.Prelude.{◌≡◌, ◌⊎◌, ◌<◌, ℕ, Bool, true, false, length, Option, Some, None, option_map, IsTrue, IfOk, IsErr, IsSomeAnd, Result, Ok, Err}
 use Rattle.ip_ground.specs.declared.names.FileName.{FileName}
+use Rattle.ip_ground.specs.declared.names.FileName.TheVariants.{Control}
+use Rattle.ip_ground.specs.declared.names.Reaped.{Reaped}
 use Rattle.ip_ground.specs.Contents.{Image}
 use Rattle.ip_ground.specs.declared.names.GroundCounts.{GroundCounts}
 use Rattle.ip_ground.specs.Counts.{CountsIf, CountsLeft, FileFault}
@@ -31,7 +35,10 @@ use Rattle.ip_spec.specs.Repository.{Repository}
 use Rattle.ip_spec.specs.View.{View}
 use Rattle.ip_spec.specs.declared.record.Record.{Record}
 use Rattle.ip_spec.specs.declared.command.Command.{Command}
+use Rattle.ip_spec.specs.declared.met.Child.{Child}
+use Rattle.ip_spec.specs.declared.met.Child.TheVariants as Child
 use Rattle.ip_spec.specs.declared.met.Met.{Met}
+use Rattle.ip_spec.specs.declared.reply.Difference.{Difference}
 use Rattle.ip_spec.specs.declared.reply.Reply.{Reply}
 use Rattle.ip_spec.specs.Path.{Bytes, IsPath}
 use Rattle.ip_spec.specs.Machine.{State, Conditions}
@@ -40,18 +47,20 @@ use Rattle.ip_spec.specs.Record.{IsBranchName, IsInfo}
 use Rattle.ip_spec.specs.Script.{LineStep}
 use Rattle.ip_spec.specs.Step.{Step}
 use Rattle.ip_spec.specs.Text.{reply_text}
-use Rattle.ip_script.specs.Served.{IsServed, IsServedLine}
+use Rattle.ip_spec.specs.Line.{IsLineOf}
 use Rattle.ip_image.specs.Pending.{NothingPending}
 use Rattle.ip_image.specs.Headline.{IsAtomic}
 use Rattle.ip_store.specs.declared.committing.StoreFault.{StoreFault}
+use Rattle.ip_store.specs.declared.collection.Collection.{Collection}
 use Rattle.ip_store.specs.declared.store.Store.{Store}
 pub use Rattle.ip_store.specs.Commits.{conditions_of}
 use Rattle.ip_store.specs.Collecting.{phase_of}
 use Rattle.ip_store.specs.Commits.{met_nothing}
+use Rattle.ip_store.specs.Finishing.{swapped_slot, Judges}
 use Rattle.ip_store.specs.Publishing.{MayChange}
 use Rattle.ip_store.specs.Showing.{fault_from}
 use Rattle.ip_store.specs.Store.{IsOf, image_records}
-use Rattle.ip_store.specs.Sweeping.{IsSwept, ChangesFor, KeepsFiles}
+use Rattle.ip_store.specs.Sweeping.{IsSwept, ChangesFor, EndsFor, KeepsFiles}
 use Rattle.ip_store.specs.Trees.{OnlyLooks}
 use Rattle.ip_store.specs.Views.{IsViewAfter}
 use Rattle.ip_store.specs.Work.{AreParents, IsLawful, IsAt, session}
@@ -86,7 +95,7 @@ HasWords (Command.Commit branch info) = IsBranchName branch × IsInfo info
 HasWords (Command.Merge target branch info) = IsBranchName branch × IsInfo info
 HasWords (Command.Branch name target) = IsBranchName name
 HasWords (Command.BranchRm name) = IsBranchName name
-HasWords command = IsServed command
+HasWords command = Unit {0}
 
 -- a text of up to this length takes no memory: there is room for it
 abbrev pub IsLong : Reply → Type 0
@@ -114,40 +123,60 @@ IsDurable (Reply.Started hash) (Command.Collect target) = Unit {0}
 IsDurable Reply.StartFault (Command.Collect target) = Unit {0}
 IsDurable reply command = ⊥
 
--- the attempt that a command has to do with: it is drawn by it, or its child is killed
+-- the attempt that a command has to do with: it is drawn by it, or its child is heard of or killed
 abbrev pub attempt_of : Store → Command → Option ℕ
 attempt_of store (Command.Collect target) = Some store.slot.next_attempt
+attempt_of store Command.Look = option_map (λ c. c.job.attempt) store.collection
+attempt_of store Command.Finish = option_map (λ c. c.job.attempt) store.collection
 attempt_of store Command.Cancel = option_map (λ c. c.job.attempt) store.collection
 attempt_of store command = None
 
+-- its child is heard of, so that the attempt may be settled and its pair synced
+abbrev pub hears : Command → Bool
+hears Command.Look = true
+hears Command.Finish = true
+hears command = false
+
 -- No file changes but these, and where there is an attempt, its own; no custody changes but that attempt's.
-abbrev pub ChangesBy : Option ℕ → (FileName → Type 0) → Told → Told → Type 0
-ChangesBy None these old new = ChangesOnly these old new
-ChangesBy (Some attempt) these old new = ChangesFor attempt these old new
+abbrev pub ChangesBy : Bool → Option ℕ → (FileName → Type 0) → Told → Told → Type 0
+ChangesBy heard None these old new = ChangesOnly these old new
+ChangesBy false (Some attempt) these old new = ChangesFor attempt these old new
+ChangesBy true (Some attempt) these old new = EndsFor attempt these old new
+
+-- Of a collection that goes on, by what is answered of its child: where it was collected the control file, and what a sweep removes beside the pair; where it was rejected what a sweep removes.
+abbrev pub ChangedAtEnd : Store → Reply → FileName → Type 0
+ChangedAtEnd store (Reply.Collected floor left) file = IsSomeAnd store.collection (λ c. (file ≡ Control) ⊎ IsSwept (swapped_slot store.slot store.unswept c 0 0) store.unswept file)
+ChangedAtEnd store (Reply.RejectedExit exit) file = IsSwept store.slot store.unswept file
+ChangedAtEnd store (Reply.Rejected difference) file = IsSwept store.slot store.unswept file
+ChangedAtEnd store reply file = ⊥
 
 -- of the files before it, by those that the store may change, or that a sweep removes
 abbrev pub ChangedBy : Store → Image → Command → Reply → FileName → Type 0
+ChangedBy store image Command.Look reply file = ChangedAtEnd store reply file
+ChangedBy store image Command.Finish reply file = ChangedAtEnd store reply file
 ChangedBy store image Command.Cancel reply file = (reply ≡ Reply.Cancelled) × IsSwept store.slot store.unswept file
 ChangedBy store image command reply file = IsDurable reply command × MayChange image file
 
 -- where a fault cut it short, by its words alone
 abbrev pub TouchedBy : Store → Image → Command → FileName → Type 0
+TouchedBy store image Command.Look file = file ≡ Control
+TouchedBy store image Command.Finish file = file ≡ Control
 TouchedBy store image Command.Cancel file = IsSwept store.slot store.unswept file
 TouchedBy store image command file = (is_durable command ≡ true) × MayChange image file
 
 abbrev pub OnlyBy : Store → Told → Told → Command → Reply → Type 0
-OnlyBy store old new command reply = ChangesBy (attempt_of store command) (ChangedBy store old.held command reply) old new
+OnlyBy store old new command reply = ChangesBy (hears command) (attempt_of store command) (ChangedBy store old.held command reply) old new
 
 -- of a line; one that is no command changes nothing
 pub record OnlyIn (store : Store) (old new : Told) (line : Bytes) (reply : Reply) : Type 0 where
-  pub command : (command : Command) → IsServedLine command line → OnlyBy store old new command reply
-  pub none : ((command : Command) → ¬ IsServedLine command line) → ChangesOnly NoFile old new
+  pub command : (command : Command) → IsLineOf command line → OnlyBy store old new command reply
+  pub none : ((command : Command) → ¬ IsLineOf command line) → ChangesOnly NoFile old new
 
 abbrev pub TouchesBy : Store → Told → Told → Command → Type 0
-TouchesBy store old new command = ChangesBy (attempt_of store command) (TouchedBy store old.held command) old new
+TouchesBy store old new command = ChangesBy (hears command) (attempt_of store command) (TouchedBy store old.held command) old new
 
 abbrev pub TouchesIn : Store → Told → Told → Bytes → Type 0
-TouchesIn store old new line = (command : Command) × IsServedLine command line × TouchesBy store old new command
+TouchesIn store old new line = (command : Command) × IsLineOf command line × TouchesBy store old new command
 
 -- nothing was changed, and memory may be refused instead
 pub record IsSpared (s s' : State) (v view : View) (Gives : Conditions → Reply → State → Type 0) : Type 0 where
@@ -171,13 +200,23 @@ pub record HasRead (tells : Bool) (old new : Told) (s s' : Session) (command : C
   pub unmet : IsErr result → s'.met ≡ s.met
 
 pub record IsViewIn (r : Repository) (v : View) (line : Bytes) (reply : Reply) (view : View) : Type 0 where
-  pub command : (command : Command) → IsServedLine command line → IsViewAfter r v command reply view
-  pub none : ((command : Command) → ¬ IsServedLine command line) → view ≡ v
+  pub command : (command : Command) → IsLineOf command line → IsViewAfter r v command reply view
+  pub none : ((command : Command) → ¬ IsLineOf command line) → view ≡ v
+
+abbrev pub conditions_with : Met → Option Difference → Conditions
+conditions_with met difference = record { told = met; difference = difference }
+
+-- The difference is that of the settled pair of the child that was heard of, over the records of the store: none where it is the valid one. Whatever it is where no child ended.
+abbrev pub IsJudgedIn : Told → Told → Session → Session → Repository → View → Option Difference → Type 0
+IsJudgedIn old new s s' r v difference = (here : IsWorking old s r v) (c : Collection) (reaped : Reaped) → s.store.collection ≡ Some c → s'.met.child ≡ Child.Ended reaped → Judges here.holds.stands.standing.records c (conditions_with s'.met difference) new
 
 pub record Goes (old new : Told) (s s' : Session) (r : Repository) (v : View) (Only : Reply → Type 0) (Gives : Conditions → Reply → State → Type 0) (Views : Reply → View → Type 0) (reply : Reply) : Type 0 where
   pub after : Repository
   pub view : View
-  pub gives : Gives (conditions_of s'.met) reply (state_in s' after view)
+  -- how the two files of a child that has ended differ from the valid ones
+  pub difference : Option Difference
+  pub gives : Gives (conditions_with s'.met difference) reply (state_in s' after view)
+  pub judged : IsJudgedIn old new s s' r v difference
   pub is_at : IsWorking new s' after view
   pub seen : Views reply view
   pub only : Only reply
@@ -194,7 +233,9 @@ pub record Goes (old new : Told) (s s' : Session) (r : Repository) (v : View) (O
 pub record Cut (old new : Told) (s s' : Session) (r : Repository) (v : View) (Touches : Type 0) (Gives : Conditions → Reply → State → Type 0) : Type 0 where
   pub reply : Reply
   pub after : State
-  pub gives : Gives (conditions_of s'.met) reply after
+  pub difference : Option Difference
+  pub gives : Gives (conditions_with s'.met difference) reply after
+  pub judged : IsJudgedIn old new s s' r v difference
   pub only : Touches
   pub files : KeepsFiles old new
   pub said : KeepsSaid old new
@@ -204,13 +245,13 @@ abbrev pub GoesBy : Rule → Told → Told → Session → Session → Repositor
 GoesBy rule old new s s' r v command = Goes old new s s' r v (OnlyBy s.store old new command) (Step rule (state_in s r v) command) (IsViewAfter r v command)
 
 abbrev pub GoesIn : Rule → Told → Told → Session → Session → Repository → View → Bytes → Reply → Type 0
-GoesIn rule old new s s' r v line = Goes old new s s' r v (OnlyIn s.store old new line) (LineStep IsServedLine rule (state_in s r v) line) (IsViewIn r v line)
+GoesIn rule old new s s' r v line = Goes old new s s' r v (OnlyIn s.store old new line) (LineStep IsLineOf rule (state_in s r v) line) (IsViewIn r v line)
 
 abbrev pub CutBy : Rule → Told → Told → Session → Session → Repository → View → Command → Type 0
 CutBy rule old new s s' r v command = Cut old new s s' r v (TouchesBy s.store old new command) (Step rule (state_in s r v) command)
 
 abbrev pub CutIn : Rule → Told → Told → Session → Session → Repository → View → Bytes → Type 0
-CutIn rule old new s s' r v line = Cut old new s s' r v (TouchesIn s.store old new line) (LineStep IsServedLine rule (state_in s r v) line)
+CutIn rule old new s s' r v line = Cut old new s s' r v (TouchesIn s.store old new line) (LineStep IsLineOf rule (state_in s r v) line)
 
 abbrev pub IsHeld : Bool → Told → Session → Type 0
 IsHeld tells told s = IsTrue tells × ((r : Repository) × (v : View) × IsWorking told s r v)
@@ -228,6 +269,8 @@ ground_end (SessionEnd.Damaged at names) = false
 -- Of a command: at each answer the counts are as they were, want of memory among them, but for the removals of a sweep that failed.
 abbrev pub CountsBy : Result Reply SessionEnd → Command → Met → GroundCounts → GroundCounts → Type 0
 CountsBy (Err end) command met old new = CountsIf FileFault (ground_end end) old new
+CountsBy (Ok reply) Command.Look met old new = CountsLeft met.left old new
+CountsBy (Ok reply) Command.Finish met old new = CountsLeft met.left old new
 CountsBy (Ok reply) Command.Cancel met old new = CountsLeft met.left old new
 CountsBy (Ok reply) command met old new = new ≡ old
 
@@ -237,7 +280,7 @@ CountsAny (Ok reply) old new = (left : ℕ) × CountsLeft left old new
 
 -- of a line, whichever it is
 pub record CountsIn (line : Bytes) (result : Result Reply SessionEnd) (met : Met) (old new : GroundCounts) : Type 0 where
-  pub command : (command : Command) → IsServedLine command line → CountsBy result command met old new
+  pub command : (command : Command) → IsLineOf command line → CountsBy result command met old new
   pub any : CountsAny result old new
 
 -- refusals are answered, want of memory among them, and faults of the ground and of its files end the session

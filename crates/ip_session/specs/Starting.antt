@@ -3,7 +3,8 @@
 --     HeldReplies name met met' reply      the branch of this name is told, or memory was refused for it
 --     StartReplies r begun met met' result      what came of a collection that was to begin
 --     cancel_answer done      what came of one that was to end
-use Rattle.std.specs.Prelude.{◌≡◌, ◌⊎◌, true, length, Result, Ok, Err, IsSome, IsSomeAnd}
+--     finish_fault fault, look_answer looked      what came of one whose child was asked
+use Rattle.std.specs.Prelude.{◌≡◌, ◌⊎◌, true, length, None, Result, Ok, Err, IsSome, IsSomeAnd}
 use Rattle.ip_spec.specs.declared.met.Met.{Met}
 use Rattle.ip_spec.specs.declared.reply.Reply.{Reply}
 use Rattle.ip_spec.specs.Path.{Bytes}
@@ -11,6 +12,11 @@ use Rattle.ip_spec.specs.Record.{Hash}
 use Rattle.ip_spec.specs.Repository.{Repository}
 use Rattle.ip_store.specs.declared.cancelling.CancelFault.{CancelFault}
 use Rattle.ip_store.specs.declared.cancelling.Cancelled.{Cancelled}
+use Rattle.ip_store.specs.declared.finishing.FinishFault.{FinishFault}
+use Rattle.ip_store.specs.declared.finishing.FinishFault.TheVariants as FinishFault
+use Rattle.ip_store.specs.declared.finishing.Looked.{Looked}
+use Rattle.ip_store.specs.declared.finishing.Looked.TheVariants as Looked
+use Rattle.ip_store.specs.declared.finishing.Rejection.TheVariants as Rejection
 use Rattle.ip_store.specs.declared.starting.CollectFault.{CollectFault}
 use Rattle.ip_store.specs.declared.store.Store.{Store}
 use Rattle.ip_store.specs.Starting.{branch_name_at}
@@ -39,3 +45,20 @@ cancel_answer (Ok Cancelled.Done) = Ok Reply.Cancelled
 cancel_answer (Ok Cancelled.Orphan) = Ok Reply.CancelledOrphan
 cancel_answer (Err CancelFault.Idle) = Ok Reply.Idle
 cancel_answer (Err CancelFault.Ground) = Err SessionEnd.Ground
+
+-- the answer of a look, and with `as_look` that of a finish
+abbrev pub finish_fault : FinishFault → Result Reply SessionEnd
+finish_fault FinishFault.Idle = Ok Reply.Idle
+finish_fault FinishFault.Wait = Ok Reply.WaitFault
+finish_fault (FinishFault.Rejected (Rejection.Exit exit)) = Ok (Reply.RejectedExit exit)
+finish_fault (FinishFault.Rejected (Rejection.Differs difference)) = Ok (Reply.Rejected difference)
+finish_fault (FinishFault.Limit limit) = Ok (Reply.Limit limit)
+finish_fault FinishFault.Memory = Ok Reply.Memory
+finish_fault FinishFault.Ground = Err SessionEnd.Ground
+finish_fault (FinishFault.Damaged at) = Err (SessionEnd.Damaged at None)
+
+abbrev pub look_answer : Result Looked FinishFault → Result Reply SessionEnd
+look_answer (Ok Looked.Running) = Ok Reply.Running
+look_answer (Ok (Looked.Checking left)) = Ok (Reply.Checking left)
+look_answer (Ok (Looked.Collected collected)) = Ok (Reply.Collected collected.floor collected.left)
+look_answer (Err fault) = finish_fault fault

@@ -3,14 +3,16 @@ ghost use Rattle.std.specs.Prelude.{◌≡◌, ◌≤◌, ◌++◌, List, length
 ghost use Rattle.ip_ground.specs.declared.names.Reaped.{Reaped};
 ghost use Rattle.ip_spawn.specs.declared.job.Job.{Job};
 ghost use Rattle.ip_spec.specs.declared.command.Command.TheVariants as Command;
+ghost use Rattle.ip_spec.specs.declared.reply.Reply.TheVariants as Reply;
 ghost use Rattle.ip_spec.specs.Repository.{Repository};
 ghost use Rattle.ip_store.specs.Collecting.{child_of};
+ghost use Rattle.ip_store.specs.Finishing.{as_look};
 ghost use Rattle.ip_store.specs.Starting.{branch_name_at};
 ghost use Rattle.ip_store.specs.Store.{IsOf};
 ghost use Rattle.ip_session.specs.Asking.{Asked, QuietIfLong, LetsGo};
 ghost use Rattle.ip_session.specs.Running.{Runs};
-ghost use Rattle.ip_session.specs.Session.{met_only, unasked, CountsBy, EndsBy, IsHeld};
-ghost use Rattle.ip_session.specs.Starting.{cancel_answer, HeldReplies, IsFound, StartReplies};
+ghost use Rattle.ip_session.specs.Session.{met_only, unasked, CountsBy, EndsBy, IsHeld, IsLong};
+ghost use Rattle.ip_session.specs.Starting.{cancel_answer, finish_fault, look_answer, HeldReplies, IsFound, StartReplies};
 
 use crate::replies::{refuse, started_reply};
 use crate::session::{Session, SessionEnd, resolve};
@@ -19,7 +21,9 @@ use ip_ground::Ground;
 use ip_script::{Reply, Target};
 use ip_spawn::Spawner;
 use ip_spec::met::{Met, Phase};
-use ip_store::{CancelFault, Cancelled, CollectFault, Store};
+use ip_store::{
+    CancelFault, Cancelled, CollectFault, Collected, FinishFault, Looked, Rejection, Store,
+};
 use std::alloc::Global;
 
 // The reply that tells the branch which stands against a collection.
@@ -69,6 +73,58 @@ fn cancel_answer(done: Result<Cancelled, CancelFault>) -> Result<Reply, SessionE
     }
 }
 
+// Why a collection's end was not accepted, or not asked.
+fn finish_fault(fault: FinishFault) -> Result<Reply, SessionEnd>
+    ensures answer { result ≡ finish_fault fault }
+    ensures short { IfOk result (λ reply. ¬ IsLong reply) }
+{
+    match fault {
+        FinishFault::Idle => Ok(Reply::Idle),
+        FinishFault::Wait => Ok(Reply::WaitFault),
+        FinishFault::Rejected(Rejection::Exit(exit)) => Ok(Reply::RejectedExit(exit)),
+        FinishFault::Rejected(Rejection::Differs(difference)) => Ok(Reply::Rejected(difference)),
+        FinishFault::Limit(limit) => Ok(Reply::Limit(limit)),
+        FinishFault::Memory => Ok(Reply::Memory),
+        FinishFault::Ground => Err(SessionEnd::Ground),
+        FinishFault::Damaged(at) => Err(SessionEnd::Damaged { at, names: None }),
+    }
+}
+
+// The reply to a collection that was accepted.
+fn collected_reply(collected: Collected) -> Reply
+    ensures answer { result ≡ Reply.Collected collected.floor collected.left }
+    ensures short { ¬ IsLong result }
+{
+    Reply::Collected {
+        floor: collected.floor,
+        left: collected.left,
+    }
+}
+
+// What came of a look.
+fn look_answer(looked: Result<Looked, FinishFault>) -> Result<Reply, SessionEnd>
+    ensures answer { result ≡ look_answer looked }
+    ensures short { IfOk result (λ reply. ¬ IsLong reply) }
+{
+    match looked {
+        Ok(Looked::Running) => Ok(Reply::Running),
+        Ok(Looked::Checking(left)) => Ok(Reply::Checking(left)),
+        Ok(Looked::Collected(collected)) => Ok(collected_reply(collected)),
+        Err(fault) => finish_fault(fault),
+    }
+}
+
+// What came of a finish.
+fn finish_answer(done: Result<Collected, FinishFault>) -> Result<Reply, SessionEnd>
+    ensures answer { result ≡ look_answer (as_look done) }
+    ensures short { IfOk result (λ reply. ¬ IsLong reply) }
+{
+    match done {
+        Ok(collected) => Ok(collected_reply(collected)),
+        Err(fault) => finish_fault(fault),
+    }
+}
+
 impl Session {
     ghost use Rattle.ip_session.specs.Session.{IsServing};
 
@@ -87,7 +143,7 @@ impl Session {
         ensures child { P.held spawner.new ≡ child_of self.new.store.collection }
         ensures asked { (jobs : List Job) × (ends : List Reaped) × (IsTrue P.tells → P.told spawner.new ≡ record { started = (P.told spawner.old).started ++ jobs; reaped = (P.told spawner.old).reaped ++ ends })
             × Asked self.old self.new (Command.Collect target) result jobs ends (P.counts_of spawner.old) (P.counts_of spawner.new) }
-        ensures quiet { IfOk result (QuietIfLong (G.counts_of ground.old) (G.counts_of ground.new)) }
+        ensures quiet { IfOk result (QuietIfLong self.new.met (G.counts_of ground.old) (G.counts_of ground.new)) }
         ensures counts { CountsBy result (Command.Collect target) self.new.met (G.counts_of ground.old) (G.counts_of ground.new) }
         ensures cause { IfErr result (EndsBy (IsHeld G.tells (G.told ground.old) self.old)) }
     {
@@ -105,6 +161,54 @@ impl Session {
         start_reply(self.alloc, &self.store, &mut self.met, &begun)
     }
 
+    // Asks whether the child has ended that collects, and goes on with the check of what it wrote.
+    pub(crate) fn look<G: Ground, P: Spawner>(
+        &mut self,
+        ground: &mut G,
+        spawner: &mut P,
+    ) -> Result<Reply, SessionEnd>
+        requires met { self.old.met ≡ met_only false }
+        requires tables { IsServing self.old }
+        requires child { P.held spawner.old ≡ child_of self.old.store.collection }
+        ensures runs { Runs (IsTrue G.tells) unasked (G.told ground.old) (G.told ground.new) self.old self.new Command.Look result }
+        ensures child { P.held spawner.new ≡ child_of self.new.store.collection }
+        ensures asked { (jobs : List Job) × (ends : List Reaped) × (IsTrue P.tells → P.told spawner.new ≡ record { started = (P.told spawner.old).started ++ jobs; reaped = (P.told spawner.old).reaped ++ ends })
+            × Asked self.old self.new Command.Look result jobs ends (P.counts_of spawner.old) (P.counts_of spawner.new) }
+        ensures quiet { IfOk result (QuietIfLong self.new.met (G.counts_of ground.old) (G.counts_of ground.new)) }
+        ensures counts { CountsBy result Command.Look self.new.met (G.counts_of ground.old) (G.counts_of ground.new) }
+        ensures cause { IfErr result (EndsBy (IsHeld G.tells (G.told ground.old) self.old)) }
+    {
+        // It says that each count is one of 64 bits.
+        spawner.counts();
+        let looked = self.store.look(self.alloc, ground, spawner);
+        self.met = self.store.met();
+        look_answer(looked)
+    }
+
+    // Waits until it has ended, and brings the collection to its end.
+    pub(crate) fn finish<G: Ground, P: Spawner>(
+        &mut self,
+        ground: &mut G,
+        spawner: &mut P,
+    ) -> Result<Reply, SessionEnd>
+        requires met { self.old.met ≡ met_only false }
+        requires tables { IsServing self.old }
+        requires child { P.held spawner.old ≡ child_of self.old.store.collection }
+        ensures runs { Runs (IsTrue G.tells) unasked (G.told ground.old) (G.told ground.new) self.old self.new Command.Finish result }
+        ensures child { P.held spawner.new ≡ child_of self.new.store.collection }
+        ensures asked { (jobs : List Job) × (ends : List Reaped) × (IsTrue P.tells → P.told spawner.new ≡ record { started = (P.told spawner.old).started ++ jobs; reaped = (P.told spawner.old).reaped ++ ends })
+            × Asked self.old self.new Command.Finish result jobs ends (P.counts_of spawner.old) (P.counts_of spawner.new) }
+        ensures quiet { IfOk result (QuietIfLong self.new.met (G.counts_of ground.old) (G.counts_of ground.new)) }
+        ensures counts { CountsBy result Command.Finish self.new.met (G.counts_of ground.old) (G.counts_of ground.new) }
+        ensures cause { IfErr result (EndsBy (IsHeld G.tells (G.told ground.old) self.old)) }
+    {
+        // It says that each count is one of 64 bits.
+        spawner.counts();
+        let done = self.store.finish(self.alloc, ground, spawner);
+        self.met = self.store.met();
+        finish_answer(done)
+    }
+
     // Gives the collection up that runs.
     pub(crate) fn cancel<G: Ground, P: Spawner>(
         &mut self,
@@ -118,7 +222,7 @@ impl Session {
         ensures child { P.held spawner.new ≡ child_of self.new.store.collection }
         ensures asked { (jobs : List Job) × (ends : List Reaped) × (IsTrue P.tells → P.told spawner.new ≡ record { started = (P.told spawner.old).started ++ jobs; reaped = (P.told spawner.old).reaped ++ ends })
             × Asked self.old self.new Command.Cancel result jobs ends (P.counts_of spawner.old) (P.counts_of spawner.new) }
-        ensures quiet { IfOk result (QuietIfLong (G.counts_of ground.old) (G.counts_of ground.new)) }
+        ensures quiet { IfOk result (QuietIfLong self.new.met (G.counts_of ground.old) (G.counts_of ground.new)) }
         ensures counts { CountsBy result Command.Cancel self.new.met (G.counts_of ground.old) (G.counts_of ground.new) }
         ensures cause { IfErr result (EndsBy (IsHeld G.tells (G.told ground.old) self.old)) }
     {

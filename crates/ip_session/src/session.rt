@@ -285,7 +285,7 @@ impl Session {
             } => self.merge(ground, target, branch, info, rules),
             Command::Branch { name, target } => self.set_branch(ground, name.as_slice(), target),
             Command::BranchRm(name) => self.remove_branch(ground, name),
-            // No other is served.
+            // The others speak to a child.
             _ => unreachable!(),
         }
     }
@@ -307,13 +307,15 @@ impl Session {
         ensures child { P.held spawner.new ≡ child_of self.new.store.collection }
         ensures asked { (jobs : List Job) × (ends : List Reaped) × (IsTrue P.tells → P.told spawner.new ≡ record { started = (P.told spawner.old).started ++ jobs; reaped = (P.told spawner.old).reaped ++ ends })
             × Asked self.old self.new command result jobs ends (P.counts_of spawner.old) (P.counts_of spawner.new) }
-        ensures quiet { IfOk result (QuietIfLong (G.counts_of ground.old) (G.counts_of ground.new)) }
+        ensures quiet { IfOk result (QuietIfLong self.new.met (G.counts_of ground.old) (G.counts_of ground.new)) }
         ensures counts { CountsBy result command self.new.met (G.counts_of ground.old) (G.counts_of ground.new) }
         ensures cause { IsDecisive (D.rule rules.now) → IfErr result (EndsBy (IsHeld G.tells (G.told ground.old) self.old)) }
     {
         match command {
             // It speaks to the child of a collection.
             Command::Collect(target) => self.collect(dir, ground, spawner, target),
+            Command::Look => self.look(ground, spawner),
+            Command::Finish => self.finish(ground, spawner),
             Command::Cancel => self.cancel(ground, spawner),
             other => self.plain(ground, other, rules),
         }
@@ -339,7 +341,7 @@ impl Session {
             IfOk result (PlacedIn (D.rule rules.now) self.old.store.slot self.old.store.unswept self.new.store.slot (state_in self.old r v) v line.now) }
         ensures cut { IsTrue G.tells → IsDecisive (D.rule rules.now) → (r : Repository) (v : View) → IsWorking (G.told ground.old) self.old r v →
             OnErr result (CutIn (D.rule rules.now) (G.told ground.old) (G.told ground.new) self.old self.new r v line.now) }
-        ensures quiet { IfOk result (QuietIfLong (G.counts_of ground.old) (G.counts_of ground.new)) }
+        ensures quiet { IfOk result (QuietIfLong self.new.met (G.counts_of ground.old) (G.counts_of ground.new)) }
         ensures counts { CountsIn line.now result self.new.met (G.counts_of ground.old) (G.counts_of ground.new) }
         ensures cause { IsDecisive (D.rule rules.now) → IfErr result (EndsBy (IsHeld G.tells (G.told ground.old) self.old)) }
     {

@@ -59,7 +59,7 @@ returns-clause-counts g c =
     (cancel_counts c.cancel-done.result c.met-self.result left old new (c.met-self.ensures ∙ is_met) (subst (λ (m : Met). CountsCancel c.cancel-done.result m.left old new) (sym c.met-self.ensures) c.cancel-done.ensures.counts))
 
 pub returns-clause-quiet : goal.returns-clause-quiet
-returns-clause-quiet g c = subst (λ (x : Result Reply SessionEnd). IfOk x (QuietIfLong (g.G.Ground.counts_of c.args.ground.now) (g.G.Ground.counts_of c.cancel-done.new.outside))) (sym c.cancel_answer.ensures) (cancel_quiet c.cancel-done.result (g.G.Ground.counts_of c.args.ground.now) (g.G.Ground.counts_of c.cancel-done.new.outside))
+returns-clause-quiet g c = subst (λ (x : Result Reply SessionEnd). IfOk x (QuietIfLong c.met-self.result (g.G.Ground.counts_of c.args.ground.now) (g.G.Ground.counts_of c.cancel-done.new.outside))) (sym c.cancel_answer.ensures) (cancel_quiet c.cancel-done.result c.met-self.result (g.G.Ground.counts_of c.args.ground.now) (g.G.Ground.counts_of c.cancel-done.new.outside))
 
 pub returns-clause-cause : goal.returns-clause-cause
 returns-clause-cause g c = subst (λ (x : Result Reply SessionEnd). IfErr x (EndsBy (IsHeld g.G.Ground.tells (g.G.Ground.told c.args.ground.now) c.args.self.now))) (sym c.cancel_answer.ensures) (cancel_ends c.cancel-done.result (IsHeld g.G.Ground.tells (g.G.Ground.told c.args.ground.now) c.args.self.now))

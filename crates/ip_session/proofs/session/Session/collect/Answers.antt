@@ -122,7 +122,7 @@ returns-clause-quiet g c =
     let (r, is) = c.requires.tables in
     let A = call.ensures.answered r is.0 (c.in-Ok.ensures.retained r is.0) in
     let says = c.start_reply.ensures r (found_of r c.in-Ok.number s.store.collection call.new.self c.args.target (sym (c.in-Ok.ensures.number r is.0)) call.result A) in
-    start_quiet r _ c.start_reply.new.met c.start_reply.result c.args.target _ _ call.result says (start_counts r _ c.start_reply.new.met c.start_reply.result c.args.target _ _ call.result says call.ensures.counts)
+    start_quiet r _ c.start_reply.new.met c.start_reply.result c.args.target _ _ call.result says (c.met-self.ensures ∙ call.ensures.met) (start_counts r _ c.start_reply.new.met c.start_reply.result c.args.target _ _ call.result says call.ensures.counts)
 
 pub returns-clause-cause : goal.returns-clause-cause
 returns-clause-cause g c =

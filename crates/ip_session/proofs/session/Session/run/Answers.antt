@@ -17,6 +17,30 @@ returns-in-Collect-clause-asked g c = asked_as _ _ _ _ _ c.args.command (Command
 pub returns-in-Collect-clause-counts : goal.returns-in-Collect-clause-counts
 returns-in-Collect-clause-counts g c = counts_as c.args.command (Command.Collect c.in-Collect.target) c.collect.result _ _ _ c.in-Collect.is c.collect.ensures.counts
 
+-- ---- its child is looked at
+
+pub returns-in-Look-clause-runs : goal.returns-in-Look-clause-runs
+returns-in-Look-clause-runs g c = runs_as _ _ _ _ _ _ c.args.command Command.Look _ c.in-Look.is
+    (by_any_rule g.G.Ground.tells (g.D.Decides.rule c.args.rules.now) _ _ _ _ Command.Look _ tt c.look.ensures.runs)
+
+pub returns-in-Look-clause-asked : goal.returns-in-Look-clause-asked
+returns-in-Look-clause-asked g c = asked_as _ _ _ _ _ c.args.command Command.Look _ _ _ c.in-Look.is c.look.ensures.asked
+
+pub returns-in-Look-clause-counts : goal.returns-in-Look-clause-counts
+returns-in-Look-clause-counts g c = counts_as c.args.command Command.Look c.look.result _ _ _ c.in-Look.is c.look.ensures.counts
+
+-- ---- its end is waited for
+
+pub returns-in-Finish-clause-runs : goal.returns-in-Finish-clause-runs
+returns-in-Finish-clause-runs g c = runs_as _ _ _ _ _ _ c.args.command Command.Finish _ c.in-Finish.is
+    (by_any_rule g.G.Ground.tells (g.D.Decides.rule c.args.rules.now) _ _ _ _ Command.Finish _ tt c.finish.ensures.runs)
+
+pub returns-in-Finish-clause-asked : goal.returns-in-Finish-clause-asked
+returns-in-Finish-clause-asked g c = asked_as _ _ _ _ _ c.args.command Command.Finish _ _ _ c.in-Finish.is c.finish.ensures.asked
+
+pub returns-in-Finish-clause-counts : goal.returns-in-Finish-clause-counts
+returns-in-Finish-clause-counts g c = counts_as c.args.command Command.Finish c.finish.result _ _ _ c.in-Finish.is c.finish.ensures.counts
+
 -- ---- one is to end
 
 pub returns-in-Cancel-clause-runs : goal.returns-in-Cancel-clause-runs
@@ -41,10 +65,10 @@ pub returns-in_default-clause-asked : goal.returns-in_default-clause-asked
 returns-in_default-clause-asked g c = plain_asked _ _ c.args.self.now c.plain.new.self c.args.command c.plain.result _ c.plain.ensures.tells_none c.plain.ensures.meets_none
 
 pub returns-in_default-clause-quiet : goal.returns-in_default-clause-quiet
-returns-in_default-clause-quiet g c = plain_quiet c.plain.result _ _ c.plain.ensures.tells_none c.plain.ensures.counts
+returns-in_default-clause-quiet g c = plain_quiet c.plain.result c.plain.new.self.met _ _ c.plain.ensures.tells_none c.plain.ensures.meets_none c.plain.ensures.counts
 
 pub returns-in_default-clause-counts : goal.returns-in_default-clause-counts
-returns-in_default-clause-counts g c = plain_counts c.args.command c.plain.result c.plain.new.self.met _ _ (handles_of c.args.command c.in_default.not-Collect c.in_default.not-Cancel) c.plain.ensures.counts
+returns-in_default-clause-counts g c = plain_counts c.args.command c.plain.result c.plain.new.self.met _ _ (handles_of c.args.command c.in_default.not-Collect c.in_default.not-Look c.in_default.not-Finish c.in_default.not-Cancel) c.plain.ensures.counts
 
 pub returns-in_default-clause-cause : goal.returns-in_default-clause-cause
 returns-in_default-clause-cause g c = c.plain.ensures.cause

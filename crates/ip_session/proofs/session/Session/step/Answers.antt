@@ -1,7 +1,6 @@
 use Rattle.std.proofs.Common.{rules, sym, ap, subst, refl, false, Err}
 use Rattle.ip_spec.specs.declared.command.LineFault.{LineFault}
-use Rattle.ip_spec.specs.Line.{Reads}
-use Rattle.ip_script.specs.Served.{IsServedLine}
+use Rattle.ip_spec.specs.Line.{Reads, IsLineOf}
 use Rattle.ip_script.proofs.LineLaw.{one_command}
 use Rattle.ip_script.proofs.ReadLaw.{each_line}
 use Rattle.ip_store.specs.Collecting.{phase_of}
@@ -28,7 +27,7 @@ returns-in-Ok-clause-cut g c told decisive r v here = lined_cut _ _ _ c.args.sel
 
 pub returns-in-Err-Bad-clause-goes : goal.returns-in-Err-Bad-clause-goes
 returns-in-Err-Bad-clause-goes g c told decisive r v here = bad_goes _ _ c.args.self.now c.met_only-self.result r v here c.args.line.now c.in-Err-Bad.at c.met_only-self.ensures
-    (subst (λ (f : LineFault). Reads IsServedLine c.args.line.now (Err f)) c.in-Err-Bad.field-0-is c.in-Err-Bad.ensures.reads) (search rules)
+    (subst (λ (f : LineFault). Reads IsLineOf c.args.line.now (Err f)) c.in-Err-Bad.field-0-is c.in-Err-Bad.ensures.reads) (search rules)
 
 pub returns-in-Err-Memory-clause-goes : goal.returns-in-Err-Memory-clause-goes
 returns-in-Err-Memory-clause-goes g c told decisive r v here = refused_goes _ _ c.args.self.now c.refuse.new.met r v here c.args.line.now c.refuse.result c.refuse.ensures.met c.refuse.ensures.reply
@@ -39,11 +38,11 @@ returns-in-Ok-clause-placed g c told decisive r v here = lined_placed _ _ _ _ _ 
     (λ other spelled. one_command c.args.line.now other c.in-Ok.command spelled c.in-Ok.ensures.reads) (c.run.ensures.runs.placed (told, decisive) r v here)
 
 pub returns-in-Err-Bad-clause-placed : goal.returns-in-Err-Bad-clause-placed
-returns-in-Err-Bad-clause-placed g c told decisive r v here = quiet_placed _ _ _ _ _ v c.args.line.now (Reply.Bad c.in-Err-Bad.at) (λ command h. h) (λ l is. absurd (cc is)) tt refl
+returns-in-Err-Bad-clause-placed g c told decisive r v here = quiet_placed _ _ _ _ _ v c.args.line.now (Reply.Bad c.in-Err-Bad.at) (λ command h. h) (λ command h. h) (λ l is. absurd (cc is)) tt refl
 
 pub returns-in-Err-Memory-clause-placed : goal.returns-in-Err-Memory-clause-placed
 returns-in-Err-Memory-clause-placed g c told decisive r v here =
-    subst (PlacedIn (g.D.Decides.rule c.args.rules.now) c.args.self.now.store.slot c.args.self.now.store.unswept c.args.self.now.store.slot (state_in c.args.self.now r v) v c.args.line.now) (sym c.refuse.ensures.reply) (quiet_placed _ _ _ _ _ v c.args.line.now Reply.Memory (λ command h. h) (λ l is. absurd (cc is)) tt refl)
+    subst (PlacedIn (g.D.Decides.rule c.args.rules.now) c.args.self.now.store.slot c.args.self.now.store.unswept c.args.self.now.store.slot (state_in c.args.self.now r v) v c.args.line.now) (sym c.refuse.ensures.reply) (quiet_placed _ _ _ _ _ v c.args.line.now Reply.Memory (λ command h. h) (λ command h. h) (λ l is. absurd (cc is)) tt refl)
 
 pub returns-in-Ok-clause-asked : goal.returns-in-Ok-clause-asked
 returns-in-Ok-clause-asked g c = lined_asked _ _ _ c.args.self.now c.run.new.self c.met_only-self.result c.in-Ok.command c.args.line.now c.run.result _ _ c.in-Ok.ensures.reads

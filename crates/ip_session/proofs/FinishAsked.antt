@@ -1,0 +1,297 @@
+-- What a look and a finish ask of the spawner, and what is counted meanwhile.
+--     Sees child end ran failed      what was answered of a child: how it ended, whether it runs, and whether the call failed.      seen_so, reaped_so      so by a look and by a wait
+--     Answered c      the child of a collection was asked.      finish_asked      what the command asks
+--     as_answered, as_idle      the answer of a finish, as that of a look
+--     finish_counts, finish_quiet      what was counted.      finish_ends      how the session may end
+use Rattle.std.proofs.Common.{◌≡◌, ◌≢◌, ◌↔◌, ◌⊎◌, inl, inr, ℕ, zero, suc, ◌-◌, ◌^◌, ◌<◌, ◌≤◌, ◌++◌, Bool, true, false, List, [], ◌∷◌, refl, sym, ap, ◌∙◌, subst, arith, Option, Some, None, Ok, Err, IsTrue, append-nil}
+use Rattle.std.specs.Prelude.{Result, IfOk, IfErr, IfSome, IsSomeAnd, is_some, is_ok, is_err}
+use Rattle.ip_ground.specs.declared.names.GroundCounts.{GroundCounts}
+use Rattle.ip_ground.specs.declared.names.Reaped.{Reaped}
+use Rattle.ip_ground.specs.Counts.{CountsLeft, Rose}
+use Rattle.ip_spawn.proofs.Rising.{rose_counted}
+use Rattle.ip_spawn.specs.Children.{told_after, end_seen, end_reaped, is_running}
+use Rattle.ip_spawn.specs.Children as spawn
+use Rattle.ip_spawn.specs.Counts as spawned
+use Rattle.ip_spawn.specs.declared.spawner.Look.{Look}
+use Rattle.ip_spawn.specs.declared.spawner.SpawnCounts.{SpawnCounts}
+use Rattle.ip_spawn.specs.declared.spawner.SpawnFault.{SpawnFault}
+use Rattle.ip_spec.specs.declared.command.Command.{Command}
+use Rattle.ip_spec.specs.declared.met.Child.{Child}
+use Rattle.ip_spec.specs.declared.met.Met.{Met}
+use Rattle.ip_spec.specs.declared.reply.Reply.{Reply}
+use Rattle.ip_spec.specs.Machine.{Phase, empty_work}
+use Rattle.ip_spec.specs.Repository.{Repository}
+use Rattle.ip_spec.specs.Step.{MayHear}
+use Rattle.ip_spec.specs.Step as Machine
+use Rattle.ip_store.specs.declared.collection.Collection.{Collection}
+use Rattle.ip_store.specs.declared.finishing.Collected.{Collected}
+use Rattle.ip_store.specs.declared.finishing.FinishFault.{FinishFault}
+use Rattle.ip_store.specs.declared.finishing.Looked.{Looked}
+use Rattle.ip_store.specs.declared.finishing.Rejection.{Rejection}
+use Rattle.ip_store.specs.declared.store.Store.{Store}
+use Rattle.ip_store.specs.Collecting.{phase_of, IsPhaseOf}
+use Rattle.ip_store.specs.Finishing.{FinishReplies, LookReplies, as_look, child_seen, child_reaped, CountsFinish, IsUndamaged}
+use Rattle.ip_store.specs.Store.{IsOf}
+use Rattle.ip_session.specs.declared.session.Session.{Session}
+use Rattle.ip_session.specs.declared.session.SessionEnd.{SessionEnd}
+use Rattle.ip_session.specs.Asking.{HasStarted, HeardOf, QuietIfLong}
+use Rattle.ip_session.specs.Session.{CountsBy, EndsBy, IsLong}
+use Rattle.ip_session.specs.Starting.{look_answer}
+use Rattle.ip_session.proofs.Asking.{AskedSo, nothing_asked, none_added, never_failed, none_left}
+use Rattle.ip_session.proofs.FinishGoes.{IsEnding, Says, concluded, may_reap}
+
+-- ---- what was answered
+
+abbrev pub Sees : Child → Option Reaped → Bool → Bool → Type 0
+Sees Child.NotAsked end ran failed = ⊥
+Sees Child.Running end ran failed = (end ≡ None) × (ran ≡ true)
+Sees Child.Fault end ran failed = (end ≡ None) × (ran ≡ false) × (failed ≡ true)
+Sees (Child.Ended reaped) end ran failed = (end ≡ Some reaped) × (ran ≡ false)
+
+pub seen_so : (answer : Result Look SpawnFault) → Sees (child_seen answer) (end_seen answer) (is_running answer) (is_err answer)
+seen_so (Ok Look.Running) = (refl, refl)
+seen_so (Ok (Look.Ended reaped)) = (refl, refl)
+seen_so (Err fault) = (refl, refl, refl)
+
+pub reaped_so : (answer : Result Reaped SpawnFault) → Sees (child_reaped answer) (end_reaped answer) false (is_err answer)
+reaped_so (Ok reaped) = (refl, refl)
+reaped_so (Err fault) = (refl, refl, refl)
+
+pub reaps_so : (answer : Result Reaped SpawnFault) → is_ok answer ≡ is_some (end_reaped answer)
+reaps_so (Ok reaped) = refl
+reaps_so (Err fault) = refl
+
+-- ---- the answer of a finish
+
+pub as_answered : (P : Reply → Type 0) (done : Result Collected FinishFault) → FinishReplies done P → LookReplies (as_look done) P
+as_answered P (Ok collected) says = says
+as_answered P (Err fault) says = says
+
+pub idle_back : (done : Result Collected FinishFault) → as_look done ≡ Err FinishFault.Idle → done ≡ Err FinishFault.Idle
+idle_back (Ok collected) is = absurd (cc is)
+idle_back (Err fault) is = (let same : fault ≡ FinishFault.Idle = cc is in ap Err same)
+
+pub as_idle : (P : Type 0) (done : Result Collected FinishFault) → P ↔ (done ≡ Err FinishFault.Idle) → P ↔ (as_look done ≡ Err FinishFault.Idle)
+as_idle P done either = (λ p. ap as_look (either.0 p), λ is. either.1 (idle_back done is))
+
+-- ---- what is asked
+
+counted_up : (more : Bool) (k : ℕ) → k ≤ 2 ^ 64 - 1 → k ≤ spawned.counted more k
+counted_up true k small = elim (rose_counted k) [ inl up ↦ omega (arith, up) | inr full ↦ omega (arith, full, small) ]
+counted_up false k small = omega arith
+
+never_started : (looked : Result Looked FinishFault) → ¬ HasStarted (look_answer looked)
+never_started (Ok Looked.Running) has = has
+never_started (Ok (Looked.Checking left)) has = has
+never_started (Ok (Looked.Collected collected)) has = has
+never_started (Err FinishFault.Idle) has = has
+never_started (Err FinishFault.Wait) has = has
+never_started (Err (FinishFault.Rejected (Rejection.Exit exit))) has = has
+never_started (Err (FinishFault.Rejected (Rejection.Differs difference))) has = has
+never_started (Err (FinishFault.Limit limit)) has = has
+never_started (Err FinishFault.Memory) has = has
+never_started (Err FinishFault.Ground) has = has
+never_started (Err (FinishFault.Damaged at)) has = has
+
+never_over : (looked : Result Looked FinishFault) → look_answer looked ≢ Ok Reply.Cancelled
+never_over (Ok Looked.Running) is = absurd (cc is)
+never_over (Ok (Looked.Checking left)) is = absurd (cc is)
+never_over (Ok (Looked.Collected collected)) is = absurd (cc is)
+never_over (Err FinishFault.Idle) is = absurd (cc is)
+never_over (Err FinishFault.Wait) is = absurd (cc is)
+never_over (Err (FinishFault.Rejected (Rejection.Exit exit))) is = absurd (cc is)
+never_over (Err (FinishFault.Rejected (Rejection.Differs difference))) is = absurd (cc is)
+never_over (Err (FinishFault.Limit limit)) is = absurd (cc is)
+never_over (Err FinishFault.Memory) is = absurd (cc is)
+never_over (Err FinishFault.Ground) is = absurd (cc is)
+never_over (Err (FinishFault.Damaged at)) is = absurd (cc is)
+
+not_ran : (child : Child) (end : Option Reaped) (ran failed : Bool) → Sees child end ran failed → child ≢ Child.Running → ran ≡ false
+not_ran Child.NotAsked end ran failed sees not = absurd sees
+not_ran Child.Running end ran failed sees not = absurd (not refl)
+not_ran Child.Fault end ran failed sees not = sees.1
+not_ran (Child.Ended reaped) end ran failed sees not = sees.1
+
+ended_alike : (one other : Reaped) → ◌≡◌ {A = Child} (Child.Ended one) (Child.Ended other) → one ≡ other
+ended_alike one other is = cc is
+
+none_heard : (command : Command) → IsEnding command → (child : Child) → MayHear Phase.Idle command child → child ≡ Child.NotAsked
+none_heard Command.Look is child may = may
+none_heard Command.Finish is child may = may
+none_heard _ is child may = absurd is
+
+module _ (tells : Bool) (x y : spawn.Told) (s : Session) (store : Store) (met : Met) (command : Command) (ending : IsEnding command) (looked : Result Looked FinishFault) (is_met : met ≡ store.met) (says : Says s store command looked) (m n : SpawnCounts) where
+  abbrev after_it : Session
+  after_it = record s { store = store; met = met }
+
+  abbrev Asks : Type 0
+  Asks = AskedSo tells x y s after_it command (look_answer looked) m n
+
+  no_start : met.start_failed ≡ false
+  no_start = ap (λ (k : Met). k.start_failed) (is_met ∙ says.met.2)
+
+  no_kill : met.kill_failed ≡ false
+  no_kill = ap (λ (k : Met). k.kill_failed) (is_met ∙ says.met.2)
+
+  child_is : met.child ≡ store.met.child
+  child_is = ap (λ (k : Met). k.child) is_met
+
+  -- none runs
+  idle_asked : (r : Repository) → IsOf s.store r → s.store.collection ≡ None → looked ≡ Err FinishFault.Idle → (y ≡ x) × (n ≡ m) → Asks
+  idle_asked r tables none is same =
+      let says_idle = concluded s store met command ending looked is_met says r tables Reply.Idle (ap look_answer is) in
+      let heard : MayHear Phase.Idle command store.met.child = subst (λ (o : Option Collection). MayHear (phase_of o) command store.met.child) none (says_idle.turns empty_work).0.child in
+      nothing_asked tells x y s after_it command (look_answer looked) m n same.0 same.1 (never_started looked) (never_over looked) (no_start, no_kill, child_is ∙ none_heard command ending store.met.child heard)
+
+  -- its child had been reaped
+  kept_asked : (r : Repository) → IsOf s.store r → (c : Collection) (kept : Reaped) → s.store.collection ≡ Some c → c.exit ≡ Some kept → (y ≡ x) × (n ≡ m) → Asks
+  kept_asked r tables c kept runs exit same =
+      let child : met.child ≡ Child.Ended kept = child_is ∙ says.kept c kept runs exit in
+      let attempt : kept.attempt ≡ c.job.attempt = subst (λ (o : Option Reaped). IfSome o (λ reaped. reaped.attempt ≡ c.job.attempt)) exit (subst (IsPhaseOf s.store.slot r) runs tables.phase).reaped in (
+        [],
+        [],
+        λ _. same.0 ∙ none_added x,
+        record {
+          started = λ has. absurd (never_started looked has);
+          none_started = λ _. refl;
+          running = λ is. absurd (cc (sym is ∙ child));
+          not_running = λ _. ap (λ (k : SpawnCounts). k.running) same.1;
+          waits = (let e = ap (λ (k : SpawnCounts). k.waits) same.1 in omega (arith, e));
+          no_wait = λ _. ap (λ (k : SpawnCounts). k.waits) same.1;
+          reaps = (let e = ap (λ (k : SpawnCounts). k.reaps) same.1 in omega (arith, e));
+          none_reaped = λ not. absurd (not (may_reap command ending));
+          heard = λ reaped is. (let e : kept ≡ reaped = ended_alike kept reaped (sym child ∙ is) in
+              subst (λ (o : Option Collection). IsSomeAnd o (λ d. HeardOf d reaped [] m n)) (sym runs) (subst (λ (k : Reaped). k.attempt ≡ c.job.attempt) e attempt, inr (exit ∙ ap Some e, refl, same.1)));
+          unheard = λ is. absurd (cc (sym is ∙ child));
+          cancelled = λ is. absurd (never_over looked is);
+          spawn_faults = (let e = ap (λ (k : SpawnCounts). k.spawn_faults) same.1 in omega (arith, e));
+          start = λ failed. never_failed met.start_failed no_start failed;
+          kill = λ failed. never_failed met.kill_failed no_kill failed;
+        },
+      )
+
+  -- it was asked
+  pub record Answered (c : Collection) : Type 0 where
+    pub end : Option Reaped
+    pub ran : Bool
+    pub waited : Bool
+    pub failed : Bool
+    pub sees : Sees store.met.child end ran failed
+    pub waits : (waited ≡ false) ⊎ (command ≡ Command.Finish)
+    pub attempt : IfSome end (λ reaped. reaped.attempt ≡ c.job.attempt)
+    pub told : IsTrue tells → y ≡ told_after end x
+    pub counts : spawned.Counts ran waited (is_some end) failed m n
+
+  abbrev ends_in : Option Reaped → List Reaped
+  ends_in None = []
+  ends_in (Some reaped) = reaped ∷ []
+
+  told_so : (end : Option Reaped) → told_after end x ≡ record { started = x.started ++ []; reaped = x.reaped ++ ends_in end }
+  told_so None = none_added x
+  told_so (Some reaped) = λ i. record { started = sym (append-nil x.started) i; reaped = x.reaped ++ reaped ∷ [] }
+
+  now_asked : (c : Collection) → s.store.collection ≡ Some c → c.exit ≡ None → m.reaps ≤ 2 ^ 64 - 1 → m.waits ≤ 2 ^ 64 - 1 → Answered c → Asks
+  now_asked c runs fresh reaps_small waits_small A = (
+    [],
+    ends_in A.end,
+    λ t. A.told t ∙ told_so A.end,
+    record {
+      started = λ has. absurd (never_started looked has);
+      none_started = λ _. refl;
+      running = λ is. (let sees = subst (λ (k : Child). Sees k A.end A.ran A.failed) (sym child_is ∙ is) A.sees in
+          subst (Rose m.running) (sym A.counts.running) (subst (λ (b : Bool). Rose m.running (spawned.counted b m.running)) (sym sees.1) (rose_counted m.running)));
+      not_running = λ not. A.counts.running ∙ ap (λ (b : Bool). spawned.counted b m.running) (not_ran store.met.child A.end A.ran A.failed A.sees (λ is. not (child_is ∙ is)));
+      waits = subst (λ (k : ℕ). m.waits ≤ k) (sym A.counts.waits) (counted_up A.waited m.waits waits_small);
+      no_wait = λ not. elim A.waits [ inl none ↦ A.counts.waits ∙ ap (λ (b : Bool). spawned.counted b m.waits) none | inr is ↦ absurd (not is) ];
+      reaps = subst (λ (k : ℕ). m.reaps ≤ k) (sym A.counts.reaps) (counted_up (is_some A.end) m.reaps reaps_small);
+      none_reaped = λ not. absurd (not (may_reap command ending));
+      heard = λ reaped is. (let sees = subst (λ (k : Child). Sees k A.end A.ran A.failed) (sym child_is ∙ is) A.sees in
+          subst (λ (o : Option Collection). IsSomeAnd o (λ d. HeardOf d reaped (ends_in A.end) m n)) (sym runs) (
+            subst (λ (o : Option Reaped). IfSome o (λ k. k.attempt ≡ c.job.attempt)) sees.0 A.attempt,
+            inl (
+              fresh,
+              ap ends_in sees.0,
+              subst (Rose m.reaps) (sym A.counts.reaps) (subst (λ (o : Option Reaped). Rose m.reaps (spawned.counted (is_some o) m.reaps)) (sym sees.0) (rose_counted m.reaps)),
+            ),
+          ));
+      unheard = λ is. (let sees = subst (λ (k : Child). Sees k A.end A.ran A.failed) (sym child_is ∙ is) A.sees in A.counts.cause (subst IsTrue (sym sees.2) refl));
+      cancelled = λ is. absurd (never_over looked is);
+      spawn_faults = A.counts.spawn_faults;
+      start = λ failed. never_failed met.start_failed no_start failed;
+      kill = λ failed. never_failed met.kill_failed no_kill failed;
+    },
+  )
+
+  pub finish_asked : (r : Repository) → IsOf s.store r → (looked ≡ Err FinishFault.Idle → (y ≡ x) × (n ≡ m)) → ((c : Collection) (reaped : Reaped) → s.store.collection ≡ Some c → c.exit ≡ Some reaped → (y ≡ x) × (n ≡ m))
+      → m.reaps ≤ 2 ^ 64 - 1 → m.waits ≤ 2 ^ 64 - 1 → ((c : Collection) → s.store.collection ≡ Some c → c.exit ≡ None → Answered c) → Asks
+  finish_asked r tables idle kept reaps_small waits_small now = by s.store.collection refl
+    where
+      one : (c : Collection) → s.store.collection ≡ Some c → (exit : Option Reaped) → c.exit ≡ exit → Asks
+      one c runs None fresh = now_asked c runs fresh reaps_small waits_small (now c runs fresh)
+      one c runs (Some reaped) exit = kept_asked r tables c reaped runs exit (kept c reaped runs exit)
+
+      by : (o : Option Collection) → s.store.collection ≡ o → Asks
+      by None none = (let is = says.runs.0 none in idle_asked r tables none is (idle is))
+      by (Some c) runs = one c runs c.exit refl
+
+-- ---- what is counted
+
+left_by : (command : Command) → IsEnding command → (reply : Reply) (met : Met) (old new : GroundCounts) → CountsLeft met.left old new → CountsBy (Ok reply) command met old new
+left_by Command.Look is reply met old new counts = counts
+left_by Command.Finish is reply met old new counts = counts
+left_by _ is reply met old new counts = absurd is
+
+-- no sweep, so none failed
+none_by : (left : ℕ) (old new : GroundCounts) → ¬ (0 < left) → new ≡ old → CountsLeft left old new
+none_by zero old new none same = subst (CountsLeft 0 old) (sym same) (none_left old)
+none_by (suc k) old new none same = absurd (none (omega arith))
+
+counts_so : (command : Command) → IsEnding command → (met : Met) (old new : GroundCounts) (looked : Result Looked FinishFault) → LookReplies looked (λ reply. 0 < met.left → Machine.IsSwept reply) → CountsFinish looked met.left old new → CountsBy (look_answer looked) command met old new
+counts_so command is met old new (Ok Looked.Running) left counts = left_by command is Reply.Running met old new (none_by met.left old new left counts)
+counts_so command is met old new (Ok (Looked.Checking k)) left counts = left_by command is (Reply.Checking k) met old new (none_by met.left old new left counts)
+counts_so command is met old new (Ok (Looked.Collected collected)) left counts = left_by command is (Reply.Collected collected.floor collected.left) met old new counts
+counts_so command is met old new (Err FinishFault.Idle) left counts = left_by command is Reply.Idle met old new (none_by met.left old new left counts)
+counts_so command is met old new (Err FinishFault.Wait) left counts = left_by command is Reply.WaitFault met old new (none_by met.left old new left counts)
+counts_so command is met old new (Err (FinishFault.Rejected (Rejection.Exit exit))) left counts = left_by command is (Reply.RejectedExit exit) met old new counts
+counts_so command is met old new (Err (FinishFault.Rejected (Rejection.Differs difference))) left counts = left_by command is (Reply.Rejected difference) met old new counts
+counts_so command is met old new (Err (FinishFault.Limit limit)) left counts = left_by command is (Reply.Limit limit) met old new (none_by met.left old new left counts)
+counts_so command is met old new (Err FinishFault.Memory) left counts = left_by command is Reply.Memory met old new (none_by met.left old new left counts)
+counts_so command is met old new (Err FinishFault.Ground) left counts = counts
+counts_so command is met old new (Err (FinishFault.Damaged at)) left counts = counts
+
+-- what is so of each reply
+replies_weaker : (P Q : Reply → Type 0) → ((reply : Reply) → P reply → Q reply) → (looked : Result Looked FinishFault) → LookReplies looked P → LookReplies looked Q
+replies_weaker P Q by (Ok Looked.Running) says = by Reply.Running says
+replies_weaker P Q by (Ok (Looked.Checking left)) says = by (Reply.Checking left) says
+replies_weaker P Q by (Ok (Looked.Collected collected)) says = by (Reply.Collected collected.floor collected.left) says
+replies_weaker P Q by (Err FinishFault.Idle) says = by Reply.Idle says
+replies_weaker P Q by (Err FinishFault.Wait) says = by Reply.WaitFault says
+replies_weaker P Q by (Err (FinishFault.Rejected (Rejection.Exit exit))) says = by (Reply.RejectedExit exit) says
+replies_weaker P Q by (Err (FinishFault.Rejected (Rejection.Differs difference))) says = by (Reply.Rejected difference) says
+replies_weaker P Q by (Err (FinishFault.Limit limit)) says = by (Reply.Limit limit) says
+replies_weaker P Q by (Err FinishFault.Memory) says = by Reply.Memory says
+replies_weaker P Q by (Err FinishFault.Ground) says = tt
+replies_weaker P Q by (Err (FinishFault.Damaged at)) says = tt
+
+pub finish_counts : (s : Session) (store : Store) (met : Met) (command : Command) (ending : IsEnding command) (looked : Result Looked FinishFault) → met ≡ store.met → Says s store command looked → (r : Repository) → IsOf s.store r → (old new : GroundCounts)
+    → CountsFinish looked store.met.left old new → CountsBy (look_answer looked) command met old new
+finish_counts s store met command ending looked is_met says r tables old new counts =
+    subst (λ (k : Met). CountsBy (look_answer looked) command k old new) (sym is_met) (counts_so command ending store.met old new looked
+    (replies_weaker _ (λ reply. 0 < store.met.left → Machine.IsSwept reply) (λ reply C. (C.turns empty_work).0.left) looked (says.answered r tables)) counts)
+
+pub finish_quiet : (result : Result Reply SessionEnd) (met : Met) (old new : GroundCounts) → IfOk result (λ reply. ¬ IsLong reply) → IfOk result (QuietIfLong met old new)
+finish_quiet (Ok reply) met old new short = λ long. absurd (short long)
+finish_quiet (Err end) met old new short = tt
+
+pub finish_ends : (looked : Result Looked FinishFault) (held : Type 0) → (held → IsUndamaged looked) → IfErr (look_answer looked) (EndsBy held)
+finish_ends (Ok Looked.Running) held whole = tt
+finish_ends (Ok (Looked.Checking left)) held whole = tt
+finish_ends (Ok (Looked.Collected collected)) held whole = tt
+finish_ends (Err FinishFault.Idle) held whole = tt
+finish_ends (Err FinishFault.Wait) held whole = tt
+finish_ends (Err (FinishFault.Rejected (Rejection.Exit exit))) held whole = tt
+finish_ends (Err (FinishFault.Rejected (Rejection.Differs difference))) held whole = tt
+finish_ends (Err (FinishFault.Limit limit)) held whole = tt
+finish_ends (Err FinishFault.Memory) held whole = tt
+finish_ends (Err FinishFault.Ground) held whole = tt
+finish_ends (Err (FinishFault.Damaged at)) held whole = whole
