@@ -1,6 +1,6 @@
 -- Counts of faults over calls, and in turns.
 --     spawns_itself, spawns_on      nor does a spawner's
---     falls_same, say_falls, falls_if, falls_of      no count falls, where those that may rise are in their type's range
+--     risen      a count that rose did not fall.      falls_same, say_falls, falls_if, falls_of      no count falls, where those that may rise are in their type's range
 --     removals_itself, removals_on, falls_removals      none rises but that of removals.      removals_any      so it is of a session that answered
 --     serving_of, serving_on      so the ground counts, where it serves
 --     later_of, counts_same      so it is of what a turn tells of them.      still_at      and of a turn that tells what the ground counted at first
@@ -29,7 +29,7 @@ use Rattle.ip_app.specs.Turns.{turn_counts, SpawnsLater, IsLater, Follow}
 pub falls_same : (a b : GroundCounts) → b ≡ a → NoneFalls a b
 falls_same a b e = subst (NoneFalls a) (sym e) (falls_itself a)
 
-risen : (a b : ℕ) → a ≤ 2 ^ 64 - 1 → Rose a b → a ≤ b
+pub risen : (a b : ℕ) → a ≤ 2 ^ 64 - 1 → Rose a b → a ≤ b
 risen a b small (inl h) = omega arith
 risen a b small (inr h) = omega arith
 

@@ -1,12 +1,14 @@
 -- What a command met is what happened.
 --     exchange_of      a line's exchange
+--     starts_of      the job of the child that was started in it.      hears_of      which child ended that was heard of
 --     happens_of      it tells what happened, by what the session asked and counted
 --     later_in      what the spawner counted meanwhile.      later_gone      and while a child was let go
 --     happen_more, spawned_more      of one exchange more
-use Rattle.std.proofs.Common.{◌≡◌, ◌≢◌, inl, inr, ℕ, ◌<◌, ◌≤◌, List, [], ◌∷◌, ◌++◌, refl, sym, ap, ap₂, ◌∙◌, subst, arith, Option, None, Some, Ok, IsTrue}
-use Rattle.std.specs.Prelude.{IsSomeAnd}
+use Rattle.std.proofs.Common.{◌≡◌, ◌≢◌, inl, inr, ℕ, ◌+◌, ◌-◌, ◌^◌, ◌<◌, ◌≤◌, Bool, true, false, List, [], ◌∷◌, ◌++◌, refl, sym, ap, ap₂, ◌∙◌, subst, arith, Option, None, Some, Ok, IsTrue}
+use Rattle.std.specs.Prelude.{◌⊎◌, if◌then◌else◌, IsSomeAnd}
 use Rattle.std.proofs.lemmas.Bool.{cases_lt}
 use Rattle.std.proofs.lemmas.List.{flat_map_more}
+use Rattle.ip_ground.specs.Counts.{Rose, RoseBy}
 use Rattle.ip_ground.specs.declared.names.GroundCounts.{GroundCounts}
 use Rattle.ip_ground.specs.declared.names.Reaped.{Reaped}
 use Rattle.ip_spawn.specs.Children as spawn
@@ -14,38 +16,57 @@ use Rattle.ip_spawn.specs.declared.job.Job.{Job}
 use Rattle.ip_spawn.specs.declared.spawner.SpawnCounts.{SpawnCounts}
 use Rattle.ip_spec.specs.declared.command.Command.{Command}
 use Rattle.ip_spec.specs.declared.command.Command.TheVariants as Command
+use Rattle.ip_spec.specs.declared.met.Child.{Child}
+use Rattle.ip_spec.specs.declared.met.Child.TheVariants as Child
 use Rattle.ip_spec.specs.declared.met.Met.{Met}
+use Rattle.ip_spec.specs.declared.reply.Difference.{Difference}
 use Rattle.ip_spec.specs.declared.reply.Reply.{Reply}
-use Rattle.ip_spec.specs.Machine.{State}
+use Rattle.ip_spec.specs.Machine.{State, Conditions, exit_kept}
+use Rattle.ip_spec.specs.Merge.{Rule}
 use Rattle.ip_spec.specs.Path.{Bytes}
-use Rattle.ip_script.specs.Served.{IsServedLine}
+use Rattle.ip_spec.specs.Repository.{Repository}
+use Rattle.ip_spec.specs.Line.{IsLineOf}
+use Rattle.ip_spec.specs.Script.{LineStep}
 use Rattle.ip_image.specs.declared.counts.TurnCounts.{TurnCounts}
 use Rattle.ip_image.specs.declared.slot.Slot.{Slot}
 use Rattle.ip_store.specs.declared.collection.Collection.{Collection}
 use Rattle.ip_store.specs.declared.store.Store.{Store}
-use Rattle.ip_store.specs.Collecting.{phase_of}
+use Rattle.ip_store.specs.Collecting.{phase_of, IsJobOf, IsPhaseOf}
 use Rattle.ip_store.specs.Starting.{IsJobAt}
 use Rattle.ip_session.specs.declared.session.Session.{Session}
 use Rattle.ip_session.specs.declared.session.SessionEnd.{SessionEnd}
-use Rattle.ip_session.specs.Asking.{Asked, AskedIn, LetsGo}
-use Rattle.ip_session.specs.Session.{CountsBy, CountsIn}
+use Rattle.ip_session.specs.Asking.{HasStarted, MayReap, HeardOf, Asked, AskedIn, LetsGo}
+use Rattle.ip_session.specs.Session.{IsServing, conditions_with, CountsBy, CountsIn}
 use Rattle.std.specs.Prelude.{Result}
 use Rattle.ip_app.specs.Exchanges.{Exchange, after_all}
 use Rattle.ip_app.specs.Happening.{HappensBy, Happens, AllHappen, jobs_in, ends_in}
 use Rattle.ip_app.specs.Turns.{turn_counts, SpawnsLater}
+use Rattle.ip_app.proofs.Counting.{risen}
 
 -- a line's exchange
-abbrev pub exchange_of : Bytes → Met → TurnCounts → TurnCounts → List Job → List Reaped → Reply → State → Exchange
-exchange_of line met before later jobs ends reply after = record { line = line; turn = record { met = met; before = before; after = later }; difference = None; started = jobs; reaped = ends; reply = reply; after = after }
+abbrev pub exchange_of : Bytes → Met → TurnCounts → TurnCounts → Option Difference → List Job → List Reaped → Reply → State → Exchange
+exchange_of line met before later difference jobs ends reply after = record { line = line; turn = record { met = met; before = before; after = later }; difference = difference; started = jobs; reaped = ends; reply = reply; after = after }
 
 -- the job that was started
 job_of : (store : Store) (slot : Slot) (jobs : List Job) (collection : Option Collection) → IsSomeAnd collection (λ c. (jobs ≡ c.job ∷ []) × (c.exit ≡ None) × IsJobAt store c.commit slot c.job) → (job : Job) × (jobs ≡ job ∷ [])
 job_of store slot jobs None h = absurd h
 job_of store slot jobs (Some c) h = (c.job, h.0)
 
-module _ (s s' : Session) (reply : Reply) (jobs : List Job) (ends : List Reaped) (after : State) (a b : GroundCounts) (p q : SpawnCounts) where
+-- by the collection that ran, how the child ended that was heard of
+heard_of : (collection : Option Collection) (reaped : Reaped) (ends : List Reaped) (p q : SpawnCounts) → IsSomeAnd collection (λ c. HeardOf c reaped ends p q)
+    → ((exit_kept (phase_of collection) ≡ None) × (ends ≡ reaped ∷ []) × Rose p.reaps q.reaps) ⊎ ((exit_kept (phase_of collection) ≡ Some reaped) × (ends ≡ []) × (q ≡ p))
+heard_of None reaped ends p q h = absurd h
+heard_of (Some c) reaped ends p q h = h.1
+
+left_of : (command : Command) (reply : Reply) (met : Met) (a b : GroundCounts) → MayReap command → CountsBy (Ok reply) command met a b → RoseBy met.left a.remove_faults b.remove_faults
+left_of Command.Look reply met a b may counts = counts.rose
+left_of Command.Finish reply met a b may counts = counts.rose
+left_of Command.Cancel reply met a b may counts = counts.rose
+left_of _ reply met a b may counts = absurd may
+
+module _ (s s' : Session) (reply : Reply) (difference : Option Difference) (jobs : List Job) (ends : List Reaped) (after : State) (a b : GroundCounts) (p q : SpawnCounts) where
   abbrev plain : Bytes → Exchange
-  plain line = exchange_of line s'.met (turn_counts a p) (turn_counts b q) jobs ends reply after
+  plain line = exchange_of line s'.met (turn_counts a p) (turn_counts b q) difference jobs ends reply after
 
   by_command : (line : Bytes) (command : Command) → Asked s s' command (Ok reply) jobs ends p q → CountsBy (Ok reply) command s'.met a b → HappensBy command (phase_of s.store.collection) (plain line)
   by_command line command asked counts = record {
@@ -53,11 +74,14 @@ module _ (s s' : Session) (reply : Reply) (jobs : List Job) (ends : List Reaped)
     none_started = asked.none_started;
     start = asked.start;
     running = asked.running;
-    waits = asked.waits;
+    not_running = asked.not_running;
+    no_wait = asked.no_wait;
     none_reaped = asked.none_reaped;
+    heard = λ reaped is. heard_of s.store.collection reaped ends p q (asked.heard reaped is);
+    unheard = asked.unheard;
     cancelled = λ is. asked.cancelled (ap (λ (r : Reply). Ok r) is);
     kill = asked.kill;
-    left = λ is. (subst (λ (command : Command). CountsBy (Ok reply) command s'.met a b) is counts).rose;
+    left = λ may. left_of command reply s'.met a b may counts;
   }
 
   plainly : (line : Bytes) → AskedIn s s' line (Ok reply) jobs ends p q → CountsIn line (Ok reply) s'.met a b → Happens (phase_of s.store.collection) (plain line)
@@ -67,29 +91,69 @@ module _ (s s' : Session) (reply : Reply) (jobs : List Job) (ends : List Reaped)
   }
 
   pub happens_of : (line read : Bytes) (met : Met) (before later : TurnCounts) → read ≡ line → met ≡ s'.met → before ≡ turn_counts a p → later ≡ turn_counts b q → AskedIn s s' read (Ok reply) jobs ends p q → CountsIn read (Ok reply) s'.met a b
-      → Happens (phase_of s.store.collection) (exchange_of line met before later jobs ends reply after)
+      → Happens (phase_of s.store.collection) (exchange_of line met before later difference jobs ends reply after)
   happens_of line read met before later same same_met from to asked counts =
       let phase = phase_of s.store.collection in
-      subst (λ (l : Bytes). Happens phase (exchange_of l met before later jobs ends reply after)) same
-      (subst (λ (m : Met). Happens phase (exchange_of read m before later jobs ends reply after)) (sym same_met)
-      (subst (λ (c : TurnCounts). Happens phase (exchange_of read s'.met c later jobs ends reply after)) (sym from)
-      (subst (λ (c : TurnCounts). Happens phase (exchange_of read s'.met (turn_counts a p) c jobs ends reply after)) (sym to) (plainly read asked counts))))
+      subst (λ (l : Bytes). Happens phase (exchange_of l met before later difference jobs ends reply after)) same
+      (subst (λ (m : Met). Happens phase (exchange_of read m before later difference jobs ends reply after)) (sym same_met)
+      (subst (λ (c : TurnCounts). Happens phase (exchange_of read s'.met c later difference jobs ends reply after)) (sym from)
+      (subst (λ (c : TurnCounts). Happens phase (exchange_of read s'.met (turn_counts a p) c difference jobs ends reply after)) (sym to) (plainly read asked counts))))
+
+-- ---- the child that was started
+
+no_start : (refused : Bool) (at : ℕ) → HasStarted (Ok (if refused then Reply.Memory else Reply.Bad at)) → ⊥
+no_start true at has = has
+no_start false at has = has
+
+job_at : (store : Store) (slot : Slot) (jobs : List Job) (collection : Option Collection) → IsSomeAnd collection (λ c. (jobs ≡ c.job ∷ []) × (c.exit ≡ None) × IsJobAt store c.commit slot c.job)
+    → (job : Job) × (jobs ≡ job ∷ []) × IsJobOf slot job × (job.attempt ≡ store.slot.next_attempt) × (job.end ≡ slot.end)
+job_at store slot jobs None h = absurd h
+job_at store slot jobs (Some c) h = (c.job, h.0, h.2.of, h.2.attempt, h.2.end)
+
+-- a line that is no command starts none, by its answer
+pub starts_of : (rule : Rule) (s s' : Session) (state after : State) (line : Bytes) (met : Conditions) (reply : Reply) (jobs : List Job) (ends : List Reaped) (p q : SpawnCounts) → AskedIn s s' line (Ok reply) jobs ends p q → LineStep IsLineOf rule state line met reply after → HasStarted (Ok reply)
+    → (job : Job) × (jobs ≡ job ∷ []) × IsJobOf s'.store.slot job × (job.attempt ≡ s.store.slot.next_attempt) × (job.end ≡ s'.store.slot.end)
+starts_of rule s s' state after line met reply jobs ends p q asked (inl step) has = job_at s.store s'.store.slot jobs s'.store.collection ((asked.command step.0 step.1).started has)
+starts_of rule s s' state after line met reply jobs ends p q asked (inr bad) has = absurd (no_start met.told.refused bad.at (subst (λ (r : Reply). HasStarted (Ok r)) bad.reply_is has))
+
+-- ---- the child that was heard of
+
+heard_at : (slot : Slot) (r : Repository) (collection : Option Collection) (reaped : Reaped) (ends : List Reaped) (p q : SpawnCounts) → IsPhaseOf slot r collection → IsSomeAnd collection (λ c. HeardOf c reaped ends p q) → reaped.attempt + 1 ≡ slot.next_attempt
+heard_at slot r None reaped ends p q phase h = absurd h
+heard_at slot r (Some c) reaped ends p q phase h = ap (λ (n : ℕ). n + 1) h.0 ∙ phase.told.attempt
+
+-- a line that is no command hears of none, by what it met
+pub hears_of : (rule : Rule) (s s' : Session) (state after : State) (line : Bytes) (difference : Option Difference) (reply : Reply) (jobs : List Job) (ends : List Reaped) (p q : SpawnCounts) → IsServing s → AskedIn s s' line (Ok reply) jobs ends p q
+    → LineStep IsLineOf rule state line (conditions_with s'.met difference) reply after → (reaped : Reaped) → s'.met.child ≡ Child.Ended reaped → reaped.attempt + 1 ≡ s.store.slot.next_attempt
+hears_of rule s s' state after line difference reply jobs ends p q serving asked (inl step) reaped is = heard_at s.store.slot serving.0 s.store.collection reaped ends p q serving.1.0.phase ((asked.command step.0 step.1).heard reaped is)
+hears_of rule s s' state after line difference reply jobs ends p q serving asked (inr bad) reaped is =
+    let none : s'.met.child ≡ Child.NotAsked = ap (λ (m : Met). m.child) bad.unasked in
+    absurd (cc (is, none))
+
+-- ---- what was counted
+
+-- where it was not at its last value yet
+running_later : (child : Child) (before after : ℕ) → before ≤ 2 ^ 64 - 1 → (child ≡ Child.Running → Rose before after) → (child ≢ Child.Running → after ≡ before) → before ≤ after
+running_later Child.Running before after small rose same = risen before after small (rose refl)
+running_later Child.NotAsked before after small rose same = let e = same (λ is. absurd (cc is)) in omega (arith, e)
+running_later Child.Fault before after small rose same = let e = same (λ is. absurd (cc is)) in omega (arith, e)
+running_later (Child.Ended reaped) before after small rose same = let e = same (λ is. absurd (cc is)) in omega (arith, e)
 
 -- Whether a line is a command need not be known: a count that fell would be one of no command.
 module _ (s s' : Session) (line : Bytes) (result : Result Reply SessionEnd) (jobs : List Job) (ends : List Reaped) (before after : SpawnCounts) (asked : AskedIn s s' line result jobs ends before after) where
   at_least : (count : SpawnCounts → ℕ) → ((command : Command) → Asked s s' command result jobs ends before after → count before ≤ count after) → count before ≤ count after
   at_least count rises = elim (cases_lt (count after) (count before)) [
     | inl fell ↦
-        let none : (command : Command) → ¬ IsServedLine command line = λ command served. (let up = rises command (asked.command command served) in omega (arith, up, fell)) in
+        let none : (command : Command) → ¬ IsLineOf command line = λ command served. (let up = rises command (asked.command command served) in omega (arith, up, fell)) in
         let same : count after ≡ count before = ap count (asked.none none).2 in
         absurd (omega (arith, same, fell))
     | inr up ↦ up
   ]
 
-  pub later_in : SpawnsLater before after
-  later_in = record {
-    running = at_least (λ c. c.running) (λ command asked. (let same = asked.running in omega (arith, same)));
-    waits = at_least (λ c. c.waits) (λ command asked. (let same = asked.waits in omega (arith, same)));
+  pub later_in : before.running ≤ 2 ^ 64 - 1 → SpawnsLater before after
+  later_in small = record {
+    running = at_least (λ c. c.running) (λ command asked. running_later s'.met.child before.running after.running small asked.running asked.not_running);
+    waits = at_least (λ c. c.waits) (λ command asked. asked.waits);
     reaps = at_least (λ c. c.reaps) (λ command asked. asked.reaps);
     spawn_faults = at_least (λ c. c.spawn_faults) (λ command asked. asked.spawn_faults);
   }

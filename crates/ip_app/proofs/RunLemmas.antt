@@ -30,7 +30,7 @@ use Rattle.ip_spec.specs.View.{View, no_view}
 use Rattle.ip_spec.specs.Repository.{Repository, no_repository}
 use Rattle.ip_spec.specs.Machine.{State, Phase, opened}
 use Rattle.ip_merge.specs.Rules.{IsDecisive}
-use Rattle.ip_script.specs.Served.{IsServedLine}
+use Rattle.ip_spec.specs.Line.{IsLineOf}
 use Rattle.ip_spec.specs.Script.{whole_lines, LineStep}
 use Rattle.ip_spec.specs.Text.{reply_text}
 use Rattle.ip_store.specs.declared.collection.Unswept.{Unswept}
@@ -54,7 +54,7 @@ use Rattle.ip_app.specs.Reading.{EndsReading, IsCaused}
 use Rattle.ip_app.specs.Exchanges.{Exchange, conditions, answer_of, Run, after_all, lines_in, turns_in, texts_in}
 use Rattle.ip_session.specs.Placing.{PlacedIn}
 use Rattle.ip_session.specs.Session.{IsViewIn}
-use Rattle.ip_app.specs.Places.{Places}
+use Rattle.ip_app.specs.Places.{Places, StartsAt, HearsAt}
 use Rattle.ip_app.specs.Happening.{Happens, jobs_in, ends_in}
 use Rattle.ip_app.specs.Turns.{turn_counts, SpawnsLater, IsLater, Follow}
 use Rattle.ip_app.specs.Outside.{Outside, Tells, Knows, GoesOn, IsUnasked}
@@ -71,8 +71,8 @@ after_more : (first : State) (xs : List Exchange) (x : Exchange) → after_all f
 after_more first [] x = refl
 after_more first (y ∷ xs) x = after_more y.after xs x
 
-run_more : (rule : Rule) (first mid : State) (xs : List Exchange) (x : Exchange) → mid ≡ after_all first xs → Run rule first xs → LineStep IsServedLine rule mid x.line (conditions x) x.reply x.after → Run rule first (xs ++ x ∷ [])
-run_more rule first mid [] x e h s = (subst (λ (t : State). LineStep IsServedLine rule t x.line (conditions x) x.reply x.after) e s, tt)
+run_more : (rule : Rule) (first mid : State) (xs : List Exchange) (x : Exchange) → mid ≡ after_all first xs → Run rule first xs → LineStep IsLineOf rule mid x.line (conditions x) x.reply x.after → Run rule first (xs ++ x ∷ [])
+run_more rule first mid [] x e h s = (subst (λ (t : State). LineStep IsLineOf rule t x.line (conditions x) x.reply x.after) e s, tt)
 run_more rule first mid (y ∷ xs) x e h s = (h.0, run_more rule y.after mid xs x e h.1 s)
 
 pub append_nil : {A : Type 0} (t : List A) → t ++ [] ≡ t
@@ -135,9 +135,9 @@ follow_turn rule decisive old mid lines counts counts' s h x begins ends rises =
     (follow_more first counts (turns_in h.exchanges) x.turn (still_at old.counts mid.counts old.spawns mid.spawns counts h.counts_now h.no_fault) h.follow begins rises))
 
 -- one exchange more
-places_more : (rule : Rule) (slot : Slot) (s : State) (v : View) (xs : List Exchange) (mid : Slot) (w : View) (x : Exchange) (unswept : Unswept) (last : Slot) (view : View) → Places rule slot s v xs mid w → x.after.work.tree ≡ view.map → IsViewIn (after_all s xs).repository w x.line x.reply view → PlacedIn rule mid unswept last (after_all s xs) w x.line x.reply → Places rule slot s v (xs ++ x ∷ []) last view
-places_more rule slot s v [] mid w x unswept last view h tree seen placed = (last, unswept, view, tree, subst (λ (u : View). IsViewIn s.repository u x.line x.reply view) h.1 seen, subst (λ (a : Slot). PlacedIn rule a unswept last s v x.line x.reply) h.0 (subst (λ (u : View). PlacedIn rule mid unswept last s u x.line x.reply) h.1 placed), (refl, refl))
-places_more rule slot s v (y ∷ xs) mid w x unswept last view h tree seen placed = (h.0, h.1, h.2, h.3, h.4, h.5, places_more rule h.0 y.after h.2 xs mid w x unswept last view h.6 tree seen placed)
+places_more : (rule : Rule) (slot : Slot) (s : State) (v : View) (xs : List Exchange) (mid : Slot) (w : View) (x : Exchange) (unswept : Unswept) (last : Slot) (view : View) → Places rule slot s v xs mid w → x.after.work.tree ≡ view.map → IsViewIn (after_all s xs).repository w x.line x.reply view → PlacedIn rule mid unswept last (after_all s xs) w x.line x.reply → StartsAt mid last x → HearsAt mid x → Places rule slot s v (xs ++ x ∷ []) last view
+places_more rule slot s v [] mid w x unswept last view h tree seen placed starts hears = (last, unswept, view, tree, subst (λ (u : View). IsViewIn s.repository u x.line x.reply view) h.1 seen, subst (λ (a : Slot). PlacedIn rule a unswept last s v x.line x.reply) h.0 (subst (λ (u : View). PlacedIn rule mid unswept last s u x.line x.reply) h.1 placed), subst (λ (a : Slot). StartsAt a last x) h.0 starts, subst (λ (a : Slot). HearsAt a x) h.0 hears, (refl, refl))
+places_more rule slot s v (y ∷ xs) mid w x unswept last view h tree seen placed starts hears = (h.0, h.1, h.2, h.3, h.4, h.5, h.6, h.7, places_more rule h.0 y.after h.2 xs mid w x unswept last view h.8 tree seen placed starts hears)
 
 -- one line more was served
 pub served_more : (rule : Rule) (decisive : Bool) (old mid new : Outside) (lines lines' : Lines) (counts counts' : TurnCounts) (s s' : Session) (h : Served rule decisive old mid lines counts s) → TurnedIn rule h.known mid new lines lines' counts counts' s s' h.repository h.view → Served rule decisive old new lines' counts' s'
@@ -170,7 +170,7 @@ served_more rule decisive old mid new lines lines' counts counts' s s' h turned 
       live = h.live;
       places = λ g. places_more rule h.slot (opened h.first) no_view h.exchanges s.store.slot h.view x s.store.unswept s'.store.slot turned.view (h.places g) (ap (λ (state : State). state.work.tree) (turned.now_at g))
           (subst (λ (state : State). IsViewIn state.repository h.view x.line x.reply turned.view) (h.now_at g) (turned.seen g))
-          (subst (λ (state : State). PlacedIn rule s.store.slot s.store.unswept s'.store.slot state h.view x.line x.reply) (h.now_at g) (turned.placed g));
+          (subst (λ (state : State). PlacedIn rule s.store.slot s.store.unswept s'.store.slot state h.view x.line x.reply) (h.now_at g) (turned.placed g)) (turned.starts g) (turned.hears g);
       said = λ g. turned.said g ∙ (ap (λ (u : Bytes). u ++ reply_text x.reply) (h.said g) ∙ (append_assoc (said old.told) (texts_in h.exchanges) (reply_text x.reply) ∙ ap (λ (u : Bytes). said old.told ++ u) (sym (texts_more h.exchanges x))));
       opened_at = h.opened_at;
       headline = λ g order. headline_turn (h.opened_at g) old.told mid.told new.told (opened h.first) h.exchanges x (h.headline g order) (t.files g).goes (h.over g) (h.said g)

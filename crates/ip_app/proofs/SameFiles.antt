@@ -7,7 +7,7 @@ use Rattle.std.specs.Prelude.{map, nat_le, if◌then◌else◌, IfSome, IsSomeAn
 use Rattle.ip_ground.specs.declared.names.FileName.{FileName}
 use Rattle.ip_ground.specs.declared.names.FileName.TheVariants.{Control, Chunk, Mapping, Prefix}
 use Rattle.ip_ground.specs.Contents.{Image, Content}
-use Rattle.ip_ground.specs.Told.{Told, KeepsPast, KeepsFile, Only, SyncsOnly, EachNow}
+use Rattle.ip_ground.specs.Told.{Told, KeepsPast, KeepsCustody, KeepsFile, Only, SyncsOnly, EachNow}
 use Rattle.ip_ground.proofs.Spans.{each_stays, left_now}
 use Rattle.ip_spec.specs.Path.{Bytes}
 use Rattle.ip_spec.specs.declared.record.Record.{Record}
@@ -26,6 +26,7 @@ use Rattle.ip_image.proofs.OneRepository.{zero_or_not}
 use Rattle.ip_store.specs.declared.store.Store.{Store}
 use Rattle.ip_store.specs.Store.{OwnsLive, Holds, image_records}
 use Rattle.ip_store.specs.Work.{IsLawful}
+use Rattle.ip_store.proofs.Going.{collects_still}
 use Rattle.ip_store.proofs.Listed.{space_stays, pair_stays, holds_on, same_list}
 use Rattle.ip_spec.specs.TreeAt.{present}
 use Rattle.ip_spec.specs.View.{View}
@@ -109,17 +110,18 @@ module _ (image other : Image) (same : ReadsAlike image other) where
 -- ---- while no file changes
 
 -- a store holds on what it held
-pub holds_along : (a b : Told) (store : Store) (r : Repository) → KeepsPast a b → ((file : FileName) → KeepsFile a b file) → Holds store a r → Holds store b r
-holds_along a b store r goes files h =
+pub holds_along : (a b : Told) (store : Store) (r : Repository) → KeepsPast a b → ((file : FileName) → KeepsFile a b file) → ((attempt : ℕ) → KeepsCustody a b attempt) → Holds store a r → Holds store b r
+holds_along a b store r goes files lending h =
     let control : b.held Control ≡ a.held Control = (files Control).held (λ foreign. foreign) in
     let still : EachNow b Control (λ content. content ≡ a.held Control) = left_now a b Control (λ content. content ≡ a.held Control) goes h.kept (each_stays a b Control (λ content. content ≡ a.held Control) (λ loose. loose) (files Control) h.kept) in
     holds_on store a r h b control (space_stays store.slot a b (λ file. (files file).held) h.pair) (λ content left. still content left ∙ sym control) (pair_stays store.slot a b (λ file. (files file).own) h.pair)
+    (collects_still a b store.slot h.stands.standing.records r store.collection goes lending (λ file attempt of. files file) h.collects)
 
 -- a work goes on over the same records
-pub working_along : (a b : Told) (s : Session) (r : Repository) (v : View) → KeepsPast a b → ((file : FileName) → KeepsFile a b file) → IsWorking a s r v → IsWorking b s r v
-working_along a b s r v goes files h =
+pub working_along : (a b : Told) (s : Session) (r : Repository) (v : View) → KeepsPast a b → ((file : FileName) → KeepsFile a b file) → ((attempt : ℕ) → KeepsCustody a b attempt) → IsWorking a s r v → IsWorking b s r v
+working_along a b s r v goes files lending h =
     let control : b.held Control ≡ a.held Control = (files Control).held (λ foreign. foreign) in
-    let holds : Holds s.store b r = holds_along a b s.store r goes files h.holds in
+    let holds : Holds s.store b r = holds_along a b s.store r goes files lending h.holds in
     let space : SameSpace s.store.slot a.held b.held = space_stays s.store.slot a b (λ file. (files file).held) h.holds.pair in
     let same : image_records holds ≡ image_records h.holds = ap (λ (records : List (ℕ × Record)). present records) (same_list s.store a r h.holds b control space holds.stands.standing) in
     record { holds = holds; lawful = subst (λ (records : ℕ → Option Record). IsLawful records r s.work v) (sym same) h.lawful }

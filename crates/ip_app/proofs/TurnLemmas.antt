@@ -3,7 +3,7 @@
 --     files_of, said_of, part_of      the files and what was said, once the reply was said, or not
 --     settled      what is there in any case, and so where it is known.      went_to, cut_to      what a session did with a line, where it is known to work
 --     stops_reading      why a source is read no further.      ended_short, stops_ended      the session has ended
-use Rattle.std.proofs.Common.{◌≡◌, ◌+◌, ◌++◌, List, [], ◌∷◌, length, refl, sym, ◌∙◌, subst, Bool, true, false, None, Some, OnOk, Result, IsTrue}
+use Rattle.std.proofs.Common.{◌≡◌, ◌+◌, ◌++◌, List, [], ◌∷◌, length, refl, sym, ◌∙◌, subst, Bool, true, false, Option, None, Some, OnOk, Result, IsTrue}
 use Rattle.ip_ground.specs.declared.names.GroundCounts.{GroundCounts}
 use Rattle.ip_ground.specs.declared.names.GroundFault.{GroundFault}
 use Rattle.ip_ground.specs.declared.names.Reaped.{Reaped}
@@ -14,11 +14,12 @@ use Rattle.ip_ground.specs.Calls.{Says}
 use Rattle.ip_ground.proofs.Spans.{said_now}
 use Rattle.ip_image.specs.declared.counts.TurnCounts.{TurnCounts}
 use Rattle.ip_spec.specs.declared.met.Met.{Met}
+use Rattle.ip_spec.specs.declared.reply.Difference.{Difference}
 use Rattle.ip_spec.specs.declared.reply.Reply.{Reply}
 use Rattle.ip_spec.specs.Merge.{Rule}
 use Rattle.ip_spec.specs.Path.{Bytes}
 use Rattle.ip_spec.specs.Machine.{State}
-use Rattle.ip_script.specs.Served.{IsServedLine}
+use Rattle.ip_spec.specs.Line.{IsLineOf}
 use Rattle.ip_spec.specs.Script.{LineStep}
 use Rattle.ip_store.specs.Sweeping.{KeepsFiles}
 use Rattle.ip_store.proofs.KeptFiles.{keeps_on}
@@ -31,7 +32,7 @@ use Rattle.ip_app.specs.Reading.{GetsLine}
 use Rattle.ip_app.specs.Exchanges.{Exchange}
 use Rattle.ip_app.specs.Outside.{Outside, GoesOn}
 use Rattle.ip_session.specs.declared.session.Session.{Session}
-use Rattle.ip_session.specs.Session.{state_in, IsWorking, conditions_of, EndsBy, IsViewIn, GoesIn, CutIn}
+use Rattle.ip_session.specs.Session.{state_in, IsWorking, conditions_with, EndsBy, IsViewIn, GoesIn, CutIn}
 use Rattle.ip_image.specs.Pending.{NothingPending}
 use Rattle.ip_image.specs.Headline.{IsAtomic}
 use Rattle.ip_spec.specs.Repository.{Repository}
@@ -42,20 +43,20 @@ use Rattle.ip_app.proofs.Counting.{later_of}
 use Rattle.ip_app.proofs.Happened.{exchange_of}
 use Rattle.ip_app.proofs.RunLemmas.{append_nil, keeps_said, says_part}
 
-pub turned_of : (rule : Rule) (known : Bool) (old new : Outside) (lines lines' : Lines) (counts counts' : TurnCounts) (state after : State) (line read : Bytes) (met told_met : Met) (jobs : List Job) (ends : List Reaped) (reply : Reply) (mid : GroundCounts) → GoesOn old new → (IsTrue known → KeepsFiles old.told new.told)
+pub turned_of : (rule : Rule) (known : Bool) (old new : Outside) (lines lines' : Lines) (counts counts' : TurnCounts) (state after : State) (line read : Bytes) (met told_met : Met) (difference : Option Difference) (jobs : List Job) (ends : List Reaped) (reply : Reply) (mid : GroundCounts) → GoesOn old new → (IsTrue known → KeepsFiles old.told new.told)
     → GetsLine line old.source_tells (pending lines ++ old.left) (pending lines' ++ new.left) → lines'.taken + length (pending lines) ≡ lines.taken + (length line + 1) + length (pending lines') → new.read_faults ≡ old.read_faults
-    → (IsTrue known → LineStep IsServedLine rule state read (conditions_of met) reply after) → read ≡ line → told_met ≡ met
+    → (IsTrue known → LineStep IsLineOf rule state read (conditions_with met difference) reply after) → read ≡ line → told_met ≡ met
     → (IsTrue new.log_tells → new.turns ≡ old.turns ++ record { met = told_met; before = counts; after = counts' } ∷ [])
     → counts' ≡ turn_counts mid new.spawns → counts ≡ turn_counts old.counts old.spawns → NoneFalls old.counts mid → turn_counts mid new.spawns ≡ turn_counts new.counts new.spawns
-    → Turned rule known old new lines lines' counts counts' state (exchange_of line told_met counts counts' jobs ends reply after)
-turned_of rule known old new lines lines' counts counts' state after line read met told_met jobs ends reply mid g files gets count reads step same same_met noted counted before falls still = record {
+    → Turned rule known old new lines lines' counts counts' state (exchange_of line told_met counts counts' difference jobs ends reply after)
+turned_of rule known old new lines lines' counts counts' state after line read met told_met difference jobs ends reply mid g files gets count reads step same same_met noted counted before falls still = record {
   goes_on = g;
   files = files;
   front = gets.front;
   no_line_feed = gets.no_line_feed;
   short = gets.short;
   count = count;
-  step = λ is. subst (λ (k : Bytes). LineStep IsServedLine rule state k (conditions_of told_met) reply after) same (subst (λ (m : Met). LineStep IsServedLine rule state read (conditions_of m) reply after) (sym same_met) (step is));
+  step = λ is. subst (λ (k : Bytes). LineStep IsLineOf rule state k (conditions_with told_met difference) reply after) same (subst (λ (m : Met). LineStep IsLineOf rule state read (conditions_with m difference) reply after) (sym same_met) (step is));
   noted = noted;
   begins_at = refl;
   ends_at = refl;
@@ -110,9 +111,9 @@ pub settled : {A : Type 0} (P : A → Type 0) (known : Bool) → A → (IsTrue k
 settled P true given found = let y = found refl in (y.0, λ is. y.1)
 settled P false given found = (given, λ is. absurd (cc is))
 
--- a session ran a line and is in this repository then, and its work's tree has this view
-pub record GoesTo (rule : Rule) (old new : Told) (s s' : Session) (r : Repository) (v : View) (line : Bytes) (reply : Reply) (x : Repository × View) : Type 0 where
-  pub gives : LineStep IsServedLine rule (state_in s r v) line (conditions_of s'.met) reply (state_in s' x.0 x.1)
+-- a session ran a line and is in this repository then, its work's tree has this view, and this was the difference
+pub record GoesTo (rule : Rule) (old new : Told) (s s' : Session) (r : Repository) (v : View) (line : Bytes) (reply : Reply) (x : Repository × View × Option Difference) : Type 0 where
+  pub gives : LineStep IsLineOf rule (state_in s r v) line (conditions_with s'.met x.2) reply (state_in s' x.0 x.1)
   pub working : IsWorking new s' x.0 x.1
   pub seen : IsViewIn r v line reply x.1
   pub files : KeepsFiles old new
@@ -121,18 +122,18 @@ pub record GoesTo (rule : Rule) (old new : Told) (s s' : Session) (r : Repositor
   pub nothing_pending : NothingPending old → NothingPending new
 
 pub went_to : (rule : Rule) (known : Bool) (old new : Told) (s s' : Session) (r : Repository) (v : View) (line : Bytes) (reply : Reply) → (IsTrue known → GoesIn rule old new s s' r v line reply)
-    → (x : Repository × View) × (IsTrue known → GoesTo rule old new s s' r v line reply x)
-went_to rule known old new s s' r v line reply goes = settled (GoesTo rule old new s s' r v line reply) known (r, v)
-    (λ is. let h = goes is in ((h.after, h.view), record { gives = h.gives; working = h.is_at; seen = h.seen; files = h.files; said = h.said; atomic = h.atomic; nothing_pending = h.nothing_pending }))
+    → (x : Repository × View × Option Difference) × (IsTrue known → GoesTo rule old new s s' r v line reply x)
+went_to rule known old new s s' r v line reply goes = settled (GoesTo rule old new s s' r v line reply) known (r, v, None)
+    (λ is. let h = goes is in ((h.after, h.view, h.difference), record { gives = h.gives; working = h.is_at; seen = h.seen; files = h.files; said = h.said; atomic = h.atomic; nothing_pending = h.nothing_pending }))
 
--- or it was cut short, with this reply and this state of the machine
-pub record CutTo (rule : Rule) (old new : Told) (s s' : Session) (r : Repository) (v : View) (line : Bytes) (x : Reply × State) : Type 0 where
-  pub gives : LineStep IsServedLine rule (state_in s r v) line (conditions_of s'.met) x.0 x.1
+-- or it was cut short, with this reply, this state of the machine and this difference
+pub record CutTo (rule : Rule) (old new : Told) (s s' : Session) (r : Repository) (v : View) (line : Bytes) (x : Reply × State × Option Difference) : Type 0 where
+  pub gives : LineStep IsLineOf rule (state_in s r v) line (conditions_with s'.met x.2) x.0 x.1
   pub files : KeepsFiles old new
   pub said : KeepsSaid old new
   pub atomic : NothingPending old → IsAtomic old new r x.1.repository
 
 pub cut_to : (rule : Rule) (known : Bool) (old new : Told) (s s' : Session) (r : Repository) (v : View) (line : Bytes) → (IsTrue known → CutIn rule old new s s' r v line)
-    → (x : Reply × State) × (IsTrue known → CutTo rule old new s s' r v line x)
-cut_to rule known old new s s' r v line cut = settled (CutTo rule old new s s' r v line) known (Reply.Accepted, state_in s r v)
-    (λ is. let h = cut is in ((h.reply, h.after), record { gives = h.gives; files = h.files; said = h.said; atomic = h.atomic }))
+    → (x : Reply × State × Option Difference) × (IsTrue known → CutTo rule old new s s' r v line x)
+cut_to rule known old new s s' r v line cut = settled (CutTo rule old new s s' r v line) known (Reply.Accepted, state_in s r v, None)
+    (λ is. let h = cut is in ((h.reply, h.after, h.difference), record { gives = h.gives; files = h.files; said = h.said; atomic = h.atomic }))

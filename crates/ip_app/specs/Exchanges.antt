@@ -11,7 +11,7 @@ use Rattle.ip_spec.specs.declared.reply.Reply.{Reply}
 use Rattle.ip_spec.specs.Machine.{State, Conditions}
 use Rattle.ip_spec.specs.Script as Script
 use Rattle.ip_spec.specs.Script.{Answered, Plays, said_by}
-use Rattle.ip_script.specs.Served.{IsServedLine}
+use Rattle.ip_spec.specs.Line.{IsLineOf}
 use Rattle.ip_app.specs.declared.turn_log.Turn.{Turn}
 
 pub record Exchange : Type 0 where
@@ -35,7 +35,7 @@ abbrev pub answer_of : Exchange → Answered
 answer_of x = (x.reply, x.after)
 
 abbrev pub Run : Rule → State → List Exchange → Type 0
-Run rule first exchanges = Plays IsServedLine rule first (map turn_of exchanges) (map answer_of exchanges)
+Run rule first exchanges = Plays IsLineOf rule first (map turn_of exchanges) (map answer_of exchanges)
 
 abbrev pub lines_in : List Exchange → List Bytes
 lines_in = map (λ x. x.line)

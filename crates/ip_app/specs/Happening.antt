@@ -1,37 +1,47 @@
 -- What a command met is what happened, as counts and the spawner tell it.
+--     IsHeard phase reaped x      the child ended so: it was reaped in it, or had been
 --     HappensBy command phase x, Happens phase x      so of an exchange that began in this phase, by its command, and by its line
 --     AllHappen phase exchanges      of each of them
 --     HappenIn is_cut_off exchanges      of all exchanges of a run, or of all but the last one
 --     jobs_in, ends_in      the children that were started in them, and how those ended that were reaped
-use Rattle.std.specs.Prelude.{◌≡◌, ◌≢◌, ◌⊎◌, ◌≤◌, Bool, false, List, [], ◌∷◌, ◌++◌, length, flat_map, IsTrue, IsSome, Ok}
+use Rattle.std.specs.Prelude.{◌≡◌, ◌≢◌, ◌⊎◌, ◌≤◌, Bool, false, List, [], ◌∷◌, ◌++◌, length, flat_map, Some, None, IsTrue, IsSome, Ok}
 use Rattle.ip_ground.specs.Counts.{Rose, RoseBy}
 use Rattle.ip_ground.specs.declared.names.Reaped.{Reaped}
 use Rattle.ip_spawn.specs.declared.job.Job.{Job}
 use Rattle.ip_spec.specs.declared.command.Command.{Command}
 use Rattle.ip_spec.specs.declared.command.Command.TheVariants as Command
+use Rattle.ip_spec.specs.declared.met.Child.TheVariants as Child
 use Rattle.ip_spec.specs.declared.reply.Reply.TheVariants as Reply
 use Rattle.ip_spec.specs.Machine.{Phase, exit_kept}
-use Rattle.ip_script.specs.Served.{IsServedLine}
-use Rattle.ip_session.specs.Asking.{HasStarted}
+use Rattle.ip_spec.specs.Line.{IsLineOf}
+use Rattle.ip_session.specs.Asking.{HasStarted, MayReap}
 use Rattle.ip_app.specs.Exchanges.{Exchange}
+
+-- in an exchange that began in this phase
+abbrev pub IsHeard : Phase → Reaped → Exchange → Type 0
+IsHeard phase reaped x = ((exit_kept phase ≡ None) × (x.reaped ≡ reaped ∷ []) × Rose x.turn.before.spawner.reaps x.turn.after.spawner.reaps) ⊎ ((exit_kept phase ≡ Some reaped) × (x.reaped ≡ []) × (x.turn.after.spawner ≡ x.turn.before.spawner))
 
 pub record HappensBy (command : Command) (phase : Phase) (x : Exchange) : Type 0 where
   -- a child is started by `collect` alone, where it says so
   pub started : HasStarted (Ok x.reply) → (job : Job) × (x.started ≡ job ∷ [])
   pub none_started : ¬ HasStarted (Ok x.reply) → x.started ≡ []
   pub start : IsTrue x.turn.met.start_failed → Rose x.turn.before.spawner.spawn_faults x.turn.after.spawner.spawn_faults
-  -- none is looked at or waited for, and one is reaped by `cancel` alone
-  pub running : x.turn.after.spawner.running ≡ x.turn.before.spawner.running
-  pub waits : x.turn.after.spawner.waits ≡ x.turn.before.spawner.waits
-  pub none_reaped : command ≢ Command.Cancel → (x.reaped ≡ []) × (x.turn.after.spawner.reaps ≡ x.turn.before.spawner.reaps)
+  -- one is looked at by `look` alone, and waited for by `finish` alone; these two and `cancel` may reap it
+  pub running : x.turn.met.child ≡ Child.Running → Rose x.turn.before.spawner.running x.turn.after.spawner.running
+  pub not_running : x.turn.met.child ≢ Child.Running → x.turn.after.spawner.running ≡ x.turn.before.spawner.running
+  pub no_wait : command ≢ Command.Finish → x.turn.after.spawner.waits ≡ x.turn.before.spawner.waits
+  pub none_reaped : ¬ MayReap command → (x.reaped ≡ []) × (x.turn.after.spawner.reaps ≡ x.turn.before.spawner.reaps)
+  -- what is met of it is what the spawner answered now, or what was kept
+  pub heard : (reaped : Reaped) → x.turn.met.child ≡ Child.Ended reaped → IsHeard phase reaped x
+  pub unheard : x.turn.met.child ≡ Child.Fault → Rose x.turn.before.spawner.spawn_faults x.turn.after.spawner.spawn_faults
   pub cancelled : x.reply ≡ Reply.Cancelled → Rose x.turn.before.spawner.reaps x.turn.after.spawner.reaps ⊎ IsSome (exit_kept phase)
   pub kill : IsTrue x.turn.met.kill_failed → Rose x.turn.before.spawner.spawn_faults x.turn.after.spawner.spawn_faults
   -- of the removals of a sweep so many failed at least as are told
-  pub left : command ≡ Command.Cancel → RoseBy x.turn.met.left x.turn.before.remove_faults x.turn.after.remove_faults
+  pub left : MayReap command → RoseBy x.turn.met.left x.turn.before.remove_faults x.turn.after.remove_faults
 
 pub record Happens (phase : Phase) (x : Exchange) : Type 0 where
-  pub command : (command : Command) → IsServedLine command x.line → HappensBy command phase x
-  pub none : ((command : Command) → ¬ IsServedLine command x.line) → (x.started ≡ []) × (x.reaped ≡ []) × (x.turn.after.spawner ≡ x.turn.before.spawner)
+  pub command : (command : Command) → IsLineOf command x.line → HappensBy command phase x
+  pub none : ((command : Command) → ¬ IsLineOf command x.line) → (x.started ≡ []) × (x.reaped ≡ []) × (x.turn.after.spawner ≡ x.turn.before.spawner)
 
 abbrev pub AllHappen : Phase → List Exchange → Type 0
 AllHappen phase [] = Unit {0}

@@ -19,7 +19,7 @@ use Rattle.ip_spec.specs.Machine.{State, Phase, opened}
 use Rattle.ip_spec.specs.Repository.{Repository}
 use Rattle.ip_spec.specs.View.{View, no_view}
 use Rattle.ip_merge.specs.Rules.{IsDecisive}
-use Rattle.ip_script.specs.Served.{IsServedLine}
+use Rattle.ip_spec.specs.Line.{IsLineOf}
 use Rattle.ip_spec.specs.Script.{whole_lines, LineStep}
 use Rattle.ip_spec.specs.Text.{reply_text}
 use Rattle.ip_store.specs.Collecting.{phase_of, child_of}
@@ -34,7 +34,7 @@ use Rattle.ip_app.specs.Reading.{EndsReading, IsCaused}
 use Rattle.ip_app.specs.Exchanges.{Exchange, conditions, answer_of, Run, lines_in, turns_in, texts_in, after_all}
 use Rattle.ip_app.specs.Happening.{Happens, AllHappen, jobs_in, ends_in}
 use Rattle.ip_session.specs.Placing.{PlacedIn}
-use Rattle.ip_app.specs.Places.{Places}
+use Rattle.ip_app.specs.Places.{Places, StartsAt, HearsAt}
 use Rattle.ip_app.specs.Turns.{turn_counts, IsLater, Follow}
 use Rattle.ip_app.specs.Outside.{Outside, Tells, Knows, GoesOn, IsUnasked}
 use Rattle.ip_session.specs.Session.{IsServing, IsWorking, state_in, IsViewIn}
@@ -60,7 +60,7 @@ pub record Turned (rule : Rule) (known : Bool) (old new : Outside) (lines lines'
   pub no_line_feed : HasNoLineFeed x.line
   pub short : length x.line ≤ longest_line
   pub count : lines'.taken + length (pending lines) ≡ lines.taken + (length x.line + 1) + length (pending lines')
-  pub step : IsTrue known → LineStep IsServedLine rule state x.line (conditions x) x.reply x.after
+  pub step : IsTrue known → LineStep IsLineOf rule state x.line (conditions x) x.reply x.after
   pub noted : IsTrue new.log_tells → new.turns ≡ old.turns ++ x.turn ∷ []
   pub begins_at : x.turn.before ≡ counts
   pub ends_at : x.turn.after ≡ counts'
@@ -76,6 +76,8 @@ pub record TurnedIn (rule : Rule) (known : Bool) (old new : Outside) (lines line
   pub now_at : IsTrue known → exchange.after ≡ state_in s' after view
   pub seen : IsTrue known → IsViewIn r v exchange.line exchange.reply view
   pub placed : IsTrue known → PlacedIn rule s.store.slot s.store.unswept s'.store.slot (state_in s r v) v exchange.line exchange.reply
+  pub starts : IsTrue known → StartsAt s.store.slot s'.store.slot exchange
+  pub hears : IsTrue known → HearsAt s.store.slot exchange
   pub no_fault : OnlyRemovals old.counts new.counts
   pub happens : Happens (phase_of s.store.collection) exchange
   pub phase : exchange.after.phase ≡ phase_of s'.store.collection

@@ -71,10 +71,12 @@ impl LineRoom {
         requires counted { counts.old ≡ turn_counts (G.counts_of ground.old) (P.counts_of spawner.old) }
         requires small { counts.old.file_faults ≤ 2 ^ 64 - 1 }
         requires removals { counts.old.remove_faults ≤ 2 ^ 64 - 1 }
+        requires running { counts.old.spawner.running ≤ 2 ^ 64 - 1 }
         requires tables { IsServing session.old }
         requires child { P.held spawner.old ≡ child_of session.old.store.collection }
         ensures roomy { IsRoomy self.new }
         ensures removals { counts.new.remove_faults ≤ 2 ^ 64 - 1 }
+        ensures running { counts.new.spawner.running ≤ 2 ^ 64 - 1 }
         ensures child { P.held spawner.new ≡ child_of session.new.store.collection }
         ensures turned { let told = outside S.tells S.left S.read_faults G.tells G.told G.counts_of P.tells P.told P.held P.counts_of L.tells L.turns in
             (known : Bool) (r : Repository) (v : View) → (IsTrue known → Works (D.rule rules.now) G.tells (G.told ground.old) session.old r v) →

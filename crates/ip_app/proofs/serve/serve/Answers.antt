@@ -2,6 +2,7 @@ use Rattle.std.proofs.Common.{rules, true, false, IsTrue, ℕ, ◌-◌, ◌^◌,
 use Rattle.std.proofs.Math.Nat.{le_refl}
 use Rattle.ip_ground.specs.declared.names.GroundCounts.{GroundCounts}
 use Rattle.ip_image.specs.declared.counts.TurnCounts.{TurnCounts}
+use Rattle.ip_spawn.specs.declared.spawner.SpawnCounts.{SpawnCounts}
 use Rattle.ip_spec.specs.Merge.{Rule}
 use Rattle.ip_store.specs.declared.store.Store.{Store}
 use Rattle.ip_store.specs.Collecting.{child_of}
@@ -39,9 +40,11 @@ lines-init g c =
     let idle = ap (λ (store : Store). store.collection) c.new-session.ensures.store ∙ c.in-Ok.ensures.idle in
     let child = c.requires.child ∙ sym (ap child_of idle) in
     let removals : c.counts.result.remove_faults ≤ 2 ^ 64 - 1 = search rules in
+    let running : c.counts-2.result.running ≤ 2 ^ 64 - 1 = search rules in
     record {
       roomy = c.in-Ok-new.ensures.roomy;
       removals = subst (λ (n : ℕ). n ≤ 2 ^ 64 - 1) (sym (ap (λ (t : TurnCounts). t.remove_faults) (c.turn_counts-counts.ensures ∙ ap₂ turn_counts c.counts.ensures c.counts-2.ensures))) (subst (λ (n : GroundCounts). n.remove_faults ≤ 2 ^ 64 - 1) c.counts.ensures removals);
+      running = subst (λ (n : ℕ). n ≤ 2 ^ 64 - 1) (sym (ap (λ (t : TurnCounts). t.spawner.running) (c.turn_counts-counts.ensures ∙ ap₂ turn_counts c.counts.ensures c.counts-2.ensures))) (subst (λ (n : SpawnCounts). n.running ≤ 2 ^ 64 - 1) c.counts-2.ensures running);
       child = child;
       served = λ decisive by_rule. served_first _ decisive by_rule _ _ c.in-Ok-new.room.lines c.turn_counts-counts.result c.new-session.result opened.repository no_view refl (with_flag _ decisive (known_or_not g.G.Ground.tells _ (λ told owns. live_in _ _ (opened.stands told owns)))) (opened.repository, c.new-session.ensures.is_in opened.repository opened.tables) (c.new-session.ensures.state c.in-Ok.ensures.idle opened.repository)
           (λ tells. begins_working _ c.new-session.result _ opened.repository c.new-session.ensures.store c.new-session.ensures.lawful (opened.holds tells.0 tells.1)) (λ tells. opened.stands tells.0 tells.1) opened.opening (λ tells. opened.over tells.0 tells.1) (c.turn_counts-counts.ensures ∙ ap₂ turn_counts c.counts.ensures c.counts-2.ensures) c.in-Ok.ensures.no_fault (record { spawned = refl; held = refl; spawns = refl }) idle c.requires.child refl
@@ -58,6 +61,7 @@ turn-requires g c =
       counted = served.counts_now;
       small = subst (λ (n : ℕ). n ≤ 2 ^ 64 - 1) (sym (ap (λ (t : TurnCounts). t.file_faults) served.counts_now ∙ served.no_fault.file_faults)) (subst (λ (n : GroundCounts). n.file_faults ≤ 2 ^ 64 - 1) c.counts.ensures told);
       removals = c.lines.invariant.removals;
+      running = c.lines.invariant.running;
       tables = served.serving;
       child = c.lines.invariant.child;
     }
@@ -74,6 +78,7 @@ lines-preserved g c =
     record {
       roomy = c.turn.ensures.roomy;
       removals = c.turn.ensures.removals;
+      running = c.turn.ensures.running;
       child = c.turn.ensures.child;
       served = λ decisive by_rule. let served = c.lines.invariant.served decisive by_rule in served_more _ decisive _ _ _ c.lines.room.lines c.turn.new.self.lines c.lines.counts c.turn.new.counts c.lines.session c.turn.new.session served (c.in_default-turn.ensures.turned served.known served.repository served.view (λ is. ((served.tells is).0, served.working is, served.is_decisive is)));
     }

@@ -13,6 +13,7 @@ invariant-lines g l =
     record {
       roomy : IsRoomy l.room;
       removals : l.counts.remove_faults ≤ 2 ^ 64 - 1;
+      running : l.counts.spawner.running ≤ 2 ^ 64 - 1;
       child : g.P.Spawner.held l.spawner ≡ child_of l.session.store.collection;
       served : (decisive : Bool) → (IsTrue decisive → IsDecisive (g.D.Decides.rule l.fn.rules)) → Served (g.D.Decides.rule l.fn.rules) decisive (told l.fn.source l.fn.ground l.fn.spawner l.fn.log) (told l.source l.ground l.spawner l.log) l.room.lines l.counts l.session;
     }
