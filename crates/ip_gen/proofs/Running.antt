@@ -69,23 +69,37 @@ whole_step old new event step w = by event step (step_keeps old new event step w
     by Event.Crash e closed = whole old new _ e closed tt tt
     by Event.Sweep e closed = whole old new old e closed w.kept w.collects
 
--- the horizon does not fall
-step_rises : (old new : Core) (event : Event) → CoreStep old event new → IsWhole old → old.horizon ≤ new.horizon
-step_rises old new event step w = by event step
-  where
-    same : (next : Core) → new ≡ next → old.horizon ≤ next.horizon → old.horizon ≤ new.horizon
-    same next e l = subst (λ (c : Core). old.horizon ≤ c.horizon) (sym e) l
+abbrev WouldStay : CorePhase → ℕ → Type 0
+WouldStay CorePhase.idle at = ⊥
+WouldStay (CorePhase.collecting h kept ended) at = h ≤ at
 
-    by : (event : Event) → CoreStep old event new → old.horizon ≤ new.horizon
-    by (Event.Append rs) (f, e) = same _ e (omega arith)
-    by (Event.Start h) (idle, low, has, (kept, are, e)) = same _ e (omega arith)
-    by Event.Foreign e = same old e (omega arith)
-    by Event.End (h, kept, is, e) = same _ e (omega arith)
-    by Event.Accept (h, kept, is, e) = let collects = subst (CollectsCommit old.records old.horizon) is w.collects in same _ e collects.0
-    by Event.Reject (h, kept, is, e) = same _ e (omega arith)
-    by Event.Cancel (h, kept, ended, is, e) = same _ e (omega arith)
-    by Event.Crash e = same _ e (omega arith)
-    by Event.Sweep e = same old e (omega arith)
+-- where a record lies from the horizon on, or would once a collection that goes on were accepted
+abbrev IsLeft : Core → ℕ → Type 0
+IsLeft core at = (core.horizon ≤ at) ⊎ WouldStay core.phase at
+
+-- and so it did before this event
+step_left : (old new : Core) (event : Event) (at : ℕ) → CoreStep old event new → IsLeft new at → IsLeft old at
+step_left old new event at step left = by event step
+  where
+    phase_left : (phase other : CorePhase) → phase ≡ other → WouldStay phase at → WouldStay other at
+    phase_left phase other e stay = subst (λ p. WouldStay p at) e stay
+
+    same : (next : Core) → new ≡ next → IsLeft next at
+    same next e = subst (λ (c : Core). IsLeft c at) e left
+
+    idle_left : (next : Core) → new ≡ next → (next.horizon ≡ old.horizon) → (next.phase ≡ CorePhase.idle) → IsLeft old at
+    idle_left next e horizon idle = elim (same next e) [ inl low ↦ inl (subst (λ n. n ≤ at) horizon low) | inr stay ↦ absurd (phase_left next.phase CorePhase.idle idle stay) ]
+
+    by : (event : Event) → CoreStep old event new → IsLeft old at
+    by (Event.Append rs) (f, e) = same _ e
+    by (Event.Start h) (idle, low, has, (kept, are, e)) = elim (same _ e) [ inl under ↦ inl under | inr stay ↦ inl (let from : h ≤ at = stay in omega (arith, low, from)) ]
+    by Event.Foreign e = same old e
+    by Event.End (h, kept, is, e) = elim (same _ e) [ inl under ↦ inl under | inr stay ↦ inr (phase_left (CorePhase.collecting h kept false) old.phase (sym is) stay) ]
+    by Event.Accept (h, kept, is, e) = elim (same _ e) [ inl under ↦ inr (phase_left (CorePhase.collecting h kept true) old.phase (sym is) under) | inr stay ↦ absurd stay ]
+    by Event.Reject (h, kept, is, e) = idle_left _ e refl refl
+    by Event.Cancel (h, kept, ended, is, e) = idle_left _ e refl refl
+    by Event.Crash e = idle_left _ e refl refl
+    by Event.Sweep e = same old e
 
 -- ---- what is reached
 
@@ -111,20 +125,20 @@ Since c old new = Contains new c × SameReached c.at old new
 since_same : (c : CoreRecord) (rs : List CoreRecord) → Contains rs c → Since c rs rs
 since_same c rs there = (there, λ r. (λ p. p, λ p. p))
 
-pub step_since : (old new : Core) (event : Event) (c : CoreRecord) → IsWhole old → CoreStep old event new → Contains old.records c → IsTrue c.commit → new.horizon ≤ c.at → Since c old.records new.records
-step_since old new event c w step there commit low = by event step (step_keeps old new event step w.closed)
+step_since : (old new : Core) (event : Event) (c : CoreRecord) → IsClosed old → CoreStep old event new → Contains old.records c → IsTrue c.commit → IsLeft new c.at → Since c old.records new.records
+step_since old new event c closed step there commit left = by event step (step_keeps old new event step closed)
   where
     same : (next : Core) → new ≡ next → Since c old.records next.records → Since c old.records new.records
     same next e s = subst (λ (x : Core). Since c old.records x.records) (sym e) s
 
     by : (event : Event) → CoreStep old event new → IsClosed new × KeepsReached old new → Since c old.records new.records
-    by (Event.Append rs) (f, e) k = (in_new, both_ways c.at old.records new.records (λ r d reach. k.1 c r in_new commit low d reach) back)
+    by (Event.Append rs) (f, e) k = (in_new c there, both_ways c.at old.records new.records (λ r d reach. in_new r d) back)
       where
         is : new.records ≡ old.records ++ rs
         is = ap (λ (x : Core). x.records) e
 
-        in_new : Contains new.records c
-        in_new = subst (λ xs. Contains xs c) (sym is) (Contains-append_left old.records rs c there)
+        in_new : (r : CoreRecord) → Contains old.records r → Contains new.records r
+        in_new r d = subst (λ xs. Contains xs r) (sym is) (Contains-append_left old.records rs r d)
 
         back : (r : CoreRecord) → Contains new.records r → Reaches new.records c.at r.at → Contains old.records r
         back r d reach = pick (Contains-append_cases old.records rs r (subst (λ xs. Contains xs r) is d))
@@ -132,7 +146,7 @@ step_since old new event c w step there commit low = by event step (step_keeps o
             pick : Contains old.records r ⊎ Contains rs r → Contains old.records r
             pick (inl a) = a
             pick (inr a) =
-                let l = inside old.records c w.closed.order there in
+                let l = inside old.records c closed.order there in
                 let b = behind old.records old.phase rs r f a in
                 let m = reaches_down new.records c.at r.at k.0.below reach in
                 absurd (omega (arith, l, b, m))
@@ -145,7 +159,10 @@ step_since old new event c w step there commit low = by event step (step_keeps o
         are = ap (λ (x : Core). x.records) e
 
         high : h ≤ c.at
-        high = subst (λ (x : Core). x.horizon ≤ c.at) e low
+        high = elim (subst (λ (x : Core). IsLeft x c.at) e left) [ inl from ↦ from | inr stay ↦ absurd stay ]
+
+        low : new.horizon ≤ c.at
+        low = subst (λ (x : Core). x.horizon ≤ c.at) (sym e) high
 
         or_first : (b d : Bool) → b ≡ true → (b || d) ≡ true
         or_first true d t = refl
@@ -173,26 +190,25 @@ none_whole = record { closed = always_closed [] no_core refl; kept = tt; collect
 pub always_whole : (events : List Event) (core : Core) → CoreRun no_core events core → IsWhole core
 always_whole events core run = run_whole events no_core core run none_whole
 
-run_rises : (events : List Event) (core new : Core) → CoreRun core events new → IsWhole core → core.horizon ≤ new.horizon
-run_rises [] core new e w = subst (λ (c : Core). core.horizon ≤ c.horizon) (sym e) (omega arith)
-run_rises (event ∷ events) core new (mid, step, rest) w =
-    let a = step_rises core mid event step w in
-    let b = run_rises events mid new rest (whole_step core mid event step w) in
-    omega (arith, a, b)
+pub run_closed : (events : List Event) (core new : Core) → CoreRun core events new → IsClosed core → IsClosed new
+run_closed [] core new e closed = subst IsClosed (sym e) closed
+run_closed (event ∷ events) core new (mid, step, rest) closed = run_closed events mid new rest (step_keeps core mid event step closed).0
 
-pub run_since : (events : List Event) (core new : Core) (c : CoreRecord) → IsWhole core → CoreRun core events new → Contains core.records c → IsTrue c.commit → new.horizon ≤ c.at → Since c core.records new.records
-run_since [] core new c w e there commit low = subst (λ (x : Core). Since c core.records x.records) (sym e) (since_same c core.records there)
-run_since (event ∷ events) core new c w (mid, step, rest) there commit low =
-    let next = whole_step core mid event step w in
-    let rises = run_rises events mid new rest next in
-    let first = step_since core mid event c w step there commit (omega (arith, rises, low)) in
-    let last = run_since events mid new c next rest first.0 commit low in
+run_left : (events : List Event) (core new : Core) (at : ℕ) → CoreRun core events new → IsLeft new at → IsLeft core at
+run_left [] core new at e left = subst (λ (c : Core). IsLeft c at) e left
+run_left (event ∷ events) core new at (mid, step, rest) left = step_left core mid event at step (run_left events mid new at rest left)
+
+pub run_since : (events : List Event) (core new : Core) (c : CoreRecord) → IsClosed core → CoreRun core events new → Contains core.records c → IsTrue c.commit → new.horizon ≤ c.at → Since c core.records new.records
+run_since [] core new c closed e there commit low = subst (λ (x : Core). Since c core.records x.records) (sym e) (since_same c core.records there)
+run_since (event ∷ events) core new c closed (mid, step, rest) there commit low =
+    let first = step_since core mid event c closed step there commit (run_left events mid new c.at rest (inl low)) in
+    let last = run_since events mid new c (step_keeps core mid event step closed).0 rest first.0 commit low in
     (last.0, λ r. (λ p. (last.1 r).0 ((first.1 r).0 p), λ p. (first.1 r).1 ((last.1 r).1 p)))
 
-pub run_appended : (events : List Event) (old mid new : Core) (records : List CoreRecord) (c : CoreRecord) → IsWhole old → CoreStep old (Event.Append records) mid → CoreRun mid events new
+pub run_appended : (events : List Event) (old mid new : Core) (records : List CoreRecord) (c : CoreRecord) → IsClosed old → CoreStep old (Event.Append records) mid → CoreRun mid events new
     → Contains records c → IsTrue c.commit → new.horizon ≤ c.at → Since c mid.records new.records
-run_appended events old mid new records c w step rest there commit low =
-    run_since events mid new c (whole_step old mid (Event.Append records) step w) rest
+run_appended events old mid new records c closed step rest there commit low =
+    run_since events mid new c (step_keeps old mid (Event.Append records) step closed).0 rest
     (subst (λ xs. Contains xs c) (sym (ap (λ (x : Core). x.records) step.1)) (Contains-append_right old.records records c there)) commit low
 
 pub covers : (records : List CoreRecord) (phase : CorePhase) → KeepsEnough records phase → CoversAbove records phase

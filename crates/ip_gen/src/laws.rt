@@ -27,6 +27,21 @@ pub fn events()
         Contains new.records c × SameReached c.at mid.records new.records }
 {}
 
+/// The same from any core that is closed, as that of a store is: over every list of allowed events it stays closed, so that its references are as `events`
+/// says; and each commit from the new horizon on that was there, or that was appended since, stays with the records that it reached.
+pub fn continued()
+    ensures closed { (events : List Event) (old new : Core) → IsClosed old → CoreRun old events new → IsClosed new }
+    ensures covered { (core : Core) → IsClosed core → CoversAbove core.records core.phase }
+    ensures reached { (event : Event) (old new : Core) → IsClosed old → CoreStep old event new → KeepsReached old new }
+    ensures since { (events : List Event) (old new : Core) → IsClosed old → CoreRun old events new →
+        (c : CoreRecord) → Contains old.records c → IsTrue c.commit → new.horizon ≤ c.at →
+        Contains new.records c × SameReached c.at old.records new.records }
+    ensures appended { (before after : List Event) (records : List CoreRecord) (start old mid new : Core) → IsClosed start →
+        CoreRun start before old → CoreStep old (Event.Append records) mid → CoreRun mid after new →
+        (c : CoreRecord) → Contains records c → IsTrue c.commit → new.horizon ≤ c.at →
+        Contains new.records c × SameReached c.at mid.records new.records }
+{}
+
 /// An event and a core determine the next core, its kept set included.
 pub fn steps()
     ensures one { (old new other : Core) (event : Event) → CoreStep old event new → CoreStep old event other → new ≡ other }

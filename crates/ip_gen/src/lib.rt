@@ -10,5 +10,5 @@ mod search;
 mod sweep;
 
 pub use ip_spec::event::{CoreRecord, CoreRecords, Event, Offsets};
-pub use laws::{events, steps};
+pub use laws::{continued, events, steps};
 pub use protocol::Core;

@@ -21,7 +21,7 @@ pub returns-clause-reached : goal.returns-clause-reached
 returns-clause-reached c events event old new run step = (step_keeps old new event step (always_closed events old run)).1
 
 pub returns-clause-since : goal.returns-clause-since
-returns-clause-since c before after old new run rest x there commit low = run_since after old new x (always_whole before old run) rest there commit low
+returns-clause-since c before after old new run rest x there commit low = run_since after old new x (always_closed before old run) rest there commit low
 
 pub returns-clause-appended : goal.returns-clause-appended
-returns-clause-appended c before after records old mid new run step rest x there commit low = run_appended after old mid new records x (always_whole before old run) step rest there commit low
+returns-clause-appended c before after records old mid new run step rest x there commit low = run_appended after old mid new records x (always_closed before old run) step rest there commit low
