@@ -16,3 +16,4 @@ mod Handing
 mod HexDigits
 mod PutLemmas
 mod ReachLemmas
+mod LoadLaw

@@ -2,4 +2,5 @@ pub mod Brief
 pub mod Dates
 pub mod Fields
 pub mod Forms
+pub mod Loads
 pub mod Words

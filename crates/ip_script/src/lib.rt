@@ -4,6 +4,7 @@
 mod date;
 mod field;
 mod line;
+mod load;
 mod reply;
 mod source;
 mod words;
@@ -11,5 +12,6 @@ mod words;
 pub use ip_spec::command::{Command, LineFault, Target};
 pub use ip_spec::reply::Reply;
 pub use line::{grammar, read_line};
+pub use load::{LOAD_LINE_MAX, load_line};
 pub use reply::{put_number, reply_text};
 pub use source::{Bytes, Source, SourceCounts, SourceFault};

@@ -25,8 +25,9 @@ fn put_byte(byte: u8, out: &mut Vec<u8>) -> Result<(), Memory>
     Ok(out.extend_from_slice(&pair)?)
 }
 
+/// Writes bytes as lower-case hex digits at the end of a text. It takes no memory where they fit into what is spare.
 #[tactic(auto, using(crate::proofs::PutLemmas::put_more, crate::proofs::PutLemmas::put_none, crate::proofs::PutLemmas::put_long))]
-fn put_hex(bytes: &[u8], out: &mut Vec<u8>) -> Result<(), Memory>
+pub fn put_hex(bytes: &[u8], out: &mut Vec<u8>) -> Result<(), Memory>
     ensures ok { OnOk result (out.new.items ≡ out.old.items ++ hex_text bytes.now) }
     ensures room { OnErr result (vec_capacity out.old < vec_len out.old + length (hex_text bytes.now)) }
     ensures capacity { vec_capacity out.old ≤ vec_capacity out.new }

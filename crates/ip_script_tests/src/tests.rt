@@ -1,7 +1,8 @@
 use ip_base::{Blob, Hash, Hashes, Info, Items, Limit, Memory, Number, Path, Step};
 use ip_ground::Exit;
 use ip_script::{
-    Bytes, Command, LineFault, Reply, Source, SourceFault, Target, read_line, reply_text,
+    Bytes, Command, LOAD_LINE_MAX, LineFault, Reply, Source, SourceFault, Target, load_line,
+    read_line, reply_text,
 };
 use ip_spec::reply::{Difference, Head, Produced, Seen};
 use ip_spec::tree::Item;
@@ -688,4 +689,61 @@ fn a_source_in_memory_hands_out_its_bytes(rt: HostRuntime) -> Result<(), Fail> {
     assert_eq!(rt; source.next(&mut out), Ok(0));
     assert_eq!(rt; source.counts().read_faults, 1);
     Ok(())
+}
+
+// Whether this is the line of this number behind the state.
+fn is_loaded(alloc: Global, state: u64, number: u64, want: &[u8]) -> bool {
+    let mut state = state;
+    let mut line = Vec::new(alloc);
+    load_line(&mut state, number, &mut line).is_ok() && line.as_slice() == want
+}
+
+#[test]
+fn a_line_of_a_load_is_that_of_its_seed(rt: HostRuntime) {
+    let lines = [
+        (0, 1, b"branch side main".as_slice()),
+        (1, 1, b"commit side 1 load line"),
+        (2, 1, b"rm d5/k16"),
+        (5, 1, b"set d3/k52 4f38415b"),
+        (10, 1, b"set d5/k7 37ba67cd"),
+        (13, 1, b"commit main 1 load line"),
+        (20, 1, b"set d1/k45 08beb4b0"),
+        (20, 20, b"set d1/k45 08beb4b0"),
+        (23, 1, b"set d7/k17 faa6655b"),
+        (30, 1, b"checkout side"),
+        (43, 1, b"get d7/k28"),
+        (53, 1, b"merge side main 1 load line"),
+        (107, 1, b"checkout main"),
+        (18446744073709551615, 1, b"set d7/k43 6b68e005"),
+        (
+            53,
+            18446744073709551615,
+            b"merge side main 18446744073709551615 load line",
+        ),
+    ];
+    for (seed, number, want) in lines {
+        assert!(rt; is_loaded(rt.alloc(), seed, number, want), "{want:?}");
+        assert!(rt; want.len() <= LOAD_LINE_MAX);
+    }
+}
+
+#[test]
+fn the_lines_of_a_load_follow_one_another(rt: HostRuntime) {
+    let lines = [
+        (b"commit side 1 load line".as_slice(), 7062582979898595269),
+        (b"set d6/k52 10bf51ed", 1206773305466921929),
+        (b"set d5/k54 892769e4", 9882984339513518093),
+        (b"rm d0/k52", 13833615605184489617),
+        (b"set d7/k41 3406c46a", 3748899703585450325),
+        (b"set d3/k60 9f21b6c5", 11466647087125458521),
+    ];
+    let mut state = 1;
+    let mut number = 0;
+    for (want, after) in lines {
+        number += 1;
+        let mut line = Vec::new(rt.alloc());
+        assert!(rt; load_line(&mut state, number, &mut line).is_ok());
+        assert!(rt; line.as_slice() == want, "{want:?}");
+        assert_eq!(rt; state, after);
+    }
 }
