@@ -1,3 +1,5 @@
-mod Taking
-mod Plain
+mod Numbers
 pub mod OneCall
+mod Plain
+mod Positionals
+mod Taking

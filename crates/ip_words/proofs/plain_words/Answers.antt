@@ -1,4 +1,4 @@
-use Rattle.ip_words.proofs.Plain.{serve_plain, init_plain, behind_plain, before_plain, no_words, program_alone, helped}
+use Rattle.ip_words.proofs.Plain.{serve_plain, init_plain, behind_plain, before_plain, worker_plain, load_plain, no_words, program_alone, helped}
 use Rattle.ip_words.proofs.plain_words.Goals as goal
 
 pub returns-clause-serve : goal.returns-clause-serve
@@ -12,6 +12,12 @@ returns-clause-behind c = behind_plain
 
 pub returns-clause-before : goal.returns-clause-before
 returns-clause-before c = before_plain
+
+pub returns-clause-worker : goal.returns-clause-worker
+returns-clause-worker c = worker_plain
+
+pub returns-clause-load : goal.returns-clause-load
+returns-clause-load c = load_plain
 
 pub returns-clause-none : goal.returns-clause-none
 returns-clause-none c = no_words
