@@ -53,22 +53,22 @@ use Rattle.ip_store.specs.declared.swapping.Swap.{Swap}
 use Rattle.ip_store.specs.Collecting.{IsPhase, HasEnded, IsOfChild, Collects, until}
 use Rattle.ip_store.specs.Control.{control_in}
 use Rattle.ip_store.specs.Faults.{ground_finish}
-use Rattle.ip_store.specs.Finishing.{Serves}
+use Rattle.ip_store.specs.Finishing.{IsUndamaged, Serves}
 use Rattle.ip_store.specs.Judging.{IsThrough, IsCheckOf}
 use Rattle.ip_store.specs.Placed.{places_in, AreRising}
 use Rattle.ip_store.specs.Publishing.{TurnsGate}
 use Rattle.ip_store.specs.Store.{IsOf, OwnsPair, Holds}
-use Rattle.ip_store.specs.Swapping.{Accepts, AcceptsAs, IsSwap, IsSwapFault, IsUndamaged, RefusesSwap, SwapsTables, SyncsPair, turned_down}
+use Rattle.ip_store.specs.Swapping.{Accepts, AcceptsAs, IsSwap, IsSwapFault, RefusesSwap, SwapsTables, SyncsPair, turned_down}
 use Rattle.ip_store.specs.Sweeping.{IsApart, EndsFor, KeepsFiles}
 use Rattle.ip_store.proofs.Apart.{holds_apart, list_apart, recovers_apart, pending_apart, flushed_apart}
 use Rattle.ip_store.proofs.Cancels.{over, held_idle, other, below}
 use Rattle.ip_store.proofs.Ended.{ends_only, ends_more, ends_on}
+use Rattle.ip_store.proofs.FinishSpans.{atomic_front, atomic_still}
 use Rattle.ip_store.proofs.HeldPair.{HasPair, pair_stays, pair_found, rows_of_pair}
 use Rattle.ip_store.proofs.Going.{phase_here, going_here, collects_here}
 use Rattle.ip_store.proofs.Judged.{kept_check, has_ended, over_here}
 use Rattle.ip_store.proofs.KeptFiles.{keeps_itself, keeps_on, keeps_store}
 use Rattle.ip_store.proofs.Listed.{same_slot}
-use Rattle.ip_store.proofs.LookedUp.{recovers_less}
 use Rattle.ip_store.proofs.Recovering.{in_image, held_has, recovers_now}
 use Rattle.ip_store.proofs.Remaining.{remaining_places}
 use Rattle.ip_store.proofs.Stepping.{none_since}
@@ -192,7 +192,7 @@ module _ (store : Store) (r : Repository) (a : Told) (held : Holds store a r) (c
       let under = (good_at A.slot A.records (image_rises a.held A) A.good (c.job.horizon, Record.Commit collects.collectable.commit) (cut A.records (c.job.horizon, Record.Commit collects.collectable.commit) there)).fits.root_below in
       omega (arith, under)
 
-  pub undamaged : (fault : FinishFault) → RefusesSwap store c fault → IsUndamaged (Err fault)
+  pub undamaged : (fault : FinishFault) → RefusesSwap store c fault → IsUndamaged {A = Unit {0}} (Err fault)
   undamaged FinishFault.Idle refused = tt
   undamaged FinishFault.Wait refused = tt
   undamaged (FinishFault.Rejected rejection) refused = tt
@@ -238,9 +238,6 @@ module _ (store : Store) (r : Repository) (a : Told) (held : Holds store a r) (c
       pub recovers_at : (t : ℕ) → a.moment < t → t ≤ b.moment → RecoversTo (crash_at b t) r
       recovers_at = recovers_apart (over store store.unswept store.met) r a (held_idle store r a held c runs) refl n (other store r a held c runs) (below store r a held c runs) NoFile apart b changes.beside pending
 
-      pub atomic_at : (q : Repository) (t : ℕ) → a.moment < t → t ≤ b.moment → RecoversToEither (crash_at b t) r q
-      atomic_at q t late le = let there = recovers_at t late le in record { stands = λ image possible. inl (there.stands image possible); flushed = there.flushed }
-
     stopped : (fault : FinishFault) (now : Store) → KeepsFiles a b → AcceptsAs held.stands.standing.records r c (Err fault) now a b
     stopped fault now files = record {
       only = ends_more n NoFile a b (Only Control) (λ file none. absurd none) changes;
@@ -248,7 +245,7 @@ module _ (store : Store) (r : Repository) (a : Told) (held : Holds store a r) (c
       holds = tt;
       serves = tt;
       remains = λ q holds. tt;
-      atomic = λ pending. atomic_at pending (collected_at r c.commit);
+      atomic = λ pending. atomic_still r (collected_at r c.commit) a b (recovers_at pending);
       nothing_pending = λ pending. tt;
       flushed = λ pending. flushed_then pending;
     }
@@ -460,13 +457,8 @@ module _ (store : Store) (r : Repository) (a : Told) (held : Holds store a r) (c
     files = keeps_on a b d sync.files (keeps_store b d (Only Control) (λ file same. inl same) gate.only)
 
     atomic : NothingPending a → IsAtomic a d r (collected_at r c.commit)
-    atomic pending t late le = elim (cases_lt b.moment t) [
-      | inl now ↦ either_at store r b then c runs swap.slot next_is (joined check.keep.kept) pair_then d res gate (sync.kept, sync.firm) (pending_then store r a held c runs b sync.only pending) t now le
-      | inr was ↦
-          let goes = gate.only.goes in
-          let there = recovers_less (crash_at b t) (crash_at d t) r (λ file content left. goes.left t file content was left) (λ attempt. goes.lending t attempt was) (recovers_at store r a held c runs b sync.only pending t late was) in
-          record { stands = λ image possible. inl (there.stands image possible); flushed = there.flushed }
-    ]
+    atomic pending = atomic_front r (collected_at r c.commit) a b d gate.only.goes (recovers_at store r a held c runs b sync.only pending)
+        (either_at store r b then c runs swap.slot next_is (joined check.keep.kept) pair_then d res gate (sync.kept, sync.firm) (pending_then store r a held c runs b sync.only pending))
 
     flushed : NothingPending a → AllFlushed (crash_now d)
     flushed pending = elim (cases_lt a.moment d.moment) [

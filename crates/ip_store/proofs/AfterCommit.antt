@@ -1,6 +1,6 @@
 -- What the tables, the work and the files hold after a commit.
 --     after_tables, after_parents      the tables and the parents after it, whatever is told
---     can_step      what the durable step asks.      stays_committed      each record stays.      stands_new      the images that it leaves
+--     can_step      what the durable step asks.      more_committed, stays_committed      records stand behind those before it, and each of these stays.      stands_new      the images that it leaves
 --     made, cut      the relation of a commit that was made, and of one that a fault cut short
 --     saved_tree      the tree at the batch's root, over the records of the image after it
 --     answers_refused, answers_made, goes_on_still      what is answered, and how the work goes on
@@ -77,7 +77,7 @@ use Rattle.ip_store.proofs.BatchKinds.{batch_commit}
 use Rattle.ip_store.proofs.Phases.{least_above, oldest_above, phase_to, phase_on, retained_is, set_heads}
 use Rattle.ip_store.proofs.RootedViews.{rooted_stored}
 use Rattle.ip_store.proofs.Listed.{good_here, records_ordered, within_fits, same_records, records_below, found_here}
-use Rattle.ip_store.proofs.Stepping.{same_holds, space_same, unswept_same, within_same, rising_same, may_step, changed, list_after, stays_made, cut_short, same_can_step, same_step}
+use Rattle.ip_store.proofs.Stepping.{same_holds, space_same, unswept_same, within_same, rising_same, may_step, changed, list_after, more_made, stays_made, cut_short, same_can_step, same_step}
 use Rattle.ip_store.proofs.BranchNames.{named_set}
 use Rattle.ip_store.proofs.NextSlot.{HasRoom, next_room, next_is, next_generation, next_space, unswept_on, within_on}
 use Rattle.ip_store.proofs.Histories.{history_committed}
@@ -194,12 +194,20 @@ can_step r branch store plan of is a held =
     same_can_step store.slot.end store.slot.end store.index store.index plan.slot (next_slot (carried store) (length plan.batch.bytes.items) 1) a refl refl is.slot
     (may_step r r store store.slot.next_attempt 1 plan.batch.bytes.items of (room_of r branch store plan of is) a held)
 
--- nor does it that each record stays
-pub stays_committed : (r : Repository) (branch : Bytes) (store : Store) (plan : Plan) (of : IsOf store r) → IsNext r branch store plan → (a : Told) (held : Holds store a r) (b : Told) → MakesStep store.slot.end plan.batch.bytes.items (1 - store.index) plan.slot (Ok tt) a b
-    → (store' : Store) (q : Repository) (now : Holds store' b q) → RecordsStay (image_records held) (image_records now)
-stays_committed r branch store plan of is a held b step store' q now =
-    stays_made r r store store.slot.next_attempt 1 plan.batch.bytes.items of (room_of r branch store plan of is) a held b
-    (same_step store.slot.end store.slot.end store.index store.index plan.batch.bytes.items plan.batch.bytes.items plan.slot (next_slot (carried store) (length plan.batch.bytes.items) 1) (Ok tt) a b refl refl refl is.slot step) store' q now
+-- nor does it that other records stand behind those before it, whatever these are, so that each of them stays
+module _ (r : Repository) (branch : Bytes) (store : Store) (plan : Plan) (of : IsOf store r) (is : IsNext r branch store plan) (a : Told) (held : Holds store a r) (b : Told)
+    (step : MakesStep store.slot.end plan.batch.bytes.items (1 - store.index) plan.slot (Ok tt) a b) (store' : Store) (q : Repository) (now : Holds store' b q) where
+  abbrev next_here : Slot
+  next_here = next_slot (carried store) (length plan.batch.bytes.items) 1
+
+  step_here : MakesStep store.slot.end plan.batch.bytes.items (1 - store.index) next_here (Ok tt) a b
+  step_here = same_step store.slot.end store.slot.end store.index store.index plan.batch.bytes.items plan.batch.bytes.items plan.slot next_here (Ok tt) a b refl refl refl is.slot step
+
+  pub more_committed : (more : Records) × (now.stands.standing.records ≡ held.stands.standing.records ++ more) × AreEndToEnd store.slot.end more next_here.end
+  more_committed = more_made r r store store.slot.next_attempt 1 plan.batch.bytes.items of (room_of r branch store plan of is) a held b step_here store' q now
+
+  pub stays_committed : RecordsStay (image_records held) (image_records now)
+  stays_committed = stays_made r r store store.slot.next_attempt 1 plan.batch.bytes.items of (room_of r branch store plan of is) a held b step_here store' q now
 
 -- ---- the files, where the tree has this view
 

@@ -1,8 +1,8 @@
 -- While a collection goes on a commit's batch refers to nothing that goes.
 --     low_place      a commit of a greater number lies behind.      rooted_rests      what a view knows stays, where it is of no commit that goes
 --     staying      the records that stay.      known_staying, batch_rests      so does what the batch of the view's tree refers to
---     end_reached      where the records of an image end.      follow_on      the core can append records end to end behind others that rest on what stays
-use Rattle.std.proofs.Common.{◌≡◌, ◌⊎◌, inl, inr, ℕ, suc, ◌+◌, ◌<◌, ◌≤◌, List, [], ◌∷◌, ◌++◌, Bool, true, Option, Some, None, length, refl, sym, ◌∙◌, ap, subst, arith, append_assoc, append-nil, length-append}
+--     end_reached      where the records of an image end.      follow_on      the core can append records end to end behind others, where what they refer to stays.      lie_ordered      such records lie in order
+use Rattle.std.proofs.Common.{◌≡◌, ◌≢◌, ◌⊎◌, inl, inr, ℕ, suc, ◌+◌, ◌<◌, ◌≤◌, List, [], ◌∷◌, ◌++◌, Bool, true, Option, Some, None, length, refl, sym, ◌∙◌, ap, subst, arith, append_assoc, append-nil, length-append}
 use Rattle.std.proofs.lemmas.Bool.{cases_lt}
 use Rattle.std.proofs.lemmas.List.{map-append}
 use Rattle.std.proofs.lemmas.List.Elements.{filter_map-append}
@@ -13,29 +13,27 @@ use Rattle.ip_base.specs.declared.limit.TheConstants.{OFFSET_MAX}
 use Rattle.ip_ground.specs.Contents.{Image}
 use Rattle.ip_spec.specs.declared.event.CoreRecord.{CoreRecord}
 use Rattle.ip_spec.specs.declared.record.CommitRecord.{CommitRecord}
-use Rattle.ip_spec.specs.declared.record.LeafEntry.{LeafEntry}
 use Rattle.ip_spec.specs.declared.record.Record.{Record}
 use Rattle.ip_spec.specs.Batch.{CommitFields, AreEndToEnd, KnownStand, batch, batch_end, sources, whole_part}
 use Rattle.ip_spec.specs.Core.{CorePhase, FollowOn, IsKeptSet, IsPresent, Stays, core_record, core_records, end_of, stays}
 use Rattle.ip_spec.specs.Record.{references, spelling}
-use Rattle.ip_spec.specs.Step.{entries_limit}
-use Rattle.ip_spec.specs.Tree.{IsTree}
 use Rattle.ip_spec.specs.TreeAt.{Records, present}
 use Rattle.ip_spec.specs.View.{View}
-use Rattle.ip_spec.proofs.BatchLaws.{batch_lies, sources_stand}
+use Rattle.ip_spec.proofs.BatchLaws.{batch_lies}
 use Rattle.ip_spec.proofs.Spelling.{some_bytes}
-use Rattle.ip_spec.proofs.Widths.{NoneWider}
 use Rattle.ip_image.specs.declared.slot.Slot.{Slot}
 use Rattle.ip_image.specs.declared.terms.Terms.{Terms}
 use Rattle.ip_image.specs.Pending.{HasLive}
 use Rattle.ip_image.specs.Standing.{AreGood, Standing, commit_of, commits_in}
 use Rattle.ip_image.specs.Virtual.{chunk_byte}
-use Rattle.ip_image.proofs.InChunk.{chunk_lies, ends_late}
+use Rattle.ip_image.specs.Slot.{layout_of}
+use Rattle.ip_image.proofs.InChunk.{LiesIn, chunk_lies, lies_in_chunk, lies_above, ends_late}
+use Rattle.ip_image.proofs.OneRepository.{zero_or_not}
 use Rattle.ip_image.proofs.KeptRuns.{Ordered, ordered_append, ordered_has}
 use Rattle.ip_image.proofs.PairLaws.{Has, Rises}
 use Rattle.ip_image.proofs.SpelledCommits.{present_behind}
 use Rattle.ip_image.proofs.StayingRecords.{In, Cut, cut, good_at, good_both, good_refers, filter_has, filter_ordered, filter_present, has_either, has_in, has_left, has_present, has_right, in_contains, in_from, in_map, any_there, there_any, le_is, le_test, or_cases, or_left, or_right, ordered_rises, part_refers, present_has, refs_of, rises_front, staying_part}
-use Rattle.ip_image.proofs.TreeBatch.{TreeBatch, commit_record, ends_apart, tree_behind}
+use Rattle.ip_image.proofs.TreeBatch.{TreeBatch, commit_record, ends_apart}
 use Rattle.ip_image.proofs.TreeParts.{AreTreeParts, IsTreePart, part_found}
 use Rattle.ip_store.specs.Rooted.{IsHeld, IsRooted, IsRootedIn, Leads}
 use Rattle.ip_store.specs.Rooted as rooted
@@ -135,7 +133,7 @@ module _ (records : Records) (h : ℕ) (kept : List ℕ) where
         parts = λ p indexes at is directory. staying_part (present records) (present staying) Rests there_staying rests_closed (rooted (record { path = p; indexes = indexes }) at is) (known.parts p indexes at is directory);
       }
 
-lie_ordered : (from : ℕ) (xs : Records) (to : ℕ) → AreEndToEnd from xs to → Ordered from xs to
+pub lie_ordered : (from : ℕ) (xs : Records) (to : ℕ) → AreEndToEnd from xs to → Ordered from xs to
 lie_ordered from [] to lie = omega (arith, lie)
 lie_ordered from (x ∷ xs) to lie = (
   (let at = lie.0 in omega (arith, at)),
@@ -209,10 +207,17 @@ ends_some pre [] from to some lie = absurd (omega (arith, some, lie))
 ends_some pre (x ∷ xs) from to some lie = ap (λ (rs : Records). end_of (core_records rs)) (sym (append_assoc pre (x ∷ []) xs))
     ∙ ends_behind (pre ++ x ∷ []) xs (from + length (spelling x.1)) to (end_push pre x ∙ ap (λ (n : ℕ). n + length (spelling x.1)) lie.0) lie.1
 
-pub end_reached : (image : Image) (s : Slot) → HasLive s image → (A : Standing image) → s.horizon < s.end → end_of (core_records A.records) ≡ s.end
-end_reached image s live A some =
-    let lies = chunk_lies image s live A in
-    ap (λ (rs : Records). end_of (core_records rs)) lies.is ∙ ends_some lies.kept lies.later s.horizon s.end some (ends_apart (chunk_byte s.chunk image) s.horizon lies.later s.end lies.lies)
+-- above a live generation something lies, and where none is live all lies in the chunks
+pub end_reached : (image : Image) (s : Slot) → HasLive s image → (A : Standing image) → end_of (core_records A.records) ≡ s.end
+end_reached image s live A = by (zero_or_not s.live)
+  where
+    lies : LiesIn (layout_of s) image A.records
+    lies = chunk_lies image s live A
+
+    by : (s.live ≡ 0) ⊎ (s.live ≢ 0) → end_of (core_records A.records) ≡ s.end
+    by (inl none) = ends_behind [] A.records 0 s.end refl (ends_apart (chunk_byte s.chunk image) 0 A.records s.end (lies_in_chunk (layout_of s) image A.records none (live.live.fields.none_live.0 none) lies))
+    by (inr some) = ap (λ (rs : Records). end_of (core_records rs)) lies.is
+        ∙ ends_some lies.kept lies.later s.horizon s.end (lies_above image (layout_of s) live.live.fields.horizon A.records lies some) (ends_apart (chunk_byte s.chunk image) s.horizon lies.later s.end lies.lies)
 
 -- ---- what the core can append
 
@@ -220,10 +225,7 @@ each_in : {X : Type 0} (P : X → Type 0) (xs : List X) → ((x : X) → In xs x
 each_in P [] each = tt
 each_in P (x ∷ xs) each = (each x (inl refl), each_in P xs (λ y has. each y (inr has)))
 
-module _ (s : Slot) (all : Records) (rise : Rises all) (good : AreGood s [] all) (h : ℕ) (kept : List ℕ) (ended : Bool) where
-  abbrev phase : CorePhase
-  phase = CorePhase.collecting h kept ended
-
+module _ (s : Slot) (all : Records) (rise : Rises all) (good : AreGood s [] all) (phase : CorePhase) where
   found_front : (old new : Records) (x : ℕ × Record) (end to b : ℕ) (r : Record) → old ++ x ∷ new ≡ all → AreEndToEnd end (x ∷ new) to → b < x.0 → present all b ≡ Some r → IsPresent (core_records old) b
   found_front old new x end to b r whole lie below there = by (present old b) refl
     where
@@ -234,7 +236,7 @@ module _ (s : Slot) (all : Records) (rise : Rises all) (good : AreGood s [] all)
           let at = lie.0 in
           absurd (omega (arith, low, below, at))
 
-  pub follow_on : (old new : Records) (end to : ℕ) → old ++ new ≡ all → end_of (core_records old) ≡ end → AreEndToEnd end new to → to ≤ OFFSET_MAX → ((x : ℕ × Record) → Has new x → (b : ℕ) → In (refs_of x.1) b → (h ≤ b) ⊎ Contains kept b)
+  pub follow_on : (old new : Records) (end to : ℕ) → old ++ new ≡ all → end_of (core_records old) ≡ end → AreEndToEnd end new to → to ≤ OFFSET_MAX → ((x : ℕ × Record) → Has new x → (b : ℕ) → In (refs_of x.1) b → Stays phase b)
       → FollowOn (core_records old) phase (core_records new)
   follow_on old [] end to whole ends lie small rests = tt
   follow_on old (x ∷ new) end to whole ends lie small rests = (

@@ -5,7 +5,7 @@
 --     starts_cut      what was done where the step was cut short.      starts_lent      behind it, once the attempt was lent, or that failed.      begun_list      the records then
 --     begun_going, begun_collects      what is kept of it, and what the swap asks of it
 use Rattle.std.proofs.Common.{◌≡◌, ◌≢◌, inl, inr, ℕ, ◌+◌, ◌-◌, ◌<◌, ◌≤◌, [], ◌∷◌, ◌++◌, length, None, refl, sym, ◌∙◌, ap, subst, arith}
-use Rattle.std.specs.Prelude.{All, Result, Ok, Err, Option, Some, IfSome, IsTrue, false, List, map, slice_get}
+use Rattle.std.specs.Prelude.{All, Result, Ok, Err, Some, IfSome, IsTrue, false, List, map, slice_get}
 use Rattle.std.proofs.lemmas.Bool.{cases_lt}
 use Rattle.ip_ground.specs.declared.names.FileName.{FileName}
 use Rattle.ip_ground.specs.declared.names.GroundFault.{GroundFault}
@@ -41,7 +41,6 @@ use Rattle.ip_store.specs.Collecting.{IsAbove, IsGoing, Collects}
 use Rattle.ip_store.specs.Publishing.{CanStep, MakesStep, MayChange}
 use Rattle.ip_store.specs.Placed.{IsCommitAt}
 use Rattle.ip_store.specs.Starting.{branch_row, table_of, IsBegun, IsStart, StartsCollection, new_collection}
-use Rattle.ip_store.specs.declared.collection.Collection.{Collection}
 use Rattle.ip_store.specs.Store.{IsOf, Holds, image_records, place_of_commit}
 use Rattle.ip_store.specs.Sweeping.{IsApart, ChangesBeside, ChangesFor}
 use Rattle.ip_store.proofs.Apart.{beside_for, for_only, for_lend, for_more, for_behind, holds_apart, list_apart, recovers_apart, pending_apart, flushed_apart, space_apart}

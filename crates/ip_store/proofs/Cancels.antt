@@ -5,7 +5,7 @@
 --     idle_answers, orphan_answers, done_answers      the answers, with the tables.      none_runs      a collection of which a test says so
 --     idle, held_idle      the store without it holds what it held.      phase, other, below      its attempt is not the live one, and was drawn
 --     for_settle      an attempt is settled
---     orphan_left, cut_off, swept_away      what each way out does to what is told, and what the store holds then.      orphan_stays, swept_stays      each record stays
+--     orphan_left, cut_off, swept_away      what each way out does to what is told, and what the store holds then.      orphan_stays, swept_stays      each record stays, and there are no others: swept_list
 use Rattle.std.proofs.Common.{◌∙◌, ap, ◌≡◌, ◌≢◌, ℕ, ◌<◌, Option, Some, None, true, refl, sym, subst, arith}
 use Rattle.std.specs.Prelude.{Bool, false, ◌/◌, ◌≤◌, Result, Ok, Err, IsErrAnd, if◌then◌else◌, ◌==◌}
 use Rattle.std.proofs.lemmas.Bool.Decides.{nat_tests}
@@ -239,11 +239,12 @@ module _ (store : Store) (r : Repository) (a : Told) (holds : Holds store a r) (
   apart : (file : FileName) → these file → IsApart store.slot file
   apart file is = swept_apart store.slot store.unswept file is
 
-  -- each record stays, whatever the store holds then
+  -- the records stay, whatever the store holds then
+  list_after : (b : Told) → ChangesFor n these a b → (store' : Store) (q : Repository) (now : Holds store' b q) → now.stands.standing.records ≡ holds.stands.standing.records
+  list_after b changes store' q now = list_apart idle r a held_idle refl n other below these apart b (beside_for n these a b changes) now.stands.standing
+
   stays_apart : (b : Told) → ChangesFor n these a b → (store' : Store) (q : Repository) (now : Holds store' b q) → RecordsStay (image_records holds) (image_records now)
-  unfolding held_idle
-  stays_apart b changes store' q now at x there =
-      subst (λ (rs : Records). present rs at ≡ Some x) (sym (list_apart idle r a held_idle refl n other below these apart b (beside_for n these a b changes) now.stands.standing)) there
+  stays_apart b changes store' q now at x there = subst (λ (rs : Records). present rs at ≡ Some x) (sym (list_after b changes store' q now)) there
 
   module _ (result : Result Cancelled CancelFault) (b : Told) (changes : ChangesFor n these a b) (files : KeepsFiles a b) (u : Unswept) (met : Met) (unswept : IsUnswept store.slot u) where
     held_now : Holds (over store u met) b r
@@ -304,6 +305,9 @@ module _ (store : Store) (r : Repository) (a : Told) (holds : Holds store a r) (
           (λ done was. (b.held, settled_stays n b d b.held these (settled_at n a b was ours) sweeps.only))
           (λ done zero file this own. sweeps.gone zero file this (theirs file own))
           (λ done few. (let those = sweeps.all_but few in (those.0, those.1, λ file this own. those.2 file this (theirs file own)))))
+
+      pub swept_list : (store' : Store) (q : Repository) (now : Holds store' d q) → now.stands.standing.records ≡ holds.stands.standing.records
+      swept_list = list_after d changes
 
       pub swept_stays : (store' : Store) (q : Repository) (now : Holds store' d q) → RecordsStay (image_records holds) (image_records now)
       swept_stays = stays_apart d changes

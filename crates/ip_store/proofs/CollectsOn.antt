@@ -3,11 +3,10 @@
 --     collects_more      so it goes on, where the core can append them and no branch comes to a commit that goes
 --     unwritten      a durable step writes no file of an attempt
 --     collects_on      and behind a durable step, where what the new records refer to stays
-use Rattle.std.proofs.Common.{◌≡◌, ◌⊎◌, inl, inr, ℕ, ◌+◌, ◌<◌, ◌≤◌, List, [], ◌∷◌, ◌++◌, Bool, true, false, Option, Some, None, length, refl, sym, ◌∙◌, ap, subst, arith, append-nil}
-use Rattle.std.proofs.lemmas.Bool.Decides.{nat_tests}
-use Rattle.std.proofs.lemmas.List.Elements.{All-from_recursion, filter-append}
+use Rattle.std.proofs.Common.{◌≡◌, ◌⊎◌, inl, inr, ℕ, ◌+◌, ◌<◌, ◌≤◌, [], ◌∷◌, ◌++◌, Option, Some, None, length, refl, sym, ◌∙◌, ap, subst, arith, append-nil}
+use Rattle.std.proofs.lemmas.List.Elements.{All-contains, All-from_recursion, filter-append}
 use Rattle.std.specs.List.{AllByRecursion}
-use Rattle.std.specs.Prelude.{All, Contains, IfSome, IsSome, is_some, filter, if◌then◌else◌, nat_lt}
+use Rattle.std.specs.Prelude.{All, Contains, IfSome, IsSome, is_some, nat_lt}
 use Rattle.ip_base.specs.declared.limit.TheConstants.{OFFSET_MAX}
 use Rattle.ip_ground.specs.declared.names.FileName.{FileName}
 use Rattle.ip_ground.specs.declared.names.FileName.TheVariants.{Control, Chunk, Prefix, Mapping, Done}
@@ -23,7 +22,7 @@ use Rattle.ip_image.specs.declared.slot.Slot.{Slot}
 use Rattle.ip_image.specs.Collected.{IsCollectable}
 use Rattle.ip_image.specs.Standing.{Standing}
 use Rattle.ip_image.proofs.CoreTies.{collection_goes_on, image_rises}
-use Rattle.ip_image.proofs.PairLaws.{Has, Rises}
+use Rattle.ip_image.proofs.PairLaws.{Has, Rises, contains_from}
 use Rattle.ip_image.proofs.SpelledCommits.{present_front}
 use Rattle.ip_image.proofs.StayingRecords.{In, has_present, has_right, refs_of}
 use Rattle.ip_store.specs.declared.collection.Collection.{Collection}
@@ -34,42 +33,26 @@ use Rattle.ip_store.specs.Store.{Holds}
 use Rattle.ip_store.proofs.BatchRests.{end_reached, follow_on}
 use Rattle.ip_store.proofs.Going.{child_on}
 use Rattle.ip_store.proofs.Recovering.{held_has}
+use Rattle.ip_store.proofs.Remaining.{none_until}
 use Rattle.ip_store.proofs.TableRecords.{all_heads}
 
-none_until : (end : ℕ) (more : Records) → AllByRecursion (λ (x : ℕ × Record). end ≤ x.0) more → until end more ≡ []
-none_until end [] all = refl
-none_until end (x ∷ more) all = by (nat_lt x.0 end) refl (none_until end more all.1)
-  where
-    low : end ≤ x.0
-    low = all.0
-
-    by : (b : Bool) → nat_lt x.0 end ≡ b → until end more ≡ [] → until end (x ∷ more) ≡ []
-    by true is later = absurd (grind (arith, nat_tests))
-    by false is later = (λ i. if (is i) then x ∷ until end more else until end more) ∙ later
-
-pub until_more : (end : ℕ) (records more : Records) → AllByRecursion (λ (x : ℕ × Record). end ≤ x.0) more → until end (records ++ more) ≡ until end records
+pub until_more : (end : ℕ) (records more : Records) → ((x : ℕ × Record) → Has more x → end ≤ x.0) → until end (records ++ more) ≡ until end records
 until_more end records more all = filter-append (λ (x : ℕ × Record). nat_lt x.0 end) records more ∙ ap (λ (rs : Records). until end records ++ rs) (none_until end more all) ∙ append-nil (until end records)
-
-higher : (low end : ℕ) (more : Records) → low ≤ end → AllByRecursion (λ (x : ℕ × Record). end ≤ x.0) more → AllByRecursion (λ (x : ℕ × Record). low ≤ x.0) more
-higher low end [] le all = tt
-higher low end (x ∷ more) le all = ((let first = all.0 in omega (arith, le, first)), higher low end more le all.1)
 
 still_there : (records more : Records) (at : ℕ) (o : Option Record) → present records at ≡ o → IsSome o → IsSome (present (records ++ more) at)
 still_there records more at (Some x) e some = subst (λ (o : Option Record). IsSome o) (sym (present_front records more at x e)) refl
 still_there records more at None e some = absurd (cc (some))
 
 pub collects_more : (a b : Told) (these : FileName → Type 0) → ChangesOnly these a b → ((file : FileName) (n : ℕ) → IsOfAttempt n file → ¬ these file) → (s t : Slot) (records more : Records) (r q : Repository) (c : Collection)
-    → t.horizon ≡ s.horizon → c.job.end ≤ s.end → AllByRecursion (λ (x : ℕ × Record). s.end ≤ x.0) more → IsSome (present (records ++ more) s.end) → All (λ e. c.commit ≤ e.1) q.branches.entries
+    → t.horizon ≡ s.horizon → All (λ (x : ℕ × Record). c.job.end ≤ x.0) more → IsSome (present (records ++ more) s.end) → All (λ e. c.commit ≤ e.1) q.branches.entries
     → (is : Collects a s records r c) → FollowOn (core_records records) (CorePhase.collecting c.job.horizon is.kept (is_some c.exit)) (core_records more) → Collects b t (records ++ more) q c
-collects_more a b these only apart s t records more r q c horizon below behind first heads is follow =
-    let above = higher c.job.end s.end more below behind in
-    record {
-      kept = is.kept;
-      collectable = subst (λ (h : ℕ). IsCollectable (records ++ more) q h c.commit c.job.horizon c.job.end is.kept (is_some c.exit)) (sym horizon)
-          (collection_goes_on records more r q s.horizon c.commit c.job.horizon c.job.end is.kept (is_some c.exit) is.collectable follow (All-from_recursion (λ (x : ℕ × Record). c.job.end ≤ x.0) more above) heads);
-      border = inr (elim is.border [ inl e ↦ subst (λ (n : ℕ). IsSome (present (records ++ more) n)) (sym e) first | inr some ↦ still_there records more c.job.end (present records c.job.end) refl some ]);
-      child = child_on a b only.goes only.lending (λ file n of. only.others file (apart file n of)) c records (records ++ more) (until_more c.job.end records more above) c.exit is.child;
-    }
+collects_more a b these only apart s t records more r q c horizon above first heads is follow = record {
+  kept = is.kept;
+  collectable = subst (λ (h : ℕ). IsCollectable (records ++ more) q h c.commit c.job.horizon c.job.end is.kept (is_some c.exit)) (sym horizon)
+      (collection_goes_on records more r q s.horizon c.commit c.job.horizon c.job.end is.kept (is_some c.exit) is.collectable follow above heads);
+  border = inr (elim is.border [ inl e ↦ subst (λ (n : ℕ). IsSome (present (records ++ more) n)) (sym e) first | inr some ↦ still_there records more c.job.end (present records c.job.end) refl some ]);
+  child = child_on a b only.goes only.lending (λ file n of. only.others file (apart file n of)) c records (records ++ more) (until_more c.job.end records more (λ x has. All-contains (λ (y : ℕ × Record). c.job.end ≤ y.0) more x above (contains_from more x has))) c.exit is.child;
+}
 
 -- ---- a durable step
 
@@ -103,16 +86,12 @@ module _ (store : Store) (r q : Repository) (a b : Told) (held : Holds store a r
   by_case : (B : Standing b.held) → B.records ≡ records ++ more → (o : Option Collection) → IfSome o (Collects a store.slot records r) → IsPhaseOf store.slot r o → IsPhaseOf t q o → RestsBy held more o → IfSome o (Collects b t B.records q)
   by_case B list None is was phase rests = tt
   by_case B list (Some c) is was phase rests =
-      let job = was.told in
-      let low = job.valid.horizon in
-      let from = job.old_horizon in
-      let below = job.valid.some in
-      let inside = job.end in
+      let inside = was.told.end in
       subst (λ (rs : Records). Collects b t rs q c) (sym list)
-      (collects_more a b these only apart store.slot t records more r q c horizon inside (lie_above store.slot.end store.slot.end more t.end (omega arith) lie)
+      (collects_more a b these only apart store.slot t records more r q c horizon (All-from_recursion (λ (x : ℕ × Record). c.job.end ≤ x.0) more (lie_above c.job.end store.slot.end more t.end inside lie))
       (first_there records more store.slot.end t.end some lie (subst Rises list (image_rises b.held B))) (all_heads (λ (n : ℕ). c.commit ≤ n) q.branches phase.heads) is
-      (follow_on B.slot B.records (image_rises b.held B) B.good c.job.horizon is.kept (is_some c.exit) records more store.slot.end t.end (sym list)
-      (end_reached a.held store.slot (held_has store r a held) held.stands.standing (omega (arith, low, from, below, inside))) lie small (rests c refl is)))
+      (follow_on B.slot B.records (image_rises b.held B) B.good (CorePhase.collecting c.job.horizon is.kept (is_some c.exit)) records more store.slot.end t.end (sym list)
+      (end_reached a.held store.slot (held_has store r a held) held.stands.standing) lie small (rests c refl is)))
 
   pub collects_on : IsPhaseOf t q store.collection → RestsBy held more store.collection → (B : Standing b.held) → B.records ≡ records ++ more → IfSome store.collection (Collects b t B.records q)
   collects_on phase rests B list = by_case B list store.collection held.collects held.tables.phase phase rests

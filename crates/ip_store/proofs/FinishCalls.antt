@@ -6,7 +6,7 @@
 --     noted_goes, noted_finishes, noted_works, noted_counts      as it is noted
 --     finish_replies, fault_looked      the answer of a finish, as that of a look
 --     goes_on, on_finishes, on_works, on_counts      it was, whether it was heard now or before
-use Rattle.std.proofs.Common.{◌≡◌, ◌≢◌, ◌⊎◌, inl, inr, ℕ, true, false, Some, None, Option, refl, sym, ◌∙◌, ap, subst}
+use Rattle.std.proofs.Common.{◌≡◌, ◌≢◌, ◌≤◌, ◌⊎◌, inl, inr, ℕ, true, false, Some, None, Option, refl, sym, ◌∙◌, ap, subst}
 use Rattle.std.specs.Prelude.{Result, Ok, Err, OnErr, IfSome, is_some}
 use Rattle.ip_ground.specs.declared.names.Exit.{Exit}
 use Rattle.ip_ground.specs.declared.names.FileName.{FileName}
@@ -37,7 +37,7 @@ use Rattle.ip_store.specs.declared.finishing.Looked.{Looked}
 use Rattle.ip_store.specs.declared.store.Store.{Store}
 use Rattle.ip_store.specs.Collecting.{Collects, IsOfChild, phase_of, child_of}
 use Rattle.ip_store.specs.Ending.{Ends, EndsBy, FitsEnd, Goes, GoesOnAs, IsHeardIn, Listens, MayBeHeard, after_by, after_with}
-use Rattle.ip_store.specs.Finishing.{Concludes, CountsFinish, FinishReplies, as_look, FinishesAs, FinishesBy, HasAnswer, IsAsked, IsCollected, IsKept, IsOver, IsQuiet, KeepsCollection, LookReplies, MayTouch, Slices, SlotBy, TurnsBy, WorksStay, conditions_by, difference_in, met_by_finish, repository_after}
+use Rattle.ip_store.specs.Finishing.{Concludes, CountsFinish, FinishReplies, as_look, FinishesAs, FinishesBy, HasAnswer, IsAsked, IsCollected, IsKept, IsOver, IsQuiet, KeepsCollection, LookReplies, MayTouch, Slices, SlotBy, TurnsBy, WorksStay, conditions_by, difference_in, looked_at, looked_of, met_by_finish, repository_after}
 use Rattle.ip_store.specs.Store.{IsOf, Holds, image_records}
 use Rattle.ip_store.specs.Work.{IsLawful, state_at}
 use Rattle.ip_store.proofs.Apart.{beside_only}
@@ -45,7 +45,7 @@ use Rattle.ip_store.proofs.Cancels as Over
 use Rattle.ip_store.proofs.FinishEnds.{no_limit}
 use Rattle.ip_store.proofs.FinishSpans.{Spared, atomic_front, atomic_still, spared_by}
 use Rattle.ip_store.proofs.Ended.{ends_more, ends_on, ends_only}
-use Rattle.ip_store.proofs.FinishTurns.{IsTurn, each_look, met_heard, met_of, repository_is, told_difference, turn_of, turned_heard, turns_end, turns_none, turns_runs, turns_wait}
+use Rattle.ip_store.proofs.FinishTurns.{IsEnding, each_look, met_heard, met_of, repository_is, told_difference, turn_of, turned_heard, turns_end, turns_none, turns_runs, turns_wait}
 use Rattle.ip_store.proofs.KeptFiles.{keeps_on, keeps_store}
 use Rattle.ip_store.proofs.Stepping.{in_itself, same_tables}
 use Rattle.ip_store.proofs.WorksRemain.{works_remain}
@@ -99,14 +99,14 @@ child_behind exit reaped c left (Err FinishFault.Ground) now kept fits goes = he
 child_behind exit reaped c left (Err (FinishFault.Damaged at)) now kept fits goes = held_none reaped c now kept goes.0 goes.1
 child_behind exit reaped c left (Err FinishFault.Memory) now kept fits goes = held_none reaped c now kept goes.0 goes.1
 
-kept_so : (reaped : Reaped) (c : Collection) (now : Option Collection) → c.exit ≡ Some reaped → (check : Option CheckView) → now ≡ Some (record c { check = check }) → KeepsCollection c reaped now
-kept_so reaped c now kept check is = record { same = record c { check = check }; is = is; commit = refl; job = refl; exit = kept }
+kept_so : (reaped : Reaped) (c : Collection) (now : Option Collection) → c.exit ≡ Some reaped → (check : Option CheckView) → now ≡ Some (record c { check = check }) → looked_at c ≤ looked_of check → KeepsCollection c reaped now
+kept_so reaped c now kept check is looked = record { same = record c { check = check }; is = is; commit = refl; job = refl; exit = kept; looked = looked }
 
 kept_behind : (reaped : Reaped) (c : Collection) (result : Result Looked FinishFault) (now : Option Collection) → c.exit ≡ Some reaped → GoesOnAs result c now → IsKept result → KeepsCollection c reaped now
 kept_behind reaped c (Ok Looked.Running) now kept goes is = absurd is
-kept_behind reaped c (Ok (Looked.Checking bytes)) now kept goes is = kept_so reaped c now kept goes.0 goes.1
+kept_behind reaped c (Ok (Looked.Checking bytes)) now kept goes is = kept_so reaped c now kept goes.0 goes.1 goes.2
 kept_behind reaped c (Ok (Looked.Collected collected)) now kept goes is = absurd is
-kept_behind reaped c (Err FinishFault.Memory) now kept goes is = kept_so reaped c now kept goes.0 goes.1
+kept_behind reaped c (Err FinishFault.Memory) now kept goes is = kept_so reaped c now kept goes.0 goes.1 goes.2
 kept_behind reaped c (Err FinishFault.Idle) now kept goes is = absurd is
 kept_behind reaped c (Err FinishFault.Wait) now kept goes is = absurd is
 kept_behind reaped c (Err (FinishFault.Rejected rejection)) now kept goes is = absurd is
@@ -400,7 +400,7 @@ module _ (store : Store) (c : Collection) (runs : store.collection ≡ Some c) (
   same_slot (Err fault) slot is = is
 
   module _ (may : MayBeHeard c.exit c.job.attempt (Child.Ended reaped)) where
-    from_known : (r : Repository) (work : MachineWork) (command : Command) (met : Conditions) (reply : Reply) (s : State) → IsTurn command → met.told.child ≡ Child.Ended reaped → TurnsBy (state_at r (phase_of (Some known)) work) command met reply s → TurnsBy (state_at r (phase_of (Some c)) work) command met reply s
+    from_known : (r : Repository) (work : MachineWork) (command : Command) (met : Conditions) (reply : Reply) (s : State) → IsEnding command → met.told.child ≡ Child.Ended reaped → TurnsBy (state_at r (phase_of (Some known)) work) command met reply s → TurnsBy (state_at r (phase_of (Some c)) work) command met reply s
     from_known r work command met reply s is ended turns = by c.exit may
       where
         by : (exit : Option Reaped) → MayBeHeard exit c.job.attempt (Child.Ended reaped) → TurnsBy (state_at r (Phase.Collecting c.commit exit) work) command met reply s
@@ -428,7 +428,7 @@ module _ (store : Store) (c : Collection) (runs : store.collection ≡ Some c) (
           held = goes.held;
           goes_on = λ is d other here heard.
               subst (λ (x : Collection). KeepsCollection x other now.collection) (same_running store.collection c d runs here)
-              (let kept = goes.goes_on is known other refl heard in record { same = kept.same; is = kept.is; commit = kept.commit; job = kept.job; exit = kept.exit });
+              (let kept = goes.goes_on is known other refl heard in record { same = kept.same; is = kept.is; commit = kept.commit; job = kept.job; exit = kept.exit; looked = kept.looked });
           sliced = λ d here. subst (λ (x : Collection). Slices most x result now.collection) (same_running store.collection c d runs here) (same_slices result now.collection (goes.sliced known refl));
           whole = goes.whole;
           running = goes.running;
@@ -450,7 +450,7 @@ module _ (store : Store) (c : Collection) (runs : store.collection ≡ Some c) (
       span : Spared r records a b
       span = spared_by (Over.idle store r a held c runs) r a (Over.held_idle store r a held c runs) refl n (Over.other store r a held c runs) (Over.below store r a held c runs) NoFile (λ file none. absurd none) b listens.only.beside
 
-      same_repository : (command : Command) (met : Conditions) → IsTurn command → met.told.child ≡ Child.Ended reaped → repository_after r known command met ≡ repository_after r c command met
+      same_repository : (command : Command) (met : Conditions) → IsEnding command → met.told.child ≡ Child.Ended reaped → repository_after r known command met ≡ repository_after r c command met
       same_repository command met is ended = by c.exit may
         where
           by : (exit : Option Reaped) → MayBeHeard exit c.job.attempt (Child.Ended reaped) → repository_after r known command met ≡ (turned (state_at r (Phase.Collecting c.commit exit) empty_work) command met).1.repository
@@ -470,6 +470,7 @@ module _ (store : Store) (c : Collection) (runs : store.collection ≡ Some c) (
           recovers = λ pending. is.recovers (span.pending pending);
           nothing_pending = λ pending. is.nothing_pending (span.pending pending);
           flushed = λ pending. is.flushed (span.pending pending);
+          settled = is.settled;
         }
 
         finishes_known : (command : Command) → IsAsked command result → FinishesBy records r known command result store.unswept now b d → FinishesBy records r c command result store.unswept now a d
@@ -529,6 +530,7 @@ module _ (store : Store) (c : Collection) (runs : store.collection ≡ Some c) (
         recovers = λ pending has. absurd has;
         nothing_pending = λ pending has. absurd has;
         flushed = cut_span.flushed;
+        settled = λ has. absurd has;
       };
       remains = λ q here has. absurd has;
       same = λ q here has. absurd has;

@@ -2,8 +2,8 @@
 --     given_up, swept_on, sweeps_on      the store before a sweep and behind it.      same_exit, some_exit      an exit that is kept
 --     ends_open, ends_cut      where the check is not through, and where a fault cut it short
 --     ends_rejected      where what its child wrote is rejected.      ends_refused, ends_collected      where the swap was refused, and where it was done
---     counts_cut, counts_refused, counts_swept      what is counted.      whole_cut, whole_refused      no damage is found
-use Rattle.std.proofs.Common.{◌≡◌, ℕ, ◌<◌, Some, None, Option, refl, sym, ◌∙◌, ap, subst}
+--     counts_cut, counts_refused, counts_swept      what is counted.      undamaged_as      no damage was found
+use Rattle.std.proofs.Common.{◌≡◌, ℕ, ◌<◌, ◌≤◌, Some, None, Option, refl, sym, ◌∙◌, ap, subst}
 use Rattle.std.specs.Prelude.{IsSome, Result, Ok, Err, if◌then◌else◌, ◌==◌, ◌^◌, ◌-◌}
 use Rattle.ip_base.specs.declared.limit.TheConstants.{OFFSET_MAX}
 use Rattle.ip_base.specs.declared.limit.Limit.{Limit}
@@ -22,12 +22,12 @@ use Rattle.ip_store.specs.declared.finishing.FinishFault.{FinishFault}
 use Rattle.ip_store.specs.declared.finishing.Looked.{Looked}
 use Rattle.ip_store.specs.declared.finishing.Rejection.{Rejection}
 use Rattle.ip_store.specs.declared.store.Store.{Store}
-use Rattle.ip_store.specs.Ending.{Ends, FitsEnd}
+use Rattle.ip_store.specs.Ending.{Ends}
 use Rattle.ip_store.specs.Faults.{ground_finish}
-use Rattle.ip_store.specs.Finishing.{CountsFinish, IsCollected, IsUndamaged, LimitsFinish, swapped_slot}
-use Rattle.ip_store.specs.Judging.{FitsExit, IsCut, IsOpen, IsWhole, SlicesBy, is_zero, with_check}
+use Rattle.ip_store.specs.Finishing.{CountsFinish, IsCollected, IsUndamaged, LimitsFinish, looked_at, looked_of, swapped_slot}
+use Rattle.ip_store.specs.Judging.{FitsExit, IsCut, IsOpen, SlicesBy, is_zero, with_check}
 use Rattle.ip_store.specs.Store.{IsOf}
-use Rattle.ip_store.specs.Swapping.{Accepts, IsSwapFault, IsUndamaged as IsSwapUndamaged}
+use Rattle.ip_store.specs.Swapping.{Accepts, IsSwapFault}
 use Rattle.ip_store.specs.Sweeping.{IsSwept, SweepsFiles, swept_to}
 use Rattle.ip_store.proofs.Cancels.{over, over_tables, unswept_is, unswept_now}
 
@@ -54,13 +54,9 @@ counts_refused (FinishFault.Rejected rejection) a b d may same is = absurd may
 pub counts_swept : (left : ℕ) (a b d : GroundCounts) → b ≡ a → CountsLeft left b d → CountsLeft left a d
 counts_swept left a b d same is = subst (λ (g : GroundCounts). CountsLeft left g d) same is
 
-pub whole_cut : (fault : FinishFault) → IsWhole (Err fault) → IsUndamaged (Err fault)
-whole_cut (FinishFault.Damaged at) is = is
-whole_cut _ is = tt
-
-pub whole_refused : (fault : FinishFault) → IsSwapUndamaged (Err fault) → IsUndamaged (Err fault)
-whole_refused (FinishFault.Damaged at) is = is
-whole_refused _ is = tt
+pub undamaged_as : (A B : Type 0) (fault : FinishFault) → IsUndamaged {A = A} (Err fault) → IsUndamaged {A = B} (Err fault)
+undamaged_as A B (FinishFault.Damaged at) is = is
+undamaged_as A B _ is = tt
 
 -- ---- the store before and behind a sweep
 
@@ -85,13 +81,14 @@ some_exit exit reaped is = subst (λ (o : Option Reaped). IsSome o) (sym is) ref
 pub no_limit : (result : Result Looked FinishFault) (store : Store) → ((limit : Limit) → result ≡ Err (FinishFault.Limit limit) → ⊥) → ¬ IsCollected result → LimitsFinish result store
 no_limit result store none not = record { sequence = λ limit is. absurd (none limit is); enough = λ collected. absurd (not collected) }
 
-module _ (store : Store) (c : Collection) (reaped : Reaped) (most : ℕ) (check : Option CheckView) (mid : Store) (is : mid ≡ with_check store c check) (tables : (r : Repository) → IsOf store r → IsOf mid r) where
+module _ (store : Store) (c : Collection) (reaped : Reaped) (most : ℕ) (check : Option CheckView) (mid : Store) (is : mid ≡ with_check store c check) (looked : looked_at c ≤ looked_of check)
+    (tables : (r : Repository) → IsOf store r → IsOf mid r) where
   pub ends_open : (bytes : ℕ) → FitsExit reaped.exit (Ok (Verdict.Open bytes)) → SlicesBy most c (Ok (Verdict.Open bytes)) mid.collection → (most ≡ 2 ^ 64 - 1 → ¬ IsOpen (Ok (Verdict.Open bytes)))
       → Ends reaped.exit most c (Ok (Looked.Checking bytes)) 0 store mid
   ends_open bytes fits slices whole = record {
     fits = fits;
     none = λ no. refl;
-    goes_on = (check, ap (λ (s : Store). s.collection) is);
+    goes_on = (check, ap (λ (s : Store). s.collection) is, looked);
     tables = λ r of has. tables r of;
     sliced = slices;
     whole = whole;
@@ -104,7 +101,7 @@ module _ (store : Store) (c : Collection) (reaped : Reaped) (most : ℕ) (check 
   ends_cut FinishFault.Ground fits = record {
     fits = fits.0;
     none = λ no. refl;
-    goes_on = (check, ap (λ (s : Store). s.collection) is);
+    goes_on = (check, ap (λ (s : Store). s.collection) is, looked);
     tables = λ r of has. absurd has;
     sliced = tt;
     whole = λ all no. no;
@@ -115,7 +112,7 @@ module _ (store : Store) (c : Collection) (reaped : Reaped) (most : ℕ) (check 
   ends_cut (FinishFault.Damaged at) fits = record {
     fits = fits.0;
     none = λ no. refl;
-    goes_on = (check, ap (λ (s : Store). s.collection) is);
+    goes_on = (check, ap (λ (s : Store). s.collection) is, looked);
     tables = λ r of has. absurd has;
     sliced = tt;
     whole = λ all no. no;
@@ -126,7 +123,7 @@ module _ (store : Store) (c : Collection) (reaped : Reaped) (most : ℕ) (check 
   ends_cut FinishFault.Memory fits = record {
     fits = fits.0;
     none = λ no. refl;
-    goes_on = (check, ap (λ (s : Store). s.collection) is);
+    goes_on = (check, ap (λ (s : Store). s.collection) is, looked);
     tables = λ r of has. tables r of;
     sliced = tt;
     whole = λ all no. no;
@@ -143,7 +140,7 @@ module _ (store : Store) (c : Collection) (reaped : Reaped) (most : ℕ) (check 
   pub ends_rejected : (rejection : Rejection) (left : ℕ) (now : Store) → now ≡ record (with_check store c check) { collection = None; unswept = unswept_now store left } → FitsExit reaped.exit (Ok (Verdict.Rejected rejection))
       → Ends reaped.exit most c (Err (FinishFault.Rejected rejection)) left store now
   ends_rejected rejection left now now_is fits = subst (λ (s : Store). Ends reaped.exit most c (Err (FinishFault.Rejected rejection)) left store s) (sym now_is) (record {
-    fits = by rejection fits;
+    fits = fits;
     none = λ no. absurd (no tt);
     goes_on = refl;
     tables = λ r of has. over_tables store r (unswept_now store left) store.met (unswept_is store r left of) of;
@@ -153,10 +150,6 @@ module _ (store : Store) (c : Collection) (reaped : Reaped) (most : ℕ) (check 
     slot = refl;
     unswept = refl;
   })
-    where
-      by : (x : Rejection) → FitsExit reaped.exit (Ok (Verdict.Rejected x)) → FitsEnd reaped.exit c left (Err (FinishFault.Rejected x))
-      by (Rejection.Exit e) is = is
-      by (Rejection.Differs difference) is = is
 
   module _ (zero : is_zero reaped.exit) (now : Store) where
     -- it was asked for with some tables
@@ -164,7 +157,7 @@ module _ (store : Store) (c : Collection) (reaped : Reaped) (most : ℕ) (check 
     ends_refused q of FinishFault.Ground may accepts = (let same = accepts q (tables q of) ∙ is in record {
       fits = zero;
       none = λ no. refl;
-      goes_on = (check, ap (λ (s : Store). s.collection) same);
+      goes_on = (check, ap (λ (s : Store). s.collection) same, looked);
       tables = λ r of has. absurd has;
       sliced = tt;
       whole = λ all no. no;
@@ -175,7 +168,7 @@ module _ (store : Store) (c : Collection) (reaped : Reaped) (most : ℕ) (check 
     ends_refused q of (FinishFault.Damaged at) may accepts = (let same = accepts q (tables q of) ∙ is in record {
       fits = zero;
       none = λ no. refl;
-      goes_on = (check, ap (λ (s : Store). s.collection) same);
+      goes_on = (check, ap (λ (s : Store). s.collection) same, looked);
       tables = λ r of has. absurd has;
       sliced = tt;
       whole = λ all no. no;
@@ -186,7 +179,7 @@ module _ (store : Store) (c : Collection) (reaped : Reaped) (most : ℕ) (check 
     ends_refused q of FinishFault.Memory may accepts = (let same = accepts q (tables q of) ∙ is in record {
       fits = zero;
       none = λ no. refl;
-      goes_on = (check, ap (λ (s : Store). s.collection) same);
+      goes_on = (check, ap (λ (s : Store). s.collection) same, looked);
       tables = λ p there has. subst (λ (s : Store). IsOf s p) (sym (accepts q (tables q of))) (tables p there);
       sliced = tt;
       whole = λ all no. no;

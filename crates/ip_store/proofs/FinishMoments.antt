@@ -4,9 +4,8 @@
 --     stays_by      where the repository stays.      kept_on, cut_by      where the collection goes on, or a fault cut the check short
 --     swept_out      where what its child wrote is rejected, and swept away
 --     refused_by      where the swap was refused, or cut short.      collected_by      where the store went over to the pair
-use Rattle.std.proofs.Common.{◌≡◌, ◌⊎◌, inl, inr, ℕ, ◌+◌, ◌<◌, ◌≤◌, [], ◌∷◌, Some, None, Option, refl, sym, ◌∙◌, ap, subst, arith}
+use Rattle.std.proofs.Common.{◌≡◌, ◌⊎◌, inl, inr, ℕ, ◌+◌, ◌<◌, Some, None, Option, refl, sym, ◌∙◌, ap, subst, arith}
 use Rattle.std.specs.Prelude.{Result, Ok, Err, IfSome, if◌then◌else◌, ◌==◌, ◌^◌, ◌-◌}
-use Rattle.std.specs.List.{AllByRecursion}
 use Rattle.ip_base.specs.declared.limit.Limit.{Limit}
 use Rattle.ip_ground.specs.declared.names.FileName.{FileName}
 use Rattle.ip_ground.specs.declared.names.FileName.TheVariants.{Control, Mapping, Prefix}
@@ -18,7 +17,6 @@ use Rattle.ip_ground.proofs.Lending.{own_settled, settled_stays}
 use Rattle.ip_ground.proofs.Spans.{goes_on, only_more, only_on}
 use Rattle.ip_spec.specs.declared.met.Child.TheVariants as Child
 use Rattle.ip_spec.specs.declared.met.Met.{Met}
-use Rattle.ip_spec.specs.declared.record.Record.{Record}
 use Rattle.ip_spec.specs.declared.reply.Difference.{Difference}
 use Rattle.ip_spec.specs.Repository.{Repository}
 use Rattle.ip_spec.specs.Step.{collected_at}
@@ -29,8 +27,8 @@ use Rattle.ip_image.specs.Collection.{Pair, Found, IsValid, IsKept as AreKept, f
 use Rattle.ip_image.specs.Headline.{RecoversTo, IsAtomic}
 use Rattle.ip_image.specs.Pending.{crash_now, NothingPending}
 use Rattle.ip_image.specs.Standing.{Standing}
-use Rattle.ip_image.proofs.CoreTies.{image_ordered, image_rises, some_valid, valid_since}
-use Rattle.ip_image.proofs.PairLaws.{Has, one_valid}
+use Rattle.ip_image.proofs.CoreTies.{image_rises, some_valid, valid_since}
+use Rattle.ip_image.proofs.PairLaws.{one_valid}
 use Rattle.ip_check.specs.Checking.{IsVerdict}
 use Rattle.ip_check.specs.CheckView.{CheckView}
 use Rattle.ip_store.specs.declared.checking.Verdict.{Verdict}
@@ -57,11 +55,6 @@ use Rattle.ip_store.proofs.KeptFiles.{keeps_on, keeps_store, keeps_swept}
 use Rattle.ip_store.proofs.Recovering.{recovers_now}
 use Rattle.ip_store.proofs.Stepping.{in_itself, same_holds}
 use Rattle.ip_store.proofs.Swept.{foreign_on}
-
-all_has : (P : ℕ × Record → Type 0) (xs : Records) (x : ℕ × Record) → AllByRecursion P xs → Has xs x → P x
-all_has P [] x all has = absurd has
-all_has P (y ∷ xs) x all (inl is) = subst P is all.0
-all_has P (y ∷ xs) x all (inr has) = all_has P xs x all.1 has
 
 -- a store that has noted what was met
 pub noted_holds : (store : Store) (met : Met) (told : Told) (r : Repository) → Holds store told r → Holds (record store { met = met }) told r
@@ -150,6 +143,7 @@ module _ (store : Store) (r : Repository) (a : Told) (held : Holds store a r) (c
         recovers = λ pending has. subst (RecoversTo (crash_now b)) (sym (same has)) (recovers_now now r b (holds has) (span.pending pending));
         nothing_pending = λ pending has. span.pending pending;
         flushed = span.flushed;
+        settled = λ has. (ended.pair, ends_stays n (MayTouch result now store.unswept) a b changes ended.pair ended.settled);
       };
       remains = λ q here collected. absurd (not collected);
       same = λ q here has no. span.same here.stands.standing;
@@ -276,6 +270,7 @@ module _ (store : Store) (r : Repository) (a : Told) (held : Holds store a r) (c
                 recovers = λ pending has. absurd has;
                 nothing_pending = λ pending has. absurd has;
                 flushed = λ pending. is.flushed (span_still.pending pending);
+                settled = λ has. absurd has;
               };
               remains = λ q here collected. absurd collected;
               same = λ q here has. absurd has;
@@ -388,6 +383,7 @@ module _ (store : Store) (r : Repository) (a : Told) (held : Holds store a r) (c
                 recovers = λ pending has. recovers_now done q f done_holds (pending_then pending);
                 nothing_pending = λ pending has. pending_then pending;
                 flushed = λ pending. span_swept.flushed (is.nothing_pending (span_still.pending pending));
+                settled = λ has. (ended.pair, ends_stays n Touched a f changes_all ended.pair ended.settled);
               };
               remains = λ p here has. (
                   let there = is.remains q is.holds in (

@@ -2,27 +2,21 @@
 --     listens_at      the end of a child is heard.      listens_none      it was known
 --     Spared r records a b      a span over which the repository stays.      spared_by      of a change of files apart from the store
 --     either_less      what a crash may leave of an earlier moment.      atomic_front, atomic_behind      a span before and behind one that turns from one repository to the next
-use Rattle.std.proofs.Common.{◌≡◌, ◌≢◌, inl, inr, ℕ, ◌+◌, ◌<◌, ◌≤◌, Bool, true, false, [], ◌∷◌, ◌++◌, length, None, refl, sym, ◌∙◌, ap, subst, arith}
-use Rattle.std.specs.Prelude.{Result, Ok, Err, nat_lt, if◌then◌else◌}
-use Rattle.std.specs.List.{AllByRecursion}
+use Rattle.std.proofs.Common.{◌≡◌, ◌≢◌, inl, inr, ℕ, ◌<◌, ◌≤◌, None, subst}
+use Rattle.std.specs.Prelude.{Result, Ok, Err}
 use Rattle.std.proofs.lemmas.Bool.{cases_lt}
-use Rattle.std.proofs.lemmas.Bool.Decides.{nat_tests}
 use Rattle.ip_ground.specs.declared.names.FileName.{FileName}
 use Rattle.ip_ground.specs.declared.names.GroundFault.{GroundFault}
 use Rattle.ip_ground.specs.Calls.{Settles}
 use Rattle.ip_ground.specs.Contents.{Content}
 use Rattle.ip_ground.specs.Told.{Told, KeepsPast, NoFile}
 use Rattle.ip_ground.proofs.Spans.{only_nowhere}
-use Rattle.ip_spec.specs.declared.record.Record.{Record}
-use Rattle.ip_spec.specs.Record.{spelling}
 use Rattle.ip_spec.specs.Repository.{Repository}
 use Rattle.ip_spec.specs.TreeAt.{Records}
 use Rattle.ip_image.specs.Headline.{RecoversTo, RecoversToEither, IsAtomic}
 use Rattle.ip_image.specs.Pending.{Crash, crash_at, crash_now, NothingPending, AllFlushed}
 use Rattle.ip_image.specs.Standing.{Standing}
 use Rattle.ip_image.proofs.HeadlineLaws.{flushed_less}
-use Rattle.ip_image.proofs.KeptRuns.{Ordered}
-use Rattle.ip_store.specs.Collecting.{until}
 use Rattle.ip_store.specs.Ending.{Listens}
 use Rattle.ip_store.specs.Store.{Holds}
 use Rattle.ip_store.specs.declared.store.Store.{Store}

@@ -1,10 +1,10 @@
 -- What the machine answers to a look and to a finish.
---     IsTurn command      it is one of the two.      turn_of, not_both      a command that asks for an answer is
---     turns_quiet      where nothing was heard of the child's end.      quiet_met      what is met then
+--     IsEnding command      it is one of the two.      turn_of      a command that asks for an answer is
+--     turns_none, turns_wait, turns_runs      where nothing was heard of the child's end.      met_of      what is met
 --     turns_end      where it has ended: the reply and the next state, by the answer.      repository_is      the repository then, also where there is no reply
 --     told_difference      the difference that an answer tells
 --     turned_heard, met_heard      whether the exit was kept before, or is heard now, it is the same turn
-use Rattle.std.proofs.Common.{◌≡◌, ◌⊎◌, inl, inr, ℕ, zero, suc, ◌<◌, pos, Option, Some, None, Result, Ok, Err, refl, sym, ◌∙◌, ap, subst, arith}
+use Rattle.std.proofs.Common.{◌≡◌, inl, inr, ℕ, zero, suc, ◌<◌, pos, Option, Some, None, Result, Ok, Err, refl, sym, ◌∙◌, ap, subst, arith}
 use Rattle.std.specs.Prelude.{true, false, Bool, negsuc, IfSome, if◌then◌else◌}
 use Rattle.ip_base.specs.declared.limit.Limit.{Limit}
 use Rattle.ip_ground.specs.declared.names.Exit.{Exit}
@@ -27,17 +27,20 @@ use Rattle.ip_store.specs.Finishing.{HasAnswer, IsAsked, IsSweptBehind, LookRepl
 use Rattle.ip_store.specs.Judging.{is_zero}
 use Rattle.ip_store.specs.Work.{state_at}
 
-abbrev pub IsTurn : Command → Type 0
-IsTurn command = (command ≡ Command.Look) ⊎ (command ≡ Command.Finish)
+abbrev pub IsEnding : Command → Type 0
+IsEnding Command.Look = Unit {0}
+IsEnding Command.Finish = Unit {0}
+IsEnding command = ⊥
 
-pub turn_of : (command : Command) (result : Result Looked FinishFault) → IsAsked command result → IsTurn command
-turn_of Command.Look result asked = inl refl
-turn_of Command.Finish result asked = inr refl
+pub turn_of : (command : Command) (result : Result Looked FinishFault) → IsAsked command result → IsEnding command
+turn_of Command.Look result asked = tt
+turn_of Command.Finish result asked = tt
 turn_of _ result asked = absurd asked
 
-either : (P : Command → Type 0) (command : Command) → IsTurn command → P Command.Look → P Command.Finish → P command
-either P command (inl is) look finish = subst P (sym is) look
-either P command (inr is) look finish = subst P (sym is) finish
+either : (P : Command → Type 0) (command : Command) → IsEnding command → P Command.Look → P Command.Finish → P command
+either P Command.Look is look finish = look
+either P Command.Finish is look finish = finish
+either P _ is look finish = absurd is
 
 -- a finish gets no answer of a check that is not through
 looks : (bytes : ℕ) (command : Command) → IsAsked command (Ok (Looked.Checking bytes)) → command ≡ Command.Look
@@ -60,7 +63,7 @@ none_left : (P : Type 0) → 0 < 0 → P
 none_left P l = absurd (omega (arith, l))
 
 module _ (r : Repository) (work : Work) (difference : Option Difference) where
-  turns_idle : (command : Command) → IsTurn command → TurnsBy (state_at r Phase.Idle work) command (met_of Child.NotAsked (Err FinishFault.Idle) 0 difference) Reply.Idle (state_at r Phase.Idle work)
+  turns_idle : (command : Command) → IsEnding command → TurnsBy (state_at r Phase.Idle work) command (met_of Child.NotAsked (Err FinishFault.Idle) 0 difference) Reply.Idle (state_at r Phase.Idle work)
   unfolding outcome turned
   turns_idle command is = (
     record {
@@ -75,7 +78,7 @@ module _ (r : Repository) (work : Work) (difference : Option Difference) where
     either (λ (k : Command). turned (state_at r Phase.Idle work) k (met_of Child.NotAsked (Err FinishFault.Idle) 0 difference) ≡ (Reply.Idle, state_at r Phase.Idle work)) command is refl refl,
   )
 
-  turns_fault : (n : ℕ) (command : Command) → IsTurn command → TurnsBy (state_at r (Phase.Collecting n None) work) command (met_of Child.Fault (Err FinishFault.Wait) 0 difference) Reply.WaitFault (state_at r (Phase.Collecting n None) work)
+  turns_fault : (n : ℕ) (command : Command) → IsEnding command → TurnsBy (state_at r (Phase.Collecting n None) work) command (met_of Child.Fault (Err FinishFault.Wait) 0 difference) Reply.WaitFault (state_at r (Phase.Collecting n None) work)
   unfolding outcome turned
   turns_fault n command is = (
     record {
@@ -153,15 +156,15 @@ module _ (r : Repository) (n : ℕ) (reaped : Reaped) (work : Work) where
   abbrev judged : Conditions → Exit → Turned
   judged met exit = or_refused before (verdict_turn before n met (verdict_on exit met.difference))
 
-  gives_checking : (bytes left : ℕ) (difference : Option Difference) (command : Command) → IsTurn command → Gives (Ok (Looked.Checking bytes)) left difference (Reply.Checking bytes) before command
+  gives_checking : (bytes left : ℕ) (difference : Option Difference) (command : Command) → IsEnding command → Gives (Ok (Looked.Checking bytes)) left difference (Reply.Checking bytes) before command
   unfolding outcome turned
   gives_checking bytes left difference command is = either (Gives (Ok (Looked.Checking bytes)) left difference (Reply.Checking bytes) before) command is refl refl
 
-  gives_memory : (left : ℕ) (difference : Option Difference) (command : Command) → IsTurn command → Gives (Err FinishFault.Memory) left difference Reply.Memory before command
+  gives_memory : (left : ℕ) (difference : Option Difference) (command : Command) → IsEnding command → Gives (Err FinishFault.Memory) left difference Reply.Memory before command
   unfolding outcome turned
   gives_memory left difference command is = either (Gives (Err FinishFault.Memory) left difference Reply.Memory before) command is refl refl
 
-  gives_exit : (left : ℕ) (difference : Option Difference) → ¬ is_zero reaped.exit → (command : Command) → IsTurn command → Gives (Err (FinishFault.Rejected (Rejection.Exit reaped.exit))) left difference (Reply.RejectedExit reaped.exit) (over r) command
+  gives_exit : (left : ℕ) (difference : Option Difference) → ¬ is_zero reaped.exit → (command : Command) → IsEnding command → Gives (Err (FinishFault.Rejected (Rejection.Exit reaped.exit))) left difference (Reply.RejectedExit reaped.exit) (over r) command
   unfolding outcome turned
   gives_exit left difference not command is =
       let m = met_of (Child.Ended reaped) (Err (FinishFault.Rejected (Rejection.Exit reaped.exit))) left difference in
@@ -169,19 +172,19 @@ module _ (r : Repository) (n : ℕ) (reaped : Reaped) (work : Work) where
       either (Gives (Err (FinishFault.Rejected (Rejection.Exit reaped.exit))) left difference (Reply.RejectedExit reaped.exit) (over r)) command is same same
 
   module _ (zero : is_zero reaped.exit) where
-    gives_differs : (left : ℕ) (d : Difference) (command : Command) → IsTurn command → Gives (Err (FinishFault.Rejected (Rejection.Differs d))) left (Some d) (Reply.Rejected d) (over r) command
+    gives_differs : (left : ℕ) (d : Difference) (command : Command) → IsEnding command → Gives (Err (FinishFault.Rejected (Rejection.Differs d))) left (Some d) (Reply.Rejected d) (over r) command
     unfolding outcome turned
     gives_differs left d command is =
         let same = ap (judged (met_of (Child.Ended reaped) (Err (FinishFault.Rejected (Rejection.Differs d))) left (Some d))) zero in
         either (Gives (Err (FinishFault.Rejected (Rejection.Differs d))) left (Some d) (Reply.Rejected d) (over r)) command is same same
 
-    gives_short : (left : ℕ) (command : Command) → IsTurn command → Gives (Err (FinishFault.Limit Limit.Sequence)) left None (Reply.Limit Limit.Sequence) (over r) command
+    gives_short : (left : ℕ) (command : Command) → IsEnding command → Gives (Err (FinishFault.Limit Limit.Sequence)) left None (Reply.Limit Limit.Sequence) (over r) command
     unfolding outcome turned
     gives_short left command is =
         let same = ap (judged (met_of (Child.Ended reaped) (Err (FinishFault.Limit Limit.Sequence)) left None)) zero in
         either (Gives (Err (FinishFault.Limit Limit.Sequence)) left None (Reply.Limit Limit.Sequence) (over r)) command is same same
 
-    gives_collected : (left : ℕ) (command : Command) → IsTurn command → Gives (Ok (Looked.Collected (record { floor = n; left = left }))) left None (Reply.Collected n left) (over (collected_at r n)) command
+    gives_collected : (left : ℕ) (command : Command) → IsEnding command → Gives (Ok (Looked.Collected (record { floor = n; left = left }))) left None (Reply.Collected n left) (over (collected_at r n)) command
     unfolding outcome turned
     gives_collected left command is =
         let same = ap (judged (met_of (Child.Ended reaped) (Ok (Looked.Collected (record { floor = n; left = left }))) left None)) zero in
@@ -191,7 +194,7 @@ module _ (r : Repository) (n : ℕ) (reaped : Reaped) (work : Work) where
     abbrev Leaves : FinishFault → ℕ → Option Difference → Repository → Command → Type 0
     Leaves fault left difference after command = (turned before command (met_of (Child.Ended reaped) (Err fault) left difference)).1.repository ≡ after
 
-    leaves_ground : (left : ℕ) (difference : Option Difference) (c : Collection) → c.commit ≡ n → (command : Command) → IsTurn command → Leaves FinishFault.Ground left difference (after_cut difference r c) command
+    leaves_ground : (left : ℕ) (difference : Option Difference) (c : Collection) → c.commit ≡ n → (command : Command) → IsEnding command → Leaves FinishFault.Ground left difference (after_cut difference r c) command
     unfolding outcome turned
     leaves_ground left None c same command is =
         let e = ap (λ (x : Exit). (judged (met_of (Child.Ended reaped) (Err FinishFault.Ground) left None) x).1.repository) zero ∙ ap (collected_at r) (sym same) in
@@ -200,7 +203,7 @@ module _ (r : Repository) (n : ℕ) (reaped : Reaped) (work : Work) where
         let e = ap (λ (x : Exit). (judged (met_of (Child.Ended reaped) (Err FinishFault.Ground) left (Some d)) x).1.repository) zero in
         either (Leaves FinishFault.Ground left (Some d) r) command is e e
 
-    leaves_damaged : (at left : ℕ) (difference : Option Difference) (c : Collection) → c.commit ≡ n → (command : Command) → IsTurn command → Leaves (FinishFault.Damaged at) left difference (after_cut difference r c) command
+    leaves_damaged : (at left : ℕ) (difference : Option Difference) (c : Collection) → c.commit ≡ n → (command : Command) → IsEnding command → Leaves (FinishFault.Damaged at) left difference (after_cut difference r c) command
     unfolding outcome turned
     leaves_damaged at left None c same command is =
         let e = ap (λ (x : Exit). (judged (met_of (Child.Ended reaped) (Err (FinishFault.Damaged at)) left None) x).1.repository) zero ∙ ap (collected_at r) (sym same) in
@@ -211,7 +214,7 @@ module _ (r : Repository) (n : ℕ) (reaped : Reaped) (work : Work) where
 
   -- ---- what is met
 
-  is_met : (result : Result Looked FinishFault) (left : ℕ) (difference : Option Difference) (reply : Reply) (command : Command) → IsTurn command → IfSome (checking_in result) (λ bytes. (command ≡ Command.Look) × is_zero reaped.exit)
+  is_met : (result : Result Looked FinishFault) (left : ℕ) (difference : Option Difference) (reply : Reply) (command : Command) → IsEnding command → IfSome (checking_in result) (λ bytes. (command ≡ Command.Look) × is_zero reaped.exit)
       → (0 < left → IsSwept reply) → IfSome (short_in result) (λ limit. (reply ≡ Reply.Limit limit) × MayBeShort limit) → IsMet before command (met_of (Child.Ended reaped) result left difference) reply
   is_met result left difference reply command is checking swept short = record {
     child = either (λ (k : Command). MayHear (Phase.Collecting n (Some reaped)) k (Child.Ended reaped)) command is refl refl;
@@ -245,7 +248,7 @@ module _ (r : Repository) (c : Collection) (reaped : Reaped) where
   abbrev TurnsFor : Result Looked FinishFault → ℕ → Option Difference → Command → Type 0
   TurnsFor result left difference command = LookReplies result (TurnsSo result left difference command)
 
-  collected_turns : (x : Collected) (left : ℕ) (difference : Option Difference) → FitsEnd reaped.exit c left (Ok (Looked.Collected x)) → difference ≡ None → (command : Command) → IsTurn command → TurnsSo (Ok (Looked.Collected x)) left difference command (Reply.Collected x.floor x.left)
+  collected_turns : (x : Collected) (left : ℕ) (difference : Option Difference) → FitsEnd reaped.exit c left (Ok (Looked.Collected x)) → difference ≡ None → (command : Command) → IsEnding command → TurnsSo (Ok (Looked.Collected x)) left difference command (Reply.Collected x.floor x.left)
   collected_turns x left difference fits tells command is work =
       let one : Collected = record { floor = c.commit; left = left } in
       subst (λ (d : Option Difference). TurnsBy (kept_state work) command (met_of (Child.Ended reaped) (Ok (Looked.Collected x)) left d) (Reply.Collected x.floor x.left) (state_at (collected_at r c.commit) Phase.Idle work)) (sym tells)
@@ -385,13 +388,13 @@ module _ (r : Repository) (n : ℕ) (reaped : Reaped) (work : Work) where
   same_turn cs true = refl
   same_turn cs false = same_check cs cs.told.checking
 
-  pub turned_heard : (cs : Conditions) (command : Command) → IsTurn command → cs.told.child ≡ Child.Ended reaped → turned unheard command cs ≡ turned known command cs
+  pub turned_heard : (cs : Conditions) (command : Command) → IsEnding command → cs.told.child ≡ Child.Ended reaped → turned unheard command cs ≡ turned known command cs
   unfolding outcome turned
   turned_heard cs command is ended =
       let same : turned_from unheard cs cs.told.child ≡ turned_from known cs cs.told.child = subst (λ (k : Child). turned_from unheard cs k ≡ turned_from known cs k) (sym ended) (same_turn cs cs.told.refused) in
       either (λ (k : Command). turned unheard k cs ≡ turned known k cs) command is same same
 
-  pub met_heard : (cs : Conditions) (command : Command) (reply : Reply) → IsTurn command → cs.told.child ≡ Child.Ended reaped → IsMet known command cs reply → IsMet unheard command cs reply
+  pub met_heard : (cs : Conditions) (command : Command) (reply : Reply) → IsEnding command → cs.told.child ≡ Child.Ended reaped → IsMet known command cs reply → IsMet unheard command cs reply
   met_heard cs command reply is ended meets = record {
     child = subst (λ (k : Child). MayHear (Phase.Collecting n None) command k) (sym ended) (either (λ (k : Command). MayHear (Phase.Collecting n None) k (Child.Ended reaped)) command is (inl tt) (inl tt));
     checking = meets.checking;

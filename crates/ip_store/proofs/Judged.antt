@@ -3,10 +3,10 @@
 --     with_tables, with_holds      with a check that is kept, or none
 --     job_space, kept_check      what its check begins with
 --     over_here      the records below the job's end are those of its check
---     begun_next      the check that begins.      same_one, has_exit, put_check      the collection that keeps it
---     sliced_tables, sliced_holds, sliced_says, slices      behind a slice of it.      begins_over, begins_checking      what a slice asks
+--     begun_next      the check that begins.      none_looked      none was kept.      same_one, has_exit, put_check      the collection that keeps it
+--     sliced_tables, sliced_holds, sliced_says, slices, looks_on      behind a slice of it.      begins_over, begins_checking      what a slice asks
 --     zero_fits, ends_through, not_open, no_damage, counts_check      what an answer of it says
-use Rattle.std.proofs.Common.{◌≡◌, ◌≢◌, ◌⊎◌, inl, inr, ℕ, ◌+◌, ◌-◌, ◌^◌, ◌<◌, pos, Option, Some, None, true, refl, sym, ◌∙◌, ap, subst, arith}
+use Rattle.std.proofs.Common.{◌≡◌, ◌≢◌, ◌⊎◌, inl, inr, ℕ, ◌+◌, ◌-◌, ◌^◌, ◌<◌, ◌≤◌, pos, Option, Some, None, true, refl, sym, ◌∙◌, ap, subst, arith}
 use Rattle.std.proofs.lemmas.Bool.{false≢true}
 use Rattle.std.specs.Prelude.{Result, Ok, Err, IsSome, IfSome, IfOk, OnOk, is_some}
 use Rattle.ip_base.specs.declared.memory.Memory.{Memory}
@@ -36,19 +36,20 @@ use Rattle.ip_keep.specs.Whole.{AreRecords}
 use Rattle.ip_keep.proofs.RunsApart.{apart_few, apart_total}
 use Rattle.ip_check.specs.CheckView.{CheckView}
 use Rattle.ip_check.specs.Checking.{Advances, EndsAs, IsCheck, IsChecking, IsSpaceOf, IsVerdict, SameCheck, Says, begun, looked_by}
-use Rattle.ip_check.specs.Faults.{IsUndamaged, ground_check}
+use Rattle.ip_check.specs.Faults.{IsUndamaged as IsCheckUndamaged, ground_check}
 use Rattle.ip_check.specs.Going.{IsOver}
 use Rattle.ip_check.specs.declared.check.Outcome.{Outcome}
 use Rattle.ip_check.specs.declared.fault.CheckFault.{CheckFault}
 use Rattle.ip_store.specs.declared.collection.Collection.{Collection}
 use Rattle.ip_store.specs.declared.store.Store.{Store}
-use Rattle.ip_store.specs.Collecting.{Collects, HasEnded, IsGoing, IsOfChild, IsPhase, IsPhaseOf, until}
+use Rattle.ip_store.specs.Collecting.{Collects, HasEnded, IsGoing, IsOfChild, IsPhase, until}
 use Rattle.ip_store.specs.Faults.{ground_finish}
-use Rattle.ip_store.specs.Judging.{EndsCheck, FitsExit, IsCheckOf, IsNextCheck, IsOpen, IsWhole, SlicesBy, TellsVerdict, verdict_by, with_check}
+use Rattle.ip_store.specs.Finishing.{IsUndamaged, looked_at, looked_of}
+use Rattle.ip_store.specs.Judging.{EndsCheck, FitsExit, IsCheckOf, IsNextCheck, IsOpen, SlicesBy, TellsVerdict, verdict_by, with_check}
 use Rattle.ip_store.specs.Store.{IsOf, Holds}
 use Rattle.ip_store.specs.Sweeping.{IsApart, ChangesBeside}
 use Rattle.ip_store.proofs.Apart.{beside_for, holds_apart, list_apart}
-use Rattle.ip_store.proofs.Cancels.{for_settle}
+use Rattle.ip_store.proofs.Cancels.{below, for_settle, other}
 use Rattle.ip_store.proofs.Listed.{readable_of, same_slot}
 use Rattle.ip_store.proofs.Recovering.{held_has}
 use Rattle.ip_store.proofs.Going.{phase_here, going_here, collects_here}
@@ -98,12 +99,6 @@ module _ (store : Store) (r : Repository) (c : Collection) (runs : store.collect
       held_idle : Holds (having None) a r
       held_idle = running_holds store r None store.met a tt tt held tt
 
-      other : n ≢ store.slot.live
-      other is = (let told = (phase_here store r c runs held.tables).told in absurd (omega (arith, is, told.live, told.valid.live)))
-
-      below : n < store.slot.next_attempt
-      below = (let told = (phase_here store r c runs held.tables).told in omega (arith, told.attempt))
-
       apart : (file : FileName) → NoFile file → IsApart store.slot file
       apart file nowhere = absurd nowhere
 
@@ -111,10 +106,10 @@ module _ (store : Store) (r : Repository) (c : Collection) (runs : store.collect
       changes = beside_for n NoFile a b (for_settle n NoFile u a b ours)
 
       was : Holds (having None) b r
-      was = holds_apart (having None) r a held_idle refl n other below NoFile apart b changes
+      was = holds_apart (having None) r a held_idle refl n (other store r a held c runs) (below store r a held c runs) NoFile apart b changes
 
       records : was.stands.standing.records ≡ held.stands.standing.records
-      records = list_apart (having None) r a held_idle refl n other below NoFile apart b changes was.stands.standing ∙ all_records a.held held_idle.stands.standing held.stands.standing
+      records = list_apart (having None) r a held_idle refl n (other store r a held c runs) (below store r a held c runs) NoFile apart b changes was.stands.standing ∙ all_records a.held held_idle.stands.standing held.stands.standing
 
       abbrev before : Records
       before = held.stands.standing.records
@@ -271,8 +266,12 @@ module _ (store : Store) (r : Repository) (c : Collection) (runs : store.collect
         sliced_says (Ok (Outcome.Differs difference)) left says = subst (λ (j : Job). IsVerdict (until c.job.end held.stands.standing.records) j (found_in a.held j.attempt) (Some difference)) next.of.job says
         sliced_says (Err fault) left says = tt
 
+      -- what was looked at is not to be looked at again
+      pub looks_on : (most : ℕ) (result : Result Outcome CheckFault) → Advances most k now result → looked_at c ≤ looked_by now
+      looks_on most result goes = subst (λ (n : ℕ). n ≤ looked_by now) next.looked goes.low
+
       pub slices : (most left : ℕ) (result : Result Outcome CheckFault) → Advances most k now result → left + now.keep.next ≡ now.job.end → SlicesBy most c (verdict_by result left) (Some (record c { check = Some now }))
-      slices most left (Ok Outcome.More) goes rest = (goes.more refl ∙ ap (λ (n : ℕ). n + most) next.looked, rest ∙ ap (λ (j : Job). j.end) (same.job ∙ next.of.job))
+      slices most left (Ok Outcome.More) goes rest = (goes.ends, goes.more refl ∙ ap (λ (n : ℕ). n + most) next.looked, rest ∙ ap (λ (j : Job). j.end) (same.job ∙ next.of.job))
       slices most left (Ok Outcome.Valid) goes rest = tt
       slices most left (Ok (Outcome.Differs difference)) goes rest = tt
       slices most left (Err fault) goes rest = tt
@@ -311,7 +310,7 @@ not_open most k now (Ok Outcome.Valid) left is goes all not = not
 not_open most k now (Ok (Outcome.Differs difference)) left is goes all not = not
 not_open most k now (Err fault) left is goes all not = not
 
-pub no_damage : (result : Result Outcome CheckFault) (left : ℕ) → IsUndamaged result → IsWhole (verdict_by result left)
+pub no_damage : (result : Result Outcome CheckFault) (left : ℕ) → IsCheckUndamaged result → IsUndamaged (verdict_by result left)
 no_damage (Ok Outcome.More) left none = tt
 no_damage (Ok Outcome.Valid) left none = tt
 no_damage (Ok (Outcome.Differs difference)) left none = tt
@@ -334,9 +333,13 @@ pub begun_next : (c : Collection) (over : SpaceView) → c.check ≡ None → (r
 begun_next c over none (Err e) is check checking = tt
 begun_next c over none (Ok k) is check checking = record {
   of = record { check = check; job = ap (λ (v : CheckView). v.job) is; space = ap (λ (v : CheckView). v.keep.space) is };
-  looked = ap looked_by is ∙ sym (ap (λ (o : Option CheckView). elim o [ None ↦ 0 | Some check ↦ looked_by check ]) none);
+  looked = ap looked_by is ∙ sym (ap looked_of none);
   checking = λ image records found whole kept. checking image records found (subst (λ (v : CheckView). AreRecords image v.keep.space v.keep.horizon records) (sym is) whole);
 }
+
+-- no check was kept, so nothing is lost
+pub none_looked : (c : Collection) (check : Option CheckView) → c.check ≡ None → looked_at c ≤ looked_of check
+none_looked c check none = subst (λ (n : ℕ). n ≤ looked_of check) (sym (ap looked_of none)) (omega arith)
 
 -- ---- the store that it is kept in
 

@@ -4,7 +4,7 @@ mod Spelling
 mod Keyed
 mod Steps
 mod Turning
-mod FinishTurns
+pub mod FinishTurns
 mod FinishSpans
 mod FinishMoments
 mod FinishEnds
@@ -41,6 +41,7 @@ mod BranchTurns
 mod StartTurns
 mod AfterCommit
 mod Noted
+mod CoreAppends
 mod MergeTurns
 mod JoinAnswers
 mod JoinedTrees
@@ -68,3 +69,6 @@ mod Remaining
 mod HeldPair
 mod SwapStep
 mod Accepting
+pub mod OneCore
+mod EndTied
+mod BeginTied

@@ -17,6 +17,7 @@ use Rattle.ip_ground.specs.Told.{Told, IsForeign, IsSynced}
 use Rattle.ip_spec.specs.declared.record.Record.{Record}
 use Rattle.ip_spec.specs.declared.record.CommitRecord.{CommitRecord}
 use Rattle.ip_spec.specs.Record.{Fits, reference_kind, spelling, spelling_of}
+use Rattle.ip_spec.specs.Batch.{AreEndToEnd}
 use Rattle.ip_spec.specs.Shape.{root_name}
 use Rattle.ip_spec.specs.TreeAt.{Records, present}
 use Rattle.ip_spec.specs.Repository.{Repository, Commit}
@@ -44,11 +45,11 @@ use Rattle.ip_image.proofs.KeptRuns.{Ordered}
 use Rattle.ip_image.proofs.InChunk.{ordered_below, LiesIn, lies_ordered, lies_on, chunk_lies, chunk_good}
 use Rattle.ip_image.proofs.StayingRecords.{has_right, has_present, ordered_rises}
 use Rattle.ip_image.proofs.StoredLaws.{standing_stored}
+use Rattle.ip_image.proofs.TreeBatch.{ends_apart}
 use Rattle.ip_space.specs.SpaceView.{IsReadable, records_of}
 use Rattle.ip_store.specs.declared.store.Store.{Store}
 use Rattle.ip_store.specs.Placed.{places_in, IsCommitAt, AreCommitsAt}
 use Rattle.ip_tree.specs.Reads.{IsOver}
-use Rattle.ip_store.specs.declared.collection.Collection.{Collection}
 use Rattle.ip_store.specs.Collecting.{Collects}
 use Rattle.ip_store.specs.Store.{IsOf, OwnsPair, Holds, image_records}
 
@@ -172,16 +173,16 @@ nth_commit records number (at ∷ places) (x ∷ ms) are (suc k) place m p q =
 
 -- ---- an image that goes on
 
--- what lies end to end up to one place is the front of what does so up to a later one
+-- what lies end to end up to one place is the front of what does so up to a later one, and the others lie behind it
 front_of : (v : ℕ) (f : ℕ → Option ℕ) (from middle to : ℕ) (xs ys : Records) → AllByRecursion (λ (x : ℕ × Record). Fits v x.1) xs → AllByRecursion (λ (x : ℕ × Record). Fits v x.1) ys → EndToEnd f from xs middle → EndToEnd f from ys to → middle ≤ to
-    → (rest : Records) × (ys ≡ xs ++ rest)
-front_of v f from middle to [] ys a b p q le = (ys, refl)
+    → (rest : Records) × (ys ≡ xs ++ rest) × AreEndToEnd middle rest to
+front_of v f from middle to [] ys a b p q le = (ys, refl, subst (λ (n : ℕ). AreEndToEnd n ys to) p (ends_apart f from ys to q))
 front_of v f from middle to (x ∷ xs) [] a b p q le = let g = goes_on v f (from + length (spelling x.1)) middle xs p.2 in let some = some_bytes v f x.1 in absurd (omega (arith, q, g, some, le))
 front_of v f from middle to (x ∷ xs) (y ∷ ys) a b p q le =
     let one : y.1 ≡ x.1 = same_record v f from y.1 x.1 b.0 a.0 q.1 p.1 in
     let at : y.0 ≡ x.0 = q.0 ∙ sym p.0 in
     let rest = front_of v f (from + length (spelling x.1)) middle to xs ys a.1 b.1 p.2 (subst (λ (z : Record). EndToEnd f (from + length (spelling z)) ys to) one q.2) le in
-    (rest.0, λ i. (at i, one i) ∷ rest.1 i)
+    (rest.0, (λ i. (at i, one i) ∷ rest.1 i), rest.2)
 
 -- one list of rows stands in two images with the same mapping
 one_rows : (image other : Image) (l m : Layout) → m.live ≡ l.live → m.horizon ≡ l.horizon → m.rows ≡ l.rows → (l.live ≢ 0 → other (Mapping l.live) ≡ image (Mapping l.live)) → (xs ys : List Row) → Generation image l xs → Generation other m ys → ys ≡ xs
@@ -203,10 +204,10 @@ module _ (image other : Image) (s t : Slot) (has : HasLive s image) (has' : HasL
       (subst (λ (u : Slot). Generation image (layout_of u) A.rows) (same_slot image s has A) A.generation)
       (subst (λ (u : Slot). Generation other (layout_of u) B.rows) (same_slot other t has' B) B.generation)
 
-  -- where the bytes of the records are the same, its records are those of the other and more behind them, whatever these are
-  pub more_records : s.end ≤ t.end → SameSpace s image other → (more : Records) × (B.records ≡ A.records ++ more)
+  -- where the bytes of the records are the same, its records are those of the other and more end to end behind them, whatever these are
+  pub more_records : s.end ≤ t.end → SameSpace s image other → (more : Records) × (B.records ≡ A.records ++ more) × AreEndToEnd s.end more t.end
   unfolding virtual_byte spelling_of
-  more_records longer space = (rest.0, high.is ∙ (λ i. kept i ++ rest.1 i) ∙ sym (append_assoc low.kept low.later rest.0) ∙ ap (λ (rs : Records). rs ++ rest.0) (sym low.is ∙ append-nil A.records))
+  more_records longer space = (rest.0, high.is ∙ (λ i. kept i ++ rest.1 i) ∙ sym (append_assoc low.kept low.later rest.0) ∙ ap (λ (rs : Records). rs ++ rest.0) (sym low.is ∙ append-nil A.records), rest.2)
     where
       -- the other's slot, which ends where the first does
       u : Slot
@@ -235,7 +236,7 @@ module _ (image other : Image) (s t : Slot) (has : HasLive s image) (has' : HasL
       kept = same_runs newest_version below (map run_of low.rows) high.kept low.kept (fit_front newest_version below high.kept high.later high_fit) (fit_front newest_version below low.kept low.later low_fit)
           (subst (λ (rs : List Row). RunByRun (virtual_byte other (layout_of t) (map run_of rs)) (map run_of rs) high.kept) rows high.runs) low.runs
 
-      rest : (rest : Records) × (high.later ≡ low.later ++ rest)
+      rest : (rest : Records) × (high.later ≡ low.later ++ rest) × AreEndToEnd s.end rest t.end
       rest = front_of newest_version (chunk_byte t.chunk other) t.horizon s.end t.end low.later high.later
           (fit_back newest_version (chunk_byte t.chunk other) low.kept low.later low_fit) (fit_back newest_version (chunk_byte t.chunk other) high.kept high.later high_fit) low.lies high.lies longer
 

@@ -13,7 +13,7 @@ use Rattle.ip_spec.specs.Map.{insert, len, entries-insert}
 use Rattle.ip_spec.specs.Path.{Bytes, bytes_cmp}
 use Rattle.ip_spec.specs.declared.record.Record.{Record}
 use Rattle.ip_spec.specs.Record.{hashed_commit, Fits, IsHash, IsInfo, IsBranchName}
-use Rattle.ip_spec.specs.Batch.{sources, tree_batch, batch}
+use Rattle.ip_spec.specs.Batch.{batch}
 use Rattle.ip_spec.specs.Shape.{root_name}
 use Rattle.ip_spec.specs.Machine.{Phase}
 use Rattle.ip_spec.specs.View.{View}

@@ -1,4 +1,5 @@
 -- What remains of the records when a collection is accepted.
+--     none_until      none lies below an end
 --     until_front      those below an end are in front of all others
 --     rising_from      of places that ascend, those from one of them on
 --     remaining_places      where the commits lie of what remains
@@ -20,7 +21,7 @@ use Rattle.ip_store.specs.Placed.{place_of, places_in, AreRising}
 
 -- ---- below an end
 
-none_until : (end : ℕ) (records : Records) → ((x : ℕ × Record) → Has records x → end ≤ x.0) → until end records ≡ []
+pub none_until : (end : ℕ) (records : Records) → ((x : ℕ × Record) → Has records x → end ≤ x.0) → until end records ≡ []
 none_until end [] high = refl
 none_until end (x ∷ records) high = by (nat_lt x.0 end) refl (none_until end records (λ y has. high y (inr has)))
   where

@@ -1,6 +1,6 @@
 -- A durable step from a repository to the next one, whatever command takes it.
 --     may_step      what the durable step asks.      changed, cut_short      the relation of a call that was made, and of one that a fault cut short
---     list_after, stays_made      the records of the image after it, and that those before it are among them
+--     list_after, more_made, stays_made      the records of the image after it, those that stand behind the ones before it, and that these stay
 --     same_tables, same_holds, same_changes, same_appends      a store with the same tables.      changes_none      the relation of a call that was refused
 --     same_can_step, same_step      what a step asks and does, of a slot and bytes that are the same
 use Rattle.std.proofs.Common.{◌≡◌, ◌≢◌, ◌⊎◌, inl, inr, ℕ, ◌+◌, ◌-◌, ◌<◌, ◌≤◌, List, ◌++◌, length, refl, sym, ◌∙◌, ap, subst, arith, length-append}
@@ -130,9 +130,11 @@ module _ (store store' : Store) (same : SameTables store store') where
       (collects_still a b store.slot held.stands.standing.records r store.collection only.goes only.lending (λ file n of. only.others file (λ none. none)) held.collects))
 
   -- by the same records
+  pub still_list : (q r : Repository) (a b : Told) → ChangesOnly NoFile a b → (held : Holds store a q) (still : Holds store' b r) → still.stands.standing.records ≡ held.stands.standing.records
+  still_list q r a b only held still = same_list store a q held b ((only.others Control (λ none. none)).held (λ x. x)) (still_space store.slot a b only held.pair) still.stands.standing
+
   pub still_records : (q r : Repository) (a b : Told) → ChangesOnly NoFile a b → (held : Holds store a q) (still : Holds store' b r) → image_records still ≡ image_records held
-  still_records q r a b only held still =
-      ap (λ (rs : Records). present rs) (same_list store a q held b ((only.others Control (λ none. none)).held (λ x. x)) (still_space store.slot a b only held.pair) still.stands.standing)
+  still_records q r a b only held still = ap (λ (rs : Records). present rs) (still_list q r a b only held still)
 
   pub looks : (a b : Told) → OnlyReads a b store.space store'.space → OnlyLooks a b store store'
   looks a b reads = record {
@@ -329,10 +331,14 @@ module _ (r after : Repository) (store : Store) (attempt commits : ℕ) (bytes :
     pub adds_now : AddsBytes store.slot bytes a.held b.held
     adds_now = adds_bytes store.slot of.slot.horizon a.held filled bytes b.held (pair_here b (Ok tt) step) step.held.1
 
-    -- each record stays, whatever stands behind them
+    -- the records before it are followed by others end to end, whatever these are
+    pub more_made : (store' : Store) (q : Repository) (now : Holds store' b q) → (more : Records) × (now.stands.standing.records ≡ held.stands.standing.records ++ more) × AreEndToEnd store.slot.end more next.end
+    more_made store' q now = more_records a.held b.held store.slot next old_has has_now generation held.stands.standing now.stands.standing (omega arith) adds_now.same
+
+    -- so each record stays
     pub stays_made : (store' : Store) (q : Repository) (now : Holds store' b q) → RecordsStay (image_records held) (image_records now)
     stays_made store' q now place x there =
-        let list = more_records a.held b.held store.slot next old_has has_now generation held.stands.standing now.stands.standing (omega arith) adds_now.same in
+        let list = more_made store' q now in
         subst (λ (rs : Records). present rs place ≡ Some x) (sym list.1) (present_front held.stands.standing.records list.0 place x there)
 
   module _ (stands_new : NewStands) where

@@ -5,19 +5,18 @@
 --     raises      so many commits are there to be given up.      swapped_tables      the tables are those of the repository without the commits that were given up
 --     ready_for, newer_swap      the slot may be made live.      turns_err      of a call that failed
 use Rattle.std.proofs.Common.{◌≡◌, ◌≢◌, ℕ, zero, suc, ◌+◌, ◌-◌, ◌^◌, ◌<◌, ◌≤◌, List, [], ◌∷◌, drop, length, length-drop, map, Option, Some, None, Ok, Err, refl, sym, ◌∙◌, ap, subst, arith}
-use Rattle.std.specs.Prelude.{All, IfSome, IsErr, IsSome, Result, filter_map, slice_get}
+use Rattle.std.specs.Prelude.{All, IfSome, IsErr, IsSome, Result, filter_map}
 use Rattle.std.specs.List.{AllByRecursion}
 use Rattle.std.proofs.lemmas.List.{drop-map, length-map}
 use Rattle.std.proofs.lemmas.List.Elements.{All-drop, All-from_recursion}
 use Rattle.ip_ground.specs.declared.names.GroundFault.{GroundFault}
 use Rattle.ip_ground.specs.Told.{Told}
 use Rattle.ip_spec.specs.Map.{get}
-use Rattle.ip_spec.specs.Path.{Bytes}
 use Rattle.ip_spec.specs.Record.{IsHash}
 use Rattle.ip_spec.specs.Repository.{Repository, Commit, CommitParent, next}
 use Rattle.ip_spec.specs.Step.{collected_at}
 use Rattle.ip_image.specs.declared.slot.Slot.{Slot}
-use Rattle.ip_image.specs.Slot.{IsSlot, layout_of, slot_bytes}
+use Rattle.ip_image.specs.Slot.{IsSlot, layout_of}
 use Rattle.ip_image.specs.Standing.{AreRetained}
 use Rattle.ip_image.specs.Virtual.{total}
 use Rattle.ip_chunks.proofs.Borders.{some_size, chunk_up}
@@ -33,14 +32,14 @@ use Rattle.ip_keep.proofs.RunsApart.{apart_total, apart_few, joined_few}
 use Rattle.ip_check.specs.CheckView.{CheckView}
 use Rattle.ip_check.specs.Checking.{IsCheck}
 use Rattle.ip_check.proofs.Making.{total_joined}
-use Rattle.ip_space.specs.SpaceView.{SpaceView, grown}
+use Rattle.ip_space.specs.SpaceView.{grown}
 use Rattle.ip_store.specs.declared.collection.Collection.{Collection}
 use Rattle.ip_store.specs.declared.collection.Unswept.{Unswept}
 use Rattle.ip_store.specs.declared.store.Store.{Store}
 use Rattle.ip_store.specs.declared.swapping.Swap.{Swap}
-use Rattle.ip_store.specs.Collecting.{IsPhase, IsPhaseOf, IsUnswept, IsGoing}
+use Rattle.ip_store.specs.Collecting.{IsPhase, IsUnswept, IsGoing}
 use Rattle.ip_store.specs.Finishing.{swapped_slot}
-use Rattle.ip_store.specs.Placed.{AreRising, IsSpaceOf}
+use Rattle.ip_store.specs.Placed.{AreRising}
 use Rattle.ip_store.specs.Publishing.{TurnsGate}
 use Rattle.ip_store.specs.Store.{IsOf, Holds}
 use Rattle.ip_store.specs.Swapping.{IsSwap, SwapsTables}

@@ -2,13 +2,12 @@
 --     named, existing, not_there      the number of a commit by its name, and whether there is one
 --     name_of_retained      the name of a retained commit
 use Rattle.std.proofs.Common.{◌≡◌, ℕ, ◌+◌, ◌-◌, ◌<◌, ◌≤◌, Bool, true, false, List, [], ◌∷◌, map, length, get_or, ◌^◌, Option, Some, None, refl, sym, ◌∙◌, ap, subst, arith}
-use Rattle.std.specs.Prelude.{Ok, Err, position, option_map, is_some, slice_get, unwrap_or, IsTrue, nat_le, nat_lt, if◌then◌else◌, not, ◌&&◌, IfSome}
+use Rattle.std.specs.Prelude.{Ok, Err, position, option_map, is_some, slice_get, unwrap_or, IsTrue, nat_le, nat_lt, if◌then◌else◌, not, ◌&&◌}
 use Rattle.std.proofs.lemmas.Bool.Decides.{nat_tests}
-use Rattle.ip_spec.specs.Map.{get}
 use Rattle.std.specs.List.{prefix_len}
 use Rattle.std.proofs.lemmas.List.{length-map}
 use Rattle.std.proofs.lemmas.Option.{slice_get-map, unwrap_or-slice_get}
-use Rattle.ip_spec.specs.Path.{Bytes, same_bytes}
+use Rattle.ip_spec.specs.Path.{same_bytes}
 use Rattle.ip_spec.specs.Record.{Hash, IsHash}
 use Rattle.ip_spec.specs.declared.reply.Reply.TheVariants as Reply
 use Rattle.ip_spec.specs.Repository.{Repository, Commit, number_named, is_retained, name_at, commit_at, next}

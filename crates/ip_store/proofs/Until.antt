@@ -8,7 +8,7 @@ use Rattle.std.specs.Prelude.{IsSome, is_some, nat_lt}
 use Rattle.ip_ground.specs.Contents.{Image}
 use Rattle.ip_spec.specs.declared.record.Record.{Record}
 use Rattle.ip_spec.specs.Core.{core_of, CorePhase, IsClosed}
-use Rattle.ip_spec.specs.Record.{Fits, spelling}
+use Rattle.ip_spec.specs.Record.{Fits}
 use Rattle.ip_spec.specs.TreeAt.{Records, present}
 use Rattle.ip_image.specs.declared.layout.Layout.{Layout}
 use Rattle.ip_image.specs.declared.run.Run.{Run}
@@ -41,15 +41,11 @@ parts_all f from xs to e all ends = record { before = xs; after = []; is = sym (
 parts_at : (f : ℕ → Option ℕ) (from : ℕ) (xs : Records) (to e : ℕ) (x : Record) → EndToEnd f from xs to → Has xs (e, x) → Parts f from xs to e
 parts_at f from xs to e x ends has = let c = ends_cut f from xs to (e, x) ends has in record { before = c.before; after = (e, x) ∷ c.after; is = c.is; first = c.first; second = c.second }
 
-highs : (e from : ℕ) (xs : Records) (to : ℕ) → e ≤ from → Ordered from xs to → AllByRecursion (λ (x : ℕ × Record). e ≤ x.0) xs
-highs e from [] to low o = tt
-highs e from (x ∷ xs) to low o = ((let first = o.0 in omega (arith, low, first)), highs e (x.0 + length (spelling x.1)) xs to (let first = o.0 in omega (arith, low, first)) o.2)
-
 below_is : (m n : ℕ) → m < n → nat_lt m n ≡ true
 below_is m n l = grind (arith, nat_tests)
 
 until_parted : (e : ℕ) (front back : Records) (to : ℕ) → Ordered 0 front e → Ordered e back to → until e (front ++ back) ≡ front
-until_parted e front back to low high = until_more e front back (highs e e back to (omega arith) high)
+until_parted e front back to low high = until_more e front back (λ y has. (ordered_has e back to y high has).0)
     ∙ filter_all (λ (x : ℕ × Record). nat_lt x.0 e) front (λ y has. let (from, up, some) = ordered_has 0 front e y low has in below_is y.0 e (omega (arith, up, some)))
 
 -- the records fill these runs, and what lies behind them

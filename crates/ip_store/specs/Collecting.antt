@@ -30,7 +30,6 @@ use Rattle.ip_image.specs.declared.slot.Slot.{Slot}
 use Rattle.ip_image.specs.Collected.{IsCollectable}
 use Rattle.ip_image.specs.Collection.{found_in}
 use Rattle.ip_space.specs.SpaceView.{SpaceView, grown}
-use Rattle.ip_check.specs.CheckView.{CheckView}
 use Rattle.ip_check.specs.Checking.{IsCheck, IsChecking}
 use Rattle.ip_store.specs.declared.collection.Collection.{Collection}
 use Rattle.ip_store.specs.declared.collection.Unswept.{Unswept}

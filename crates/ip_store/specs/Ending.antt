@@ -1,16 +1,23 @@
 -- How a look and a finish go on with what is heard of the child.
 --     IsHeardIn running child      so it may be heard, where this collection runs.      held_behind child held      the child that is held then
+--     SeesChild, AwaitsChild attempt child tells x y m n      what is asked of the spawner, and what it tells and counts then
 --     Listens attempt old new      what it does to what a ground tells that the end of a child is known
 --     FitsEnd exit c left result      what an answer tells of the exit.      GoesOnAs result c now      whether the collection goes on
 --     after_by result r c      the repository then.      after_with result difference r c      the machine's, by the difference that there is
 --     Ends exit most c result left store now      what it does that the child has ended so, before it is noted what was met.      EndsBy records r c result left u store old new      where the ground tells
 --     Goes child most result store now      and what the whole call does, whatever was heard
-use Rattle.std.specs.Prelude.{◌≡◌, ◌≢◌, ◌⊎◌, ◌↔◌, ℕ, ◌-◌, ◌^◌, Option, Some, None, Result, Ok, Err, IsErrOf}
+use Rattle.std.specs.Prelude.{◌≡◌, ◌≢◌, ◌⊎◌, ◌↔◌, ℕ, ◌-◌, ◌≤◌, ◌^◌, Bool, true, false, Option, Some, None, Result, Ok, Err, IfSome, IsErrOf, IsTrue, is_err, is_ok, is_some}
 use Rattle.ip_base.specs.declared.limit.Limit.{Limit}
 use Rattle.ip_ground.specs.declared.names.Exit.{Exit}
 use Rattle.ip_ground.specs.declared.names.Reaped.{Reaped}
 use Rattle.ip_ground.specs.Contents.{Image}
 use Rattle.ip_ground.specs.Told.{Told, IsSettledAs, NoFile}
+use Rattle.ip_spawn.specs.declared.spawner.Look.{Look}
+use Rattle.ip_spawn.specs.declared.spawner.SpawnCounts.{SpawnCounts}
+use Rattle.ip_spawn.specs.declared.spawner.SpawnFault.{SpawnFault}
+use Rattle.ip_spawn.specs.Children as spawn
+use Rattle.ip_spawn.specs.Children.{end_reaped, end_seen, is_running, told_after}
+use Rattle.ip_spawn.specs.Counts.{Counts}
 use Rattle.ip_spec.specs.declared.command.Command.{Command}
 use Rattle.ip_spec.specs.declared.met.Child.{Child}
 use Rattle.ip_spec.specs.declared.reply.Difference.{Difference}
@@ -27,8 +34,8 @@ use Rattle.ip_store.specs.declared.finishing.Looked.{Looked}
 use Rattle.ip_store.specs.declared.finishing.Rejection.TheVariants as Rejection
 use Rattle.ip_store.specs.declared.store.Store.{Store}
 use Rattle.ip_store.specs.Collecting.{child_of}
-use Rattle.ip_store.specs.Finishing.{LookReplies, Concludes, HasAnswer, IsAsked, IsChecking, IsCollected, IsKept, IsOver, IsQuiet, IsSweptBehind, FinishesAs, KeepsCollection, LimitsFinish, SlotBy, Slices, conditions_by, met_by_finish, unswept_by}
-use Rattle.ip_store.specs.Judging.{is_zero}
+use Rattle.ip_store.specs.Finishing.{LookReplies, Concludes, HasAnswer, IsAsked, IsChecking, IsCollected, IsKept, IsOver, IsQuiet, IsSweptBehind, FinishesAs, KeepsCollection, LimitsFinish, SlotBy, Slices, child_reaped, child_seen, conditions_by, looked_at, looked_of, met_by_finish, unswept_by}
+use Rattle.ip_store.specs.Judging.{FitsRejection, is_zero}
 use Rattle.ip_store.specs.Store.{IsOf, Holds}
 use Rattle.ip_store.specs.Sweeping.{EndsFor, KeepsFiles}
 
@@ -50,6 +57,16 @@ abbrev pub held_behind : Child → Option ℕ → Option ℕ
 held_behind (Child.Ended reaped) held = None
 held_behind child held = held
 
+-- The child of an attempt is asked once, and what was answered is heard, whether it has ended,
+abbrev pub SeesChild : ℕ → Child → Bool → spawn.Told → spawn.Told → SpawnCounts → SpawnCounts → Type 0
+SeesChild attempt child tells x y m n = (answer : Result Look SpawnFault) × (child ≡ child_seen answer) × IfSome (end_seen answer) (λ reaped. reaped.attempt ≡ attempt)
+    × (IsTrue tells → y ≡ told_after (end_seen answer) x) × Counts (is_running answer) false (is_some (end_seen answer)) (is_err answer) m n
+
+-- or how, which is waited for.
+abbrev pub AwaitsChild : ℕ → Child → Bool → spawn.Told → spawn.Told → SpawnCounts → SpawnCounts → Type 0
+AwaitsChild attempt child tells x y m n = (answer : Result Reaped SpawnFault) × (child ≡ child_reaped answer) × IfSome (end_reaped answer) (λ reaped. reaped.attempt ≡ attempt)
+    × (IsTrue tells → y ≡ told_after (end_reaped answer) x) × Counts false true (is_ok answer) (is_err answer) m n
+
 -- No file changes. The attempt is settled then, if it was not.
 pub record Listens (attempt : ℕ) (old new : Told) : Type 0 where
   pub only : EndsFor attempt NoFile old new
@@ -59,23 +76,19 @@ pub record Listens (attempt : ℕ) (old new : Told) : Type 0 where
 
 abbrev pub FitsEnd : Exit → Collection → ℕ → Result Looked FinishFault → Type 0
 FitsEnd exit c left (Ok Looked.Running) = ⊥
-FitsEnd exit c left (Ok (Looked.Checking bytes)) = is_zero exit
 FitsEnd exit c left (Ok (Looked.Collected collected)) = is_zero exit × (collected ≡ record { floor = c.commit; left = left })
 FitsEnd exit c left (Err FinishFault.Idle) = ⊥
 FitsEnd exit c left (Err FinishFault.Wait) = ⊥
-FitsEnd exit c left (Err (FinishFault.Rejected (Rejection.Exit e))) = (e ≡ exit) × ¬ is_zero exit
-FitsEnd exit c left (Err (FinishFault.Rejected (Rejection.Differs difference))) = is_zero exit
+FitsEnd exit c left (Err (FinishFault.Rejected rejection)) = FitsRejection exit rejection
 FitsEnd exit c left (Err (FinishFault.Limit limit)) = is_zero exit × (limit ≡ Limit.Sequence)
-FitsEnd exit c left (Err FinishFault.Ground) = is_zero exit
-FitsEnd exit c left (Err (FinishFault.Damaged at)) = is_zero exit
-FitsEnd exit c left (Err FinishFault.Memory) = is_zero exit
+FitsEnd exit c left result = is_zero exit
 
--- else it is kept, with its check
+-- else it is kept, with its check as far as it is
 abbrev pub GoesOnAs : Result Looked FinishFault → Collection → Option Collection → Type 0
 GoesOnAs (Ok (Looked.Collected collected)) c now = now ≡ None
 GoesOnAs (Err (FinishFault.Rejected rejection)) c now = now ≡ None
 GoesOnAs (Err (FinishFault.Limit limit)) c now = now ≡ None
-GoesOnAs result c now = (check : Option CheckView) × (now ≡ Some (record c { check = check }))
+GoesOnAs result c now = (check : Option CheckView) × (now ≡ Some (record c { check = check })) × (looked_at c ≤ looked_of check)
 
 abbrev pub after_by : Result Looked FinishFault → Repository → Collection → Repository
 after_by (Ok (Looked.Collected collected)) r c = collected_at r c.commit

@@ -4,15 +4,15 @@
 --     difference_in result, conditions_by met result      with the difference that is told
 --     TurnsBy s command met reply s'      the reply and the next state are the machine's
 --     Concludes r running command met store reply      so whatever the work is, and the tables are the next repository's
---     HasAnswer result      it is no fault of the ground or of its files.      IsOver result      what was not accepted is over, and swept away.      Ends result      so is what was accepted
+--     HasAnswer result      it is no fault of the ground or of its files.      IsUndamaged result      it is none of the files.      IsOver result      what was not accepted is over, and swept away.      Ends result      so is what was accepted
 --     swapped_slot s u c length rows      the slot of the swap
---     KeepsCollection c reaped now      it is the same, and how its child ended is kept
---     Slices most c result now      how far a slice of the check went.      fault_by fault      a fault of the check
+--     looked_of check, looked_at c      how many records were looked at.      KeepsCollection c reaped now      it is the same; how its child ended is kept, and its check
+--     IsSliced most c left now      a check that is not through, behind a slice of it.      Slices most c result now      so it is where an answer says so.      fault_by fault      a fault of the check
 --     CountsFinish result left old new      removals that failed are counted.      unswept_by result left s u      what is unswept then
 --     Judges records c met told      the difference is that of the settled pair.      WorksStay held now      works are lawful, or given up
 --     FinishesAs r after c result u store old new      what it does to what a ground tells, and what the store holds then
 --     FinishesBy records r c command result u store old new      and that it is the machine's
-use Rattle.std.specs.Prelude.{◌≡◌, ◌≢◌, ◌⊎◌, ◌==◌, if◌then◌else◌, ℕ, ◌+◌, ◌<◌, Bool, true, false, Option, Some, None, Result, Ok, Err, IsSomeAnd}
+use Rattle.std.specs.Prelude.{◌≡◌, ◌≢◌, ◌⊎◌, ◌==◌, if◌then◌else◌, ℕ, ◌+◌, ◌<◌, ◌≤◌, Bool, true, false, Option, Some, None, Result, Ok, Err, IsSomeAnd}
 use Rattle.ip_base.specs.declared.limit.TheConstants.{OFFSET_MAX}
 use Rattle.ip_base.specs.declared.limit.Limit.{Limit}
 use Rattle.ip_ground.specs.declared.names.FileName.{FileName}
@@ -30,14 +30,16 @@ use Rattle.ip_spec.specs.declared.met.Met.{Met}
 use Rattle.ip_spec.specs.declared.reply.Difference.{Difference}
 use Rattle.ip_spec.specs.declared.reply.Reply.{Reply}
 use Rattle.ip_spec.specs.Machine as Machine
-use Rattle.ip_spec.specs.Machine.{State, Phase, Conditions, empty_work}
+use Rattle.ip_spec.specs.Machine.{State, Conditions, empty_work}
 use Rattle.ip_spec.specs.Repository.{Repository}
 use Rattle.ip_spec.specs.Step.{IsMet, turned}
 use Rattle.ip_spec.specs.TreeAt.{Records}
 use Rattle.ip_spec.specs.View.{View}
 use Rattle.ip_image.specs.declared.slot.Slot.{Slot}
 use Rattle.ip_check.specs.declared.fault.CheckFault.{CheckFault}
+use Rattle.ip_check.specs.CheckView.{CheckView}
 use Rattle.ip_check.specs.Checking.{looked_by}
+use Rattle.ip_check.specs.Going.{IsOpen}
 use Rattle.ip_image.specs.Collected.{remaining}
 use Rattle.ip_image.specs.Collection.{IsJudged, IsKept as AreKept}
 use Rattle.ip_image.specs.Headline.{RecoversTo, IsAtomic}
@@ -138,7 +140,7 @@ HasAnswer (Err FinishFault.Ground) = ⊥
 HasAnswer (Err (FinishFault.Damaged at)) = ⊥
 HasAnswer result = Unit {0}
 
-abbrev pub IsUndamaged : Result Looked FinishFault → Type 0
+abbrev pub IsUndamaged : {A : Type 0} → Result A FinishFault → Type 0
 IsUndamaged (Err (FinishFault.Damaged at)) = ⊥
 IsUndamaged result = Unit {0}
 
@@ -193,20 +195,29 @@ abbrev pub SlotBy : Result Looked FinishFault → Collection → Store → Slot 
 SlotBy (Ok (Looked.Collected collected)) c store slot = (length rows : ℕ) × (slot ≡ swapped_slot store.slot store.unswept c length rows)
 SlotBy result c store slot = slot ≡ store.slot
 
+-- how many records were looked at, none where no check is kept
+abbrev pub looked_of : Option CheckView → ℕ
+looked_of None = 0
+looked_of (Some check) = looked_by check
+
+abbrev pub looked_at : Collection → ℕ
+looked_at c = looked_of c.check
+
 pub record KeepsCollection (c : Collection) (reaped : Reaped) (now : Option Collection) : Type 0 where
   pub same : Collection
   pub is : now ≡ Some same
   pub commit : same.commit ≡ c.commit
   pub job : same.job ≡ c.job
   pub exit : same.exit ≡ Some reaped
+  -- no record that was looked at is to be looked at again
+  pub looked : looked_at c ≤ looked_at same
 
--- how many records were looked at, none where no check is kept
-abbrev pub looked_at : Collection → ℕ
-looked_at c = elim c.check [ None ↦ 0 | Some check ↦ looked_by check ]
+-- It is not through: so many records were looked at in this call, and so many bytes are left.
+abbrev pub IsSliced : ℕ → Collection → ℕ → Option Collection → Type 0
+IsSliced most c left now = IsSomeAnd now (λ same. IsSomeAnd same.check (λ check. IsOpen check.stage × (looked_by check ≡ looked_at c + most) × (left + check.keep.next ≡ c.job.end)))
 
--- Where the check is not through, so many records were looked at in this call, and what is left is told.
 abbrev pub Slices : ℕ → Collection → Result Looked FinishFault → Option Collection → Type 0
-Slices most c (Ok (Looked.Checking left)) now = IsSomeAnd now (λ same. (looked_at same ≡ looked_at c + most) × IsSomeAnd same.check (λ check. left + check.keep.next ≡ c.job.end))
+Slices most c (Ok (Looked.Checking left)) now = IsSliced most c left now
 Slices most c result now = Unit {0}
 
 -- faults of removals do not end it
@@ -264,6 +275,8 @@ pub record FinishesAs (r after : Repository) (c : Collection) (result : Result L
   pub recovers : NothingPending old → HasAnswer result → RecoversTo (crash_now new) after
   pub nothing_pending : NothingPending old → HasAnswer result → NothingPending new
   pub flushed : NothingPending old → AllFlushed (crash_now new)
+  -- the attempt is settled, so that no child changes its files from then on
+  pub settled : HasAnswer result → (pair : Image) × IsSettledAs new c.job.attempt pair
 
 -- Of a child that has ended: the conditions are what was met, with the difference that a whole check has, also where the command was cut short.
 pub record FinishesBy (records : Records) (r : Repository) (c : Collection) (command : Command) (result : Result Looked FinishFault) (u : Unswept) (store : Store) (old new : Told) : Type 0 where

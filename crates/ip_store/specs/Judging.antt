@@ -1,13 +1,13 @@
 -- The verdict on what a child wrote.
---     is_zero exit      the child ended with code 0.      FitsExit exit result      nothing is checked where it did not
+--     is_zero exit      the child ended with code 0.      FitsRejection exit rejection      why it is rejected.      FitsExit exit result      nothing is checked where it did not
 --     EndsCheck result now      where the pair is valid the check that is kept says so.      with_check store c check      the store with a check
 --     IsThrough now      a check is kept that has found the pair valid
---     SlicesBy most c result now      how far a slice went.      IsOpen, IsWhole result      the check is not through; no damage was found
+--     SlicesBy most c result now      what a slice leaves that is not the last.      IsOpen result      the check is not through
 --     TellsVerdict records c told result      what the verdict says of the files
 --     IsCut result      the call was not answered by a verdict
 --     verdict_by outcome left      what an answer of the check says
 --     IsCheckOf c over k      a check of a collection's files, over a store's space.      IsNextCheck c over k      the one that goes on
-use Rattle.std.specs.Prelude.{◌≡◌, ℕ, ◌+◌, pos, Option, Some, None, Result, Ok, Err, IsSome, IsSomeAnd, IfSome}
+use Rattle.std.specs.Prelude.{◌≡◌, ℕ, pos, Option, Some, None, Result, Ok, Err, IsSomeAnd, IfSome}
 use Rattle.ip_ground.specs.declared.names.Exit.{Exit}
 use Rattle.ip_ground.specs.declared.names.Exit.TheVariants as Exit
 use Rattle.ip_ground.specs.Contents.{Image}
@@ -26,10 +26,10 @@ use Rattle.ip_store.specs.declared.checking.Verdict.{Verdict}
 use Rattle.ip_store.specs.declared.checking.Verdict.TheVariants as Verdict
 use Rattle.ip_store.specs.declared.collection.Collection.{Collection}
 use Rattle.ip_store.specs.declared.finishing.FinishFault.{FinishFault}
-use Rattle.ip_store.specs.declared.finishing.Rejection.TheVariants as Rejection
+use Rattle.ip_store.specs.declared.finishing.Rejection.{Rejection}
 use Rattle.ip_store.specs.declared.store.Store.{Store}
 use Rattle.ip_store.specs.Collecting.{until}
-use Rattle.ip_store.specs.Finishing.{fault_by, looked_at}
+use Rattle.ip_store.specs.Finishing.{IsSliced, fault_by, looked_at}
 
 abbrev pub is_zero : Exit → Type 0
 is_zero exit = exit ≡ Exit.Code (pos 0)
@@ -41,11 +41,13 @@ IsCut (FinishFault.Damaged at) = Unit {0}
 IsCut FinishFault.Memory = Unit {0}
 IsCut fault = ⊥
 
+abbrev pub FitsRejection : Exit → Rejection → Type 0
+FitsRejection exit (Rejection.Exit e) = (e ≡ exit) × ¬ is_zero exit
+FitsRejection exit (Rejection.Differs difference) = is_zero exit
+
 abbrev pub FitsExit : Exit → Result Verdict FinishFault → Type 0
-FitsExit exit (Ok (Verdict.Open left)) = is_zero exit
-FitsExit exit (Ok Verdict.Valid) = is_zero exit
-FitsExit exit (Ok (Verdict.Rejected (Rejection.Exit e))) = (e ≡ exit) × ¬ is_zero exit
-FitsExit exit (Ok (Verdict.Rejected (Rejection.Differs difference))) = is_zero exit
+FitsExit exit (Ok (Verdict.Rejected rejection)) = FitsRejection exit rejection
+FitsExit exit (Ok verdict) = is_zero exit
 FitsExit exit (Err fault) = is_zero exit × IsCut fault
 
 abbrev pub IsThrough : Option Collection → Type 0
@@ -55,18 +57,13 @@ abbrev pub EndsCheck : Result Verdict FinishFault → Option Collection → Type
 EndsCheck (Ok Verdict.Valid) now = IsThrough now
 EndsCheck result now = Unit {0}
 
--- where it is not through so many records were looked at, and what is left is told
 abbrev pub SlicesBy : ℕ → Collection → Result Verdict FinishFault → Option Collection → Type 0
-SlicesBy most c (Ok (Verdict.Open left)) now = IsSomeAnd now (λ same. (looked_at same ≡ looked_at c + most) × IsSomeAnd same.check (λ check. left + check.keep.next ≡ c.job.end))
+SlicesBy most c (Ok (Verdict.Open left)) now = IsSliced most c left now
 SlicesBy most c result now = Unit {0}
 
 abbrev pub IsOpen : Result Verdict FinishFault → Type 0
 IsOpen (Ok (Verdict.Open left)) = Unit {0}
 IsOpen result = ⊥
-
-abbrev pub IsWhole : Result Verdict FinishFault → Type 0
-IsWhole (Err (FinishFault.Damaged at)) = ⊥
-IsWhole result = Unit {0}
 
 abbrev pub verdict_by : Result Outcome CheckFault → ℕ → Result Verdict FinishFault
 verdict_by (Ok Outcome.More) left = Ok (Verdict.Open left)

@@ -25,3 +25,5 @@ pub mod Work
 pub mod Trees
 pub mod Views
 pub mod Merging
+pub mod Tie
+pub mod TieAppends

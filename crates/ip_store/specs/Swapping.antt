@@ -1,28 +1,25 @@
 -- The swap to the pair of a collection.
 --     IsSwap store c check swap      what will be done, whatever is told: the slot, the space and the names that stay
---     RefusesSwap store c fault      why it is not done.      turned_down fault store      the store then.      IsSwapFault fault, IsTurnedDown, IsUndamaged result      which faults there are; nothing was done; no damage
+--     RefusesSwap store c fault      why it is not done.      turned_down fault store      the store then.      IsSwapFault fault, IsTurnedDown result      which faults there are; nothing was done
 --     SwapsTables swap store now      the tables go without the commits that are given up
 --     SyncsPair attempt result old new      what syncing the pair of a settled attempt does
 --     Accepts result r store now      what becomes of the tables.      AcceptsAs records r c result store old new      and what it does to what a ground tells
-use Rattle.std.specs.Prelude.{◌≡◌, ◌⊎◌, ℕ, ◌+◌, ◌-◌, ◌<◌, length, drop, Option, None, Result, Ok, Err, OnOk}
+use Rattle.std.specs.Prelude.{◌≡◌, ℕ, ◌-◌, ◌<◌, length, drop, None, Result, Ok, Err, OnOk}
 use Rattle.ip_base.specs.declared.limit.TheConstants.{OFFSET_MAX}
 use Rattle.ip_base.specs.declared.limit.Limit.{Limit}
 use Rattle.ip_ground.specs.declared.names.FileName.TheVariants.{Control, Prefix, Mapping}
 use Rattle.ip_ground.specs.declared.names.GroundFault.{GroundFault}
 use Rattle.ip_ground.specs.Contents.{Image}
-use Rattle.ip_ground.specs.Told.{Told, IsSynced, IsLoose, IsSettledAs, EachSince, Only, NoFile, ChangesOnly}
+use Rattle.ip_ground.specs.Told.{Told, IsSynced, IsLoose, IsSettledAs, Only, NoFile}
 use Rattle.ip_spec.specs.Repository.{Repository}
 use Rattle.ip_spec.specs.Step.{collected_at}
 use Rattle.ip_spec.specs.TreeAt.{Records}
-use Rattle.ip_image.specs.declared.slot.Slot.{Slot}
 use Rattle.ip_image.specs.Collected.{remaining}
 use Rattle.ip_image.specs.Collection.{IsKept}
 use Rattle.ip_image.specs.Headline.{IsAtomic}
 use Rattle.ip_image.specs.Pending.{crash_now, NothingPending, AllFlushed}
-use Rattle.ip_image.specs.Slot.{slot_bytes, layout_of}
+use Rattle.ip_image.specs.Slot.{layout_of}
 use Rattle.ip_image.specs.Virtual.{total}
-use Rattle.ip_control.specs.Changes.{control}
-use Rattle.ip_control.specs.Live.{live_slot, live_of}
 use Rattle.ip_keep.specs.Runs.{joined}
 use Rattle.ip_check.specs.CheckView.{CheckView}
 use Rattle.ip_store.specs.declared.collection.Collection.{Collection}
@@ -63,10 +60,6 @@ abbrev pub IsTurnedDown : Result (Unit {0}) FinishFault → Type 0
 IsTurnedDown (Ok x) = ⊥
 IsTurnedDown (Err FinishFault.Ground) = ⊥
 IsTurnedDown (Err fault) = Unit {0}
-
-abbrev pub IsUndamaged : Result (Unit {0}) FinishFault → Type 0
-IsUndamaged (Err (FinishFault.Damaged at)) = ⊥
-IsUndamaged result = Unit {0}
 
 pub record SwapsTables (swap : Swap) (store now : Store) : Type 0 where
   pub index : now.index ≡ 1 - store.index

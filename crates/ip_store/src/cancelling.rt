@@ -9,6 +9,7 @@ ghost use Rattle.ip_store.specs.Cancelling.{CancelReplies, met_by_cancel, IsKill
 ghost use Rattle.ip_store.specs.Collecting.{child_of};
 ghost use Rattle.ip_store.specs.Starting.{AnswersCall};
 ghost use Rattle.ip_store.specs.Store.{IsOf, Holds, image_records};
+ghost use Rattle.ip_store.specs.Tie.{IsTied, cancel_events};
 ghost use Rattle.ip_store.specs.Trees.{RecordsStay};
 ghost use Rattle.ip_store.specs.declared.cancelling.CancelFault.TheVariants as CancelFault;
 ghost use Rattle.ip_store.specs.declared.cancelling.Cancelled.TheVariants as Cancelled;
@@ -75,6 +76,8 @@ impl Store {
             Cancels r c result self.old.unswept self.new (G.told outside.old) (G.told outside.new) }
         ensures records_stay { IsTrue G.tells → IsOk result → (r q : Repository) (held : Holds self.old (G.told outside.old) r) (now : Holds self.new (G.told outside.new) q) →
             RecordsStay (image_records held) (image_records now) }
+        ensures tied { IsTrue G.tells → ¬ IsErrOf result CancelFault.Ground → (r q : Repository) (held : Holds self.old (G.told outside.old) r) (now : Holds self.new (G.told outside.new) q) →
+            IsTied self.old held.stands.standing.records self.new now.stands.standing.records (cancel_events result) }
         ensures counts { CountsCancel result self.new.met.left (G.counts_of outside.old) (G.counts_of outside.new) }
     {
         self.met = nothing_met();

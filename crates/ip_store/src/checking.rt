@@ -1,5 +1,5 @@
 // The verdict on what a child wrote.
-ghost use Rattle.std.specs.Prelude.{◌≡◌, ℕ, ◌-◌, ◌≤◌, ◌^◌, pos, Option, Some, None, IsTrue, IsSome, IfSome, IfOk};
+ghost use Rattle.std.specs.Prelude.{◌≡◌, ◌-◌, ◌≤◌, ◌^◌, pos, Option, Some, None, IsTrue, IsSome, IfSome, IfOk, IsErr};
 ghost use Rattle.ip_ground.specs.Counts.{Counts};
 ghost use Rattle.ip_ground.specs.Told.{NoFile, ChangesOnly};
 ghost use Rattle.ip_ground.specs.declared.names.Exit.TheVariants as Exit;
@@ -8,7 +8,8 @@ ghost use Rattle.ip_check.specs.CheckView.{CheckView};
 ghost use Rattle.ip_check.specs.Checking.{IsSpaceOf};
 ghost use Rattle.ip_spec.specs.Repository.{Repository};
 ghost use Rattle.ip_store.specs.Faults.{ground_finish};
-ghost use Rattle.ip_store.specs.Judging.{FitsExit, EndsCheck, IsCheckOf, IsNextCheck, IsOpen, IsWhole, SlicesBy, TellsVerdict, verdict_by, with_check};
+ghost use Rattle.ip_store.specs.Finishing.{IsUndamaged, looked_at, looked_of};
+ghost use Rattle.ip_store.specs.Judging.{FitsExit, EndsCheck, IsCheckOf, IsNextCheck, IsOpen, SlicesBy, TellsVerdict, verdict_by, with_check};
 ghost use Rattle.ip_store.specs.Store.{IsOf, Holds};
 ghost use Rattle.ip_store.specs.declared.collection.Collection.{Collection as CollectionValue};
 
@@ -43,14 +44,14 @@ impl Store {
         requires tables { (r : Repository) × IsOf self.old r }
         requires running { (c : CollectionValue) × (self.old.collection ≡ Some c) × IsSome c.exit }
         ensures tables { (r : Repository) → IsOf self.old r → IsOf self.new r }
-        ensures check { (c : CollectionValue) → self.old.collection ≡ Some c → (check : Option CheckView) × (self.new ≡ with_check self.old c check) }
+        ensures check { (c : CollectionValue) → self.old.collection ≡ Some c → (check : Option CheckView) × (self.new ≡ with_check self.old c check) × (looked_at c ≤ looked_of check) }
         ensures fits { FitsExit exit result }
         ensures ends { EndsCheck result self.new.collection }
         ensures sliced { (c : CollectionValue) → self.old.collection ≡ Some c → SlicesBy most c result self.new.collection }
         ensures whole { most ≡ 2 ^ 64 - 1 → ¬ IsOpen result }
         ensures holds { IsTrue G.tells → (r : Repository) → Holds self.old (G.told outside.old) r → Holds self.new (G.told outside.new) r }
         ensures says { IsTrue G.tells → (r : Repository) (held : Holds self.old (G.told outside.old) r) (c : CollectionValue) → self.old.collection ≡ Some c → TellsVerdict held.stands.standing.records c (G.told outside.old) result }
-        ensures undamaged { IsTrue G.tells → (r : Repository) → Holds self.old (G.told outside.old) r → IsWhole result }
+        ensures undamaged { IsTrue G.tells → (r : Repository) → Holds self.old (G.told outside.old) r → IsUndamaged result }
         ensures only { IsTrue G.tells → ChangesOnly NoFile (G.told outside.old) (G.told outside.new) }
         ensures counts { Counts ground_finish result (G.counts_of outside.old) (G.counts_of outside.new) }
     {
@@ -60,7 +61,7 @@ impl Store {
         }
     }
 
-    // The check goes on, from its beginning where there was none, and is kept with the collection.
+    // The check goes on, from its beginning where there was none, and is kept with the collection, whatever the answer is.
     fn check<G: Ground>(
         &mut self,
         alloc: Global,
@@ -71,14 +72,14 @@ impl Store {
         requires tables { (r : Repository) × IsOf self.old r }
         requires running { (c : CollectionValue) × (self.old.collection ≡ Some c) × IsSome c.exit }
         ensures tables { (r : Repository) → IsOf self.old r → IsOf self.new r }
-        ensures check { (c : CollectionValue) → self.old.collection ≡ Some c → (check : Option CheckView) × (self.new ≡ with_check self.old c check) }
+        ensures check { (c : CollectionValue) → self.old.collection ≡ Some c → (check : Option CheckView) × (self.new ≡ with_check self.old c check) × (looked_at c ≤ looked_of check) }
         ensures fits { FitsExit (Exit.Code (pos 0)) result }
         ensures ends { EndsCheck result self.new.collection }
         ensures sliced { (c : CollectionValue) → self.old.collection ≡ Some c → SlicesBy most c result self.new.collection }
         ensures whole { most ≡ 2 ^ 64 - 1 → ¬ IsOpen result }
         ensures holds { IsTrue G.tells → (r : Repository) → Holds self.old (G.told outside.old) r → Holds self.new (G.told outside.new) r }
         ensures says { IsTrue G.tells → (r : Repository) (held : Holds self.old (G.told outside.old) r) (c : CollectionValue) → self.old.collection ≡ Some c → TellsVerdict held.stands.standing.records c (G.told outside.old) result }
-        ensures undamaged { IsTrue G.tells → (r : Repository) → Holds self.old (G.told outside.old) r → IsWhole result }
+        ensures undamaged { IsTrue G.tells → (r : Repository) → Holds self.old (G.told outside.old) r → IsUndamaged result }
         ensures only { IsTrue G.tells → ChangesOnly NoFile (G.told outside.old) (G.told outside.new) }
         ensures counts { Counts ground_finish result (G.counts_of outside.old) (G.counts_of outside.new) }
     {
@@ -100,6 +101,7 @@ fn take_check(alloc: Global, collection: &mut Collection, space: &Space) -> Resu
     requires kept { IfSome collection.old.check (IsCheckOf collection.old space.now) }
     ensures taken { collection.new ≡ record collection.old { check = None } }
     ensures next { IfOk result (IsNextCheck collection.old space.now) }
+    ensures begins { IsErr result → collection.old.check ≡ None }
 {
     match collection.check.take() {
         Some(check) => Ok(check),

@@ -1,5 +1,5 @@
 // Committing a work: its refusals, its records, and the durable step.
-ghost use Rattle.std.specs.Prelude.{◌≡◌, ◌≢◌, ◌+◌, ◌++◌, [], ◌∷◌, ◌==◌, ◌≤◌, ◌<◌, ℕ, Option, Ok, Err, None, map, position, All, length, vec_len, IsTrue, IfSome, IfOk, IfErr, OnOk, OnErr, IsErr, IsErrOf};
+ghost use Rattle.std.specs.Prelude.{◌≡◌, ◌≢◌, ◌+◌, ◌++◌, [], ◌∷◌, ◌==◌, ◌≤◌, ◌<◌, ℕ, Option, Ok, Err, None, true, map, position, All, length, vec_len, IsTrue, IfSome, IfOk, IfErr, OnOk, OnErr, IsErr, IsErrOf};
 ghost use Rattle.std.specs.Vec.{vec_capacity};
 ghost use Rattle.std.specs.List.{list_any};
 ghost use Rattle.ip_base.specs.declared.limit.TheConstants.{OFFSET_MAX, PARENTS_MAX};
@@ -24,6 +24,7 @@ ghost use Rattle.ip_store.specs.Commits.{parent_named, reply_to, RefusesBy, met_
 ghost use Rattle.ip_store.specs.Changes.{Appends, HasAnswer, IsUndamaged, IsNextSlot, KeepsNumbers, LimitsSpace};
 ghost use Rattle.ip_store.specs.Histories.{with_parents, MayEnter};
 ghost use Rattle.ip_store.specs.Store.{IsOf, Holds, SameTables, image_records};
+ghost use Rattle.ip_store.specs.TieAppends.{IsTiedAnswer};
 ghost use Rattle.ip_store.specs.Trees.{RecordsStay};
 ghost use Rattle.ip_store.specs.Work.{AreParents, IsLawful, IsAt, IsThere, session};
 ghost use Rattle.ip_store.specs.Collecting.{carried, phase_of, not_leaving_in};
@@ -376,6 +377,8 @@ impl Store {
             Commits r (phase_of self.old.collection) work.old v branch.now info result self.new (G.told outside.old) (G.told outside.new) }
         ensures records_stay { IsTrue G.tells → HasAnswer result → (r q : Repository) (held : Holds self.old (G.told outside.old) r) (now : Holds self.new (G.told outside.new) q) →
             RecordsStay (image_records held) (image_records now) }
+        ensures tied { IsTrue G.tells → (r q : Repository) (held : Holds self.old (G.told outside.old) r) (now : Holds self.new (G.told outside.new) q) →
+            IsTiedAnswer (λ name. true) result self.old held.stands.standing.records self.new now.stands.standing.records }
         ensures counts { Counts ground_store result (G.counts_of outside.old) (G.counts_of outside.new) }
         ensures undamaged { IsUndamaged result }
     {

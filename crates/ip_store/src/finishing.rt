@@ -1,22 +1,19 @@
 // The end of a collection: its child is asked, what it wrote is checked, and where that is the valid pair the store goes over to it.
-ghost use Rattle.std.specs.Prelude.{◌≡◌, ◌≢◌, ◌↔◌, ◌⊎◌, ℕ, ◌-◌, ◌≤◌, ◌^◌, true, false, Option, Some, None, Result, Ok, Err, IsTrue, IsSome, IfSome, IfOk, IsErrOf, OnOk, OnErr, is_some, is_ok, is_err};
+ghost use Rattle.std.specs.Prelude.{◌≡◌, ◌≢◌, ◌↔◌, ◌⊎◌, ℕ, ◌-◌, ◌≤◌, false, Some, None, Result, Ok, Err, IsTrue, IsErrOf, OnOk, OnErr, is_some};
 ghost use Rattle.ip_ground.specs.Calls.{Settles};
 ghost use Rattle.ip_ground.specs.Counts.{CountsAs, FileFault};
 ghost use Rattle.ip_ground.specs.Told.{NoFile, ChangesOnly};
 ghost use Rattle.ip_ground.specs.declared.names.Reaped.{Reaped as ReapedValue};
-ghost use Rattle.ip_spawn.specs.Children.{end_seen, end_reaped, is_running, told_after};
-ghost use Rattle.ip_spawn.specs.Counts as spawn;
-ghost use Rattle.ip_spawn.specs.declared.spawner.Look.{Look as LookValue};
-ghost use Rattle.ip_spawn.specs.declared.spawner.SpawnFault.{SpawnFault as SpawnFaultValue};
 ghost use Rattle.ip_spec.specs.declared.command.Command.{Command as CommandValue};
 ghost use Rattle.ip_spec.specs.declared.command.Command.TheVariants as Command;
 ghost use Rattle.ip_spec.specs.declared.met.Child.{Child as ChildValue};
 ghost use Rattle.ip_spec.specs.declared.met.Child.TheVariants as Heard;
 ghost use Rattle.ip_spec.specs.Repository.{Repository};
 ghost use Rattle.ip_store.specs.Collecting.{child_of};
-ghost use Rattle.ip_store.specs.Ending.{Ends, EndsBy, Goes, IsHeardIn, Listens, MayBeHeard, held_behind};
-ghost use Rattle.ip_store.specs.Finishing.{FinishReplies, LookReplies, as_look, child_seen, child_reaped, fault_by, met_by_finish, conditions_by, Concludes, HasAnswer, IsAsked, IsChecking, IsUndamaged, IsQuiet, IsOver, IsKept, SlotBy, KeepsCollection, Slices, CountsFinish, unswept_by, LimitsFinish, FinishesBy, WorksStay};
+ghost use Rattle.ip_store.specs.Ending.{AwaitsChild, Ends, EndsBy, Goes, IsHeardIn, Listens, MayBeHeard, SeesChild, held_behind};
+ghost use Rattle.ip_store.specs.Finishing.{FinishReplies, LookReplies, as_look, fault_by, met_by_finish, conditions_by, Concludes, HasAnswer, IsAsked, IsChecking, IsUndamaged, IsQuiet, IsOver, IsKept, SlotBy, KeepsCollection, Slices, CountsFinish, unswept_by, LimitsFinish, FinishesBy, WorksStay};
 ghost use Rattle.ip_store.specs.Store.{IsOf, Holds};
+ghost use Rattle.ip_store.specs.Tie.{IsTied, finish_events};
 ghost use Rattle.ip_store.specs.declared.finishing.FinishFault.TheVariants as FinishFault;
 ghost use Rattle.ip_store.specs.declared.finishing.Looked.TheVariants as Looked;
 ghost use Rattle.ip_store.specs.declared.collection.Collection.{Collection};
@@ -293,8 +290,7 @@ impl Store {
         ensures child { P.held spawner.new ≡ held_behind result (child_of self.now.collection) }
         ensures idle { self.now.collection ≡ None → spawner.new ≡ spawner.old }
         ensures kept { (c : Collection) (reaped : ReapedValue) → self.now.collection ≡ Some c → c.exit ≡ Some reaped → (spawner.new ≡ spawner.old) × (result ≡ Heard.Ended reaped) }
-        ensures asked { (c : Collection) → self.now.collection ≡ Some c → c.exit ≡ None → (answer : Result LookValue SpawnFaultValue) × (result ≡ child_seen answer) × IfSome (end_seen answer) (λ reaped. reaped.attempt ≡ c.job.attempt)
-            × (IsTrue P.tells → P.told spawner.new ≡ told_after (end_seen answer) (P.told spawner.old)) × spawn.Counts (is_running answer) false (is_some (end_seen answer)) (is_err answer) (P.counts_of spawner.old) (P.counts_of spawner.new) }
+        ensures asked { (c : Collection) → self.now.collection ≡ Some c → c.exit ≡ None → SeesChild c.job.attempt result P.tells (P.told spawner.old) (P.told spawner.new) (P.counts_of spawner.old) (P.counts_of spawner.new) }
     {
         let Some(collection) = &self.collection else {
             return Child::NotAsked;
@@ -317,8 +313,7 @@ impl Store {
         ensures child { P.held spawner.new ≡ held_behind result (child_of self.now.collection) }
         ensures idle { self.now.collection ≡ None → spawner.new ≡ spawner.old }
         ensures kept { (c : Collection) (reaped : ReapedValue) → self.now.collection ≡ Some c → c.exit ≡ Some reaped → (spawner.new ≡ spawner.old) × (result ≡ Heard.Ended reaped) }
-        ensures asked { (c : Collection) → self.now.collection ≡ Some c → c.exit ≡ None → (answer : Result ReapedValue SpawnFaultValue) × (result ≡ child_reaped answer) × IfSome (end_reaped answer) (λ reaped. reaped.attempt ≡ c.job.attempt)
-            × (IsTrue P.tells → P.told spawner.new ≡ told_after (end_reaped answer) (P.told spawner.old)) × spawn.Counts false true (is_ok answer) (is_err answer) (P.counts_of spawner.old) (P.counts_of spawner.new) }
+        ensures asked { (c : Collection) → self.now.collection ≡ Some c → c.exit ≡ None → AwaitsChild c.job.attempt result P.tells (P.told spawner.old) (P.told spawner.new) (P.counts_of spawner.old) (P.counts_of spawner.new) }
     {
         let Some(collection) = &self.collection else {
             return Child::NotAsked;
@@ -350,8 +345,7 @@ impl Store {
         ensures quiet { IsQuiet result → (outside.new ≡ outside.old) × (self.new ≡ record self.old { met = self.new.met }) }
         // A child that was reaped before is not asked again.
         ensures kept { (c : Collection) (reaped : ReapedValue) → self.old.collection ≡ Some c → c.exit ≡ Some reaped → (spawner.new ≡ spawner.old) × (self.new.met.child ≡ Heard.Ended reaped) }
-        ensures asked { (c : Collection) → self.old.collection ≡ Some c → c.exit ≡ None → (answer : Result LookValue SpawnFaultValue) × (self.new.met.child ≡ child_seen answer) × IfSome (end_seen answer) (λ reaped. reaped.attempt ≡ c.job.attempt)
-            × (IsTrue P.tells → P.told spawner.new ≡ told_after (end_seen answer) (P.told spawner.old)) × spawn.Counts (is_running answer) false (is_some (end_seen answer)) (is_err answer) (P.counts_of spawner.old) (P.counts_of spawner.new) }
+        ensures asked { (c : Collection) → self.old.collection ≡ Some c → c.exit ≡ None → SeesChild c.job.attempt self.new.met.child P.tells (P.told spawner.old) (P.told spawner.new) (P.counts_of spawner.old) (P.counts_of spawner.new) }
         ensures ended { IsQuiet result ⊎ ((reaped : ReapedValue) × (self.new.met.child ≡ Heard.Ended reaped)) }
         // How the child ended is kept where it is not over, and so is the check.
         ensures goes_on { IsKept result → (c : Collection) (reaped : ReapedValue) → self.old.collection ≡ Some c → self.new.met.child ≡ Heard.Ended reaped → KeepsCollection c reaped self.new.collection }
@@ -364,6 +358,8 @@ impl Store {
             FinishesBy held.stands.standing.records r c Command.Look result self.old.unswept self.new (G.told outside.old) (G.told outside.new) }
         ensures undamaged { IsTrue G.tells → (r : Repository) → Holds self.old (G.told outside.old) r → IsUndamaged result }
         ensures works_stay { IsTrue G.tells → HasAnswer result → (r q : Repository) (held : Holds self.old (G.told outside.old) r) (now : Holds self.new (G.told outside.new) q) → WorksStay held now }
+        ensures tied { IsTrue G.tells → HasAnswer result → (r q : Repository) (held : Holds self.old (G.told outside.old) r) (now : Holds self.new (G.told outside.new) q) →
+            IsTied self.old held.stands.standing.records self.new now.stands.standing.records (finish_events self.old.collection result) }
         ensures counts { CountsFinish result self.new.met.left (G.counts_of outside.old) (G.counts_of outside.new) }
     {
         let child = self.seen(spawner);
@@ -389,8 +385,7 @@ impl Store {
         ensures quiet { IsQuiet (as_look result) → (outside.new ≡ outside.old) × (self.new ≡ record self.old { met = self.new.met }) }
         // A child that was reaped before is not asked again.
         ensures kept { (c : Collection) (reaped : ReapedValue) → self.old.collection ≡ Some c → c.exit ≡ Some reaped → (spawner.new ≡ spawner.old) × (self.new.met.child ≡ Heard.Ended reaped) }
-        ensures asked { (c : Collection) → self.old.collection ≡ Some c → c.exit ≡ None → (answer : Result ReapedValue SpawnFaultValue) × (self.new.met.child ≡ child_reaped answer) × IfSome (end_reaped answer) (λ reaped. reaped.attempt ≡ c.job.attempt)
-            × (IsTrue P.tells → P.told spawner.new ≡ told_after (end_reaped answer) (P.told spawner.old)) × spawn.Counts false true (is_ok answer) (is_err answer) (P.counts_of spawner.old) (P.counts_of spawner.new) }
+        ensures asked { (c : Collection) → self.old.collection ≡ Some c → c.exit ≡ None → AwaitsChild c.job.attempt self.new.met.child P.tells (P.told spawner.old) (P.told spawner.new) (P.counts_of spawner.old) (P.counts_of spawner.new) }
         ensures ended { IsQuiet (as_look result) ⊎ ((reaped : ReapedValue) × (self.new.met.child ≡ Heard.Ended reaped)) }
         // How the child ended is kept where it is not over, and so is the check.
         ensures goes_on { IsKept (as_look result) → (c : Collection) (reaped : ReapedValue) → self.old.collection ≡ Some c → self.new.met.child ≡ Heard.Ended reaped → KeepsCollection c reaped self.new.collection }
@@ -402,6 +397,8 @@ impl Store {
             FinishesBy held.stands.standing.records r c Command.Finish (as_look result) self.old.unswept self.new (G.told outside.old) (G.told outside.new) }
         ensures undamaged { IsTrue G.tells → (r : Repository) → Holds self.old (G.told outside.old) r → IsUndamaged (as_look result) }
         ensures works_stay { IsTrue G.tells → HasAnswer (as_look result) → (r q : Repository) (held : Holds self.old (G.told outside.old) r) (now : Holds self.new (G.told outside.new) q) → WorksStay held now }
+        ensures tied { IsTrue G.tells → HasAnswer (as_look result) → (r q : Repository) (held : Holds self.old (G.told outside.old) r) (now : Holds self.new (G.told outside.new) q) →
+            IsTied self.old held.stands.standing.records self.new now.stands.standing.records (finish_events self.old.collection (as_look result)) }
         ensures counts { CountsFinish (as_look result) self.new.met.left (G.counts_of outside.old) (G.counts_of outside.new) }
     {
         let child = self.awaited(spawner);

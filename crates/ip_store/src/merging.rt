@@ -14,6 +14,7 @@ ghost use Rattle.ip_store.specs.Faults.{ground_store};
 ghost use Rattle.ip_store.specs.Merging.{merge_reply, AnswersMerge, AppendsMerge, GoesOnFrom, LimitsMerge, MergesAtMoments, IsCourse, IsCourseBy, IsBaseTree, IsJoin, IsJoined, IsForward, IsForwarded, course_in, stopped_by, unless_leaving};
 ghost use Rattle.ip_store.specs.Showing.{IsFetchedOr};
 ghost use Rattle.ip_store.specs.Store.{IsOf, Holds, SameTables, image_records};
+ghost use Rattle.ip_store.specs.TieAppends.{IsTiedAnswer, moves};
 ghost use Rattle.ip_store.specs.Trees.{OnlyLooks, RecordsStay};
 
 use crate::naming::set_record;
@@ -148,6 +149,8 @@ impl Store {
             MergesAtMoments (D.rule rules.now) r (phase_of self.old.collection) number branch.now info result self.new (G.told outside.old) (G.told outside.new) }
         ensures records_stay { IsTrue G.tells → HasAnswer result → (r q : Repository) (held : Holds self.old (G.told outside.old) r) (now : Holds self.new (G.told outside.new) q) →
             RecordsStay (image_records held) (image_records now) }
+        ensures tied { IsTrue G.tells → (r q : Repository) (held : Holds self.old (G.told outside.old) r) (now : Holds self.new (G.told outside.new) q) →
+            IsTiedAnswer moves result self.old held.stands.standing.records self.new now.stands.standing.records }
         ensures counts { Counts ground_store result (G.counts_of outside.old) (G.counts_of outside.new) }
         // Files that others changed are never met where the ground tells what the store holds.
         ensures undamaged { IsTrue G.tells → IsDecisive (D.rule rules.now) → (r : Repository) → Holds self.old (G.told outside.old) r → IsTrue (is_retained r number) → IsUndamaged result }
@@ -230,6 +233,8 @@ impl Store {
             Changes r (with_branch r branch.now number) result self.new (G.told outside.old) (G.told outside.new) }
         ensures records_stay { IsTrue G.tells → HasAnswer result → (r q : Repository) (held : Holds self.old (G.told outside.old) r) (now : Holds self.new (G.told outside.new) q) →
             RecordsStay (image_records held) (image_records now) }
+        ensures tied { IsTrue G.tells → (r q : Repository) (held : Holds self.old (G.told outside.old) r) (now : Holds self.new (G.told outside.new) q) →
+            IsTiedAnswer moves result self.old held.stands.standing.records self.new now.stands.standing.records }
         ensures counts { Counts ground_store result (G.counts_of outside.old) (G.counts_of outside.new) }
     {
         let name = self.retained_name(number);
@@ -269,6 +274,8 @@ impl Store {
             MergesAtMoments (D.rule rules.now) r (phase_of self.old.collection) sides.now.number branch.now info result self.new (G.told outside.old) (G.told outside.new) }
         ensures records_stay { IsTrue G.tells → HasAnswer result → (r q : Repository) (held : Holds self.old (G.told outside.old) r) (now : Holds self.new (G.told outside.new) q) →
             RecordsStay (image_records held) (image_records now) }
+        ensures tied { IsTrue G.tells → (r q : Repository) (held : Holds self.old (G.told outside.old) r) (now : Holds self.new (G.told outside.new) q) →
+            IsTiedAnswer moves result self.old held.stands.standing.records self.new now.stands.standing.records }
         ensures counts { Counts ground_store result (G.counts_of outside.old) (G.counts_of outside.new) }
         ensures undamaged { IsTrue G.tells → IsDecisive (D.rule rules.now) → (r : Repository) → Holds self.old (G.told outside.old) r → IsJoin r (phase_of self.old.collection) branch.now sides.now → IsUndamaged result }
     {

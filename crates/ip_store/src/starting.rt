@@ -1,5 +1,5 @@
 // Beginning a collection: a table of the branches behind all records, the slot that ends there and draws an attempt, and a child for it.
-ghost use Rattle.std.specs.Prelude.{◌≡◌, ◌⊎◌, ℕ, ◌+◌, ◌<◌, ◌++◌, length, map, true, false, Option, Some, None, Ok, Err, IsTrue, IfOk, IfErr, OnOk, IsOk, IsErr, IsErrOf, is_ok, is_err, if◌then◌else◌, MatchOption, IsSomeAnd};
+ghost use Rattle.std.specs.Prelude.{◌≡◌, ◌⊎◌, ℕ, ◌+◌, ◌<◌, [], ◌∷◌, ◌++◌, length, map, true, false, Option, Some, None, Ok, Err, IsTrue, IfOk, IfErr, OnOk, IsOk, IsErr, IsErrOf, is_ok, is_err, if◌then◌else◌, MatchOption, IsSomeAnd};
 ghost use Rattle.ip_base.specs.declared.limit.TheConstants.{OFFSET_MAX};
 ghost use Rattle.ip_ground.specs.Counts.{Counts};
 ghost use Rattle.ip_spawn.specs.Counts as spawn;
@@ -12,6 +12,7 @@ ghost use Rattle.ip_store.specs.Collecting.{child_of, IsGoing, Collects};
 ghost use Rattle.ip_store.specs.Faults.{ground_start};
 ghost use Rattle.ip_store.specs.Starting.{new_collection, table_of, branch_name_at, branch_row, Replies, met_by_start, AnswersStart, IsBegun, IsTurnedDown, LimitsStart, IsJobAt, IsFree, RefusesStart, started_by, IsStart, Begins, StartsCollection};
 ghost use Rattle.ip_store.specs.Store.{IsOf, Holds, image_records};
+ghost use Rattle.ip_store.specs.Tie.{IsTied, begin_events};
 ghost use Rattle.ip_store.specs.Trees.{RecordsStay};
 ghost use Rattle.ip_store.specs.declared.starting.CollectFault.TheVariants as CollectFault;
 
@@ -241,6 +242,8 @@ impl Store {
             StartsCollection r self.old.slot.next_attempt result self.new (G.told outside.old) (G.told outside.new) }
         ensures records_stay { IsTrue G.tells → IsBegun result → (r q : Repository) (held : Holds self.old (G.told outside.old) r) (now : Holds self.new (G.told outside.new) q) →
             RecordsStay (image_records held) (image_records now) }
+        ensures tied { IsTrue G.tells → ¬ IsErrOf result CollectFault.Ground → (r q : Repository) (held : Holds self.old (G.told outside.old) r) (now : Holds self.new (G.told outside.new) q) →
+            IsTied self.old held.stands.standing.records self.new now.stands.standing.records (begin_events ((self.old.slot.end, table_of r) ∷ []) self.new.collection result) }
         ensures counts { Counts ground_start result (G.counts_of outside.old) (G.counts_of outside.new) }
     {
         let name = self.retained_name(number);

@@ -17,11 +17,11 @@ ghost use Rattle.ip_check.specs.CheckView.{CheckView};
 ghost use Rattle.ip_check.specs.Checking.{IsCheck, IsVerdict};
 ghost use Rattle.ip_store.specs.Collecting.{until};
 ghost use Rattle.ip_store.specs.Faults.{ground_finish};
-ghost use Rattle.ip_store.specs.Finishing.{swapped_slot};
+ghost use Rattle.ip_store.specs.Finishing.{IsUndamaged, swapped_slot};
 ghost use Rattle.ip_store.specs.Judging.{IsThrough};
 ghost use Rattle.ip_store.specs.Publishing.{TurnsGate};
 ghost use Rattle.ip_store.specs.Store.{IsOf, Holds};
-ghost use Rattle.ip_store.specs.Swapping.{Accepts, AcceptsAs, IsSwap, IsSwapFault, IsTurnedDown, IsUndamaged, RefusesSwap, SwapsTables, SyncsPair, turned_down};
+ghost use Rattle.ip_store.specs.Swapping.{Accepts, AcceptsAs, IsSwap, IsSwapFault, IsTurnedDown, RefusesSwap, SwapsTables, SyncsPair, turned_down};
 ghost use Rattle.ip_store.specs.declared.collection.Collection.{Collection as CollectionValue};
 ghost use Rattle.ip_store.specs.declared.finishing.FinishFault.TheVariants as FinishFault;
 

@@ -1,5 +1,5 @@
 use Rattle.std.proofs.Common.{◌≡◌, rules, refl, sym, ap, subst, ◌∙◌, length}
-use Rattle.std.specs.Prelude.{Err}
+use Rattle.std.specs.Prelude.{Err, true, [], ◌∷◌}
 use Rattle.ip_spec.specs.Record.{spelling}
 use Rattle.ip_image.specs.declared.slot.Slot.{Slot}
 use Rattle.ip_image.specs.Slot.{IsChunkSize}
@@ -11,6 +11,8 @@ use Rattle.ip_store.specs.Collecting.{carried}
 use Rattle.ip_store.proofs.Stepping.{itself, changes_none, stays_still, same_step}
 use Rattle.ip_image.proofs.Renaming.{spelled_is}
 use Rattle.ip_store.proofs.Renamed.{renamed_tables, further, inside, can_rename, was_renamed, rename_cut, stays_renamed, list_renamed, slot_from, may_same}
+use Rattle.ip_store.specs.TieAppends.{IsTiedAnswer}
+use Rattle.ip_store.proofs.CoreAppends.{is_appended, sees_same, still_fault}
 use Rattle.ip_store.proofs.store.Store.append_branch_record.Goals as goal
 
 pub returns-in_err-spelled-clause-any_moment : goal.returns-in_err-spelled-clause-any_moment
@@ -99,3 +101,38 @@ returns-clause-appends g c told =
           (same_step c.args.self.now.slot.end c.args.self.now.slot.end c.args.self.now.index c.args.self.now.index _ (spelling c.args.rec) c.in_ok-slot.slot c.in_ok-slot.slot _ (g.G.Ground.told c.args.outside.now) (g.G.Ground.told c.durable_step.new.outside)
           refl refl (c.as_slice-bytes.ensures.value ∙ c.in_ok-spelled.ensures) refl (c.in_ok-durable_step.ensures.does told (can_rename r c.args.self.now held.tables c.args.rec may c.requires.fits c.requires.served c.in_ok-slot.slot c.args.self.now.slot.next_attempt slot.0 slot.1 (λ _ _. refl) (g.G.Ground.told c.args.outside.now) held))) now;
     }
+
+-- ---- the core
+
+pub returns-in_err-spelled-clause-tied : goal.returns-in_err-spelled-clause-tied
+returns-in_err-spelled-clause-tied g c told r q held now =
+    let is : c.from_residual.result ≡ Err StoreFault.Memory = search rules in
+    subst (λ res. IsTiedAnswer {A = Unit {0}} (λ done. true) res c.args.self.now held.stands.standing.records c.args.self.now now.stands.standing.records) (sym is)
+    (still_fault c.args.self.now c.args.self.now held.stands.standing.records now.stands.standing.records (sees_same c.args.self.now c.args.self.now (itself c.args.self.now) (g.G.Ground.told c.args.outside.now) r q held now) StoreFault.Memory)
+
+pub returns-in_err-slot-clause-tied : goal.returns-in_err-slot-clause-tied
+returns-in_err-slot-clause-tied g c told r q held now =
+    let fault = c.in_err-slot.field-0.0 in
+    let is : c.from_residual-in_err-slot.result ≡ Err fault = search rules in
+    subst (λ res. IsTiedAnswer {A = Unit {0}} (λ done. true) res c.args.self.now held.stands.standing.records c.args.self.now now.stands.standing.records) (sym is)
+    (still_fault c.args.self.now c.args.self.now held.stands.standing.records now.stands.standing.records (sees_same c.args.self.now c.args.self.now (itself c.args.self.now) (g.G.Ground.told c.args.outside.now) r q held now) fault)
+
+pub returns-in_err-name_branch-clause-tied : goal.returns-in_err-name_branch-clause-tied
+returns-in_err-name_branch-clause-tied g c told r q held now =
+    let is : c.from_residual-in_err-name_branch.result ≡ Err StoreFault.Memory = search rules in
+    let store : Store = record { index = c.args.self.now.index; slot = c.args.self.now.slot; names = c.args.self.now.names; branches = c.name_branch.new.branches; history = c.args.self.now.history; places = c.args.self.now.places; space = c.args.self.now.space; collection = c.args.self.now.collection; unswept = c.args.self.now.unswept; met = c.args.self.now.met } in
+    subst (λ res. IsTiedAnswer {A = Unit {0}} (λ done. true) res c.args.self.now held.stands.standing.records store now.stands.standing.records) (sym is)
+    (still_fault c.args.self.now store held.stands.standing.records now.stands.standing.records
+    (sees_same c.args.self.now store (record { index = refl; slot = refl; names = refl; places = refl; branches = c.in_err-name_branch.ensures.err; history = refl; space = refl; collection = refl; unswept = refl }) (g.G.Ground.told c.args.outside.now) r q held now) StoreFault.Memory)
+
+pub returns-in_err-durable_step-clause-tied : goal.returns-in_err-durable_step-clause-tied
+returns-in_err-durable_step-clause-tied g c told r q held now =
+    let is : c.from_residual-in_err-durable_step.result ≡ Err StoreFault.Ground = search rules in
+    let store : Store = record { index = c.args.self.now.index; slot = c.args.self.now.slot; names = c.args.self.now.names; branches = c.name_branch.new.branches; history = c.args.self.now.history; places = c.args.self.now.places; space = c.args.self.now.space; collection = c.args.self.now.collection; unswept = c.args.self.now.unswept; met = c.args.self.now.met } in
+    subst (λ res. IsTiedAnswer {A = Unit {0}} (λ done. true) res c.args.self.now held.stands.standing.records store now.stands.standing.records) (sym is) tt
+
+pub returns-clause-tied : goal.returns-clause-tied
+returns-clause-tied g c told r q held now =
+    let slot = slot_from c.args.self.now c.requires.tables.0 c.args.rec _ c.in_ok-slot.slot c.requires.tables.1 (ap length (c.as_slice-bytes.ensures.value ∙ c.in_ok-spelled.ensures)) c.in_ok-slot.ensures in
+    let list = (returns-clause-appends g c told).records r q held now in
+    is_appended c.args.self.now _ (g.G.Ground.told c.args.outside.now) (g.G.Ground.told c.durable_step.new.outside) r q held now refl (ap (λ (s : Slot). s.horizon) slot.0) ((c.args.self.now.slot.end, c.args.rec) ∷ []) list (refl, ap (λ (s : Slot). s.end) (sym slot.0))

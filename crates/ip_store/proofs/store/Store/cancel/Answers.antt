@@ -1,5 +1,11 @@
-use Rattle.std.proofs.Common.{sym, ◌∙◌}
-use Rattle.ip_store.proofs.Cancels.{none_runs, idle_answers, orphan_answers, done_answers, orphan_left, orphan_stays, cut_off, swept_away, swept_stays}
+use Rattle.std.proofs.Common.{◌≡◌, rules, Ok, Err, refl, sym, ◌∙◌, ap}
+use Rattle.ip_image.proofs.OneRepository.{all_records}
+use Rattle.ip_store.specs.declared.cancelling.CancelFault.TheVariants as CancelFault
+use Rattle.ip_store.specs.declared.cancelling.Cancelled.TheVariants as Cancelled
+use Rattle.ip_store.specs.declared.store.Store.{Store}
+use Rattle.ip_store.proofs.Cancels.{none_runs, idle_answers, orphan_answers, done_answers, orphan_left, orphan_stays, cut_off, swept_away, swept_list, swept_stays}
+use Rattle.ip_store.proofs.EndTied.{cancel_tied}
+use Rattle.ip_store.proofs.CoreAppends.{tied_still}
 use Rattle.ip_store.proofs.store.Store.cancel.Goals as goal
 
 pub returns-in_default-clause-answered : goal.returns-in_default-clause-answered
@@ -30,3 +36,20 @@ returns-clause-any_moment g c told r holds x runs =
 pub returns-clause-records_stay : goal.returns-clause-records_stay
 returns-clause-records_stay g c told ok r q held now =
     swept_stays c.args.self.now r _ held c.in-Some.collection (sym c.take.ensures.value ∙ c.in-Some.is) c.in-Some.collection (sym c.take.ensures.value ∙ c.in-Some.is) c.sweep-left.result _ _ (c.in_ok-settle.ensures.does told) (c.sweep-left.ensures.does told) _ q now
+
+pub returns-in_default-clause-tied : goal.returns-in_default-clause-tied
+returns-in_default-clause-tied g c told answered r q held now =
+    tied_still c.args.self.now _ held.stands.standing.records now.stands.standing.records (c.take.ensures.after ∙ sym (none_runs c.args.self.now.collection (λ x e. c.in_default.not-Some x (c.take.ensures.value ∙ e)))) refl (sym (all_records _ held.stands.standing now.stands.standing))
+
+pub returns-in-Err-clause-tied : goal.returns-in-Err-clause-tied
+returns-in-Err-clause-tied g c told answered r q held now =
+    cancel_tied c.args.self.now _ c.in-Some.collection (sym c.take.ensures.value ∙ c.in-Some.is) c.take.ensures.after refl _ held.stands.standing now.stands.standing.records (sym (all_records _ held.stands.standing now.stands.standing)) (Ok Cancelled.Orphan) refl
+
+pub returns-in_err-settle-clause-tied : goal.returns-in_err-settle-clause-tied
+returns-in_err-settle-clause-tied g c told answered = (let e : c.from_residual.result ≡ Err CancelFault.Ground = search rules in absurd (answered e))
+
+pub returns-clause-tied : goal.returns-clause-tied
+returns-clause-tied g c told answered r q held now =
+    let runs = sym c.take.ensures.value ∙ c.in-Some.is in
+    cancel_tied c.args.self.now _ c.in-Some.collection runs (ap (λ (s : Store). s.collection) c.sweep-left.ensures.unswept ∙ c.take.ensures.after) (ap (λ (s : Store). s.slot) c.sweep-left.ensures.unswept) _ held.stands.standing now.stands.standing.records
+    (swept_list c.args.self.now r _ held c.in-Some.collection runs c.in-Some.collection runs c.sweep-left.result _ _ (c.in_ok-settle.ensures.does told) (c.sweep-left.ensures.does told) _ q now) (Ok Cancelled.Done) refl

@@ -1,14 +1,16 @@
-use Rattle.std.proofs.Common.{◌∙◌, pos, sym, ap, subst, Some, None}
+use Rattle.std.proofs.Common.{◌∙◌, ◌≤◌, pos, refl, sym, ap, subst, Some, None}
 use Rattle.ip_ground.specs.declared.names.Exit.TheVariants as Exit
 use Rattle.ip_ground.specs.Counts.{Counts}
 use Rattle.ip_store.specs.declared.collection.Collection.{Collection}
 use Rattle.ip_store.specs.declared.store.Store.{Store}
 use Rattle.ip_store.specs.Collecting.{until}
+use Rattle.ip_check.specs.Checking.{looked_by}
 use Rattle.ip_store.specs.Faults.{ground_finish}
-use Rattle.ip_store.specs.Judging.{EndsCheck, FitsExit, IsOpen, IsWhole, SlicesBy, TellsVerdict}
+use Rattle.ip_store.specs.Finishing.{IsUndamaged, looked_at}
+use Rattle.ip_store.specs.Judging.{EndsCheck, FitsExit, IsOpen, SlicesBy, TellsVerdict}
 use Rattle.ip_store.specs.Store.{Holds, IsOf}
 use Rattle.ip_store.proofs.Going.{phase_here}
-use Rattle.ip_store.proofs.Judged.{begins_checking, begins_over, counts_check, ends_through, has_exit, job_space, kept_check, no_damage, not_open, put_check, same_one, sliced_holds, sliced_says, sliced_tables, slices, with_holds, zero_fits}
+use Rattle.ip_store.proofs.Judged.{begins_checking, begins_over, counts_check, ends_through, has_exit, job_space, kept_check, looks_on, no_damage, none_looked, not_open, put_check, same_one, sliced_holds, sliced_says, sliced_tables, slices, with_holds, zero_fits}
 use Rattle.ip_store.proofs.store.Store.check.Goals as goal
 
 pub returns-in_err-check-clause-holds : goal.returns-in_err-check-clause-holds
@@ -19,11 +21,28 @@ returns-in_err-check-clause-holds g c told r held =
     (with_holds store r x c.in-Some.is (has_exit store.collection x c.in-Some.is c.requires.running) (g.G.Ground.told c.args.outside.now) held None tt tt)
 
 pub returns-clause-check : goal.returns-clause-check
-returns-clause-check g c x runs = (
-  Some c.advance-outcome.new.self,
-  put_check c.args.self.now x c.take_check.new.collection (Some c.advance-outcome.new.self)
-      (c.take_check.ensures.taken ∙ ap (λ (y : Collection). record y { check = None }) (same_one c.args.self.now.collection c.in-Some.collection x c.in-Some.is runs)),
-)
+returns-clause-check g c y runs =
+    let store = c.args.self.now in
+    let x = c.in-Some.collection in
+    let same = same_one store.collection x y c.in-Some.is runs in
+    let (r, of) = c.requires.tables in
+    let slice = c.advance-outcome.ensures in
+    let now = c.advance-outcome.new.self in (
+      Some now,
+      put_check store y c.take_check.new.collection (Some now) (c.take_check.ensures.taken ∙ ap (λ (z : Collection). record z { check = None }) same),
+      subst (λ (z : Collection). looked_at z ≤ looked_by now) same
+          (looks_on store r x c.in-Some.is (has_exit store.collection x c.in-Some.is c.requires.running) c.in_ok-check.check c.in_ok-check.ensures.next now slice.check slice.same c.args.most c.advance-outcome.result slice.advances),
+    )
+
+pub returns-in_err-check-clause-check : goal.returns-in_err-check-clause-check
+returns-in_err-check-clause-check g c y runs =
+    let store = c.args.self.now in
+    let x = c.in-Some.collection in
+    let same = same_one store.collection x y c.in-Some.is runs in (
+      None,
+      ap (λ (z : Collection). record store { collection = Some z }) (c.take_check.ensures.taken ∙ ap (λ (z : Collection). record z { check = None }) same),
+      subst (λ (z : Collection). looked_at z ≤ 0) same (none_looked x None (c.in_err-check.ensures.begins refl)),
+    )
 
 pub returns-clause-whole : goal.returns-clause-whole
 returns-clause-whole g c all opens =
@@ -68,7 +87,7 @@ returns-clause-undamaged g c told r held =
     let next = c.in_ok-check.ensures.next in
     let over = begins_over store r x c.in-Some.is some c.in_ok-check.check next c.advance-outcome.new.self slice.check slice.same a held in
     let begins = begins_checking store r x c.in-Some.is some c.in_ok-check.check next c.advance-outcome.new.self slice.check slice.same a held in
-    subst IsWhole (sym c.verdict_of.ensures)
+    subst IsUndamaged (sym c.verdict_of.ensures)
     (no_damage c.advance-outcome.result c.left-left.result (slice.undamaged told over.readable over.fixed (until x.job.end held.stands.standing.records) over.whole begins))
 
 pub take_check-requires-clause-job : goal.take_check-requires-clause-job

@@ -1,4 +1,4 @@
-use Rattle.std.proofs.Common.{◌≡◌, ◌+◌, ◌-◌, ◌^◌, ◌≤◌, ◌++◌, length, [], ◌∷◌, ℕ, Some, None, rules, refl, sym, ◌∙◌, ap, subst}
+use Rattle.std.proofs.Common.{◌≡◌, ◌+◌, ◌-◌, ◌^◌, ◌≤◌, ◌++◌, length, [], ◌∷◌, ℕ, Some, None, true, rules, refl, sym, ◌∙◌, ap, subst}
 use Rattle.std.specs.Prelude.{Err, position}
 use Rattle.ip_spec.specs.declared.command.Command.TheVariants as Command
 use Rattle.ip_spec.specs.Path.{same_bytes}
@@ -19,9 +19,13 @@ use Rattle.ip_store.proofs.Machine.{refused_memory}
 use Rattle.ip_store.proofs.Phases.{retained_parents}
 use Rattle.ip_store.proofs.Planning.{err_of}
 use Rattle.ip_store.proofs.Stepping.{itself, same_tables, changes_none, stays_still, same_can_step, same_step}
-use Rattle.ip_store.proofs.AfterCommit.{some_commit, after_tables, after_parents, held_after, list_committed, read_root, further, inside, can_step, stays_committed, made, cut, saved_tree, stored_tree, work_after, answers_refused, answers_made, same_at}
+use Rattle.ip_store.proofs.AfterCommit.{some_commit, after_tables, after_parents, held_after, list_committed, read_root, further, inside, can_step, more_committed, stays_committed, made, cut, saved_tree, stored_tree, work_after, answers_refused, answers_made, same_at}
 use Rattle.ip_store.proofs.Tables.{none_named, free}
 use Rattle.ip_store.proofs.Noted.{noted_itself, noted_same, noted_changes, noted_answers, answers_met}
+use Rattle.ip_spec.specs.Batch.{AreEndToEnd}
+use Rattle.ip_spec.specs.Record.{Hash}
+use Rattle.ip_store.specs.TieAppends.{IsTiedAnswer}
+use Rattle.ip_store.proofs.CoreAppends.{is_appended, noted_fault, noted_tied, sees_same, still_fault}
 use Rattle.ip_store.proofs.store.Store.commit.Goals as goal
 
 pub enter-entered-requires-clause-new : goal.enter-entered-requires-clause-new
@@ -237,3 +241,32 @@ returns-clause-appends g c told r v at =
           same_step c.enter-entered.new.self.slot.end c.args.self.now.slot.end c.enter-entered.new.self.index c.args.self.now.index c.bytes.result.now plan.batch.bytes.items plan.slot plan.slot _ (g.G.Ground.told c.args.outside.now) (g.G.Ground.told c.durable_step.new.outside)
           (ap (λ (s : Slot). s.end) c.enter-entered.ensures.rest.1) c.enter-entered.ensures.rest.0 c.bytes.ensures refl (c.in_ok-durable_step.ensures.does told can)) r' q before after;
     }
+
+-- ---- the core
+
+pub returns-in-Err-clause-tied : goal.returns-in-Err-clause-tied
+returns-in-Err-clause-tied g c told r q held now = noted_fault (λ name. true) c.args.self.now c.noted.new.self c.in-Err.fault c.noted.result c.noted.ensures.answer c.noted.ensures.met (g.G.Ground.told c.args.outside.now) r q held now
+
+pub returns-in-Err-entered-clause-tied : goal.returns-in-Err-entered-clause-tied
+returns-in-Err-entered-clause-tied g c told r q held now =
+    noted_tied (λ name. true) c.args.self.now c.enter-entered.new.self c.noted-in-Err-entered.new.self (Err StoreFault.Memory) c.noted-in-Err-entered.result c.noted-in-Err-entered.ensures.answer c.noted-in-Err-entered.ensures.met (g.G.Ground.told c.args.outside.now) q held.stands.standing.records
+    (λ mid. still_fault c.args.self.now c.enter-entered.new.self held.stands.standing.records mid.stands.standing.records (sees_same c.args.self.now c.enter-entered.new.self c.in-Err-entered.ensures.err (g.G.Ground.told c.args.outside.now) r q held mid) StoreFault.Memory) now
+
+pub returns-in_err-durable_step-clause-tied : goal.returns-in_err-durable_step-clause-tied
+returns-in_err-durable_step-clause-tied g c told r q held now =
+    let is : c.from_residual.result ≡ Err StoreFault.Ground = search rules in
+    let store : Store = record { index = c.enter-entered.new.self.index; slot = c.enter-entered.new.self.slot; names = c.enter-entered.new.self.names; branches = c.enter-entered.new.self.branches; history = c.enter-entered.new.self.history; places = c.enter-entered.new.self.places; space = c.enter-entered.new.self.space; collection = c.enter-entered.new.self.collection; unswept = c.enter-entered.new.self.unswept; met = c.nothing_met-self.result } in
+    subst (λ res. IsTiedAnswer {A = Hash} (λ name. true) res c.args.self.now held.stands.standing.records store now.stands.standing.records) (sym is) tt
+
+pub returns-clause-tied : goal.returns-clause-tied
+returns-clause-tied g c told r q held now =
+    let plan = c.in-Ok.plan in
+    let of = held.tables in
+    let is = c.in-Ok.ensures.coming r of in
+    let can = same_can_step c.enter-entered.new.self.slot.end c.args.self.now.slot.end c.enter-entered.new.self.index c.args.self.now.index plan.slot plan.slot (g.G.Ground.told c.args.outside.now)
+    (ap (λ (s : Slot). s.end) c.enter-entered.ensures.rest.1) c.enter-entered.ensures.rest.0 refl (can_step r c.args.branch.now c.args.self.now plan of is (g.G.Ground.told c.args.outside.now) held) in
+    let step = same_step c.enter-entered.new.self.slot.end c.args.self.now.slot.end c.enter-entered.new.self.index c.args.self.now.index c.bytes.result.now plan.batch.bytes.items plan.slot plan.slot _ (g.G.Ground.told c.args.outside.now) (g.G.Ground.told c.durable_step.new.outside)
+    (ap (λ (s : Slot). s.end) c.enter-entered.ensures.rest.1) c.enter-entered.ensures.rest.0 c.bytes.ensures refl (c.in_ok-durable_step.ensures.does told can) in
+    let list = more_committed r c.args.branch.now c.args.self.now plan of is (g.G.Ground.told c.args.outside.now) held (g.G.Ground.told c.durable_step.new.outside) step _ q now in
+    is_appended c.args.self.now _ (g.G.Ground.told c.args.outside.now) (g.G.Ground.told c.durable_step.new.outside) r q held now c.enter-entered.ensures.rest.3 (ap (λ (s : Slot). s.horizon) is.slot) list.0 list.1
+    (subst (λ (n : ℕ). AreEndToEnd c.args.self.now.slot.end list.0 n) (sym (ap (λ (s : Slot). s.end) is.slot)) list.2)

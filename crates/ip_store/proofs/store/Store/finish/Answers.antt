@@ -6,6 +6,8 @@ use Rattle.ip_store.specs.declared.finishing.FinishFault.{FinishFault}
 use Rattle.ip_store.specs.declared.finishing.Looked.{Looked}
 use Rattle.ip_store.specs.Finishing.{Concludes, CountsFinish, FinishesBy, HasAnswer, IsKept, IsOver, IsQuiet, IsUndamaged, LimitsFinish, LookReplies, SlotBy, as_look, conditions_by, met_by_finish, unswept_by}
 use Rattle.ip_store.proofs.FinishCalls.{fault_looked, finish_replies}
+use Rattle.ip_store.specs.Tie.{IsTied, finish_events}
+use Rattle.ip_store.proofs.EndTied.{finish_tied, finishes_leaves, quiet_list}
 use Rattle.ip_store.proofs.store.Store.finish.Goals as goal
 
 pub awaited-child-requires : goal.awaited-child-requires
@@ -80,3 +82,12 @@ returns-clause-works_stay g c told has = c.goes.ensures.works_stay told (subst H
 
 pub returns-clause-counts : goal.returns-clause-counts
 returns-clause-counts g c = subst (λ (x : Result Looked FinishFault). CountsFinish x c.goes.new.self.met.left (g.G.Ground.counts_of c.args.outside.now) (g.G.Ground.counts_of c.goes.new.outside)) (sym c.whole.ensures) c.goes.ensures.counts
+
+pub returns-clause-tied : goal.returns-clause-tied
+returns-clause-tied g c told has r q held now =
+    subst (λ (y : Result Looked FinishFault). IsTied c.args.self.now held.stands.standing.records c.goes.new.self now.stands.standing.records (finish_events c.args.self.now.collection y)) (sym c.whole.ensures)
+    (finish_tied c.awaited-child.result _ c.args.self.now c.goes.new.self _ held.stands.standing now.stands.standing.records c.goes.result (record {
+      goes = c.goes.ensures.goes;
+      quiet = λ quiet. quiet_list _ _ held.stands.standing (ap g.G.Ground.told (c.goes.ensures.quiet quiet)) now.stands.standing;
+      loud = λ x reaped runs heard. finishes_leaves r q x Command.Finish c.goes.result _ c.goes.new.self _ _ _ now (c.goes.ensures.any_moment told r held x reaped runs heard Command.Finish (c.goes.ensures.goes.running c.awaited-child.ensures.ended, c.goes.ensures.goes.whole refl));
+    }) (subst HasAnswer c.whole.ensures has))

@@ -12,6 +12,7 @@ use Rattle.ip_store.proofs.BranchTurns.{set_may, set_fits}
 use Rattle.ip_store.proofs.Forwarding.{forward_comes, forward_goes, moved_goes, forward_above, forward_room, limits_value, limits_fault}
 use Rattle.ip_store.proofs.MergeExits.{goes_itself}
 use Rattle.ip_store.proofs.Stepping.{itself, changes_none, stays_still, with_value, with_fault}
+use Rattle.ip_store.proofs.CoreAppends.{sees_same, still_fault}
 use Rattle.ip_store.proofs.store.Store.forward.Goals as goal
 
 -- ---- the record's bytes could not be taken
@@ -82,3 +83,15 @@ returns-in-Err-append_branch_record-clause-any_moment g c told r held forward =
     with_fault fault r (with_branch r c.args.branch.now c.args.number) c.append_branch_record.new.self (g.G.Ground.told c.args.outside.now) (g.G.Ground.told c.append_branch_record.new.outside)
     (subst (λ x. Changes {A = Unit {0}} r (renamed r x) (Err fault) c.append_branch_record.new.self (g.G.Ground.told c.args.outside.now) (g.G.Ground.told c.append_branch_record.new.outside)) c.in-Ok.ensures
     (c.in-Err-append_branch_record.ensures.any_moment told r held may))
+
+-- ---- the core
+
+pub returns-in-Err-clause-tied : goal.returns-in-Err-clause-tied
+returns-in-Err-clause-tied g c told r q held now =
+    still_fault c.args.self.now c.args.self.now held.stands.standing.records now.stands.standing.records (sees_same c.args.self.now c.args.self.now (itself c.args.self.now) (g.G.Ground.told c.args.outside.now) r q held now) StoreFault.Memory
+
+pub returns-in-Ok-append_branch_record-clause-tied : goal.returns-in-Ok-append_branch_record-clause-tied
+returns-in-Ok-append_branch_record-clause-tied g c told r q held now = c.in-Ok-append_branch_record.ensures.tied told r q held now
+
+pub returns-in-Err-append_branch_record-clause-tied : goal.returns-in-Err-append_branch_record-clause-tied
+returns-in-Err-append_branch_record-clause-tied g c told r q held now = c.in-Err-append_branch_record.ensures.tied told r q held now

@@ -1,4 +1,4 @@
-use Rattle.std.proofs.Common.{◌≡◌, ℕ, Option, Some, refl, sym, ap, subst, [], ◌∷◌}
+use Rattle.std.proofs.Common.{◌≡◌, ℕ, Option, Some, true, false, refl, sym, ap, subst, [], ◌∷◌}
 use Rattle.std.specs.Prelude.{Ok, Err, min}
 use Rattle.ip_ground.specs.Told.{Told}
 use Rattle.ip_merge.specs.Rules.{IsDecisive}
@@ -19,6 +19,8 @@ use Rattle.ip_store.proofs.MergeExits.{conflict, join_failed, join_undamaged, mo
 use Rattle.ip_store.proofs.MergeStill.{still_answers, still_moments, still_goes, memory_answers, memory_moments}
 use Rattle.ip_store.proofs.Noted.{noted_stays}
 use Rattle.ip_store.proofs.Stepping.{same_tables}
+use Rattle.ip_store.specs.TieAppends.{moves}
+use Rattle.ip_store.proofs.CoreAppends.{answer_seen, fault_seen, noted_tied, sees_back, sees_itself, sees_still, still_fault, still_value}
 use Rattle.ip_store.proofs.store.Store.join.Goals as goal
 
 -- ---- the least path that conflicts
@@ -191,3 +193,34 @@ pub returns-clause-records_stay : goal.returns-clause-records_stay
 returns-clause-records_stay g c told has r q held now =
     let looks = c.joined.ensures.looks told in
     stays_behind (g.G.Ground.told c.args.outside.now) (g.G.Ground.told c.joined.new.outside) c.args.self.now c.joined.new.self looks (g.G.Ground.told c.commit.new.outside) c.commit.new.self r q held now (c.in-Err-commit.ensures.records_stay told has r q (looks.holds r held) now)
+
+-- ---- the core
+
+pub returns-in-Ok-Conflict-clause-tied : goal.returns-in-Ok-Conflict-clause-tied
+returns-in-Ok-Conflict-clause-tied g c told r q held now =
+    noted_tied moves c.args.self.now c.joined.new.self c.noted.new.self (Ok (Merge.Conflict c.in-Ok-Conflict.path)) c.noted.result c.noted.ensures.answer c.noted.ensures.met (g.G.Ground.told c.joined.new.outside) q held.stands.standing.records
+    (λ mid. still_value c.args.self.now c.joined.new.self held.stands.standing.records mid.stands.standing.records (sees_still c.args.self.now c.joined.new.self c.joined.ensures.same (g.G.Ground.told c.args.outside.now) (g.G.Ground.told c.joined.new.outside) (c.joined.ensures.looks told).reads.only r q held mid) false refl) now
+
+pub returns-in-Err-clause-tied : goal.returns-in-Err-clause-tied
+returns-in-Err-clause-tied g c told r q held now =
+    noted_tied moves c.args.self.now c.joined.new.self c.noted-in-Err.new.self (Err c.in-Err.fault) c.noted-in-Err.result c.noted-in-Err.ensures.answer c.noted-in-Err.ensures.met (g.G.Ground.told c.joined.new.outside) q held.stands.standing.records
+    (λ mid. still_fault c.args.self.now c.joined.new.self held.stands.standing.records mid.stands.standing.records (sees_still c.args.self.now c.joined.new.self c.joined.ensures.same (g.G.Ground.told c.args.outside.now) (g.G.Ground.told c.joined.new.outside) (c.joined.ensures.looks told).reads.only r q held mid) c.in-Err.fault) now
+
+pub returns-in-Err-both-clause-tied : goal.returns-in-Err-both-clause-tied
+returns-in-Err-both-clause-tied g c told r q held now =
+    noted_tied moves c.args.self.now c.joined.new.self c.noted-in-Err-both.new.self (Err StoreFault.Memory) c.noted-in-Err-both.result c.noted-in-Err-both.ensures.answer c.noted-in-Err-both.ensures.met (g.G.Ground.told c.joined.new.outside) q held.stands.standing.records
+    (λ mid. still_fault c.args.self.now c.joined.new.self held.stands.standing.records mid.stands.standing.records (sees_still c.args.self.now c.joined.new.self c.joined.ensures.same (g.G.Ground.told c.args.outside.now) (g.G.Ground.told c.joined.new.outside) (c.joined.ensures.looks told).reads.only r q held mid) StoreFault.Memory) now
+
+pub returns-in-Ok-commit-clause-tied : goal.returns-in-Ok-commit-clause-tied
+returns-in-Ok-commit-clause-tied g c told r q held now =
+    let still = (c.joined.ensures.looks told).holds r held in
+    let front = sees_back c.args.self.now c.joined.new.self held.stands.standing.records still.stands.standing.records (sees_still c.args.self.now c.joined.new.self c.joined.ensures.same (g.G.Ground.told c.args.outside.now) (g.G.Ground.told c.joined.new.outside) (c.joined.ensures.looks told).reads.only r r held still) in
+    answer_seen c.joined.new.self c.args.self.now still.stands.standing.records held.stands.standing.records front c.commit.new.self c.commit.new.self now.stands.standing.records now.stands.standing.records (sees_itself c.commit.new.self now.stands.standing.records) (λ name. true) (Ok c.in-Ok-commit.name)
+    (c.in-Ok-commit.ensures.tied told r q still now)
+
+pub returns-clause-tied : goal.returns-clause-tied
+returns-clause-tied g c told r q held now =
+    let still = (c.joined.ensures.looks told).holds r held in
+    let front = sees_back c.args.self.now c.joined.new.self held.stands.standing.records still.stands.standing.records (sees_still c.args.self.now c.joined.new.self c.joined.ensures.same (g.G.Ground.told c.args.outside.now) (g.G.Ground.told c.joined.new.outside) (c.joined.ensures.looks told).reads.only r r held still) in
+    fault_seen c.joined.new.self c.args.self.now still.stands.standing.records held.stands.standing.records front c.commit.new.self c.commit.new.self now.stands.standing.records now.stands.standing.records (sees_itself c.commit.new.self now.stands.standing.records) c.in-Err-commit.fault
+    (c.in-Err-commit.ensures.tied told r q still now)

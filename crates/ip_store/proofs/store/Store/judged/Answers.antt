@@ -5,7 +5,7 @@ use Rattle.ip_store.specs.declared.checking.Verdict.{Verdict}
 use Rattle.ip_store.specs.declared.finishing.Looked.{Looked}
 use Rattle.ip_store.specs.declared.store.Store.{Store}
 use Rattle.ip_store.specs.Judging.{EndsCheck, FitsExit, IsOpen, SlicesBy, TellsVerdict, with_check}
-use Rattle.ip_store.proofs.FinishEnds.{counts_cut, counts_refused, counts_swept, ends_collected, ends_cut, ends_open, ends_refused, ends_rejected, given_up, same_exit, some_exit, sweeps_on, swept_on, whole_cut, whole_refused}
+use Rattle.ip_store.proofs.FinishEnds.{counts_cut, counts_refused, counts_swept, ends_collected, ends_cut, ends_open, ends_refused, ends_rejected, given_up, same_exit, some_exit, sweeps_on, swept_on, undamaged_as}
 use Rattle.ip_store.proofs.FinishMoments.{accepts_as, accepts_checked, asked_of, collected_by, cut_by, kept_on, noted_holds, refused_by, swept_out}
 use Rattle.ip_store.proofs.store.Store.judged.Goals as goal
 
@@ -36,7 +36,7 @@ sweep-left-requires-in-Ok g c =
 pub returns-in-Ok-Open-clause-ends : goal.returns-in-Ok-Open-clause-ends
 returns-in-Ok-Open-clause-ends g c x runs =
     let k = c.judge.ensures.check x runs in
-    ends_open c.args.self.now x c.args.reaped c.args.most k.0 c.judge.new.self k.1 c.judge.ensures.tables c.in-Ok-Open.left (subst (λ (v : Verdict). FitsExit c.args.reaped.exit (Ok v)) c.in-Ok-Open.field-0-is c.in-Ok-Open.ensures.fits)
+    ends_open c.args.self.now x c.args.reaped c.args.most k.0 c.judge.new.self k.1 k.2 c.judge.ensures.tables c.in-Ok-Open.left (subst (λ (v : Verdict). FitsExit c.args.reaped.exit (Ok v)) c.in-Ok-Open.field-0-is c.in-Ok-Open.ensures.fits)
     (subst (λ (v : Verdict). SlicesBy c.args.most x (Ok v) c.judge.new.self.collection) c.in-Ok-Open.field-0-is (c.in-Ok-Open.ensures.sliced x runs))
     (subst (λ (v : Verdict). c.args.most ≡ 2 ^ 64 - 1 → ¬ IsOpen (Ok v)) c.in-Ok-Open.field-0-is c.in-Ok-Open.ensures.whole)
 
@@ -56,7 +56,7 @@ pub returns-in-Ok-Rejected-clause-ends : goal.returns-in-Ok-Rejected-clause-ends
 returns-in-Ok-Rejected-clause-ends g c x runs =
     let k = c.judge.ensures.check x runs in
     let gone = given_up c.args.self.now c.judge.new.self c.give_up.new.self x k.0 k.1 c.give_up.ensures in
-    ends_rejected c.args.self.now x c.args.reaped c.args.most k.0 c.judge.new.self k.1 c.judge.ensures.tables c.in-Ok-Rejected.rejection c.sweep-left.result c.sweep-left.new.self
+    ends_rejected c.args.self.now x c.args.reaped c.args.most k.0 c.judge.new.self k.1 k.2 c.judge.ensures.tables c.in-Ok-Rejected.rejection c.sweep-left.result c.sweep-left.new.self
     (swept_on c.give_up.new.self (record (with_check c.args.self.now x k.0) { collection = None }) c.sweep-left.new.self c.sweep-left.result gone c.sweep-left.ensures.unswept) (subst (λ (v : Verdict). FitsExit c.args.reaped.exit (Ok v)) c.in-Ok-Rejected.field-0-is c.in-Ok-Rejected.ensures.fits)
 
 pub returns-in-Ok-Rejected-clause-any_moment : goal.returns-in-Ok-Rejected-clause-any_moment
@@ -77,7 +77,7 @@ returns-in-Ok-Rejected-clause-counts g c = counts_swept c.sweep-left.result _ _ 
 pub returns-in-Ok-clause-ends : goal.returns-in-Ok-clause-ends
 returns-in-Ok-clause-ends g c x runs =
     let k = c.judge.ensures.check x runs in
-    ends_collected c.args.self.now x c.args.reaped c.args.most k.0 c.judge.new.self k.1 c.judge.ensures.tables (subst (λ (v : Verdict). FitsExit c.args.reaped.exit (Ok v)) c.in-Ok-Valid.field-0-is c.in-Ok-Valid.ensures.fits) c.accept.new.self c.requires.tables.0 c.requires.tables.1
+    ends_collected c.args.self.now x c.args.reaped c.args.most k.0 c.judge.new.self k.1 k.2 c.judge.ensures.tables (subst (λ (v : Verdict). FitsExit c.args.reaped.exit (Ok v)) c.in-Ok-Valid.field-0-is c.in-Ok-Valid.ensures.fits) c.accept.new.self c.requires.tables.0 c.requires.tables.1
     (λ p there. c.in-Ok.ensures.tables p (record x { check = k.0 }) there (ap (λ (s : Store). s.collection) k.1)) c.sweep-left-in-Ok.result c.sweep-left-in-Ok.new.self c.sweep-left-in-Ok.ensures.unswept
 
 pub returns-in-Ok-clause-any_moment : goal.returns-in-Ok-clause-any_moment
@@ -101,7 +101,7 @@ returns-in-Ok-clause-counts g c = counts_swept c.sweep-left-in-Ok.result _ _ _ (
 pub returns-in-Err-accept-clause-ends : goal.returns-in-Err-accept-clause-ends
 returns-in-Err-accept-clause-ends g c x runs =
     let k = c.judge.ensures.check x runs in
-    ends_refused c.args.self.now x c.args.reaped c.args.most k.0 c.judge.new.self k.1 c.judge.ensures.tables (subst (λ (v : Verdict). FitsExit c.args.reaped.exit (Ok v)) c.in-Ok-Valid.field-0-is c.in-Ok-Valid.ensures.fits) c.accept.new.self c.requires.tables.0 c.requires.tables.1 c.in-Err-accept.fault c.in-Err-accept.ensures.faults
+    ends_refused c.args.self.now x c.args.reaped c.args.most k.0 c.judge.new.self k.1 k.2 c.judge.ensures.tables (subst (λ (v : Verdict). FitsExit c.args.reaped.exit (Ok v)) c.in-Ok-Valid.field-0-is c.in-Ok-Valid.ensures.fits) c.accept.new.self c.requires.tables.0 c.requires.tables.1 c.in-Err-accept.fault c.in-Err-accept.ensures.faults
     (λ p there. accepts_checked [] p x k.0 c.in-Err-accept.fault c.judge.new.self c.accept.new.self (c.in-Err-accept.ensures.tables p (record x { check = k.0 }) there (ap (λ (s : Store). s.collection) k.1)))
 
 pub returns-in-Err-accept-clause-any_moment : goal.returns-in-Err-accept-clause-any_moment
@@ -117,7 +117,7 @@ returns-in-Err-accept-clause-any_moment g c told r held x runs =
     (accepts_as here.stands.standing.records r x k.0 (Err c.in-Err-accept.fault) c.accept.new.self _ _ (c.in-Err-accept.ensures.does told r here (record x { check = k.0 }) it (asked_of c.args.self.now r _ held x runs c.args.reaped exit _ (c.judge.ensures.only told) c.judge.new.self here k.0 k.1 says)))
 
 pub returns-in-Err-accept-clause-undamaged : goal.returns-in-Err-accept-clause-undamaged
-returns-in-Err-accept-clause-undamaged g c told r held = whole_refused c.in-Err-accept.fault (c.in-Err-accept.ensures.undamaged told r (c.judge.ensures.holds told r held))
+returns-in-Err-accept-clause-undamaged g c told r held = undamaged_as (Unit {0}) Looked c.in-Err-accept.fault (c.in-Err-accept.ensures.undamaged told r (c.judge.ensures.holds told r held))
 
 pub returns-in-Err-accept-clause-counts : goal.returns-in-Err-accept-clause-counts
 returns-in-Err-accept-clause-counts g c = counts_refused c.in-Err-accept.fault _ _ _ c.in-Err-accept.ensures.faults c.in-Ok-Valid.ensures.counts c.in-Err-accept.ensures.counts
@@ -125,7 +125,7 @@ returns-in-Err-accept-clause-counts g c = counts_refused c.in-Err-accept.fault _
 pub returns-in-Err-clause-ends : goal.returns-in-Err-clause-ends
 returns-in-Err-clause-ends g c x runs =
     let k = c.judge.ensures.check x runs in
-    ends_cut c.args.self.now x c.args.reaped c.args.most k.0 c.judge.new.self k.1 c.judge.ensures.tables c.in-Err.fault c.in-Err.ensures.fits
+    ends_cut c.args.self.now x c.args.reaped c.args.most k.0 c.judge.new.self k.1 k.2 c.judge.ensures.tables c.in-Err.fault c.in-Err.ensures.fits
 
 pub returns-in-Err-clause-any_moment : goal.returns-in-Err-clause-any_moment
 returns-in-Err-clause-any_moment g c told r held x runs =
@@ -133,7 +133,7 @@ returns-in-Err-clause-any_moment g c told r held x runs =
     cut_by c.args.self.now r _ held x runs c.args.reaped (same_exit c.args.self.now.collection y x c.args.reaped is kept runs) _ (c.judge.ensures.only told) _ (noted_holds c.judge.new.self _ _ r (c.judge.ensures.holds told r held)) c.in-Err.fault c.in-Err.ensures.fits.1
 
 pub returns-in-Err-clause-undamaged : goal.returns-in-Err-clause-undamaged
-returns-in-Err-clause-undamaged g c told r held = whole_cut c.in-Err.fault (c.in-Err.ensures.undamaged told r held)
+returns-in-Err-clause-undamaged g c told r held = undamaged_as Verdict Looked c.in-Err.fault (c.in-Err.ensures.undamaged told r held)
 
 pub returns-in-Err-clause-counts : goal.returns-in-Err-clause-counts
 returns-in-Err-clause-counts g c = counts_cut c.in-Err.fault _ _ c.in-Err.ensures.fits.1 c.in-Err.ensures.counts

@@ -1,6 +1,7 @@
 use Rattle.std.proofs.Common.{inl, inr, sym, ◌∙◌, ap}
 use Rattle.ip_spec.specs.declared.command.Command.TheVariants as Command
 use Rattle.ip_spec.specs.declared.met.Met.{Met}
+use Rattle.ip_store.proofs.EndTied.{finish_tied, finishes_leaves, quiet_list}
 use Rattle.ip_store.proofs.store.Store.look.Goals as goal
 
 pub seen-child-requires : goal.seen-child-requires
@@ -68,3 +69,11 @@ returns-clause-works_stay g c = c.goes.ensures.works_stay
 
 pub returns-clause-counts : goal.returns-clause-counts
 returns-clause-counts g c = c.goes.ensures.counts
+
+pub returns-clause-tied : goal.returns-clause-tied
+returns-clause-tied g c told has r q held now =
+    finish_tied c.seen-child.result _ c.args.self.now c.goes.new.self _ held.stands.standing now.stands.standing.records c.goes.result (record {
+      goes = c.goes.ensures.goes;
+      quiet = λ quiet. quiet_list _ _ held.stands.standing (ap g.G.Ground.told (c.goes.ensures.quiet quiet)) now.stands.standing;
+      loud = λ x reaped runs heard. finishes_leaves r q x Command.Look c.goes.result _ c.goes.new.self _ _ _ now (c.goes.ensures.any_moment told r held x reaped runs heard Command.Look tt);
+    }) has

@@ -15,6 +15,8 @@ use Rattle.ip_store.proofs.MergeExits.{forwarded, forward_moments, forward_limit
 use Rattle.ip_store.proofs.MergeStill.{still_answers, still_moments, still_goes, still_stays, memory_answers, memory_moments, leaving_answers, fault_moments}
 use Rattle.ip_store.proofs.MergeTurns.{turn_none, turn_current, turn_leaving, turn_bases}
 use Rattle.ip_store.proofs.Noted.{noted_stays}
+use Rattle.ip_store.specs.TieAppends.{moves}
+use Rattle.ip_store.proofs.CoreAppends.{noted_fault, noted_none, noted_tied}
 use Rattle.ip_store.proofs.store.Store.merge_into.Goals as goal
 
 -- ---- no branch has the name
@@ -252,3 +254,25 @@ returns-in-Join-clause-undamaged g c told decides r held retained =
     let course = subst (IsCourse r (phase_of c.args.self.now.collection) c.in-Some.head c.args.number) c.in-Join.is (c.in-Ok.ensures r held.tables at.1 retained) in
     let join = join_from r (phase_of c.args.self.now.collection) c.args.branch.now c.in-Some.head c.args.number c.in-Join.base at.0 at.1 retained course in
     c.join.ensures.undamaged told decides r held join
+
+-- ---- the core
+
+pub returns-in-None-clause-tied : goal.returns-in-None-clause-tied
+returns-in-None-clause-tied g c told r q held now = noted_none moves c.args.self.now c.noted.new.self Merge.NoBranch c.noted.result c.noted.ensures.answer refl c.noted.ensures.met (g.G.Ground.told c.args.outside.now) r q held now
+
+pub returns-in-Err-clause-tied : goal.returns-in-Err-clause-tied
+returns-in-Err-clause-tied g c told r q held now = noted_fault moves c.args.self.now c.noted-in-Err.new.self StoreFault.Memory c.noted-in-Err.result c.noted-in-Err.ensures.answer c.noted-in-Err.ensures.met (g.G.Ground.told c.args.outside.now) r q held now
+
+pub returns-in-Current-clause-tied : goal.returns-in-Current-clause-tied
+returns-in-Current-clause-tied g c told r q held now = noted_none moves c.args.self.now c.noted-in-Current.new.self (Merge.Current c.retained_name-name.result) c.noted-in-Current.result c.noted-in-Current.ensures.answer refl c.noted-in-Current.ensures.met (g.G.Ground.told c.args.outside.now) r q held now
+
+pub returns-in-Leaving-clause-tied : goal.returns-in-Leaving-clause-tied
+returns-in-Leaving-clause-tied g c told r q held now = noted_fault moves c.args.self.now c.noted-in-Leaving.new.self (StoreFault.Leaving c.args.number) c.noted-in-Leaving.result c.noted-in-Leaving.ensures.answer c.noted-in-Leaving.ensures.met (g.G.Ground.told c.args.outside.now) r q held now
+
+pub returns-in-Bases-clause-tied : goal.returns-in-Bases-clause-tied
+returns-in-Bases-clause-tied g c told r q held now = noted_none moves c.args.self.now c.noted-in-Bases.new.self (Merge.Bases c.in-Bases.count) c.noted-in-Bases.result c.noted-in-Bases.ensures.answer refl c.noted-in-Bases.ensures.met (g.G.Ground.told c.args.outside.now) r q held now
+
+pub returns-in-Forward-clause-tied : goal.returns-in-Forward-clause-tied
+returns-in-Forward-clause-tied g c told r q held now =
+    noted_tied moves c.args.self.now c.forward-answer.new.self c.noted-in-Forward.new.self c.forward-answer.result c.noted-in-Forward.result c.noted-in-Forward.ensures.answer c.noted-in-Forward.ensures.met (g.G.Ground.told c.forward-answer.new.outside) q held.stands.standing.records
+    (λ mid. c.forward-answer.ensures.tied told r q held mid) now

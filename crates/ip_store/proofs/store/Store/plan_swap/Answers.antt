@@ -1,5 +1,4 @@
-use Rattle.std.proofs.Common.{◌≡◌, ◌∙◌, sym, ap, subst, arith}
-use Rattle.std.specs.Prelude.{◌≤◌, ◌^◌}
+use Rattle.std.proofs.Common.{◌∙◌, ap, arith}
 use Rattle.ip_image.specs.Virtual.{total}
 use Rattle.ip_check.proofs.Making.{total_joined}
 use Rattle.ip_store.proofs.store.Store.plan_swap.Goals as goal

@@ -1,4 +1,4 @@
-use Rattle.std.proofs.Common.{◌≡◌, rules, true, false, Bool, None, sym, subst, ◌∙◌}
+use Rattle.std.proofs.Common.{◌≡◌, rules, true, false, Bool, None, refl, sym, subst, ◌∙◌}
 use Rattle.std.specs.Prelude.{Ok, Err, [], ◌∷◌}
 use Rattle.ip_spec.specs.Repository.{head}
 use Rattle.ip_spec.specs.Record.{Fits}
@@ -12,6 +12,7 @@ use Rattle.ip_store.proofs.Stepping.{itself, changes_none, stays_still, changes_
 use Rattle.ip_store.proofs.BranchTurns.{none_in, some_in, remove_none, remove_memory, remove_done, remove_cut, remove_fits, absent_same}
 use Rattle.ip_store.proofs.Noted.{noted_itself, noted_back, noted_changes, noted_stays, noted_removed}
 use Rattle.ip_store.proofs.Phases.{removed_above}
+use Rattle.ip_store.proofs.CoreAppends.{noted_fault, noted_none, noted_tied}
 use Rattle.ip_store.proofs.store.Store.remove_branch.Goals as goal
 
 -- ---- there is none
@@ -116,3 +117,21 @@ pub returns-in-Err-append_branch_record-clause-records_stay : goal.returns-in-Er
 returns-in-Err-append_branch_record-clause-records_stay g c told has r q held now =
     noted_stays c.append_branch_record.new.self c.noted-in-Err-append_branch_record.new.self (Err c.in-Err-append_branch_record.fault) c.noted-in-Err-append_branch_record.result c.noted-in-Err-append_branch_record.ensures.answer c.noted-in-Err-append_branch_record.ensures.met (g.G.Ground.told c.append_branch_record.new.outside) q _
     (λ answered mid. c.in-Err-append_branch_record.ensures.records_stay told (with_answer (Unit {0}) Bool c.in-Err-append_branch_record.fault answered) r q held mid) has now
+
+-- ---- the core
+
+pub returns-then-is_none-clause-tied : goal.returns-then-is_none-clause-tied
+returns-then-is_none-clause-tied g c told r q held now = noted_none (λ removed. removed) c.args.self.now c.noted.new.self false c.noted.result c.noted.ensures.answer refl c.noted.ensures.met (g.G.Ground.told c.args.outside.now) r q held now
+
+pub returns-in-Err-clause-tied : goal.returns-in-Err-clause-tied
+returns-in-Err-clause-tied g c told r q held now = noted_fault (λ removed. removed) c.args.self.now c.noted-in-Err.new.self StoreFault.Memory c.noted-in-Err.result c.noted-in-Err.ensures.answer c.noted-in-Err.ensures.met (g.G.Ground.told c.args.outside.now) r q held now
+
+pub returns-in-Ok-append_branch_record-clause-tied : goal.returns-in-Ok-append_branch_record-clause-tied
+returns-in-Ok-append_branch_record-clause-tied g c told r q held now =
+    noted_tied (λ removed. removed) c.args.self.now c.append_branch_record.new.self c.noted-in-Ok-append_branch_record.new.self (Ok true) c.noted-in-Ok-append_branch_record.result c.noted-in-Ok-append_branch_record.ensures.answer c.noted-in-Ok-append_branch_record.ensures.met (g.G.Ground.told c.append_branch_record.new.outside) q held.stands.standing.records
+    (λ mid. c.in-Ok-append_branch_record.ensures.tied told r q held mid) now
+
+pub returns-in-Err-append_branch_record-clause-tied : goal.returns-in-Err-append_branch_record-clause-tied
+returns-in-Err-append_branch_record-clause-tied g c told r q held now =
+    noted_tied (λ removed. removed) c.args.self.now c.append_branch_record.new.self c.noted-in-Err-append_branch_record.new.self (Err c.in-Err-append_branch_record.fault) c.noted-in-Err-append_branch_record.result c.noted-in-Err-append_branch_record.ensures.answer c.noted-in-Err-append_branch_record.ensures.met (g.G.Ground.told c.append_branch_record.new.outside) q held.stands.standing.records
+    (λ mid. c.in-Err-append_branch_record.ensures.tied told r q held mid) now

@@ -1,4 +1,4 @@
-use Rattle.std.proofs.Common.{◌≡◌, Some, rules, sym, subst}
+use Rattle.std.proofs.Common.{◌≡◌, Some, rules, true, sym, subst}
 use Rattle.std.specs.Prelude.{Ok, Err, [], ◌∷◌, IfSome, OnOk}
 use Rattle.ip_spec.specs.Record.{Fits}
 use Rattle.ip_spec.specs.Step.{room_for_branch, with_branch}
@@ -12,6 +12,7 @@ use Rattle.ip_store.proofs.Stepping.{itself, changes_none, stays_still}
 use Rattle.ip_store.proofs.BranchTurns.{set_leaving, set_refused, set_memory, set_answers, set_may, set_fits}
 use Rattle.ip_store.proofs.Noted.{noted_itself, noted_changes, noted_stays, noted_appends, noted_set}
 use Rattle.ip_store.proofs.Phases.{set_above}
+use Rattle.ip_store.proofs.CoreAppends.{noted_fault, noted_tied}
 use Rattle.ip_store.proofs.store.Store.set_branch.Goals as goal
 
 -- ---- a collection gives the commit up
@@ -112,3 +113,19 @@ returns-clause-appends g c told =
     let made = c.append_branch_record-answer.result in
     noted_appends store c.noted-2.new.self made c.noted-2.result c.noted-2.ensures.answer c.noted-2.ensures.met _ 0 c.args.self.now _ _
     (subst (λ x. OnOk made (Appends ((c.args.self.now.slot.end, x) ∷ []) 0 c.args.self.now store (g.G.Ground.told c.args.outside.now) (g.G.Ground.told c.append_branch_record-answer.new.outside))) c.in-Ok.ensures (c.append_branch_record-answer.ensures.appends told))
+
+-- ---- the core
+
+pub returns-in-Err-clause-tied : goal.returns-in-Err-clause-tied
+returns-in-Err-clause-tied g c told r q held now = noted_fault (λ done. true) c.args.self.now c.noted.new.self c.in-Err.fault c.noted.result c.noted.ensures.answer c.noted.ensures.met (g.G.Ground.told c.args.outside.now) r q held now
+
+pub returns-in-Err-room_for-clause-tied : goal.returns-in-Err-room_for-clause-tied
+returns-in-Err-room_for-clause-tied g c told r q held now = noted_fault (λ done. true) c.args.self.now c.noted-in-Err-room_for.new.self c.in-Err-room_for.fault c.noted-in-Err-room_for.result c.noted-in-Err-room_for.ensures.answer c.noted-in-Err-room_for.ensures.met (g.G.Ground.told c.args.outside.now) r q held now
+
+pub returns-in-Err-set_record-clause-tied : goal.returns-in-Err-set_record-clause-tied
+returns-in-Err-set_record-clause-tied g c told r q held now = noted_fault (λ done. true) c.args.self.now c.noted-in-Err-set_record.new.self StoreFault.Memory c.noted-in-Err-set_record.result c.noted-in-Err-set_record.ensures.answer c.noted-in-Err-set_record.ensures.met (g.G.Ground.told c.args.outside.now) r q held now
+
+pub returns-clause-tied : goal.returns-clause-tied
+returns-clause-tied g c told r q held now =
+    noted_tied (λ done. true) c.args.self.now c.append_branch_record-answer.new.self c.noted-2.new.self c.append_branch_record-answer.result c.noted-2.result c.noted-2.ensures.answer c.noted-2.ensures.met (g.G.Ground.told c.append_branch_record-answer.new.outside) q held.stands.standing.records
+    (λ mid. c.append_branch_record-answer.ensures.tied told r q held mid) now

@@ -1,12 +1,15 @@
-use Rattle.std.proofs.Common.{Some, None, Ok, Err, refl, sym, ◌∙◌, ap, subst}
+use Rattle.std.proofs.Common.{◌≡◌, [], ◌∷◌, Some, None, Ok, Err, refl, sym, ◌∙◌, ap, subst}
 use Rattle.ip_spec.specs.declared.reply.Reply.{Reply}
 use Rattle.ip_spec.specs.Record.{Hash}
 use Rattle.ip_spec.specs.Repository.{name_at}
+use Rattle.ip_image.specs.declared.slot.Slot.{Slot}
+use Rattle.ip_store.specs.declared.starting.CollectFault.{CollectFault}
 use Rattle.ip_store.specs.declared.store.Store.{Store}
 use Rattle.ip_store.specs.Commits.{met_nothing}
-use Rattle.ip_store.specs.Starting.{met_by_start, Replies, AnswersStart, IsBegun, Begins, StartsCollection}
+use Rattle.ip_store.specs.Starting.{met_by_start, Replies, AnswersStart, IsBegun, IsJobAt, Begins, StartsCollection, table_of}
 use Rattle.ip_store.specs.Store.{Holds}
 use Rattle.ip_store.proofs.StartTurns.{refused_answers, refusal_ends, begins_stays, failed_answers, begun_answers, running_holds, same_retained, started_phase, starts_none, starts_noted, begins_noted}
+use Rattle.ip_store.proofs.BeginTied.{failed_start, failed_tied, refused_tied, started_tied}
 use Rattle.ip_store.proofs.store.Store.start_collect.Goals as goal
 
 pub returns-in-Err-clause-answered : goal.returns-in-Err-clause-answered
@@ -94,3 +97,27 @@ returns-clause-any_moment g c told r held =
     (started_phase r c.args.self.now c.args.number c.in-Ok.start c.start.new.self.slot retained free.1 planned (c.in-Ok-start.ensures.slot tt))
     (c.in-Ok-start.ensures.going tt r c.args.number held.tables planned) now (c.in-Ok-start.ensures.collects told r c.args.number held planned retained free.1 now)))
     (c.in-Ok-start.ensures.any_moment told r c.args.number held planned)
+
+pub returns-in-Err-clause-tied : goal.returns-in-Err-clause-tied
+returns-in-Err-clause-tied g c told answered r q held now =
+    refused_tied c.requires.tables.0 c.args.number c.args.self.now c.noted_start.new.self _ c.in-Err.fault (c.in-Err.ensures.refused c.requires.tables.0 c.requires.tables.1 c.requires.tables.2) c.noted_start.ensures.met _ held.stands.standing now.stands.standing ((c.args.self.now.slot.end, table_of r) ∷ []) c.noted_start.result
+    c.noted_start.ensures.answer
+
+pub returns-in-Err-start-clause-tied : goal.returns-in-Err-start-clause-tied
+returns-in-Err-start-clause-tied g c told answered r q held now =
+    let retained = same_retained c.args.self.now c.requires.tables.0 r c.args.number c.requires.tables.1 held.tables c.requires.tables.2 in
+    let free = c.in-Ok.ensures.free r held.tables refl in
+    let planned = c.in-Ok.ensures.planned r held.tables retained in
+    let failed : c.in-Err-start.fault ≡ CollectFault.Start = failed_start c.in-Err-start.fault (c.in-Err-start.ensures.fault refl) (λ cut. answered (c.noted_start-in-Err-start.ensures.answer ∙ ap (λ (f : CollectFault). Err f) cut)) in
+    let result_is = c.noted_start-in-Err-start.ensures.answer ∙ ap (λ (f : CollectFault). Err f) failed in
+    failed_tied c.args.self.now c.noted_start-in-Err-start.new.self _ _ r q c.args.number c.in-Ok.start.job.horizon held now free.0 planned.job.horizon planned.small (returns-in-Err-start-clause-begins g c told (subst IsBegun (sym result_is) tt) r held.tables)
+    (ap (λ (s : Store). s.collection) c.noted_start-in-Err-start.ensures.met ∙ c.start.ensures.rest.0) c.noted_start-in-Err-start.result c.in-Err-start.fault c.noted_start-in-Err-start.ensures.answer failed
+
+pub returns-clause-tied : goal.returns-clause-tied
+returns-clause-tied g c told answered r q held now =
+    let retained = same_retained c.args.self.now c.requires.tables.0 r c.args.number c.requires.tables.1 held.tables c.requires.tables.2 in
+    let free = c.in-Ok.ensures.free r held.tables refl in
+    let planned = c.in-Ok.ensures.planned r held.tables retained in
+    let slot = ap (λ (s : Store). s.slot) c.noted_start-2.ensures.met ∙ c.in-Ok-start.ensures.slot tt in
+    started_tied c.args.self.now c.noted_start-2.new.self _ _ r q c.args.number c.in-Ok.start.job.horizon held now free.0 planned.job.horizon planned.small (returns-clause-begins g c told (subst IsBegun (sym c.noted_start-2.ensures.answer) tt) r held.tables)
+    c.in-Ok.start.job (subst (λ (s : Slot). IsJobAt c.args.self.now c.args.number s c.in-Ok.start.job) (sym slot) planned.job) (ap (λ (s : Store). s.collection) c.noted_start-2.ensures.met) c.noted_start-2.result _ c.noted_start-2.ensures.answer

@@ -1,5 +1,4 @@
-use Rattle.std.proofs.Common.{◌≡◌, ◌∙◌, ◌-◌, None, Ok, refl, ap, drop, arith}
-use Rattle.ip_history.specs.History.{History}
+use Rattle.std.proofs.Common.{◌∙◌, ◌-◌, None, refl, ap, drop}
 use Rattle.ip_store.specs.declared.store.Store.{Store}
 use Rattle.ip_store.specs.Swapping.{SwapsTables}
 use Rattle.ip_store.proofs.Swapped.{raises, same_floor, swapped_again, ready_for, newer_swap, turns_err}
