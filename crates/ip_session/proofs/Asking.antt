@@ -1,4 +1,5 @@
 -- What a command asks of the spawner, and what is counted meanwhile.
+--     goes_itself, goes_same, goes_none      a collection goes on that ran before, or none does
 --     nothing_asked      it asks nothing.      plain_asked      so for a command that has to do with no child.      nothing_spawned      for a line
 --     none_met, faulted      no child was met.      start_asked      a collection was to begin.      start_quiet, start_counts      what was counted of the ground.      start_ends      how the session may end
 --     cancel_asked, cancel_counts, cancel_quiet      so of one that was to end
@@ -6,7 +7,7 @@
 --     lined_asked, lined_counts      so of the line that spells a command.      any_counts, none_counts      of any line, and of one that is none
 --     whole_asked, unwritten      a reply's text was written, or there was no memory for it
 use Rattle.std.proofs.Common.{◌≡◌, ◌≢◌, ◌↔◌, ◌⊎◌, inl, inr, ℕ, ◌-◌, ◌^◌, ◌≤◌, ◌++◌, Bool, true, false, List, [], ◌∷◌, refl, sym, ap, ◌∙◌, subst, arith, Option, Some, None, Ok, Err, IsTrue, length, append-nil}
-use Rattle.std.specs.Prelude.{Result, IfOk, OnOk, IfErr, IsErrOf, IsSome, IsSomeAnd, is_err, is_some, not}
+use Rattle.std.specs.Prelude.{Result, IfOk, OnOk, IfErr, IsErr, IsErrOf, IsSome, IsSomeAnd, is_err, is_some, not}
 use Rattle.ip_ground.specs.declared.names.GroundCounts.{GroundCounts}
 use Rattle.ip_ground.specs.declared.names.Reaped.{Reaped}
 use Rattle.ip_ground.specs.Counts.{Counts, CountsLeft, Rose}
@@ -43,7 +44,7 @@ use Rattle.ip_store.specs.Starting.{AnswersCall, branch_name_at, met_by_start, I
 use Rattle.ip_store.specs.Work.{work_at, state_at}
 use Rattle.ip_session.specs.declared.session.Session.{Session}
 use Rattle.ip_session.specs.declared.session.SessionEnd.{SessionEnd}
-use Rattle.ip_session.specs.Asking.{HasStarted, HandlesNone, TellsNone, MeetsNone, QuietIfLong, Asked, Spawns}
+use Rattle.ip_session.specs.Asking.{HasStarted, HandlesNone, TellsNone, MeetsNone, QuietIfLong, GoesOnBy, Asked, Spawns}
 use Rattle.ip_session.specs.Session.{met_only, IsLong, CountsBy, CountsAny, CountsIn, EndsBy, ground_end}
 use Rattle.ip_session.specs.Starting.{HeldReplies, StartReplies, cancel_answer}
 use Rattle.ip_session.proofs.SessionLemmas.{started_is_short, cancelled_is_short, orphan_is_short, idle_is_short}
@@ -52,6 +53,20 @@ use Rattle.ip_session.proofs.SessionLemmas.{started_is_short, cancelled_is_short
 pub both_some : {X : Type 0} (o : Option X) (P Q : X → Type 0) (R : Type 0) → ((x : X) → P x → Q x → R) → IsSomeAnd o P → IsSomeAnd o Q → R
 both_some None P Q R each p q = absurd p
 both_some (Some x) P Q R each p q = each x p q
+
+-- ---- a collection goes on
+
+goes_itself : (o : Option Collection) → GoesOnBy [] o o
+goes_itself None = tt
+goes_itself (Some c) = inr (refl, (refl, refl, λ none. none))
+
+pub goes_same : (result : Result Reply SessionEnd) (before now : Option Collection) → now ≡ before → IfOk result (λ reply. GoesOnBy [] before now)
+goes_same (Ok reply) before now is = subst (GoesOnBy [] before) (sym is) (goes_itself before)
+goes_same (Err end) before now is = tt
+
+pub goes_none : (result : Result Reply SessionEnd) (jobs : List Job) (before now : Option Collection) → now ≡ None → IfOk result (λ reply. GoesOnBy jobs before now)
+goes_none (Ok reply) jobs before now is = subst (GoesOnBy jobs before) (sym is) tt
+goes_none (Err end) jobs before now is = tt
 
 -- ---- nothing is asked
 
@@ -65,10 +80,11 @@ none_added x = λ i. record { started = sym (append-nil x.started) i; reaped = s
 pub never_failed : {A : Type 0} (b : Bool) → b ≡ false → IsTrue b → A
 never_failed b is failed = absurd (cc (is, failed))
 
-pub asks_nothing : (s s' : Session) (command : Command) (result : Result Reply SessionEnd) (m : SpawnCounts) → ¬ HasStarted result → result ≢ Ok Reply.Cancelled → MeetsNone s'.met → Asked s s' command result [] [] m m
-asks_nothing s s' command result m never over met = record {
+pub asks_nothing : (s s' : Session) (command : Command) (result : Result Reply SessionEnd) (m : SpawnCounts) → ¬ HasStarted result → result ≢ Ok Reply.Cancelled → MeetsNone s'.met → IfOk result (λ reply. GoesOnBy [] s.store.collection s'.store.collection) → Asked s s' command result [] [] m m
+asks_nothing s s' command result m never over met goes_on = record {
   started = λ has. absurd (never has);
   none_started = λ _. refl;
+  goes_on = goes_on;
   running = λ is. absurd (cc (sym met.2 ∙ is));
   not_running = λ _. refl;
   waits = omega arith;
@@ -83,9 +99,9 @@ asks_nothing s s' command result m never over met = record {
   kill = λ failed. never_failed s'.met.kill_failed met.1 failed;
 }
 
-pub nothing_asked : (tells : Bool) (x y : spawn.Told) (s s' : Session) (command : Command) (result : Result Reply SessionEnd) (m n : SpawnCounts) → y ≡ x → n ≡ m → ¬ HasStarted result → result ≢ Ok Reply.Cancelled → MeetsNone s'.met → AskedSo tells x y s s' command result m n
-nothing_asked tells x y s s' command result m n same still never over met =
-    ([], [], λ _. same ∙ none_added x, subst (λ (k : SpawnCounts). Asked s s' command result [] [] m k) (sym still) (asks_nothing s s' command result m never over met))
+pub nothing_asked : (tells : Bool) (x y : spawn.Told) (s s' : Session) (command : Command) (result : Result Reply SessionEnd) (m n : SpawnCounts) → y ≡ x → n ≡ m → ¬ HasStarted result → result ≢ Ok Reply.Cancelled → MeetsNone s'.met → IfOk result (λ reply. GoesOnBy [] s.store.collection s'.store.collection) → AskedSo tells x y s s' command result m n
+nothing_asked tells x y s s' command result m n same still never over met goes_on =
+    ([], [], λ _. same ∙ none_added x, subst (λ (k : SpawnCounts). Asked s s' command result [] [] m k) (sym still) (asks_nothing s s' command result m never over met goes_on))
 
 tells_start : (result : Result Reply SessionEnd) → IfOk result TellsNone → ¬ HasStarted result
 tells_start (Ok (Reply.Started name)) none has = none
@@ -95,8 +111,8 @@ tells_start (Err end) none has = has
 tells_over : (result : Result Reply SessionEnd) → IfOk result TellsNone → result ≢ Ok Reply.Cancelled
 tells_over result none is = subst (λ (x : Result Reply SessionEnd). IfOk x TellsNone) is none
 
-pub plain_asked : (tells : Bool) (x : spawn.Told) (s s' : Session) (command : Command) (result : Result Reply SessionEnd) (m : SpawnCounts) → IfOk result TellsNone → MeetsNone s'.met → AskedSo tells x x s s' command result m m
-plain_asked tells x s s' command result m none met = nothing_asked tells x x s s' command result m m refl refl (tells_start result none) (tells_over result none) met
+pub plain_asked : (tells : Bool) (x : spawn.Told) (s s' : Session) (command : Command) (result : Result Reply SessionEnd) (m : SpawnCounts) → IfOk result TellsNone → MeetsNone s'.met → s'.store.collection ≡ s.store.collection → AskedSo tells x x s s' command result m m
+plain_asked tells x s s' command result m none met same = nothing_asked tells x x s s' command result m m refl refl (tells_start result none) (tells_over result none) met (goes_same result s.store.collection s'.store.collection same)
 
 pub none_met : (met : Met) (refused : Bool) → met ≡ met_only refused → MeetsNone met
 none_met met refused is = (ap (λ (m : Met). m.start_failed) is, ap (λ (m : Met). m.kill_failed) is, ap (λ (m : Met). m.child) is)
@@ -111,15 +127,15 @@ faulted (Err _) = (refl, refl, refl)
 -- ---- a collection is to begin
 
 -- none did
-module _ (tells : Bool) (x y : spawn.Told) (s s' : Session) (target : Target) (m n : SpawnCounts) (same : (y ≡ x) × (n ≡ m)) where
+module _ (tells : Bool) (x y : spawn.Told) (s s' : Session) (target : Target) (m n : SpawnCounts) (same : (y ≡ x) × (n ≡ m)) (stays : s'.store.collection ≡ s.store.collection) where
   abbrev None_of : Result Reply SessionEnd → Type 0
   None_of result = AskedSo tells x y s s' (Command.Collect target) result m n
 
   unstarted : (result : Result Reply SessionEnd) (reply : Reply) → result ≡ Ok reply → TellsNone reply → MeetsNone s'.met → None_of result
-  unstarted result reply is none met = subst None_of (sym is) (nothing_asked tells x y s s' (Command.Collect target) (Ok reply) m n same.0 same.1 (tells_start (Ok reply) none) (tells_over (Ok reply) none) met)
+  unstarted result reply is none met = subst None_of (sym is) (nothing_asked tells x y s s' (Command.Collect target) (Ok reply) m n same.0 same.1 (tells_start (Ok reply) none) (tells_over (Ok reply) none) met (goes_same (Ok reply) s.store.collection s'.store.collection stays))
 
   unended : (result : Result Reply SessionEnd) (end : SessionEnd) → result ≡ Err end → MeetsNone s'.met → None_of result
-  unended result end is met = subst None_of (sym is) (nothing_asked tells x y s s' (Command.Collect target) (Err end) m n same.0 same.1 (λ h. h) (λ e. absurd (cc e)) met)
+  unended result end is met = subst None_of (sym is) (nothing_asked tells x y s s' (Command.Collect target) (Err end) m n same.0 same.1 (λ h. h) (λ e. absurd (cc e)) met tt)
 
 meets : (m m' : Met) → m ≡ m' → MeetsNone m' → MeetsNone m
 meets m m' is none = subst MeetsNone (sym is) none
@@ -132,9 +148,9 @@ module _ (tells : Bool) (x y : spawn.Told) (s : Session) (store : Store) (r : Re
   Begun begun = (job : Job) × IsJobAt s.store number store.slot job × OnOk begun (store.collection ≡ Some (record { commit = number; job = job; exit = None; check = None }))
       × (IsTrue tells → y ≡ record { started = x.started ++ started_by job begun; reaped = x.reaped }) × spawned.Counts false false false (is_err begun) m n
 
-  pub start_asked : (begun : Result Hash CollectFault) → StartReplies r begun store.met met result → store.met ≡ met_by_start begun → (IsTurnedDown begun ⊎ IsErrOf begun CollectFault.Ground → (y ≡ x) × (n ≡ m)) → (IsBegun begun → Begun begun)
+  pub start_asked : (begun : Result Hash CollectFault) → StartReplies r begun store.met met result → store.met ≡ met_by_start begun → (IsTurnedDown begun ⊎ IsErrOf begun CollectFault.Ground → (y ≡ x) × (n ≡ m)) → (IsErr begun → store.collection ≡ s.store.collection) → (IsBegun begun → Begun begun)
       → AskedSo tells x y s now (Command.Collect target) result m n
-  start_asked (Ok name) says is_met still asked =
+  start_asked (Ok name) says is_met still stays asked =
       let (job, at, runs, told, counts) = asked tt in
       let none : MeetsNone met = meets met (met_by_start (Ok name)) (says.1 ∙ is_met) (refl, refl, refl) in (
         job ∷ [],
@@ -143,6 +159,7 @@ module _ (tells : Bool) (x y : spawn.Told) (s : Session) (store : Store) (r : Re
         record {
           started = λ _. subst (λ (o : Option Collection). IsSomeAnd o (λ c. (job ∷ [] ≡ c.job ∷ []) × (c.exit ≡ None) × IsJobAt s.store c.commit store.slot c.job)) (sym runs) (refl, refl, at);
           none_started = λ not. absurd (not (subst HasStarted (sym says.0) tt));
+          goes_on = subst (λ (z : Result Reply SessionEnd). IfOk z (λ reply. GoesOnBy (job ∷ []) s.store.collection store.collection)) (sym says.0) (subst (GoesOnBy (job ∷ []) s.store.collection) (sym runs) (inl refl));
           running = λ is. absurd (cc (sym none.2 ∙ is));
           not_running = λ _. counts.running;
           waits = omega (arith, counts.waits);
@@ -157,7 +174,7 @@ module _ (tells : Bool) (x y : spawn.Told) (s : Session) (store : Store) (r : Re
           kill = λ failed. never_failed met.kill_failed none.1 failed;
         },
       )
-  start_asked (Err CollectFault.Start) says is_met still asked =
+  start_asked (Err CollectFault.Start) says is_met still stays asked =
       let (job, at, runs, told, counts) = asked tt in
       let none : met.child ≡ Child.NotAsked = ap (λ (k : Met). k.child) (says.1 ∙ is_met) in (
         [],
@@ -166,6 +183,7 @@ module _ (tells : Bool) (x y : spawn.Told) (s : Session) (store : Store) (r : Re
         record {
           started = λ has. absurd (subst HasStarted says.0 has);
           none_started = λ not. refl;
+          goes_on = goes_same result s.store.collection store.collection (stays refl);
           running = λ is. absurd (cc (sym none ∙ is));
           not_running = λ _. counts.running;
           waits = omega (arith, counts.waits);
@@ -180,15 +198,15 @@ module _ (tells : Bool) (x y : spawn.Told) (s : Session) (store : Store) (r : Re
           kill = λ failed. never_failed met.kill_failed (ap (λ (k : Met). k.kill_failed) (says.1 ∙ is_met)) failed;
         },
       )
-  start_asked (Err (CollectFault.Busy name)) says is_met still asked = unstarted tells x y s now target m n (still (inl tt)) result (Reply.Busy name) says.0 tt (meets met commits.met_nothing (says.1 ∙ is_met) (refl, refl, refl))
-  start_asked (Err (CollectFault.Limit limit)) says is_met still asked = unstarted tells x y s now target m n (still (inl tt)) result (Reply.Limit limit) says.0 tt (meets met (met_by_start (Err (CollectFault.Limit limit))) (says.1 ∙ is_met) (refl, refl, refl))
-  start_asked (Err CollectFault.Memory) says is_met still asked = unstarted tells x y s now target m n (still (inl tt)) result Reply.Memory says.0 tt (meets met (met_by_start (Err CollectFault.Memory)) (says.1 ∙ is_met) (refl, refl, refl))
-  start_asked (Err CollectFault.Ground) says is_met still asked = unended tells x y s now target m n (still (inr refl)) result SessionEnd.Ground says.0 (meets met commits.met_nothing (says.1 ∙ is_met) (refl, refl, refl))
-  start_asked (Err (CollectFault.Held place)) says is_met still asked = both_some (branch_name_at r place) _ _ (AskedSo tells x y s now (Command.Collect target) result m n) each says says
+  start_asked (Err (CollectFault.Busy name)) says is_met still stays asked = unstarted tells x y s now target m n (still (inl tt)) (stays refl) result (Reply.Busy name) says.0 tt (meets met commits.met_nothing (says.1 ∙ is_met) (refl, refl, refl))
+  start_asked (Err (CollectFault.Limit limit)) says is_met still stays asked = unstarted tells x y s now target m n (still (inl tt)) (stays refl) result (Reply.Limit limit) says.0 tt (meets met (met_by_start (Err (CollectFault.Limit limit))) (says.1 ∙ is_met) (refl, refl, refl))
+  start_asked (Err CollectFault.Memory) says is_met still stays asked = unstarted tells x y s now target m n (still (inl tt)) (stays refl) result Reply.Memory says.0 tt (meets met (met_by_start (Err CollectFault.Memory)) (says.1 ∙ is_met) (refl, refl, refl))
+  start_asked (Err CollectFault.Ground) says is_met still stays asked = unended tells x y s now target m n (still (inr refl)) (stays refl) result SessionEnd.Ground says.0 (meets met commits.met_nothing (says.1 ∙ is_met) (refl, refl, refl))
+  start_asked (Err (CollectFault.Held place)) says is_met still stays asked = both_some (branch_name_at r place) _ _ (AskedSo tells x y s now (Command.Collect target) result m n) each says says
     where
       each : (name : Bytes) → (reply : Reply) × (result ≡ Ok reply) × HeldReplies name store.met met reply → (reply : Reply) × (result ≡ Ok reply) × HeldReplies name store.met met reply → AskedSo tells x y s now (Command.Collect target) result m n
-      each name (reply, is, inl told) other = unstarted tells x y s now target m n (still (inl tt)) result (Reply.Held name) (is ∙ ap Ok told.0) tt (meets met commits.met_nothing (told.1 ∙ is_met) (refl, refl, refl))
-      each name (reply, is, inr short) other = unstarted tells x y s now target m n (still (inl tt)) result Reply.Memory (is ∙ ap Ok short.0) tt (meets met (met_only true) short.1 (refl, refl, refl))
+      each name (reply, is, inl told) other = unstarted tells x y s now target m n (still (inl tt)) (stays refl) result (Reply.Held name) (is ∙ ap Ok told.0) tt (meets met commits.met_nothing (told.1 ∙ is_met) (refl, refl, refl))
+      each name (reply, is, inr short) other = unstarted tells x y s now target m n (still (inl tt)) (stays refl) result Reply.Memory (is ∙ ap Ok short.0) tt (meets met (met_only true) short.1 (refl, refl, refl))
 
 -- what was counted of the ground
 module _ (r : Repository) (before met : Met) (result : Result Reply SessionEnd) (target : Target) (old new : GroundCounts) where
@@ -285,7 +303,7 @@ cancel_ends (Ok Cancelled.Orphan) held = tt
 cancel_ends (Err CancelFault.Idle) held = tt
 cancel_ends (Err CancelFault.Ground) held = tt
 
-module _ (tells : Bool) (x y : spawn.Told) (s : Session) (store : Store) (met : Met) (done : Result Cancelled CancelFault) (left : ℕ) (is_met : met ≡ met_by_cancel done left) (m n : SpawnCounts) where
+module _ (tells : Bool) (x y : spawn.Told) (s : Session) (store : Store) (met : Met) (done : Result Cancelled CancelFault) (left : ℕ) (is_met : met ≡ met_by_cancel done left) (over : store.collection ≡ None) (m n : SpawnCounts) where
   abbrev Over : Type 0
   Over = AskedSo tells x y s (record s { store = store; met = met }) Command.Cancel (cancel_answer done) m n
 
@@ -331,7 +349,7 @@ module _ (tells : Bool) (x y : spawn.Told) (s : Session) (store : Store) (met : 
 
   -- none runs
   pub idle_asked : done ≡ Err CancelFault.Idle → y ≡ x → n ≡ m → Over
-  idle_asked is same still = nothing_asked tells x y s (record s { store = store; met = met }) Command.Cancel (cancel_answer done) m n same still (never_started done) (λ over. absurd (cc (sym (done_of done over) ∙ is))) (no_start, no_kill (λ orphan. absurd (cc (sym orphan ∙ is))), no_child)
+  idle_asked is same still = nothing_asked tells x y s (record s { store = store; met = met }) Command.Cancel (cancel_answer done) m n same still (never_started done) (λ cancelled. absurd (cc (sym (done_of done cancelled) ∙ is))) (no_start, no_kill (λ orphan. absurd (cc (sym orphan ∙ is))), no_child) (goes_none (cancel_answer done) [] s.store.collection store.collection over)
 
   -- its child had been reaped
   pub kept_asked : (c : Collection) → s.store.collection ≡ Some c → IsSome c.exit → done ≢ Ok Cancelled.Orphan → y ≡ x → n ≡ m → Over
@@ -342,6 +360,7 @@ module _ (tells : Bool) (x y : spawn.Told) (s : Session) (store : Store) (met : 
     record {
       started = λ has. absurd (never_started done has);
       none_started = λ _. refl;
+      goes_on = goes_none (cancel_answer done) [] s.store.collection store.collection over;
       running = λ is. absurd (cc (sym no_child ∙ is));
       not_running = λ _. ap (λ (k : SpawnCounts). k.running) still;
       waits = (let e = ap (λ (k : SpawnCounts). k.waits) still in omega (arith, e));
@@ -366,6 +385,7 @@ module _ (tells : Bool) (x y : spawn.Told) (s : Session) (store : Store) (met : 
     record {
       started = λ has. absurd (never_started done has);
       none_started = λ _. refl;
+      goes_on = goes_none (cancel_answer done) [] s.store.collection store.collection over;
       running = λ is. absurd (cc (sym no_child ∙ is));
       not_running = λ _. counts.running;
       waits = omega (arith, counts.waits);
@@ -390,6 +410,7 @@ module _ (tells : Bool) (x y : spawn.Told) (s : Session) (store : Store) (met : 
     record {
       started = λ has. absurd (never_started done has);
       none_started = λ _. refl;
+      goes_on = goes_none (cancel_answer done) [] s.store.collection store.collection over;
       running = λ is. absurd (cc (sym no_child ∙ is));
       not_running = λ _. counts.running;
       waits = omega (arith, counts.waits);
@@ -466,6 +487,7 @@ lined_asked tells x y s s' met command line result m n served one (jobs, ends, t
     command = λ other spelled. subst (λ (c : Command). Asked s s' c result jobs ends m n) (sym (one other spelled)) (record {
       started = asked.started;
       none_started = asked.none_started;
+      goes_on = asked.goes_on;
       running = asked.running;
       not_running = asked.not_running;
       waits = asked.waits;
@@ -480,17 +502,19 @@ lined_asked tells x y s s' met command line result m n served one (jobs, ends, t
       kill = asked.kill;
     });
     none = λ none. absurd (none command served);
+    goes_on = asked.goes_on;
   };
 }
 
-pub nothing_spawned : (tells : Bool) (x : spawn.Told) (s s' : Session) (line : Bytes) (reply : Reply) (m : SpawnCounts) → TellsNone reply → MeetsNone s'.met → Spawns tells x x s s' line (Ok reply) m m
-nothing_spawned tells x s s' line reply m none met = record {
+pub nothing_spawned : (tells : Bool) (x : spawn.Told) (s s' : Session) (line : Bytes) (reply : Reply) (m : SpawnCounts) → TellsNone reply → MeetsNone s'.met → s'.store.collection ≡ s.store.collection → Spawns tells x x s s' line (Ok reply) m m
+nothing_spawned tells x s s' line reply m none met same = record {
   jobs = [];
   ends = [];
   told = λ _. none_added x;
   asked = record {
-    command = λ command served. asks_nothing s s' command (Ok reply) m (tells_start (Ok reply) none) (tells_over (Ok reply) none) met;
+    command = λ command served. asks_nothing s s' command (Ok reply) m (tells_start (Ok reply) none) (tells_over (Ok reply) none) met (goes_same (Ok reply) s.store.collection s'.store.collection same);
     none = λ _. (refl, refl, refl);
+    goes_on = goes_same (Ok reply) s.store.collection s'.store.collection same;
   };
 }
 
@@ -539,6 +563,7 @@ module _ (tells : Bool) (x y : spawn.Told) (s s' : Session) (met : Met) (line : 
         command = λ command served. (let asked = spawns.asked.command command served in record {
           started = λ has. absurd has;
           none_started = λ not. asked.none_started (quiet long).0;
+          goes_on = asked.goes_on;
           running = λ is. absurd (cc is);
           not_running = λ _. asked.not_running (λ is. absurd (cc (sym (quiet long).1 ∙ is)));
           waits = asked.waits;
@@ -553,6 +578,7 @@ module _ (tells : Bool) (x y : spawn.Told) (s s' : Session) (met : Met) (line : 
           kill = λ failed. absurd (cc failed);
         });
         none = spawns.asked.none;
+        goes_on = spawns.asked.goes_on;
       };
     },
     subst (CountsIn line (Ok Reply.Memory) (met_only true) old) (sym (quiet long).2) (none_counts line Reply.Memory (met_only true) old refl),

@@ -33,9 +33,9 @@ use Rattle.ip_session.specs.declared.session.Session.{Session}
 use Rattle.ip_session.specs.Placing.{PlacedBy}
 use Rattle.ip_session.specs.Session.{unasked, IsServing, IsWorking, state_in, met_only, conditions_of, IsLong, attempt_of, hears, ChangesBy, ChangedBy, TouchedBy, GoesBy, CutBy}
 use Rattle.ip_session.specs.Starting.{cancel_answer}
-use Rattle.ip_session.proofs.Changing.{keeps_nothing, nothing_by, none_durable}
+use Rattle.ip_session.proofs.Changing.{keeps_nothing, nothing_by, nothing_space, none_durable}
 use Rattle.ip_session.proofs.Placing.{unmoved}
-use Rattle.ip_session.proofs.SessionLemmas.{at, plainly, heard_none, unjudged, cancelled_is_short, orphan_is_short, idle_is_short}
+use Rattle.ip_session.proofs.SessionLemmas.{at, plainly, heard_none, unjudged, unsettled, cancelled_is_short, orphan_is_short, idle_is_short}
 use Rattle.ip_session.proofs.StartGoes.{step_turned}
 
 -- the repository stays, whatever the answer is
@@ -97,6 +97,7 @@ module _ (a b : Told) (s : Session) (store : Store) (met : Met) (left : ℕ) (do
       difference = None;
       gives = gives Reply.Idle A;
       judged = unjudged a a s after_it r v (unheard Reply.Idle A);
+      settled = unsettled a s after_it Reply.Idle (unheard Reply.Idle A);
       is_at = (let holds = same_holds s.store store same r a here.holds in record {
         holds = holds;
         lawful = works_stay (image_records here.holds) (image_records holds) r r s.work v here.lawful (λ there. stays_still s.store store same r r a here.holds holds) (omega arith) here.lawful.parents;
@@ -105,6 +106,7 @@ module _ (a b : Told) (s : Session) (store : Store) (met : Met) (left : ℕ) (do
       only = nothing_by (hears Command.Cancel) (attempt_of s.store Command.Cancel) (ChangedBy s.store a.held Command.Cancel Reply.Idle) a a (only_nowhere a NoFile);
       files = keeps_nothing a a (only_nowhere a NoFile);
       said = (only_nowhere a NoFile).said;
+      space = λ order none slot live. nothing_space a a (only_nowhere a NoFile) order slot live;
       atomic = λ order t late le. absurd (omega (arith, late, le));
       nothing_pending = λ order. order;
       spared = λ long. absurd (idle_is_short long);
@@ -129,11 +131,13 @@ module _ (a b : Told) (s : Session) (store : Store) (met : Met) (left : ℕ) (do
             difference = None;
             gives = gives reply A;
             judged = unjudged a b s after_it r v (unheard reply A);
+            settled = unsettled b s after_it reply (unheard reply A);
             is_at = record { holds = holds; lawful = works_stay (image_records here.holds) (image_records holds) r r s.work v here.lawful (λ there. stay r holds) (omega arith) here.lawful.parents };
             seen = refl;
             only = only;
             files = M.files;
             said = M.only.said;
+            space = λ order none slot live. M.space order slot live;
             atomic = λ order t late le. let at_it = M.recovers order t late le in record { stands = λ image possible. inl (at_it.stands image possible); flushed = at_it.flushed };
             nothing_pending = M.nothing_pending;
             spared = λ long. absurd (short long);
@@ -161,6 +165,7 @@ module _ (a b : Told) (s : Session) (store : Store) (met : Met) (left : ℕ) (do
             only = by_attempt (TouchedBy s.store a.held Command.Cancel) (for_more c.job.attempt (IsSwept store.slot s.store.unswept) (TouchedBy s.store a.held Command.Cancel) a b swept M.only);
             files = M.files;
             said = M.only.said;
+            space = λ order none slot live. M.space order slot live;
             atomic = λ order moment late le. let at_it = M.recovers order moment late le in record { stands = λ image possible. inl (at_it.stands image possible); flushed = at_it.flushed };
           }
 

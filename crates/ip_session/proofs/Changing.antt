@@ -2,15 +2,20 @@
 --     changed_by      these files alone, whether there is an attempt or not.      nothing_by      none
 --     none_durable      a command that is not durable did nothing that is.      keeps_nothing      no file of an attempt was written.      changed_so, touched_so      by a durable command.      nothing_only      nothing changed, by whatever line
 --     handles_none      the command has to do with no child, so it is no collection
+--     still_space      while no file changes the bytes of the live slot's records stay, whatever a crash leaves.      nothing_space      so where nothing changed
 use Rattle.std.proofs.Common.{Bool, ◌≡◌, ◌≢◌, ℕ, true, false, refl, subst, Option, Some, None}
 use Rattle.ip_ground.specs.declared.names.FileName.{FileName}
+use Rattle.ip_ground.specs.declared.names.FileName.TheVariants.{Chunk, Mapping, Prefix}
 use Rattle.ip_ground.specs.Contents.{Image}
-use Rattle.ip_ground.specs.Told.{Told, NoFile, ChangesOnly}
+use Rattle.ip_ground.specs.Told.{Told, NoFile, KeepsFile, ChangesOnly}
 use Rattle.ip_ground.proofs.Spans.{only_more}
 use Rattle.ip_spec.specs.declared.command.Command.{Command}
 use Rattle.ip_spec.specs.declared.command.Target.{Target}
 use Rattle.ip_spec.specs.declared.reply.Reply.{Reply}
 use Rattle.ip_spec.specs.Path.{Bytes}
+use Rattle.ip_image.specs.declared.slot.Slot.{Slot}
+use Rattle.ip_image.specs.Pending.{HasLive, NothingPending, KeepsSpace}
+use Rattle.ip_image.specs.Virtual.{chunk_of, chunk_byte}
 use Rattle.ip_store.specs.declared.store.Store.{Store}
 use Rattle.ip_store.specs.Publishing.{MayChange}
 use Rattle.ip_store.specs.Sweeping.{KeepsFiles}
@@ -63,3 +68,15 @@ nothing_only store a b line reply only = record {
 
 pub handles_none : (command : Command) → HandlesNone command → (target : Target) → command ≢ Command.Collect target
 handles_none command handles target is = subst HandlesNone is handles
+
+pub still_space : (a b : Told) → ((file : FileName) → KeepsFile a b file) → NothingPending a → (u : Slot) → HasLive u a.held → KeepsSpace u a b
+unfolding chunk_byte
+still_space a b stays pending u has t after le image possible =
+    record {
+      chunks = λ at low high. pending.chunks u has at low high (image (Chunk (chunk_of u.chunk at))) ((stays (Chunk (chunk_of u.chunk at))).left (λ loose. loose) t (image (Chunk (chunk_of u.chunk at))) after le (possible (Chunk (chunk_of u.chunk at))));
+      mapping = λ some. let pair = pending.pair u has some in pair.mapping (image (Mapping u.live)) ((stays (Mapping u.live)).left pair.firm_mapping t (image (Mapping u.live)) after le (possible (Mapping u.live)));
+      prefix = λ some. let pair = pending.pair u has some in pair.prefix (image (Prefix u.live)) ((stays (Prefix u.live)).left pair.firm_prefix t (image (Prefix u.live)) after le (possible (Prefix u.live)));
+    }
+
+pub nothing_space : (a b : Told) → ChangesOnly NoFile a b → NothingPending a → (u : Slot) → HasLive u a.held → KeepsSpace u a b
+nothing_space a b only = still_space a b (λ file. only.others file (λ none. none))

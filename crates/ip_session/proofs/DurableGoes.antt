@@ -38,8 +38,8 @@ use Rattle.ip_store.proofs.Recovering.{recovers_since}
 use Rattle.ip_store.proofs.Stepping.{of_store}
 use Rattle.ip_session.specs.declared.session.Session.{Session}
 use Rattle.ip_session.specs.Session.{unasked, attempt_of, hears, IsWorking, state_in, met_only, conditions_of, IsLong, is_durable, IsDurable, ChangedBy, TouchedBy, GoesBy, CutBy}
-use Rattle.ip_session.proofs.Changing.{changed_by, nothing_by, changed_so, touched_so, keeps_nothing}
-use Rattle.ip_session.proofs.SessionLemmas.{at, heard_none, unjudged, nothing_kept, plainly, Refusable}
+use Rattle.ip_session.proofs.Changing.{changed_by, nothing_by, nothing_space, changed_so, touched_so, keeps_nothing}
+use Rattle.ip_session.proofs.SessionLemmas.{at, heard_none, unjudged, unsettled, nothing_kept, plainly, Refusable}
 
 pub keeps_still : (store : Store) (r after : Repository) (a b : Told) → Holds store a r → NothingPending a → ChangesOnly NoFile a b → IsAtomic a b r after
 keeps_still store r after a b holds order only t late le =
@@ -131,11 +131,13 @@ module _ (a b : Told) (s : Session) (store : Store) (work : Work) (r after : Rep
         difference = None;
         gives = step_of r (phase_of s.store.collection) (work_at s.work v) command after whole store.met (heard_as T) reply (session T.next (phase_of store.collection) work T.view) T.turns.1 T.turns.0;
         judged = unjudged a b s after_it r v (heard_as T);
+        settled = unsettled b s after_it reply (heard_as T);
         is_at = T.is_at (subst (Holds store b) (sym repository) does.1);
         seen = T.seen;
         only = nothing_by (hears command) (attempt_of s.store command) (ChangedBy s.store a.held command reply) a b only;
         files = keeps_nothing a b only;
         said = only.said;
+        space = λ order none slot live. nothing_space a b only order slot live;
         atomic = λ order. keeps_still s.store r T.next a b here.holds order only;
         nothing_pending = λ order. pending_passes a b only.goes (λ file. only.others file (λ none. none)) only.lending order;
         spared = λ long. record { same = state; seen = kept_view r v command reply T.view whole.durable quiet T.seen; refused = whole.refusable r (phase_of s.store.collection) (work_at s.work v) };
@@ -161,11 +163,13 @@ module _ (a b : Told) (s : Session) (store : Store) (work : Work) (r after : Rep
         difference = None;
         gives = step_of r (phase_of s.store.collection) (work_at s.work v) command after whole store.met (heard_as T) reply (session T.next (phase_of store.collection) work T.view) T.turns.1 T.turns.0;
         judged = unjudged a b s after_it r v (heard_as T);
+        settled = unsettled b s after_it reply (heard_as T);
         is_at = T.is_at (subst (Holds store b) (sym repository) does.ok);
         seen = T.seen;
         only = changed_by (hears command) (attempt_of s.store command) (ChangedBy s.store a.held command reply) a b (only_more a b _ (ChangedBy s.store a.held command reply) (λ file changed. changed_so s.store a.held command reply file done changed) does.only);
         files = keeps_store a b (MayChange a.held) (of_store a.held) does.only;
         said = does.only.said;
+        space = λ order none slot live. does.space order slot live;
         atomic = λ order. subst (λ (q : Repository). IsAtomic a b r q) (sym repository) (does.atomic order);
         nothing_pending = λ order. does.nothing_pending order tt;
         spared = λ long. absurd (short long);
@@ -191,6 +195,7 @@ module _ (a b : Told) (s : Session) (store : Store) (work : Work) (r after : Rep
         only = changed_by (hears command) (attempt_of s.store command) (TouchedBy s.store a.held command) a b (only_more a b (MayChange a.held) (TouchedBy s.store a.held command) (λ file changed. touched_so s.store a.held command file durable changed) does.only);
         files = keeps_store a b (MayChange a.held) (of_store a.held) does.only;
         said = does.only.said;
+        space = λ order none slot live. does.space order slot live;
         atomic = λ order. subst (λ (q : Repository). IsAtomic a b r q) (sym repository) (does.atomic order);
       }
 

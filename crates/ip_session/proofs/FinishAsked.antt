@@ -30,15 +30,16 @@ use Rattle.ip_store.specs.declared.finishing.Looked.{Looked}
 use Rattle.ip_store.specs.declared.finishing.Rejection.{Rejection}
 use Rattle.ip_store.specs.declared.store.Store.{Store}
 use Rattle.ip_store.specs.Collecting.{phase_of, IsPhaseOf}
-use Rattle.ip_store.specs.Finishing.{FinishReplies, LookReplies, as_look, child_seen, child_reaped, CountsFinish, IsUndamaged}
+use Rattle.ip_store.specs.Finishing.{FinishReplies, LookReplies, as_look, child_seen, child_reaped, CountsFinish, IsKept, IsOver, IsQuiet, IsUndamaged}
 use Rattle.ip_store.specs.Store.{IsOf}
+use Rattle.ip_store.proofs.FinishTurns.{IsEnding}
 use Rattle.ip_session.specs.declared.session.Session.{Session}
 use Rattle.ip_session.specs.declared.session.SessionEnd.{SessionEnd}
-use Rattle.ip_session.specs.Asking.{HasStarted, HeardOf, QuietIfLong}
+use Rattle.ip_session.specs.Asking.{HasStarted, HeardOf, GoesOnBy, QuietIfLong}
 use Rattle.ip_session.specs.Session.{CountsBy, EndsBy, IsLong}
 use Rattle.ip_session.specs.Starting.{look_answer}
-use Rattle.ip_session.proofs.Asking.{AskedSo, nothing_asked, none_added, never_failed, none_left}
-use Rattle.ip_session.proofs.FinishGoes.{IsEnding, Says, concluded, may_reap}
+use Rattle.ip_session.proofs.Asking.{AskedSo, nothing_asked, goes_same, goes_none, none_added, never_failed, none_left}
+use Rattle.ip_session.proofs.FinishGoes.{Says, concluded, may_reap}
 
 -- ---- what was answered
 
@@ -136,12 +137,46 @@ module _ (tells : Bool) (x y : spawn.Told) (s : Session) (store : Store) (met : 
   child_is : met.child ≡ store.met.child
   child_is = ap (λ (k : Met). k.child) is_met
 
+  -- it goes on or is over, or nothing was done
+  goes_on : IfOk (look_answer looked) (λ reply. GoesOnBy [] s.store.collection store.collection)
+  goes_on = by looked refl
+    where
+      stays : (x : Result Looked FinishFault) → looked ≡ x → IsQuiet x → IfOk (look_answer x) (λ reply. GoesOnBy [] s.store.collection store.collection)
+      stays x is quiet = goes_same (look_answer x) s.store.collection store.collection (ap (λ (k : Store). k.collection) (says.quiet (subst IsQuiet (sym is) quiet)))
+
+      ends : (x : Result Looked FinishFault) → looked ≡ x → IsOver x → IfOk (look_answer x) (λ reply. GoesOnBy [] s.store.collection store.collection)
+      ends x is over = goes_none (look_answer x) [] s.store.collection store.collection (says.over (subst IsOver (sym is) over))
+
+      kept : IsKept looked → (looked ≢ Err FinishFault.Idle) → ¬ IsQuiet looked → GoesOnBy [] s.store.collection store.collection
+      kept is not loud = run s.store.collection refl
+        where
+          some : (c : Collection) (reaped : Reaped) → s.store.collection ≡ Some c → store.met.child ≡ Child.Ended reaped → GoesOnBy [] s.store.collection store.collection
+          some c reaped runs heard = (let K = says.goes_on is c reaped runs heard in
+              subst (λ (o : Option Collection). GoesOnBy [] o store.collection) (sym runs) (subst (GoesOnBy [] (Some c)) (sym K.is) (inr (refl, (K.commit, K.job, λ none. absurd (cc (sym K.exit ∙ none)))))))
+
+          run : (o : Option Collection) → s.store.collection ≡ o → GoesOnBy [] s.store.collection store.collection
+          run None none = absurd (not (says.runs.0 none))
+          run (Some c) runs = elim says.ended [ inl quiet ↦ absurd (loud quiet) | inr heard ↦ some c heard.0 runs heard.1 ]
+
+      by : (x : Result Looked FinishFault) → looked ≡ x → IfOk (look_answer x) (λ reply. GoesOnBy [] s.store.collection store.collection)
+      by (Ok Looked.Running) is = stays (Ok Looked.Running) is tt
+      by (Ok (Looked.Checking left)) is = kept (subst IsKept (sym is) tt) (λ e. absurd (cc (sym is ∙ e))) (λ quiet. subst IsQuiet is quiet)
+      by (Ok (Looked.Collected collected)) is = ends (Ok (Looked.Collected collected)) is tt
+      by (Err FinishFault.Idle) is = stays (Err FinishFault.Idle) is tt
+      by (Err FinishFault.Wait) is = stays (Err FinishFault.Wait) is tt
+      by (Err (FinishFault.Rejected (Rejection.Exit exit))) is = ends (Err (FinishFault.Rejected (Rejection.Exit exit))) is tt
+      by (Err (FinishFault.Rejected (Rejection.Differs difference))) is = ends (Err (FinishFault.Rejected (Rejection.Differs difference))) is tt
+      by (Err (FinishFault.Limit limit)) is = ends (Err (FinishFault.Limit limit)) is tt
+      by (Err FinishFault.Memory) is = kept (subst IsKept (sym is) tt) (λ e. absurd (cc (sym is ∙ e))) (λ quiet. subst IsQuiet is quiet)
+      by (Err FinishFault.Ground) is = tt
+      by (Err (FinishFault.Damaged at)) is = tt
+
   -- none runs
   idle_asked : (r : Repository) → IsOf s.store r → s.store.collection ≡ None → looked ≡ Err FinishFault.Idle → (y ≡ x) × (n ≡ m) → Asks
   idle_asked r tables none is same =
       let says_idle = concluded s store met command ending looked is_met says r tables Reply.Idle (ap look_answer is) in
       let heard : MayHear Phase.Idle command store.met.child = subst (λ (o : Option Collection). MayHear (phase_of o) command store.met.child) none (says_idle.turns empty_work).0.child in
-      nothing_asked tells x y s after_it command (look_answer looked) m n same.0 same.1 (never_started looked) (never_over looked) (no_start, no_kill, child_is ∙ none_heard command ending store.met.child heard)
+      nothing_asked tells x y s after_it command (look_answer looked) m n same.0 same.1 (never_started looked) (never_over looked) (no_start, no_kill, child_is ∙ none_heard command ending store.met.child heard) goes_on
 
   -- its child had been reaped
   kept_asked : (r : Repository) → IsOf s.store r → (c : Collection) (kept : Reaped) → s.store.collection ≡ Some c → c.exit ≡ Some kept → (y ≡ x) × (n ≡ m) → Asks
@@ -154,6 +189,7 @@ module _ (tells : Bool) (x y : spawn.Told) (s : Session) (store : Store) (met : 
         record {
           started = λ has. absurd (never_started looked has);
           none_started = λ _. refl;
+          goes_on = goes_on;
           running = λ is. absurd (cc (sym is ∙ child));
           not_running = λ _. ap (λ (k : SpawnCounts). k.running) same.1;
           waits = (let e = ap (λ (k : SpawnCounts). k.waits) same.1 in omega (arith, e));
@@ -198,6 +234,7 @@ module _ (tells : Bool) (x y : spawn.Told) (s : Session) (store : Store) (met : 
     record {
       started = λ has. absurd (never_started looked has);
       none_started = λ _. refl;
+      goes_on = goes_on;
       running = λ is. (let sees = subst (λ (k : Child). Sees k A.end A.ran A.failed) (sym child_is ∙ is) A.sees in
           subst (Rose m.running) (sym A.counts.running) (subst (λ (b : Bool). Rose m.running (spawned.counted b m.running)) (sym sees.1) (rose_counted m.running)));
       not_running = λ not. A.counts.running ∙ ap (λ (b : Bool). spawned.counted b m.running) (not_ran store.met.child A.end A.ran A.failed A.sees (λ is. not (child_is ∙ is)));

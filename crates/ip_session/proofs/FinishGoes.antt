@@ -1,5 +1,5 @@
 -- What a session does that asked for a collection's child, by a look or by a finish.
---     IsEnding command      it is one of the two.      Unheard phase child      the child was not heard to have ended
+--     Unheard phase child      the child was not heard to have ended
 --     turn_is, step_heard, unheard_stays, floor_of      what the machine answers to them
 --     each_reply, of_reply, replied, has_answer      of what the store said, by its reply
 --     Says s store command looked      what the store says, whatever is told.      by_end      the child has ended, or it was not heard to have
@@ -9,8 +9,10 @@ use Rattle.std.specs.Prelude.{Result, IfOk, OnErr, IsSomeAnd, All, option_map, i
 use Rattle.ip_ground.specs.declared.names.FileName.{FileName}
 use Rattle.ip_ground.specs.declared.names.FileName.TheVariants.{Control, Chunk, Prefix, Mapping, Done}
 use Rattle.ip_ground.specs.declared.names.Reaped.{Reaped}
-use Rattle.ip_ground.specs.Told.{Told, NoFile}
+use Rattle.ip_ground.specs.Contents.{Image}
+use Rattle.ip_ground.specs.Told.{Told, NoFile, IsSettledAs}
 use Rattle.ip_ground.proofs.Spans.{only_nowhere}
+use Rattle.ip_spawn.specs.declared.job.Job.{Job}
 use Rattle.ip_spec.specs.declared.command.Command.{Command}
 use Rattle.ip_spec.specs.declared.met.Child.{Child}
 use Rattle.ip_spec.specs.declared.met.Met.{Met}
@@ -32,27 +34,23 @@ use Rattle.ip_store.specs.declared.finishing.Looked.{Looked}
 use Rattle.ip_store.specs.declared.finishing.Rejection.{Rejection}
 use Rattle.ip_store.specs.declared.store.Store.{Store}
 use Rattle.ip_store.specs.Collecting.{phase_of, carrying, IsPhaseOf}
-use Rattle.ip_store.specs.Finishing.{LookReplies, met_by_finish, conditions_by, difference_in, repository_after, swapped_slot, Concludes, FinishesBy, HasAnswer, IsCollected, IsQuiet, IsUndamaged, Judges, LimitsFinish, MayTouch, SlotBy, TurnsBy, WorksStay}
+use Rattle.ip_store.specs.Finishing.{LookReplies, met_by_finish, conditions_by, difference_in, repository_after, swapped_slot, Concludes, FinishesBy, HasAnswer, IsCollected, IsKept, IsOver, IsQuiet, IsUndamaged, KeepsCollection, Judges, LimitsFinish, MayTouch, SlotBy, TurnsBy, WorksStay}
 use Rattle.ip_store.specs.Store.{IsOf, Holds, SameTables, image_records}
 use Rattle.ip_store.specs.Sweeping.{IsSwept, EndsFor}
 use Rattle.ip_store.specs.Views.{IsViewAfter}
 use Rattle.ip_store.specs.Work.{AreParents, work_at, state_at}
 use Rattle.ip_store.proofs.Ended.{ends_more}
+use Rattle.ip_store.proofs.FinishTurns.{IsEnding}
 use Rattle.ip_store.proofs.Stepping.{in_itself, same_holds, stays_still}
 use Rattle.ip_store.proofs.Works.{works_stay}
 use Rattle.ip_session.specs.declared.session.Session.{Session}
 use Rattle.ip_session.specs.declared.session.SessionEnd.{SessionEnd}
 use Rattle.ip_session.specs.Asking.{MayReap}
 use Rattle.ip_session.specs.Placing.{PlacedBy, IsSwappedAt, HasCollected}
-use Rattle.ip_session.specs.Session.{unasked, conditions_with, IsServing, IsWorking, IsJudgedIn, IsLong, is_durable, state_in, attempt_of, hears, ChangesBy, ChangedAtEnd, ChangedBy, TouchedBy, GoesBy, CutBy}
+use Rattle.ip_session.specs.Session.{unasked, conditions_with, IsServing, IsWorking, IsJudgedIn, HasSettled, IsSettledIn, IsLong, is_durable, state_in, attempt_of, hears, ChangesBy, ChangedAtEnd, ChangedBy, TouchedBy, GoesBy, CutBy}
 use Rattle.ip_session.specs.Starting.{look_answer}
-use Rattle.ip_session.proofs.Changing.{keeps_nothing, none_durable, nothing_by}
+use Rattle.ip_session.proofs.Changing.{keeps_nothing, none_durable, nothing_by, nothing_space}
 use Rattle.ip_session.proofs.StartGoes.{chosen}
-
-abbrev pub IsEnding : Command → Type 0
-IsEnding Command.Look = Unit {0}
-IsEnding Command.Finish = Unit {0}
-IsEnding command = ⊥
 
 -- ---- the machine
 
@@ -342,6 +340,9 @@ pub record Says (s : Session) (store : Store) (command : Command) (looked : Resu
   pub slot : (c : Collection) → s.store.collection ≡ Some c → SlotBy looked c s.store store.slot
   pub limits : LimitsFinish looked s.store
   pub answered : (r : Repository) → IsOf s.store r → LookReplies looked (Concludes r s.store.collection command (conditions_by store.met looked) store)
+  -- it goes on, or is over
+  pub goes_on : IsKept looked → (c : Collection) (reaped : Reaped) → s.store.collection ≡ Some c → store.met.child ≡ Child.Ended reaped → KeepsCollection c reaped store.collection
+  pub over : IsOver looked → store.collection ≡ None
 
 module _ (s : Session) (store : Store) (met : Met) (command : Command) (ending : IsEnding command) (looked : Result Looked FinishFault) (is_met : met ≡ store.met) (says : Says s store command looked) where
   abbrev after_it : Session
@@ -400,6 +401,13 @@ module _ (s : Session) (store : Store) (met : Met) (command : Command) (ending :
 
   -- ---- where the records lie
 
+  at_commit : (r : Repository) (c : Collection) → s.store.collection ≡ Some c → (floor left : ℕ) → Concluded r (Reply.Collected floor left) → floor ≡ c.commit
+  at_commit r c runs floor left C =
+      let start = state_at r (phase_of (Some c)) empty_work in
+      let met = conditions_by store.met looked in
+      let turns = subst (λ (o : Option Collection). TurnsBy (state_at r (phase_of o) empty_work) command met (Reply.Collected floor left) (state_at C.after (phase_of store.collection) empty_work)) runs (C.turns empty_work) in
+      floor_of start c.commit c.exit met met.told.refused met.told.child floor left (ap (λ (t : Turned). t.0) (sym (turn_is start command ending met) ∙ turns.1))
+
   module _ (r : Repository) (tables : IsOf s.store r) (v : View) where
     abbrev Swapped : ℕ → Type 0
     Swapped floor = IsSwappedAt s.store.slot s.store.unswept floor store.slot
@@ -408,7 +416,7 @@ module _ (s : Session) (store : Store) (met : Met) (command : Command) (ending :
     swapped floor left is = by_running (Swapped floor) (λ none idle. absurd (subst IsCollected idle (collected_of looked floor left is))) (λ c runs.
         let (length, rows, slot) = swap_of s.store store c looked (collected_of looked floor left is) (says.slot c runs) in
         let C = concluded r tables (Reply.Collected floor left) is in
-        let floor_is : floor ≡ c.commit = at_commit c runs floor left C in
+        let floor_is : floor ≡ c.commit = at_commit r c runs floor left C in
         let live_is : store.slot.live ≡ c.job.attempt = ap (λ (t : Slot). t.live) slot in
         let drawn = (subst (IsPhaseOf s.store.slot r) runs tables.phase).told.attempt in
         record {
@@ -419,13 +427,6 @@ module _ (s : Session) (store : Store) (met : Met) (command : Command) (ending :
           drawn = ap (λ (k : ℕ). k + 1) live_is ∙ drawn;
           sequence = says.limits.enough (collected_of looked floor left is);
         })
-      where
-        at_commit : (c : Collection) → s.store.collection ≡ Some c → (floor left : ℕ) → Concluded r (Reply.Collected floor left) → floor ≡ c.commit
-        at_commit c runs floor left C =
-            let start = state_at r (phase_of (Some c)) empty_work in
-            let met = conditions_by store.met looked in
-            let turns = subst (λ (o : Option Collection). TurnsBy (state_at r (phase_of o) empty_work) command met (Reply.Collected floor left) (state_at C.after (phase_of store.collection) empty_work)) runs (C.turns empty_work) in
-            floor_of start c.commit c.exit met met.told.refused met.told.child floor left (ap (λ (t : Turned). t.0) (sym (turn_is start command ending met) ∙ turns.1))
 
     pub finish_placed : IfOk (look_answer looked) (PlacedBy unasked s.store.slot s.store.unswept store.slot (state_in s r v) v command)
     finish_placed = each_reply (PlacedBy unasked s.store.slot s.store.unswept store.slot (state_in s r v) v command) (look_answer looked) (λ reply is. record {
@@ -463,6 +464,19 @@ module _ (s : Session) (store : Store) (met : Met) (command : Command) (ending :
           (subst (λ (rs : Records). Judges rs c (conditions_with met F.met.difference) b) (all_records a.held here.holds.stands.standing other.holds.stands.standing)
           (subst (λ (m : Conditions). Judges records c m b) (sym met_is) F.judged))
 
+      child_so : met.child ≡ Child.Ended reaped
+      child_so = ap (λ (m : Met). m.child) is_met ∙ heard
+
+      settled_in : (reply : Reply) → look_answer looked ≡ Ok reply → IsSettledIn b s after_it reply
+      settled_in reply is d other runs' heard' =
+          let same : c ≡ d = cc (sym runs ∙ runs') in
+          subst (λ (x : Collection). HasSettled x reply store.slot b) same (record {
+            settled = F.does.settled (has_answer looked reply is);
+            serves = λ floor left e. F.does.serves (collected_of looked floor left (is ∙ ap Ok e));
+            swapped = λ floor left e. (let (length, rows, slot) = swap_of s.store store c looked (collected_of looked floor left (is ∙ ap Ok e)) (says.slot c runs) in
+                (at_commit r c runs floor left (concluded r here.holds.tables (Reply.Collected floor left) (is ∙ ap Ok e)), ap (λ (t : Slot). t.live) slot, ap (λ (t : Slot). t.horizon) slot));
+          })
+
       gives : (reply : Reply) → look_answer looked ≡ Ok reply → Step unasked (state_in s r v) command (conditions_with met F.met.difference) reply (state_in after_it after v)
       gives reply is =
           let w = work_at s.work v in
@@ -481,12 +495,14 @@ module _ (s : Session) (store : Store) (met : Met) (command : Command) (ending :
             difference = F.met.difference;
             gives = gives reply is;
             judged = judged;
+            settled = settled_in reply is;
             is_at = record { holds = holds; lawful = stay has after holds s.work v here.lawful };
             seen = seen_ending r v command reply ending;
             only = by_attempt a b s.store c command ending runs (ChangedBy s.store a.held command reply) (ends_more c.job.attempt (MayTouch looked store s.store.unswept) a b (ChangedBy s.store a.held command reply)
                 (λ file may. changed_is s.store a command ending reply file (of_reply (Touches s.store store c runs looked) (look_answer looked) reply (touched_at s.store store c runs looked (says.slot c runs)) is file may)) F.does.only);
             files = F.does.files;
             said = F.does.only.beside.said;
+            space = λ order none slot live. absurd (none reaped (child_so));
             atomic = F.does.atomic;
             nothing_pending = λ order. F.does.nothing_pending order has;
             spared = λ long. absurd (short long);
@@ -522,6 +538,7 @@ module _ (s : Session) (store : Store) (met : Met) (command : Command) (ending :
                 (λ file may. touched_is s.store a command ending file (subst (λ (x : Result Looked FinishFault). MayTouch x store s.store.unswept file) ground may)) F.does.only);
             files = F.does.files;
             said = F.does.only.beside.said;
+            space = λ order none slot live. absurd (none reaped (child_so));
             atomic = λ order. subst (λ (q : Repository). IsAtomic a b r q) (sym after_is) (F.does.atomic order);
           }
 
@@ -546,11 +563,13 @@ module _ (s : Session) (store : Store) (met : Met) (command : Command) (ending :
             difference = difference_in looked;
             gives = subst (λ (m : Met). Step unasked start command (conditions_with m (difference_in looked)) reply (state_in after_it r v)) (sym is_met) (subst (λ (q : Repository). Step unasked start command conditions reply (state_at q (phase_of store.collection) w)) after_is step);
             judged = λ other c reaped runs heard. absurd (subst (Unheard (phase_of (Some c))) (ap (λ (m : Met). m.child) (sym is_met) ∙ heard) (subst (λ (o : Option Collection). Unheard (phase_of o) store.met.child) runs un));
+            settled = λ c reaped runs heard. absurd (subst (Unheard (phase_of (Some c))) (ap (λ (m : Met). m.child) (sym is_met) ∙ heard) (subst (λ (o : Option Collection). Unheard (phase_of o) store.met.child) runs un));
             is_at = record { holds = holds; lawful = works_stay (image_records here.holds) (image_records holds) r r s.work v here.lawful (λ there. stays_still s.store store tables_same r r a here.holds holds) (omega arith) here.lawful.parents };
             seen = seen_ending r v command reply ending;
             only = nothing_by (hears command) (attempt_of s.store command) (ChangedBy s.store a.held command reply) a a (only_nowhere a NoFile);
             files = keeps_nothing a a (only_nowhere a NoFile);
             said = (only_nowhere a NoFile).said;
+            space = λ order none slot live. nothing_space a a (only_nowhere a NoFile) order slot live;
             atomic = λ order t late le. absurd (omega (arith, late, le));
             nothing_pending = λ order. order;
             spared = λ long. absurd (short long);

@@ -48,9 +48,9 @@ use Rattle.ip_session.specs.declared.session.Session.{Session}
 use Rattle.ip_session.specs.declared.session.SessionEnd.{SessionEnd}
 use Rattle.ip_session.specs.Placing.{HasCollected, PlacedBy}
 use Rattle.ip_session.specs.Session.{ground_end, IsServing, IsWorking, state_in, met_only, conditions_of, IsLong, IsDurable, attempt_of, hears, ChangedBy, TouchedBy, OnlyBy, GoesBy, CutBy, EndsBy, EndsBecause, IsNamed}
-use Rattle.ip_session.proofs.SessionLemmas.{at, plainly, heard_none, unjudged, hex_long, merge_refused}
+use Rattle.ip_session.proofs.SessionLemmas.{at, plainly, heard_none, unjudged, unsettled, hex_long, merge_refused}
 use Rattle.ip_session.proofs.Referring.{IsUnnamed, NamesNone, names_none}
-use Rattle.ip_session.proofs.Changing.{nothing_by, keeps_nothing}
+use Rattle.ip_session.proofs.Changing.{nothing_by, nothing_space, keeps_nothing}
 use Rattle.ip_session.proofs.SessionGoes.{still_goes}
 use Rattle.ip_session.proofs.DurableGoes.{keeps_still, answered}
 use Rattle.ip_session.proofs.Placing.{unmoved}
@@ -160,11 +160,13 @@ module _ (rule : Rule) (a b : Told) (s : Session) (store : Store) (phase_is : st
         difference = None;
         gives = turns_on reply A;
         judged = unjudged a b s (record s { store = store; met = store.met }) r v (heard_none (phase_of s.store.collection) command tt store.met.child (turns_on reply A).0.child);
+        settled = unsettled b s (record s { store = store; met = store.met }) reply (heard_none (phase_of s.store.collection) command tt store.met.child (turns_on reply A).0.child);
         is_at = works stay reply A;
         seen = refl;
         only = nothing_by (hears command) (attempt_of s.store command) (ChangedBy s.store a.held command reply) a b only;
         files = keeps_nothing a b only;
         said = only.said;
+        space = λ order none slot live. nothing_space a b only order slot live;
         atomic = λ order. keeps_still s.store r A.after a b here.holds order only;
         nothing_pending = λ order. pending_passes a b only.goes (λ file. only.others file (λ none. none)) only.lending order;
         spared = λ long. record { same = λ i. state_at (same i) (phase_of (phase_is i)) (work_at s.work v); seen = refl; refused = merge_refused target branch info r (phase_of s.store.collection) (work_at s.work v) };
@@ -180,11 +182,13 @@ module _ (rule : Rule) (a b : Told) (s : Session) (store : Store) (phase_is : st
         difference = None;
         gives = turns_on reply A;
         judged = unjudged a b s (record s { store = store; met = store.met }) r v (heard_none (phase_of s.store.collection) command tt store.met.child (turns_on reply A).0.child);
+        settled = unsettled b s (record s { store = store; met = store.met }) reply (heard_none (phase_of s.store.collection) command tt store.met.child (turns_on reply A).0.child);
         is_at = works stay reply A;
         seen = refl;
         only = only_more a b _ (ChangedBy s.store a.held command reply) (λ file changed. (done, changed)) does.only;
         files = keeps_store a b (MayChange a.held) (of_store a.held) does.only;
         said = does.only.said;
+        space = λ order none slot live. does.space order slot live;
         atomic = λ order. subst (λ (q : Repository). IsAtomic a b r q) same (does.atomic order);
         nothing_pending = λ order. does.nothing_pending order tt;
         spared = λ long. absurd (short long);
@@ -222,6 +226,7 @@ module _ (rule : Rule) (a b : Told) (s : Session) (store : Store) (phase_is : st
     only = only_more a b (MayChange a.held) (TouchedBy s.store a.held command) (λ file changed. (refl, changed)) M.changes.only;
     files = keeps_store a b (MayChange a.held) (of_store a.held) M.changes.only;
     said = M.changes.only.said;
+    space = λ order none slot live. M.changes.space order slot live;
     atomic = M.changes.atomic;
   }
 

@@ -22,8 +22,8 @@ use Rattle.ip_store.proofs.Machine.{AsksNone}
 use Rattle.ip_session.specs.declared.session.Session.{Session}
 use Rattle.ip_session.specs.declared.session.SessionEnd.{SessionEnd}
 use Rattle.ip_session.specs.Session.{unasked, attempt_of, hears, IsServing, IsWorking, state_in, met_only, conditions_of, is_durable, ChangedBy, TouchedBy, IsAnswered, HasRead, GoesBy, CutBy}
-use Rattle.ip_session.proofs.Changing.{nothing_by, keeps_nothing}
-use Rattle.ip_session.proofs.SessionLemmas.{plainly, heard_none, unjudged}
+use Rattle.ip_session.proofs.Changing.{nothing_by, nothing_space, keeps_nothing}
+use Rattle.ip_session.proofs.SessionLemmas.{plainly, heard_none, unjudged, unsettled}
 use Rattle.ip_session.proofs.DurableGoes.{keeps_still}
 
 -- the turns of all commands but merges are the machine's one answer
@@ -46,11 +46,13 @@ module _ (rule : Rule) (a b : Told) (s s' : Session) (r : Repository) (v : View)
         difference = None;
         gives = by_any_rule rule (state_in s r v) command (conditions_of s'.met) reply (state_in s' r A.view) quiet A.gives;
         judged = unjudged a b s s' r v (heard_none (phase_of s.store.collection) command asks s'.met.child A.gives.0.child);
+        settled = unsettled b s s' reply (heard_none (phase_of s.store.collection) command asks s'.met.child A.gives.0.child);
         seen = A.seen;
         is_at = record { holds = holds; lawful = subst (λ (records : ℕ → Option Record). IsLawful records r s'.work A.view) (sym (looks.records r here.holds holds)) A.lawful };
         only = nothing_by (hears command) (attempt_of s.store command) (ChangedBy s.store a.held command reply) a b looks.reads.only;
         files = keeps_nothing a b looks.reads.only;
         said = looks.reads.only.said;
+        space = λ order none slot live. nothing_space a b looks.reads.only order slot live;
         atomic = λ order. keeps_still s.store r r a b here.holds order looks.reads.only;
         nothing_pending = λ order. pending_passes a b looks.reads.only.goes (λ file. looks.reads.only.others file (λ none. none)) looks.reads.only.lending order;
         spared = λ long. let x = A.spared long in record { same = x.same; seen = x.seen; refused = by_any_rule rule (state_in s r v) command (conditions_of (met_only true)) Reply.Memory (state_in s r v) quiet x.refused };
@@ -71,6 +73,7 @@ module _ (rule : Rule) (a b : Told) (s s' : Session) (r : Repository) (v : View)
         only = nothing_by (hears command) (attempt_of s.store command) (TouchedBy s.store a.held command) a b looks.reads.only;
         files = keeps_nothing a b looks.reads.only;
         said = looks.reads.only.said;
+        space = λ order none slot live. nothing_space a b looks.reads.only order slot live;
         atomic = λ order. keeps_still s.store r t.1.repository a b here.holds order looks.reads.only;
       }
 

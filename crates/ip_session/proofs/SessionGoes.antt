@@ -30,9 +30,9 @@ use Rattle.ip_session.specs.Session.{CountsIn, IsWorking, state_in, met_only, co
 use Rattle.ip_session.proofs.Seeing.{memory_seen, bad_seen}
 use Rattle.ip_session.specs.Placing.{PlacedIn}
 use Rattle.ip_session.proofs.Asking.{unwritten, whole_asked}
-use Rattle.ip_session.proofs.Changing.{nothing_only, keeps_nothing}
+use Rattle.ip_session.proofs.Changing.{nothing_only, nothing_space, keeps_nothing}
 use Rattle.ip_session.proofs.Placing.{quiet_placed, still_slot}
-use Rattle.ip_session.proofs.SessionLemmas.{unjudged, memory_is_short, bad_is_short, bad_line}
+use Rattle.ip_session.proofs.SessionLemmas.{unjudged, unsettled, memory_is_short, bad_is_short, bad_line}
 
 -- nothing changed but what was met
 pub still_goes : (a : Told) (s : Session) (met : Met) (r : Repository) (v : View) (here : IsWorking a s r v) (Only : Reply → Type 0) (Gives : Conditions → Reply → State → Type 0) (Views : Reply → View → Type 0) (reply : Reply) → met.child ≡ Child.NotAsked → Gives (conditions_of met) reply (state_in s r v) → Views reply v
@@ -43,11 +43,13 @@ still_goes a s met r v here Only Gives Views reply heard gives seen refused none
   difference = None;
   gives = gives;
   judged = unjudged a a s (record s { met = met }) r v heard;
+  settled = unsettled a s (record s { met = met }) reply heard;
   is_at = here;
   seen = seen;
   only = none;
   files = keeps_nothing a a (only_nowhere a NoFile);
   said = (only_nowhere a NoFile).said;
+  space = λ order none slot live. nothing_space a a (only_nowhere a NoFile) order slot live;
   atomic = λ order t late le. absurd (no_moment a.moment t late le);
   nothing_pending = λ order. order;
   spared = λ long. record { same = refl; seen = refl; refused = refused long };
@@ -65,11 +67,13 @@ lined rule a b s s' met r v command line reply served one h = record {
   difference = h.difference;
   gives = inl (command, served, h.gives);
   judged = h.judged;
+  settled = h.settled;
   is_at = h.is_at;
   seen = record { command = λ other spelled. subst (λ (c : Command). IsViewAfter r v c reply h.view) (sym (one other spelled)) h.seen; none = λ none. absurd (none command served) };
   only = record { command = λ other spelled. subst (λ (c : Command). OnlyBy s.store a b c reply) (sym (one other spelled)) h.only; none = λ none. absurd (none command served) };
   files = h.files;
   said = h.said;
+  space = h.space;
   atomic = h.atomic;
   nothing_pending = h.nothing_pending;
   spared = λ long. let x = h.spared long in record { same = x.same; seen = x.seen; refused = inl (command, served, x.refused) };
@@ -84,7 +88,7 @@ lined_ok rule a b s s' met r v command line (Err end) served one h = tt
 pub lined_cut : (rule : Rule) (a b : Told) (s s' : Session) (met : Met) (r : Repository) (v : View) (command : Command) (line : Bytes) (result : Result Reply SessionEnd) → IsLineOf command line
     → OnErr result (CutBy rule a b (record s { met = met }) s' r v command) → OnErr result (CutIn rule a b s s' r v line)
 lined_cut rule a b s s' met r v command line (Ok reply) served h = tt
-lined_cut rule a b s s' met r v command line (Err end) served h = record { reply = h.reply; after = h.after; difference = h.difference; gives = inl (command, served, h.gives); judged = h.judged; only = (command, served, h.only); files = h.files; said = h.said; atomic = h.atomic }
+lined_cut rule a b s s' met r v command line (Err end) served h = record { reply = h.reply; after = h.after; difference = h.difference; gives = inl (command, served, h.gives); judged = h.judged; only = (command, served, h.only); files = h.files; said = h.said; space = h.space; atomic = h.atomic }
 
 -- a line that is no command
 pub bad_goes : (rule : Rule) (a : Told) (s : Session) (met : Met) (r : Repository) (v : View) (here : IsWorking a s r v) (line : Bytes) (place : ℕ) → met ≡ met_only false → IsBadAt IsLineOf line place → length line < 2 ^ 64
@@ -120,11 +124,13 @@ memory_instead a b s s' met r v Only Gives Views reply h long e seen none = reco
   difference = None;
   gives = let x = h.spared long in subst (λ (m : Met). Gives (conditions_of m) Reply.Memory (state_in s' h.after h.view)) (sym e) (subst (Gives (conditions_of (met_only true)) Reply.Memory) (sym x.same) x.refused);
   judged = unjudged a b s (record s' { met = met }) r v (ap (λ (m : Met). m.child) e);
+  settled = unsettled b s (record s' { met = met }) Reply.Memory (ap (λ (m : Met). m.child) e);
   is_at = h.is_at;
   seen = subst (Views Reply.Memory) (sym (h.spared long).seen) seen;
   only = none (h.still long);
   files = h.files;
   said = h.said;
+  space = λ order none slot live. nothing_space a b (h.still long) order slot live;
   atomic = h.atomic;
   nothing_pending = h.nothing_pending;
   spared = λ again. absurd (omega (arith, again, memory_is_short));

@@ -1,6 +1,6 @@
 -- What the machine gives to the commands that a session runs.
 --     at r phase w      the machine's state of a session that is idle.      X_done, X_refused      what it gives to the command
---     heard_none      a command that asks no child heard none, so that no pair was judged (unjudged) and nothing is kept of it (nothing_kept)
+--     heard_none      a command that asks no child heard none, so that no pair was judged (unjudged), no attempt is known to be settled (unsettled) and nothing is kept of it (nothing_kept)
 --     NoneGivenUp r w      no commit that the work took from was given up, so that (still_there) the machine goes on
 --     AsksWork command, given_up      what the machine gives where the work was given up
 --     behind, tested      the steps of a chain
@@ -45,7 +45,7 @@ use Rattle.ip_store.specs.Collecting.{IsPhaseOf, phase_of}
 use Rattle.ip_store.proofs.Machine.{AsksNone, asks_none, unkept}
 use Rattle.ip_store.proofs.Phases.{retained_is}
 use Rattle.ip_session.specs.declared.session.Session.{Session}
-use Rattle.ip_session.specs.Session.{unasked, met_only, conditions_of, IsLong, IsJudgedIn}
+use Rattle.ip_session.specs.Session.{unasked, met_only, conditions_of, IsLong, IsJudgedIn, IsSettledIn}
 
 abbrev pub at : Repository → Phase → Work → State
 at r phase w = record { repository = r; phase = phase; work = w }
@@ -75,6 +75,10 @@ heard_none (Phase.Collecting c (Some reaped)) _ plain child is = is
 -- so no pair was judged
 pub unjudged : (a b : Told) (s s' : Session) (r : Repository) (v : View) → s'.met.child ≡ Child.NotAsked → IsJudgedIn a b s s' r v None
 unjudged a b s s' r v heard here c reaped runs ended = absurd (cc (sym heard ∙ ended))
+
+-- nor is an attempt settled for it
+pub unsettled : (b : Told) (s s' : Session) (reply : Reply) → s'.met.child ≡ Child.NotAsked → IsSettledIn b s s' reply
+unsettled b s s' reply heard c reaped runs ended = absurd (cc (sym heard ∙ ended))
 
 -- and nothing is kept of it
 pub nothing_kept : (s : State) (child : Child) → child ≡ Child.NotAsked → state_with_exit s s.phase child ≡ s

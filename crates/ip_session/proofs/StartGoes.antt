@@ -43,11 +43,11 @@ use Rattle.ip_session.specs.Placing.{HasCollected, PlacedBy, AttemptsLeft}
 use Rattle.ip_session.specs.Session.{unasked, IsServing, IsWorking, state_in, met_only, conditions_of, IsLong, IsDurable, ChangedBy, TouchedBy, OnlyBy, GoesBy, CutBy}
 use Rattle.ip_session.specs.Starting.{HeldReplies, IsFound, StartReplies}
 use Rattle.ip_session.proofs.Asking.{both_some}
-use Rattle.ip_session.proofs.Changing.{keeps_nothing, nothing_by}
+use Rattle.ip_session.proofs.Changing.{keeps_nothing, nothing_by, nothing_space}
 use Rattle.ip_session.proofs.Placing.{unmoved}
 use Rattle.ip_session.proofs.Referring.{IsUnnamed, NamesNone, names_none}
 use Rattle.ip_session.proofs.SessionGoes.{still_goes}
-use Rattle.ip_session.proofs.SessionLemmas.{at, plainly, heard_none, unjudged, collect_refused, started_is_short, start_fault_is_short}
+use Rattle.ip_session.proofs.SessionLemmas.{at, plainly, heard_none, unjudged, unsettled, collect_refused, started_is_short, start_fault_is_short}
 
 -- with want of memory the next state is what is kept, and else the machine's answer
 pub chosen : {A B : Type 0} (b : Bool) (x y : A × B) (reply : A) (next : B) → (if b then x else y) ≡ (reply, next) → MatchBool b ((reply ≡ x.0) × (next ≡ x.1)) ((reply, next) ≡ y)
@@ -197,11 +197,13 @@ module _ (a b : Told) (s : Session) (store : Store) (r : Repository) (v : View) 
         difference = None;
         gives = gives reply A;
         judged = unjudged a b s (after_it store.met) r v (heard_none (phase_of s.store.collection) command tt store.met.child (gives reply A).0.child);
+        settled = unsettled b s (after_it store.met) reply (heard_none (phase_of s.store.collection) command tt store.met.child (gives reply A).0.child);
         is_at = record { holds = holds; lawful = works_stay (image_records here.holds) (image_records holds) r r s.work v here.lawful (λ there. stay r holds) (omega arith) here.lawful.parents };
         seen = refl;
         only = for_more s.store.slot.next_attempt (MayChange a.held) (ChangedBy s.store a.held command reply) a b (λ file may. (done, may)) M.only;
         files = M.files;
         said = M.only.said;
+        space = λ order none slot live. M.space order slot live;
         atomic = λ order t late le. let at_t = M.recovers order t late le in record { stands = λ image possible. inl (at_t.stands image possible); flushed = at_t.flushed };
         nothing_pending = λ order. M.nothing_pending order is;
         spared = λ long. absurd (short long);
@@ -227,6 +229,7 @@ module _ (a b : Told) (s : Session) (store : Store) (r : Repository) (v : View) 
           difference = None;
           gives = step;
           judged = unjudged a a s (record s { store = met_alone; met = now }) r v (heard_none (phase_of s.store.collection) command tt now.child step.0.child);
+          settled = unsettled a s (record s { store = met_alone; met = now }) reply (heard_none (phase_of s.store.collection) command tt now.child step.0.child);
           is_at = record {
             holds = holds_alone;
             lawful = works_stay (image_records here.holds) (image_records holds_alone) r r s.work v here.lawful (λ there. stays_still s.store met_alone (in_itself s.store met) r r a here.holds holds_alone) (omega arith) here.lawful.parents;
@@ -235,6 +238,7 @@ module _ (a b : Told) (s : Session) (store : Store) (r : Repository) (v : View) 
           only = nothing_by false (Some s.store.slot.next_attempt) (ChangedBy s.store a.held command reply) a a (only_nowhere a NoFile);
           files = keeps_nothing a a (only_nowhere a NoFile);
           said = (only_nowhere a NoFile).said;
+          space = λ order none slot live. nothing_space a a (only_nowhere a NoFile) order slot live;
           atomic = λ order t late le. absurd (omega (arith, late, le));
           nothing_pending = λ order. order;
           spared = λ long. record { same = refl; seen = refl; refused = collect_refused target r (phase_of s.store.collection) (work_at s.work v) };
@@ -278,6 +282,7 @@ module _ (a b : Told) (s : Session) (store : Store) (r : Repository) (v : View) 
         only = for_more s.store.slot.next_attempt (MayChange a.held) (TouchedBy s.store a.held command) a b (λ file may. (refl, may)) M.only;
         files = M.files;
         said = M.only.said;
+        space = λ order none slot live. M.space order slot live;
         atomic = λ order moment late le. let at_it = M.recovers order moment late le in record { stands = λ image possible. inl (at_it.stands image possible); flushed = at_it.flushed };
       }
 

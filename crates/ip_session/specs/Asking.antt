@@ -1,5 +1,6 @@
 -- What a command asks of the spawner.
 --     HasStarted result      the answer that a child was started
+--     GoesOnBy jobs before now      a collection that goes on is that of the child that was started, or the one that ran before
 --     Asked s s' command result jobs ends before after      these jobs were started, and children reaped that ended so
 --     AskedIn s s' line result jobs ends before after      so by a line
 --     LetsGo before after      what is counted while one is let go
@@ -7,7 +8,7 @@
 --     HeardOf c kept reaped ends before after      how the child ended that was heard of: it was reaped now, or its exit was kept
 --     QuietIfLong met old new reply      a long reply tells of no child, none was met, and no fault was counted before it
 --     Spawns tells old new s s' line result before after      some were, and the spawner tells it
-use Rattle.std.specs.Prelude.{◌≡◌, ◌≢◌, ◌⊎◌, ◌≤◌, List, [], ◌∷◌, ◌++◌, Bool, false, Some, None, IsSome, IsSomeAnd, IsTrue, Result, Ok}
+use Rattle.std.specs.Prelude.{◌≡◌, ◌≢◌, ◌⊎◌, ◌≤◌, List, [], ◌∷◌, ◌++◌, Bool, false, Option, Some, None, IsSome, IfSome, IsSomeAnd, IsTrue, IfOk, Result, Ok}
 use Rattle.ip_ground.specs.Counts.{Rose}
 use Rattle.ip_ground.specs.declared.names.GroundCounts.{GroundCounts}
 use Rattle.ip_ground.specs.declared.names.Reaped.{Reaped}
@@ -61,11 +62,16 @@ QuietIfLong met old new reply = IsLong reply → (¬ HasStarted (Ok reply)) × (
 abbrev pub HeardOf : Collection → Reaped → List Reaped → SpawnCounts → SpawnCounts → Type 0
 HeardOf c reaped ends before after = (reaped.attempt ≡ c.job.attempt) × (((c.exit ≡ None) × (ends ≡ reaped ∷ []) × Rose before.reaps after.reaps) ⊎ ((c.exit ≡ Some reaped) × (ends ≡ []) × (after ≡ before)))
 
+-- with the same commit and the same job, and an exit that was kept is so still
+abbrev pub GoesOnBy : List Job → Option Collection → Option Collection → Type 0
+GoesOnBy jobs before now = IfSome now (λ c. (jobs ≡ c.job ∷ []) ⊎ ((jobs ≡ []) × IsSomeAnd before (λ d. (c.commit ≡ d.commit) × (c.job ≡ d.job) × (c.exit ≡ None → d.exit ≡ None))))
+
 -- A child is started by `collect` alone, where it says so. One is looked at by `look` alone, and waited for by `finish` alone; these two and `cancel` may reap it.
 pub record Asked (s s' : Session) (command : Command) (result : Result Reply SessionEnd) (jobs : List Job) (ends : List Reaped) (before after : SpawnCounts) : Type 0 where
   -- the job is that of the collection that goes on
   pub started : HasStarted result → IsSomeAnd s'.store.collection (λ c. (jobs ≡ c.job ∷ []) × (c.exit ≡ None) × IsJobAt s.store c.commit s'.store.slot c.job)
   pub none_started : ¬ HasStarted result → jobs ≡ []
+  pub goes_on : IfOk result (λ reply. GoesOnBy jobs s.store.collection s'.store.collection)
   -- it was seen to run where that is met, and else not
   pub running : s'.met.child ≡ Child.Running → Rose before.running after.running
   pub not_running : s'.met.child ≢ Child.Running → after.running ≡ before.running
@@ -86,6 +92,8 @@ pub record Asked (s s' : Session) (command : Command) (result : Result Reply Ses
 pub record AskedIn (s s' : Session) (line : Bytes) (result : Result Reply SessionEnd) (jobs : List Job) (ends : List Reaped) (before after : SpawnCounts) : Type 0 where
   pub command : (command : Command) → IsLineOf command line → Asked s s' command result jobs ends before after
   pub none : ((command : Command) → ¬ IsLineOf command line) → (jobs ≡ []) × (ends ≡ []) × (after ≡ before)
+  -- whichever line it is
+  pub goes_on : IfOk result (λ reply. GoesOnBy jobs s.store.collection s'.store.collection)
 
 pub record Spawns (tells : Bool) (old new : Told) (s s' : Session) (line : Bytes) (result : Result Reply SessionEnd) (before after : SpawnCounts) : Type 0 where
   pub jobs : List Job

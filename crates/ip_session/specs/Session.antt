@@ -14,6 +14,8 @@
 --     HasRead tells old new s s' command result      and it may have read records
 --     IsViewIn r v line reply view      the view of the work's tree after a line with this reply
 --     conditions_with met difference      what was met.      IsJudgedIn old new s s' r v difference      the difference is the settled pair's
+--     HasSettled c reply slot told      the attempt of a child that was heard of is settled.      IsSettledIn new s s' reply      so of one that was heard of now
+--     NoneEnded session      no child was met that has ended.      KeepsSpaceIn old new s'      then the bytes of the live slot's records stay
 --     Goes old new s s' r v Only Gives Views reply      a command or a line was run, of which they say which files alone changed, what the machine gives, and the view after it
 --     Cut old new s s' r v Touches Gives      a fault of the ground or of its files cut it short
 --     GoesBy, CutBy rule .. command, GoesIn, CutIn rule .. line      so of a command, and of a line, by the rules of merges
@@ -23,14 +25,14 @@
 --     tree_fault fault      a call on a tree fails as one of the store.      IsEndOf fault end, EndsBecause made end      the session ends by it, or by what a call failed with
 --     IsNamed reply      a commit's name that a merge is answered with is no longer than a name
 --     IsLong reply      the text of such a reply may take memory.      Writes reply met met' text      it was written, or want of it
-use Rattle.std.specs.Prelude.{◌≡◌, ◌⊎◌, ◌<◌, ℕ, Bool, true, false, length, Option, Some, None, option_map, IsTrue, IfOk, IsErr, IsSomeAnd, Result, Ok, Err}
+use Rattle.std.specs.Prelude.{◌≡◌, ◌≢◌, ◌⊎◌, ◌<◌, ℕ, Bool, true, false, length, Option, Some, None, option_map, IsTrue, IfOk, IsErr, IsSome, IsSomeAnd, Result, Ok, Err}
 use Rattle.ip_ground.specs.declared.names.FileName.{FileName}
 use Rattle.ip_ground.specs.declared.names.FileName.TheVariants.{Control}
 use Rattle.ip_ground.specs.declared.names.Reaped.{Reaped}
 use Rattle.ip_ground.specs.Contents.{Image}
 use Rattle.ip_ground.specs.declared.names.GroundCounts.{GroundCounts}
 use Rattle.ip_ground.specs.Counts.{CountsIf, CountsLeft, FileFault}
-use Rattle.ip_ground.specs.Told.{Told, NoFile, KeepsSaid, ChangesOnly}
+use Rattle.ip_ground.specs.Told.{Told, NoFile, KeepsSaid, ChangesOnly, IsSettledAs}
 use Rattle.ip_spec.specs.Repository.{Repository}
 use Rattle.ip_spec.specs.View.{View}
 use Rattle.ip_spec.specs.declared.record.Record.{Record}
@@ -48,7 +50,8 @@ use Rattle.ip_spec.specs.Script.{LineStep}
 use Rattle.ip_spec.specs.Step.{Step}
 use Rattle.ip_spec.specs.Text.{reply_text}
 use Rattle.ip_spec.specs.Line.{IsLineOf}
-use Rattle.ip_image.specs.Pending.{NothingPending}
+use Rattle.ip_image.specs.declared.slot.Slot.{Slot}
+use Rattle.ip_image.specs.Pending.{HasLive, NothingPending, KeepsSpace}
 use Rattle.ip_image.specs.Headline.{IsAtomic}
 use Rattle.ip_store.specs.declared.committing.StoreFault.{StoreFault}
 use Rattle.ip_store.specs.declared.collection.Collection.{Collection}
@@ -56,7 +59,7 @@ use Rattle.ip_store.specs.declared.store.Store.{Store}
 pub use Rattle.ip_store.specs.Commits.{conditions_of}
 use Rattle.ip_store.specs.Collecting.{phase_of}
 use Rattle.ip_store.specs.Commits.{met_nothing}
-use Rattle.ip_store.specs.Finishing.{swapped_slot, Judges}
+use Rattle.ip_store.specs.Finishing.{swapped_slot, Judges, Serves}
 use Rattle.ip_store.specs.Publishing.{MayChange}
 use Rattle.ip_store.specs.Showing.{fault_from}
 use Rattle.ip_store.specs.Store.{IsOf, image_records}
@@ -210,6 +213,22 @@ conditions_with met difference = record { told = met; difference = difference }
 abbrev pub IsJudgedIn : Told → Told → Session → Session → Repository → View → Option Difference → Type 0
 IsJudgedIn old new s s' r v difference = (here : IsWorking old s r v) (c : Collection) (reaped : Reaped) → s.store.collection ≡ Some c → s'.met.child ≡ Child.Ended reaped → Judges here.holds.stands.standing.records c (conditions_with s'.met difference) new
 
+-- No child changes its files any more. Where what it wrote was accepted the live pair is what it had left then, and the slot says so.
+pub record HasSettled (c : Collection) (reply : Reply) (slot : Slot) (told : Told) : Type 0 where
+  pub settled : (pair : Image) × IsSettledAs told c.job.attempt pair
+  pub serves : (floor left : ℕ) → reply ≡ Reply.Collected floor left → Serves told c.job.attempt
+  pub swapped : (floor left : ℕ) → reply ≡ Reply.Collected floor left → (floor ≡ c.commit) × (slot.live ≡ c.job.attempt) × (slot.horizon ≡ c.job.horizon)
+
+abbrev pub IsSettledIn : Told → Session → Session → Reply → Type 0
+IsSettledIn new s s' reply = (c : Collection) (reaped : Reaped) → s.store.collection ≡ Some c → s'.met.child ≡ Child.Ended reaped → HasSettled c reply s'.store.slot new
+
+abbrev pub NoneEnded : Session → Type 0
+NoneEnded s = (reaped : Reaped) → s.met.child ≢ Child.Ended reaped
+
+-- At every moment: a child that runs, or that is started now, reads what it was told of.
+abbrev pub KeepsSpaceIn : Told → Told → Session → Type 0
+KeepsSpaceIn old new s' = NothingPending old → NoneEnded s' → (slot : Slot) → HasLive slot old.held → KeepsSpace slot old new
+
 pub record Goes (old new : Told) (s s' : Session) (r : Repository) (v : View) (Only : Reply → Type 0) (Gives : Conditions → Reply → State → Type 0) (Views : Reply → View → Type 0) (reply : Reply) : Type 0 where
   pub after : Repository
   pub view : View
@@ -217,12 +236,14 @@ pub record Goes (old new : Told) (s s' : Session) (r : Repository) (v : View) (O
   pub difference : Option Difference
   pub gives : Gives (conditions_with s'.met difference) reply (state_in s' after view)
   pub judged : IsJudgedIn old new s s' r v difference
+  pub settled : IsSettledIn new s s' reply
   pub is_at : IsWorking new s' after view
   pub seen : Views reply view
   pub only : Only reply
   -- whichever files it changed: nothing was said, no child's file was written, and what a settled attempt held is there or gone
   pub files : KeepsFiles old new
   pub said : KeepsSaid old new
+  pub space : KeepsSpaceIn old new s'
   -- at every moment whatever a crash leaves stands for the repository before or after it
   pub atomic : NothingPending old → IsAtomic old new r after
   pub nothing_pending : NothingPending old → NothingPending new
@@ -239,6 +260,7 @@ pub record Cut (old new : Told) (s s' : Session) (r : Repository) (v : View) (To
   pub only : Touches
   pub files : KeepsFiles old new
   pub said : KeepsSaid old new
+  pub space : KeepsSpaceIn old new s'
   pub atomic : NothingPending old → IsAtomic old new r after.repository
 
 abbrev pub GoesBy : Rule → Told → Told → Session → Session → Repository → View → Command → Reply → Type 0

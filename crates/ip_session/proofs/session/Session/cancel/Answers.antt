@@ -47,7 +47,7 @@ returns-clause-asked g c =
     let told : c.counts.result.reaps ≤ 2 ^ 64 - 1 = search rules in
     let small = subst (λ (k : SpawnCounts). k.reaps ≤ 2 ^ 64 - 1) c.counts.ensures told in
     subst (λ (x : Result Reply SessionEnd). AskedSo g.P.Spawner.tells (g.P.Spawner.told c.args.spawner.now) (g.P.Spawner.told call.new.spawner) s (record s { store = store; met = c.met-self.result }) Command.Cancel x (g.P.Spawner.counts_of c.args.spawner.now) (g.P.Spawner.counts_of call.new.spawner)) (sym c.cancel_answer.ensures)
-    (cancel_asked _ _ _ s store _ call.result left (c.met-self.ensures ∙ is_met) _ _ r call.ensures.runs (call.ensures.answered r is.0) is_met
+    (cancel_asked _ _ _ s store _ call.result left (c.met-self.ensures ∙ is_met) call.ensures.over _ _ r call.ensures.runs (call.ensures.answered r is.0) is_met
     (λ idle. let same = (call.ensures.idle idle).1 in (ap g.P.Spawner.told same, ap g.P.Spawner.counts_of same)) (λ x runs there. let same = call.ensures.kept x runs there in (ap g.P.Spawner.told same, ap g.P.Spawner.counts_of same)) small call.ensures.killed)
 
 pub returns-clause-counts : goal.returns-clause-counts

@@ -1,4 +1,4 @@
-use Rattle.std.proofs.Common.{false, sym, ap, subst, ◌∙◌, Ok}
+use Rattle.std.proofs.Common.{false, refl, sym, ap, subst, ◌∙◌, Ok}
 use Rattle.ip_spec.specs.declared.command.Command.TheVariants as Command
 use Rattle.ip_spec.specs.declared.reply.Reply.{Reply}
 use Rattle.ip_spec.specs.Record.{Hash}
@@ -29,7 +29,7 @@ returns-in-Collecting-clause-runs g c =
     }
 
 pub returns-in-Collecting-clause-asked : goal.returns-in-Collecting-clause-asked
-returns-in-Collecting-clause-asked g c = plain_asked _ _ c.args.self.now c.args.self.now (Command.Collect c.args.target) (Ok (Reply.Busy c.retained_name.result)) _ tt (none_met c.args.self.now.met false c.requires.met)
+returns-in-Collecting-clause-asked g c = plain_asked _ _ c.args.self.now c.args.self.now (Command.Collect c.args.target) (Ok (Reply.Busy c.retained_name.result)) _ tt (none_met c.args.self.now.met false c.requires.met) refl
 
 -- ---- no commit has the name
 
@@ -44,7 +44,7 @@ returns-in-Err-clause-runs g c =
     }
 
 pub returns-in-Err-clause-asked : goal.returns-in-Err-clause-asked
-returns-in-Err-clause-asked g c = plain_asked _ _ c.args.self.now c.args.self.now (Command.Collect c.args.target) (Ok c.in-Err.reply) _ c.in-Err.ensures.tells_none (none_met c.args.self.now.met false c.requires.met)
+returns-in-Err-clause-asked g c = plain_asked _ _ c.args.self.now c.args.self.now (Command.Collect c.args.target) (Ok c.in-Err.reply) _ c.in-Err.ensures.tells_none (none_met c.args.self.now.met false c.requires.met) refl
 
 -- ---- the store was asked
 
@@ -104,7 +104,7 @@ returns-clause-asked g c =
     let A = call.ensures.answered r is.0 (c.in-Ok.ensures.retained r is.0) in
     let says = says_as r n s.store.collection store c.args.target named call.result _ c.start_reply.new.met c.start_reply.result c.met-self.ensures A (c.start_reply.ensures r) in
     start_asked _ _ _ s store r c.args.target n c.start_reply.new.met c.start_reply.result _ _ call.result says call.ensures.met
-    (λ none. let same = call.ensures.unasked none in (ap g.P.Spawner.told same, ap g.P.Spawner.counts_of same)) call.ensures.asked
+    (λ none. let same = call.ensures.unasked none in (ap g.P.Spawner.told same, ap g.P.Spawner.counts_of same)) call.ensures.same_collection call.ensures.asked
 
 pub returns-clause-counts : goal.returns-clause-counts
 returns-clause-counts g c =

@@ -25,7 +25,7 @@ returns-clause-runs g c =
     let b = g.G.Ground.told call.new.outside in
     let answer = c.finish_answer.ensures.answer in
     let short = subst (λ (x : Result Reply SessionEnd). IfOk x (λ reply. ¬ IsLong reply)) answer c.finish_answer.ensures.short in
-    let says : Says c.args.self.now c.finish-done.new.self Command.Finish (as_look c.finish-done.result) = record { met = call.ensures.met; runs = as_idle (c.args.self.now.store.collection ≡ None) call.result call.ensures.runs; quiet = λ quiet. (call.ensures.quiet quiet).1; ended = call.ensures.ended; kept = λ x reaped runs exit. (call.ensures.kept x reaped runs exit).1; slot = call.ensures.slot; limits = call.ensures.limits; answered = λ r is. as_answered _ call.result (call.ensures.answered r is) } in
+    let says : Says c.args.self.now c.finish-done.new.self Command.Finish (as_look c.finish-done.result) = record { met = call.ensures.met; runs = as_idle (c.args.self.now.store.collection ≡ None) call.result call.ensures.runs; quiet = λ quiet. (call.ensures.quiet quiet).1; ended = call.ensures.ended; kept = λ x reaped runs exit. (call.ensures.kept x reaped runs exit).1; slot = call.ensures.slot; limits = call.ensures.limits; goes_on = call.ensures.goes_on; over = call.ensures.over; answered = λ r is. as_answered _ call.result (call.ensures.answered r is) } in
     record {
       serving = let (r, is) = c.requires.tables in subst (λ (x : Result Reply SessionEnd). IfOk x (λ reply. IsServing (record s { store = store; met = met }))) (sym answer) (finish_serves s store met Command.Finish tt (as_look call.result) c.met-self.ensures says r is.0 is.1);
       goes = λ tells r v here. subst (λ (x : Result Reply SessionEnd). IfOk x (GoesBy unasked a b s (record s { store = store; met = met }) r v Command.Finish)) (sym answer)
@@ -45,7 +45,7 @@ returns-clause-asked g c =
     let call = c.finish-done in
     let store = call.new.self in
     let (r, is) = c.requires.tables in
-    let says : Says c.args.self.now c.finish-done.new.self Command.Finish (as_look c.finish-done.result) = record { met = call.ensures.met; runs = as_idle (c.args.self.now.store.collection ≡ None) call.result call.ensures.runs; quiet = λ quiet. (call.ensures.quiet quiet).1; ended = call.ensures.ended; kept = λ x reaped runs exit. (call.ensures.kept x reaped runs exit).1; slot = call.ensures.slot; limits = call.ensures.limits; answered = λ r is. as_answered _ call.result (call.ensures.answered r is) } in
+    let says : Says c.args.self.now c.finish-done.new.self Command.Finish (as_look c.finish-done.result) = record { met = call.ensures.met; runs = as_idle (c.args.self.now.store.collection ≡ None) call.result call.ensures.runs; quiet = λ quiet. (call.ensures.quiet quiet).1; ended = call.ensures.ended; kept = λ x reaped runs exit. (call.ensures.kept x reaped runs exit).1; slot = call.ensures.slot; limits = call.ensures.limits; goes_on = call.ensures.goes_on; over = call.ensures.over; answered = λ r is. as_answered _ call.result (call.ensures.answered r is) } in
     let reaps : c.counts.result.reaps ≤ 2 ^ 64 - 1 = search rules in
     let waits : c.counts.result.waits ≤ 2 ^ 64 - 1 = search rules in
     subst (λ (x : Result Reply SessionEnd). AskedSo g.P.Spawner.tells (g.P.Spawner.told c.args.spawner.now) (g.P.Spawner.told call.new.spawner) s (record s { store = store; met = c.met-self.result }) Command.Finish x (g.P.Spawner.counts_of c.args.spawner.now) (g.P.Spawner.counts_of call.new.spawner)) (sym c.finish_answer.ensures.answer)
@@ -68,7 +68,7 @@ pub returns-clause-counts : goal.returns-clause-counts
 returns-clause-counts g c =
     let call = c.finish-done in
     let (r, is) = c.requires.tables in
-    let says : Says c.args.self.now c.finish-done.new.self Command.Finish (as_look c.finish-done.result) = record { met = call.ensures.met; runs = as_idle (c.args.self.now.store.collection ≡ None) call.result call.ensures.runs; quiet = λ quiet. (call.ensures.quiet quiet).1; ended = call.ensures.ended; kept = λ x reaped runs exit. (call.ensures.kept x reaped runs exit).1; slot = call.ensures.slot; limits = call.ensures.limits; answered = λ r is. as_answered _ call.result (call.ensures.answered r is) } in
+    let says : Says c.args.self.now c.finish-done.new.self Command.Finish (as_look c.finish-done.result) = record { met = call.ensures.met; runs = as_idle (c.args.self.now.store.collection ≡ None) call.result call.ensures.runs; quiet = λ quiet. (call.ensures.quiet quiet).1; ended = call.ensures.ended; kept = λ x reaped runs exit. (call.ensures.kept x reaped runs exit).1; slot = call.ensures.slot; limits = call.ensures.limits; goes_on = call.ensures.goes_on; over = call.ensures.over; answered = λ r is. as_answered _ call.result (call.ensures.answered r is) } in
     subst (λ (x : Result Reply SessionEnd). CountsBy x Command.Finish c.met-self.result (g.G.Ground.counts_of c.args.ground.now) (g.G.Ground.counts_of call.new.outside)) (sym c.finish_answer.ensures.answer)
     (finish_counts c.args.self.now call.new.self c.met-self.result Command.Finish tt (as_look call.result) c.met-self.ensures says r is.0 _ _ call.ensures.counts)
 

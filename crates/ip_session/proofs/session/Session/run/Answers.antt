@@ -62,7 +62,7 @@ pub returns-in_default-clause-child : goal.returns-in_default-clause-child
 returns-in_default-clause-child g c = c.requires.child ∙ sym (ap child_of c.plain.ensures.same_collection)
 
 pub returns-in_default-clause-asked : goal.returns-in_default-clause-asked
-returns-in_default-clause-asked g c = plain_asked _ _ c.args.self.now c.plain.new.self c.args.command c.plain.result _ c.plain.ensures.tells_none c.plain.ensures.meets_none
+returns-in_default-clause-asked g c = plain_asked _ _ c.args.self.now c.plain.new.self c.args.command c.plain.result _ c.plain.ensures.tells_none c.plain.ensures.meets_none c.plain.ensures.same_collection
 
 pub returns-in_default-clause-quiet : goal.returns-in_default-clause-quiet
 returns-in_default-clause-quiet g c = plain_quiet c.plain.result c.plain.new.self.met _ _ c.plain.ensures.tells_none c.plain.ensures.meets_none c.plain.ensures.counts

@@ -52,13 +52,13 @@ pub returns-in-Ok-clause-counts : goal.returns-in-Ok-clause-counts
 returns-in-Ok-clause-counts g c = lined_counts c.in-Ok.command c.args.line.now c.run.result c.run.new.self.met _ _ (λ other spelled. one_command c.args.line.now other c.in-Ok.command spelled c.in-Ok.ensures.reads) c.run.ensures.counts
 
 pub returns-in-Err-Bad-clause-asked : goal.returns-in-Err-Bad-clause-asked
-returns-in-Err-Bad-clause-asked g c = nothing_spawned _ _ c.args.self.now _ c.args.line.now (Reply.Bad c.in-Err-Bad.at) _ tt (none_met c.met_only-self.result false c.met_only-self.ensures)
+returns-in-Err-Bad-clause-asked g c = nothing_spawned _ _ c.args.self.now _ c.args.line.now (Reply.Bad c.in-Err-Bad.at) _ tt (none_met c.met_only-self.result false c.met_only-self.ensures) refl
 
 pub returns-in-Err-Bad-clause-counts : goal.returns-in-Err-Bad-clause-counts
 returns-in-Err-Bad-clause-counts g c = none_counts c.args.line.now (Reply.Bad c.in-Err-Bad.at) c.met_only-self.result _ (ap (λ (m : Met). m.left) c.met_only-self.ensures)
 
 pub returns-in-Err-Memory-clause-asked : goal.returns-in-Err-Memory-clause-asked
-returns-in-Err-Memory-clause-asked g c = nothing_spawned _ _ c.args.self.now _ c.args.line.now c.refuse.result _ c.refuse.ensures.tells_none c.refuse.ensures.meets_none
+returns-in-Err-Memory-clause-asked g c = nothing_spawned _ _ c.args.self.now _ c.args.line.now c.refuse.result _ c.refuse.ensures.tells_none c.refuse.ensures.meets_none refl
 
 pub returns-in-Err-Memory-clause-counts : goal.returns-in-Err-Memory-clause-counts
 returns-in-Err-Memory-clause-counts g c = none_counts c.args.line.now c.refuse.result c.refuse.new.met _ (ap (λ (m : Met). m.left) c.refuse.ensures.met)
