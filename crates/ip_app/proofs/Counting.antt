@@ -57,6 +57,7 @@ falls_of status.NoStore a b files says same = falls_same a b same
 falls_of (status.Damaged file at) a b files says same = falls_same a b same
 falls_of (status.DamagedRecord at) a b files says same = falls_same a b same
 falls_of (status.DamagedName at want got) a b files says same = falls_same a b same
+falls_of status.DamagedJob a b files says same = falls_same a b same
 falls_of status.Memory a b files says same = falls_same a b same
 falls_of status.Exists a b files says same = falls_same a b same
 
@@ -102,6 +103,7 @@ serving_of status.NoStore a b h = removals_same a b h
 serving_of (status.Damaged file at) a b h = removals_same a b h
 serving_of (status.DamagedRecord at) a b h = removals_same a b h
 serving_of (status.DamagedName at want got) a b h = removals_same a b h
+serving_of status.DamagedJob a b h = removals_same a b h
 serving_of status.Memory a b h = removals_same a b h
 serving_of status.Exists a b h = removals_same a b h
 
@@ -117,6 +119,7 @@ serving_on status.NoStore a b c one h = removals_on a b c one h
 serving_on (status.Damaged file at) a b c one h = removals_on a b c one h
 serving_on (status.DamagedRecord at) a b c one h = removals_on a b c one h
 serving_on (status.DamagedName at want got) a b c one h = removals_on a b c one h
+serving_on status.DamagedJob a b c one h = removals_on a b c one h
 serving_on status.Memory a b c one h = removals_on a b c one h
 serving_on status.Exists a b c one h = removals_on a b c one h
 

@@ -159,6 +159,7 @@ too_long_is (status.DamagedRecord a) r t E o h l = absurd o
 too_long_is (status.DamagedName a want got) r t E o h l = absurd o
 too_long_is status.SayFault r t E o h l = absurd o
 too_long_is status.GroundFault r t E o h l = absurd o
+too_long_is status.DamagedJob r t E o h l = absurd o
 too_long_is status.Memory r t E o h l = absurd o
 too_long_is status.Exists r t E o h l = absurd o
 
@@ -175,6 +176,7 @@ at_most (status.DamagedRecord a) r t E o h = absurd o
 at_most (status.DamagedName a want got) r t E o h = absurd o
 at_most status.SayFault r t E o h = absurd o
 at_most status.GroundFault r t E o h = absurd o
+at_most status.DamagedJob r t E o h = absurd o
 at_most status.Memory r t E o h = absurd o
 at_most status.Exists r t E o h = absurd o
 
@@ -192,6 +194,7 @@ ends_here (status.DamagedRecord a) left n taken o h = absurd o
 ends_here (status.DamagedName a want got) left n taken o h = absurd o
 ends_here status.SayFault left n taken o h = absurd o
 ends_here status.GroundFault left n taken o h = absurd o
+ends_here status.DamagedJob left n taken o h = absurd o
 ends_here status.Memory left n taken o h = absurd o
 ends_here status.Exists left n taken o h = absurd o
 
@@ -233,6 +236,7 @@ row_reading decisive (status.DamagedRecord a) old new taken o r = absurd o
 row_reading decisive (status.DamagedName a want got) old new taken o r = absurd o
 row_reading decisive status.SayFault old new taken o r = absurd o
 row_reading decisive status.GroundFault old new taken o r = absurd o
+row_reading decisive status.DamagedJob old new taken o r = absurd o
 row_reading decisive status.Memory old new taken o r = absurd o
 row_reading decisive status.Exists old new taken o r = absurd o
 

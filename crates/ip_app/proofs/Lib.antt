@@ -4,8 +4,17 @@ pub mod SameFiles
 pub mod Moments
 pub mod Counting
 pub mod Happened
+pub mod Concluding
+pub mod Judging
+pub mod KeptSpace
 pub mod RuleCases
+pub mod RanOn
 pub mod RunLemmas
 pub mod TurnLemmas
+pub mod SaidLemmas
+pub mod LoadMoments
+pub mod LoadLemmas
+pub mod SummaryLemmas
+pub mod WorkLemmas
 pub mod EndingLaw
 pub mod StatusLines

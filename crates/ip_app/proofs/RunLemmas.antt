@@ -54,30 +54,21 @@ use Rattle.ip_app.specs.Reading.{EndsReading, IsCaused}
 use Rattle.ip_app.specs.Exchanges.{Exchange, conditions, answer_of, Run, after_all, lines_in, turns_in, texts_in}
 use Rattle.ip_session.specs.Placing.{PlacedIn}
 use Rattle.ip_session.specs.Session.{IsViewIn}
-use Rattle.ip_app.specs.Places.{Places, StartsAt, HearsAt}
+use Rattle.ip_app.specs.Places.{PlacesIn}
 use Rattle.ip_app.specs.Happening.{Happens, jobs_in, ends_in}
+use Rattle.ip_app.specs.Judged.{Watches}
 use Rattle.ip_app.specs.Turns.{turn_counts, SpawnsLater, IsLater, Follow}
 use Rattle.ip_app.specs.Outside.{Outside, Tells, Knows, GoesOn, IsUnasked}
-use Rattle.ip_app.specs.Serving.{SaysPart, TurnedIn, Stopped, Unsaid, CountsOf, OnlyRemovals, CountsServing, Stops, Served}
-use Rattle.ip_app.specs.Run.{CouldNotOpen, IsUntouched, IsOpened, Begins, is_cut_off, Row, IsBehindOpening, Serves, EndsWhereAllIsWell}
+use Rattle.ip_app.specs.Serving.{is_cut_short, SaysPart, TurnedIn, Stopped, Unsaid, CountsOf, OnlyRemovals, CountsServing, Stops, Served}
+use Rattle.ip_app.proofs.RanOn.{append_nil, after_more, told_before, goes_on_then, keeps_unchanged, told_none, trace_more, ran_more, ran_first, let_go_as, LetsGoAs, goes_on_gone, told_gone, notes_of, asks_of, notes_none, asks_none, happen_all, happen_cut, placed_all, placed_cut}
+use Rattle.ip_app.specs.Run.{CouldNotOpen, IsUntouched, IsOpened, Begins, is_cut_off, Row, IsBehindOpening, AsksChildren, Serves, EndsWhereAllIsWell}
 use Rattle.ip_app.proofs.Counting.{spawns_on, removals_same, removals_on, serving_of, serving_on, still_at, follow_more}
 use Rattle.ip_app.proofs.Happened.{happen_more, told_with, spawned_more}
+use Rattle.ip_app.proofs.Judging.{texts_same, watched_none, watched_unbegun, watched_next, watched_along, watched_cut, ended_same}
 use Rattle.ip_app.proofs.LivePair.{owns_pending, live_before}
 use Rattle.ip_app.proofs.SameFiles.{stands_after}
 use Rattle.ip_app.proofs.Moments.{headline_none, headline_turn}
 use Rattle.ip_app.proofs.LineLemmas.{whole_lines-line, whole_lines-rest, last_piece-line, last_piece-rest}
-
-after_more : (first : State) (xs : List Exchange) (x : Exchange) → after_all first (xs ++ x ∷ []) ≡ x.after
-after_more first [] x = refl
-after_more first (y ∷ xs) x = after_more y.after xs x
-
-run_more : (rule : Rule) (first mid : State) (xs : List Exchange) (x : Exchange) → mid ≡ after_all first xs → Run rule first xs → LineStep IsLineOf rule mid x.line (conditions x) x.reply x.after → Run rule first (xs ++ x ∷ [])
-run_more rule first mid [] x e h s = (subst (λ (t : State). LineStep IsLineOf rule t x.line (conditions x) x.reply x.after) e s, tt)
-run_more rule first mid (y ∷ xs) x e h s = (h.0, run_more rule y.after mid xs x e h.1 s)
-
-pub append_nil : {A : Type 0} (t : List A) → t ++ [] ≡ t
-append_nil [] = refl
-append_nil {A = A} (b ∷ t) = ap (λ (u : List A). b ∷ u) (append_nil t)
 
 texts_more : (xs : List Exchange) (x : Exchange) → texts_in (xs ++ x ∷ []) ≡ texts_in xs ++ reply_text x.reply
 texts_more [] x = append_nil (reply_text x.reply)
@@ -86,25 +77,7 @@ texts_more (y ∷ xs) x = ap (λ (t : Bytes). reply_text y.reply ++ t) (texts_mo
 regroup : (d l t : Bytes) → d ++ (l ++ line_feed ∷ t) ≡ (d ++ (l ++ line_feed ∷ [])) ++ t
 regroup d l t = sym (append_assoc d (l ++ line_feed ∷ []) t ∙ ap (λ (u : Bytes). d ++ u) (append_assoc l (line_feed ∷ []) t))
 
-told_before : (a b : Bool) → a ≡ b → IsTrue b → IsTrue a
-told_before a b e h = subst IsTrue (sym e) h
-
-goes_on_then : (a b c : Outside) → GoesOn a b → GoesOn b c → GoesOn a c
-goes_on_then a b c g h = record {
-  source_tells = h.source_tells ∙ g.source_tells;
-  ground_tells = h.ground_tells ∙ g.ground_tells;
-  spawner_tells = h.spawner_tells ∙ g.spawner_tells;
-  log_tells = λ t. g.log_tells (h.log_tells t);
-  read_faults = omega (arith, g.read_faults, h.read_faults);
-  counts = none_falls_on a.counts b.counts c.counts g.counts h.counts;
-  spawns = spawns_on a.spawns b.spawns c.spawns g.spawns h.spawns;
-}
-
 -- ---- files
-
--- while the control file alone may be synced
-pub keeps_unchanged : (a b : Told) → SyncsOnly (Only Control) a b → KeepsFiles a b
-keeps_unchanged a b only = keeps_store a b (Only Control) (λ file is. inl is) only.changes
 
 pub keeps_said : (bytes : Bytes) (r : Result (Unit {0}) GroundFault) (a b : Told) → Says bytes r a b → KeepsFiles a b
 keeps_said bytes r a b says = keeps_custody a b says.goes (λ n. lending_now a b says.goes n (says.lending n)) (λ file others. stays_goes a b file (says.files file))
@@ -125,72 +98,35 @@ says_part bytes r a b says = elim (cases_lt a.moment b.moment) [
 abbrev IsShort : Bytes → Type 0
 IsShort line = length line ≤ longest_line
 
--- one turn more
-follow_turn : (rule : Rule) (decisive : Bool) (old mid : Outside) (lines : Lines) (counts counts' : TurnCounts) (s : Session) (h : Served rule decisive old mid lines counts s) (x : Exchange) → x.turn.before ≡ counts → x.turn.after ≡ counts' → IsLater x.turn.before x.turn.after
-    → Follow (turn_counts old.counts old.spawns) (turns_in (h.exchanges ++ x ∷ [])) counts'
-follow_turn rule decisive old mid lines counts counts' s h x begins ends rises =
-    let first = turn_counts old.counts old.spawns in
-    subst (λ (ts : List Turn). Follow first ts counts') (sym (map-append (λ x. x.turn) h.exchanges (x ∷ [])))
-    (subst (λ (e : TurnCounts). Follow first (turns_in h.exchanges ++ x.turn ∷ []) e) ends
-    (follow_more first counts (turns_in h.exchanges) x.turn (still_at old.counts mid.counts old.spawns mid.spawns counts h.counts_now h.no_fault) h.follow begins rises))
-
--- one exchange more
-places_more : (rule : Rule) (slot : Slot) (s : State) (v : View) (xs : List Exchange) (mid : Slot) (w : View) (x : Exchange) (unswept : Unswept) (last : Slot) (view : View) → Places rule slot s v xs mid w → x.after.work.tree ≡ view.map → IsViewIn (after_all s xs).repository w x.line x.reply view → PlacedIn rule mid unswept last (after_all s xs) w x.line x.reply → StartsAt mid last x → HearsAt mid x → Places rule slot s v (xs ++ x ∷ []) last view
-places_more rule slot s v [] mid w x unswept last view h tree seen placed starts hears = (last, unswept, view, tree, subst (λ (u : View). IsViewIn s.repository u x.line x.reply view) h.1 seen, subst (λ (a : Slot). PlacedIn rule a unswept last s v x.line x.reply) h.0 (subst (λ (u : View). PlacedIn rule mid unswept last s u x.line x.reply) h.1 placed), subst (λ (a : Slot). StartsAt a last x) h.0 starts, subst (λ (a : Slot). HearsAt a x) h.0 hears, (refl, refl))
-places_more rule slot s v (y ∷ xs) mid w x unswept last view h tree seen placed starts hears = (h.0, h.1, h.2, h.3, h.4, h.5, h.6, h.7, places_more rule h.0 y.after h.2 xs mid w x unswept last view h.8 tree seen placed starts hears)
-
 -- one line more was served
 pub served_more : (rule : Rule) (decisive : Bool) (old mid new : Outside) (lines lines' : Lines) (counts counts' : TurnCounts) (s s' : Session) (h : Served rule decisive old mid lines counts s) → TurnedIn rule h.known mid new lines lines' counts counts' s s' h.repository h.view → Served rule decisive old new lines' counts' s'
 served_more rule decisive old mid new lines lines' counts counts' s s' h turned =
     let x = turned.exchange in
-    let t = turned.turned in
+    let t = turned.took in
+    let goes = turned.exchanged.begun in
     record {
       known = h.known;
-      known_so = h.known_so;
-      tells = h.tells;
-      is_decisive = h.is_decisive;
       first = h.first;
       repository = turned.after;
       view = turned.view;
-      began = h.began;
-      serving = turned.serving;
-      working = λ g. turned.working g;
+      slot = h.slot;
       done = h.done ++ (x.line ++ line_feed ∷ []);
       exchanges = h.exchanges ++ x ∷ [];
-      goes_on = goes_on_then old mid new h.goes_on t.goes_on;
-      files = λ g. keeps_on old.told mid.told new.told (h.files g) (t.files g);
-      bytes = λ b. h.bytes b ∙ (ap (λ (u : Bytes). h.done ++ u) (t.front (told_before _ _ h.goes_on.source_tells b)) ∙ regroup h.done x.line (pending lines' ++ new.left));
+      ran = ran_more rule decisive h.known h.exchanges h.first h.repository h.view h.slot old mid new counts counts' s s' x turned.after turned.view h.ran h.no_fault turned.exchanged;
+      no_fault = removals_on old.counts mid.counts new.counts h.no_fault turned.no_fault;
+      bytes = λ b. h.bytes b ∙ (ap (λ (u : Bytes). h.done ++ u) (t.front (told_before _ _ h.ran.trace.goes_on.source_tells b)) ∙ regroup h.done x.line (pending lines' ++ new.left));
       lines_then = λ tail. ap whole_lines (sym (regroup h.done x.line tail)) ∙ (h.lines_then (x.line ++ line_feed ∷ tail) ∙ (ap (λ u. lines_in h.exchanges ++ u) (whole_lines-line x.line tail t.no_line_feed) ∙ (sym (append_assoc (lines_in h.exchanges) (x.line ∷ []) (whole_lines tail)) ∙ ap (λ u. u ++ whole_lines tail) (sym (map-append (λ x. x.line) h.exchanges (x ∷ []))))));
       rest_then = λ tail. ap last_piece (sym (regroup h.done x.line tail)) ∙ (h.rest_then (x.line ++ line_feed ∷ tail) ∙ last_piece-line x.line tail t.no_line_feed);
       short = subst (All IsShort) (sym (map-append (λ x. x.line) h.exchanges (x ∷ []))) (All-append IsShort (lines_in h.exchanges) (x.line ∷ []) h.short (All-cons IsShort x.line [] t.short (All-nil IsShort)));
       count = omega (arith, h.count, t.count, length-append h.done (x.line ++ line_feed ∷ []), length-append x.line (line_feed ∷ []));
-      run = λ g. run_more rule (opened h.first) (state_in s h.repository h.view) h.exchanges x (h.now_at g) (h.run g) (t.step g);
-      now_at = λ g. sym (turned.now_at g) ∙ sym (after_more (opened h.first) h.exchanges x);
-      slot = h.slot;
-      live = h.live;
-      places = λ g. places_more rule h.slot (opened h.first) no_view h.exchanges s.store.slot h.view x s.store.unswept s'.store.slot turned.view (h.places g) (ap (λ (state : State). state.work.tree) (turned.now_at g))
-          (subst (λ (state : State). IsViewIn state.repository h.view x.line x.reply turned.view) (h.now_at g) (turned.seen g))
-          (subst (λ (state : State). PlacedIn rule s.store.slot s.store.unswept s'.store.slot state h.view x.line x.reply) (h.now_at g) (turned.placed g)) (turned.starts g) (turned.hears g);
+      watched = λ g. watched_next reply_text old.told mid.told new.told (h.ran.trace.files g).goes (goes.files g).goes (opened h.first) h.exchanges s.store.collection s'.store.collection s.store.slot s'.store.slot x (h.watched g) (h.said g ∙ ap (λ (t : Bytes). said old.told ++ t) (texts_same h.exchanges)) (h.ran.nothing_pending g) (after_more (opened h.first) h.exchanges x) turned.exchanged.goes_on_by
+          (subst (λ (state : State). Watches mid.told new.told state s.store.collection s'.store.collection s.store.slot s'.store.slot x) (h.ran.now_at g) (turned.exchanged.watches g));
       said = λ g. turned.said g ∙ (ap (λ (u : Bytes). u ++ reply_text x.reply) (h.said g) ∙ (append_assoc (said old.told) (texts_in h.exchanges) (reply_text x.reply) ∙ ap (λ (u : Bytes). said old.told ++ u) (sym (texts_more h.exchanges x))));
       opened_at = h.opened_at;
-      headline = λ g order. headline_turn (h.opened_at g) old.told mid.told new.told (opened h.first) h.exchanges x (h.headline g order) (t.files g).goes (h.over g) (h.said g)
-          h.repository turned.after (ap (λ (state : State). state.repository) (h.now_at g)) (ap (λ (state : State). state.repository) (sym (turned.now_at g))) (turned.turning g (h.nothing_pending g order));
-      over = λ g. let was = h.over g in let later = (t.files g).goes.later in omega (arith, was, later);
-      nothing_pending = λ g order. turned.nothing_pending g (h.nothing_pending g order);
-      noted = λ l. t.noted l ∙ (ap (λ u. u ++ x.turn ∷ []) (h.noted (t.goes_on.log_tells l)) ∙ (append_assoc old.turns (turns_in h.exchanges) (x.turn ∷ []) ∙ ap (λ u. old.turns ++ u) (sym (map-append (λ x. x.turn) h.exchanges (x ∷ [])))));
-      no_fault = removals_on old.counts mid.counts new.counts h.no_fault turned.no_fault;
-      phases = happen_more (opened h.first) h.exchanges x h.phases (subst (λ (phase : Phase). Happens phase x) h.phase turned.happens);
-      phase = sym turned.phase ∙ sym (ap (λ (state : State). state.phase) (after_more (opened h.first) h.exchanges x));
-      spawned = λ b. spawned_more old.spawned mid.spawned new.spawned h.exchanges x (h.spawned b) (turned.spawned (told_before _ _ h.goes_on.spawner_tells b));
-      child = turned.child;
-      counts_now = t.until;
-      follow = follow_turn rule decisive old mid lines counts counts' s h x t.begins_at t.ends_at t.rises;
-      reads = t.reads ∙ h.reads;
+      headline = λ g order. headline_turn (h.opened_at g) old.told mid.told new.told (opened h.first) h.exchanges x (h.headline g order) (goes.files g).goes (h.over g) (h.said g)
+          h.repository turned.after (ap (λ (state : State). state.repository) (h.ran.now_at g)) (ap (λ (state : State). state.repository) (sym (turned.exchanged.now_at g))) (turned.turning g (h.ran.nothing_pending g order));
+      over = λ g. let was = h.over g in let later = (goes.files g).goes.later in omega (arith, was, later);
     }
-
--- nothing was started, nor reaped
-told_none : (told : spawn.Told) → told ≡ told_with (told.started ++ []) (told.reaped ++ [])
-told_none told = ap₂ told_with (sym (append_nil told.started)) (sym (append_nil told.reaped))
 
 -- no line was served yet
 pub served_first : (rule : Rule) (decisive : Bool) → (IsTrue decisive → IsDecisive rule) → (old now : Outside) (lines : Lines) (counts : TurnCounts) (s : Session) (r : Repository) (v : View) → v ≡ no_view → (known : (b : Bool) × (Knows decisive old → IsTrue b) × (IsTrue b → Knows decisive old)) → IsServing s → state_in s r v ≡ opened r → (Tells old → IsWorking now.told s r v) → (Tells old → StandsFor old.told.held r)
@@ -199,43 +135,24 @@ pub served_first : (rule : Rule) (decisive : Bool) → (IsTrue decisive → IsDe
 served_first rule decisive by_rule old now lines counts s r v none_known known serving begun working began opening over counted no_fault unasked idle alone reads g f left turns none zero =
     record {
       known = known.0;
-      known_so = known.1;
-      tells = λ is. (known.2 is).0;
-      is_decisive = λ is. by_rule (known.2 is).1;
       done = [];
       exchanges = [];
       first = r;
       repository = r;
       view = v;
-      goes_on = g;
-      files = λ is. keeps_unchanged old.told now.told (f (known.2 is).0.0);
+      slot = s.store.slot;
+      ran = ran_first rule decisive by_rule old now counts s r v none_known known serving begun working began opening counted no_fault unasked idle alone reads g f turns;
+      no_fault = removals_same old.counts now.counts no_fault;
       bytes = λ b. sym left ∙ ap (λ (u : Bytes). u ++ now.left) (sym none);
       lines_then = λ tail. refl;
       rest_then = λ tail. refl;
       short = All-nil IsShort;
       count = omega (arith, zero, ap length none);
-      began = began;
-      run = λ is. tt;
-      now_at = λ is. begun;
-      slot = s.store.slot;
-      live = λ is. live_before old.told now.told (f (known.2 is).0.0).files s.store.slot (held_has s.store r now.told (working (known.2 is).0).holds);
-      places = λ is. (refl, none_known);
-      serving = serving;
-      working = λ is. working (known.2 is).0;
+      watched = λ is. watched_none reply_text old.told now.told (opened r) s.store.collection idle refl;
       said = λ is. let only = f (known.2 is).0.0 in said_now old.told now.told only.changes.goes only.changes.said ∙ sym (append_nil (said old.told));
       opened_at = λ is. (opening (known.2 is).0.0).since;
       over = λ is. over (known.2 is).0;
       headline = λ is order. let told = (known.2 is).0.0 in headline_none old.told now.told (f told) (opening told) r (began (known.2 is).0) order;
-      nothing_pending = λ is order. (opening (known.2 is).0.0).nothing_pending order;
-      noted = λ b. turns ∙ sym (append_nil old.turns);
-      no_fault = removals_same old.counts now.counts no_fault;
-      phases = tt;
-      phase = ap phase_of idle;
-      spawned = λ b. unasked.spawned ∙ told_none old.spawned;
-      child = unasked.held ∙ (alone ∙ sym (ap child_of idle));
-      counts_now = counted ∙ ap₂ turn_counts (sym no_fault) (sym unasked.spawns);
-      follow = counted;
-      reads = reads;
     }
 
 -- no line was served at all
@@ -257,6 +174,7 @@ serves_none rule decisive old new s g f opening left turns unasked reads unopene
         short = All-nil IsShort;
         run = λ told. tt;
         placed = λ told slot live. record { whole = []; cut = []; all = refl; one = omega arith; none = λ _. refl; last = slot; view = no_view; places = (refl, refl) };
+        watched = λ told. watched_unbegun reply_text (is_cut_off s) (is_cut_short s) old.told new.told first refl (quiet told.0.0);
         said_part = λ b. record { whole = []; cut = []; part = []; unsaid = []; all = refl; one = omega arith; some = λ _ begun. absurd (begun refl); text = refl; said_is = quiet b.0.0 ∙ (sym (append_nil (said old.told)) ∙ sym (append_nil (said old.told ++ []))); silent = λ cut_short. refl };
         said_all = λ b c. quiet b.0.0 ∙ sym (append_nil (said old.told));
       };
@@ -266,17 +184,8 @@ serves_none rule decisive old new s g f opening left turns unasked reads unopene
         stands = λ b whole h. stands_after old.told new.told (f b.0.0) b.0.1 first.repository h;
         files = λ b. keeps_unchanged old.told new.told (f b.0.0);
       };
-      notes = record {
-        noted = λ b. turns ∙ sym (append_nil old.turns);
-        follow = λ behind. absurd (unopened behind);
-        counted = serving_of s old.counts new.counts counted;
-        reads = λ other. reads;
-      };
-      children = record {
-        happen = record { whole = []; cut = []; all = refl; one = omega arith; none = λ _. refl; happen = tt };
-        spawned = λ b. ([], omega arith, unasked.spawned ∙ (told_none old.spawned ∙ ap (told_with (old.spawned.started ++ [])) (sym (append_nil (old.spawned.reaped ++ [])))));
-        none_held = λ alone. unasked.held ∙ alone;
-      };
+      notes = notes_none s old new turns reads unopened (serving_of s old.counts new.counts counted);
+      children = asks_none (is_cut_off s) old new unasked;
       row = row;
     }
 
@@ -296,6 +205,7 @@ begins_unopened rule decisive old new s g f opening left turns unasked reads cou
     by_status status.Usage h n = absurd h
     by_status (status.DamagedRecord at) h n = absurd h
     by_status (status.DamagedName at want got) h n = absurd h
+    by_status status.DamagedJob h n = absurd h
     by_status status.ReadFault h n = absurd h
     by_status status.SayFault h n = absurd h
     by_status status.Memory h n = serves_none rule decisive old new status.Memory g f opening left turns unasked reads (λ b. b) refl n untouched
@@ -314,6 +224,7 @@ ends_along status.NoStore r r' t t' A B h e f k = absurd h
 ends_along (status.Damaged file at) r r' t t' A B h e f k = absurd h
 ends_along (status.DamagedRecord at) r r' t t' A B h e f k = absurd h
 ends_along (status.DamagedName at want got) r r' t t' A B h e f k = absurd h
+ends_along status.DamagedJob r r' t t' A B h e f k = absurd h
 ends_along status.SayFault r r' t t' A B h e f k = absurd h
 ends_along status.GroundFault r r' t t' A B h e f k = absurd h
 ends_along status.Memory r r' t t' A B h e f k = absurd h
@@ -339,6 +250,7 @@ row_of decisive status.NoStore old mid new taken first xs o e n f c = absurd e
 row_of decisive (status.Damaged file at) old mid new taken first xs o e n f c = absurd e
 row_of decisive (status.DamagedRecord at) old mid new taken first xs o e n f c = absurd e
 row_of decisive (status.DamagedName at want got) old mid new taken first xs o e n f c = absurd e
+row_of decisive status.DamagedJob old mid new taken first xs o e n f c = absurd e
 row_of decisive status.SayFault old mid new taken first xs o e n f c = absurd e
 row_of decisive status.GroundFault old mid new taken first xs o e n f c = absurd e
 row_of decisive status.Memory old mid new taken first xs o e n f c = absurd e
@@ -349,39 +261,6 @@ of_opened : (behind : Type 0) (since : ℕ) (old new : Outside) (first : Reposit
     → (since : ℕ) × (behind → since ≤ new.told.moment) × Headline since old.told new.told (opened r) (map answer_of xs)
 of_opened behind since old new first xs began r stands reached run = (since, λ b. reached, subst (λ (q : Repository). Headline since old.told new.told (opened q) (map answer_of xs)) (one_repository old.told.held first r began stands) run)
 
--- one slot was live when the run began
-placed_from : (rule : Rule) (decisive : Bool) (old mid : Outside) (lines : Lines) (counts : TurnCounts) (session : Session) (h : Served rule decisive old mid lines counts session) → Knows decisive old → (slot : Slot) → HasLive slot old.told.held → Places rule slot (opened h.first) no_view h.exchanges session.store.slot h.view
-placed_from rule decisive old mid lines counts session h b slot live =
-    let is = h.known_so b in
-    subst (λ (t : Slot). Places rule t (opened h.first) no_view h.exchanges session.store.slot h.view) (one_slot h.slot slot old.told.held (h.live is) live) (h.places is)
-
--- The child that was held is let go at the end.
-abbrev pub let_go_as : Outside → spawn.Told → Option ℕ → SpawnCounts → Outside
-let_go_as new spawned held spawns = record new { spawned = spawned; held = held; spawns = spawns }
-
-pub record LetsGoAs (new : Outside) (spawned : spawn.Told) (held : Option ℕ) (spawns : SpawnCounts) : Type 0 where
-  pub ends : List Reaped
-  pub few : length ends ≤ 1
-  pub told : IsTrue new.spawner_tells → spawned ≡ told_with new.spawned.started (new.spawned.reaped ++ ends)
-  pub none : held ≡ None
-  pub later : SpawnsLater new.spawns spawns
-
-goes_on_gone : (old new : Outside) (spawned : spawn.Told) (held : Option ℕ) (spawns : SpawnCounts) → SpawnsLater new.spawns spawns → GoesOn old new → GoesOn old (let_go_as new spawned held spawns)
-goes_on_gone old new spawned held spawns later g = record {
-  source_tells = g.source_tells;
-  ground_tells = g.ground_tells;
-  spawner_tells = g.spawner_tells;
-  log_tells = g.log_tells;
-  read_faults = g.read_faults;
-  counts = g.counts;
-  spawns = spawns_on old.spawns new.spawns spawns g.spawns later;
-}
-
--- what was started and reaped in these exchanges, and then
-told_gone : (old new : Outside) (spawned : spawn.Told) (xs : List Exchange) (ends : List Reaped) → new.spawned ≡ told_with (old.spawned.started ++ jobs_in xs) (old.spawned.reaped ++ ends_in xs) → spawned ≡ told_with new.spawned.started (new.spawned.reaped ++ ends)
-    → spawned ≡ told_with (old.spawned.started ++ jobs_in xs) ((old.spawned.reaped ++ ends_in xs) ++ ends)
-told_gone old new spawned xs ends so then_gone = then_gone ∙ ap (λ (t : spawn.Told). told_with t.started (t.reaped ++ ends)) so
-
 -- the source is read no further
 serves_stopped : (rule : Rule) (decisive : Bool) (s : Status) (old mid new : Outside) (lines lines' : Lines) (counts counts' : TurnCounts) (session : Session) (h : Served rule decisive old mid lines counts session) → Stopped s h.known mid new lines lines' counts counts' (state_in session h.repository h.view)
     → (spawned : spawn.Told) (held : Option ℕ) (spawns : SpawnCounts) → LetsGoAs new spawned held spawns → Serves rule decisive old (let_go_as new spawned held spawns) s
@@ -391,42 +270,43 @@ serves_stopped rule decisive s old mid new lines lines' counts counts' session h
     let whole : whole_lines taken ≡ lines_in h.exchanges ++ [] = h.lines_then t.rest ∙ ap (λ u. lines_in h.exchanges ++ u) (whole_lines-rest t.rest t.no_line_feed) in
     let rest : last_piece taken ≡ t.rest = h.rest_then t.rest ∙ last_piece-rest t.rest t.no_line_feed in
     let long : lines'.taken ≡ length taken = omega (arith, h.count, t.count, length-append h.done t.rest) in
-    let end = row_of decisive s old mid (let_go_as new spawned held spawns) taken first h.exchanges h.began (ends_along s (length t.rest) (length (last_piece taken)) lines'.taken (length taken) _ _ t.ends (ap length (sym rest)) long (λ e b. e (told_before _ _ h.goes_on.source_tells b))) (subst (OnlyRemovals old.counts) (sym t.no_fault) h.no_fault) h.reads t.cause in
-    let known : IsTrue old.ground_tells → IsTrue decisive → NothingPending old.told → IsTrue h.known = λ b d order. h.known_so ((b, owns_pending old.told order), d) in
-    let quiet : Knows decisive old → said new.told ≡ said old.told ++ texts_in h.exchanges = λ b. t.same_said ∙ h.said (h.known_so b) in
+    let end = row_of decisive s old mid (let_go_as new spawned held spawns) taken first h.exchanges h.ran.trace.began (ends_along s (length t.rest) (length (last_piece taken)) lines'.taken (length taken) _ _ t.ends (ap length (sym rest)) long (λ e b. e (told_before _ _ h.ran.trace.goes_on.source_tells b))) (subst (OnlyRemovals old.counts) (sym t.no_fault) h.no_fault) h.ran.trace.reads t.cause in
+    let known : IsTrue old.ground_tells → IsTrue decisive → NothingPending old.told → IsTrue h.known = λ b d order. h.ran.trace.known_so ((b, owns_pending old.told order), d) in
+    let quiet : Knows decisive old → said new.told ≡ said old.told ++ texts_in h.exchanges = λ b. t.same_said ∙ h.said (h.ran.trace.known_so b) in
     record {
       taken = taken;
       exchanges = h.exchanges;
       first = first;
-      goes_on = goes_on_gone old new spawned held spawns gone.later (goes_on_then old mid new h.goes_on t.goes_on);
+      goes_on = goes_on_gone old new spawned held spawns gone.later (goes_on_then old mid new h.ran.trace.goes_on t.goes_on);
       begins = end.begins;
       first_is = refl;
       replies = record {
-        bytes = λ b. h.bytes b ∙ (ap (λ (u : Bytes). h.done ++ u) (t.front (told_before _ _ h.goes_on.source_tells b)) ∙ sym (append_assoc h.done t.rest new.left));
+        bytes = λ b. h.bytes b ∙ (ap (λ (u : Bytes). h.done ++ u) (t.front (told_before _ _ h.ran.trace.goes_on.source_tells b)) ∙ sym (append_assoc h.done t.rest new.left));
         begun = ([], whole, λ c. refl);
         short = h.short;
-        run = λ b. h.run (h.known_so b);
-        placed = λ b slot live. record { whole = h.exchanges; cut = []; all = append_nil h.exchanges; one = omega arith; none = λ _. refl; last = session.store.slot; view = h.view; places = placed_from rule decisive old mid lines counts session h b slot live };
+        run = λ b. h.ran.trace.run (h.ran.trace.known_so b);
+        placed = placed_all (is_cut_off s) rule decisive h.known h.exchanges h.first h.repository h.view h.slot old mid counts session h.ran;
+        watched = λ b. let w = h.watched (h.ran.trace.known_so b) in record { whole = h.exchanges; cut = []; all = append_nil h.exchanges; one = omega arith; none = λ _. refl; last = w.last; watched = watched_along reply_text old.told mid.told new.told t.files.goes (said old.told) old.told.moment first None h.exchanges w.last w.watched; ended = new.told.moment; by_now = omega arith; said_then = quiet b ∙ ap (λ (u : Bytes). said old.told ++ u) (texts_same h.exchanges); reads = λ order held. ended_same mid.told new.told t.files.goes t.same_moment w.last _ (w.reads order held) };
         said_part = λ b. record { whole = h.exchanges; cut = []; part = []; unsaid = []; all = append_nil h.exchanges; one = omega arith; some = λ c _. absurd (cc (c, end.whole)); text = refl; said_is = quiet b ∙ sym (append_nil (said old.told ++ texts_in h.exchanges)); silent = λ cut_short. refl };
         said_all = λ b c. quiet b;
       };
       reopens = record {
-        any_moment = λ b d r stands order. let is = known b d order in of_opened (IsBehindOpening s h.exchanges) (h.opened_at is) old new h.first h.exchanges (h.began (h.tells is)) r stands
+        any_moment = λ b d r stands order. let is = known b d order in of_opened (IsBehindOpening s h.exchanges) (h.opened_at is) old new h.first h.exchanges (h.ran.trace.began (h.ran.trace.tells is)) r stands
             (let was = h.over is in let later = t.files.goes.later in omega (arith, was, later))
             (headline_later (h.opened_at is) old.told mid.told new.told first (map answer_of h.exchanges) (h.headline is order) t.files.goes t.same_moment);
-        again = λ b d may. let is = known b d may.nothing_pending in record { repository = h.repository; stands = t.stands is; nothing_pending = t.nothing_pending (h.nothing_pending is may.nothing_pending) };
-        stands = λ b whole began. subst (λ (state : State). StandsFor new.told.held state.repository) (h.now_at (h.known_so b)) (t.stands (h.known_so b));
-        files = λ g. keeps_on old.told mid.told new.told (h.files (h.known_so g)) t.files;
+        again = λ b d may. let is = known b d may.nothing_pending in record { repository = h.repository; stands = t.stands is; nothing_pending = t.nothing_pending (h.ran.nothing_pending is may.nothing_pending) };
+        stands = λ b whole began. subst (λ (state : State). StandsFor new.told.held state.repository) (h.ran.now_at (h.ran.trace.known_so b)) (t.stands (h.ran.trace.known_so b));
+        files = λ g. keeps_on old.told mid.told new.told (h.ran.trace.files (h.ran.trace.known_so g)) t.files;
       };
       notes = record {
-        noted = λ l. t.same_turns ∙ h.noted (t.goes_on.log_tells l);
-        follow = λ behind. (new.spawns, gone.later, subst (λ (e : TurnCounts). Follow (turn_counts old.counts old.spawns) (turns_in h.exchanges) e) (h.counts_now ∙ ap₂ turn_counts (sym t.no_fault) (sym t.unasked.spawns)) h.follow);
+        noted = λ l. t.same_turns ∙ h.ran.trace.noted (t.goes_on.log_tells l);
+        follow = λ behind. (new.spawns, gone.later, subst (λ (e : TurnCounts). Follow (turn_counts old.counts old.spawns) (turns_in h.exchanges) e) (h.ran.trace.counts_now ∙ ap₂ turn_counts (sym t.no_fault) (sym t.unasked.spawns)) h.ran.trace.follow);
         counted = end.counted;
         reads = end.reads;
       };
       children = record {
-        happen = record { whole = h.exchanges; cut = []; all = append_nil h.exchanges; one = omega arith; none = λ _. refl; happen = h.phases };
-        spawned = λ b. (gone.ends, gone.few, told_gone old new spawned h.exchanges gone.ends (t.unasked.spawned ∙ h.spawned b) (gone.told (told_before _ _ (goes_on_then old mid new h.goes_on t.goes_on).spawner_tells b)));
+        happen = happen_all (is_cut_off s) h.exchanges h.ran.phases;
+        spawned = λ b. (gone.ends, gone.few, told_gone old new spawned h.exchanges gone.ends (t.unasked.spawned ∙ h.ran.trace.spawned b) (gone.told (told_before _ _ (goes_on_then old mid new h.ran.trace.goes_on t.goes_on).spawner_tells b)));
         none_held = λ _. gone.none;
       };
       row = end.row;
@@ -439,57 +319,52 @@ serves_unsaid : (rule : Rule) (decisive : Bool) (s : Status) (old mid new : Outs
 serves_unsaid rule decisive s old mid new lines lines' counts counts' session h cut opened_so u row spawned held spawns gone =
     let first = opened h.first in
     let x = u.exchange in
-    let t = u.turned in
+    let t = u.took in
+    let goes = u.begun in
     let xs = h.exchanges ++ x ∷ [] in
-    let known : IsTrue old.ground_tells → IsTrue decisive → NothingPending old.told → IsTrue h.known = λ b d order. h.known_so ((b, owns_pending old.told order), d) in
+    let trace = trace_more rule decisive h.known h.exchanges h.first old mid new counts counts' (state_in session h.repository h.view) x h.ran.trace h.no_fault h.ran.now_at goes in
+    let known : IsTrue old.ground_tells → IsTrue decisive → NothingPending old.told → IsTrue h.known = λ b d order. h.ran.trace.known_so ((b, owns_pending old.told order), d) in
     let done = h.done ++ (x.line ++ line_feed ∷ []) in
     let then_lines : (tail : Bytes) → whole_lines (done ++ tail) ≡ lines_in xs ++ whole_lines tail = λ tail. ap whole_lines (sym (regroup h.done x.line tail)) ∙ (h.lines_then (x.line ++ line_feed ∷ tail) ∙ (ap (λ u. lines_in h.exchanges ++ u) (whole_lines-line x.line tail t.no_line_feed) ∙ (sym (append_assoc (lines_in h.exchanges) (x.line ∷ []) (whole_lines tail)) ∙ ap (λ u. u ++ whole_lines tail) (sym (map-append (λ x. x.line) h.exchanges (x ∷ [])))))) in
     record {
       taken = done ++ pending lines';
       exchanges = xs;
       first = first;
-      goes_on = goes_on_gone old new spawned held spawns gone.later (goes_on_then old mid new h.goes_on t.goes_on);
+      goes_on = goes_on_gone old new spawned held spawns gone.later trace.goes_on;
       begins = opened_so xs;
       first_is = refl;
       replies = record {
-        bytes = λ b. h.bytes b ∙ (ap (λ (u : Bytes). h.done ++ u) (t.front (told_before _ _ h.goes_on.source_tells b)) ∙ (regroup h.done x.line (pending lines' ++ new.left) ∙ sym (append_assoc done (pending lines') new.left)));
+        bytes = λ b. h.bytes b ∙ (ap (λ (u : Bytes). h.done ++ u) (t.front (told_before _ _ h.ran.trace.goes_on.source_tells b)) ∙ (regroup h.done x.line (pending lines' ++ new.left) ∙ sym (append_assoc done (pending lines') new.left)));
         begun = (whole_lines (pending lines'), then_lines (pending lines'), λ c. absurd (cc (c, cut)));
         short = subst (All IsShort) (sym (map-append (λ x. x.line) h.exchanges (x ∷ []))) (All-append IsShort (lines_in h.exchanges) (x.line ∷ []) h.short (All-cons IsShort x.line [] t.short (All-nil IsShort)));
-        run = λ b. let is = h.known_so b in run_more rule first (state_in session h.repository h.view) h.exchanges x (h.now_at is) (h.run is) (t.step is);
-        placed = λ b slot live. record { whole = h.exchanges; cut = x ∷ []; all = refl; one = omega arith; none = λ c. absurd (cc (c, cut)); last = session.store.slot; view = h.view; places = placed_from rule decisive old mid lines counts session h b slot live };
-        said_part = λ b. let is = h.known_so b in let p = u.part is in record { whole = h.exchanges; cut = x ∷ []; part = p.0; unsaid = p.1; all = refl; one = omega arith; some = λ _ _ none. absurd (cc none); text = p.2 ∙ sym (append_nil (reply_text x.reply)); said_is = p.3 ∙ ap (λ (v : Bytes). v ++ p.0) (h.said is); silent = u.silent is };
+        run = λ b. trace.run (h.ran.trace.known_so b);
+        placed = λ b slot live. subst (λ (cut_off : Bool). PlacesIn rule cut_off slot first xs) (sym cut) (placed_cut rule decisive h.known h.exchanges h.first h.repository h.view h.slot old mid counts session x h.ran b slot live);
+        watched = λ b. let is = h.ran.trace.known_so b in watched_cut reply_text (is_cut_off s) (is_cut_short s) cut old.told mid.told new.told (goes.files is).goes first h.exchanges x session.store h.repository (h.watched is) (h.said is ∙ ap (λ (u : Bytes). said old.told ++ u) (texts_same h.exchanges)) (h.ran.working is).holds (sym h.ran.phase)
+            (λ short order none slot live. u.space is short (h.ran.nothing_pending is order) none slot live);
+        said_part = λ b. let is = h.ran.trace.known_so b in let p = u.part is in record { whole = h.exchanges; cut = x ∷ []; part = p.0; unsaid = p.1; all = refl; one = omega arith; some = λ _ _ none. absurd (cc none); text = p.2 ∙ sym (append_nil (reply_text x.reply)); said_is = p.3 ∙ ap (λ (v : Bytes). v ++ p.0) (h.said is); silent = u.silent is };
         said_all = λ b c. absurd (cc (c, cut));
       };
       reopens = record {
-        any_moment = λ b d r stands order. let is = known b d order in of_opened (IsBehindOpening s xs) (h.opened_at is) old new h.first xs (h.began (h.tells is)) r stands
-            (let was = h.over is in let later = (t.files is).goes.later in omega (arith, was, later))
-            (headline_turn (h.opened_at is) old.told mid.told new.told first h.exchanges x (h.headline is order) (t.files is).goes (h.over is) (h.said is)
-            h.repository x.after.repository (ap (λ (state : State). state.repository) (h.now_at is)) refl (u.turning is (h.nothing_pending is order)));
-        again = λ b d may. let is = known b d may.nothing_pending in u.again is (h.nothing_pending is may.nothing_pending);
-        stands = λ b whole began. subst (λ (state : State). StandsFor new.told.held state.repository) (sym (after_more first h.exchanges x)) (u.stands (h.known_so b) whole);
-        files = λ g. keeps_on old.told mid.told new.told (h.files (h.known_so g)) (t.files (h.known_so g));
+        any_moment = λ b d r stands order. let is = known b d order in of_opened (IsBehindOpening s xs) (h.opened_at is) old new h.first xs (h.ran.trace.began (h.ran.trace.tells is)) r stands
+            (let was = h.over is in let later = (goes.files is).goes.later in omega (arith, was, later))
+            (headline_turn (h.opened_at is) old.told mid.told new.told first h.exchanges x (h.headline is order) (goes.files is).goes (h.over is) (h.said is)
+            h.repository x.after.repository (ap (λ (state : State). state.repository) (h.ran.now_at is)) refl (u.turning is (h.ran.nothing_pending is order)));
+        again = λ b d may. let is = known b d may.nothing_pending in u.again is (h.ran.nothing_pending is may.nothing_pending);
+        stands = λ b whole began. subst (λ (state : State). StandsFor new.told.held state.repository) (sym (after_more first h.exchanges x)) (u.stands (h.ran.trace.known_so b) whole);
+        files = λ g. trace.files (h.ran.trace.known_so g);
       };
-      notes = record {
-        noted = λ l. t.noted l ∙ (ap (λ u. u ++ x.turn ∷ []) (h.noted (t.goes_on.log_tells l)) ∙ (append_assoc old.turns (turns_in h.exchanges) (x.turn ∷ []) ∙ ap (λ u. old.turns ++ u) (sym (map-append (λ x. x.turn) h.exchanges (x ∷ [])))));
-        follow = λ behind. (new.spawns, gone.later, subst (λ (e : TurnCounts). Follow (turn_counts old.counts old.spawns) (turns_in xs) e) t.until (follow_turn rule decisive old mid lines counts counts' session h x t.begins_at t.ends_at t.rises));
-        counted = serving_on s old.counts mid.counts new.counts h.no_fault u.counted;
-        reads = λ other. t.reads ∙ h.reads;
-      };
-      children = record {
-        happen = record { whole = h.exchanges; cut = x ∷ []; all = refl; one = omega arith; none = λ c. absurd (cc (c, cut)); happen = h.phases };
-        spawned = λ b. (gone.ends, gone.few, told_gone old new spawned xs gone.ends (spawned_more old.spawned mid.spawned new.spawned h.exchanges x (h.spawned b) (u.spawned (told_before _ _ h.goes_on.spawner_tells b))) (gone.told (told_before _ _ (goes_on_then old mid new h.goes_on t.goes_on).spawner_tells b)));
-        none_held = λ _. gone.none;
-      };
+      notes = notes_of rule decisive h.known xs h.first s old new counts' trace (serving_on s old.counts mid.counts new.counts h.no_fault u.counted) spawned held spawns gone;
+      children = subst (λ (cut_off : Bool). AsksChildren cut_off old (let_go_as new spawned held spawns) xs) (sym cut) (asks_of rule decisive h.known xs h.first true old new counts' trace (happen_cut h.exchanges x h.ran.phases) spawned held spawns gone);
       row = row (done ++ pending lines') (let_go_as new spawned held spawns);
     }
 
 -- how a run ends
 pub serves_stop : (rule : Rule) (decisive : Bool) (s : Status) (old mid new : Outside) (lines lines' : Lines) (counts counts' : TurnCounts) (session : Session) (h : Served rule decisive old mid lines counts session) → Stops rule s h.known mid new lines lines' counts counts' (state_in session h.repository h.view)
     → (spawned : spawn.Told) (held : Option ℕ) (spawns : SpawnCounts) → LetsGoAs new spawned held spawns → Serves rule decisive old (let_go_as new spawned held spawns) s
-serves_stop rule decisive status.SayFault old mid new lines lines' counts counts' session h u = serves_unsaid rule decisive status.SayFault old mid new lines lines' counts counts' session h refl (λ xs b. h.began b) u (λ taken last. tt)
-serves_stop rule decisive status.GroundFault old mid new lines lines' counts counts' session h u = serves_unsaid rule decisive status.GroundFault old mid new lines lines' counts counts' session h refl (λ xs. inr h.began) u (λ taken last. tt)
-serves_stop rule decisive (status.DamagedRecord at) old mid new lines lines' counts counts' session h u = serves_unsaid rule decisive (status.DamagedRecord at) old mid new lines lines' counts counts' session h refl (λ xs b. h.began b) u.0 (λ taken last b. u.1 (h.known_so b))
-serves_stop rule decisive (status.DamagedName at want got) old mid new lines lines' counts counts' session h u = serves_unsaid rule decisive (status.DamagedName at want got) old mid new lines lines' counts counts' session h refl (λ xs b. h.began b) u.0 (λ taken last b. u.1 (h.known_so b))
+serves_stop rule decisive status.SayFault old mid new lines lines' counts counts' session h u = serves_unsaid rule decisive status.SayFault old mid new lines lines' counts counts' session h refl (λ xs b. h.ran.trace.began b) u (λ taken last. tt)
+serves_stop rule decisive status.GroundFault old mid new lines lines' counts counts' session h u = serves_unsaid rule decisive status.GroundFault old mid new lines lines' counts counts' session h refl (λ xs. inr h.ran.trace.began) u (λ taken last. tt)
+serves_stop rule decisive (status.DamagedRecord at) old mid new lines lines' counts counts' session h u = serves_unsaid rule decisive (status.DamagedRecord at) old mid new lines lines' counts counts' session h refl (λ xs b. h.ran.trace.began b) u.0 (λ taken last b. u.1 (h.ran.trace.known_so b))
+serves_stop rule decisive (status.DamagedName at want got) old mid new lines lines' counts counts' session h u = serves_unsaid rule decisive (status.DamagedName at want got) old mid new lines lines' counts counts' session h refl (λ xs b. h.ran.trace.began b) u.0 (λ taken last b. u.1 (h.ran.trace.known_so b))
 serves_stop rule decisive status.Done old mid new lines lines' counts counts' session h u = serves_stopped rule decisive status.Done old mid new lines lines' counts counts' session h u
 serves_stop rule decisive status.Unfinished old mid new lines lines' counts counts' session h u = serves_stopped rule decisive status.Unfinished old mid new lines lines' counts counts' session h u
 serves_stop rule decisive (status.Limit l) old mid new lines lines' counts counts' session h u = serves_stopped rule decisive (status.Limit l) old mid new lines lines' counts counts' session h u
@@ -497,12 +372,13 @@ serves_stop rule decisive status.ReadFault old mid new lines lines' counts count
 serves_stop rule decisive status.Usage old mid new lines lines' counts counts' session h u = serves_stopped rule decisive status.Usage old mid new lines lines' counts counts' session h u
 serves_stop rule decisive status.NoStore old mid new lines lines' counts counts' session h u = serves_stopped rule decisive status.NoStore old mid new lines lines' counts counts' session h u
 serves_stop rule decisive (status.Damaged file at) old mid new lines lines' counts counts' session h u = serves_stopped rule decisive (status.Damaged file at) old mid new lines lines' counts counts' session h u
+serves_stop rule decisive status.DamagedJob old mid new lines lines' counts counts' session h u = serves_stopped rule decisive status.DamagedJob old mid new lines lines' counts counts' session h u
 serves_stop rule decisive status.Memory old mid new lines lines' counts counts' session h u = serves_stopped rule decisive status.Memory old mid new lines lines' counts counts' session h u
 serves_stop rule decisive status.Exists old mid new lines lines' counts counts' session h u = serves_stopped rule decisive status.Exists old mid new lines lines' counts counts' session h u
 
 -- ---- the store that is opened
 
-stands_open : (image : Image) (r : Repository) → StandsFor image r → NoStore image → ⊥
+pub stands_open : (image : Image) (r : Repository) → StandsFor image r → NoStore image → ⊥
 stands_open image r stands none =
     let s = stands.standing in
     let is_none : live_index s.control ≡ None = subst (λ (content : Content). IfSome content (λ control. live_index control ≡ None)) s.held none in
@@ -515,6 +391,7 @@ ends_by_script decisive sure status.Done old new taken r n told stands calm = tt
 ends_by_script decisive sure status.Unfinished old new taken r n told stands calm = tt
 ends_by_script decisive sure (status.Limit b) old new taken r n told stands calm = tt
 ends_by_script decisive sure status.Memory old new taken r n told stands calm = tt
+ends_by_script decisive sure status.DamagedJob old new taken r n told stands calm = r
 ends_by_script decisive sure status.Usage old new taken r n told stands calm = r
 ends_by_script decisive sure status.Exists old new taken r n told stands calm = r
 ends_by_script decisive sure status.NoStore old new taken r n told stands calm = absurd (stands_open old.told.held stands.0 stands.1 (r.1 told.0))

@@ -1,15 +1,16 @@
 -- One line of a run: its command was run and noted, and its reply said; or it was the last.
---     turned_of      the record Turned of what was read, run and noted
+--     begun_of      a line was run and noted.      begun_along, exchanged_along      and so behind the reading of it, and the saying of its reply
 --     files_of, said_of, part_of      the files and what was said, once the reply was said, or not
 --     settled      what is there in any case, and so where it is known.      went_to, cut_to      what a session did with a line, where it is known to work
---     stops_reading      why a source is read no further.      ended_short, stops_ended      the session has ended
-use Rattle.std.proofs.Common.{◌≡◌, ◌+◌, ◌++◌, List, [], ◌∷◌, length, refl, sym, ◌∙◌, subst, Bool, true, false, Option, None, Some, OnOk, Result, IsTrue}
+--     stops_reading      why a source is read no further.      ended_short, cuts_short, short_of, stops_short      the session has ended
+use Rattle.std.proofs.Common.{◌≡◌, ℕ, ◌+◌, ◌≤◌, ◌++◌, arith, List, [], ◌∷◌, length, refl, sym, ◌∙◌, subst, Bool, true, false, Option, None, Some, OnOk, Result, IsTrue}
 use Rattle.ip_ground.specs.declared.names.GroundCounts.{GroundCounts}
 use Rattle.ip_ground.specs.declared.names.GroundFault.{GroundFault}
 use Rattle.ip_ground.specs.declared.names.Reaped.{Reaped}
 use Rattle.ip_spawn.specs.declared.job.Job.{Job}
 use Rattle.ip_ground.specs.Counts.{NoneFalls}
-use Rattle.ip_ground.specs.Told.{Told, said, KeepsPast, KeepsSaid}
+use Rattle.ip_ground.specs.declared.names.FileName.{FileName}
+use Rattle.ip_ground.specs.Told.{Told, said, KeepsPast, KeepsFile, KeepsSaid, IsPossibleNow}
 use Rattle.ip_ground.specs.Calls.{Says}
 use Rattle.ip_ground.proofs.Spans.{said_now}
 use Rattle.ip_image.specs.declared.counts.TurnCounts.{TurnCounts}
@@ -22,48 +23,100 @@ use Rattle.ip_spec.specs.Machine.{State}
 use Rattle.ip_spec.specs.Line.{IsLineOf}
 use Rattle.ip_spec.specs.Script.{LineStep}
 use Rattle.ip_store.specs.Sweeping.{KeepsFiles}
-use Rattle.ip_store.proofs.KeptFiles.{keeps_on}
+use Rattle.ip_store.proofs.KeptFiles.{keeps_on, keeps_itself}
+use Rattle.ip_store.proofs.Recovering.{held_has}
 use Rattle.ip_app.specs.declared.lines.Lines.{Lines}
 use Rattle.ip_session.specs.declared.session.SessionEnd.{SessionEnd}
 use Rattle.ip_app.specs.declared.statuses.Status.{Status}
 use Rattle.ip_app.specs.declared.statuses.Status.TheVariants as status
 use Rattle.ip_app.specs.Pending.{pending}
-use Rattle.ip_app.specs.Reading.{GetsLine}
 use Rattle.ip_app.specs.Exchanges.{Exchange}
 use Rattle.ip_app.specs.Outside.{Outside, GoesOn}
 use Rattle.ip_session.specs.declared.session.Session.{Session}
-use Rattle.ip_session.specs.Session.{state_in, IsWorking, conditions_with, EndsBy, IsViewIn, GoesIn, CutIn}
+use Rattle.ip_session.specs.Session.{state_in, IsWorking, conditions_with, EndsBy, IsViewIn, IsJudgedIn, IsSettledIn, KeepsSpaceIn, GoesIn, CutIn}
 use Rattle.ip_image.specs.Pending.{NothingPending}
 use Rattle.ip_image.specs.Headline.{IsAtomic}
 use Rattle.ip_spec.specs.Repository.{Repository}
 use Rattle.ip_spec.specs.View.{View}
-use Rattle.ip_app.specs.Serving.{SaysPart, Turned, Stopped, Unsaid, Stops, is_cut_short, ended_status}
+use Rattle.ip_app.specs.Serving.{SaysPart, Took, Stopped, Unsaid, Stops}
+use Rattle.ip_app.specs.Exchanging.{is_cut_short, ended_status, Begun, Exchanged, CutShort, CutsShort}
 use Rattle.ip_app.specs.Turns.{turn_counts, IsLater}
 use Rattle.ip_app.proofs.Counting.{later_of}
 use Rattle.ip_app.proofs.Happened.{exchange_of}
-use Rattle.ip_app.proofs.RunLemmas.{append_nil, keeps_said, says_part}
+use Rattle.ip_app.proofs.Judging.{watches_along}
+use Rattle.ip_app.proofs.RanOn.{append_nil}
+use Rattle.ip_app.proofs.RunLemmas.{keeps_said, says_part}
+use Rattle.ip_image.proofs.HeadlineLaws.{turns_quietly}
+use Rattle.ip_ground.proofs.Rising.{none_falls_on, falls_itself}
 
-pub turned_of : (rule : Rule) (known : Bool) (old new : Outside) (lines lines' : Lines) (counts counts' : TurnCounts) (state after : State) (line read : Bytes) (met told_met : Met) (difference : Option Difference) (jobs : List Job) (ends : List Reaped) (reply : Reply) (mid : GroundCounts) → GoesOn old new → (IsTrue known → KeepsFiles old.told new.told)
-    → GetsLine line old.source_tells (pending lines ++ old.left) (pending lines' ++ new.left) → lines'.taken + length (pending lines) ≡ lines.taken + (length line + 1) + length (pending lines') → new.read_faults ≡ old.read_faults
-    → (IsTrue known → LineStep IsLineOf rule state read (conditions_with met difference) reply after) → read ≡ line → told_met ≡ met
+pub begun_of : (rule : Rule) (known : Bool) (old new : Outside) (counts counts' : TurnCounts) (state after : State) (line : Bytes) (met told_met : Met) (difference : Option Difference) (jobs : List Job) (ends : List Reaped) (reply : Reply) → GoesOn old new → (IsTrue known → KeepsFiles old.told new.told) → new.read_faults ≡ old.read_faults
+    → (IsTrue known → LineStep IsLineOf rule state line (conditions_with met difference) reply after) → told_met ≡ met
     → (IsTrue new.log_tells → new.turns ≡ old.turns ++ record { met = told_met; before = counts; after = counts' } ∷ [])
-    → counts' ≡ turn_counts mid new.spawns → counts ≡ turn_counts old.counts old.spawns → NoneFalls old.counts mid → turn_counts mid new.spawns ≡ turn_counts new.counts new.spawns
-    → Turned rule known old new lines lines' counts counts' state (exchange_of line told_met counts counts' difference jobs ends reply after)
-turned_of rule known old new lines lines' counts counts' state after line read met told_met difference jobs ends reply mid g files gets count reads step same same_met noted counted before falls still = record {
+    → counts' ≡ turn_counts new.counts new.spawns → counts ≡ turn_counts old.counts old.spawns
+    → (IsTrue old.spawner_tells → new.spawned ≡ record { started = old.spawned.started ++ jobs; reaped = old.spawned.reaped ++ ends }) → (IsTrue known → IsPossibleNow old.told)
+    → Begun rule known old new counts counts' state (exchange_of line told_met counts counts' difference jobs ends reply after)
+begun_of rule known old new counts counts' state after line met told_met difference jobs ends reply g files reads step same_met noted counted before spawned possible = record {
   goes_on = g;
   files = files;
-  front = gets.front;
-  no_line_feed = gets.no_line_feed;
-  short = gets.short;
-  count = count;
-  step = λ is. subst (λ (k : Bytes). LineStep IsLineOf rule state k (conditions_with told_met difference) reply after) same (subst (λ (m : Met). LineStep IsLineOf rule state read (conditions_with m difference) reply after) (sym same_met) (step is));
+  step = λ is. subst (λ (m : Met). LineStep IsLineOf rule state line (conditions_with m difference) reply after) (sym same_met) (step is);
   noted = noted;
   begins_at = refl;
   ends_at = refl;
-  rises = subst (λ (t : TurnCounts). IsLater counts t) (sym counted) (subst (λ (t : TurnCounts). IsLater t (turn_counts mid new.spawns)) (sym before) (later_of old.counts mid old.spawns new.spawns falls g.spawns));
-  until = counted ∙ still;
+  rises = subst (λ (t : TurnCounts). IsLater counts t) (sym counted) (subst (λ (t : TurnCounts). IsLater t (turn_counts new.counts new.spawns)) (sym before) (later_of old.counts new.counts old.spawns new.spawns g.counts g.spawns));
+  until = counted;
   reads = reads;
+  spawned = spawned;
+  possible = possible;
 }
+
+-- ---- behind the reading of its line, and the saying of its reply
+
+abbrev pub told_as : Outside → Bytes → ℕ → Told → GroundCounts → Outside
+told_as mid left read_faults told counts = record mid { left = left; read_faults = read_faults; told = told; counts = counts }
+
+module _ (rule : Rule) (known : Bool) (old mid : Outside) (c c' : TurnCounts) (left : Bytes) (read_faults : ℕ) (told : Told) (counts : GroundCounts) (same_reads : read_faults ≡ mid.read_faults) (files : IsTrue known → KeepsFiles mid.told told) (falls : NoneFalls mid.counts counts)
+    (still : turn_counts mid.counts mid.spawns ≡ turn_counts counts mid.spawns) where
+  pub begun_along : (state : State) (x : Exchange) → Begun rule known old mid c c' state x → Begun rule known old (told_as mid left read_faults told counts) c c' state x
+  begun_along state x h = record {
+    goes_on = record {
+      source_tells = h.goes_on.source_tells;
+      ground_tells = h.goes_on.ground_tells;
+      spawner_tells = h.goes_on.spawner_tells;
+      log_tells = h.goes_on.log_tells;
+      read_faults = (let later = h.goes_on.read_faults in omega (arith, later, same_reads));
+      counts = none_falls_on old.counts mid.counts counts h.goes_on.counts falls;
+      spawns = h.goes_on.spawns;
+    };
+    files = λ is. keeps_on old.told mid.told told (h.files is) (files is);
+    step = h.step;
+    noted = h.noted;
+    begins_at = h.begins_at;
+    ends_at = h.ends_at;
+    rises = h.rises;
+    until = h.until ∙ still;
+    reads = same_reads ∙ h.reads;
+    spawned = h.spawned;
+    possible = h.possible;
+  }
+
+  pub exchanged_along : (s s' : Session) (r : Repository) (v : View) (x : Exchange) (after : Repository) (view : View) → (IsTrue known → IsWorking mid.told s' after view → IsWorking told s' after view) → (IsTrue known → NothingPending mid.told → NothingPending told) → (IsTrue known → (file : FileName) → KeepsFile mid.told told file)
+      → Exchanged rule known old mid c c' s s' r v x after view → Exchanged rule known old (told_as mid left read_faults told counts) c c' s s' r v x after view
+  exchanged_along s s' r v x after view works order stays h = record {
+    begun = begun_along (state_in s r v) x h.begun;
+    now_at = h.now_at;
+    seen = h.seen;
+    placed = h.placed;
+    starts = h.starts;
+    hears = h.hears;
+    goes_on_by = h.goes_on_by;
+    watches = λ is. watches_along old.told mid.told told (files is).goes (state_in s r v) s.store.collection s'.store.collection s.store.slot s'.store.slot x (h.nothing_pending is) (stays is) (held_has s'.store after mid.told (h.working is).holds) (h.watches is);
+    happens = h.happens;
+    phase = h.phase;
+    child = h.child;
+    serving = h.serving;
+    working = λ is. works is (h.working is);
+    nothing_pending = λ is was. order is (h.nothing_pending is was);
+  }
 
 module _ (old mid new : Told) (files : KeepsFiles old mid) (still : KeepsSaid old mid) (text : Bytes) (r : Result (Unit {0}) GroundFault) (says : Says text r mid new) where
   quiet : said mid ≡ said old
@@ -95,14 +148,66 @@ ended_short SessionEnd.Ground = refl
 ended_short (SessionEnd.Damaged at None) = refl
 ended_short (SessionEnd.Damaged at (Some (want, got))) = refl
 
-pub stops_ended : (rule : Rule) (end : SessionEnd) (s : Status) (known : Bool) (held : Type 0) (old new : Outside) (lines lines' : Lines) (counts counts' : TurnCounts) (state : State) → s ≡ ended_status end → Unsaid rule (ended_status end) known old new lines lines' counts counts' state
-    → (IsTrue known → held) → (IsTrue known → EndsBy held end) → Stops rule s known old new lines lines' counts counts' state
-stops_ended rule end s known held old new lines lines' counts counts' state e unsaid holds ends = subst (λ (t : Status). Stops rule t known old new lines lines' counts counts' state) (sym e) (by_end end unsaid ends)
+pub cuts_short : (rule : Rule) (end : SessionEnd) (s : Status) (known : Bool) (held : Type 0) (old new : Outside) (line : Bytes) (counts counts' : TurnCounts) (state : State) → s ≡ ended_status end → CutShort rule (ended_status end) known old new line counts counts' state
+    → (IsTrue known → held) → (IsTrue known → EndsBy held end) → CutsShort rule s known old new line counts counts' state
+cuts_short rule end s known held old new line counts counts' state e short holds ends = subst (λ (t : Status). CutsShort rule t known old new line counts counts' state) (sym e) (by_end end short ends)
   where
-    by_end : (end : SessionEnd) → Unsaid rule (ended_status end) known old new lines lines' counts counts' state → (IsTrue known → EndsBy held end) → Stops rule (ended_status end) known old new lines lines' counts counts' state
+    by_end : (end : SessionEnd) → CutShort rule (ended_status end) known old new line counts counts' state → (IsTrue known → EndsBy held end) → CutsShort rule (ended_status end) known old new line counts counts' state
     by_end SessionEnd.Ground u h = u
     by_end (SessionEnd.Damaged at None) u h = (u, λ is. h is (holds is))
     by_end (SessionEnd.Damaged at (Some (want, got))) u h = (u, λ is. h is (holds is))
+
+-- a fault cut it short, and so is told
+pub short_of : (rule : Rule) (s : Status) (known : Bool) (old new : Outside) (line : Bytes) (counts counts' : TurnCounts) (state : State) → CutsShort rule s known old new line counts counts' state → (is_cut_short s ≡ true) × CutShort rule s known old new line counts counts' state
+short_of rule status.GroundFault known old new line counts counts' state h = (refl, h)
+short_of rule (status.DamagedRecord at) known old new line counts counts' state h = (refl, h.0)
+short_of rule (status.DamagedName at want got) known old new line counts counts' state h = (refl, h.0)
+short_of rule status.Done known old new line counts counts' state h = absurd h
+short_of rule status.Usage known old new line counts counts' state h = absurd h
+short_of rule status.NoStore known old new line counts counts' state h = absurd h
+short_of rule (status.Damaged file at) known old new line counts counts' state h = absurd h
+short_of rule status.DamagedJob known old new line counts counts' state h = absurd h
+short_of rule status.ReadFault known old new line counts counts' state h = absurd h
+short_of rule status.SayFault known old new line counts counts' state h = absurd h
+short_of rule status.Memory known old new line counts counts' state h = absurd h
+short_of rule (status.Limit bound) known old new line counts counts' state h = absurd h
+short_of rule status.Unfinished known old new line counts counts' state h = absurd h
+short_of rule status.Exists known old new line counts counts' state h = absurd h
+
+-- the line of a source
+pub stops_short : (rule : Rule) (s : Status) (known : Bool) (old new : Outside) (line read : Bytes) (lines lines' : Lines) (counts counts' : TurnCounts) (state : State) (left : Bytes) (read_faults : ℕ) → CutsShort rule s known old new read counts counts' state → read ≡ line
+    → Took old (told_as new left read_faults new.told new.counts) lines lines' line → read_faults ≡ new.read_faults → Stops rule s known old (told_as new left read_faults new.told new.counts) lines lines' counts counts' state
+stops_short rule s known old new line read lines lines' counts counts' state left read_faults h read_is took same = by_status s h
+  where
+    whole : (s : Status) → is_cut_short s ≡ true → CutShort rule s known old new read counts counts' state → Unsaid rule s known old (told_as new left read_faults new.told new.counts) lines lines' counts counts' state
+    whole s is_short u = record {
+      exchange = u.exchange;
+      took = subst (λ (l : Bytes). Took old (told_as new left read_faults new.told new.counts) lines lines' l) (sym (u.line_is ∙ read_is)) took;
+      begun = begun_along rule known old new counts counts' left read_faults new.told new.counts same (λ is. keeps_itself new.told) (falls_itself new.counts) refl state u.exchange u.begun;
+      counted = u.counted;
+      part = λ is. nothing_said _ _ _ (u.begun.files is).goes (u.quiet is);
+      silent = λ is cut_off. refl;
+      stands = λ is other. absurd (cc (other, is_short));
+      turning = λ is order. turns_quietly old.told new.told _ state.repository u.exchange.after.repository (u.quiet is) (u.atomic is order);
+      again = u.again;
+      space = λ is cut_off order none slot live. u.space is order none slot live;
+    }
+
+    by_status : (s : Status) → CutsShort rule s known old new read counts counts' state → Stops rule s known old (told_as new left read_faults new.told new.counts) lines lines' counts counts' state
+    by_status status.GroundFault h = whole status.GroundFault refl h
+    by_status (status.DamagedRecord at) h = (whole (status.DamagedRecord at) refl h.0, h.1)
+    by_status (status.DamagedName at want got) h = (whole (status.DamagedName at want got) refl h.0, h.1)
+    by_status status.Done h = absurd h
+    by_status status.Usage h = absurd h
+    by_status status.NoStore h = absurd h
+    by_status (status.Damaged file at) h = absurd h
+    by_status status.DamagedJob h = absurd h
+    by_status status.ReadFault h = absurd h
+    by_status status.SayFault h = absurd h
+    by_status status.Memory h = absurd h
+    by_status (status.Limit bound) h = absurd h
+    by_status status.Unfinished h = absurd h
+    by_status status.Exists h = absurd h
 
 -- ---- what a session did is known only where it works
 
@@ -116,6 +221,9 @@ pub record GoesTo (rule : Rule) (old new : Told) (s s' : Session) (r : Repositor
   pub gives : LineStep IsLineOf rule (state_in s r v) line (conditions_with s'.met x.2) reply (state_in s' x.0 x.1)
   pub working : IsWorking new s' x.0 x.1
   pub seen : IsViewIn r v line reply x.1
+  pub judged : IsJudgedIn old new s s' r v x.2
+  pub settled : IsSettledIn new s s' reply
+  pub space : KeepsSpaceIn old new s'
   pub files : KeepsFiles old new
   pub said : KeepsSaid old new
   pub atomic : NothingPending old → IsAtomic old new r x.0
@@ -124,11 +232,12 @@ pub record GoesTo (rule : Rule) (old new : Told) (s s' : Session) (r : Repositor
 pub went_to : (rule : Rule) (known : Bool) (old new : Told) (s s' : Session) (r : Repository) (v : View) (line : Bytes) (reply : Reply) → (IsTrue known → GoesIn rule old new s s' r v line reply)
     → (x : Repository × View × Option Difference) × (IsTrue known → GoesTo rule old new s s' r v line reply x)
 went_to rule known old new s s' r v line reply goes = settled (GoesTo rule old new s s' r v line reply) known (r, v, None)
-    (λ is. let h = goes is in ((h.after, h.view, h.difference), record { gives = h.gives; working = h.is_at; seen = h.seen; files = h.files; said = h.said; atomic = h.atomic; nothing_pending = h.nothing_pending }))
+    (λ is. let h = goes is in ((h.after, h.view, h.difference), record { gives = h.gives; working = h.is_at; seen = h.seen; judged = h.judged; settled = h.settled; space = h.space; files = h.files; said = h.said; atomic = h.atomic; nothing_pending = h.nothing_pending }))
 
 -- or it was cut short, with this reply, this state of the machine and this difference
 pub record CutTo (rule : Rule) (old new : Told) (s s' : Session) (r : Repository) (v : View) (line : Bytes) (x : Reply × State × Option Difference) : Type 0 where
   pub gives : LineStep IsLineOf rule (state_in s r v) line (conditions_with s'.met x.2) x.0 x.1
+  pub space : KeepsSpaceIn old new s'
   pub files : KeepsFiles old new
   pub said : KeepsSaid old new
   pub atomic : NothingPending old → IsAtomic old new r x.1.repository
@@ -136,4 +245,4 @@ pub record CutTo (rule : Rule) (old new : Told) (s s' : Session) (r : Repository
 pub cut_to : (rule : Rule) (known : Bool) (old new : Told) (s s' : Session) (r : Repository) (v : View) (line : Bytes) → (IsTrue known → CutIn rule old new s s' r v line)
     → (x : Reply × State × Option Difference) × (IsTrue known → CutTo rule old new s s' r v line x)
 cut_to rule known old new s s' r v line cut = settled (CutTo rule old new s s' r v line) known (Reply.Accepted, state_in s r v, None)
-    (λ is. let h = cut is in ((h.reply, h.after, h.difference), record { gives = h.gives; files = h.files; said = h.said; atomic = h.atomic }))
+    (λ is. let h = cut is in ((h.reply, h.after, h.difference), record { gives = h.gives; space = h.space; files = h.files; said = h.said; atomic = h.atomic }))

@@ -1,7 +1,11 @@
 pub mod Ending
 pub mod Exchanges
+pub mod Exchanging
 pub mod Happening
+pub mod Judged
 pub mod Lines
+pub mod Loaded
+pub mod Loading
 pub mod Outside
 pub mod Pending
 pub mod Places
@@ -12,3 +16,4 @@ pub mod Run
 pub mod Serving
 pub mod Statuses
 pub mod Turns
+pub mod Working

@@ -1,5 +1,5 @@
 -- What a source, a ground, a spawner and a log tell at a moment.
---     Outside, outside      the record, and how the traits' ghost members make it
+--     Outside, outside, outside_of      the record, and how the traits' ghost members make it, with a source or without one
 --     Tells outside      the ground tells its content, and no child changes the live pair.      Knows decisive outside      and the rules of merges are known to be decisive
 --     GoesOn old new      what no call changes: who tells, and that no count falls. A log may tell no more
 --     IsUnasked old new      nothing was asked of the spawner
@@ -30,11 +30,12 @@ pub record Outside : Type 1 where
   pub log_tells : Bool
   pub turns : List Turn
 
-abbrev pub outside : {S G P L : Type 0} → Bool → (S → Bytes) → (S → ℕ) → Bool → (G → Told) → (G → GroundCounts) → Bool → (P → spawn.Told) → (P → Option ℕ) → (P → SpawnCounts) → (L → Bool) → (L → List Turn) → S → G → P → L → Outside
-outside source_tells left read_faults ground_tells told_of counts_of spawner_tells spawned_of held_of spawns_of log_tells turns s g p l = record {
+-- with what a source tells
+abbrev pub outside_of : {G P L : Type 0} → Bool → Bytes → ℕ → Bool → (G → Told) → (G → GroundCounts) → Bool → (P → spawn.Told) → (P → Option ℕ) → (P → SpawnCounts) → (L → Bool) → (L → List Turn) → G → P → L → Outside
+outside_of source_tells left read_faults ground_tells told_of counts_of spawner_tells spawned_of held_of spawns_of log_tells turns g p l = record {
   source_tells = source_tells;
-  left = left s;
-  read_faults = read_faults s;
+  left = left;
+  read_faults = read_faults;
   ground_tells = ground_tells;
   told = told_of g;
   counts = counts_of g;
@@ -45,6 +46,9 @@ outside source_tells left read_faults ground_tells told_of counts_of spawner_tel
   log_tells = log_tells l;
   turns = turns l;
 }
+
+abbrev pub outside : {S G P L : Type 0} → Bool → (S → Bytes) → (S → ℕ) → Bool → (G → Told) → (G → GroundCounts) → Bool → (P → spawn.Told) → (P → Option ℕ) → (P → SpawnCounts) → (L → Bool) → (L → List Turn) → S → G → P → L → Outside
+outside source_tells left read_faults ground_tells told_of counts_of spawner_tells spawned_of held_of spawns_of log_tells turns s g p l = outside_of source_tells (left s) (read_faults s) ground_tells told_of counts_of spawner_tells spawned_of held_of spawns_of log_tells turns g p l
 
 abbrev pub Tells : Outside → Type 0
 Tells outside = IsTrue outside.ground_tells × OwnsLive outside.told

@@ -35,6 +35,8 @@ use Rattle.ip_app.specs.Ending.{ending_of, IsOfBytes}
 use Rattle.ip_app.specs.Exchanges.{Exchange, answer_of, Run, lines_in, turns_in, texts_in, after_all}
 use Rattle.ip_app.specs.Happening.{HappenIn, jobs_in, ends_in}
 use Rattle.ip_app.specs.Serving.{is_cut_short, CountsOf, CountsServing}
+use Rattle.ip_app.specs.Judged.{WatchedIn}
+use Rattle.ip_spec.specs.Text.{reply_text}
 use Rattle.ip_app.specs.Places.{PlacesIn}
 use Rattle.ip_app.specs.Turns.{turn_counts, SpawnsLater, Follow}
 use Rattle.ip_app.specs.Outside.{Outside, Tells, Knows, GoesOn, IsUnasked}
@@ -126,6 +128,7 @@ Row decisive (Status.Damaged file at) old new taken = IsUntouched old new taken 
 Row decisive (Status.DamagedRecord at) old new taken = ¬ Knows decisive old
 Row decisive (Status.DamagedName at want got) old new taken = ¬ Knows decisive old
 Row decisive Status.Memory old new taken = IsUntouched old new taken
+Row decisive Status.DamagedJob old new taken = ⊥
 Row decisive Status.Usage old new taken = ⊥
 Row decisive Status.Exists old new taken = ⊥
 
@@ -148,6 +151,8 @@ pub record Replies (rule : Rule) (decisive : Bool) (old new : Outside) (status :
   pub run : Knows decisive old → Run rule first exchanges
   -- What each of them appends comes to lie behind what the live slot says, and a limit of space or of the sequence is met by that alone.
   pub placed : Knows decisive old → (slot : Slot) → HasLive slot old.told.held → PlacesIn rule (is_cut_off status) slot first exchanges
+  -- What it met of a child that has ended is what that child left, which had been started in the run.
+  pub watched : Knows decisive old → WatchedIn reply_text (is_cut_off status) (is_cut_short status) old.told new.told first exchanges
   -- what was said grows by the replies' texts
   pub said_part : Knows decisive old → SaysUpTo status (taken ≢ []) exchanges (said old.told) (said new.told)
   pub said_all : Knows decisive old → is_cut_off status ≡ false → said new.told ≡ said old.told ++ texts_in exchanges
@@ -174,9 +179,9 @@ pub record Notes (old new : Outside) (status : Status) (exchanges : List Exchang
   pub reads : status ≢ Status.ReadFault → new.read_faults ≡ old.read_faults
 
 -- What was asked of the spawner.
-pub record AsksChildren (old new : Outside) (status : Status) (exchanges : List Exchange) : Type 0 where
-  -- what each command met of it is what happened
-  pub happen : HappenIn (is_cut_off status) exchanges
+pub record AsksChildren (cut_off : Bool) (old new : Outside) (exchanges : List Exchange) : Type 0 where
+  -- what each command met of it is what happened, but of the last one where that was cut off
+  pub happen : HappenIn cut_off exchanges
   -- it has started what the commands started, and reaped what they reaped, and at the end it was let go of one more at most
   pub spawned : IsTrue old.spawner_tells → (ends : List Reaped) × (length ends ≤ 1) × (new.spawned ≡ record { started = old.spawned.started ++ jobs_in exchanges; reaped = (old.spawned.reaped ++ ends_in exchanges) ++ ends })
   pub none_held : old.held ≡ None → new.held ≡ None
@@ -193,7 +198,7 @@ pub record Serves (rule : Rule) (decisive : Bool) (old new : Outside) (status : 
   pub replies : Replies rule decisive old new status taken exchanges first
   pub reopens : Reopens decisive old new status exchanges first
   pub notes : Notes old new status exchanges
-  pub children : AsksChildren old new status exchanges
+  pub children : AsksChildren (is_cut_off status) old new exchanges
   -- why it ends so
   pub row : Row decisive status old new taken
 

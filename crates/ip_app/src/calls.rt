@@ -4,16 +4,21 @@ ghost use Rattle.ip_ground.specs.declared.names.FileName.TheVariants.{Control};
 ghost use Rattle.ip_ground.specs.Counts.{NoneFalls};
 ghost use Rattle.ip_ground.specs.Told.{ChangesOnly, Only};
 ghost use Rattle.ip_merge.specs.Rules.{IsDecisive};
+ghost use Rattle.ip_spawn.specs.declared.job.Job.{Job};
 ghost use Rattle.ip_spec.specs.Path.{Bytes};
 ghost use Rattle.ip_image.specs.Slot.{IsChunkSize};
-ghost use Rattle.ip_words.specs.Words.{Asked, making, serving, Asks, AsksNothing, texts_of};
+ghost use Rattle.ip_words.specs.Words.{Asked, making, serving, working, loading, Asks, AsksNothing, texts_of};
+ghost use Rattle.ip_app.specs.Loading.{Loads, LoadsWhereAllIsWell};
 ghost use Rattle.ip_app.specs.Outside.{outside};
+ghost use Rattle.ip_app.specs.Working.{Collects};
 ghost use Rattle.ip_app.specs.Serving.{CountsOf};
 ghost use Rattle.ip_app.specs.Run.{init_status, InitRow, Inits, Serves, EndsAsBytes, EndsWhereAllIsWell, LeavesAll};
 
+use crate::load::load;
 use crate::serve::serve;
 use crate::statuses::Status;
 use crate::turn_log::Log;
+use crate::work::work;
 use ip_ground::Ground;
 use ip_merge::Decides;
 use ip_script::Source;
@@ -51,6 +56,8 @@ fn init<G: Ground>(folder: &str, chunk: u64, ground: &mut G) -> Status
 
 /// Does what the words ask for, the program's name first: `init DIR [--chunk N]` makes a store in the folder DIR, with chunks of N bytes
 /// (1048576 where N is not given). `serve DIR` opens the one there, runs each line of the source, a merge by these rules, and says each reply.
+/// `worker DIR` with a job's eight numbers does that job of a collection in the folder. `load DIR SEED COUNT` opens the store, runs COUNT generated
+/// lines, and says how many of their replies begin with each word, and then the reply of `stat`.
 pub fn run<S: Source, G: Ground, P: Spawner, D: Decides, L: Log>(
     alloc: Global,
     words: &[String],
@@ -82,6 +89,16 @@ pub fn run<S: Source, G: Ground, P: Spawner, D: Decides, L: Log>(
     ensures complete { let told = outside S.tells S.left S.read_faults G.tells G.told G.counts_of P.tells P.told P.held P.counts_of L.tells L.turns in
         (folder : Bytes) → Asks (texts_of words.now) (serving folder) → IsDecisive (D.rule rules.now) →
         EndsWhereAllIsWell (told source.old ground.old spawner.old log.old) (told source.new ground.new spawner.new log.new) result }
+    ensures worker { let told = outside S.tells S.left S.read_faults G.tells G.told G.counts_of P.tells P.told P.held P.counts_of L.tells L.turns in
+        (folder : Bytes) (job : Job) → Asks (texts_of words.now) (working folder job) →
+        Collects job (told source.old ground.old spawner.old log.old) (told source.new ground.new spawner.new log.new) result }
+    ensures load { let told = outside S.tells S.left S.read_faults G.tells G.told G.counts_of P.tells P.told P.held P.counts_of L.tells L.turns in
+        (folder : Bytes) (seed count : ℕ) → Asks (texts_of words.now) (loading folder seed count) → (decisive : Bool) → (IsTrue decisive → IsDecisive (D.rule rules.now)) →
+        Loads (D.rule rules.now) decisive seed count (told source.old ground.old spawner.old log.old) (told source.new ground.new spawner.new log.new) result }
+    // Where no fault is counted and the store stands, all lines are run and the summary is said, or memory was wanting before them.
+    ensures load_complete { let told = outside S.tells S.left S.read_faults G.tells G.told G.counts_of P.tells P.told P.held P.counts_of L.tells L.turns in
+        (folder : Bytes) (seed count : ℕ) → Asks (texts_of words.now) (loading folder seed count) → IsDecisive (D.rule rules.now) →
+        LoadsWhereAllIsWell (told source.old ground.old spawner.old log.old) (told source.new ground.new spawner.new log.new) result }
 {
     let call = match asked(alloc, words) {
         Ok(Some(call)) => call,
@@ -91,5 +108,11 @@ pub fn run<S: Source, G: Ground, P: Spawner, D: Decides, L: Log>(
     match call {
         Call::Init { folder, chunk } => init(folder, chunk, ground),
         Call::Serve { folder } => serve(alloc, folder, source, ground, spawner, rules, log),
+        Call::Worker { folder, job } => work(alloc, folder, &job, ground),
+        Call::Load {
+            folder,
+            seed,
+            count,
+        } => load(alloc, folder, seed, count, ground, spawner, rules, log),
     }
 }

@@ -2,12 +2,15 @@
 #![tactic(auto)]
 
 mod calls;
+mod exchange;
 mod lines;
+mod load;
 mod program;
 mod rules;
 mod serve;
 mod statuses;
 mod turn_log;
+mod work;
 
 pub use calls::run;
 pub use program::run_program;

@@ -3,8 +3,8 @@ use crate::calls::run;
 use crate::rules::ProgramRules;
 use crate::statuses::Status;
 use crate::turn_log::Silent;
-use ip_host::{Folder, Stdin};
-use ip_spawn::Scripted;
+use ip_host::{Children, Folder, Stdin};
+use std::alloc::{AllocError, Global};
 use std::env;
 use std::io::{ErrorKind, Write};
 use std::process::ExitCode;
@@ -22,7 +22,16 @@ fn words(rt: &HostRuntime) -> Result<Vec<String>, Status> {
     }
 }
 
-// Runs the call that the words ask for, over a folder of the system, standard input and standard output.
+// The word that the program was called by, by which it starts itself as the child of a collection.
+fn program_in(alloc: Global, words: &[String]) -> Result<String, AllocError> {
+    match words.first() {
+        Some(word) => word.clone(),
+        None => Ok(String::new(alloc)),
+    }
+}
+
+// Runs the call that the words ask for, over a folder of the system, standard input and standard output,
+// with children that are processes of the system.
 fn called(rt: &HostRuntime) -> Status {
     let words = match words(rt) {
         Ok(words) => words,
@@ -30,8 +39,10 @@ fn called(rt: &HostRuntime) -> Status {
     };
     let mut source = Stdin::new(rt.stdin());
     let mut folder = Folder::new(rt, rt.alloc());
-    // So far it starts no child: each start fails.
-    let mut children = Scripted::new(rt.alloc(), Vec::new(rt.alloc()), Vec::new(rt.alloc()));
+    let Ok(program) = program_in(rt.alloc(), &words) else {
+        return Status::Memory;
+    };
+    let mut children = Children::new(rt, rt.alloc(), program);
     run(
         rt.alloc(),
         &words,

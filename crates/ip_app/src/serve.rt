@@ -9,19 +9,20 @@ ghost use Rattle.ip_store.specs.Collecting.{child_of};
 ghost use Rattle.ip_store.specs.Opening.{RecoversOnceOpen};
 ghost use Rattle.ip_app.specs.Outside.{outside};
 ghost use Rattle.ip_app.specs.Turns.{turn_counts};
-ghost use Rattle.ip_app.specs.Serving.{ended_status, CountsOf, Works, TurnedIn, Stops};
+ghost use Rattle.ip_app.specs.Serving.{CountsOf, Works, TurnedIn, Stops};
 ghost use Rattle.ip_app.specs.Run.{opening_status, CouldNotOpen, OpensAs, Serves, EndsWhereAllIsWell, EndsAsBytes};
 ghost use Rattle.ip_session.specs.Session.{IsServing, state_in};
 
+use crate::exchange::exchange;
 use crate::lines::{LONGEST_LINE, Lines};
 use crate::statuses::Status;
-use crate::turn_log::{Log, Turn, turn_counts};
+use crate::turn_log::{Log, turn_counts};
 use ip_base::Memory;
 use ip_ground::Ground;
 use ip_image::counts::TurnCounts;
 use ip_merge::Decides;
 use ip_script::Source;
-use ip_session::{Session, SessionEnd};
+use ip_session::Session;
 use ip_spawn::Spawner;
 use ip_store::{OpenFault, Store};
 use std::alloc::Global;
@@ -90,35 +91,23 @@ impl LineRoom {
         if let Err(status) = self.lines.next_line(source, &mut self.line) {
             return Err(status);
         }
-        let before = *counts;
-        let answered = session.answer(folder, ground, spawner, &self.line, rules, &mut self.text);
-        *counts = turn_counts(ground.counts(), spawner.counts());
-        log.note(&Turn {
-            met: session.met(),
-            before,
-            after: *counts,
-        });
-        match answered {
-            Ok(()) => match ground.say(&self.text) {
-                Ok(()) => Ok(()),
-                Err(_) => Err(Status::SayFault),
-            },
-            Err(end) => Err(ended_status(end)),
+        if let Err(status) = exchange(
+            folder,
+            session,
+            counts,
+            &self.line,
+            ground,
+            spawner,
+            rules,
+            log,
+            &mut self.text,
+        ) {
+            return Err(status);
         }
-    }
-}
-
-// How a call ends whose session has ended.
-fn ended_status(end: SessionEnd) -> Status
-    ensures { result ≡ ended_status end }
-{
-    match end {
-        SessionEnd::Ground => Status::GroundFault,
-        SessionEnd::Damaged { at, names: None } => Status::DamagedRecord { at },
-        SessionEnd::Damaged {
-            at,
-            names: Some((want, got)),
-        } => Status::DamagedName { at, want, got },
+        match ground.say(&self.text) {
+            Ok(()) => Ok(()),
+            Err(_) => Err(Status::SayFault),
+        }
     }
 }
 
@@ -135,7 +124,11 @@ fn opening_status(fault: OpenFault) -> Status
 }
 
 // Binds the folder and opens the store in it.
-fn open_in<G: Ground>(alloc: Global, folder: &str, ground: &mut G) -> Result<Store, Status>
+pub(crate) fn open_in<G: Ground>(
+    alloc: Global,
+    folder: &str,
+    ground: &mut G,
+) -> Result<Store, Status>
     ensures only { IsTrue G.tells → SyncsOnly (Only Control) (G.told ground.old) (G.told ground.new) }
     ensures opening { IsTrue G.tells → RecoversOnceOpen (G.told ground.old) (G.told ground.new) }
     ensures opened { IfOk result (OpensAs G.tells (G.told ground.old) (G.told ground.new)) }

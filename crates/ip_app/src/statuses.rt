@@ -22,7 +22,7 @@ pub enum Bound {
 /// How a call of the program ends.
 #[derive(Clone, Copy, Debug, PartialEq, Eq)]
 pub enum Status {
-    /// The source was read to its end, or the store was made.
+    /// The source was read to its end, the store was made, the job was done, or all lines of the load were run and the summary was said.
     Done,
     /// The words ask for nothing that the program does.
     Usage,
@@ -34,9 +34,11 @@ pub enum Status {
     DamagedRecord { at: u64 },
     /// The same, but one of another name than the wanted one.
     DamagedName { at: u64, want: Hash, got: Hash },
+    /// The files that a job of a collection reads are not whole.
+    DamagedJob,
     /// The source could not be read.
     ReadFault,
-    /// A reply could not be said, or not all of it.
+    /// A reply could not be said, or not all of it; of a load, the summary.
     SayFault,
     /// A file of the store could not be read, written or synced, or its folder could not be bound.
     GroundFault,
@@ -59,7 +61,10 @@ impl Status {
             Status::Done => 0,
             Status::Usage => 2,
             Status::NoStore => 3,
-            Status::Damaged { .. } | Status::DamagedRecord { .. } | Status::DamagedName { .. } => 4,
+            Status::Damaged { .. }
+            | Status::DamagedRecord { .. }
+            | Status::DamagedName { .. }
+            | Status::DamagedJob => 4,
             Status::ReadFault => 5,
             Status::SayFault => 6,
             Status::GroundFault => 7,
@@ -83,6 +88,7 @@ impl Status {
             }
             Status::Usage => b"ipstore: usage\n",
             Status::NoStore => b"ipstore: no store\n",
+            Status::DamagedJob => b"ipstore: damaged job\n",
             Status::ReadFault => b"ipstore: read fault\n",
             Status::SayFault => b"ipstore: write fault\n",
             Status::GroundFault => b"ipstore: disk fault\n",

@@ -58,11 +58,11 @@ turn-requires g c =
     let told : c.counts.result.file_faults ≤ 2 ^ 64 - 1 = search rules in
     record {
       roomy = c.lines.invariant.roomy;
-      counted = served.counts_now;
-      small = subst (λ (n : ℕ). n ≤ 2 ^ 64 - 1) (sym (ap (λ (t : TurnCounts). t.file_faults) served.counts_now ∙ served.no_fault.file_faults)) (subst (λ (n : GroundCounts). n.file_faults ≤ 2 ^ 64 - 1) c.counts.ensures told);
+      counted = served.ran.trace.counts_now;
+      small = subst (λ (n : ℕ). n ≤ 2 ^ 64 - 1) (sym (ap (λ (t : TurnCounts). t.file_faults) served.ran.trace.counts_now ∙ served.no_fault.file_faults)) (subst (λ (n : GroundCounts). n.file_faults ≤ 2 ^ 64 - 1) c.counts.ensures told);
       removals = c.lines.invariant.removals;
       running = c.lines.invariant.running;
-      tables = served.serving;
+      tables = served.ran.serving;
       child = c.lines.invariant.child;
     }
 
@@ -70,7 +70,7 @@ pub returns-in-Err-turn-clause-serves : goal.returns-in-Err-turn-clause-serves
 returns-in-Err-turn-clause-serves g c decisive by_rule =
     let served = c.lines.invariant.served decisive by_rule in
     let gone = c.let_go.ensures.told in
-    serves_stop _ decisive c.in-Err-turn.status _ _ _ c.lines.room.lines c.turn.new.self.lines c.lines.counts c.turn.new.counts c.lines.session served (c.in-Err-turn.ensures.stops served.known served.repository served.view (λ is. ((served.tells is).0, served.working is, served.is_decisive is)))
+    serves_stop _ decisive c.in-Err-turn.status _ _ _ c.lines.room.lines c.turn.new.self.lines c.lines.counts c.turn.new.counts c.lines.session served (c.in-Err-turn.ensures.stops served.known served.repository served.view (λ is. ((served.ran.trace.tells is).0, served.ran.working is, served.ran.trace.is_decisive is)))
     (g.P.Spawner.told c.let_go.new.spawner) (g.P.Spawner.held c.let_go.new.spawner) (g.P.Spawner.counts_of c.let_go.new.spawner) (record { ends = gone.0; few = gone.1; told = gone.2; none = c.let_go.ensures.none_held; later = later_gone _ _ c.let_go.ensures.counts })
 
 pub lines-preserved : goal.lines-preserved
@@ -80,13 +80,13 @@ lines-preserved g c =
       removals = c.turn.ensures.removals;
       running = c.turn.ensures.running;
       child = c.turn.ensures.child;
-      served = λ decisive by_rule. let served = c.lines.invariant.served decisive by_rule in served_more _ decisive _ _ _ c.lines.room.lines c.turn.new.self.lines c.lines.counts c.turn.new.counts c.lines.session c.turn.new.session served (c.in_default-turn.ensures.turned served.known served.repository served.view (λ is. ((served.tells is).0, served.working is, served.is_decisive is)));
+      served = λ decisive by_rule. let served = c.lines.invariant.served decisive by_rule in served_more _ decisive _ _ _ c.lines.room.lines c.turn.new.self.lines c.lines.counts c.turn.new.counts c.lines.session c.turn.new.session served (c.in_default-turn.ensures.turned served.known served.repository served.view (λ is. ((served.ran.trace.tells is).0, served.ran.working is, served.ran.trace.is_decisive is)));
     }
 
 pub lines-smaller : goal.lines-smaller
 lines-smaller g c =
     let served = c.lines.invariant.served false (undecided _) in
-    let turned = (c.in_default-turn.ensures.turned served.known served.repository served.view (λ is. ((served.tells is).0, served.working is, served.is_decisive is))).turned in
+    let turned = (c.in_default-turn.ensures.turned served.known served.repository served.view (λ is. ((served.ran.trace.tells is).0, served.ran.working is, served.ran.trace.is_decisive is))).took in
     omega (arith, turned.count, c.turn.ensures.roomy.ready.few, served.count)
 
 pub returns-in-Err-clause-complete : goal.returns-in-Err-clause-complete

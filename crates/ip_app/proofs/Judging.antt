@@ -1,0 +1,519 @@
+-- What is found of the children of collections, along a run.
+--     watched_later      what was told of earlier moments stands
+--     same_for      what a child may read of a slot's records.      reads_then      and of the child that is held behind an exchange
+--     texts_same, none_said      what is said of each reply before the next command
+--     watched_more, watched_next      one exchange more.      watched_along      none more.      watched_none      none yet
+--     ended_same, ended_cut      what a child may read in the end.      watched_unbegun, watched_all, watched_cut      of a run in which no command was begun, all were answered, or the last was cut off
+--     watches_along      where a reply is said behind an exchange
+--     heard_by      which collection's child was heard of.      watches_of      what an exchange met of it, by what the session says
+use Rattle.std.proofs.Common.{◌≡◌, ◌≢◌, inl, inr, ℕ, ◌+◌, ◌≤◌, ◌++◌, length, Bool, true, List, [], ◌∷◌, refl, sym, ap, ◌∙◌, subst, arith, append_assoc, append-nil, Option, Some, None, Ok}
+use Rattle.std.specs.Prelude.{IfSome, IsSomeAnd}
+use Rattle.std.proofs.lemmas.Bool.{cases_lt}
+use Rattle.ip_ground.specs.declared.names.FileName.{FileName}
+use Rattle.ip_ground.specs.declared.names.Reaped.{Reaped}
+use Rattle.ip_ground.specs.declared.names.FileName.TheVariants.{Mapping, Prefix}
+use Rattle.ip_ground.specs.Contents.{Content, Image}
+use Rattle.ip_ground.specs.Told.{Told, said, KeepsPast, KeepsFile, KeepsSaid, IsPossible, IsPossibleNow}
+use Rattle.ip_ground.proofs.Spans.{said_now}
+use Rattle.ip_spawn.specs.declared.job.Job.{Job}
+use Rattle.ip_spawn.specs.declared.spawner.SpawnCounts.{SpawnCounts}
+use Rattle.ip_spec.specs.declared.met.Child.TheVariants as Child
+use Rattle.ip_spec.specs.declared.met.Met.{Met}
+use Rattle.ip_spec.specs.declared.reply.Difference.{Difference}
+use Rattle.ip_spec.specs.declared.reply.Reply.{Reply}
+use Rattle.ip_spec.specs.Line.{IsLineOf}
+use Rattle.ip_spec.specs.Machine.{State, Phase, exit_kept}
+use Rattle.ip_spec.specs.Merge.{Rule}
+use Rattle.ip_spec.specs.Path.{Bytes}
+use Rattle.ip_spec.specs.Repository.{Repository}
+use Rattle.ip_spec.specs.Script.{LineStep}
+use Rattle.ip_spec.specs.Text.{reply_text}
+use Rattle.ip_spec.specs.TreeAt.{Records}
+use Rattle.ip_spec.specs.View.{View}
+use Rattle.ip_image.specs.declared.counts.TurnCounts.{TurnCounts}
+use Rattle.ip_image.specs.declared.slot.Slot.{Slot}
+use Rattle.ip_image.specs.Collection.{IsJudged}
+use Rattle.ip_image.specs.Pending.{HasLive, SameSpace, NothingPending, KeepsSpace}
+use Rattle.ip_image.specs.Slot.{layout_of}
+use Rattle.ip_image.specs.Standing.{Generation, StandsFor}
+use Rattle.ip_image.specs.Virtual.{chunk_byte}
+use Rattle.ip_image.proofs.HeadlineLaws.{one_slot}
+use Rattle.ip_store.specs.declared.collection.Collection.{Collection}
+use Rattle.ip_store.specs.declared.store.Store.{Store}
+use Rattle.ip_store.specs.Collecting.{phase_of, Collects, IsJobOf, IsPhaseOf}
+use Rattle.ip_store.specs.Store.{IsOf, Holds}
+use Rattle.ip_store.proofs.Recovering.{held_has}
+use Rattle.ip_session.specs.declared.session.Session.{Session}
+use Rattle.ip_session.specs.Asking.{GoesOnBy, HeardOf, AskedIn}
+use Rattle.ip_session.specs.Session.{conditions_with, state_in, IsWorking, IsJudgedIn, IsSettledIn, KeepsSpaceIn}
+use Rattle.ip_session.proofs.Changing.{still_space}
+use Rattle.ip_app.specs.Exchanges.{Exchange, after_all, texts_in}
+use Rattle.ip_app.specs.Judged.{IsWatchedTo, WatchedIn, texts_by, says_nothing, Started, last_started, IsSettledAt, IsConcluded, IsJudgedAs, IsServedAs, IsSameFor, ReadsSame, IsHeldIn, Watches, Watched, AllWatched}
+use Rattle.ip_app.proofs.Happened.{exchange_of}
+use Rattle.ip_app.proofs.KeptSpace.{same_space, space_on, pending_space, stays_space}
+
+-- of what there is, what follows from it
+some_more : {X : Type 0} (o : Option X) (P Q : X → Type 0) → ((x : X) → P x → Q x) → IsSomeAnd o P → IsSomeAnd o Q
+some_more None P Q more is = absurd is
+some_more (Some x) P Q more is = more x is
+
+-- of two facts on what there is, what follows from both
+some_by : {X : Type 0} (o : Option X) (P Q : X → Type 0) (R : Type 0) → ((x : X) → P x → Q x → R) → IfSome o P → IsSomeAnd o Q → R
+some_by None P Q R each p q = absurd q
+some_by (Some x) P Q R each p q = each x p q
+
+some_with : {X : Type 0} (o : Option X) (P Q : X → Type 0) → IfSome o P → IsSomeAnd o Q → IsSomeAnd o (λ x. P x × Q x)
+some_with None P Q p q = absurd q
+some_with (Some x) P Q p q = (p, q)
+
+-- and of three
+some_both : {X : Type 0} (o : Option X) (P Q R S : X → Type 0) → ((x : X) → P x → Q x → R x → S x) → IsSomeAnd o P → IsSomeAnd o Q → IsSomeAnd o R → IsSomeAnd o S
+some_both None P Q R S each p q r = absurd p
+some_both (Some x) P Q R S each p q r = each x p q r
+
+-- ---- time goes on
+
+module _ (a b : Told) (goes : KeepsPast a b) where
+  settled_before : (t attempt : ℕ) (pair : Image) → t ≤ a.moment → IsSettledAt b t attempt pair → IsSettledAt a t attempt pair
+  settled_before t attempt pair le is = (is.0, sym (goes.lending t attempt le) ∙ is.1)
+
+  settled_later : (t attempt : ℕ) (pair : Image) → t ≤ a.moment → IsSettledAt a t attempt pair → IsSettledAt b t attempt pair
+  settled_later t attempt pair le is = (is.0, goes.lending t attempt le ∙ is.1)
+
+  served_later : (answered : ℕ) (image : Image) (job : Job) → answered ≤ a.moment → IsServedAs a answered image job → IsServedAs b answered image job
+  served_later answered image job le is = record {
+    pair = is.pair;
+    settled = settled_later answered job.attempt is.pair le is.settled;
+    mapping = is.mapping;
+    prefix = is.prefix;
+    slot = is.slot;
+    has = is.has;
+    live = is.live;
+    horizon = is.horizon;
+    length = is.length;
+    rows = is.rows;
+    mapping_is = is.mapping_is;
+  }
+
+  judged_later : (answered : ℕ) (behind : Image) (phase : Phase) (records : Records) (job : Job) (reaped : Reaped) (x : Exchange) → answered ≤ a.moment → IsJudgedAs a answered behind phase records job reaped x → IsJudgedAs b answered behind phase records job reaped x
+  judged_later answered behind phase records job reaped x le is = record {
+    attempt = is.attempt;
+    concluded = is.concluded;
+    commit = is.commit;
+    here = is.here;
+    number = is.number;
+    judged = λ pair settled. is.judged pair (settled_before answered job.attempt pair le settled);
+    settled = (is.settled.0, settled_later answered job.attempt is.settled.0 le is.settled.1);
+    served = λ floor left e. served_later answered behind job le (is.served floor left e);
+  }
+
+  possible_later : (t : ℕ) (image : Image) → t ≤ a.moment → IsPossible a t image → IsPossible b t image
+  possible_later t image le possible file = goes.still_left t file (image file) le (possible file)
+
+  possible_before : (t : ℕ) (image : Image) → t ≤ a.moment → IsPossible b t image → IsPossible a t image
+  possible_before t image le possible file = goes.left t file (image file) le (possible file)
+
+  reads_later : (child : Started) (until : ℕ) → until ≤ a.moment → ReadsSame a child until → ReadsSame b child until
+  reads_later child until le same t after before image possible = same t after before image (possible_before t image (omega (arith, before, le)) possible)
+
+  watched_later : (old : Told) (text : Bytes) (since : ℕ) (s : State) (last : Option Started) (x : Exchange) (began answered : ℕ) (image behind : Image) → Watched old a text since s last x began answered image behind → Watched old b text since s last x began answered image behind
+  watched_later old text since s last x began answered image behind was =
+      let early : began ≤ a.moment = (let le = was.later in let now = was.by_now in omega (arith, le, now)) in
+      record {
+        over = was.over;
+        later = was.later;
+        by_now = (let now = was.by_now in let later = goes.later in omega (arith, now, later));
+        said_then = goes.said began early ∙ was.said_then;
+        unsaid = goes.said answered was.by_now ∙ was.unsaid;
+        possible = possible_later began image early was.possible;
+        stands = was.stands;
+        left = possible_later answered behind was.by_now was.left;
+        stands_behind = was.stands_behind;
+        judged = λ reaped ended. some_more last _ _ (λ child is. judged_later answered behind s.phase was.stands.standing.records child.job reaped x was.by_now is) (was.judged reaped ended);
+        reads = λ order held. some_more last _ _ (λ child is. (reads_later child began early is.0, λ none. reads_later child answered was.by_now (is.1 none))) (was.reads order held);
+      }
+
+-- ---- what a child may read
+
+same_itself : (job : Job) (image : Image) → IsSameFor job image image
+same_itself job image = record { chunks = λ at low high. refl; mapping = λ some. refl; prefix = λ some. refl }
+
+-- the job is of the slot that was live
+same_for : (slot : Slot) (job : Job) (then held image : Image) → IsJobOf slot job → IsSameFor job then held → SameSpace slot held image → IsSameFor job then image
+same_for slot job then held image of same space = record {
+  chunks = λ at low high. subst (λ (size : ℕ). chunk_byte size image at ≡ chunk_byte size held at) (sym of.chunk) (space.chunks at (let e = of.old_horizon in omega (arith, low, e)) (let e = of.end in omega (arith, high, e))) ∙ same.chunks at low high;
+  mapping = λ some. subst (λ (n : ℕ). image (Mapping n) ≡ held (Mapping n)) (sym of.live) (space.mapping (λ none. some (of.live ∙ none))) ∙ same.mapping some;
+  prefix = λ some. subst (λ (n : ℕ). image (Prefix n) ≡ held (Prefix n)) (sym of.live) (space.prefix (λ none. some (of.live ∙ none))) ∙ same.prefix some;
+}
+
+abbrev pub Going : Option Collection → Option Started → Type 0
+Going collection last = IfSome collection (λ c. IsSomeAnd last (λ child. child.job ≡ c.job))
+
+pub none_going : (collection : Option Collection) → collection ≡ None → Going collection None
+none_going collection is = subst (λ (o : Option Collection). Going o None) (sym is) tt
+
+-- of a run so far: a child that is held reads the same up to now
+-- of a child that is held, from when it was started up to now, and now
+abbrev pub ReadsNow : Told → Started → Type 0
+ReadsNow told child = ReadsSame told child told.moment × IsSameFor child.job child.image told.held × (child.from ≤ told.moment)
+
+abbrev Reads : Told → State → Option Started → Type 0
+Reads told s last = IsHeldIn s → IsSomeAnd last (λ child. ReadsNow told child)
+
+held_some : (s : State) (collection : Option Collection) → s.phase ≡ phase_of collection → IsHeldIn s → IsSomeAnd collection (λ c. c.exit ≡ None)
+held_some s None phase held = absurd (cc (sym held.1 ∙ phase))
+held_some s (Some c) phase held = (let same : Phase.Collecting held.0 None ≡ Phase.Collecting c.commit c.exit = sym held.1 ∙ phase in sym (ap exit_kept same))
+
+jobs_in : (store : Store) (r : Repository) → IsOf store r → IfSome store.collection (λ c. IsJobOf store.slot c.job)
+jobs_in store r tables = by store.collection tables.phase
+  where
+    by : (o : Option Collection) → IsPhaseOf store.slot r o → IfSome o (λ c. IsJobOf store.slot c.job)
+    by None is = tt
+    by (Some c) is = is.told
+
+-- ---- one exchange
+
+module _ (a b : Told) (goes : KeepsPast a b) (s : State) (before now : Option Collection) (slot slot' : Slot) (x : Exchange) (w : Watches a b s before now slot slot' x) (last : Option Started) (going : Going before last) where
+  -- that of the collection
+  by_going : (P : Job → Type 0) → IsSomeAnd before (λ c. P c.job) → IsSomeAnd last (λ child. P child.job)
+  by_going P is = some_by before (λ c. IsSomeAnd last (λ child. child.job ≡ c.job)) (λ c. P c.job) _ (λ c started p. some_more last (λ child. child.job ≡ c.job) (λ child. P child.job) (λ child same. subst P (sym same) p) started) going is
+
+  -- and its slot's
+  job_there : IsHeldIn s → IsSomeAnd last (λ child. IsJobOf slot child.job)
+  job_there held = by_going (IsJobOf slot) (some_more before _ _ (λ c both. both.0) (some_with before (λ c. IsJobOf slot c.job) (λ c. c.exit ≡ None) w.job (held_some s before w.phase held)))
+
+  -- while the command runs
+  reads_on : NothingPending a → (child : Started) → IsJobOf slot child.job → ReadsNow a child → ((reaped : Reaped) → x.turn.met.child ≢ Child.Ended reaped) → ReadsSame b child w.answered
+  reads_on order child of same none t after le image possible = elim (cases_lt a.moment t) [
+    | inl late ↦ same_for slot child.job child.image a.held image of same.1 (w.space order none t late le image possible)
+    | inr soon ↦ same.0 t after soon image (possible_before a b goes t image soon possible)
+  ]
+
+  -- what it reads when the command is answered
+  reads_behind : NothingPending a → (child : Started) → IsJobOf slot child.job → ReadsNow a child → ((reaped : Reaped) → x.turn.met.child ≢ Child.Ended reaped) → IsSameFor child.job child.image w.behind
+  reads_behind order child of same none = same_for slot child.job child.image a.held w.behind of same.1 (elim (cases_lt a.moment w.answered) [
+    | inl late ↦ w.space order none w.answered late (omega arith) w.behind w.left
+    | inr still ↦
+        let moment : w.answered ≡ a.moment = (let le = w.later in omega (arith, still, le)) in
+        pending_space a order slot w.has w.behind (possible_before a b goes a.moment w.behind (omega arith) (subst (λ (t : ℕ). IsPossible b t w.behind) moment w.left))
+  ])
+
+  -- and its reply is said
+  reads_said : NothingPending a → (child : Started) → IsJobOf slot' child.job → IsSameFor child.job child.image w.behind → ReadsSame b child w.answered → ReadsSame b child b.moment
+  reads_said order child of same early t after le image possible = elim (cases_lt w.answered t) [
+    | inl late ↦ same_for slot' child.job child.image w.behind image of same (w.saying order t late le image possible)
+    | inr soon ↦ early t after soon image possible
+  ]
+
+  abbrev Found : Option Started → Type 0
+  Found o = IsSomeAnd o (λ child. ReadsNow b child)
+
+  -- of the child that is held behind it
+  reads_then : GoesOnBy x.started before now → NothingPending a → Reads a s last → Reads b x.after (last_started w.answered w.behind x.started last)
+  reads_then goes_on order reads held = by now refl (held_some x.after now w.phase_behind held) goes_on w.job_behind
+    where
+      unheard : (reaped : Reaped) → x.turn.met.child ≢ Child.Ended reaped
+      unheard = w.unheard held
+
+      -- it was started now
+      first : (c : Collection) → IsJobOf slot' c.job → Found (Some (record { job = c.job; from = w.answered; image = w.behind }))
+      first c of =
+          let child : Started = record { job = c.job; from = w.answered; image = w.behind } in
+          let same = same_itself c.job w.behind in
+          (reads_said order child of same (λ t after le image possible. absurd (omega (arith, after, le))), same_for slot' c.job w.behind w.behind b.held of same (w.held order), w.by_now)
+
+      -- it was held before
+      next : (c : Collection) → IsJobOf slot' c.job → (child : Started) → child.job ≡ c.job → IsJobOf slot child.job → ReadsNow a child → ReadsNow b child
+      next c of child same of_before was =
+          let behind = reads_behind order child of_before was unheard in
+          let of_then = subst (IsJobOf slot') (sym same) of in
+          let early = was.2 in
+          let le = w.later in
+          let now = w.by_now in
+          (reads_said order child of_then behind (reads_on order child of_before was unheard), same_for slot' child.job child.image w.behind b.held of_then behind (w.held order), omega (arith, early, le, now))
+
+      held_before : (c d : Collection) → before ≡ Some d → d.exit ≡ None → IsHeldIn s
+      held_before c d is none = (d.commit, w.phase ∙ (ap phase_of is ∙ ap (Phase.Collecting d.commit) none))
+
+      going_on : (c : Collection) → IsJobOf slot' c.job → c.exit ≡ None → (o : Option Collection) → before ≡ o → IsSomeAnd o (λ d. (c.commit ≡ d.commit) × (c.job ≡ d.job) × (c.exit ≡ None → d.exit ≡ None)) → Found last
+      going_on c of none None is same = absurd same
+      going_on c of none (Some d) is same =
+          let there = held_before c d is (same.2 none) in
+          let started = subst (λ (o : Option Collection). Going o last) is going in
+          some_both last (λ child. child.job ≡ d.job) (λ child. IsJobOf slot child.job) (λ child. ReadsNow a child) _ (λ child job of_before was. next c of child (job ∙ sym same.1) of_before was) started (job_there there) (reads there)
+
+      by : (o : Option Collection) → now ≡ o → IsSomeAnd o (λ c. c.exit ≡ None) → GoesOnBy x.started before o → IfSome o (λ c. IsJobOf slot' c.job) → Found (last_started w.answered w.behind x.started last)
+      by None is none goes_on of = absurd none
+      by (Some c) is none (inl started) of = subst (λ (jobs : List Job). Found (last_started w.answered w.behind jobs last)) (sym started) (first c of)
+      by (Some c) is none (inr (nothing, same)) of = subst (λ (jobs : List Job). Found (last_started w.answered w.behind jobs last)) (sym nothing) (going_on c of none before refl same)
+
+  -- an exchange that began at the moment of which this is told
+  watched_of : (old : Told) (text : Bytes) (since : ℕ) → since ≤ a.moment → said a ≡ text → (NothingPending old → NothingPending a) → (NothingPending old → Reads a s last) → Watched old b text since s last x a.moment w.answered a.held w.behind
+  watched_of old text since over all calm reads = record {
+    over = over;
+    later = w.later;
+    by_now = w.by_now;
+    said_then = goes.said a.moment (omega arith) ∙ all;
+    unsaid = w.unsaid ∙ all;
+    possible = w.possible;
+    stands = w.stands;
+    left = w.left;
+    stands_behind = w.stands_behind;
+    judged = λ reaped ended. by_going (λ job. IsJudgedAs b w.answered w.behind s.phase w.stands.standing.records job reaped x) (w.judged reaped ended);
+    reads = λ order held. some_both last (λ child. IsJobOf slot child.job) (λ child. ReadsNow a child) (λ child. Unit {0}) _
+        (λ child of was u. (reads_later a b goes child a.moment (omega arith) was.0, λ none. reads_on (calm order) child of was none)) (job_there held) (reads order held) (some_more last _ _ (λ child was. tt) (reads order held));
+  }
+
+-- ---- what is said
+
+pub texts_same : (xs : List Exchange) → texts_in xs ≡ texts_by reply_text xs
+texts_same [] = refl
+texts_same (x ∷ xs) = ap (λ (t : Bytes). reply_text x.reply ++ t) (texts_same xs)
+
+pub none_said : (xs : List Exchange) → texts_by says_nothing xs ≡ []
+none_said [] = refl
+none_said (x ∷ xs) = none_said xs
+
+-- ---- one exchange more
+
+pub watched_more : (says : Reply → Bytes) (old a b : Told) → KeepsPast a b → (text : Bytes) (since : ℕ) (s : State) (last : Option Started) (xs : List Exchange) (end : Option Started) (before now : Option Collection) (slot slot' : Slot) (x : Exchange) → AllWatched says old a text since s last xs end → since ≤ a.moment → said a ≡ text ++ texts_by says xs
+    → Going before end → (NothingPending old → NothingPending a) → (NothingPending old → Reads a (after_all s xs) end) → (w : Watches a b (after_all s xs) before now slot slot' x) → AllWatched says old b text since s last (xs ++ x ∷ []) (last_started w.answered w.behind x.started end)
+watched_more says old a b goes text since s last [] end before now slot slot' x was over all going calm reads w =
+    let going_last = subst (λ (o : Option Started). Going before o) was going in
+    let reads_last = λ (order : NothingPending old). subst (Reads a s) was (reads order) in
+    (a.moment, w.answered, a.held, w.behind, watched_of a b goes s before now slot slot' x w last going_last old text since over (all ∙ append-nil text) calm reads_last, ap (last_started w.answered w.behind x.started) was)
+watched_more says old a b goes text since s last (y ∷ xs) end before now slot slot' x was over all going calm reads w = (
+  was.0,
+  was.1,
+  was.2,
+  was.3,
+  watched_later a b goes old text since s last y was.0 was.1 was.2 was.3 was.4,
+  watched_more says old a b goes (text ++ says y.reply) was.1 y.after (last_started was.1 was.3 y.started last) xs end before now slot slot' x was.5 was.4.by_now (all ∙ sym (append_assoc text (says y.reply) (texts_by says xs))) going calm reads w,
+)
+
+-- none more, while time goes on
+pub watched_along : (says : Reply → Bytes) (old a b : Told) → KeepsPast a b → (text : Bytes) (since : ℕ) (s : State) (last : Option Started) (xs : List Exchange) (end : Option Started) → AllWatched says old a text since s last xs end → AllWatched says old b text since s last xs end
+watched_along says old a b goes text since s last [] end was = was
+watched_along says old a b goes text since s last (y ∷ xs) end was =
+    (was.0, was.1, was.2, was.3, watched_later a b goes old text since s last y was.0 was.1 was.2 was.3 was.4, watched_along says old a b goes (text ++ says y.reply) was.1 y.after (last_started was.1 was.3 y.started last) xs end was.5)
+
+-- nor has it gone on
+pub ended_same : (a b : Told) → KeepsPast a b → b.moment ≡ a.moment → (last : Option Started) (None_heard : Type 0) → IsSomeAnd last (λ child. ReadsNow a child) → IsSomeAnd last (λ child. ReadsSame b child b.moment × (None_heard → ReadsSame b child b.moment))
+ended_same a b goes same last None_heard is = some_more last _ _ (λ child was.
+    let on : ReadsSame b child b.moment = λ t after le image possible. was.0 t after (omega (arith, le, same)) image (possible_before a b goes t image (omega (arith, le, same)) possible) in
+    (on, λ none. on)) is
+
+-- the last command was cut short
+pub ended_cut : (a b : Told) (goes : KeepsPast a b) → (s : State) (store : Store) (r : Repository) → Holds store a r → s.phase ≡ phase_of store.collection → (last : Option Started) → Going store.collection last → IsHeldIn s → IsSomeAnd last (λ child. ReadsNow a child)
+    → (None_heard : Type 0) → (None_heard → (slot : Slot) → HasLive slot a.held → KeepsSpace slot a b) → IsSomeAnd last (λ child. ReadsSame b child a.moment × (None_heard → ReadsSame b child b.moment))
+ended_cut a b goes s store r holds phase last going held reads None_heard space =
+    some_both last (λ child. IsJobOf store.slot child.job) (λ child. ReadsNow a child) (λ child. Unit {0}) _ (λ child of was u. (reads_later a b goes child a.moment (omega arith) was.0, λ none. on child of was none)) jobs reads (some_more last _ _ (λ child was. tt) reads)
+  where
+    jobs : IsSomeAnd last (λ child. IsJobOf store.slot child.job)
+    jobs = some_by store.collection (λ c. IsSomeAnd last (λ child. child.job ≡ c.job)) (λ c. IsJobOf store.slot c.job) _ (λ c started of. some_more last (λ child. child.job ≡ c.job) (λ child. IsJobOf store.slot child.job) (λ child same. subst (IsJobOf store.slot) (sym same) of) started) going
+        (some_more store.collection _ _ (λ c both. both.0) (some_with store.collection (λ c. IsJobOf store.slot c.job) (λ c. c.exit ≡ None) (jobs_in store r holds.tables) (held_some s store.collection phase held)))
+
+    on : (child : Started) → IsJobOf store.slot child.job → ReadsNow a child → None_heard → ReadsSame b child b.moment
+    on child of was none t after le image possible_then = elim (cases_lt a.moment t) [
+      | inl late ↦ same_for store.slot child.job child.image a.held image of was.1 (space none store.slot (held_has store r a holds) t late le image possible_then)
+      | inr soon ↦ was.0 t after soon image (possible_before a b goes t image soon possible_then)
+    ]
+
+going_more : (answered : ℕ) (image : Image) (jobs : List Job) (last : Option Started) (before now : Option Collection) → Going before last → GoesOnBy jobs before now → Going now (last_started answered image jobs last)
+going_more answered image jobs last before None going goes = tt
+going_more answered image jobs last before (Some c) going (inl started) = subst (λ (js : List Job). IsSomeAnd (last_started answered image js last) (λ child. child.job ≡ c.job)) (sym started) refl
+going_more answered image jobs last before (Some c) going (inr (none, same)) =
+    subst (λ (js : List Job). IsSomeAnd (last_started answered image js last) (λ child. child.job ≡ c.job)) (sym none)
+    (some_by before (λ d. IsSomeAnd last (λ child. child.job ≡ d.job)) (λ d. (c.commit ≡ d.commit) × (c.job ≡ d.job) × (c.exit ≡ None → d.exit ≡ None)) _ (λ d started is. some_more last _ _ (λ child e. e ∙ sym is.1) started) going same)
+
+-- one exchange more of a run
+pub watched_next : (says : Reply → Bytes) (old a b : Told) → KeepsPast old a → KeepsPast a b → (first : State) (xs : List Exchange) (before now : Option Collection) (slot slot' : Slot) (x : Exchange) → IsWatchedTo says old a first xs before → said a ≡ said old ++ texts_by says xs → (NothingPending old → NothingPending a)
+    → after_all first (xs ++ x ∷ []) ≡ x.after → GoesOnBy x.started before now → Watches a b (after_all first xs) before now slot slot' x → IsWatchedTo says old b first (xs ++ x ∷ []) now
+watched_next says old a b past goes first xs before now slot slot' x was all calm after goes_on w = record {
+  last = last_started w.answered w.behind x.started was.last;
+  watched = watched_more says old a b goes (said old) old.moment first None xs was.last before now slot slot' x was.watched past.later all was.going calm was.reads w;
+  going = going_more w.answered w.behind x.started was.last before now was.going goes_on;
+  reads = λ order. subst (λ (t : State). Reads b t (last_started w.answered w.behind x.started was.last)) (sym after) (reads_then a b goes (after_all first xs) before now slot slot' x w was.last was.going goes_on (calm order) (was.reads order));
+}
+
+-- none yet
+pub watched_none : (says : Reply → Bytes) (old now : Told) (first : State) (collection : Option Collection) → collection ≡ None → first.phase ≡ Phase.Idle → IsWatchedTo says old now first [] collection
+watched_none says old now first collection idle calm = record { last = None; watched = refl; going = none_going collection idle; reads = λ order held. absurd (cc (held.1, calm)) }
+
+-- nor ever
+pub watched_unbegun : (says : Reply → Bytes) (is_cut_off is_cut_short : Bool) (old new : Told) (first : State) → first.phase ≡ Phase.Idle → said new ≡ said old → WatchedIn says is_cut_off is_cut_short old new first []
+watched_unbegun says is_cut_off is_cut_short old new first calm quiet = record {
+  whole = [];
+  cut = [];
+  all = refl;
+  one = omega arith;
+  none = λ _. refl;
+  last = None;
+  watched = refl;
+  ended = new.moment;
+  by_now = omega arith;
+  said_then = quiet ∙ sym (append-nil (said old));
+  reads = λ order held. absurd (cc (held.1, calm));
+}
+
+-- the last command was cut off
+pub watched_cut : (says : Reply → Bytes) (is_cut_off is_cut_short : Bool) → is_cut_off ≡ true → (old mid new : Told) → KeepsPast mid new → (first : State) (xs : List Exchange) (x : Exchange) (store : Store) (r : Repository) → IsWatchedTo says old mid first xs store.collection → said mid ≡ said old ++ texts_by says xs → Holds store mid r → (after_all first xs).phase ≡ phase_of store.collection
+    → (is_cut_short ≡ true → NothingPending old → ((reaped : Reaped) → x.turn.met.child ≢ Child.Ended reaped) → (slot : Slot) → HasLive slot mid.held → KeepsSpace slot mid new) → WatchedIn says is_cut_off is_cut_short old new first (xs ++ x ∷ [])
+watched_cut says is_cut_off is_cut_short cut old mid new goes first xs x store r w all holds phase space = record {
+  whole = xs;
+  cut = x ∷ [];
+  all = refl;
+  one = omega arith;
+  none = λ c. absurd (cc (c, cut));
+  last = w.last;
+  watched = watched_along says old mid new goes (said old) old.moment first None xs w.last w.watched;
+  ended = mid.moment;
+  by_now = goes.later;
+  said_then = goes.said mid.moment (omega arith) ∙ all;
+  reads = λ order held. ended_cut mid new goes (after_all first xs) store r holds phase w.last w.going held (w.reads order held) _
+      (λ none slot live. elim none [ inl whole ↦ absurd (cc (whole, cut)) | inr short ↦ space short.0 order (λ reaped ended. short.1 x refl reaped ended) slot live ]);
+}
+
+-- all were answered, and then this was said
+pub watched_all : (says : Reply → Bytes) (is_cut_off is_cut_short : Bool) (old now : Told) (first : State) (xs : List Exchange) (collection : Option Collection) → IsWatchedTo says old now first xs collection → (ended : ℕ) → ended ≤ now.moment → now.said_at ended ≡ said old ++ texts_by says xs → WatchedIn says is_cut_off is_cut_short old now first xs
+watched_all says is_cut_off is_cut_short old now first xs collection w ended le all = record {
+  whole = xs;
+  cut = [];
+  all = append-nil xs;
+  one = omega arith;
+  none = λ _. refl;
+  last = w.last;
+  watched = w.watched;
+  ended = ended;
+  by_now = le;
+  said_then = all;
+  reads = λ order held. some_more w.last _ _ (λ child was. ((λ t after early image possible. was.0 t after (omega (arith, early, le)) image possible), λ none. was.0)) (w.reads order held);
+}
+
+-- where a reply, or more, is said behind it
+pub watches_along : (a mid b : Told) → KeepsPast mid b → (s : State) (before now : Option Collection) (slot slot' : Slot) (x : Exchange) → (NothingPending a → NothingPending mid) → ((file : FileName) → KeepsFile mid b file) → HasLive slot' mid.held → Watches a mid s before now slot slot' x → Watches a b s before now slot slot' x
+watches_along a mid b goes s before now slot slot' x calm stays there w = record {
+  phase = w.phase;
+  phase_behind = w.phase_behind;
+  answered = w.answered;
+  later = w.later;
+  by_now = (let le = w.by_now in let later = goes.later in omega (arith, le, later));
+  unsaid = goes.said w.answered w.by_now ∙ w.unsaid;
+  possible = possible_later mid b goes a.moment a.held (let le = w.by_now in let later = w.later in omega (arith, le, later)) w.possible;
+  stands = w.stands;
+  has = w.has;
+  behind = w.behind;
+  left = possible_later mid b goes w.answered w.behind w.by_now w.left;
+  stands_behind = w.stands_behind;
+  has_behind = w.has_behind;
+  judged = λ reaped ended. some_more before _ _ (λ c is. judged_later mid b goes w.answered w.behind s.phase w.stands.standing.records c.job reaped x w.by_now is) (w.judged reaped ended);
+  job = w.job;
+  job_behind = w.job_behind;
+  space = λ order none t late le image possible. w.space order none t late le image (possible_before mid b goes t image (let now = w.by_now in omega (arith, le, now)) possible);
+  saying = λ order t late le image possible. elim (cases_lt mid.moment t) [
+    | inl then_late ↦ space_on slot' w.behind mid.held image (w.held order) (still_space mid b stays (calm order) slot' there t then_late le image possible)
+    | inr soon ↦ w.saying order t late soon image (possible_before mid b goes t image soon possible)
+  ];
+  held = λ order. space_on slot' w.behind mid.held b.held (w.held order) (stays_space mid b stays (calm order) slot' there);
+  unheard = w.unheard;
+}
+
+-- ---- what a session says
+
+heard_at : (collection : Option Collection) (reaped : Reaped) (ends : List Reaped) (p q : SpawnCounts) → IsSomeAnd collection (λ c. HeardOf c reaped ends p q) → IsSomeAnd collection (λ c. reaped.attempt ≡ c.job.attempt)
+heard_at collection reaped ends p q is = some_more collection (λ c. HeardOf c reaped ends p q) _ (λ c h. h.0) is
+
+-- a line that is no command hears of none, by what it met
+pub heard_by : (rule : Rule) (s s' : Session) (state after : State) (line : Bytes) (difference : Option Difference) (reply : Reply) (jobs : List Job) (ends : List Reaped) (p q : SpawnCounts) → AskedIn s s' line (Ok reply) jobs ends p q → LineStep IsLineOf rule state line (conditions_with s'.met difference) reply after
+    → (reaped : Reaped) → s'.met.child ≡ Child.Ended reaped → IsSomeAnd s.store.collection (λ c. reaped.attempt ≡ c.job.attempt)
+heard_by rule s s' state after line difference reply jobs ends p q asked (inl step) reaped is = heard_at s.store.collection reaped ends p q ((asked.command step.0 step.1).heard reaped is)
+heard_by rule s s' state after line difference reply jobs ends p q asked (inr bad) reaped is =
+    let none : s'.met.child ≡ Child.NotAsked = ap (λ (m : Met). m.child) bad.unasked in
+    absurd (cc (is, none))
+
+module _ (a mid : Told) (s s' : Session) (r : Repository) (v : View) (here : IsWorking a s r v) (line : Bytes) (met : Met) (before behind : TurnCounts) (difference : Option Difference) (jobs : List Job) (ends : List Reaped) (reply : Reply) (after : State) (met_is : met ≡ s'.met) (past : KeepsPast a mid) where
+  abbrev x : Exchange
+  x = exchange_of line met before behind difference jobs ends reply after
+
+  abbrev records : Records
+  records = here.holds.stands.standing.records
+
+  abbrev Concludes : Type 0
+  Concludes = (reaped : Reaped) → s'.met.child ≡ Child.Ended reaped → IsConcluded reaped (conditions_with s'.met difference) reply
+
+  -- what it wrote is served
+  served_of : (c : Collection) → s.store.collection ≡ Some c → (reaped : Reaped) → s'.met.child ≡ Child.Ended reaped → (floor left : ℕ) → reply ≡ Reply.Collected floor left → IsSettledIn mid s s' reply → (q : Repository) (w : View) (behind : IsWorking mid s' q w) → IsServedAs mid mid.moment mid.held c.job
+  served_of c runs reaped heard floor left is settled q w behind =
+      let H = settled c reaped runs heard in
+      let serves = H.serves floor left is in
+      let (floor_is, live, horizon) = H.swapped floor left is in
+      let slot = s'.store.slot in
+      let A = behind.holds.stands.standing in
+      let there : HasLive slot mid.held = held_has s'.store q mid behind.holds in
+      let same : A.slot ≡ slot = one_slot A.slot slot mid.held (record { control = A.control; index = A.index; held = A.held; live = A.live }) there in
+      let G = subst (λ (t : Slot). Generation mid.held (layout_of t) A.rows) same A.generation in
+      let drawn = (subst (IsPhaseOf s.store.slot r) runs here.holds.tables.phase).told.valid.attempt in
+      let some : slot.live ≢ 0 = λ none. omega (arith, drawn, live, none) in
+      let M = G.file some in
+      record {
+        pair = serves.pair;
+        settled = serves.settled;
+        mapping = serves.mapping;
+        prefix = serves.prefix;
+        slot = slot;
+        has = there;
+        live = live;
+        horizon = horizon;
+        length = subst (λ (content : Content). IsSomeAnd content (λ bytes. length bytes ≡ slot.prefix_len)) serves.prefix (subst (λ (n : ℕ). IsSomeAnd (mid.held (Prefix n)) (λ bytes. length bytes ≡ slot.prefix_len)) live (G.prefix some));
+        rows = A.rows;
+        mapping_is = record { end = M.end; file = sym (subst (λ (n : ℕ). mid.held (Mapping n) ≡ serves.pair (Mapping n)) (sym live) serves.mapping) ∙ M.file; count = M.count; numbers = M.numbers; above = M.above; inside = M.inside };
+      }
+
+  judged_of : (c : Collection) → s.store.collection ≡ Some c → (reaped : Reaped) → met.child ≡ Child.Ended reaped → reaped.attempt ≡ c.job.attempt → Concludes → IsJudgedIn a mid s s' r v difference → IsSettledIn mid s s' reply → (q : Repository) (w : View) → IsWorking mid s' q w → IsJudgedAs mid mid.moment mid.held (phase_of (Some c)) records c.job reaped x
+  judged_of c runs reaped ended attempt concluded judged settled q w behind =
+      let collects : Collects a s.store.slot records r c = subst (λ (o : Option Collection). IfSome o (Collects a s.store.slot records r)) runs here.holds.collects in
+      let heard : s'.met.child ≡ Child.Ended reaped = ap (λ (m : Met). m.child) (sym met_is) ∙ ended in
+      record {
+        attempt = attempt;
+        concluded = subst (λ (m : Met). IsConcluded reaped (conditions_with m difference) reply) (sym met_is) (concluded reaped heard);
+        commit = collects.collectable.commit;
+        here = collects.collectable.here;
+        number = ap Some (sym collects.collectable.number);
+        judged = λ pair is. subst (λ (m : Met). IsJudged records c.job.horizon c.job.end c.job.attempt pair (conditions_with m difference)) (sym met_is) (judged here c reaped runs heard pair is);
+        settled = (settled c reaped runs heard).settled;
+        served = λ floor left is. served_of c runs reaped heard floor left is settled q w behind;
+      }
+
+  abbrev Heard : Type 0
+  Heard = (reaped : Reaped) → s'.met.child ≡ Child.Ended reaped → IsSomeAnd s.store.collection (λ c. reaped.attempt ≡ c.job.attempt)
+
+  pub watches_of : KeepsSaid a mid → IsPossibleNow a → IsPossibleNow mid → Heard → Concludes → (IsHeldIn after → (reaped : Reaped) → s'.met.child ≢ Child.Ended reaped)
+      → IsJudgedIn a mid s s' r v difference → IsSettledIn mid s s' reply → KeepsSpaceIn a mid s' → (NothingPending a → NothingPending mid) → (q : Repository) (u : View) → after ≡ state_in s' q u → IsWorking mid s' q u → Watches a mid (state_in s r v) s.store.collection s'.store.collection s.store.slot s'.store.slot x
+  watches_of still possible possible_mid heard concluded unheard judged settled space calm q u after_is behind = record {
+    phase = refl;
+    phase_behind = ap (λ (t : State). t.phase) after_is;
+    answered = mid.moment;
+    later = past.later;
+    by_now = omega arith;
+    unsaid = said_now a mid past still;
+    possible = λ file. possible_later a mid past a.moment a.held (omega arith) (λ other. possible other) file;
+    stands = here.holds.stands;
+    has = held_has s.store r a here.holds;
+    behind = mid.held;
+    left = λ file. possible_mid file;
+    stands_behind = subst (λ (t : State). StandsFor mid.held t.repository) (sym after_is) behind.holds.stands;
+    has_behind = held_has s'.store q mid behind.holds;
+    judged = λ reaped ended. by s.store.collection refl reaped ended (heard reaped (ap (λ (m : Met). m.child) (sym met_is) ∙ ended));
+    job = jobs_in s.store r here.holds.tables;
+    job_behind = jobs_in s'.store q behind.holds.tables;
+    space = λ order none t late le image possible_then. space order (λ reaped ended. none reaped (ap (λ (m : Met). m.child) met_is ∙ ended)) s.store.slot (held_has s.store r a here.holds) t late le image possible_then;
+    saying = λ order t late le image possible_then. absurd (omega (arith, late, le));
+    held = λ order. same_space s'.store.slot mid.held;
+    unheard = λ held reaped ended. unheard held reaped (ap (λ (m : Met). m.child) (sym met_is) ∙ ended);
+  }
+    where
+      by : (o : Option Collection) → s.store.collection ≡ o → (reaped : Reaped) → met.child ≡ Child.Ended reaped → IsSomeAnd s.store.collection (λ c. reaped.attempt ≡ c.job.attempt) → IsSomeAnd s.store.collection (λ c. IsJudgedAs mid mid.moment mid.held (phase_of s.store.collection) records c.job reaped x)
+      by None none reaped ended is = absurd (subst (λ (o : Option Collection). IsSomeAnd o (λ c. reaped.attempt ≡ c.job.attempt)) none is)
+      by (Some c) runs reaped ended is =
+          let attempt = subst (λ (o : Option Collection). IsSomeAnd o (λ d. reaped.attempt ≡ d.job.attempt)) runs is in
+          subst (λ (o : Option Collection). IsSomeAnd o (λ d. IsJudgedAs mid mid.moment mid.held (phase_of o) records d.job reaped x)) (sym runs) (judged_of c runs reaped ended attempt concluded judged settled q u behind)

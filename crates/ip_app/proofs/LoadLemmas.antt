@@ -1,0 +1,369 @@
+-- A load that goes on by a line, and how it ends.
+--     loaded_first      no line was run.      loaded_more      one more
+--     script_here, script_end      which line comes next
+--     loads_unopened      the store could not be opened, or memory was wanting.      loads_cut      a line was cut short.      loads_said      all were run, and the summary said, or a part of it
+--     load_ends      which statuses need a fault
+use Rattle.std.specs.Prelude.{◌≢◌, ◌⊎◌}
+use Rattle.std.proofs.Common.{true, false, ◌≡◌, inl, inr, ℕ, zero, suc, ◌+◌, ◌-◌, ◌<◌, ◌≤◌, Bool, List, [], ◌∷◌, ◌++◌, length, map, take, drop, codes, refl, sym, ap, ap₂, ◌∙◌, subst, arith, append_assoc, IsTrue, Option, None}
+use Rattle.std.proofs.lemmas.List.{map-append}
+use Rattle.ip_ground.specs.declared.names.FileName.TheVariants.{Control}
+use Rattle.ip_spawn.specs.Children as spawn
+use Rattle.ip_spawn.specs.declared.spawner.SpawnCounts.{SpawnCounts}
+use Rattle.ip_ground.specs.Told.{Told, said, SyncsOnly, Only}
+use Rattle.ip_ground.proofs.Spans.{said_now}
+use Rattle.ip_image.specs.declared.counts.TurnCounts.{TurnCounts}
+use Rattle.ip_image.specs.Standing.{StandsFor}
+use Rattle.ip_image.specs.Pending.{NothingPending}
+use Rattle.ip_image.proofs.DamageLaws.{not_damaged}
+use Rattle.ip_image.proofs.OneRepository.{one_repository}
+use Rattle.ip_spec.specs.Path.{Bytes}
+use Rattle.ip_spec.specs.Merge.{Rule}
+use Rattle.ip_spec.specs.Load.{load_line, lines_from}
+use Rattle.ip_spec.specs.Load.{summary as summary_of}
+use Rattle.ip_spec.specs.View.{View, no_view}
+use Rattle.ip_spec.specs.Repository.{Repository, no_repository}
+use Rattle.ip_spec.specs.Machine.{State, opened}
+use Rattle.ip_spec.specs.Text.{reply_text}
+use Rattle.ip_spec.specs.declared.reply.Reply.{Reply}
+use Rattle.ip_merge.specs.Rules.{IsDecisive}
+use Rattle.ip_store.specs.Opening.{RecoversOnceOpen}
+use Rattle.ip_session.specs.declared.session.Session.{Session}
+use Rattle.ip_session.specs.Session.{IsServing, IsWorking, state_in}
+use Rattle.ip_summary.specs.declared.summary.Summary.{Summary}
+use Rattle.ip_summary.specs.Tally.{Tallies}
+use Rattle.ip_app.specs.declared.statuses.Status.{Status}
+use Rattle.ip_app.specs.declared.statuses.Status.TheVariants as status
+use Rattle.ip_app.specs.Exchanges.{Exchange, answer_of, after_all, lines_in, texts_in}
+use Rattle.ip_app.specs.Exchanging.{is_cut_short, OnlyRemovals, CountsServing, Begun, Exchanged, Replied, CutShort, CutsShort, Trace}
+use Rattle.ip_app.specs.Loading.{load_script, replies_in, load_text, LoadHeadline, SaysSummary, LoadRow, LoadRun, Loads, LoadsWhereAllIsWell}
+use Rattle.ip_app.specs.Loaded.{QuietRun, Loaded, Summed, FinishesLoad}
+use Rattle.ip_app.specs.Outside.{Outside, Tells, Knows, GoesOn, IsUnasked}
+use Rattle.ip_app.specs.Judged.{Watches, IsWatchedTo, texts_by, says_nothing}
+use Rattle.ip_app.specs.Places.{PlacesIn}
+use Rattle.ip_app.specs.Turns.{turn_counts}
+use Rattle.ip_app.specs.Run.{CouldNotOpen, IsUntouched, Begins, Row, IsBehindOpening, AsksChildren}
+use Rattle.ip_app.specs.Serving.{CountsOf}
+use Rattle.ip_app.proofs.Counting.{removals_on, removals_same, serving_of, serving_on}
+use Rattle.ip_app.proofs.Judging.{none_said, watched_none, watched_unbegun, watched_next, watched_cut, watched_all}
+use Rattle.ip_app.proofs.LivePair.{owns_pending}
+use Rattle.ip_app.proofs.Moments.{headline_none}
+use Rattle.ip_app.proofs.LoadMoments.{quiet_first, quiet_more, headline_quiet, headline_said}
+use Rattle.ip_app.proofs.RanOn.{append_nil, after_more, ran_more, ran_first, trace_more, let_go_as, LetsGoAs, goes_on_gone, notes_of, asks_of, notes_none, asks_none, happen_all, happen_cut, placed_all, placed_cut, keeps_unchanged}
+use Rattle.ip_app.proofs.RunLemmas.{stands_open}
+use Rattle.ip_app.proofs.SameFiles.{stands_after}
+use Rattle.ip_app.proofs.TurnLemmas.{short_of}
+
+take_front : (xs ys : List Exchange) → take (length xs) (xs ++ ys) ≡ xs
+take_front [] ys = refl
+take_front (x ∷ xs) ys = ap (λ (zs : List Exchange). x ∷ zs) (take_front xs ys)
+
+drop_front : (xs ys : List Exchange) → drop (length xs) (xs ++ ys) ≡ ys
+drop_front [] ys = refl
+drop_front (x ∷ xs) ys = drop_front xs ys
+
+-- ---- line by line
+
+pub loaded_first : (rule : Rule) (decisive : Bool) → (IsTrue decisive → IsDecisive rule) → (seed : ℕ) (old now : Outside) (counts : TurnCounts) (s : Session) (summary : Summary) (r : Repository) (v : View) → v ≡ no_view → (known : (b : Bool) × (Knows decisive old → IsTrue b) × (IsTrue b → Knows decisive old)) → IsServing s → state_in s r v ≡ opened r
+    → (Tells old → IsWorking now.told s r v) → (Tells old → StandsFor old.told.held r) → (opening : IsTrue old.ground_tells → RecoversOnceOpen old.told now.told) → ((tells : Tells old) → (opening tells.0).since ≤ now.told.moment)
+    → counts ≡ turn_counts old.counts old.spawns → now.counts ≡ old.counts → IsUnasked old now → s.store.collection ≡ None → old.held ≡ None → now.read_faults ≡ old.read_faults → GoesOn old now → (IsTrue old.ground_tells → SyncsOnly (Only Control) old.told now.told) → now.turns ≡ old.turns → now.left ≡ old.left → Tallies summary []
+    → Loaded rule decisive seed seed 0 old now counts s summary
+loaded_first rule decisive by_rule seed old now counts s summary r v none_known known serving begun working began opening over counted no_fault unasked idle alone reads g f turns left tallies = record {
+  known = known.0;
+  exchanges = [];
+  first = r;
+  repository = r;
+  view = v;
+  slot = s.store.slot;
+  ran = ran_first rule decisive by_rule old now counts s r v none_known known serving begun working began opening counted no_fault unasked idle alone reads g f turns;
+  watched = λ is. watched_none says_nothing old.told now.told (opened r) s.store.collection idle refl;
+  no_fault = removals_same old.counts now.counts no_fault;
+  lines_then = λ more. let n : 0 + more ≡ more = omega arith in ap (lines_from seed 1) n;
+  count = refl;
+  tallies = tallies;
+  left = left;
+  said = λ is. let only = f (known.2 is).0.0 in said_now old.told now.told only.changes.goes only.changes.said;
+  opened_at = λ is. (opening (known.2 is).0.0).since;
+  over = λ is. over (known.2 is).0;
+  quiet = λ is order. let told = (known.2 is).0.0 in quiet_first _ old.told now.told (opened r) (headline_none old.told now.told (f told) (opening told) r (began (known.2 is).0) order);
+}
+
+module _ (rule : Rule) (decisive : Bool) (seed state number : ℕ) (old mid : Outside) (counts : TurnCounts) (s : Session) (summary : Summary) (h : Loaded rule decisive seed state number old mid counts s summary) where
+  lines_more : (line : Bytes) (x : Exchange) → x.line ≡ line → (load_line state (number + 1)).0 ≡ line → (more : ℕ) → lines_from seed 1 ((number + 1) + more) ≡ lines_in (h.exchanges ++ x ∷ []) ++ lines_from (load_line state (number + 1)).1 ((number + 1) + 1) more
+  lines_more line x same is more =
+      let n : (number + 1) + more ≡ number + suc more = omega arith in
+      let next : suc (number + 1) ≡ (number + 1) + 1 = omega arith in
+      let rest : List Bytes = lines_from (load_line state (number + 1)).1 (suc (number + 1)) more in
+      let front : lines_in (h.exchanges ++ x ∷ []) ≡ lines_in h.exchanges ++ (load_line state (number + 1)).0 ∷ [] = map-append (λ x. x.line) h.exchanges (x ∷ []) ∙ ap (λ (l : Bytes). lines_in h.exchanges ++ l ∷ []) (same ∙ sym is) in
+      ap (lines_from seed 1) n ∙ (h.lines_then (suc more) ∙ (sym (append_assoc (lines_in h.exchanges) ((load_line state (number + 1)).0 ∷ []) rest) ∙ (ap (λ (f : List Bytes). f ++ rest) (sym front) ∙ ap (λ (k : ℕ). lines_in (h.exchanges ++ x ∷ []) ++ lines_from (load_line state (number + 1)).1 k more) next)))
+
+  -- nothing was said so far
+  silent : IsTrue h.known → said mid.told ≡ said old.told ++ texts_by says_nothing h.exchanges
+  silent is = h.said is ∙ (sym (append_nil (said old.told)) ∙ ap (λ (t : Bytes). said old.told ++ t) (sym (none_said h.exchanges)))
+
+  watched_on : (new : Outside) (counts' : TurnCounts) (s' : Session) (after : Repository) (view : View) (x : Exchange) → Exchanged rule h.known mid new counts counts' s s' h.repository h.view x after view → IsTrue h.known → IsWatchedTo says_nothing old.told new.told (opened h.first) (h.exchanges ++ x ∷ []) s'.store.collection
+  watched_on new counts' s' after view x t is = watched_next says_nothing old.told mid.told new.told (h.ran.trace.files is).goes (t.begun.files is).goes (opened h.first) h.exchanges s.store.collection s'.store.collection s.store.slot s'.store.slot x (h.watched is) (silent is) (h.ran.nothing_pending is) (after_more (opened h.first) h.exchanges x) t.goes_on_by
+      (subst (λ (state : State). Watches mid.told new.told state s.store.collection s'.store.collection s.store.slot s'.store.slot x) (h.ran.now_at is) (t.watches is))
+
+  pub loaded_more : (new : Outside) (text : Bytes) (counts' : TurnCounts) (s' : Session) (summary' : Summary) (state' : ℕ) → (t : Replied rule h.known mid new (load_line state (number + 1)).0 text counts counts' s s' h.repository h.view) → new.left ≡ mid.left → state' ≡ (load_line state (number + 1)).1
+      → ((reply : Reply) → text ≡ reply_text reply → Tallies summary' (replies_in h.exchanges ++ reply ∷ [])) → Loaded rule decisive seed state' (number + 1) old new counts' s' summary'
+  loaded_more new text counts' s' summary' state' t left next tallies =
+      let x = t.exchange in
+      let goes = t.exchanged.begun in
+      subst (λ (k : ℕ). Loaded rule decisive seed k (number + 1) old new counts' s' summary') (sym next) (record {
+        known = h.known;
+        exchanges = h.exchanges ++ x ∷ [];
+        first = h.first;
+        repository = t.after;
+        view = t.view;
+        slot = h.slot;
+        ran = ran_more rule decisive h.known h.exchanges h.first h.repository h.view h.slot old mid new counts counts' s s' x t.after t.view h.ran h.no_fault t.exchanged;
+        watched = λ is. watched_on new counts' s' t.after t.view x t.exchanged is;
+        no_fault = removals_on old.counts mid.counts new.counts h.no_fault t.no_fault;
+        lines_then = lines_more (load_line state (number + 1)).0 x t.line_is refl;
+        count = one_longer h.exchanges x ∙ ap (λ (n : ℕ). n + 1) h.count;
+        tallies = subst (λ (replies : List Reply). Tallies summary' replies) (sym (map-append (λ x. x.reply) h.exchanges (x ∷ []))) (tallies x.reply t.text_is);
+        left = left ∙ h.left;
+        said = λ is. said_now mid.told new.told (goes.files is).goes (t.quiet is) ∙ h.said is;
+        opened_at = h.opened_at;
+        over = λ is. let was = h.over is in let later = (goes.files is).goes.later in omega (arith, was, later);
+        quiet = λ is order. quiet_more (h.opened_at is) old.told mid.told new.told (opened h.first) h.exchanges x (h.quiet is order) (goes.files is).goes (h.over is) (h.said is) h.repository (ap (λ (state : State). state.repository) (h.ran.now_at is))
+            t.after (ap (λ (state : State). state.repository) (sym (t.exchanged.now_at is))) (t.quiet is) (t.atomic is (h.ran.nothing_pending is order));
+      })
+    where
+      one_longer : (xs : List Exchange) (x : Exchange) → length (xs ++ x ∷ []) ≡ length xs + 1
+      one_longer [] x = refl
+      one_longer (y ∷ xs) x = let e = one_longer xs x in omega (arith, e)
+
+  -- ---- which line comes next
+
+  pub script_here : (count : ℕ) → number < count → (rest : List Bytes) × (load_script seed count ≡ lines_in h.exchanges ++ (load_line state (number + 1)).0 ∷ rest)
+  script_here count l =
+      let more : ℕ = count - (number + 1) in
+      let n : count ≡ number + suc more = omega (arith, l) in
+      let tail = lines_from (load_line state (number + 1)).1 (suc (number + 1)) more in
+      (tail ++ codes "stat" ∷ [], ap (λ (k : ℕ). lines_from seed 1 k ++ codes "stat" ∷ []) n ∙ (ap (λ (ls : List Bytes). ls ++ codes "stat" ∷ []) (h.lines_then (suc more)) ∙ append_assoc (lines_in h.exchanges) ((load_line state (number + 1)).0 ∷ tail) (codes "stat" ∷ [])))
+
+  pub script_end : (count : ℕ) → number ≡ count → load_script seed count ≡ lines_in h.exchanges ++ codes "stat" ∷ []
+  script_end count e =
+      let n : count ≡ number + 0 = omega (arith, e) in
+      ap (λ (k : ℕ). lines_from seed 1 k ++ codes "stat" ∷ []) n ∙ ap (λ (ls : List Bytes). ls ++ codes "stat" ∷ []) (h.lines_then 0 ∙ append_nil (lines_in h.exchanges))
+
+  -- the files stood for one repository at most when the run began
+  of_opened : (behind : Type 0) (since : ℕ) (last : Outside) (xs : List Exchange) (text : Bytes) → StandsFor old.told.held h.first → (r : Repository) → StandsFor old.told.held r → since ≤ last.told.moment → LoadHeadline since old.told last.told (opened h.first) (map answer_of xs) text
+      → (since : ℕ) × (behind → since ≤ last.told.moment) × LoadHeadline since old.told last.told (opened r) (map answer_of xs) text
+  of_opened behind since last xs text began r stands reached run = (since, λ b. reached, subst (λ (q : Repository). LoadHeadline since old.told last.told (opened q) (map answer_of xs) text) (one_repository old.told.held h.first r began stands) run)
+
+  known_so : IsTrue old.ground_tells → IsTrue decisive → NothingPending old.told → IsTrue h.known
+  known_so b d order = h.ran.trace.known_so ((b, owns_pending old.told order), d)
+
+  -- ---- a line was cut short
+
+  cut_by : (count : ℕ) (s' : Status) (new : Outside) (line : Bytes) (counts' : TurnCounts) → is_cut_short s' ≡ true → ((xs : List Exchange) → Begins s' old (opened h.first) xs) → ((spawned : spawn.Told) (held : Option ℕ) (spawns : SpawnCounts) → LoadRow decisive s' old (let_go_as new spawned held spawns)) → (s' ≢ status.Done) × (s' ≢ status.SayFault)
+      → (u : CutShort rule s' h.known mid new line counts counts' (state_in s h.repository h.view)) → new.left ≡ mid.left → (rest : List Bytes) → load_script seed count ≡ lines_in h.exchanges ++ line ∷ rest
+      → (spawned : spawn.Told) (held : Option ℕ) (spawns : SpawnCounts) → LetsGoAs new spawned held spawns → Loads rule decisive seed count old (let_go_as new spawned held spawns) s'
+  cut_by count s' new line counts' cut begins row others u left rest script spawned held spawns gone =
+      let first = opened h.first in
+      let x = u.exchange in
+      let xs = h.exchanges ++ x ∷ [] in
+      let trace = trace_more rule decisive h.known h.exchanges h.first old mid new counts counts' (state_in s h.repository h.view) x h.ran.trace h.no_fault h.ran.now_at u.begun in
+      record {
+        exchanges = xs;
+        first = first;
+        run = record {
+          goes_on = goes_on_gone old new spawned held spawns gone.later trace.goes_on;
+          left = left ∙ h.left;
+          begins = begins xs;
+          first_is = refl;
+          replies = record {
+            begun = (rest, script ∙ (sym (append_assoc (lines_in h.exchanges) (line ∷ []) rest) ∙ ap (λ (front : List Bytes). front ++ rest) (ap (λ (l : Bytes). lines_in h.exchanges ++ l ∷ []) (sym u.line_is) ∙ sym (map-append (λ x. x.line) h.exchanges (x ∷ [])))), λ behind whole. absurd (cc (cut, whole)));
+            run = λ b. trace.run (h.ran.trace.known_so b);
+            placed = λ b slot live. subst (λ (cut_off : Bool). PlacesIn rule cut_off slot first xs) (sym cut) (placed_cut rule decisive h.known h.exchanges h.first h.repository h.view h.slot old mid counts s x h.ran b slot live);
+            watched = λ b. let is = h.ran.trace.known_so b in watched_cut says_nothing (is_cut_short s') (is_cut_short s') cut old.told mid.told new.told (u.begun.files is).goes first h.exchanges x s.store h.repository (h.watched is) (silent is) (h.ran.working is).holds (sym h.ran.phase)
+                (λ short order none slot live. u.space is (h.ran.nothing_pending is order) none slot live);
+            said = λ b. let is = h.ran.trace.known_so b in record {
+              part = [];
+              rest = load_text count xs;
+              text_is = refl;
+              said_is = said_now mid.told new.told (u.begun.files is).goes (u.quiet is) ∙ (h.said is ∙ sym (append_nil (said old.told)));
+              whole = λ done. absurd (others.0 done);
+              none = λ _ _. refl;
+            };
+          };
+          reopens = record {
+            any_moment = λ b d r stands order. let is = known_so b d order in of_opened (IsBehindOpening s' xs) (h.opened_at is) new xs (load_text count xs) (h.ran.trace.began (h.ran.trace.tells is)) r stands
+                (let was = h.over is in let later = (u.begun.files is).goes.later in omega (arith, was, later))
+                (headline_quiet (h.opened_at is) old.told new.told first (map answer_of xs) (load_text count xs) (quiet_more (h.opened_at is) old.told mid.told new.told first h.exchanges x (h.quiet is order) (u.begun.files is).goes (h.over is) (h.said is)
+                h.repository (ap (λ (state : State). state.repository) (h.ran.now_at is)) x.after.repository refl (u.quiet is) (u.atomic is (h.ran.nothing_pending is order))));
+            again = λ b d may. let is = known_so b d may.nothing_pending in u.again is (h.ran.nothing_pending is may.nothing_pending);
+            stands = λ b whole began. absurd (cc (cut, whole));
+            files = λ b. trace.files (h.ran.trace.known_so b);
+          };
+          notes = notes_of rule decisive h.known xs h.first s' old new counts' trace (serving_on s' old.counts mid.counts new.counts h.no_fault u.counted) spawned held spawns gone;
+          row = row spawned held spawns;
+        };
+        children = subst (λ (cut_off : Bool). AsksChildren cut_off old (let_go_as new spawned held spawns) xs) (sym cut) (asks_of rule decisive h.known xs h.first true old new counts' trace (happen_cut h.exchanges x h.ran.phases) spawned held spawns gone);
+      }
+
+  pub loads_cut : (count : ℕ) (s' : Status) (new : Outside) (line : Bytes) (counts' : TurnCounts) → CutsShort rule s' h.known mid new line counts counts' (state_in s h.repository h.view) → new.left ≡ mid.left → (rest : List Bytes) → load_script seed count ≡ lines_in h.exchanges ++ line ∷ rest
+      → (spawned : spawn.Told) (held : Option ℕ) (spawns : SpawnCounts) → LetsGoAs new spawned held spawns → Loads rule decisive seed count old (let_go_as new spawned held spawns) s'
+  loads_cut count status.GroundFault new line counts' u = cut_by count status.GroundFault new line counts' refl (λ xs. inr h.ran.trace.began) (λ spawned held spawns. tt) ((λ e. absurd (cc e)), (λ e. absurd (cc e))) u
+  loads_cut count (status.DamagedRecord at) new line counts' u = cut_by count (status.DamagedRecord at) new line counts' refl (λ xs. h.ran.trace.began) (λ spawned held spawns b. u.1 (h.ran.trace.known_so b)) ((λ e. absurd (cc e)), (λ e. absurd (cc e))) u.0
+  loads_cut count (status.DamagedName at want got) new line counts' u = cut_by count (status.DamagedName at want got) new line counts' refl (λ xs. h.ran.trace.began) (λ spawned held spawns b. u.1 (h.ran.trace.known_so b)) ((λ e. absurd (cc e)), (λ e. absurd (cc e))) u.0
+  loads_cut count status.Done new line counts' u = absurd u
+  loads_cut count status.Usage new line counts' u = absurd u
+  loads_cut count status.NoStore new line counts' u = absurd u
+  loads_cut count (status.Damaged file at) new line counts' u = absurd u
+  loads_cut count status.DamagedJob new line counts' u = absurd u
+  loads_cut count status.ReadFault new line counts' u = absurd u
+  loads_cut count status.SayFault new line counts' u = absurd u
+  loads_cut count status.Memory new line counts' u = absurd u
+  loads_cut count (status.Limit bound) new line counts' u = absurd u
+  loads_cut count status.Unfinished new line counts' u = absurd u
+  loads_cut count status.Exists new line counts' u = absurd u
+
+  -- ---- all lines were run
+
+  -- what is said then
+  text_is : (count : ℕ) (x : Exchange) → number ≡ count → load_text count (h.exchanges ++ x ∷ []) ≡ summary_of count (replies_in h.exchanges) ++ reply_text x.reply
+  text_is count x e = subst (λ (n : ℕ). summary_of count (replies_in (take n (h.exchanges ++ x ∷ []))) ++ texts_in (drop n (h.exchanges ++ x ∷ [])) ≡ summary_of count (replies_in h.exchanges) ++ reply_text x.reply) (h.count ∙ e)
+      (ap₂ (λ (xs ys : List Exchange). summary_of count (replies_in xs) ++ texts_in ys) (take_front h.exchanges (x ∷ [])) (drop_front h.exchanges (x ∷ [])) ∙ ap (λ (t : Bytes). summary_of count (replies_in h.exchanges) ++ t) (append_nil (reply_text x.reply)))
+
+  said_by : (count : ℕ) (s' : Status) (new : Outside) (counts' : TurnCounts) (session : Session) → is_cut_short s' ≡ false → (s' ≢ status.Done → s' ≡ status.SayFault) → ((xs : List Exchange) → Begins s' old (opened h.first) xs) → ((spawned : spawn.Told) (held : Option ℕ) (spawns : SpawnCounts) → LoadRow decisive s' old (let_go_as new spawned held spawns)) → number ≡ count
+      → (u : Summed rule s' h.known mid new (summary_of count (replies_in h.exchanges)) counts counts' s session h.repository h.view) → new.left ≡ mid.left
+      → (spawned : spawn.Told) (held : Option ℕ) (spawns : SpawnCounts) → LetsGoAs new spawned held spawns → Loads rule decisive seed count old (let_go_as new spawned held spawns) s'
+  said_by count s' new counts' session cut others begins row all u left spawned held spawns gone =
+      let first = opened h.first in
+      let x = u.exchange in
+      let xs = h.exchanges ++ x ∷ [] in
+      let goes = u.exchanged.begun in
+      let ran = ran_more rule decisive h.known h.exchanges h.first h.repository h.view h.slot old mid new counts counts' s session x u.after u.view h.ran h.no_fault u.exchanged in
+      let text = text_is count x all in
+      record {
+        exchanges = xs;
+        first = first;
+        run = record {
+          goes_on = goes_on_gone old new spawned held spawns gone.later ran.trace.goes_on;
+          left = left ∙ h.left;
+          begins = begins xs;
+          first_is = refl;
+          replies = record {
+            begun = ([], script_end count all ∙ (ap (λ (l : Bytes). lines_in h.exchanges ++ l ∷ []) (sym u.line_is) ∙ (sym (map-append (λ x. x.line) h.exchanges (x ∷ [])) ∙ sym (append_nil (lines_in xs)))), λ behind whole. refl);
+            run = λ b. ran.trace.run (h.ran.trace.known_so b);
+            placed = placed_all (is_cut_short s') rule decisive h.known xs h.first u.after u.view h.slot old new counts' session ran;
+            watched = λ b. let is = h.ran.trace.known_so b in let w = u.exchanged.watches is in watched_all says_nothing (is_cut_short s') (is_cut_short s') old.told new.told first xs session.store.collection (watched_on new counts' session u.after u.view x u.exchanged is) w.answered w.by_now
+                (w.unsaid ∙ (h.said is ∙ (sym (append_nil (said old.told)) ∙ ap (λ (t : Bytes). said old.told ++ t) (sym (none_said xs)))));
+            said = λ b. let is = h.ran.trace.known_so b in let p = u.part is in record {
+              part = p.0;
+              rest = p.1;
+              text_is = p.2 ∙ sym text;
+              said_is = p.3 ∙ ap (λ (t : Bytes). t ++ p.0) (h.said is);
+              whole = u.whole is;
+              none = λ done fault. absurd (fault (others done));
+            };
+          };
+          reopens = record {
+            any_moment = λ b d r stands order. let is = known_so b d order in of_opened (IsBehindOpening s' xs) (h.opened_at is) new xs (load_text count xs) (h.ran.trace.began (h.ran.trace.tells is)) r stands
+                (let was = h.over is in let later = (goes.files is).goes.later in omega (arith, was, later))
+                (subst (λ (t : Bytes). LoadHeadline (h.opened_at is) old.told new.told first (map answer_of xs) t) (sym text) (headline_said (h.opened_at is) old.told mid.told new.told first h.exchanges x (h.quiet is order) (goes.files is).goes (h.over is) (h.said is)
+                h.repository (ap (λ (state : State). state.repository) (h.ran.now_at is)) u.after (ap (λ (state : State). state.repository) (sym (u.exchanged.now_at is))) _ (u.turning is (h.ran.nothing_pending is order))));
+            again = λ b d may. let is = known_so b d may.nothing_pending in record { repository = u.after; stands = (u.exchanged.working is).holds.stands; nothing_pending = ran.nothing_pending is may.nothing_pending };
+            stands = λ b whole began. let is = h.ran.trace.known_so b in subst (λ (state : State). StandsFor new.told.held state.repository) (ran.now_at is) (u.exchanged.working is).holds.stands;
+            files = λ b. ran.trace.files (h.ran.trace.known_so b);
+          };
+          notes = notes_of rule decisive h.known xs h.first s' old new counts' ran.trace (serving_on s' old.counts mid.counts new.counts h.no_fault u.counted) spawned held spawns gone;
+          row = row spawned held spawns;
+        };
+        children = asks_of rule decisive h.known xs h.first (is_cut_short s') old new counts' ran.trace (happen_all (is_cut_short s') xs ran.phases) spawned held spawns gone;
+      }
+
+  pub loads_said : (count : ℕ) (s' : Status) (new : Outside) (counts' : TurnCounts) (session : Session) → FinishesLoad rule s' h.known mid new (summary_of count (replies_in h.exchanges)) counts counts' s session h.repository h.view → number ≡ count → new.left ≡ mid.left
+      → (spawned : spawn.Told) (held : Option ℕ) (spawns : SpawnCounts) → LetsGoAs new spawned held spawns → Loads rule decisive seed count old (let_go_as new spawned held spawns) s'
+  loads_said count status.Done new counts' session u all left = said_by count status.Done new counts' session refl (λ other. absurd (other refl)) (λ xs. h.ran.trace.began) (λ spawned held spawns. tt) all u left
+  loads_said count status.SayFault new counts' session u all left = said_by count status.SayFault new counts' session refl (λ other. refl) (λ xs. h.ran.trace.began) (λ spawned held spawns. tt) all u left
+  loads_said count status.GroundFault new counts' session u all left = loads_cut count status.GroundFault new (codes "stat") counts' u left [] (script_end count all)
+  loads_said count (status.DamagedRecord at) new counts' session u all left = loads_cut count (status.DamagedRecord at) new (codes "stat") counts' u left [] (script_end count all)
+  loads_said count (status.DamagedName at want got) new counts' session u all left = loads_cut count (status.DamagedName at want got) new (codes "stat") counts' u left [] (script_end count all)
+  loads_said count status.Usage new counts' session u all left = absurd u
+  loads_said count status.NoStore new counts' session u all left = absurd u
+  loads_said count (status.Damaged file at) new counts' session u all left = absurd u
+  loads_said count status.DamagedJob new counts' session u all left = absurd u
+  loads_said count status.ReadFault new counts' session u all left = absurd u
+  loads_said count status.Memory new counts' session u all left = absurd u
+  loads_said count (status.Limit bound) new counts' session u all left = absurd u
+  loads_said count status.Unfinished new counts' session u all left = absurd u
+  loads_said count status.Exists new counts' session u all left = absurd u
+
+-- ---- no line was run
+
+loads_none : (rule : Rule) (decisive : Bool) (seed count : ℕ) (old new : Outside) (s : Status) → GoesOn old new → (IsTrue old.ground_tells → SyncsOnly (Only Control) old.told new.told) → (IsTrue old.ground_tells → RecoversOnceOpen old.told new.told) → new.left ≡ old.left → new.turns ≡ old.turns → IsUnasked old new → new.read_faults ≡ old.read_faults
+    → (IsBehindOpening s [] → ⊥) → (s ≡ status.Done → ⊥) → Begins s old (opened no_repository) [] → CountsOf s old.counts new.counts → LoadRow decisive s old new → Loads rule decisive seed count old new s
+loads_none rule decisive seed count old new s g f opening left turns unasked reads unopened undone begins counted row =
+    let first = opened no_repository in
+    let quiet : IsTrue old.ground_tells → said new.told ≡ said old.told = λ b. said_now old.told new.told (f b).changes.goes (f b).changes.said in
+    record {
+      exchanges = [];
+      first = first;
+      run = record {
+        goes_on = g;
+        left = left;
+        begins = begins;
+        first_is = refl;
+        replies = record {
+          begun = (load_script seed count, refl, λ behind whole. absurd (unopened behind));
+          run = λ told. tt;
+          placed = λ told slot live. record { whole = []; cut = []; all = refl; one = omega arith; none = λ _. refl; last = slot; view = no_view; places = (refl, refl) };
+          watched = λ told. watched_unbegun says_nothing (is_cut_short s) (is_cut_short s) old.told new.told first refl (quiet told.0.0);
+          said = λ b. record { part = []; rest = load_text count []; text_is = refl; said_is = quiet b.0.0 ∙ sym (append_nil (said old.told)); whole = λ done. absurd (undone done); none = λ _ _. refl };
+        };
+        reopens = record {
+          any_moment = λ b d r stands order. ((opening b).since, λ behind. absurd (unopened behind), headline_quiet (opening b).since old.told new.told (opened r) [] (load_text count []) (quiet_first (opening b).since old.told new.told (opened r) (headline_none old.told new.told (f b) (opening b) r stands order)));
+          again = λ b d may. record { repository = may.repository; stands = stands_after old.told new.told (f b) (owns_pending old.told may.nothing_pending) may.repository may.stands; nothing_pending = (opening b).nothing_pending may.nothing_pending };
+          stands = λ b whole h. stands_after old.told new.told (f b.0.0) b.0.1 first.repository h;
+          files = λ b. keeps_unchanged old.told new.told (f b.0.0);
+        };
+        notes = notes_none s old new turns reads unopened (serving_of s old.counts new.counts counted);
+        row = row;
+      };
+      children = asks_none (is_cut_short s) old new unasked;
+    }
+
+-- the store could not be opened
+pub loads_unopened : (rule : Rule) (decisive : Bool) (seed count : ℕ) (old new : Outside) (s : Status) → GoesOn old new → (IsTrue old.ground_tells → SyncsOnly (Only Control) old.told new.told) → (IsTrue old.ground_tells → RecoversOnceOpen old.told new.told) → new.left ≡ old.left → new.turns ≡ old.turns → IsUnasked old new → new.read_faults ≡ old.read_faults
+    → CouldNotOpen s old.ground_tells old.told → CountsOf s old.counts new.counts → Loads rule decisive seed count old new s
+loads_unopened rule decisive seed count old new s g f opening left turns unasked reads could_not counted = by_status s could_not counted
+  where
+    untouched : IsUntouched old new []
+    untouched = record { none_taken = refl; left = left; said_nothing = λ told. said_now old.told new.told (f told).changes.goes (f told).changes.said; only = f; turns = turns; unasked = unasked }
+
+    by_status : (s : Status) → CouldNotOpen s old.ground_tells old.told → CountsOf s old.counts new.counts → Loads rule decisive seed count old new s
+    by_status status.NoStore h n = loads_none rule decisive seed count old new status.NoStore g f opening left turns unasked reads (λ b. b) (λ e. absurd (cc e)) refl n (untouched, h)
+    by_status (status.Damaged file at) h n = loads_none rule decisive seed count old new (status.Damaged file at) g f opening left turns unasked reads (λ b. b) (λ e. absurd (cc e)) refl n (untouched, λ tells. h tells.0 tells.1)
+    by_status status.GroundFault h n = loads_none rule decisive seed count old new status.GroundFault g f opening left turns unasked reads (λ some. some refl) (λ e. absurd (cc e)) (inl refl) n tt
+    by_status status.Memory h n = loads_none rule decisive seed count old new status.Memory g f opening left turns unasked reads (λ b. b) (λ e. absurd (cc e)) refl n untouched
+    by_status status.Done h n = absurd h
+    by_status status.Usage h n = absurd h
+    by_status (status.DamagedRecord at) h n = absurd h
+    by_status (status.DamagedName at want got) h n = absurd h
+    by_status status.DamagedJob h n = absurd h
+    by_status status.ReadFault h n = absurd h
+    by_status status.SayFault h n = absurd h
+    by_status (status.Limit bound) h n = absurd h
+    by_status status.Unfinished h n = absurd h
+    by_status status.Exists h n = absurd h
+
+-- its row, or what was counted, excludes each status but two
+pub load_ends : (decisive : Bool) → IsTrue decisive → (s : Status) (old new : Outside) → LoadRow decisive s old new → CountsServing s old.counts new.counts → LoadsWhereAllIsWell old new s
+load_ends decisive sure status.Done old new r n told stands calm = inl refl
+load_ends decisive sure status.Memory old new r n told stands calm = inr refl
+load_ends decisive sure status.Unfinished old new r n told stands calm = absurd r
+load_ends decisive sure (status.Limit b) old new r n told stands calm = absurd r
+load_ends decisive sure status.ReadFault old new r n told stands calm = absurd r
+load_ends decisive sure status.DamagedJob old new r n told stands calm = absurd r
+load_ends decisive sure status.Usage old new r n told stands calm = absurd r
+load_ends decisive sure status.Exists old new r n told stands calm = absurd r
+load_ends decisive sure status.NoStore old new r n told stands calm = absurd (stands_open old.told.held stands.0 stands.1 (r.1 told.0))
+load_ends decisive sure (status.Damaged file at) old new r n told stands calm = absurd (not_damaged old.told.held stands.1.standing file at (r.1 told))
+load_ends decisive sure (status.DamagedRecord at) old new r n told stands calm = absurd (r (told, sure))
+load_ends decisive sure (status.DamagedName at want got) old new r n told stands calm = absurd (r (told, sure))
+load_ends decisive sure status.SayFault old new r n told stands calm = absurd (calm.say n.rose)
+load_ends decisive sure status.GroundFault old new r n told stands calm = absurd (calm.file n.rose)

@@ -1,0 +1,260 @@
+-- A run of the machine that goes on by an exchange, and how it ends.
+--     append_nil, after_more, run_more, places_more      of lists of exchanges
+--     told_before, goes_on_then, keeps_unchanged, told_none      of what is told before and behind
+--     trace_more, ran_more      one exchange more.      ran_first      none yet.      said_along      a reply is said behind it
+--     let_go_as, LetsGoAs, goes_on_gone      the child that is held is let go.      notes_of, asks_of      what was noted, and asked of the spawner.      notes_none, asks_none      where no command was begun
+--     places_in      where its records came to lie, from the slot that was live
+use Rattle.std.specs.Prelude.{◌≢◌, IfSome}
+use Rattle.std.proofs.Common.{true, ◌≡◌, inl, inr, ℕ, ◌≤◌, Bool, false, List, [], ◌∷◌, ◌++◌, length, refl, sym, ap, ap₂, ◌∙◌, subst, arith, append_assoc, length-append, map, IsTrue, All, take, drop, Option, Some, None, Result}
+use Rattle.std.proofs.lemmas.Bool.{cases_lt}
+use Rattle.std.proofs.lemmas.List.{map-append, take-append-drop}
+use Rattle.std.proofs.lemmas.List.Elements.{All-append, All-cons, All-nil}
+use Rattle.ip_ground.specs.declared.names.FileName.TheVariants.{Control}
+use Rattle.ip_ground.specs.declared.names.Reaped.{Reaped}
+use Rattle.ip_spawn.specs.Children as spawn
+use Rattle.ip_spawn.specs.declared.spawner.SpawnCounts.{SpawnCounts}
+use Rattle.ip_ground.specs.Counts.{Rose}
+use Rattle.ip_ground.specs.Told.{Told, said, ChangesOnly, SyncsOnly, Only, NoFile}
+use Rattle.ip_ground.proofs.Spans.{said_now, lending_now}
+use Rattle.ip_ground.proofs.Rising.{none_falls_on}
+use Rattle.ip_image.specs.declared.counts.TurnCounts.{TurnCounts}
+use Rattle.ip_image.specs.declared.slot.Slot.{Slot}
+use Rattle.ip_image.specs.Slot.{live_index}
+use Rattle.ip_image.specs.Standing.{StandsFor, NoStore}
+use Rattle.ip_image.specs.Pending.{HasLive, NothingPending}
+use Rattle.ip_image.proofs.HeadlineLaws.{headline_later, one_slot}
+use Rattle.ip_image.proofs.OneRepository.{one_repository}
+use Rattle.ip_spec.specs.Path.{Bytes, line_feed}
+use Rattle.ip_spec.specs.Merge.{Rule}
+use Rattle.ip_ground.specs.Contents.{Image, Content, bytes_of}
+use Rattle.ip_spec.specs.View.{View, no_view}
+use Rattle.ip_spec.specs.Repository.{Repository, no_repository}
+use Rattle.ip_spec.specs.Machine.{State, Phase, opened}
+use Rattle.ip_merge.specs.Rules.{IsDecisive}
+use Rattle.ip_spec.specs.Line.{IsLineOf}
+use Rattle.ip_spec.specs.Script.{whole_lines, LineStep}
+use Rattle.ip_spec.specs.Text.{reply_text}
+use Rattle.ip_store.specs.declared.collection.Unswept.{Unswept}
+use Rattle.ip_store.specs.Opening.{RecoversOnceOpen}
+use Rattle.ip_store.specs.Collecting.{phase_of, child_of}
+use Rattle.ip_store.specs.Sweeping.{KeepsFiles}
+use Rattle.ip_store.proofs.KeptFiles.{keeps_on, keeps_store, keeps_custody, stays_goes}
+use Rattle.ip_store.proofs.Recovering.{held_has}
+use Rattle.ip_session.specs.declared.session.Session.{Session}
+use Rattle.ip_session.specs.Session.{IsServing, IsWorking, state_in}
+use Rattle.ip_app.specs.declared.turn_log.Turn.{Turn}
+use Rattle.ip_app.specs.declared.statuses.Status.{Status}
+use Rattle.ip_app.specs.Exchanges.{Exchange, conditions, answer_of, Run, after_all, lines_in, turns_in, texts_in}
+use Rattle.ip_session.specs.Placing.{PlacedIn}
+use Rattle.ip_session.specs.Session.{IsViewIn}
+use Rattle.ip_app.specs.Places.{Places, PlacesIn, StartsAt, HearsAt}
+use Rattle.ip_app.specs.Happening.{Happens, AllHappen, HappenIn, jobs_in, ends_in}
+use Rattle.ip_app.specs.Turns.{turn_counts, SpawnsLater, IsLater, Follow}
+use Rattle.ip_app.specs.Outside.{Outside, Tells, Knows, GoesOn, IsUnasked}
+use Rattle.ip_app.specs.Run.{IsBehindOpening, Notes, AsksChildren}
+use Rattle.ip_app.proofs.Counting.{spawns_on, still_at, follow_more}
+use Rattle.ip_app.proofs.Happened.{happen_more, told_with, spawned_more}
+use Rattle.ip_app.proofs.LivePair.{live_before}
+use Rattle.ip_app.specs.Exchanging.{OnlyRemovals, CountsServing, Begun, Exchanged, Trace, Ran}
+
+pub after_more : (first : State) (xs : List Exchange) (x : Exchange) → after_all first (xs ++ x ∷ []) ≡ x.after
+after_more first [] x = refl
+after_more first (y ∷ xs) x = after_more y.after xs x
+
+pub run_more : (rule : Rule) (first mid : State) (xs : List Exchange) (x : Exchange) → mid ≡ after_all first xs → Run rule first xs → LineStep IsLineOf rule mid x.line (conditions x) x.reply x.after → Run rule first (xs ++ x ∷ [])
+run_more rule first mid [] x e h s = (subst (λ (t : State). LineStep IsLineOf rule t x.line (conditions x) x.reply x.after) e s, tt)
+run_more rule first mid (y ∷ xs) x e h s = (h.0, run_more rule y.after mid xs x e h.1 s)
+
+pub append_nil : {A : Type 0} (t : List A) → t ++ [] ≡ t
+append_nil [] = refl
+append_nil {A = A} (b ∷ t) = ap (λ (u : List A). b ∷ u) (append_nil t)
+
+pub told_before : (a b : Bool) → a ≡ b → IsTrue b → IsTrue a
+told_before a b e h = subst IsTrue (sym e) h
+
+pub goes_on_then : (a b c : Outside) → GoesOn a b → GoesOn b c → GoesOn a c
+goes_on_then a b c g h = record {
+  source_tells = h.source_tells ∙ g.source_tells;
+  ground_tells = h.ground_tells ∙ g.ground_tells;
+  spawner_tells = h.spawner_tells ∙ g.spawner_tells;
+  log_tells = λ t. g.log_tells (h.log_tells t);
+  read_faults = omega (arith, g.read_faults, h.read_faults);
+  counts = none_falls_on a.counts b.counts c.counts g.counts h.counts;
+  spawns = spawns_on a.spawns b.spawns c.spawns g.spawns h.spawns;
+}
+
+-- while the control file alone may be synced
+pub keeps_unchanged : (a b : Told) → SyncsOnly (Only Control) a b → KeepsFiles a b
+keeps_unchanged a b only = keeps_store a b (Only Control) (λ file is. inl is) only.changes
+
+-- ---- one exchange more
+
+-- one exchange more
+pub places_more : (rule : Rule) (slot : Slot) (s : State) (v : View) (xs : List Exchange) (mid : Slot) (w : View) (x : Exchange) (unswept : Unswept) (last : Slot) (view : View) → Places rule slot s v xs mid w → x.after.work.tree ≡ view.map → IsViewIn (after_all s xs).repository w x.line x.reply view → PlacedIn rule mid unswept last (after_all s xs) w x.line x.reply → StartsAt mid last x → HearsAt mid x → Places rule slot s v (xs ++ x ∷ []) last view
+places_more rule slot s v [] mid w x unswept last view h tree seen placed starts hears = (last, unswept, view, tree, subst (λ (u : View). IsViewIn s.repository u x.line x.reply view) h.1 seen, subst (λ (a : Slot). PlacedIn rule a unswept last s v x.line x.reply) h.0 (subst (λ (u : View). PlacedIn rule mid unswept last s u x.line x.reply) h.1 placed), subst (λ (a : Slot). StartsAt a last x) h.0 starts, subst (λ (a : Slot). HearsAt a x) h.0 hears, (refl, refl))
+places_more rule slot s v (y ∷ xs) mid w x unswept last view h tree seen placed starts hears = (h.0, h.1, h.2, h.3, h.4, h.5, h.6, h.7, places_more rule h.0 y.after h.2 xs mid w x unswept last view h.8 tree seen placed starts hears)
+
+-- One command more was begun. No fault was counted before.
+pub trace_more : (rule : Rule) (decisive known : Bool) (xs : List Exchange) (first : Repository) (old mid new : Outside) (counts counts' : TurnCounts) (state : State) (x : Exchange) → Trace rule decisive known xs first old mid counts → OnlyRemovals old.counts mid.counts
+    → (IsTrue known → state ≡ after_all (opened first) xs) → Begun rule known mid new counts counts' state x → Trace rule decisive known (xs ++ x ∷ []) first old new counts'
+trace_more rule decisive known xs first old mid new counts counts' state x h no_fault at t = record {
+  known_so = h.known_so;
+  tells = h.tells;
+  is_decisive = h.is_decisive;
+  goes_on = goes_on_then old mid new h.goes_on t.goes_on;
+  files = λ g. keeps_on old.told mid.told new.told (h.files g) (t.files g);
+  began = h.began;
+  run = λ g. run_more rule (opened first) state xs x (at g) (h.run g) (t.step g);
+  noted = λ l. t.noted l ∙ (ap (λ u. u ++ x.turn ∷ []) (h.noted (t.goes_on.log_tells l)) ∙ (append_assoc old.turns (turns_in xs) (x.turn ∷ []) ∙ ap (λ u. old.turns ++ u) (sym (map-append (λ x. x.turn) xs (x ∷ [])))));
+  spawned = λ b. spawned_more old.spawned mid.spawned new.spawned xs x (h.spawned b) (t.spawned (told_before _ _ h.goes_on.spawner_tells b));
+  counts_now = t.until;
+  follow = follow;
+  reads = t.reads ∙ h.reads;
+}
+  where
+    follow : Follow (turn_counts old.counts old.spawns) (turns_in (xs ++ x ∷ [])) counts'
+    follow =
+        let start = turn_counts old.counts old.spawns in
+        subst (λ (ts : List Turn). Follow start ts counts') (sym (map-append (λ x. x.turn) xs (x ∷ [])))
+        (subst (λ (e : TurnCounts). Follow start (turns_in xs ++ x.turn ∷ []) e) t.ends_at
+        (follow_more start counts (turns_in xs) x.turn (still_at old.counts mid.counts old.spawns mid.spawns counts h.counts_now no_fault) h.follow t.begins_at t.rises))
+
+-- the session has answered it
+pub ran_more : (rule : Rule) (decisive known : Bool) (xs : List Exchange) (first r : Repository) (v : View) (slot : Slot) (old mid new : Outside) (counts counts' : TurnCounts) (s s' : Session) (x : Exchange) (after : Repository) (view : View)
+    → Ran rule decisive known xs first r v slot old mid counts s → OnlyRemovals old.counts mid.counts → Exchanged rule known mid new counts counts' s s' r v x after view → Ran rule decisive known (xs ++ x ∷ []) first after view slot old new counts' s'
+ran_more rule decisive known xs first r v slot old mid new counts counts' s s' x after view h no_fault t = record {
+  trace = trace_more rule decisive known xs first old mid new counts counts' (state_in s r v) x h.trace no_fault h.now_at t.begun;
+  now_at = λ g. sym (t.now_at g) ∙ sym (after_more (opened first) xs x);
+  live = h.live;
+  places = λ g. places_more rule slot (opened first) no_view xs s.store.slot v x s.store.unswept s'.store.slot view (h.places g) (ap (λ (state : State). state.work.tree) (t.now_at g))
+      (subst (λ (state : State). IsViewIn state.repository v x.line x.reply view) (h.now_at g) (t.seen g))
+      (subst (λ (state : State). PlacedIn rule s.store.slot s.store.unswept s'.store.slot state v x.line x.reply) (h.now_at g) (t.placed g)) (t.starts g) (t.hears g);
+  serving = t.serving;
+  working = t.working;
+  nothing_pending = λ g order. t.nothing_pending g (h.nothing_pending g order);
+  phases = happen_more (opened first) xs x h.phases (subst (λ (phase : Phase). Happens phase x) h.phase t.happens);
+  phase = sym t.phase ∙ sym (ap (λ (state : State). state.phase) (after_more (opened first) xs x));
+  child = t.child;
+}
+
+-- nothing was started, nor reaped
+pub told_none : (told : spawn.Told) → told ≡ told_with (told.started ++ []) (told.reaped ++ [])
+told_none told = ap₂ told_with (sym (append_nil told.started)) (sym (append_nil told.reaped))
+
+-- no line was run yet
+pub ran_first : (rule : Rule) (decisive : Bool) → (IsTrue decisive → IsDecisive rule) → (old now : Outside) (counts : TurnCounts) (s : Session) (r : Repository) (v : View) → v ≡ no_view → (known : (b : Bool) × (Knows decisive old → IsTrue b) × (IsTrue b → Knows decisive old)) → IsServing s → state_in s r v ≡ opened r
+    → (Tells old → IsWorking now.told s r v) → (Tells old → StandsFor old.told.held r) → (IsTrue old.ground_tells → RecoversOnceOpen old.told now.told)
+    → counts ≡ turn_counts old.counts old.spawns → now.counts ≡ old.counts → IsUnasked old now → s.store.collection ≡ None → old.held ≡ None → now.read_faults ≡ old.read_faults → GoesOn old now → (IsTrue old.ground_tells → SyncsOnly (Only Control) old.told now.told) → now.turns ≡ old.turns
+    → Ran rule decisive known.0 [] r r v s.store.slot old now counts s
+ran_first rule decisive by_rule old now counts s r v none_known known serving begun working began opening counted no_fault unasked idle alone reads g f turns = record {
+  trace = record {
+    known_so = known.1;
+    tells = λ is. (known.2 is).0;
+    is_decisive = λ is. by_rule (known.2 is).1;
+    goes_on = g;
+    files = λ is. keeps_unchanged old.told now.told (f (known.2 is).0.0);
+    began = began;
+    run = λ is. tt;
+    noted = λ b. turns ∙ sym (append_nil old.turns);
+    spawned = λ b. unasked.spawned ∙ told_none old.spawned;
+    counts_now = counted ∙ ap₂ turn_counts (sym no_fault) (sym unasked.spawns);
+    follow = counted;
+    reads = reads;
+  };
+  now_at = λ is. begun;
+  live = λ is. live_before old.told now.told (f (known.2 is).0.0).files s.store.slot (held_has s.store r now.told (working (known.2 is).0).holds);
+  places = λ is. (refl, none_known);
+  serving = serving;
+  working = λ is. working (known.2 is).0;
+  nothing_pending = λ is order. (opening (known.2 is).0.0).nothing_pending order;
+  phases = tt;
+  phase = ap phase_of idle;
+  child = unasked.held ∙ (alone ∙ sym (ap child_of idle));
+}
+
+-- ---- how it ends
+
+-- The child that was held is let go at the end.
+abbrev pub let_go_as : Outside → spawn.Told → Option ℕ → SpawnCounts → Outside
+let_go_as new spawned held spawns = record new { spawned = spawned; held = held; spawns = spawns }
+
+pub record LetsGoAs (new : Outside) (spawned : spawn.Told) (held : Option ℕ) (spawns : SpawnCounts) : Type 0 where
+  pub ends : List Reaped
+  pub few : length ends ≤ 1
+  pub told : IsTrue new.spawner_tells → spawned ≡ told_with new.spawned.started (new.spawned.reaped ++ ends)
+  pub none : held ≡ None
+  pub later : SpawnsLater new.spawns spawns
+
+pub goes_on_gone : (old new : Outside) (spawned : spawn.Told) (held : Option ℕ) (spawns : SpawnCounts) → SpawnsLater new.spawns spawns → GoesOn old new → GoesOn old (let_go_as new spawned held spawns)
+goes_on_gone old new spawned held spawns later g = record {
+  source_tells = g.source_tells;
+  ground_tells = g.ground_tells;
+  spawner_tells = g.spawner_tells;
+  log_tells = g.log_tells;
+  read_faults = g.read_faults;
+  counts = g.counts;
+  spawns = spawns_on old.spawns new.spawns spawns g.spawns later;
+}
+
+-- what was started and reaped in these exchanges, and then
+pub told_gone : (old new : Outside) (spawned : spawn.Told) (xs : List Exchange) (ends : List Reaped) → new.spawned ≡ told_with (old.spawned.started ++ jobs_in xs) (old.spawned.reaped ++ ends_in xs) → spawned ≡ told_with new.spawned.started (new.spawned.reaped ++ ends)
+    → spawned ≡ told_with (old.spawned.started ++ jobs_in xs) ((old.spawned.reaped ++ ends_in xs) ++ ends)
+told_gone old new spawned xs ends so then_gone = then_gone ∙ ap (λ (t : spawn.Told). told_with t.started (t.reaped ++ ends)) so
+
+-- what was noted
+pub notes_of : (rule : Rule) (decisive known : Bool) (xs : List Exchange) (first : Repository) (end : Status) (old new : Outside) (counts : TurnCounts) → Trace rule decisive known xs first old new counts → CountsServing end old.counts new.counts
+    → (spawned : spawn.Told) (held : Option ℕ) (spawns : SpawnCounts) → LetsGoAs new spawned held spawns → Notes old (let_go_as new spawned held spawns) end xs
+notes_of rule decisive known xs first end old new counts h counted spawned held spawns gone = record {
+  noted = h.noted;
+  follow = λ behind. (new.spawns, gone.later, subst (λ (e : TurnCounts). Follow (turn_counts old.counts old.spawns) (turns_in xs) e) h.counts_now h.follow);
+  counted = counted;
+  reads = λ other. h.reads;
+}
+
+-- what was asked of the spawner
+pub asks_of : (rule : Rule) (decisive known : Bool) (xs : List Exchange) (first : Repository) (cut_off : Bool) (old new : Outside) (counts : TurnCounts) → Trace rule decisive known xs first old new counts → HappenIn cut_off xs
+    → (spawned : spawn.Told) (held : Option ℕ) (spawns : SpawnCounts) → LetsGoAs new spawned held spawns → AsksChildren cut_off old (let_go_as new spawned held spawns) xs
+asks_of rule decisive known xs first cut_off old new counts h happen spawned held spawns gone = record {
+  happen = happen;
+  spawned = λ b. (gone.ends, gone.few, told_gone old new spawned xs gone.ends (h.spawned b) (gone.told (told_before _ _ h.goes_on.spawner_tells b)));
+  none_held = λ _. gone.none;
+}
+
+-- where no command was begun
+pub notes_none : (end : Status) (old new : Outside) → new.turns ≡ old.turns → new.read_faults ≡ old.read_faults → (IsBehindOpening end [] → ⊥) → CountsServing end old.counts new.counts → Notes old new end []
+notes_none end old new turns reads unopened counted = record {
+  noted = λ b. turns ∙ sym (append_nil old.turns);
+  follow = λ behind. absurd (unopened behind);
+  counted = counted;
+  reads = λ other. reads;
+}
+
+pub asks_none : (cut_off : Bool) (old new : Outside) → IsUnasked old new → AsksChildren cut_off old new []
+asks_none cut_off old new unasked = record {
+  happen = record { whole = []; cut = []; all = refl; one = omega arith; none = λ _. refl; happen = tt };
+  spawned = λ b. ([], omega arith, unasked.spawned ∙ (told_none old.spawned ∙ ap (told_with (old.spawned.started ++ [])) (sym (append_nil (old.spawned.reaped ++ [])))));
+  none_held = λ alone. unasked.held ∙ alone;
+}
+
+-- all of them happened, or all but one that was cut off
+pub happen_all : (cut_off : Bool) (xs : List Exchange) → AllHappen Phase.Idle xs → HappenIn cut_off xs
+happen_all cut_off xs all = record { whole = xs; cut = []; all = append_nil xs; one = omega arith; none = λ _. refl; happen = all }
+
+pub happen_cut : (xs : List Exchange) (x : Exchange) → AllHappen Phase.Idle xs → HappenIn true (xs ++ x ∷ [])
+happen_cut xs x all = record { whole = xs; cut = x ∷ []; all = refl; one = omega arith; none = λ c. absurd (cc c); happen = all }
+
+-- one slot was live when the run began
+placed_from : (rule : Rule) (decisive known : Bool) (xs : List Exchange) (first r : Repository) (v : View) (slot : Slot) (old now : Outside) (counts : TurnCounts) (session : Session) → Ran rule decisive known xs first r v slot old now counts session → Knows decisive old → (live : Slot) → HasLive live old.told.held
+    → Places rule live (opened first) no_view xs session.store.slot v
+placed_from rule decisive known xs first r v slot old now counts session h b live has =
+    let is = h.trace.known_so b in
+    subst (λ (t : Slot). Places rule t (opened first) no_view xs session.store.slot v) (one_slot slot live old.told.held (h.live is) has) (h.places is)
+
+pub placed_all : (cut_off : Bool) (rule : Rule) (decisive known : Bool) (xs : List Exchange) (first r : Repository) (v : View) (slot : Slot) (old now : Outside) (counts : TurnCounts) (session : Session) → Ran rule decisive known xs first r v slot old now counts session → Knows decisive old → (live : Slot) → HasLive live old.told.held
+    → PlacesIn rule cut_off live (opened first) xs
+placed_all cut_off rule decisive known xs first r v slot old now counts session h b live has = record { whole = xs; cut = []; all = append_nil xs; one = omega arith; none = λ _. refl; last = session.store.slot; view = v; places = placed_from rule decisive known xs first r v slot old now counts session h b live has }
+
+-- but for one that was cut off
+pub placed_cut : (rule : Rule) (decisive known : Bool) (xs : List Exchange) (first r : Repository) (v : View) (slot : Slot) (old now : Outside) (counts : TurnCounts) (session : Session) (x : Exchange) → Ran rule decisive known xs first r v slot old now counts session → Knows decisive old → (live : Slot) → HasLive live old.told.held
+    → PlacesIn rule true live (opened first) (xs ++ x ∷ [])
+placed_cut rule decisive known xs first r v slot old now counts session x h b live has = record { whole = xs; cut = x ∷ []; all = refl; one = omega arith; none = λ c. absurd (cc c); last = session.store.slot; view = v; places = placed_from rule decisive known xs first r v slot old now counts session h b live has }

@@ -1,0 +1,182 @@
+-- What a session does with one line: it is run and noted, and its reply's text stands there to be said or counted.
+--     OnlyRemovals old new      no fault was counted but of removals.      CountsServing status old new      what is counted where a run ends so
+--     ended_status end      the status of a session's end.      is_cut_short status      a fault of the ground or of its files cut the last command short
+--     Works rule tells told s r v      the ground tells its content, the session works over it, and the rule of merges is decisive
+--     Begun      a line was begun, and noted.      Exchanged      and the session goes on behind it
+--     Replied      its reply's text is there.      CutShort, CutsShort      it was cut short, and why
+--     Trace      so far: a run of the machine.      Ran      and the repository and the view that the session is in
+-- Of what a session does most is said where it is known to work: where `known` is true. It is for a whole run, from what the ground told at first.
+use Rattle.std.specs.Prelude.{◌≤◌, ◌≡◌, ◌≢◌, Bool, true, false, IsTrue, List, [], ◌∷◌, ◌++◌, Some, None}
+use Rattle.ip_ground.specs.declared.names.GroundCounts.{GroundCounts}
+use Rattle.ip_ground.specs.Counts.{Rose}
+use Rattle.ip_ground.specs.declared.names.Reaped.{Reaped}
+use Rattle.ip_ground.specs.Told.{Told, KeepsSaid, IsPossibleNow}
+use Rattle.ip_image.specs.declared.counts.TurnCounts.{TurnCounts}
+use Rattle.ip_image.specs.declared.slot.Slot.{Slot}
+use Rattle.ip_image.specs.Standing.{StandsFor}
+use Rattle.ip_image.specs.Pending.{HasLive, NothingPending, KeepsSpace}
+use Rattle.ip_image.specs.Headline.{MayServe, IsAtomic}
+use Rattle.ip_spec.specs.declared.met.Child.TheVariants as Child
+use Rattle.ip_spec.specs.Merge.{Rule}
+use Rattle.ip_spec.specs.Path.{Bytes}
+use Rattle.ip_spec.specs.Machine.{State, Phase, opened}
+use Rattle.ip_spec.specs.Repository.{Repository}
+use Rattle.ip_spec.specs.View.{View, no_view}
+use Rattle.ip_merge.specs.Rules.{IsDecisive}
+use Rattle.ip_spec.specs.Line.{IsLineOf}
+use Rattle.ip_spec.specs.Script.{LineStep}
+use Rattle.ip_spec.specs.Text.{reply_text}
+use Rattle.ip_store.specs.Collecting.{phase_of, child_of}
+use Rattle.ip_store.specs.Sweeping.{KeepsFiles}
+use Rattle.ip_session.specs.declared.session.Session.{Session}
+use Rattle.ip_session.specs.declared.session.SessionEnd.{SessionEnd}
+use Rattle.ip_session.specs.Asking.{GoesOnBy}
+use Rattle.ip_session.specs.Placing.{PlacedIn}
+use Rattle.ip_session.specs.Session.{IsServing, IsWorking, state_in, IsViewIn}
+use Rattle.ip_app.specs.declared.statuses.Status.{Status}
+use Rattle.ip_app.specs.Exchanges.{Exchange, conditions, Run, turns_in, after_all}
+use Rattle.ip_app.specs.Happening.{Happens, AllHappen, jobs_in, ends_in}
+use Rattle.ip_app.specs.Judged.{Watches}
+use Rattle.ip_app.specs.Places.{Places, StartsAt, HearsAt}
+use Rattle.ip_app.specs.Turns.{turn_counts, IsLater, Follow}
+use Rattle.ip_app.specs.Outside.{Outside, Tells, Knows, GoesOn}
+
+-- the ground tells its content, the session works over it in this repository, and a merge comes to one thing alone
+abbrev pub Works : Rule → Bool → Told → Session → Repository → View → Type 0
+Works rule tells told s r v = IsTrue tells × IsWorking told s r v × IsDecisive rule
+
+-- ---- how a session ends
+
+-- how a call ends whose session has ended
+abbrev pub ended_status : SessionEnd → Status
+ended_status SessionEnd.Ground = Status.GroundFault
+ended_status (SessionEnd.Damaged at None) = Status.DamagedRecord at
+ended_status (SessionEnd.Damaged at (Some (want, got))) = Status.DamagedName at want got
+
+-- a fault of the ground or of its files cut the last command short
+abbrev pub is_cut_short : Status → Bool
+is_cut_short Status.GroundFault = true
+is_cut_short (Status.DamagedRecord at) = true
+is_cut_short (Status.DamagedName at want got) = true
+is_cut_short _ = false
+
+-- ---- what is counted
+
+-- no fault but of removals, which a sweep passes over
+pub record OnlyRemovals (old new : GroundCounts) : Type 0 where
+  pub file_faults : new.file_faults ≡ old.file_faults
+  pub say_faults : new.say_faults ≡ old.say_faults
+  pub remove_faults : old.remove_faults ≤ new.remove_faults
+
+-- besides those of removals, one of a file, or of output
+pub record AFileFault (old new : GroundCounts) : Type 0 where
+  pub rose : Rose old.file_faults new.file_faults
+  pub say_faults : new.say_faults ≡ old.say_faults
+  pub remove_faults : old.remove_faults ≤ new.remove_faults
+
+pub record ASayFault (old new : GroundCounts) : Type 0 where
+  pub rose : Rose old.say_faults new.say_faults
+  pub file_faults : new.file_faults ≡ old.file_faults
+  pub remove_faults : old.remove_faults ≤ new.remove_faults
+
+abbrev pub CountsServing : Status → GroundCounts → GroundCounts → Type 0
+CountsServing Status.GroundFault old new = AFileFault old new
+CountsServing Status.SayFault old new = ASayFault old new
+CountsServing _ old new = OnlyRemovals old new
+
+-- ---- one line
+
+-- a line was run, or begun, and noted
+pub record Begun (rule : Rule) (known : Bool) (old new : Outside) (counts counts' : TurnCounts) (state : State) (x : Exchange) : Type 0 where
+  pub goes_on : GoesOn old new
+  pub files : IsTrue known → KeepsFiles old.told new.told
+  pub step : IsTrue known → LineStep IsLineOf rule state x.line (conditions x) x.reply x.after
+  pub noted : IsTrue new.log_tells → new.turns ≡ old.turns ++ x.turn ∷ []
+  pub begins_at : x.turn.before ≡ counts
+  pub ends_at : x.turn.after ≡ counts'
+  pub rises : IsLater x.turn.before x.turn.after
+  pub until : counts' ≡ turn_counts new.counts new.spawns
+  pub reads : new.read_faults ≡ old.read_faults
+  -- what was started and reaped in it
+  pub spawned : IsTrue old.spawner_tells → new.spawned ≡ record { started = old.spawned.started ++ x.started; reaped = old.spawned.reaped ++ x.reaped }
+  -- what the files read as when it began is one of the things that a crash might have left
+  pub possible : IsTrue known → IsPossibleNow old.told
+
+-- by a session in a repository, which is in the one after it then
+pub record Exchanged (rule : Rule) (known : Bool) (old new : Outside) (counts counts' : TurnCounts) (s s' : Session) (r : Repository) (v : View) (x : Exchange) (after : Repository) (view : View) : Type 0 where
+  pub begun : Begun rule known old new counts counts' (state_in s r v) x
+  pub now_at : IsTrue known → x.after ≡ state_in s' after view
+  pub seen : IsTrue known → IsViewIn r v x.line x.reply view
+  pub placed : IsTrue known → PlacedIn rule s.store.slot s.store.unswept s'.store.slot (state_in s r v) v x.line x.reply
+  pub starts : IsTrue known → StartsAt s.store.slot s'.store.slot x
+  pub hears : IsTrue known → HearsAt s.store.slot x
+  pub goes_on_by : GoesOnBy x.started s.store.collection s'.store.collection
+  pub watches : IsTrue known → Watches old.told new.told (state_in s r v) s.store.collection s'.store.collection s.store.slot s'.store.slot x
+  pub happens : Happens (phase_of s.store.collection) x
+  pub phase : x.after.phase ≡ phase_of s'.store.collection
+  pub child : new.held ≡ child_of s'.store.collection
+  pub serving : IsServing s'
+  pub working : IsTrue known → IsWorking new.told s' after view
+  pub nothing_pending : IsTrue known → NothingPending old.told → NothingPending new.told
+
+-- nothing was said yet
+pub record Replied (rule : Rule) (known : Bool) (old new : Outside) (line text : Bytes) (counts counts' : TurnCounts) (s s' : Session) (r : Repository) (v : View) : Type 0 where
+  pub exchange : Exchange
+  pub after : Repository
+  pub view : View
+  pub line_is : exchange.line ≡ line
+  pub text_is : text ≡ reply_text exchange.reply
+  pub exchanged : Exchanged rule known old new counts counts' s s' r v exchange after view
+  pub no_fault : OnlyRemovals old.counts new.counts
+  pub quiet : IsTrue known → KeepsSaid old.told new.told
+  pub atomic : IsTrue known → NothingPending old.told → IsAtomic old.told new.told r after
+
+-- A command was cut short: the reply and the state are those that it has where none of its writes fails.
+pub record CutShort (rule : Rule) (status : Status) (known : Bool) (old new : Outside) (line : Bytes) (counts counts' : TurnCounts) (state : State) : Type 0 where
+  pub exchange : Exchange
+  pub line_is : exchange.line ≡ line
+  pub begun : Begun rule known old new counts counts' state exchange
+  -- of the ground a fault was counted, where the status says so, and of no other kind
+  pub counted : CountsServing status old.counts new.counts
+  pub quiet : IsTrue known → KeepsSaid old.told new.told
+  pub atomic : IsTrue known → NothingPending old.told → IsAtomic old.told new.told state.repository exchange.after.repository
+  pub again : IsTrue known → NothingPending old.told → MayServe new.told
+  -- what a child may read stays, where it did not hear of its end
+  pub space : IsTrue known → NothingPending old.told → ((reaped : Reaped) → exchange.turn.met.child ≢ Child.Ended reaped) → (slot : Slot) → HasLive slot old.told.held → KeepsSpace slot old.told new.told
+
+-- files that others changed are met by none that is known to work
+abbrev pub CutsShort : Rule → Status → (known : Bool) → Outside → Outside → Bytes → TurnCounts → TurnCounts → State → Type 0
+CutsShort rule Status.GroundFault known old new line counts counts' state = CutShort rule Status.GroundFault known old new line counts counts' state
+CutsShort rule (Status.DamagedRecord at) known old new line counts counts' state = CutShort rule (Status.DamagedRecord at) known old new line counts counts' state × (¬ IsTrue known)
+CutsShort rule (Status.DamagedName at want got) known old new line counts counts' state = CutShort rule (Status.DamagedName at want got) known old new line counts counts' state × (¬ IsTrue known)
+CutsShort rule status known old new line counts counts' state = ⊥
+
+-- ---- line by line
+
+-- a run of the machine, of which the last command may have been cut off
+pub record Trace (rule : Rule) (decisive known : Bool) (exchanges : List Exchange) (first : Repository) (old now : Outside) (counts : TurnCounts) : Type 0 where
+  pub known_so : Knows decisive old → IsTrue known
+  pub tells : IsTrue known → Tells old
+  pub is_decisive : IsTrue known → IsDecisive rule
+  pub goes_on : GoesOn old now
+  pub files : IsTrue known → KeepsFiles old.told now.told
+  pub began : Tells old → StandsFor old.told.held first
+  pub run : IsTrue known → Run rule (opened first) exchanges
+  pub noted : IsTrue now.log_tells → now.turns ≡ old.turns ++ turns_in exchanges
+  pub spawned : IsTrue old.spawner_tells → now.spawned ≡ record { started = old.spawned.started ++ jobs_in exchanges; reaped = old.spawned.reaped ++ ends_in exchanges }
+  pub counts_now : counts ≡ turn_counts now.counts now.spawns
+  pub follow : Follow (turn_counts old.counts old.spawns) (turns_in exchanges) counts
+  pub reads : now.read_faults ≡ old.read_faults
+
+-- none was, and the session goes on
+pub record Ran (rule : Rule) (decisive known : Bool) (exchanges : List Exchange) (first repository : Repository) (view : View) (slot : Slot) (old now : Outside) (counts : TurnCounts) (session : Session) : Type 0 where
+  pub trace : Trace rule decisive known exchanges first old now counts
+  pub now_at : IsTrue known → state_in session repository view ≡ after_all (opened first) exchanges
+  pub live : IsTrue known → HasLive slot old.told.held
+  pub places : IsTrue known → Places rule slot (opened first) no_view exchanges session.store.slot view
+  pub serving : IsServing session
+  pub working : IsTrue known → IsWorking now.told session repository view
+  pub nothing_pending : IsTrue known → NothingPending old.told → NothingPending now.told
+  pub phases : AllHappen Phase.Idle exchanges
+  pub phase : phase_of session.store.collection ≡ (after_all (opened first) exchanges).phase
+  pub child : now.held ≡ child_of session.store.collection

@@ -1,0 +1,48 @@
+-- What a call does that collects, as the child of a collection.
+--     worked_status worked      the status of what the collector answered.      WorksAs      it is that, over what was told
+--     CountsWorking status old new      the faults that are counted then
+--     Collects job old new status      from what is told when it begins to what is told when it returns
+use Rattle.std.specs.Prelude.{◌≡◌, ◌⊎◌, ◌≤◌, ℕ, Bool, IsTrue, Result, Ok, Err}
+use Rattle.ip_ground.specs.declared.names.GroundCounts.{GroundCounts}
+use Rattle.ip_ground.specs.Counts.{Rose, FileFault, RemoveFault}
+use Rattle.ip_ground.specs.Told.{Told}
+use Rattle.ip_spec.specs.TreeAt.{Records}
+use Rattle.ip_spawn.specs.declared.job.Job.{Job}
+use Rattle.ip_worker.specs.declared.fault.WorkFault.{WorkFault}
+use Rattle.ip_worker.specs.declared.worker.Counts.{Counts}
+use Rattle.ip_worker.specs.Steps.{IsFree}
+use Rattle.ip_worker.specs.Whole.{AreWhole}
+use Rattle.ip_worker.specs.Working.{NothingLent, WritesAttempt, Works}
+use Rattle.ip_app.specs.declared.statuses.Status.{Status}
+use Rattle.ip_app.specs.Outside.{Outside, GoesOn, IsUnasked}
+
+abbrev pub worked_status : Result Counts WorkFault → Status
+worked_status (Ok counts) = Status.Done
+worked_status (Err WorkFault.Ground) = Status.GroundFault
+worked_status (Err WorkFault.Damaged) = Status.DamagedJob
+worked_status (Err WorkFault.Memory) = Status.Memory
+
+-- Where the job's files are whole, and nothing is lent: the valid pair is left where it is done, and they are not told damaged.
+pub record WorksAs (tells : Bool) (job : Job) (old new : Told) (status : Status) : Type 0 where
+  pub worked : Result Counts WorkFault
+  pub status_is : status ≡ worked_status worked
+  pub works : IsTrue tells → (records : Records) → AreWhole old.held job records → NothingLent old → Works records job worked old new
+
+abbrev pub CountsWorking : Status → GroundCounts → GroundCounts → Type 0
+CountsWorking Status.GroundFault old new = FileFault old new ⊎ RemoveFault old new
+CountsWorking _ old new = new ≡ old
+
+pub record Collects (job : Job) (old new : Outside) (status : Status) : Type 0 where
+  pub goes_on : GoesOn old new
+  pub left : new.left ≡ old.left
+  pub read_faults : new.read_faults ≡ old.read_faults
+  pub turns : new.turns ≡ old.turns
+  pub unasked : IsUnasked old new
+  -- at no moment does a file change that is not of the job's attempt, and nothing is said
+  pub only : IsTrue old.ground_tells → IsFree old.told job.attempt → WritesAttempt job old.told new.told
+  pub works : WorksAs old.ground_tells job old.told new.told status
+  -- a fault of a file or of a removal was counted, where the status says so, and of no other kind
+  pub counted : CountsWorking status old.counts new.counts
+  -- where no fault is counted and the job's files are whole, it is done, or memory was wanting
+  pub complete : IsTrue old.ground_tells → (records : Records) → AreWhole old.told.held job records → NothingLent old.told
+      → ¬ Rose old.counts.file_faults new.counts.file_faults → ¬ Rose old.counts.remove_faults new.counts.remove_faults → (status ≡ Status.Done) ⊎ (status ≡ Status.Memory)
