@@ -1,5 +1,13 @@
-//! Tests of collections that begin and are cancelled, by children that go by plans.
+//! Tests of collections: they begin, are cancelled and are finished, by children that go by plans and leave what the worker writes, or something else.
 #![tactic(auto)]
 
+#[cfg(test)]
+mod finishes;
+#[cfg(test)]
+mod orphans;
+#[cfg(test)]
+mod rejected;
+#[cfg(test)]
+mod slices;
 #[cfg(test)]
 mod tests;

@@ -3,35 +3,12 @@ ghost use Rattle.std.specs.Prelude.{◌≡◌, IfOk, None};
 
 use ip_app::{ProgramRules, Silent, Status};
 use ip_bench::{answers_on, bench, init, play_with, serve_with, source};
+use ip_bench_children::names::with_names;
 use ip_ground::{Act, Acts, Bench, Exit, FileName, Ground, Reaped};
 use ip_spawn::{Plan, Scripted, Spawner};
 use std::alloc::{AllocError, Global};
 use std::process::Abort;
 use std::test::Fail;
-
-// Commits by `a` with the message `m`. A has 01 at `a`, the date 0 and no parent, B has 02 there, the date 1 and the parent A, and C has 03, the date 9 and
-// the parent B. D has no parent, the date 7 and 03 at
-// `b` alone, and E has 03 at both, the date 5 and the parents C and D. The name of a tree is the SHA-256 of 02, how many steps, and of each 01, the step, 01 and the
-// SHA-256 of its contents; that of a commit is the SHA-256 of 04, the tree's name, how many parents, their names, the date, 01 61 and 0100 6d.
-const NAMES: [&str; 5] = [
-    "da267306044e5f45350fe52ae5ff610a2ea2c11cca90ab7a85cb3685893e192b",
-    "a1bae207649021af62d8af58d3c0df1395dc1c65b0e8b6a8aa2a580410745e90",
-    "aec78439c3576d5183da6c9171ad24d3d80c131ca4bf39a8af233c0021fd6f62",
-    "26f7c65a2dc5c6f002a209625564fdb8a9890d2b46e6796f17886111382125f2",
-    "4e2e04a83a375e1117d57960c2c62c18b049d903f895d132d406d0c5a1c71e75",
-];
-
-// Each of the letters A to E stands for a commit's name.
-fn with_names(alloc: Global, text: &str) -> Result<String, AllocError> {
-    let mut out = String::new(alloc);
-    for letter in text.chars() {
-        match letter {
-            'A'..='E' => out.push_str(NAMES[letter as usize - 'A' as usize])?,
-            _ => out.push(letter)?,
-        }
-    }
-    Ok(out)
-}
 
 // Two children are planned, and calls of these numbers fail.
 fn children(alloc: Global, fails: &[u64]) -> Result<Scripted, AllocError>

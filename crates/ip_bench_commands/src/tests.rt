@@ -5,10 +5,11 @@ use ip_app::{Bound, Kept, ProgramRules, Silent, Status, run};
 use ip_base::Hash;
 use ip_bench::{
     answers, answers_on, bench, childless, fresh_control, init, play, replies_of, script_of, serve,
-    source, words,
+    source, store_after, words,
 };
-use ip_ground::{FileName, Ground};
+use ip_ground::{Bench, FileName, Ground};
 use ip_script::{Bytes, Source, SourceCounts, SourceFault};
+use std::alloc::Global;
 use std::test::Fail;
 
 const FIRST: &str = "\
@@ -227,6 +228,125 @@ fn a_store_has_chunks_of_the_size_that_is_asked_for(rt: HostRuntime) -> Result<(
     Ok(())
 }
 
+// How a job ends, by the words of the program.
+fn work(alloc: Global, bench: &mut Bench, numbers: &[&str]) -> Result<Status, Fail> {
+    let mut given = words(alloc, &["ipstore", "worker", "mem"])?;
+    for number in numbers {
+        given.push(String::from_str(alloc, number)?)?;
+    }
+    let mut none = source(alloc, b"", &[])?;
+    Ok(run(
+        alloc,
+        &given,
+        &mut none,
+        bench,
+        &mut childless(alloc),
+        &ProgramRules,
+        &mut Silent,
+    ))
+}
+
+// A store of two commits: the second lies at 203, and its records have 328 bytes.
+const SECOND: &[u8] = b"set a 01\ncommit main 0 a m\nset a 02\ncommit main 1 a m\n";
+
+#[test]
+fn a_job_is_done_by_its_words(rt: HostRuntime) -> Result<(), Fail> {
+    let alloc = rt.alloc();
+    let rows: [(&[&str], Status, bool); 5] = [
+        (
+            &["1", "203", "328", "1048576", "0", "0", "0", "0"],
+            Status::Done,
+            true,
+        ),
+        // The chunk has fewer bytes.
+        (
+            &["1", "203", "329", "1048576", "0", "0", "0", "0"],
+            Status::DamagedJob,
+            false,
+        ),
+        // No commit lies there.
+        (
+            &["1", "204", "328", "1048576", "0", "0", "0", "0"],
+            Status::DamagedJob,
+            false,
+        ),
+        // A horizon behind the end, and seven numbers.
+        (
+            &["1", "329", "328", "1048576", "0", "0", "0", "0"],
+            Status::Usage,
+            false,
+        ),
+        (
+            &["1", "203", "328", "1048576", "0", "0", "0"],
+            Status::Usage,
+            false,
+        ),
+    ];
+    for (numbers, status, done) in rows {
+        let mut bench = store_after(alloc, "1048576", SECOND)?;
+        assert_eq!(&rt; work(alloc, &mut bench, numbers)?, status, "{numbers:?}");
+        let length = bench.length(FileName::Done(1));
+        assert_eq!(&rt; length, Ok(if done { Some(8) } else { None }));
+    }
+    Ok(())
+}
+
+#[test]
+fn a_job_whose_call_fails_is_a_disk_fault(rt: HostRuntime) -> Result<(), Fail> {
+    let alloc = rt.alloc();
+    let mut bench = bench(alloc, &[0])?;
+    let numbers = ["1", "203", "328", "1048576", "0", "0", "0", "0"];
+    assert_eq!(&rt; work(alloc, &mut bench, &numbers)?, Status::GroundFault);
+    assert_eq!(&rt; bench.counts().file_faults, 1);
+    Ok(())
+}
+
+// How a load ends over a new store, by the words of the program, and what is said.
+fn load(alloc: Global, seed: &str, count: &str) -> Result<(Status, Vec<u8>), Fail> {
+    let mut bench = bench(alloc, &[])?;
+    let _ = init(alloc, &mut bench)?;
+    let given = words(alloc, &["ipstore", "load", "mem", seed, count])?;
+    let mut none = source(alloc, b"", &[])?;
+    let status = run(
+        alloc,
+        &given,
+        &mut none,
+        &mut bench,
+        &mut childless(alloc),
+        &ProgramRules,
+        &mut Silent,
+    );
+    Ok((status, bench.said(alloc)?))
+}
+
+#[test]
+fn a_load_is_summed_up(rt: HostRuntime) -> Result<(), Fail> {
+    let alloc = rt.alloc();
+    let rows: [(&str, &str, Status, &[u8]); 5] = [
+        (
+            "0",
+            "1",
+            Status::Done,
+            b"load 1 no-branch 1\nstat 0 0 0 idle\n",
+        ),
+        (
+            "1",
+            "1",
+            Status::Done,
+            b"load 1 committed 1\nstat 0 1 1 idle\n",
+        ),
+        ("00", "1", Status::Usage, b""),
+        ("0", "0", Status::Usage, b""),
+        ("0", "1000001", Status::Usage, b""),
+    ];
+    for (seed, count, status, said) in rows {
+        let ends = load(alloc, seed, count)?;
+        assert_eq!(&rt; ends.0, status, "{seed:?} {count:?}");
+        assert_eq!(&rt; ends.1.as_slice(), said);
+    }
+    Ok(())
+}
+
 #[test]
 fn words_that_ask_for_nothing(rt: HostRuntime) -> Result<(), Fail> {
     let alloc = rt.alloc();
@@ -287,7 +407,7 @@ fn each_status_has_a_code_and_a_line(rt: HostRuntime) -> Result<(), Fail> {
         want: Hash([0x0a; 32]),
         got: Hash([0xf0; 32]),
     };
-    let rows: [(Status, u8, &[u8]); 14] = [
+    let rows: [(Status, u8, &[u8]); 15] = [
         (Status::Done, 0, b""),
         (Status::Usage, 2, b"ipstore: usage\n"),
         (Status::NoStore, 3, b"ipstore: no store\n"),
@@ -302,6 +422,7 @@ fn each_status_has_a_code_and_a_line(rt: HostRuntime) -> Result<(), Fail> {
             4,
             b"ipstore: damaged name 9 0a0a0a0a0a0a0a0a0a0a0a0a0a0a0a0a0a0a0a0a0a0a0a0a0a0a0a0a0a0a0a0a f0f0f0f0f0f0f0f0f0f0f0f0f0f0f0f0f0f0f0f0f0f0f0f0f0f0f0f0f0f0f0f0\n",
         ),
+        (Status::DamagedJob, 4, b"ipstore: damaged job\n"),
         (Status::ReadFault, 5, b"ipstore: read fault\n"),
         (Status::SayFault, 6, b"ipstore: write fault\n"),
         (Status::GroundFault, 7, b"ipstore: disk fault\n"),

@@ -100,29 +100,6 @@ fn a_commit_stands_when_the_store_is_opened_again(rt: HostRuntime) -> Result<(),
     play_on(alloc, &mut bench, REOPENED)
 }
 
-// The branch's record, which begins at 76, lacks its last byte.
-#[test]
-fn a_chunk_that_is_cut_is_damaged(rt: HostRuntime) -> Result<(), Fail> {
-    let alloc = rt.alloc();
-    let mut whole = bench(alloc, &[])?;
-    let _ = init(alloc, &mut whole)?;
-    let _ = answers_on(alloc, &mut whole, ONE_COMMIT)?;
-    let mut control = [0; 256];
-    let mut chunk = [0; 93];
-    assert!(rt; whole.read(FileName::Control, 0, &mut control).is_ok());
-    assert!(rt; whole.read(FileName::Chunk(0), 0, &mut chunk).is_ok());
-    let mut cut = bench(alloc, &[])?;
-    assert!(rt; cut.write(FileName::Control, 0, &control).is_ok());
-    assert!(rt; cut.write(FileName::Chunk(0), 0, &chunk).is_ok());
-    let damaged = Status::Damaged {
-        file: FileName::Chunk(0),
-        at: 76,
-    };
-    assert_eq!(rt; answers_on(alloc, &mut cut, ONE_COMMIT)?, damaged);
-    assert_eq!(rt; cut.said(alloc)?.len(), 0);
-    Ok(())
-}
-
 // How serving a script ends over this control file, when the ground is stopped at its call of this number, and what was said. The control file takes calls 0 and 1.
 fn stopped(
     alloc: Global,

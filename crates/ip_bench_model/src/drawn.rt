@@ -49,21 +49,34 @@ impl Drawn {
 
     /// The same, where a merge goes by these rules.
     pub fn put_by<D: Decides>(&mut self, words: &[&[u8]], rules: &D) -> Result<(), Fail> {
+        let command = self.command_of(words)?;
+        let reply = self.reply_to(command, rules)?;
+        self.say(words, reply)
+    }
+
+    /// The model's reply to a line of these words, which is put nowhere.
+    pub fn ask(&mut self, words: &[&[u8]]) -> Result<Reply, Fail> {
+        let command = self.command_of(words)?;
+        self.reply_to(command, &ProgramRules)
+    }
+
+    /// Puts a line of these words, and this reply.
+    pub fn say(&mut self, words: &[&[u8]], reply: Reply) -> Result<(), Fail> {
         let line = line_of(self.alloc, words)?;
         self.script.extend_from_slice(line.as_slice())?;
         self.script.push(b'\n')?;
-        let Ok(command) = read_line(self.alloc, line.as_slice()) else {
-            return Err("no command")?;
-        };
-        self.answer(command, rules)
-    }
-
-    fn answer<D: Decides>(&mut self, command: Command, rules: &D) -> Result<(), Fail> {
-        let reply = self.reply_to(command, rules)?;
         if let Reply::Committed(name) | Reply::Merged(name) = &reply {
             self.commits.push(*name)?;
         }
         Ok(reply_text(&reply, &mut self.replies)?)
+    }
+
+    fn command_of(&self, words: &[&[u8]]) -> Result<Command, Fail> {
+        let line = line_of(self.alloc, words)?;
+        let Ok(command) = read_line(self.alloc, line.as_slice()) else {
+            return Err("no command")?;
+        };
+        Ok(command)
     }
 
     fn reply_to<D: Decides>(&mut self, command: Command, rules: &D) -> Result<Reply, Fail> {

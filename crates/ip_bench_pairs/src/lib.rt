@@ -1,7 +1,8 @@
-//! Stores with a job of a collection, the pair that it has to write by the definition, and runs of its worker and of its check, for tests above.
+//! Stores with a job of a collection, the pair that it has to write by the definition, runs of its worker and of its check, and what children leave, for tests above.
 #![tactic(auto)]
 
 pub mod checks;
+pub mod children;
 pub mod files;
 pub mod pairs;
 pub mod records;
