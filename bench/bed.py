@@ -5,7 +5,7 @@ import struct
 import subprocess
 
 import common
-from common import GATE_OPEN, SLOT, Serve
+from common import GATE_OPEN, SLOT, Serve, Wrong
 from model import Model
 
 # docs/SCRIPT.md, "How a call ends".
@@ -32,10 +32,6 @@ LONG = 600
 # A reply comes within so many seconds, and what comes too much within so many.
 SOON = 10
 QUIET = 0.05
-
-
-class Wrong(Exception):
-    """A check failed, as this says."""
 
 
 class Skip(Exception):

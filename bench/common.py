@@ -44,6 +44,12 @@ def parsed(parser):
     return given
 
 
+def must_have(tool):
+    """Ends the run where this tool is not installed."""
+    if shutil.which(tool) is None:
+        sys.exit(f"there is no {tool}")
+
+
 @contextlib.contextmanager
 def fresh_folder(base=None):
     """A new empty folder, which is removed in the end."""
@@ -92,6 +98,10 @@ def init(program, folder, *words, chunk=None):
     """Makes a store, with chunks of this size where one is given."""
     size = [] if chunk is None else ["--chunk", str(chunk)]
     subprocess.run([program, "init", folder, *size, *words], check=True, timeout=PATIENCE)
+
+
+class Wrong(Exception):
+    """A check failed, as this says."""
 
 
 class Ended(Exception):

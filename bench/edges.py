@@ -18,6 +18,7 @@ from bed import CHECKS, LONG, Bed, Skip, Wrong
 # Each of these brings its checks.
 import edges_streams
 import edges_stores
+import edges_collections
 
 
 def run_one(act, given):

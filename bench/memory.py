@@ -43,13 +43,21 @@ def read_replies(serve, count):
         common.must(serve.reply(), "")
 
 
+def told_peak(process):
+    """The peak of resident memory of a running process so far, in KiB; nothing where the system tells none."""
+    try:
+        with open(f"/proc/{process}/status") as status:
+            return next((int(row.split()[1]) for row in status if row.startswith("VmHWM:")), None)
+    except OSError:
+        return None
+
+
 def peak_of(process):
-    """The peak of resident memory of a running process so far, in KiB."""
-    with open(f"/proc/{process}/status") as status:
-        for row in status:
-            if row.startswith("VmHWM:"):
-                return int(row.split()[1])
-    sys.exit("the system tells no peak of resident memory")
+    """The same, which the system tells."""
+    seen = told_peak(process)
+    if seen is None:
+        sys.exit("the system tells no peak of resident memory")
+    return seen
 
 
 def peak(program, base, count):

@@ -1,5 +1,6 @@
 """A plain model of a store, for the tests of this folder: what each line is answered, with the names of docs/FORMAT.md. It knows
-the lines that the tests give, and merges by the program's rules or by others."""
+the lines that the tests give, and merges by the program's rules or by others. Of a collection it knows what it may be answered:
+how far its child is, and whether that was killed, the caller tells by the reply that was heard (`Model.takes`)."""
 
 import hashlib
 import re
@@ -186,12 +187,12 @@ class Commit:
         words = ["commit", self.name, str(self.number), self.root.hex(), str(self.date), self.author, str(len(self.parents))]
         return " ".join(words + [parent.name for parent in self.parents] + [self.message])
 
-    def ancestors(self):
-        """The commit and its ancestors, descending by number."""
+    def ancestors(self, floor=0):
+        """The commit and its ancestors of this number and more, descending by number."""
         seen, left = {}, [self]
         while left:
             commit = left.pop()
-            if commit.number not in seen:
+            if commit.number not in seen and commit.number >= floor:
                 seen[commit.number] = commit
                 left += commit.parents
         return [seen[number] for number in sorted(seen, reverse=True)]
@@ -202,25 +203,50 @@ class Refused(Exception):
 
 
 class Model:
-    """A store and its work."""
+    """A store and its work. Its list of commits has those that were given up too, which are below the floor."""
 
     def __init__(self, rules=PROGRAM):
         self.rules = rules
         self.commits = []
         self.names = {}
         self.branches = {}
-        self.forget_work()
+        self.floor = 0
+        self.reopen()
 
     def copy(self):
         """A model that goes its own way."""
         other = Model(self.rules)
         other.commits, other.names, other.branches = list(self.commits), dict(self.names), dict(self.branches)
-        other.tree, other.parents = self.tree, self.parents
+        other.floor, other.collecting = self.floor, self.collecting
+        other.tree, other.parents, other.least = self.tree, self.parents, self.least
         return other
 
     def forget_work(self):
-        """The work is the empty one, as when a store is opened."""
-        self.tree, self.parents = {}, []
+        """The work is the empty one."""
+        self.tree, self.parents, self.least = {}, [], None
+
+    def reopen(self):
+        """The store is opened anew: its work is empty, and no collection runs."""
+        self.forget_work()
+        self.collecting = None
+
+    def retained(self):
+        """The commits that are not given up."""
+        return self.commits[self.floor :]
+
+    def take_from(self, commit):
+        """The work takes from a commit."""
+        self.least = commit.number if self.least is None else min(self.least, commit.number)
+
+    def must_be_kept(self):
+        """A work that took from commits which are given up is refused."""
+        if self.least is not None and self.least < self.floor:
+            raise Refused(f"given-up {self.least}")
+
+    def must_not_leave(self, number):
+        """Nothing is made that takes from a commit which a collection that runs will give up."""
+        if self.collecting is not None and number is not None and number < self.collecting.number:
+            raise Refused(f"leaving {number}")
 
     def reply(self, line):
         """What a line is answered; it is done."""
@@ -246,52 +272,63 @@ class Model:
 
     def do_checkout(self, ref):
         commit = self.at(ref)
-        self.tree, self.parents = commit.tree, [commit]
+        self.tree, self.parents, self.least = commit.tree, [commit], commit.number
         return "at " + commit.name
 
     def do_parent(self, ref):
+        self.must_be_kept()
         commit = self.at(ref)
         if commit not in self.parents:
             if len(self.parents) == 16:
                 raise Refused("limit parents")
             self.parents = self.parents + [commit]
+            self.take_from(commit)
         return "ok"
 
     def do_set(self, path, word):
+        self.must_be_kept()
         self.tree = placed(self.tree, steps_of(path), bytes_of(word))
         return "ok"
 
     def do_rm(self, path):
+        self.must_be_kept()
         if said(self.tree, steps_of(path)) == "absent":
             raise Refused("absent")
         self.tree = without(self.tree, steps_of(path))
         return "ok"
 
     def do_graft(self, ref, place, target):
+        self.must_be_kept()
         source, target = () if place == "/" else steps_of(place), steps_of(target)
-        found = {target + path[len(source):]: its for path, its in self.at(ref).tree.items() if is_under(path, source)}
+        commit = self.at(ref)
+        found = {target + path[len(source):]: its for path, its in commit.tree.items() if is_under(path, source)}
         if not found:
             raise Refused("absent")
         if max(map(len, found)) > 64:
             raise Refused("limit depth")
         self.tree = {path: its for path, its in self.tree.items() if not is_under(path, target) and not is_under(target, path)} | found
+        self.take_from(commit)
         return "ok"
 
     def do_get(self, path):
+        self.must_be_kept()
         return said(self.tree, steps_of(path))
 
     def do_list(self, place):
+        self.must_be_kept()
         return listed(self.tree, () if place == "/" else steps_of(place))
 
     def do_cat(self, ref, path):
         return said(self.at(ref).tree, steps_of(path))
 
     def do_commit(self, branch, date, author, *message):
+        self.must_be_kept()
         head = self.branches.get(branch)
         if head is not None and head not in self.parents:
             raise Refused("head-moved " + head.name)
+        self.must_not_leave(self.least)
         commit = self.add(branch, Commit(len(self.commits), self.tree, self.parents, int(date), author, " ".join(message)))
-        self.parents = [commit]
+        self.parents, self.least = [commit], commit.number
         return "committed " + commit.name
 
     def do_lcas(self, one, other):
@@ -300,19 +337,20 @@ class Model:
 
     def bases(self, one, other):
         """The least common ancestors of two commits, ascending by number."""
-        others = other.ancestors()
-        common = [commit for commit in one.ancestors() if commit in others]
-        above = {commit for below in common for commit in below.ancestors() if commit is not below}
+        others = other.ancestors(self.floor)
+        common = [commit for commit in one.ancestors(self.floor) if commit in others]
+        above = {commit for below in common for commit in below.ancestors(self.floor) if commit is not below}
         return [commit for commit in reversed(common) if commit not in above]
 
     def do_merge(self, ref, branch, date, author, *message):
         commit = self.at(ref)
         head = self.at(branch)
-        if commit in head.ancestors():
+        if commit in head.ancestors(self.floor):
             return "current " + head.name
-        if head in commit.ancestors():
+        if head in commit.ancestors(self.floor):
             self.branches[branch] = commit
             return "forward " + commit.name
+        self.must_not_leave(commit.number)
         bases = self.bases(head, commit)
         if len(bases) > 1:
             raise Refused(f"bases {len(bases)}")
@@ -332,7 +370,9 @@ class Model:
         return commit
 
     def do_branch(self, name, ref):
-        self.branches[name] = self.at(ref)
+        commit = self.at(ref)
+        self.must_not_leave(commit.number)
+        self.branches[name] = commit
         return "ok"
 
     def do_branch_rm(self, name):
@@ -348,8 +388,48 @@ class Model:
         return self.at(ref).shown()
 
     def do_log(self, ref):
-        found = self.at(ref).ancestors()
+        found = self.at(ref).ancestors(self.floor)
         return " ".join([f"log {len(found)}"] + [commit.name for commit in found])
 
     def do_stat(self):
-        return f"stat 0 {len(self.commits)} {len(self.branches)} idle"
+        phase = "idle" if self.collecting is None else f"at {self.collecting.number}"
+        return f"stat {self.floor} {len(self.commits)} {len(self.branches)} {phase}"
+
+    def do_collect(self, ref):
+        if self.collecting is not None:
+            raise Refused("busy " + self.collecting.name)
+        commit = self.at(ref)
+        for name in sorted(self.branches):
+            if self.branches[name].number < commit.number:
+                raise Refused("held " + name)
+        self.collecting = commit
+        return "started " + commit.name
+
+    def do_look(self):
+        """The reply where the child has ended well and all is compared by one look."""
+        return self.do_finish()
+
+    def do_finish(self):
+        """The reply where the child has ended well."""
+        if self.collecting is None:
+            raise Refused("idle")
+        for commit in self.commits[self.floor : self.collecting.number]:
+            self.names.pop(commit.name, None)
+        self.floor, self.collecting = self.collecting.number, None
+        return f"collected {self.floor}"
+
+    def do_cancel(self):
+        if self.collecting is None:
+            raise Refused("idle")
+        self.collecting = None
+        return "cancelled"
+
+    def takes(self, line, reply, killed=False):
+        """Whether a line may be answered so, where the child of the collection that runs may have been killed; it is done as that says."""
+        if line in ("look", "finish") and self.collecting is not None:
+            if line == "look" and (reply == "running" or reply.startswith("checking ")):
+                return True
+            if killed and reply == "rejected exit signal":
+                self.collecting = None
+                return True
+        return self.reply(line) == reply
