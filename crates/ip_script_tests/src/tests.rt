@@ -730,17 +730,19 @@ fn a_line_of_a_load_is_that_of_its_seed(rt: HostRuntime) {
 #[test]
 fn the_lines_of_a_load_follow_one_another(rt: HostRuntime) {
     let lines = [
-        (b"commit side 1 load line".as_slice(), 7062582979898595269),
-        (b"set d6/k52 10bf51ed", 1206773305466921929),
-        (b"set d5/k54 892769e4", 9882984339513518093),
-        (b"rm d0/k52", 13833615605184489617),
-        (b"set d7/k41 3406c46a", 3748899703585450325),
-        (b"set d3/k60 9f21b6c5", 11466647087125458521),
+        (
+            1,
+            b"commit side 1 load line".as_slice(),
+            7062582979898595269,
+        ),
+        (2, b"set d6/k52 10bf51ed", 1206773305466921929),
+        (3, b"set d5/k54 892769e4", 9882984339513518093),
+        (4, b"rm d0/k52", 13833615605184489617),
+        (5, b"set d7/k41 3406c46a", 3748899703585450325),
+        (6, b"set d3/k60 9f21b6c5", 11466647087125458521),
     ];
     let mut state = 1;
-    let mut number = 0;
-    for (want, after) in lines {
-        number += 1;
+    for (number, want, after) in lines {
         let mut line = Vec::new(rt.alloc());
         assert!(rt; load_line(&mut state, number, &mut line).is_ok());
         assert!(rt; line.as_slice() == want, "{want:?}");
