@@ -2,4 +2,6 @@
 #![tactic(auto)]
 
 #[cfg(test)]
+mod loads;
+#[cfg(test)]
 mod tests;

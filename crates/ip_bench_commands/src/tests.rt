@@ -302,7 +302,7 @@ fn a_job_whose_call_fails_is_a_disk_fault(rt: HostRuntime) -> Result<(), Fail> {
 }
 
 // How a load ends over a new store, by the words of the program, and what is said.
-fn load(alloc: Global, seed: &str, count: &str) -> Result<(Status, Vec<u8>), Fail> {
+pub(crate) fn load(alloc: Global, seed: &str, count: &str) -> Result<(Status, Vec<u8>), Fail> {
     let mut bench = bench(alloc, &[])?;
     let _ = init(alloc, &mut bench)?;
     let given = words(alloc, &["ipstore", "load", "mem", seed, count])?;
