@@ -117,7 +117,7 @@ impl Summary {
         })
     }
 
-    /// Counts a reply, by its text.
+    /// Counts the reply that has this text. Of a text that is no reply's nothing is said: what is counted then may be of another word, or none.
     pub fn note(&mut self, text: &[u8])
         ensures { (replies : List Reply) (reply : Reply) → text.now ≡ reply_text reply → length replies < 2 ^ 64 - 1 → Tallies self.old replies → Tallies self.new (replies ++ reply ∷ []) }
     {
