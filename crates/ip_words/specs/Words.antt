@@ -81,7 +81,7 @@ AreNumbers rows [] [] = ⊤
 AreNumbers rows (name ∷ names) (n ∷ numbers) = IsNumber rows name n × AreNumbers rows names numbers
 AreNumbers rows names numbers = ⊥
 
--- N is the size that chunks may have, and the numbers of a job are one that a collector may be given
+-- A size is one that chunks may have, the eight numbers are a job that a collector may be given, and a load has at least one line and at most so many.
 abbrev pub AsksBy : Option (Bytes × List Row) → Asked → Type 0
 AsksBy (Some (word, rows)) (making folder chunk) =
     (word ≡ codes "init") × (first_of (codes "DIR") rows ≡ Some folder) × IsNumber rows (codes "chunk") chunk × IsChunkSize chunk
