@@ -33,7 +33,7 @@ use Rattle.ip_image.specs.Collected.{remaining}
 use Rattle.ip_image.specs.Pending.{HasLive, crash_at, crash_now, SameSpace, LeavesPair, NothingPending, AllFlushed}
 use Rattle.ip_image.specs.Headline.{IsAtomic, RecoversTo, RecoversToEither}
 use Rattle.ip_image.proofs.CoreTies.{image_rises, kept_among}
-use Rattle.ip_image.proofs.HeadlineLaws.{none_pending}
+use Rattle.ip_image.proofs.HeadlineLaws.{none_pending, one_slot}
 use Rattle.ip_image.proofs.OneRepository.{all_records}
 use Rattle.ip_image.proofs.PairLaws.{Has}
 use Rattle.ip_image.proofs.StayingRecords.{cut, good_at, present_has}
@@ -57,10 +57,11 @@ use Rattle.ip_store.specs.Finishing.{IsUndamaged, Serves}
 use Rattle.ip_store.specs.Judging.{IsThrough, IsCheckOf}
 use Rattle.ip_store.specs.Placed.{places_in, AreRising}
 use Rattle.ip_store.specs.Publishing.{TurnsGate}
+use Rattle.ip_store.specs.StandsBy.{LeavesStill, LeavesSwapped, StandsBy}
 use Rattle.ip_store.specs.Store.{IsOf, OwnsPair, Holds}
 use Rattle.ip_store.specs.Swapping.{Accepts, AcceptsAs, IsSwap, IsSwapFault, RefusesSwap, SwapsTables, SyncsPair, turned_down}
 use Rattle.ip_store.specs.Sweeping.{IsApart, EndsFor, KeepsFiles}
-use Rattle.ip_store.proofs.Apart.{holds_apart, list_apart, recovers_apart, pending_apart, flushed_apart}
+use Rattle.ip_store.proofs.Apart.{holds_apart, list_apart, live_apart, recovers_apart, pending_apart, flushed_apart, leaves_apart}
 use Rattle.ip_store.proofs.Cancels.{over, held_idle, other, below}
 use Rattle.ip_store.proofs.Ended.{ends_only, ends_more, ends_on}
 use Rattle.ip_store.proofs.FinishSpans.{atomic_front, atomic_still}
@@ -68,12 +69,13 @@ use Rattle.ip_store.proofs.HeldPair.{HasPair, pair_stays, pair_found, rows_of_pa
 use Rattle.ip_store.proofs.Going.{phase_here, going_here, collects_here}
 use Rattle.ip_store.proofs.Judged.{kept_check, has_ended, over_here}
 use Rattle.ip_store.proofs.KeptFiles.{keeps_itself, keeps_on, keeps_store}
+use Rattle.ip_store.proofs.LeftImages.{by_same, swapped_front, swapped_none, swapped_still}
 use Rattle.ip_store.proofs.Listed.{same_slot}
 use Rattle.ip_store.proofs.Recovering.{in_image, held_has, recovers_now}
 use Rattle.ip_store.proofs.Remaining.{remaining_places}
 use Rattle.ip_store.proofs.Stepping.{none_since}
 use Rattle.ip_store.proofs.Swapped.{few_bytes, few_rows, check_of, swapped_is}
-use Rattle.ip_store.proofs.SwapStep.{Swaps, either_stands, both_at}
+use Rattle.ip_store.proofs.SwapStep.{Swaps, either_left, either_stands, both_at}
 
 -- ---- before anything is called
 
@@ -210,6 +212,7 @@ module _ (store : Store) (r : Repository) (a : Told) (held : Holds store a r) (c
     serves = tt;
     remains = λ q holds. tt;
     atomic = λ pending t late le. absurd (omega (arith, late, le));
+    leaves = λ pending. swapped_none held.stands.standing.records c a;
     nothing_pending = λ pending. tt;
     flushed = λ pending. (recovers_now store r a held pending).flushed;
   }
@@ -228,6 +231,9 @@ module _ (store : Store) (r : Repository) (a : Told) (held : Holds store a r) (c
         list_apart (over store store.unswept store.met) r a (held_idle store r a held c runs) refl n (other store r a held c runs) (below store r a held c runs) NoFile apart b changes.beside B
         ∙ all_records a.held (held_idle store r a held c runs).stands.standing A
 
+    pub live_then : (s : Slot) → HasLive s a.held → HasLive s b.held
+    live_then = live_apart (over store store.unswept store.met) r a (held_idle store r a held c runs) refl n (other store r a held c runs) (below store r a held c runs) NoFile apart b changes.beside
+
     module _ (pending : NothingPending a) where
       pub pending_then : NothingPending b
       pending_then = pending_apart (over store store.unswept store.met) r a (held_idle store r a held c runs) refl n (other store r a held c runs) (below store r a held c runs) NoFile apart b changes.beside pending
@@ -238,6 +244,9 @@ module _ (store : Store) (r : Repository) (a : Told) (held : Holds store a r) (c
       pub recovers_at : (t : ℕ) → a.moment < t → t ≤ b.moment → RecoversTo (crash_at b t) r
       recovers_at = recovers_apart (over store store.unswept store.met) r a (held_idle store r a held c runs) refl n (other store r a held c runs) (below store r a held c runs) NoFile apart b changes.beside pending
 
+      pub leaves_then : LeavesStill held.stands.standing.records a b
+      leaves_then = leaves_apart (over store store.unswept store.met) r a (held_idle store r a held c runs) refl n (other store r a held c runs) (below store r a held c runs) NoFile apart b changes.beside pending
+
     stopped : (fault : FinishFault) (now : Store) → KeepsFiles a b → AcceptsAs held.stands.standing.records r c (Err fault) now a b
     stopped fault now files = record {
       only = ends_more n NoFile a b (Only Control) (λ file none. absurd none) changes;
@@ -246,6 +255,7 @@ module _ (store : Store) (r : Repository) (a : Told) (held : Holds store a r) (c
       serves = tt;
       remains = λ q holds. tt;
       atomic = λ pending. atomic_still r (collected_at r c.commit) a b (recovers_at pending);
+      leaves = λ pending. swapped_still held.stands.standing.records c a b (leaves_then pending);
       nothing_pending = λ pending. tt;
       flushed = λ pending. flushed_then pending;
     }
@@ -335,6 +345,11 @@ module _ (store : Store) (r : Repository) (b : Told) (held : Holds store b r) (c
       (λ at low high. subst (λ (size : ℕ). chunk_byte size image at ≡ chunk_byte size b.held at) pair.swapped.chunk
       (same.chunks at (let h = pair.swapped.horizon in omega (arith, h, low)) (let end = pair.swapped.end in omega (arith, end, high))))
 
+  swapped_by : (image : Image) → HasLive next image → SameSpace next b.held image → StandsBy (remaining c.job.horizon pair.valid.kept B.records) c.job.horizon image
+  swapped_by image live same =
+      let it = collected image live same in
+      record { repository = after; stands = it.0; list = it.1; low = ap (λ (s : Slot). s.horizon) (same_slot image next live it.0.standing) ∙ pair.swapped.horizon }
+
   old_live : live_of (control b) ≡ live_slot store.index (slot_bytes store.slot)
   old_live = live_from (control b) store.index store.slot held.live
 
@@ -351,6 +366,16 @@ module _ (store : Store) (r : Repository) (b : Told) (held : Holds store b r) (c
         either_stands (crash_at d t) store.index (1 - store.index) store.slot next b.held held.tables.slot next_is swaps
         (both_at b d store.index (1 - store.index) store.slot next gate.only (held_has store r b held) old_live gate.live (firm_pair firm) pending t late le)
         r (collected_at r c.commit) held.stands (held_has store r b held) (λ image live same. (collected image live same).0)
+
+    -- each image stands by the records that there were, or by those that remain
+    pub left_at : IsFirm b → NothingPending b → LeavesSwapped held.stands.standing.records c b d
+    left_at firm pending s has t late le image possible =
+        let old = held_has store r b held in
+        elim (either_left (crash_at d t) store.index (1 - store.index) store.slot next b.held held.tables.slot next_is swaps
+        (both_at b d store.index (1 - store.index) store.slot next gate.only old old_live gate.live (firm_pair firm) pending t late le) image possible) [
+          | inl it ↦ inl (subst (λ (u : Slot). StandsBy held.stands.standing.records u.horizon image) (one_slot store.slot s b.held old has) (by_same b.held image store.slot r held.stands old it.0 it.1))
+          | inr it ↦ inr (pair.valid.kept, pair.valid.each, swapped_by image it.0 it.1)
+        ]
 
   -- ---- it is open
 
@@ -460,6 +485,11 @@ module _ (store : Store) (r : Repository) (a : Told) (held : Holds store a r) (c
     atomic pending = atomic_front r (collected_at r c.commit) a b d gate.only.goes (recovers_at store r a held c runs b sync.only pending)
         (either_at store r b then c runs swap.slot next_is (joined check.keep.kept) pair_then d res gate (sync.kept, sync.firm) (pending_then store r a held c runs b sync.only pending))
 
+    leaves : NothingPending a → LeavesSwapped held.stands.standing.records c a d
+    leaves pending = swapped_front held.stands.standing.records c a b d gate.only.goes (live_then store r a held c runs b sync.only) (leaves_then store r a held c runs b sync.only pending)
+        (subst (λ (rs : Records). LeavesSwapped rs c b d) (same_records store r a held c runs b sync.only then.stands.standing)
+        (left_at store r b then c runs swap.slot next_is (joined check.keep.kept) pair_then d res gate (sync.kept, sync.firm) (pending_then store r a held c runs b sync.only pending)))
+
     flushed : NothingPending a → AllFlushed (crash_now d)
     flushed pending = elim (cases_lt a.moment d.moment) [
       | inl later ↦ (atomic pending d.moment later (omega arith)).flushed
@@ -475,6 +505,7 @@ module _ (store : Store) (r : Repository) (a : Told) (held : Holds store a r) (c
       serves = tt;
       remains = λ q holds. tt;
       atomic = atomic;
+      leaves = leaves;
       nothing_pending = λ pending. tt;
       flushed = flushed;
     })
@@ -494,6 +525,7 @@ module _ (store : Store) (r : Repository) (a : Told) (held : Holds store a r) (c
           remains_then store r b then c runs swap.slot next_is (joined check.keep.kept) pair_then d gate was.pair was.settled holds.stands.standing ∙ ap (remaining c.job.horizon pair_then.valid.kept) same,
         );
         atomic = atomic d (Ok tt) gate;
+        leaves = leaves d (Ok tt) gate;
         nothing_pending = λ pending. none_pending d possible (flushed d (Ok tt) gate pending);
         flushed = flushed d (Ok tt) gate;
       }

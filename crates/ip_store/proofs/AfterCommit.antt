@@ -1,6 +1,7 @@
 -- What the tables, the work and the files hold after a commit.
 --     after_tables, after_parents      the tables and the parents after it, whatever is told
 --     can_step      what the durable step asks.      more_committed, stays_committed      records stand behind those before it, and each of these stays.      stands_new      the images that it leaves
+--     all_lie, rests      its records lie end to end behind those before it, and while a collection goes on what they refer to stays
 --     made, cut      the relation of a commit that was made, and of one that a fault cut short
 --     saved_tree      the tree at the batch's root, over the records of the image after it
 --     answers_refused, answers_made, goes_on_still      what is answered, and how the work goes on
@@ -237,7 +238,7 @@ module _ (r : Repository) (work : Work) (v : View) (branch : Bytes) (info : Info
   abbrev next_live : Slot
   next_live = next_slot (carried store) (length plan.batch.bytes.items) 1
 
-  there : HasRoom store.slot store.slot.next_attempt (length plan.batch.bytes.items) 1
+  pub there : HasRoom store.slot store.slot.next_attempt (length plan.batch.bytes.items) 1
   there = room_of r branch store plan of coming
 
   generation : SameGeneration store.slot next_live
@@ -252,18 +253,18 @@ module _ (r : Repository) (work : Work) (v : View) (branch : Bytes) (info : Info
   known : KnownStand (image_records held) v store.slot.end
   known = known_stand (image_records held) work.tree v store.slot.end view_is (records_below store a r held)
 
-  stands_new : (image : Image) → HasLive next_live image → AddsBytes store.slot plan.batch.bytes.items a.held image → StandsFor image (repository_after r (phase_of store.collection) work v branch info)
+  pub stands_new : (image : Image) → HasLive next_live image → AddsBytes store.slot plan.batch.bytes.items a.held image → StandsFor image (repository_after r (phase_of store.collection) work v branch info)
   stands_new image live adds = subst (StandsFor image) (sym after_is)
       (stands_grown a.held image r store.slot next_live v work.parents info branch held.stands (held_has store r a held) is.may known is.within live
       generation (sym is.behind) refl (subst (λ (bs : List ℕ). AddsBytes store.slot bs a.held image) is.bytes adds)).0
 
-  all_lie : AreEndToEnd store.slot.end all next_live.end
+  pub all_lie : AreEndToEnd store.slot.end all next_live.end
   all_lie = subst (λ (n : ℕ). AreEndToEnd store.slot.end all n) is.behind (batch_lies v (sources v) (fields_of r work.parents info branch) store.slot.end)
 
   abbrev Step : Told → Result (Unit {0}) GroundFault → Type 0
   Step b res = MakesStep store.slot.end plan.batch.bytes.items (1 - store.index) plan.slot res a b
 
-  to_next : (b : Told) (res : Result (Unit {0}) GroundFault) → Step b res → MakesStep store.slot.end plan.batch.bytes.items (1 - store.index) next_live res a b
+  pub to_next : (b : Told) (res : Result (Unit {0}) GroundFault) → Step b res → MakesStep store.slot.end plan.batch.bytes.items (1 - store.index) next_live res a b
   to_next b res step = same_step store.slot.end store.slot.end store.index store.index plan.batch.bytes.items plan.batch.bytes.items plan.slot next_live res a b refl refl refl coming.slot step
 
   -- ---- while a collection goes on
@@ -278,7 +279,7 @@ module _ (r : Repository) (work : Work) (v : View) (branch : Bytes) (info : Info
   good = good_here store a r held
 
   -- the tree took from no commit that goes, so the batch refers to nothing that goes
-  rests : RestsBy held all store.collection
+  pub rests : RestsBy held all store.collection
   rests c same collects =
       let job = (subst (IsPhaseOf store.slot r) same of.phase).told in
       let collectable = collects.collectable in

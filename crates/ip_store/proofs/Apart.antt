@@ -2,7 +2,8 @@
 --     beside_for, beside_only, beside_on      what changes beside the attempt, of a call and of two behind one another
 --     for_only, for_lend      the change of a call.      for_more      of fewer files.      for_behind, for_before      of two behind one another, one of which leaves custody as it is
 --     holds_apart      the store holds what it held, where no collection runs.      recovers_apart, pending_apart, flushed_apart      what a crash leaves of it recovers, and nothing comes to be pending
---     space_apart      a child that was told of its slot reads no other bytes.      list_apart      and the image has the same records
+--     space_apart      a child that was told of its slot reads no other bytes.      list_apart, leaves_apart      and the image has the same records, as has each that a crash leaves.      live_apart      the same slot is live
+--     control_apart      an image that a crash leaves has the control file that is read
 use Rattle.std.proofs.Common.{◌≡◌, ◌≢◌, inl, inr, ℕ, ◌<◌, ◌≤◌, sym, ◌∙◌, ap, subst, arith}
 use Rattle.std.specs.Prelude.{Result, Option, None, IfSome}
 use Rattle.std.proofs.lemmas.Bool.{cases_lt, cases_eq}
@@ -10,7 +11,7 @@ use Rattle.ip_ground.specs.declared.names.FileName.{FileName}
 use Rattle.ip_ground.specs.declared.names.FileName.TheVariants.{Control, Chunk, Mapping, Prefix}
 use Rattle.ip_ground.specs.declared.names.GroundFault.{GroundFault}
 use Rattle.ip_ground.specs.Calls.{Lends}
-use Rattle.ip_ground.specs.Contents.{Content}
+use Rattle.ip_ground.specs.Contents.{Content, Image, Possible}
 use Rattle.ip_ground.specs.Custody.{own, IsOfAttempt}
 use Rattle.ip_ground.specs.Told.{Told, lending, KeepsFile, KeepsCustody, TurnsCustody, IsSynced, NoFile, ChangesOnly}
 use Rattle.ip_ground.proofs.Spans.{at_most, left_now, each_stays, lending_now, goes_on, stays_on, said_on, custody_on}
@@ -25,8 +26,10 @@ use Rattle.ip_chunks.proofs.Borders.{some_size, chunk_up}
 use Rattle.ip_store.specs.declared.store.Store.{Store}
 use Rattle.ip_store.specs.declared.collection.Collection.{Collection}
 use Rattle.ip_store.specs.Collecting.{Collects}
+use Rattle.ip_store.specs.StandsBy.{LeavesStill, StandsBy}
 use Rattle.ip_store.specs.Store.{Holds, OwnsPair}
 use Rattle.ip_store.specs.Sweeping.{IsApart, ChangesBeside, ChangesFor}
+use Rattle.ip_store.proofs.LeftImages.{by_same}
 use Rattle.ip_store.proofs.Listed.{same_list, holds_on}
 use Rattle.ip_store.proofs.Recovering.{LeavesPairOf, held_has, pair_left, pair_now, pair_alike, pending_of, recovers_now}
 
@@ -158,6 +161,10 @@ module _ (store : Store) (r : Repository) (a : Told) (holds : Holds store a r) (
   pub holds_apart : Holds store b r
   holds_apart = holds_on store a r holds b same_control same kept pair_on (subst (λ (o : Option Collection). IfSome o (Collects b store.slot holds.stands.standing.records r)) (sym none) tt)
 
+  -- the same slot is live
+  pub live_apart : (s : Slot) → HasLive s a.held → HasLive s b.held
+  live_apart s live = record { control = live.control; index = live.index; held = same_control ∙ live.held; live = live.live }
+
   -- whichever proof says that it stands
   pub list_apart : (B : Standing b.held) → B.records ≡ holds.stands.standing.records
   list_apart B = same_list store a r holds b same_control same B
@@ -192,6 +199,10 @@ module _ (store : Store) (r : Repository) (a : Told) (holds : Holds store a r) (
         let was = pending.chunks store.slot has at low high in
         left_now a b (Chunk (chunk_of store.slot.chunk at)) (IsByte at) changes.goes was (each_stays a b (Chunk (chunk_of store.slot.chunk at)) (IsByte at) (λ no. no) (chunk at low) was) content left ∙ sym (same.chunks at low high)
 
+    -- each image has the control file
+    pub control_apart : (t : ℕ) → a.moment < t → t ≤ b.moment → (image : Image) → Possible (b.may_leave t) image → image Control ≡ a.held Control
+    control_apart t after le image possible = holds.kept (image Control) (control.left (λ no. no) t (image Control) after le (possible Control))
+
     pub recovers_apart : (t : ℕ) → a.moment < t → t ≤ b.moment → RecoversTo (crash_at b t) r
     recovers_apart t after le =
         recovers (crash_at b t) a.held r store.slot holds.stands has (λ content left. holds.kept content (control.left (λ no. no) t content after le left)) (bytes_at t after le) (pair_at t after le) (drawn_at t after le)
@@ -210,3 +221,10 @@ module _ (store : Store) (r : Repository) (a : Told) (holds : Holds store a r) (
       mapping = λ some. (pair_at t after le some).mapping (image (Mapping store.slot.live)) (possible (Mapping store.slot.live));
       prefix = λ some. (pair_at t after le some).prefix (image (Prefix store.slot.live)) (possible (Prefix store.slot.live));
     })
+
+    -- each image that it leaves has the same records
+    pub leaves_apart : LeavesStill holds.stands.standing.records a b
+    leaves_apart u live t after le image possible = subst (λ (v : Slot). StandsBy holds.stands.standing.records v.horizon image) (one_slot store.slot u a.held has live)
+        (by_same a.held image store.slot r holds.stands has
+        (record { control = has.control; index = has.index; held = holds.kept (image Control) (control.left (λ no. no) t (image Control) after le (possible Control)) ∙ has.held; live = has.live })
+        (space_apart store.slot has t after le image possible))

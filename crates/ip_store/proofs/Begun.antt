@@ -3,6 +3,7 @@
 --     never_lent      the attempt that comes next was never lent before
 --     begun_tables      its tables.      can_begin      what the durable step asks
 --     starts_cut      what was done where the step was cut short.      starts_lent      behind it, once the attempt was lent, or that failed.      begun_list      the records then
+--     cut_front, begun_front      what a crash leaves, by the core: of the step, and of all up to there
 --     begun_going, begun_collects      what is kept of it, and what the swap asks of it
 use Rattle.std.proofs.Common.{◌≡◌, ◌≢◌, inl, inr, ℕ, ◌+◌, ◌-◌, ◌<◌, ◌≤◌, [], ◌∷◌, ◌++◌, length, None, refl, sym, ◌∙◌, ap, subst, arith}
 use Rattle.std.specs.Prelude.{All, Result, Ok, Err, Some, IfSome, IsTrue, false, List, map, slice_get}
@@ -27,6 +28,7 @@ use Rattle.ip_image.proofs.CoreTies.{collection_starts, image_rises, some_valid}
 use Rattle.ip_image.proofs.PairLaws.{Has, Rises}
 use Rattle.ip_image.proofs.StayingRecords.{has_present, has_right}
 use Rattle.ip_image.specs.declared.slot.Slot.{Slot}
+use Rattle.ip_image.specs.Appending.{AddsBytes}
 use Rattle.ip_image.specs.Standing.{Standing, names_after}
 use Rattle.ip_image.specs.Pending.{Crash, HasLive, crash_at, SameSpace, NothingPending, KeepsSpace}
 use Rattle.ip_image.specs.Headline.{RecoversTo, RecoversToEither}
@@ -38,19 +40,21 @@ use Rattle.ip_store.specs.declared.starting.Start.{Start}
 use Rattle.ip_store.specs.declared.store.Store.{Store}
 use Rattle.ip_store.specs.Changes.{Changes}
 use Rattle.ip_store.specs.Collecting.{IsAbove, IsGoing, Collects}
+use Rattle.ip_store.specs.Fronts.{LeavesFront}
 use Rattle.ip_store.specs.Publishing.{CanStep, MakesStep, MayChange}
 use Rattle.ip_store.specs.Placed.{IsCommitAt}
 use Rattle.ip_store.specs.Starting.{branch_row, table_of, IsBegun, IsStart, StartsCollection, new_collection}
 use Rattle.ip_store.specs.Store.{IsOf, Holds, image_records, place_of_commit}
 use Rattle.ip_store.specs.Sweeping.{IsApart, ChangesBeside, ChangesFor}
-use Rattle.ip_store.proofs.Apart.{beside_for, for_only, for_lend, for_more, for_behind, holds_apart, list_apart, recovers_apart, pending_apart, flushed_apart, space_apart}
+use Rattle.ip_store.specs.Tie.{appending}
+use Rattle.ip_store.proofs.Apart.{beside_for, for_only, for_lend, for_more, for_behind, holds_apart, list_apart, control_apart, recovers_apart, pending_apart, flushed_apart, space_apart}
 use Rattle.ip_store.proofs.KeptFiles.{keeps_on, keeps_store, keeps_lent}
 use Rattle.ip_store.proofs.Listed.{same_slot}
 use Rattle.ip_store.proofs.LookedUp.{recovers_less}
 use Rattle.ip_store.proofs.NextSlot.{slot_behind, HasRoom}
 use Rattle.ip_store.proofs.Phases.{DrawsNone}
 use Rattle.ip_store.proofs.Recovering.{held_has}
-use Rattle.ip_store.proofs.Renamed.{renamed_tables, can_rename, was_renamed, rename_cut, list_renamed, space_renamed}
+use Rattle.ip_store.proofs.Renamed.{renamed_tables, can_rename, was_renamed, rename_cut, rename_front, rename_comes, list_renamed, adds_renamed, space_renamed}
 use Rattle.ip_store.proofs.Stepping.{of_store}
 use Rattle.ip_store.proofs.Showing.{commit_here, there_is}
 use Rattle.ip_store.proofs.Started.{place_within}
@@ -192,6 +196,10 @@ module _ (r : Repository) (store : Store) (number : ℕ) (start : Start) (of : I
           space = cut.space;
         }
 
+    -- whatever the answer of the step is
+    pub cut_front : (b : Told) (res : Result (Unit {0}) GroundFault) → Step b res → NothingPending a → LeavesFront store held.stands.standing.records (appending ((store.slot.end, table_of r) ∷ [])) a b
+    cut_front b res step = rename_front r store of table (table_may r) fits tt start.slot attempt slot_is room drawn a held b res step
+
     module _ (space : SpaceView) (longer : space ≡ grown store.space start.slot.end) (b : Told) (step : Step b (Ok tt)) where
       abbrev here : Store
       here = begun store start space
@@ -235,11 +243,14 @@ module _ (r : Repository) (store : Store) (number : ℕ) (start : Start) (of : I
           | inr early ↦ recovers_less (crash_at b t) (crash_at c t) r (λ file content left. lends.goes.left t file content early left) (λ attempt. lends.goes.lending t attempt early) (to_one (crash_at b t) r (changes.atomic pending t after early))
         ]
 
+        space_here : NothingPending a → (t : ℕ) → b.moment < t → t ≤ c.moment → (image : Image) → Possible (c.may_leave t) image → SameSpace next b.held image
+        space_here pending t late le image possible = subst (λ (s : Slot). SameSpace s b.held image) slot_is
+            (space_apart here r b holds idle n other below NoFile apart c beside (pending_here pending) start.slot (held_has here r b holds) t late le image possible)
+
         space_on : NothingPending a → (t : ℕ) → b.moment < t → t ≤ c.moment → (image : Image) → Possible (c.may_leave t) image → SameSpace store.slot a.held image
         space_on pending t late le image possible =
             let first = space_renamed r store of table (table_may r) fits tt start.slot attempt slot_is room drawn a held b step in
-            let later : SameSpace next b.held image = subst (λ (s : Slot). SameSpace s b.held image) slot_is
-            (space_apart here r b holds idle n other below NoFile apart c beside (pending_here pending) start.slot (held_has here r b holds) t late le image possible) in
+            let later = space_here pending t late le image possible in
             record {
               chunks = λ at low high. later.chunks at low (omega (arith, high)) ∙ first.chunks at low high;
               mapping = λ live. later.mapping live ∙ first.mapping live;
@@ -250,6 +261,26 @@ module _ (r : Repository) (store : Store) (number : ℕ) (start : Start) (of : I
         keeps pending u has t after le image possible = elim (cases_lt b.moment t) [
           | inl late ↦ subst (λ (v : Slot). SameSpace v a.held image) (one_slot store.slot u a.held (held_has store r a held) has) (space_on pending t late le image possible)
           | inr early ↦ changes.space pending u has t after early image (λ file. lends.goes.left t file (image file) early (possible file))
+        ]
+
+        -- behind the step each image has the table
+        has_table : NothingPending a → (t : ℕ) → b.moment < t → t ≤ c.moment → (image : Image) → Possible (c.may_leave t) image → HasLive next image × AddsBytes store.slot (spelling table) a.held image
+        has_table pending t late le image possible =
+            let live = held_has here r b holds in
+            let first = adds_renamed r store of table (table_may r) fits tt start.slot attempt slot_is room drawn a held b step in
+            let later = space_here pending t late le image possible in
+            let low = of.slot.horizon in (
+              subst (λ (s : Slot). HasLive s image) slot_is
+                  (record { control = live.control; index = live.index; held = control_apart here r b holds idle n other below NoFile apart c beside (pending_here pending) t late le image possible ∙ live.held; live = live.live }),
+              record { same = space_on pending t late le image possible; added = λ k inside. later.chunks (store.slot.end + k) (omega (arith, low)) (omega (arith, inside)) ∙ first.added k inside },
+            )
+
+        pub begun_front : NothingPending a → LeavesFront store held.stands.standing.records (appending ((store.slot.end, table_of r) ∷ [])) a c
+        begun_front pending core seen t after le image possible = elim (cases_lt b.moment t) [
+          | inl late ↦
+              let both = has_table pending t late le image possible in
+              rename_comes r store of table (table_may r) fits tt start.slot attempt slot_is room drawn a held image both.0 both.1 core seen
+          | inr early ↦ cut_front b (Ok tt) step pending core seen t after early image (λ file. lends.goes.left t file (image file) early (possible file))
         ]
 
         pub starts_lent : {A : Type 0} (result : Result A CollectFault) → (IsBegun result → lending c start.job.attempt ≡ lent) → StartsCollection r start.job.attempt result (begun store start space) a c

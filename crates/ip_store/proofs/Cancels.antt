@@ -5,7 +5,7 @@
 --     idle_answers, orphan_answers, done_answers      the answers, with the tables.      none_runs      a collection of which a test says so
 --     idle, held_idle      the store without it holds what it held.      phase, other, below      its attempt is not the live one, and was drawn
 --     for_settle      an attempt is settled
---     orphan_left, cut_off, swept_away      what each way out does to what is told, and what the store holds then.      orphan_stays, swept_stays      each record stays, and there are no others: swept_list
+--     orphan_left, cut_off, swept_away      what each way out does to what is told, and what the store holds then.      orphan_stays, swept_stays      each record stays, and there are no others: swept_list; nor does a crash leave others: cut_leaves, swept_leaves
 use Rattle.std.proofs.Common.{◌∙◌, ap, ◌≡◌, ◌≢◌, ℕ, ◌<◌, Option, Some, None, true, refl, sym, subst, arith}
 use Rattle.std.specs.Prelude.{Bool, false, ◌/◌, ◌≤◌, Result, Ok, Err, IsErrAnd, if◌then◌else◌, ◌==◌}
 use Rattle.std.proofs.lemmas.Bool.Decides.{nat_tests}
@@ -26,6 +26,7 @@ use Rattle.ip_spec.specs.Repository.{Repository}
 use Rattle.ip_spec.specs.TreeAt.{Records, present}
 use Rattle.ip_spec.specs.Step.{outcome, turned}
 use Rattle.ip_image.specs.declared.slot.Slot.{Slot}
+use Rattle.ip_image.specs.Pending.{NothingPending}
 use Rattle.ip_image.specs.Slot.{IsSlot}
 use Rattle.ip_store.specs.declared.cancelling.CancelFault.{CancelFault}
 use Rattle.ip_store.specs.declared.cancelling.Cancelled.{Cancelled}
@@ -36,11 +37,12 @@ use Rattle.ip_store.specs.Cancelling.{Cancels}
 use Rattle.ip_store.specs.Collecting.{phase_of, IsPhase, IsPhaseOf, IsUnswept}
 use Rattle.ip_store.specs.Commits.{Turns, met_nothing}
 use Rattle.ip_store.specs.Starting.{AnswersCall}
+use Rattle.ip_store.specs.StandsBy.{LeavesStill}
 use Rattle.ip_store.specs.Store.{IsOf, Holds, image_records}
 use Rattle.ip_store.specs.Sweeping.{AllBut, IsApart, IsSwept, SweepsFiles, ChangesFor, KeepsFiles, swept_to}
 use Rattle.ip_store.specs.Trees.{RecordsStay}
 use Rattle.ip_store.specs.Work.{state_at}
-use Rattle.ip_store.proofs.Apart.{beside_for, for_only, for_before, holds_apart, list_apart, recovers_apart, pending_apart, flushed_apart, space_apart}
+use Rattle.ip_store.proofs.Apart.{beside_for, for_only, for_before, holds_apart, list_apart, recovers_apart, pending_apart, flushed_apart, leaves_apart, space_apart}
 use Rattle.ip_store.proofs.KeptFiles.{keeps_itself, keeps_on, keeps_ended, keeps_swept}
 use Rattle.ip_store.proofs.Machine.{asks_none}
 use Rattle.ip_store.proofs.Swept.{foreign_on}
@@ -96,7 +98,7 @@ module _ (r : Repository) (c : Collection) (work : Work) where
 
 -- ---- what is unswept
 
-zero_is : (n : ℕ) → (n == 0) ≡ true → n ≡ 0
+pub zero_is : (n : ℕ) → (n == 0) ≡ true → n ≡ 0
 zero_is n is = grind (arith, nat_tests)
 
 positive : (n : ℕ) → (n == 0) ≡ false → 1 ≤ n
@@ -246,6 +248,10 @@ module _ (store : Store) (r : Repository) (a : Told) (holds : Holds store a r) (
   stays_apart : (b : Told) → ChangesFor n these a b → (store' : Store) (q : Repository) (now : Holds store' b q) → RecordsStay (image_records holds) (image_records now)
   stays_apart b changes store' q now at x there = subst (λ (rs : Records). present rs at ≡ Some x) (sym (list_after b changes store' q now)) there
 
+  -- as do those of each image that a crash leaves
+  leaves_after : (b : Told) → ChangesFor n these a b → NothingPending a → LeavesStill holds.stands.standing.records a b
+  leaves_after b changes = leaves_apart idle r a held_idle refl n other below these apart b (beside_for n these a b changes)
+
   module _ (result : Result Cancelled CancelFault) (b : Told) (changes : ChangesFor n these a b) (files : KeepsFiles a b) (u : Unswept) (met : Met) (unswept : IsUnswept store.slot u) where
     held_now : Holds (over store u met) b r
     held_now = over_holds idle r u met b unswept (holds_apart idle r a held_idle refl n other below these apart b (beside_for n these a b changes))
@@ -283,10 +289,16 @@ module _ (store : Store) (r : Repository) (a : Told) (holds : Holds store a r) (
     same : x ≡ c
     same = cc (here, runs)
 
+    cut_changes : (e : GroundFault) (b : Told) → Settles x.job.attempt (Err e) a b → ChangesFor n these a b
+    cut_changes e b settles = for_only n these a b (only_more a b NoFile these (λ file none. absurd none) settles.refused)
+
+    pub cut_leaves : (e : GroundFault) (b : Told) → Settles x.job.attempt (Err e) a b → NothingPending a → LeavesStill holds.stands.standing.records a b
+    cut_leaves e b settles = leaves_after b (cut_changes e b settles)
+
     pub cut_off : (o : Option Collection) → o ≡ None → (result : Result Cancelled CancelFault) (e : GroundFault) (b : Told) (met : Met) → IsErrAnd result (λ fault. fault ≡ CancelFault.Ground) → Settles x.job.attempt (Err e) a b → Cancels r c result store.unswept (ending store o store.unswept met) a b
     cut_off o gone (Ok way) e b met err settles = absurd err
     cut_off o gone (Err fault) e b met err settles = subst (λ (p : Option Collection). Cancels r c (Err fault) store.unswept (ending store p store.unswept met) a b) (sym gone)
-        (not_done (Err fault) b (for_only n these a b (only_more a b NoFile these (λ file none. absurd none) settles.refused)) (keeps_ended a b x.job.attempt (Err e) settles) store.unswept met holds.tables.unswept (λ done. absurd (cc (done))))
+        (not_done (Err fault) b (cut_changes e b settles) (keeps_ended a b x.job.attempt (Err e) settles) store.unswept met holds.tables.unswept (λ done. absurd (cc (done))))
 
     module _ (left : ℕ) (b d : Told) (settles : Settles x.job.attempt (Ok tt) a b) (sweeps : SweepsFiles these left b d) where
       ours : Settles n (Ok tt) a b
@@ -305,6 +317,9 @@ module _ (store : Store) (r : Repository) (a : Told) (holds : Holds store a r) (
           (λ done was. (b.held, settled_stays n b d b.held these (settled_at n a b was ours) sweeps.only))
           (λ done zero file this own. sweeps.gone zero file this (theirs file own))
           (λ done few. (let those = sweeps.all_but few in (those.0, those.1, λ file this own. those.2 file this (theirs file own)))))
+
+      pub swept_leaves : NothingPending a → LeavesStill holds.stands.standing.records a d
+      swept_leaves = leaves_after d changes
 
       pub swept_list : (store' : Store) (q : Repository) (now : Holds store' d q) → now.stands.standing.records ≡ holds.stands.standing.records
       swept_list = list_after d changes

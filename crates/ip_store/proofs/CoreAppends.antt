@@ -188,7 +188,7 @@ sees_same store store' same a r q held now = record { collection = same.collecti
 pub sees_still : (store store' : Store) → SameTables store store' → (a b : Told) → ChangesOnly NoFile a b → (r q : Repository) (held : Holds store a r) (now : Holds store' b q) → Sees store held.stands.standing.records store' now.stands.standing.records
 sees_still store store' same a b only r q held now = record { collection = same.collection; horizon = ap (λ (s : Slot). s.horizon) same.slot; list = still_list store store' same r q a b only held now }
 
-core_seen : (store other : Store) (records others : Records) → Sees store records other others → (core : Core) → IsCoreOf other others core → IsCoreOf store records core
+pub core_seen : (store other : Store) (records others : Records) → Sees store records other others → (core : Core) → IsCoreOf other others core → IsCoreOf store records core
 core_seen store other records others same core is = record {
   phase = is.phase;
   seen = subst (λ (rs : Records). CorePhaseOf rs store.collection is.phase) same.list (subst (λ (o : Option Collection). CorePhaseOf others o is.phase) same.collection is.seen);

@@ -47,6 +47,7 @@ use Rattle.ip_store.proofs.FinishSpans.{Spared, atomic_front, atomic_still, spar
 use Rattle.ip_store.proofs.Ended.{ends_more, ends_on, ends_only}
 use Rattle.ip_store.proofs.FinishTurns.{IsEnding, each_look, met_heard, met_of, repository_is, told_difference, turn_of, turned_heard, turns_end, turns_none, turns_runs, turns_wait}
 use Rattle.ip_store.proofs.KeptFiles.{keeps_on, keeps_store}
+use Rattle.ip_store.proofs.LeftImages.{swapped_front, swapped_still}
 use Rattle.ip_store.proofs.Stepping.{in_itself, same_tables}
 use Rattle.ip_store.proofs.WorksRemain.{works_remain}
 
@@ -193,6 +194,7 @@ module _ (store : Store) (c : Collection) (runs : store.collection ≡ Some c) (
           does = subst (λ (q : Repository). FinishesAs r q c result store.unswept told_store a b) (sym lands) does.does;
           remains = does.remains;
           same = does.same;
+          leaves = does.leaves;
         }
 
     -- ---- works
@@ -489,6 +491,7 @@ module _ (store : Store) (c : Collection) (runs : store.collection ≡ Some c) (
               does = subst (λ (q : Repository). FinishesAs r q c result store.unswept now a d) same (finishes_as (repository_after r known command is.met) is.does);
               remains = is.remains;
               same = is.same;
+              leaves = λ pending. swapped_front records c a b d is.does.only.beside.goes span.live (span.leaves pending) (is.leaves (span.pending pending));
             }
 
         module _ (heard : Store) (known_is : heard ≡ record store { collection = Some (record c { exit = Some reaped }) }) (held_b : Holds heard b r) where
@@ -534,6 +537,7 @@ module _ (store : Store) (c : Collection) (runs : store.collection ≡ Some c) (
       };
       remains = λ q here has. absurd has;
       same = λ q here has. absurd has;
+      leaves = λ pending. swapped_still held.stands.standing.records c a b (cut_span.leaves pending);
     }
 
 -- ---- what was met is noted

@@ -12,7 +12,7 @@ use Rattle.ip_ground.specs.declared.names.FileName.TheVariants.{Control, Mapping
 use Rattle.ip_ground.specs.declared.names.Reaped.{Reaped}
 use Rattle.ip_ground.specs.Contents.{Image}
 use Rattle.ip_ground.specs.Custody.{settled, IsOfAttempt}
-use Rattle.ip_ground.specs.Told.{Told, IsForeign, IsSettledAs, Only, NoFile, ChangesOnly}
+use Rattle.ip_ground.specs.Told.{Told, IsForeign, IsSettledAs, KeepsPast, Only, NoFile, ChangesOnly}
 use Rattle.ip_ground.proofs.Lending.{own_settled, settled_stays}
 use Rattle.ip_ground.proofs.Spans.{goes_on, only_more, only_on}
 use Rattle.ip_spec.specs.declared.met.Child.TheVariants as Child
@@ -42,6 +42,7 @@ use Rattle.ip_store.specs.Collecting.{HasEnded, IsOfChild, Collects, IsUnswept, 
 use Rattle.ip_store.specs.Ending.{EndsBy, TellsDifference, after_with, after_cut}
 use Rattle.ip_store.specs.Finishing.{HasAnswer, IsCollected, IsSweptBehind, MayTouch, Serves, met_by_finish, swapped_slot}
 use Rattle.ip_store.specs.Judging.{IsCut, TellsVerdict, with_check}
+use Rattle.ip_store.specs.StandsBy.{LeavesSwapped}
 use Rattle.ip_store.specs.Store.{Holds}
 use Rattle.ip_store.specs.Swapping.{Accepts, AcceptsAs, IsSwapFault, IsTurnedDown}
 use Rattle.ip_store.specs.Sweeping.{AllBut, IsApart, IsSwept, ChangesBeside, EndsFor, KeepsFiles, SweepsFiles, swept_to}
@@ -52,7 +53,8 @@ use Rattle.ip_store.proofs.Remaining.{until_front}
 use Rattle.ip_store.proofs.FinishSpans.{Spared, atomic_behind, atomic_front, atomic_still, spared_by}
 use Rattle.ip_store.proofs.Ended.{ends_more, ends_on, ends_only, ends_stays}
 use Rattle.ip_store.proofs.KeptFiles.{keeps_on, keeps_store, keeps_swept}
-use Rattle.ip_store.proofs.Recovering.{recovers_now}
+use Rattle.ip_store.proofs.LeftImages.{swapped_behind, swapped_front, swapped_still}
+use Rattle.ip_store.proofs.Recovering.{held_has, recovers_now}
 use Rattle.ip_store.proofs.Stepping.{in_itself, same_holds}
 use Rattle.ip_store.proofs.Swept.{foreign_on}
 
@@ -75,7 +77,7 @@ module _ (records : Records) (r : Repository) (c : Collection) (check : Option C
   accepts_checked FinishFault.Memory store now is = is
 
   pub accepts_as : (result : Result (Unit {0}) FinishFault) (store : Store) (a b : Told) → AcceptsAs records r (record c { check = check }) result store a b → AcceptsAs records r c result store a b
-  accepts_as result store a b is = record { only = is.only; files = is.files; holds = is.holds; serves = is.serves; remains = is.remains; atomic = is.atomic; nothing_pending = is.nothing_pending; flushed = is.flushed }
+  accepts_as result store a b is = record { only = is.only; files = is.files; holds = is.holds; serves = is.serves; remains = is.remains; atomic = is.atomic; leaves = is.leaves; nothing_pending = is.nothing_pending; flushed = is.flushed }
 
 module _ (store : Store) (r : Repository) (a : Told) (held : Holds store a r) (c : Collection) (runs : store.collection ≡ Some c) (reaped : Reaped) (kept : c.exit ≡ Some reaped) where
   abbrev A : Standing a.held
@@ -147,6 +149,7 @@ module _ (store : Store) (r : Repository) (a : Told) (held : Holds store a r) (c
       };
       remains = λ q here collected. absurd (not collected);
       same = λ q here has no. span.same here.stands.standing;
+      leaves = λ pending. swapped_still records c a b (span.leaves pending);
     }
 
   -- ---- no file changes
@@ -235,6 +238,9 @@ module _ (store : Store) (r : Repository) (a : Told) (held : Holds store a r) (c
       same_b : records_b ≡ records
       same_b = span_still.same held_b.stands.standing
 
+      leaves_begun : (d : Told) → NothingPending a → KeepsPast b d → LeavesSwapped records_b c b d → LeavesSwapped records c a d
+      leaves_begun d pending goes is = swapped_front records c a b d goes span_still.live (span_still.leaves pending) (subst (λ (rs : Records). LeavesSwapped rs c b d) same_b is)
+
       -- what the swap asks
       pub asked_of : IsVerdict (until c.job.end records_b) c.job (found_in b.held n) None
       asked_of = verdict_on held_b.stands.standing None v
@@ -274,6 +280,7 @@ module _ (store : Store) (r : Repository) (a : Told) (held : Holds store a r) (c
               };
               remains = λ q here collected. absurd collected;
               same = λ q here has. absurd has;
+              leaves = λ pending. leaves_begun d pending is.only.beside.goes (is.leaves (span_still.pending pending));
             }
 
         pub refused_by : (fault : FinishFault) → IsSwapFault fault → Accepts (Err fault) r c mid now → (IsTurnedDown (Err fault) → d ≡ b) → AcceptsAs records_b r c (Err fault) now b d
@@ -350,6 +357,15 @@ module _ (store : Store) (r : Repository) (a : Told) (held : Holds store a r) (c
               (ends_on n Touched b d f (ends_more n (Only Control) b d Touched (λ file this. inl this) is.only)
               (ends_only n Touched d f (only_more d f swept_files Touched (λ file this. inr (to_old file this)) sweeps.only)))
 
+          -- and the records are those that remain
+          list_then : (kept : Records) × AreKept records c.job.horizon c.job.end kept × (is.holds.stands.standing.records ≡ remaining c.job.horizon kept records)
+          list_then = (let there = is.remains q is.holds in (there.0, subst (λ (rs : Records). AreKept rs c.job.horizon c.job.end there.0) same_b there.1, there.2 ∙ ap (λ (rs : Records). remaining c.job.horizon there.0 rs) same_b))
+
+          leaves_swept : NothingPending a → LeavesSwapped records c a f
+          leaves_swept pending = swapped_behind records c a d f sweeps.only.goes (leaves_begun d pending is.only.beside.goes (is.leaves (span_still.pending pending))) (λ t late le image possible.
+              let by = span_swept.leaves (is.nothing_pending (span_still.pending pending)) now.slot (held_has now q d is.holds) t late le image possible in
+              (list_then.0, list_then.1, record { repository = by.repository; stands = by.stands; list = by.list ∙ list_then.2; low = by.low ∙ ap (λ (s : Slot). s.horizon) slot_is }))
+
           pending_then : NothingPending a → NothingPending f
           pending_then pending = span_swept.pending (is.nothing_pending (span_still.pending pending))
 
@@ -385,14 +401,9 @@ module _ (store : Store) (r : Repository) (a : Told) (held : Holds store a r) (c
                 flushed = λ pending. span_swept.flushed (is.nothing_pending (span_still.pending pending));
                 settled = λ has. (ended.pair, ends_stays n Touched a f changes_all ended.pair ended.settled);
               };
-              remains = λ p here has. (
-                  let there = is.remains q is.holds in (
-                    there.0,
-                    subst (λ (rs : Records). AreKept rs c.job.horizon c.job.end there.0) same_b there.1,
-                    span_swept.same here.stands.standing ∙ there.2 ∙ ap (λ (rs : Records). remaining c.job.horizon there.0 rs) same_b,
-                  )
-                  );
+              remains = λ p here has. (list_then.0, list_then.1, span_swept.same here.stands.standing ∙ list_then.2);
               same = λ p here has no. absurd (no tt);
+              leaves = leaves_swept;
             }
 
           pub collected_by : (swept : Store) → swept ≡ record now { unswept = if left == 0 then swept_to now.slot else now.unswept }

@@ -14,14 +14,16 @@ use Rattle.ip_ground.proofs.Spans.{only_nowhere}
 use Rattle.ip_spec.specs.Repository.{Repository}
 use Rattle.ip_spec.specs.TreeAt.{Records}
 use Rattle.ip_image.specs.Headline.{RecoversTo, RecoversToEither, IsAtomic}
-use Rattle.ip_image.specs.Pending.{Crash, crash_at, crash_now, NothingPending, AllFlushed}
+use Rattle.ip_image.specs.declared.slot.Slot.{Slot}
+use Rattle.ip_image.specs.Pending.{Crash, HasLive, crash_at, crash_now, NothingPending, AllFlushed}
 use Rattle.ip_image.specs.Standing.{Standing}
 use Rattle.ip_image.proofs.HeadlineLaws.{flushed_less}
 use Rattle.ip_store.specs.Ending.{Listens}
+use Rattle.ip_store.specs.StandsBy.{LeavesStill}
 use Rattle.ip_store.specs.Store.{Holds}
 use Rattle.ip_store.specs.declared.store.Store.{Store}
 use Rattle.ip_store.specs.Sweeping.{IsApart, ChangesBeside}
-use Rattle.ip_store.proofs.Apart.{list_apart, recovers_apart, pending_apart, flushed_apart}
+use Rattle.ip_store.proofs.Apart.{list_apart, recovers_apart, pending_apart, flushed_apart, leaves_apart, live_apart}
 use Rattle.ip_store.proofs.Ended.{ends_only, ends_settled}
 use Rattle.ip_store.proofs.KeptFiles.{keeps_itself, keeps_ended}
 use Rattle.ip_store.proofs.LookedUp.{recovers_less}
@@ -46,6 +48,8 @@ pub record Spared (r : Repository) (records : Records) (a b : Told) : Type 0 whe
   pub pending : NothingPending a → NothingPending b
   pub flushed : NothingPending a → AllFlushed (crash_now b)
   pub same : (B : Standing b.held) → B.records ≡ records
+  pub live : (s : Slot) → HasLive s a.held → HasLive s b.held
+  pub leaves : NothingPending a → LeavesStill records a b
 
 pub spared_by : (store : Store) (r : Repository) (a : Told) (holds : Holds store a r) → store.collection ≡ None → (n : ℕ) → n ≢ store.slot.live → n < store.slot.next_attempt
     → (these : FileName → Type 0) → ((file : FileName) → these file → IsApart store.slot file) → (b : Told) → ChangesBeside n these a b → Spared r holds.stands.standing.records a b
@@ -55,6 +59,8 @@ spared_by store r a holds none n other below these apart b changes = record {
   pending = pending_apart store r a holds none n other below these apart b changes;
   flushed = flushed_apart store r a holds none n other below these apart b changes;
   same = list_apart store r a holds none n other below these apart b changes;
+  live = live_apart store r a holds none n other below these apart b changes;
+  leaves = leaves_apart store r a holds none n other below these apart b changes;
 }
 
 -- what a crash may leave of an earlier moment does not grow

@@ -1,8 +1,8 @@
 -- A branch that moves on: what comes of its record.
 --     forward_comes, forward_goes      where it was not appended.      moved_goes      where it was.      forward_undamaged      no file of others was met
 --     limits_value, limits_fault      which limit is met, of the answer of another call.      forward_room      there is room for its record.      forward_above      it goes below no collection's commit
-use Rattle.std.proofs.Common.{◌≡◌, ℕ, ◌<◌, ◌≤◌, ◌^◌, refl, ap, Some}
-use Rattle.std.specs.Prelude.{Result, Ok, Err, IsErrOf, is_some, not, ◌&&◌, ◌==◌, nat_le, Option}
+use Rattle.std.proofs.Common.{◌≡◌, ℕ, ap}
+use Rattle.std.specs.Prelude.{Result, Ok, Err, is_some, not, ◌&&◌, ◌==◌, nat_le, Option}
 use Rattle.ip_base.specs.declared.limit.Limit.{Limit}
 use Rattle.ip_spec.specs.declared.record.Record.{Record}
 use Rattle.ip_spec.specs.declared.reply.Reply.{Reply}

@@ -2,8 +2,8 @@
 --     IsFollowed reply s' merge      the merge's turn that goes with the commit's.      follow      there is one
 --     answers_joined, moments_joined      the reply, and what it does to what a ground tells
 --     limits_joined, appends_joined      where the records lie, and which limit is met
-use Rattle.std.proofs.Common.{◌≡◌, ℕ, ◌+◌, ◌^◌, ◌<◌, ◌≤◌, Bool, true, false, List, [], ◌∷◌, ◌++◌, length, Option, Some, None, inl, inr, refl, sym, ◌∙◌, ap, subst, arith, length-append}
-use Rattle.std.specs.Prelude.{Result, Ok, Err, OnOk, IfSome, IsErrOf, is_some, not, ◌&&◌, ◌==◌, nat_le, if◌then◌else◌}
+use Rattle.std.proofs.Common.{◌≡◌, ℕ, ◌+◌, ◌^◌, ◌<◌, ◌≤◌, Bool, true, false, List, [], ◌∷◌, length, Option, Some, None, inr, refl, sym, ◌∙◌, ap, subst, arith, length-append}
+use Rattle.std.specs.Prelude.{Result, Ok, Err, OnOk, IfSome, is_some, not, ◌&&◌, ◌==◌, nat_le, if◌then◌else◌}
 use Rattle.std.specs.List.{list_any}
 use Rattle.ip_base.specs.declared.info.Info.{Info}
 use Rattle.ip_base.specs.declared.limit.Limit.{Limit}
@@ -29,7 +29,7 @@ use Rattle.ip_spec.specs.TreeAt.{Records}
 use Rattle.ip_spec.specs.View.{View}
 use Rattle.ip_spec.proofs.BatchLaws.{batch_lies}
 use Rattle.ip_image.specs.declared.slot.Slot.{Slot}
-use Rattle.ip_image.specs.Appending.{fields_of, grown_batch, grown_end, bytes_of_records}
+use Rattle.ip_image.specs.Appending.{fields_of, grown_batch, bytes_of_records}
 use Rattle.ip_store.specs.declared.committing.StoreFault.{StoreFault}
 use Rattle.ip_store.specs.declared.merging.Merge.{Merge}
 use Rattle.ip_store.specs.declared.merging.Sides.{Sides}
@@ -37,7 +37,7 @@ use Rattle.ip_store.specs.declared.store.Store.{Store}
 use Rattle.ip_store.specs.declared.work.Work.{Work}
 use Rattle.ip_store.specs.Changes.{Changes, Appends, HasAnswer, LimitsSpace}
 use Rattle.ip_store.specs.Commits.{Answers, Commits, conditions_of, met_nothing, reply_to, repository_after, records_of, end_of, committed}
-use Rattle.ip_store.specs.Merging.{merge_reply, IsTurn, Moves, GoesOnFrom, AnswersMerge, IsUnmoved, MergesAtMoments, IsMergeView, MergeAppends, HasAppended, AppendsMerge, LimitsMerge, IsJoin, IsOutcome}
+use Rattle.ip_store.specs.Merging.{merge_reply, IsTurn, Moves, GoesOnFrom, AnswersMerge, IsUnmoved, MergesAtMoments, IsMergeView, MergeAppends, AppendsMerge, LimitsMerge, IsJoin, IsOutcome}
 use Rattle.ip_store.specs.Store.{IsOf, Holds}
 use Rattle.ip_store.specs.Collecting.{not_leaving_in}
 use Rattle.ip_store.specs.Work.{IsThere, session, state_at, work_at}

@@ -7,7 +7,7 @@
 --     at_head      a branch's commit is there
 use Rattle.std.proofs.Common.{◌≡◌, ◌≢◌, ℕ, zero, suc, ◌<◌, ◌≤◌, Bool, true, false, List, [], ◌∷◌, length, Option, Some, None, refl, sym, ◌∙◌, ap, subst, arith}
 use Rattle.std.specs.Prelude.{Result, Ok, Err, All, AllPairs, IsTrue, IfSome, min, not, ◌&&◌, ◌||◌, ◌==◌, nat_le, nat_lt, if◌then◌else◌}
-use Rattle.std.specs.List.{AllByRecursion, list_any}
+use Rattle.std.specs.List.{list_any}
 use Rattle.std.proofs.lemmas.List.Elements.{All-from_recursion}
 use Rattle.std.proofs.lemmas.Bool.Decides.{nat_tests}
 use Rattle.ip_base.specs.declared.limit.Limit.{Limit}
@@ -23,7 +23,6 @@ use Rattle.ip_spec.specs.declared.record.Record.{Record}
 use Rattle.ip_spec.specs.declared.reply.Reply.{Reply}
 use Rattle.ip_spec.specs.History.{is_ancestor, is_proper_ancestor, reaches, lcas, parents_at, ParentsFirst}
 use Rattle.ip_spec.specs.Machine.{Phase}
-use Rattle.ip_spec.specs.Map.{get}
 use Rattle.ip_spec.specs.Merge.{Rule, IsOneAnswer, Merges, Outcome, merged, conflict_at}
 use Rattle.ip_spec.specs.MergeModel.{base_of}
 use Rattle.ip_spec.specs.Path.{Bytes, Path}
@@ -34,7 +33,6 @@ use Rattle.ip_spec.specs.View.{View, no_view, least}
 use Rattle.ip_save.specs.Batches.{HasShortContents}
 use Rattle.ip_tree.specs.TreeView.{IsView, stored_view}
 use Rattle.ip_tree.specs.declared.tree.Tree as lazy
-use Rattle.ip_three.specs.Merging.{of_left, of_right}
 use Rattle.ip_three.specs.Answered.{MergesTrees, MergedView, ground_three, whole, edited}
 use Rattle.ip_three.specs.declared.merge.ThreeFault.{ThreeFault}
 use Rattle.ip_three.specs.declared.merge.ThreeFault.TheVariants as three

@@ -1,5 +1,6 @@
 mod Reading
 mod Making
+mod Clearing
 mod Spelling
 mod Keyed
 mod Steps
@@ -71,4 +72,8 @@ mod SwapStep
 mod Accepting
 pub mod OneCore
 mod EndTied
+mod LeftImages
+mod EndFronts
 mod BeginTied
+mod StepFronts
+mod CommitFront

@@ -4,6 +4,7 @@
 --     readable_by, readable_of      a store's space is readable.      holds_on      a store holds on what it held, where the live slot and the bytes of its records are as before
 --     commits_there      at the store's places stand the records of its commits
 --     over, records_good, records_parts, records_below      of the records of the image that a store holds: the space reads them; what each of them is, and of what it is a part; where it lies
+--     list_by, list_in      an image with the live slot and the bytes of the records has the same ones
 --     same_list, same_records      of two images of which one reads as the other did; and of one image, whichever proof says that it stands
 use Rattle.std.proofs.Common.{◌≡◌, ◌≢◌, ◌⊎◌, inl, inr, ℕ, zero, suc, ◌+◌, ◌≤◌, List, [], ◌∷◌, ◌++◌, map, length, refl, sym, ◌∙◌, ap, subst, arith, append_assoc, append-nil, length-append}
 use Rattle.std.specs.Prelude.{◌<◌, Bool, true, false, cond, Option, Some, IfSome, slice_get}
@@ -266,6 +267,13 @@ readable_by store r told of owns =
 pub readable_of : (store : Store) (r : Repository) (told : Told) → Holds store told r → IsReadable told store.space
 readable_of store r told holds = readable_by store r told holds.tables holds.pair
 
+-- an image with the live slot and all bytes of the records has the same ones, in whatever way it stands
+pub list_by : (image other : Image) (s : Slot) (A : Standing image) → HasLive s image → HasLive s other → SameSpace s image other → (B : Standing other) → B.records ≡ A.records
+unfolding spelling_of
+list_by image other s A has live same B =
+    records_go_on image other s s [] A B has live (same_generation_itself s) refl (λ k d low. absurd (omega (arith, low)))
+    (record { same = same; added = λ k low. absurd (omega (arith, low)) }) ∙ append-nil A.records
+
 module _ (store : Store) (told : Told) (r : Repository) (holds : Holds store told r) where
   abbrev A : Standing told.held
   A = holds.stands.standing
@@ -324,17 +332,16 @@ module _ (store : Store) (told : Told) (r : Repository) (holds : Holds store tol
       (subst (λ (n : ℕ). AreCommitsAt (present A.records) n (places_in A.records) r.commits) (let f = of.floor in omega (arith, f))
       (commits_from store.slot A.records (ordered_rises 0 A.records store.slot.end records_ordered) [] A.records r.commits refl good_here holds.stands.commits))
 
+  pub list_in : (image : Image) → HasLive store.slot image → SameSpace store.slot told.held image → (B : Standing image) → B.records ≡ A.records
+  list_in image live same B = list_by told.held image store.slot A has live same B
+
   -- while all bytes of the records and the live slot are as before
   module _ (new : Told) (control : new.held Control ≡ told.held Control) (same : SameSpace store.slot told.held new.held) where
     has_new : HasLive store.slot new.held
     has_new = record { control = has.control; index = has.index; held = control ∙ has.held; live = has.live }
 
-    -- the records are the same, in whatever way the image stands
     pub same_list : (B : Standing new.held) → B.records ≡ A.records
-    unfolding spelling_of
-    same_list B =
-        records_go_on told.held new.held store.slot store.slot [] A B has has_new (same_generation_itself store.slot) refl (λ k d low. absurd (omega (arith, low)))
-        (record { same = same; added = λ k low. absurd (omega (arith, low)) }) ∙ append-nil A.records
+    same_list B = list_in new.held has_new same B
 
     pub holds_on : IsSynced new Control → OwnsPair new store.slot → IfSome store.collection (Collects new store.slot A.records r) → Holds store new r
     holds_on kept owns collects =

@@ -1,5 +1,5 @@
 -- What a call does that only looked, and one that changes something only behind that.
---     changes_looked      the relation of a call that only looked
+--     changes_looked      the relation of a call that only looked.      pending_on, space_between      nothing comes to be pending, and each image has the bytes that were there
 --     changes_behind      from the middle on is from the start on, where the first part only looked.      stays_behind, appends_behind      so of the records
 use Rattle.std.proofs.Common.{◌≡◌, ◌≢◌, inl, inr, ℕ, ◌<◌, ◌≤◌, ◌++◌, length, Option, Some, sym, ◌∙◌, ap, subst, arith}
 use Rattle.std.specs.Prelude.{Result, OnOk}
@@ -41,7 +41,7 @@ module _ (r : Repository) (store : Store) (a : Told) (held : Holds store a r) (b
   files : (file : FileName) → KeepsFile a b file
   files file = only.others file (λ none. none)
 
-  pending_on : NothingPending a → NothingPending b
+  pub pending_on : NothingPending a → NothingPending b
   pending_on order = pending_passes a b only.goes files only.lending order
 
   recovers_between : NothingPending a → (t : ℕ) → a.moment < t → t ≤ b.moment → RecoversTo (crash_at b t) r
@@ -57,7 +57,7 @@ module _ (r : Repository) (store : Store) (a : Told) (held : Holds store a r) (b
   ]
 
   -- each image has the bytes that were there
-  space_between : NothingPending a → (u : Slot) → HasLive u a.held → (t : ℕ) → a.moment < t → t ≤ b.moment → (image : Image) → Possible (b.may_leave t) image → SameSpace u a.held image
+  pub space_between : NothingPending a → (u : Slot) → HasLive u a.held → (t : ℕ) → a.moment < t → t ≤ b.moment → (image : Image) → Possible (b.may_leave t) image → SameSpace u a.held image
   unfolding chunk_byte
   space_between order u has t late le image possible = record {
     chunks = λ at low high. order.chunks u has at low high (image (Chunk (chunk_of u.chunk at))) ((files (Chunk (chunk_of u.chunk at))).left (λ x. x) t (image (Chunk (chunk_of u.chunk at))) late le (possible (Chunk (chunk_of u.chunk at))));

@@ -17,6 +17,7 @@ use Rattle.ip_image.proofs.HeadlineLaws.{one_slot}
 use Rattle.ip_store.specs.declared.store.InitFault.{InitFault}
 use Rattle.ip_store.specs.Control.{control_in, IsFresh}
 use Rattle.ip_store.specs.Opening.{Makes}
+use Rattle.ip_store.proofs.Clearing.{made_clear}
 use Rattle.ip_store.proofs.Reading.{own, control_passes, fresh_written, fresh_now, none_of}
 
 to_control : (a b : Told) → ChangesOnly NoFile a b → ChangesOnly (Only Control) a b
@@ -31,6 +32,7 @@ is_there chunk a b passes live = record {
   made = tt;
   kept = tt;
   stands = tt;
+  clear = tt;
   nothing_pending = λ none. tt;
 }
   where
@@ -48,6 +50,7 @@ fails chunk (Err e) a b fault only = record {
   made = tt;
   kept = tt;
   stands = tt;
+  clear = tt;
   nothing_pending = λ none. tt;
 }
 
@@ -87,6 +90,7 @@ makes chunk size a b c d passes closed writes syncs = record {
   made = made;
   kept = syncs.ok (λ x. x);
   stands = fresh_now chunk size d made (syncs.ok (λ x. x));
+  clear = made_clear chunk size d made;
   nothing_pending = λ none. fresh_pending chunk size d made (λ attempt. lending_now a d only.goes attempt (only.lending attempt) ∙ none attempt);
 }
   where

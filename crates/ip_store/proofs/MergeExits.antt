@@ -4,13 +4,12 @@
 --     join_failed, conflict      the trees were not merged
 --     forwarded, forward_moments, forward_appends, forward_limits      the branch moved on
 --     same_merged, same_moments, same_appended      of a store with the same tables.      noted_merged, noted_moments, noted_appended      once it is noted what was met
-use Rattle.std.proofs.Common.{◌≡◌, ℕ, ◌+◌, ◌^◌, ◌<◌, ◌≤◌, true, false, List, [], ◌∷◌, ◌++◌, length, Option, Some, None, inl, refl, sym, ◌∙◌, ap, subst, arith, append-nil}
+use Rattle.std.proofs.Common.{◌≡◌, ℕ, ◌+◌, ◌^◌, ◌<◌, ◌≤◌, List, [], ◌∷◌, length, Option, Some, None, inl, refl, sym, ◌∙◌, ap, subst, append-nil}
 use Rattle.std.specs.Prelude.{Result, Ok, Err, OnOk, IfSome}
 use Rattle.ip_base.specs.declared.info.Info.{Info}
 use Rattle.ip_base.specs.declared.limit.Limit.{Limit}
 use Rattle.ip_ground.specs.declared.names.FileName.TheVariants.{Control}
 use Rattle.ip_ground.specs.Told.{Told, NoFile, ChangesOnly}
-use Rattle.ip_image.specs.declared.slot.Slot.{Slot}
 use Rattle.ip_image.specs.Appending.{bytes_of_records}
 use Rattle.ip_image.proofs.HeadlineLaws.{one_slot}
 use Rattle.ip_merge.specs.Rules.{IsDecisive}
@@ -18,7 +17,7 @@ use Rattle.ip_spec.specs.declared.met.Met.{Met}
 use Rattle.ip_spec.specs.declared.record.Record.{Record}
 use Rattle.ip_spec.specs.declared.reply.Reply.{Reply}
 use Rattle.ip_spec.specs.Machine.{Phase}
-use Rattle.ip_spec.specs.Merge.{Rule, merged, conflict_at}
+use Rattle.ip_spec.specs.Merge.{Rule, conflict_at}
 use Rattle.ip_spec.specs.Path.{Bytes, Path}
 use Rattle.ip_spec.specs.Record.{spelling, spelling_of}
 use Rattle.ip_spec.specs.Repository.{Repository, name_at}
@@ -26,10 +25,9 @@ use Rattle.ip_spec.specs.Step.{with_branch}
 use Rattle.ip_spec.specs.TreeAt.{Records}
 use Rattle.ip_store.specs.declared.committing.StoreFault.{StoreFault}
 use Rattle.ip_store.specs.declared.merging.Merge.{Merge}
-use Rattle.ip_store.specs.declared.merging.Joined.{Joined}
 use Rattle.ip_store.specs.declared.merging.Sides.{Sides}
 use Rattle.ip_store.specs.declared.store.Store.{Store}
-use Rattle.ip_store.specs.Changes.{Changes, Appends, HasAnswer, IsUndamaged, LimitsSpace}
+use Rattle.ip_store.specs.Changes.{Changes, Appends, IsUndamaged, LimitsSpace}
 use Rattle.ip_store.specs.Commits.{fault_reply, met_by, met_nothing, met_of}
 use Rattle.ip_store.specs.Merging.{merge_reply, IsTurn, GoesOnFrom, AnswersMerge, MergesAtMoments, MergeAppends, HasAppended, AppendsMerge, LimitsMerge, IsUnmoved, IsForward, IsForwarded, IsJoin, IsOutcome, IsJoined}
 use Rattle.ip_store.specs.Store.{IsOf, Holds, SameTables}

@@ -2,8 +2,8 @@
 --     IsQuiet reply after      so where nothing is met, whatever the work is.      some_turn      for a rule that answers in one way alone there is such an answer
 --     turn_none, turn_current, turn_leaving, turn_bases, turn_memory      where nothing is merged.      turn_forward      the branch moves on
 --     join_turn      the trees are merged with this outcome
-use Rattle.std.proofs.Common.{◌≡◌, ℕ, suc, ◌<◌, Bool, true, false, List, [], ◌∷◌, length, Option, Some, None, refl, sym, ◌∙◌, ap, subst, arith}
-use Rattle.std.specs.Prelude.{Result, Ok, Err, MatchResult, reverse, nat_lt, is_some, if◌then◌else◌}
+use Rattle.std.proofs.Common.{◌≡◌, ℕ, ◌<◌, Bool, true, false, List, [], ◌∷◌, length, Option, Some, None, refl, sym, ◌∙◌, ap, subst, arith}
+use Rattle.std.specs.Prelude.{Ok, Err, MatchResult, reverse, nat_lt}
 use Rattle.std.specs.Bool.{MatchBool}
 use Rattle.ip_base.specs.declared.info.Info.{Info}
 use Rattle.ip_base.specs.declared.limit.Limit.{Limit}
@@ -14,16 +14,16 @@ use Rattle.ip_spec.specs.declared.command.Target.{Target}
 use Rattle.ip_spec.specs.declared.met.Met.{Met}
 use Rattle.ip_spec.specs.declared.reply.Reply.{Reply}
 use Rattle.ip_spec.specs.History.{is_ancestor, is_proper_ancestor, lcas}
-use Rattle.ip_spec.specs.Machine.{Phase, State, Work}
+use Rattle.ip_spec.specs.Machine.{Phase, Work}
 use Rattle.ip_spec.specs.Merge.{Rule, Merges, Outcome, merged, conflict_at}
 use Rattle.ip_spec.specs.MergeModel.{base_of}
 use Rattle.ip_spec.specs.Path.{Bytes}
-use Rattle.ip_spec.specs.Repository.{Repository, Commit, head, name_at, number_named, tree_at}
-use Rattle.ip_spec.specs.Step.{Refused, Turned, ◌>>=◌, ◌>>◌, or_refused, refuse_if, present, resolve, IsMet, MayBeShort, Merging, MergesInto, Joins, Base, of_none, of_one, both_named, forward_turn, with_branch, with_commit, with_merge, new_commit, not_existing, not_too_wide, tree_of_outcome, within_limits}
+use Rattle.ip_spec.specs.Repository.{Repository, head, name_at, tree_at}
+use Rattle.ip_spec.specs.Step.{Refused, Turned, ◌>>=◌, ◌>>◌, or_refused, refuse_if, present, resolve, IsMet, Merging, MergesInto, Base, of_none, of_one, both_named, forward_turn, with_branch, with_commit, with_merge, new_commit, not_existing, tree_of_outcome, within_limits}
 use Rattle.ip_spec.specs.Tree.{Tree}
 use Rattle.ip_store.specs.declared.committing.StoreFault.{StoreFault}
 use Rattle.ip_store.specs.Collecting.{not_leaving_in}
-use Rattle.ip_store.specs.Commits.{conditions_of, met_nothing, met_of, short_of}
+use Rattle.ip_store.specs.Commits.{conditions_of, met_nothing, met_of}
 use Rattle.ip_store.specs.Merging.{IsTurn, Moves, bases_of}
 use Rattle.ip_store.specs.Work.{state_at}
 use Rattle.ip_store.proofs.BranchTurns.{plain, short, short_so, wanting}

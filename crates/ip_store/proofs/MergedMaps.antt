@@ -1,14 +1,13 @@
 -- The map of a merge: how long its contents are.
 --     short_merged      none are too long where those of the sides are not, and none that a rule gave.      long_merged      one that a rule gave is too long
 --     longest_short, longest_long      the greatest length.      made_map      the map of the view that was made
-use Rattle.std.proofs.Common.{◌≡◌, ℕ, ◌<◌, ◌≤◌, Bool, true, false, List, [], ◌∷◌, length, Option, Some, None, refl, sym, ◌∙◌, ap, subst, arith}
-use Rattle.std.specs.Prelude.{max, fold, cond, IsTrue}
+use Rattle.std.proofs.Common.{◌≡◌, ℕ, ◌<◌, ◌≤◌, Bool, true, false, List, [], ◌∷◌, length, Option, Some, refl, sym, ◌∙◌, ap, subst, arith}
+use Rattle.std.specs.Prelude.{max, fold, cond}
 use Rattle.std.specs.Bool.{MatchBool}
 use Rattle.std.specs.List.{AllByRecursion}
 use Rattle.std.specs.Ordering.{eq_by_cmp}
 use Rattle.std.specs.FinMap.Entries as E
-use Rattle.ip_spec.specs.declared.merge.Merged.{Merged}
-use Rattle.ip_spec.specs.declared.merge.Merged.TheVariants.{Keep, Conflict}
+use Rattle.ip_spec.specs.declared.merge.Merged.TheVariants.{Keep}
 use Rattle.ip_spec.specs.Map.{get}
 use Rattle.ip_spec.specs.Merge.{Rule, IsOneAnswer, Merges, merged, same_value}
 use Rattle.ip_spec.specs.MergeModel.{value_of}
@@ -20,7 +19,7 @@ use Rattle.ip_spec.proofs.TreeLaws.{path_total}
 use Rattle.ip_spec.proofs.Naming.{Member, here, there, member_found}
 use Rattle.ip_save.specs.Batches.{HasShortContents}
 use Rattle.ip_three.specs.Merging.{Side, of_left, of_right, map_of}
-use Rattle.ip_three.specs.Answered.{GivesShort, GivesLong, MergedView, whole, edited, view_of, whole_view}
+use Rattle.ip_three.specs.Answered.{GivesShort, GivesLong, MergedView, whole, edited, whole_view}
 
 -- ---- the greatest length
 

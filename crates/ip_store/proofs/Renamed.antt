@@ -1,7 +1,8 @@
 -- What the tables and the files hold after a record of a branch.
 --     renamed_tables      the tables after it.      can_rename      what the durable step asks
 --     was_renamed, rename_cut      the relation of a call that was made, and of one that a fault cut short
---     space_renamed, list_renamed      the bytes of the records before it, and the records
+--     rename_front, rename_comes      what a crash leaves of it, by the core: of the step, and of an image in which the record stands
+--     adds_renamed, space_renamed, list_renamed      the bytes behind the records and of those before it, and the records
 use Rattle.std.proofs.Common.{◌≡◌, inl, inr, ℕ, ◌-◌, ◌^◌, ◌<◌, ◌≤◌, Bool, true, false, List, [], ◌∷◌, ◌++◌, length, Option, Some, None, refl, sym, ◌∙◌, ap, subst, arith, append-nil}
 use Rattle.std.specs.Prelude.{Result, Ok, Err, All, IfSome, not, nat_le, nat_lt, ◌&&◌, cond}
 use Rattle.std.proofs.lemmas.Bool.Decides.{nat_tests}
@@ -11,6 +12,7 @@ use Rattle.ip_ground.specs.declared.names.GroundFault.{GroundFault}
 use Rattle.ip_ground.specs.Contents.{Image}
 use Rattle.ip_ground.specs.Told.{Told}
 use Rattle.ip_spec.specs.declared.record.Record.{Record}
+use Rattle.ip_spec.specs.Core.{Core}
 use Rattle.ip_spec.specs.Map.{get, insert, remove, len, from_entries, get-insert}
 use Rattle.ip_spec.specs.Path.{Bytes, bytes_cmp}
 use Rattle.ip_spec.specs.Record.{Names, Fits, IsHash, spelling}
@@ -20,7 +22,7 @@ use Rattle.ip_image.specs.declared.layout.Layout.{Layout}
 use Rattle.ip_image.specs.Slot.{IsSlot}
 use Rattle.ip_image.specs.Standing.{Standing, StandsFor, AreRetained, IsServedKind, names_after}
 use Rattle.ip_image.specs.Appending.{AddsBytes, SameGeneration, MayName, renamed}
-use Rattle.ip_image.specs.Pending.{HasLive, SameSpace}
+use Rattle.ip_image.specs.Pending.{HasLive, SameSpace, NothingPending}
 use Rattle.ip_image.proofs.PairLaws.{Has}
 use Rattle.ip_image.proofs.StayingRecords.{In, refs_of}
 use Rattle.ip_spec.proofs.Spelling.{some_bytes}
@@ -34,8 +36,10 @@ use Rattle.ip_space.specs.SpaceView.{SpaceView, grown}
 use Rattle.ip_store.specs.Changes.{Changes, next_slot, IsNextSlot}
 use Rattle.ip_store.specs.Collecting.{IsAbove, IsGoing, Collects, carried}
 use Rattle.ip_store.specs.Placed.{places_in, IsSpaceOf}
+use Rattle.ip_store.specs.Fronts.{ComesOf, LeavesFront}
 use Rattle.ip_store.specs.Publishing.{CanStep, IsWritten, MakesStep}
 use Rattle.ip_store.specs.Store.{IsOf, Holds, image_records}
+use Rattle.ip_store.specs.Tie.{IsCoreOf, appending}
 use Rattle.ip_store.specs.Trees.{RecordsStay}
 use Rattle.ip_store.proofs.CollectsOn.{collects_on, unwritten}
 use Rattle.ip_store.proofs.Going.{going_to, going_on}
@@ -44,6 +48,7 @@ use Rattle.ip_store.proofs.Stepping.{list_after, may_step, adds_now, changed, st
 use Rattle.ip_store.proofs.BranchNames.{named_after}
 use Rattle.ip_store.proofs.NextSlot.{slot_behind, HasRoom, next_room, next_is, next_generation, next_space, unswept_on, within_on}
 use Rattle.ip_store.proofs.Phases.{DrawsNone, phase_to, phase_named}
+use Rattle.ip_store.proofs.StepFronts.{comes_stepped, leaves_step}
 
 abbrev IsAmong : Slot → ℕ → Type 0
 IsAmong s n = (s.floor ≤ n) × (n < s.next)
@@ -183,18 +188,28 @@ module _ (r : Repository) (store : Store) (of : IsOf store r) where
       to_next b res step = same_step store.slot.end store.slot.end store.index store.index (spelling x) (spelling x) slot next_live res a b refl refl refl slot_is step
 
       -- a record of branches refers to nothing
+      no_refs : (y : ℕ × Record) → Has ((store.slot.end, x) ∷ []) y → (at : ℕ) → In (refs_of y.1) at → ⊥
+      no_refs y (inl same) at ref = none_referred r x may at (subst (λ (z : ℕ × Record). In (refs_of z.1) at) (sym same) ref)
+      no_refs y (inr none) at ref = none
+
       renamed_collects : (b : Told) (store' : Store) → store'.slot ≡ slot → store'.collection ≡ store.collection → IsOf store' after → Step b (Ok tt) → (B : Standing b.held) → IfSome store'.collection (Collects b store'.slot B.records after)
       renamed_collects b store' slot' collection tables step B =
           subst (λ (o : Option Collection). IfSome o (Collects b store'.slot B.records after)) (sym collection)
           (subst (λ (t : Slot). IfSome store.collection (Collects b t B.records after)) (sym (slot' ∙ slot_is))
           (collects_on store r after a b held (IsWritten store.slot.chunk store.slot.end) (to_next b (Ok tt) step).only (unwritten store.slot.chunk store.slot.end) next_live refl (let few = some_bytes x in omega (arith, few)) room.ends
           ((store.slot.end, x) ∷ []) (refl, refl) (phase_to store'.slot next_live after store'.collection store.collection (sym (slot' ∙ slot_is)) (sym collection) tables.phase)
-          (λ c is collects y has at ref. absurd (no_refs may y has at ref)) B
+          (λ c is collects y has at ref. absurd (no_refs y has at ref)) B
           (list_after r after store attempt 0 (spelling x) of room a held stands_new b (to_next b (Ok tt) step) ((store.slot.end, x) ∷ []) (fits, tt) (refl, refl) (spelled_is store.slot.end x) B)))
-        where
-          no_refs : MayName r x → (y : ℕ × Record) → Has ((store.slot.end, x) ∷ []) y → (at : ℕ) → In (refs_of y.1) at → ⊥
-          no_refs may y (inl same) at ref = none_referred r x may at (subst (λ (z : ℕ × Record). In (refs_of z.1) at) (sym same) ref)
-          no_refs may y (inr none) at ref = none
+
+      -- whatever the answer is
+      pub rename_front : (b : Told) (res : Result (Unit {0}) GroundFault) → Step b res → NothingPending a → LeavesFront store held.stands.standing.records (appending ((store.slot.end, x) ∷ [])) a b
+      rename_front b res step =
+          leaves_step r after store attempt 0 (spelling x) of room a held stands_new ((store.slot.end, x) ∷ []) (fits, tt) (refl, refl) (spelled_is store.slot.end x) (λ c is collects y has at ref. absurd (no_refs y has at ref)) b res (to_next b res step)
+
+      -- an image with the record behind the others
+      pub rename_comes : (image : Image) → HasLive next_live image → AddsBytes store.slot (spelling x) a.held image → (core : Core) → IsCoreOf store held.stands.standing.records core → ComesOf core (appending ((store.slot.end, x) ∷ [])) image
+      rename_comes =
+          comes_stepped r after store attempt 0 (spelling x) of room a held stands_new ((store.slot.end, x) ∷ []) (fits, tt) (refl, refl) (spelled_is store.slot.end x) (λ c is collects y has at ref. absurd (no_refs y has at ref))
 
       pub was_renamed : (b : Told) (store' : Store) → store'.slot ≡ slot → store'.index ≡ 1 - store.index → store'.names ≡ store.names → store'.branches ≡ names_after Names.branches store.branches x → store'.history ≡ store.history
           → store'.places.items ≡ store.places.items → store'.space ≡ grown store.space slot.end → store'.collection ≡ store.collection → store'.unswept ≡ store.unswept → IsAbove store.collection x → Step b (Ok tt) → Changes {A = Unit {0}} r after (Ok tt) store' a b
@@ -213,9 +228,12 @@ module _ (r : Repository) (store : Store) (of : IsOf store r) where
           list_after r after store attempt 0 (spelling x) of room a held stands_new b (to_next b (Ok tt) step)
           ((store.slot.end, x) ∷ []) (fits, tt) (refl, refl) (spelled_is store.slot.end x) now.stands.standing
 
+      pub adds_renamed : (b : Told) → Step b (Ok tt) → AddsBytes store.slot (spelling x) a.held b.held
+      adds_renamed b step = adds_now r after store attempt 0 (spelling x) of room a held b (to_next b (Ok tt) step)
+
       -- the bytes of the records before it are as they were
       pub space_renamed : (b : Told) → Step b (Ok tt) → SameSpace store.slot a.held b.held
-      space_renamed b step = (adds_now r after store attempt 0 (spelling x) of room a held b (to_next b (Ok tt) step)).same
+      space_renamed b step = (adds_renamed b step).same
 
       pub rename_cut : (b : Told) (store' : Store) (res : Result (Unit {0}) GroundFault) → Step b res → Changes {A = Unit {0}} r after (Err StoreFault.Ground) store' a b
       rename_cut b store' res step = cut_short r after store attempt 0 (spelling x) of room a held stands_new b store' res (to_next b res step)

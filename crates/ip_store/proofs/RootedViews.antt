@@ -3,8 +3,8 @@
 --     known_whole, known_merged      and of a merge those of the two sides
 --     rooted_none, rooted_put, rooted_removed, rooted_grafted, rooted_merged      so each rests on commits that are there
 --     rooted_more      over more records.      rooted_stored      the tree of a commit, of which all is known
-use Rattle.std.proofs.Common.{◌≡◌, ℕ, zero, suc, ◌<◌, ◌≤◌, Bool, true, false, List, [], ◌∷◌, ◌++◌, length, map, refl, sym, ap, subst, ◌∙◌, arith, Option, Some, None}
-use Rattle.std.specs.Prelude.{◌==◌, Contains, not, ◌&&◌, ◌||◌, nat_le, cond, option_and_then, if◌then◌else◌}
+use Rattle.std.proofs.Common.{◌≡◌, ℕ, zero, suc, ◌≤◌, Bool, true, false, List, [], ◌∷◌, ◌++◌, map, refl, sym, subst, arith, Option, Some, None}
+use Rattle.std.specs.Prelude.{◌==◌, Contains, not, ◌&&◌, nat_le, cond, option_and_then, if◌then◌else◌}
 use Rattle.std.proofs.lemmas.Bool.Decides.{nat_tests}
 use Rattle.std.proofs.lemmas.List.Elements.{Contains-append_right}
 use Rattle.ip_spec.specs.Path.{Bytes, Path, Step, same_bytes, after_prefix}
@@ -13,13 +13,12 @@ use Rattle.ip_spec.specs.declared.record.InodeChild.{InodeChild}
 use Rattle.ip_spec.specs.declared.record.LeafEntry.{LeafEntry}
 use Rattle.ip_spec.specs.declared.record.Record.{Record}
 use Rattle.ip_spec.specs.declared.record.Ref.{Ref}
-use Rattle.ip_spec.specs.Record.{references}
 use Rattle.ip_spec.specs.Shape.{deepest, place}
 use Rattle.ip_spec.specs.StoredParts.{entry_named, child_with, entry_by, entry_through, entry_at, stored_by, stored_at, part_by, part_at, stored_part}
 use Rattle.ip_spec.specs.Tree.{Tree, subtree, is_empty, put, remove, graft}
 use Rattle.ip_spec.specs.View.{View, Part, least, is_part, touches, no_view, put_view, remove_view, graft_view, grafted_known}
-use Rattle.ip_three.specs.Answered.{MergedView, view_of, whole_view}
-use Rattle.ip_three.specs.Merging.{Coming, Side, of_left, of_right, put as comes_new, taken, less_at, less, more_at, more, merged_view}
+use Rattle.ip_three.specs.Answered.{MergedView, whole_view}
+use Rattle.ip_three.specs.Merging.{Coming, Side, of_left, of_right, put as comes_new, taken, less_at, less, more_at, more}
 use Rattle.ip_tree.specs.TreeView.{stored_view}
 use Rattle.ip_store.specs.Rooted.{Leads, IsHeld, IsRootedIn, IsRooted}
 use Rattle.ip_store.specs.Trees.{RecordsStay}

@@ -297,7 +297,7 @@ module _ (r after : Repository) (store : Store) (attempt commits : ℕ) (bytes :
   drawn_at b res step pending t late le n some = pending.drawn store.slot old_has n (λ none. some (step.only.lending n t late le ∙ none))
 
   -- each image has the old slot live and the same bytes, or the next slot and these behind them
-  images_at : (b : Told) (res : Result (Unit {0}) GroundFault) → Step b res → NothingPending a → (t : ℕ) → a.moment < t → t ≤ b.moment → (image : Image) → Possible (b.may_leave t) image
+  pub images_at : (b : Told) (res : Result (Unit {0}) GroundFault) → Step b res → NothingPending a → (t : ℕ) → a.moment < t → t ≤ b.moment → (image : Image) → Possible (b.may_leave t) image
       → IsOld store.index store.slot a.held image ⊎ IsNew (1 - store.index) store.slot next bytes a.held image
   images_at b res step pending t late le image possible =
       let pair = same_pair (crash_at b t) store.slot a.held image (pair_at b res step pending t late le) possible in

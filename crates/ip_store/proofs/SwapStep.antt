@@ -1,6 +1,7 @@
 -- The step in which the slot of a swap becomes the live one.
 --     Swaps s next      both slots name the same chunks, the next one from a later horizon on
 --     LeavesBoth crash i j s next image      a crash leaves one of the two as the live one, and the bytes that both name
+--     either_left      each image has the one slot with its bytes, or the other with its
 --     either_stands      so whatever it leaves stands for what the old slot names or for what the next one names, and nothing is pending
 --     both_at      at each moment of such a step.      both_stand      so it is at each
 use Rattle.std.proofs.Common.{◌≡◌, ◌≢◌, ◌⊎◌, inl, inr, ℕ, ◌<◌, ◌≤◌, refl, sym, ◌∙◌, subst, arith}
@@ -61,6 +62,13 @@ module _ (crash : Crash) (i j : ℕ) (s next : Slot) (image : Image) (s_is : IsS
   either_flushed other possible = elim (both.live (other Control) (possible Control)) [
     | inl old ↦ flushed_image crash image other s (in_image i s other s_is old) (old_space other possible) both.chunks both.pair both.drawn
     | inr new ↦ flushed_image crash image other next (in_image j next other next_is new) (new_space other possible) new_chunks (λ some. both.other) (λ n some. (let was = both.drawn n some in let more = swaps.attempts in omega (arith, was, more)))
+  ]
+
+  -- it has the one slot and its bytes, or the other and its
+  pub either_left : (other : Image) → Possible crash.leave other → (HasLive s other × SameSpace s image other) ⊎ (HasLive next other × SameSpace next image other)
+  either_left other possible = elim (both.live (other Control) (possible Control)) [
+    | inl old ↦ inl (in_image i s other s_is old, old_space other possible)
+    | inr new ↦ inr (in_image j next other next_is new, new_space other possible)
   ]
 
   pub either_stands : (r after : Repository) → StandsFor image r → HasLive s image → ((other : Image) → HasLive next other → SameSpace next image other → StandsFor other after) → RecoversToEither crash r after

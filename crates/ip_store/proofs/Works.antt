@@ -1,8 +1,8 @@
 -- What a session works on, under calls that it was not given to.
 --     works_stay      it stays lawful, as long as the records stay, commits are only added, and no fewer are given up
-use Rattle.std.proofs.Common.{◌≡◌, ℕ, ◌≤◌, Option, Some, None, arith}
+use Rattle.std.proofs.Common.{ℕ, ◌≤◌, Option, Some, None, arith}
 use Rattle.ip_spec.specs.declared.record.Record.{Record}
-use Rattle.ip_spec.specs.Repository.{Repository, next}
+use Rattle.ip_spec.specs.Repository.{Repository}
 use Rattle.ip_spec.specs.View.{View}
 use Rattle.ip_tree.proofs.MoreRecords.{view_stays}
 use Rattle.ip_store.specs.declared.work.Work.{Work}

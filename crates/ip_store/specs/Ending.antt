@@ -26,6 +26,7 @@ use Rattle.ip_spec.specs.Step.{collected_at}
 use Rattle.ip_spec.specs.TreeAt.{Records}
 use Rattle.ip_image.specs.Collected.{remaining}
 use Rattle.ip_image.specs.Collection.{Pair, IsValid, IsKept as AreKept, first_difference, found_in}
+use Rattle.ip_image.specs.Pending.{NothingPending}
 use Rattle.ip_check.specs.CheckView.{CheckView}
 use Rattle.ip_store.specs.declared.collection.Collection.{Collection}
 use Rattle.ip_store.specs.declared.collection.Unswept.{Unswept}
@@ -36,6 +37,7 @@ use Rattle.ip_store.specs.declared.store.Store.{Store}
 use Rattle.ip_store.specs.Collecting.{child_of}
 use Rattle.ip_store.specs.Finishing.{LookReplies, Concludes, HasAnswer, IsAsked, IsChecking, IsCollected, IsKept, IsOver, IsQuiet, IsSweptBehind, FinishesAs, KeepsCollection, LimitsFinish, SlotBy, Slices, child_reaped, child_seen, conditions_by, looked_at, looked_of, met_by_finish, unswept_by}
 use Rattle.ip_store.specs.Judging.{FitsRejection, is_zero}
+use Rattle.ip_store.specs.StandsBy.{LeavesSwapped}
 use Rattle.ip_store.specs.Store.{IsOf, Holds}
 use Rattle.ip_store.specs.Sweeping.{EndsFor, KeepsFiles}
 
@@ -133,6 +135,7 @@ pub record EndsBy (records : Records) (r : Repository) (c : Collection) (result 
   pub does : FinishesAs r (after_with result difference r c) c result u store old new
   pub remains : (q : Repository) (now : Holds store new q) → IsCollected result → (kept : Records) × AreKept records c.job.horizon c.job.end kept × (now.stands.standing.records ≡ remaining c.job.horizon kept records)
   pub same : (q : Repository) (now : Holds store new q) → HasAnswer result → ¬ IsCollected result → now.stands.standing.records ≡ records
+  pub leaves : NothingPending old → LeavesSwapped records c old new
 
 -- ---- the call
 

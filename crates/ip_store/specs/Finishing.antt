@@ -53,6 +53,7 @@ use Rattle.ip_store.specs.declared.finishing.Rejection.{Rejection}
 use Rattle.ip_store.specs.declared.store.Store.{Store}
 use Rattle.ip_store.specs.declared.work.Work.{Work}
 use Rattle.ip_store.specs.Collecting.{phase_of}
+use Rattle.ip_store.specs.StandsBy.{LeavesSwapped}
 use Rattle.ip_store.specs.Store.{IsOf, Holds, image_records}
 use Rattle.ip_store.specs.Sweeping.{AllBut, EndsFor, IsSwept, KeepsFiles, swept_to}
 use Rattle.ip_store.specs.Work.{IsLawful, state_at}
@@ -288,6 +289,8 @@ pub record FinishesBy (records : Records) (r : Repository) (c : Collection) (com
   -- what is kept and what came from the commit on, and else all
   pub remains : (q : Repository) (now : Holds store new q) → IsCollected result → (kept : Records) × AreKept records c.job.horizon c.job.end kept × (now.stands.standing.records ≡ remaining c.job.horizon kept records)
   pub same : (q : Repository) (now : Holds store new q) → HasAnswer result → ¬ IsCollected result → now.stands.standing.records ≡ records
+  -- where nothing was pending a crash at any moment leaves all records, or what is kept and what came from the commit on
+  pub leaves : NothingPending old → LeavesSwapped records c old new
 
 -- each work that was lawful is so still, unless it was given up
 abbrev pub WorksStay : {store now : Store} {old new : Told} {r q : Repository} → Holds store old r → Holds now new q → Type 0

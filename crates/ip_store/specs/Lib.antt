@@ -25,5 +25,8 @@ pub mod Work
 pub mod Trees
 pub mod Views
 pub mod Merging
+pub mod Clear
 pub mod Tie
 pub mod TieAppends
+pub mod Fronts
+pub mod StandsBy

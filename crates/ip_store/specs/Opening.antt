@@ -12,6 +12,7 @@ use Rattle.ip_image.specs.Headline.{RecoversTo}
 use Rattle.ip_store.specs.declared.store.InitFault.{InitFault}
 use Rattle.ip_store.specs.declared.opening.OpenFault.{OpenFault}
 use Rattle.ip_store.specs.declared.store.Store.{Store}
+use Rattle.ip_store.specs.Clear.{IsClearAt}
 use Rattle.ip_store.specs.Control.{control_in, IsFresh}
 use Rattle.ip_store.specs.Found.{IsReached}
 use Rattle.ip_store.specs.Store.{OwnsLive, IsSound}
@@ -27,6 +28,8 @@ pub record Makes (chunk : ℕ) (result : Result (Unit {0}) InitFault) (old new :
   pub made : OnOk result (IsFresh chunk new.held)
   pub kept : OnOk result (IsSynced new Control)
   pub stands : OnOk result (EachImageNow new (λ image. StandsFor image no_repository))
+  -- nothing was to be cleared yet
+  pub clear : OnOk result (IsClearAt new)
   -- and nothing is pending, where no attempt was ever lent
   pub nothing_pending : ((attempt : ℕ) → lending old attempt ≡ own) → OnOk result (NothingPending new)
 

@@ -27,6 +27,7 @@ use Rattle.ip_store.specs.declared.finishing.FinishFault.{FinishFault}
 use Rattle.ip_store.specs.declared.store.Store.{Store}
 use Rattle.ip_store.specs.declared.swapping.Swap.{Swap}
 use Rattle.ip_store.specs.Finishing.{Serves, swapped_slot}
+use Rattle.ip_store.specs.StandsBy.{LeavesSwapped}
 use Rattle.ip_store.specs.Store.{IsOf, Holds}
 use Rattle.ip_store.specs.Sweeping.{EndsFor, KeepsFiles}
 
@@ -98,5 +99,6 @@ pub record AcceptsAs (records : Records) (r : Repository) (c : Collection) (resu
   -- what is kept, and what came from the commit on
   pub remains : (q : Repository) (now : Holds store new q) → OnOk result ((kept : Records) × IsKept records c.job.horizon c.job.end kept × (now.stands.standing.records ≡ remaining c.job.horizon kept records))
   pub atomic : NothingPending old → IsAtomic old new r (collected_at r c.commit)
+  pub leaves : NothingPending old → LeavesSwapped records c old new
   pub nothing_pending : NothingPending old → OnOk result (NothingPending new)
   pub flushed : NothingPending old → AllFlushed (crash_now new)

@@ -1,12 +1,16 @@
 // Cancelling a collection: its child is killed, unless it was reaped before, and what it left is swept away.
-ghost use Rattle.std.specs.Prelude.{◌≡◌, ◌↔◌, ℕ, true, false, Option, Some, None, Ok, IsTrue, IsSome, IsOk, IsErrOf, is_some, not};
+ghost use Rattle.std.specs.Prelude.{◌≡◌, ◌↔◌, ℕ, [], ◌∷◌, true, false, Option, Some, None, Ok, IsTrue, IsSome, IsOk, IsErrOf, is_some, not};
 ghost use Rattle.ip_ground.specs.declared.names.Reaped.{Reaped};
 ghost use Rattle.ip_spawn.specs.Children.{told_after};
 ghost use Rattle.ip_spawn.specs.Counts as spawn;
 ghost use Rattle.ip_spec.specs.declared.command.Command.TheVariants as Command;
 ghost use Rattle.ip_spec.specs.Repository.{Repository};
+ghost use Rattle.ip_spec.specs.declared.event.Event.TheVariants as Event;
+ghost use Rattle.ip_image.specs.Pending.{NothingPending};
 ghost use Rattle.ip_store.specs.Cancelling.{CancelReplies, met_by_cancel, IsKilled, CountsCancel, unswept_after, Cancels};
+ghost use Rattle.ip_store.specs.Clear.{KeepsClear, ClearsAll};
 ghost use Rattle.ip_store.specs.Collecting.{child_of};
+ghost use Rattle.ip_store.specs.Fronts.{LeavesFront};
 ghost use Rattle.ip_store.specs.Starting.{AnswersCall};
 ghost use Rattle.ip_store.specs.Store.{IsOf, Holds, image_records};
 ghost use Rattle.ip_store.specs.Tie.{IsTied, cancel_events};
@@ -76,8 +80,14 @@ impl Store {
             Cancels r c result self.old.unswept self.new (G.told outside.old) (G.told outside.new) }
         ensures records_stay { IsTrue G.tells → IsOk result → (r q : Repository) (held : Holds self.old (G.told outside.old) r) (now : Holds self.new (G.told outside.new) q) →
             RecordsStay (image_records held) (image_records now) }
+        // What was cleared stays so, and behind a sweep that left nothing all is.
+        ensures clear { IsTrue G.tells → ¬ IsErrOf result CancelFault.Ground → (r : Repository) → Holds self.old (G.told outside.old) r → KeepsClear self.old self.new (G.told outside.old) (G.told outside.new)
+            × ClearsAll (result ≡ Ok Cancelled.Done) self.new.met.left self.old self.new (G.told outside.old) (G.told outside.new) }
         ensures tied { IsTrue G.tells → ¬ IsErrOf result CancelFault.Ground → (r q : Repository) (held : Holds self.old (G.told outside.old) r) (now : Holds self.new (G.told outside.new) q) →
             IsTied self.old held.stands.standing.records self.new now.stands.standing.records (cancel_events result) }
+        // Where nothing was pending a crash at any moment, within a fault of the ground too, leaves a front of its events.
+        ensures fronts { IsTrue G.tells → (r : Repository) (held : Holds self.old (G.told outside.old) r) → NothingPending (G.told outside.old) →
+            LeavesFront self.old held.stands.standing.records (Event.Cancel ∷ Event.Sweep ∷ []) (G.told outside.old) (G.told outside.new) }
         ensures counts { CountsCancel result self.new.met.left (G.counts_of outside.old) (G.counts_of outside.new) }
     {
         self.met = nothing_met();

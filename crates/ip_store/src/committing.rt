@@ -3,6 +3,7 @@ ghost use Rattle.std.specs.Prelude.{◌≡◌, ◌≢◌, ◌+◌, ◌++◌, [],
 ghost use Rattle.std.specs.Vec.{vec_capacity};
 ghost use Rattle.std.specs.List.{list_any};
 ghost use Rattle.ip_base.specs.declared.limit.TheConstants.{OFFSET_MAX, PARENTS_MAX};
+ghost use Rattle.ip_store.specs.Clear.{KeepsClear};
 ghost use Rattle.ip_store.specs.Faults.{ground_store};
 ghost use Rattle.ip_ground.specs.Counts.{Counts};
 ghost use Rattle.ip_spec.specs.declared.command.Command.TheVariants as Command;
@@ -13,12 +14,15 @@ ghost use Rattle.ip_base.specs.declared.limit.Limit.TheVariants as Limit;
 ghost use Rattle.ip_spec.specs.Record.{IsBranchName, IsInfo, IsHash, IsU64};
 ghost use Rattle.ip_spec.specs.Repository.{Repository, head, is_retained, name_at, next};
 ghost use Rattle.ip_spec.specs.Step.{below, unless_some, moved_head, room_for_branch, not_existing};
+ghost use Rattle.ip_image.specs.Pending.{NothingPending};
 ghost use Rattle.ip_image.specs.Slot.{IsSlot};
 ghost use Rattle.ip_image.specs.Appending.{fields_of};
 ghost use Rattle.ip_save.specs.Batches.{fields_told, AreFields, HasShortContents};
 ghost use Rattle.ip_spec.specs.View.{View};
 ghost use Rattle.ip_spec.specs.declared.record.Record.{Record};
 ghost use Rattle.ip_tree.specs.TreeView.{IsView};
+ghost use Rattle.ip_store.specs.Fronts.{LeavesFront};
+ghost use Rattle.ip_store.specs.Tie.{appending};
 ghost use Rattle.ip_store.specs.declared.committing.StoreFault.TheVariants as StoreFault;
 ghost use Rattle.ip_store.specs.Commits.{parent_named, reply_to, RefusesBy, met_by, IsRefusal, IsLeaving, first_refusal, IsNewBatch, IsNext, IsPlan, IsPastTheEnd, records_of, end_of, Answers, Commits, GoesOn, IsSaved};
 ghost use Rattle.ip_store.specs.Changes.{Appends, HasAnswer, IsUndamaged, IsNextSlot, KeepsNumbers, LimitsSpace};
@@ -377,8 +381,12 @@ impl Store {
             Commits r (phase_of self.old.collection) work.old v branch.now info result self.new (G.told outside.old) (G.told outside.new) }
         ensures records_stay { IsTrue G.tells → HasAnswer result → (r q : Repository) (held : Holds self.old (G.told outside.old) r) (now : Holds self.new (G.told outside.new) q) →
             RecordsStay (image_records held) (image_records now) }
+        ensures clear { IsTrue G.tells → HasAnswer result → (r : Repository) (v : View) → IsAt (G.told outside.old) self.old r work.old v → KeepsClear self.old self.new (G.told outside.old) (G.told outside.new) }
         ensures tied { IsTrue G.tells → (r q : Repository) (held : Holds self.old (G.told outside.old) r) (now : Holds self.new (G.told outside.new) q) →
             IsTiedAnswer (λ name. true) result self.old held.stands.standing.records self.new now.stands.standing.records }
+        // Where nothing was pending a crash at any moment, within a fault of the ground too, leaves a front of its events.
+        ensures fronts { IsTrue G.tells → (r : Repository) (v : View) (here : IsAt (G.told outside.old) self.old r work.old v) → NothingPending (G.told outside.old) →
+            LeavesFront self.old here.holds.stands.standing.records (appending (records_of r work.old v branch.now info self.old)) (G.told outside.old) (G.told outside.new) }
         ensures counts { Counts ground_store result (G.counts_of outside.old) (G.counts_of outside.new) }
         ensures undamaged { IsUndamaged result }
     {

@@ -1,5 +1,5 @@
 // The end of a collection: its child is asked, what it wrote is checked, and where that is the valid pair the store goes over to it.
-ghost use Rattle.std.specs.Prelude.{◌≡◌, ◌≢◌, ◌↔◌, ◌⊎◌, ℕ, ◌-◌, ◌≤◌, false, Some, None, Result, Ok, Err, IsTrue, IsErrOf, OnOk, OnErr, is_some};
+ghost use Rattle.std.specs.Prelude.{◌≡◌, ◌≢◌, ◌↔◌, ◌⊎◌, ℕ, ◌-◌, ◌≤◌, [], ◌∷◌, ◌++◌, false, Some, None, Result, Ok, Err, IsTrue, IsErrOf, OnOk, OnErr, is_some};
 ghost use Rattle.ip_ground.specs.Calls.{Settles};
 ghost use Rattle.ip_ground.specs.Counts.{CountsAs, FileFault};
 ghost use Rattle.ip_ground.specs.Told.{NoFile, ChangesOnly};
@@ -9,11 +9,15 @@ ghost use Rattle.ip_spec.specs.declared.command.Command.TheVariants as Command;
 ghost use Rattle.ip_spec.specs.declared.met.Child.{Child as ChildValue};
 ghost use Rattle.ip_spec.specs.declared.met.Child.TheVariants as Heard;
 ghost use Rattle.ip_spec.specs.Repository.{Repository};
+ghost use Rattle.ip_spec.specs.declared.event.Event.TheVariants as Event;
+ghost use Rattle.ip_image.specs.Pending.{NothingPending};
+ghost use Rattle.ip_store.specs.Clear.{KeepsClear, ClearsAll};
 ghost use Rattle.ip_store.specs.Collecting.{child_of};
 ghost use Rattle.ip_store.specs.Ending.{AwaitsChild, Ends, EndsBy, Goes, IsHeardIn, Listens, MayBeHeard, SeesChild, held_behind};
-ghost use Rattle.ip_store.specs.Finishing.{FinishReplies, LookReplies, as_look, fault_by, met_by_finish, conditions_by, Concludes, HasAnswer, IsAsked, IsChecking, IsUndamaged, IsQuiet, IsOver, IsKept, SlotBy, KeepsCollection, Slices, CountsFinish, unswept_by, LimitsFinish, FinishesBy, WorksStay};
+ghost use Rattle.ip_store.specs.Finishing.{FinishReplies, LookReplies, as_look, fault_by, met_by_finish, conditions_by, Concludes, HasAnswer, IsAsked, IsChecking, IsUndamaged, IsQuiet, IsSweptBehind, IsOver, IsKept, SlotBy, KeepsCollection, Slices, CountsFinish, unswept_by, LimitsFinish, FinishesBy, WorksStay};
+ghost use Rattle.ip_store.specs.Fronts.{LeavesFront};
 ghost use Rattle.ip_store.specs.Store.{IsOf, Holds};
-ghost use Rattle.ip_store.specs.Tie.{IsTied, finish_events};
+ghost use Rattle.ip_store.specs.Tie.{IsTied, finish_events, ending};
 ghost use Rattle.ip_store.specs.declared.finishing.FinishFault.TheVariants as FinishFault;
 ghost use Rattle.ip_store.specs.declared.finishing.Looked.TheVariants as Looked;
 ghost use Rattle.ip_store.specs.declared.collection.Collection.{Collection};
@@ -358,8 +362,14 @@ impl Store {
             FinishesBy held.stands.standing.records r c Command.Look result self.old.unswept self.new (G.told outside.old) (G.told outside.new) }
         ensures undamaged { IsTrue G.tells → (r : Repository) → Holds self.old (G.told outside.old) r → IsUndamaged result }
         ensures works_stay { IsTrue G.tells → HasAnswer result → (r q : Repository) (held : Holds self.old (G.told outside.old) r) (now : Holds self.new (G.told outside.new) q) → WorksStay held now }
+        // What was cleared stays so, and behind a sweep that left nothing all is.
+        ensures clear { IsTrue G.tells → HasAnswer result → (r : Repository) → Holds self.old (G.told outside.old) r → KeepsClear self.old self.new (G.told outside.old) (G.told outside.new)
+            × ClearsAll (IsSweptBehind result) self.new.met.left self.old self.new (G.told outside.old) (G.told outside.new) }
         ensures tied { IsTrue G.tells → HasAnswer result → (r q : Repository) (held : Holds self.old (G.told outside.old) r) (now : Holds self.new (G.told outside.new) q) →
             IsTied self.old held.stands.standing.records self.new now.stands.standing.records (finish_events self.old.collection result) }
+        // Where nothing was pending a crash at any moment, within a fault of the ground too, leaves a front of its events.
+        ensures fronts { IsTrue G.tells → (r : Repository) (held : Holds self.old (G.told outside.old) r) → NothingPending (G.told outside.old) →
+            LeavesFront self.old held.stands.standing.records (ending self.old.collection ++ Event.Accept ∷ Event.Sweep ∷ []) (G.told outside.old) (G.told outside.new) }
         ensures counts { CountsFinish result self.new.met.left (G.counts_of outside.old) (G.counts_of outside.new) }
     {
         let child = self.seen(spawner);
@@ -397,8 +407,14 @@ impl Store {
             FinishesBy held.stands.standing.records r c Command.Finish (as_look result) self.old.unswept self.new (G.told outside.old) (G.told outside.new) }
         ensures undamaged { IsTrue G.tells → (r : Repository) → Holds self.old (G.told outside.old) r → IsUndamaged (as_look result) }
         ensures works_stay { IsTrue G.tells → HasAnswer (as_look result) → (r q : Repository) (held : Holds self.old (G.told outside.old) r) (now : Holds self.new (G.told outside.new) q) → WorksStay held now }
+        // What was cleared stays so, and behind a sweep that left nothing all is.
+        ensures clear { IsTrue G.tells → HasAnswer (as_look result) → (r : Repository) → Holds self.old (G.told outside.old) r → KeepsClear self.old self.new (G.told outside.old) (G.told outside.new)
+            × ClearsAll (IsSweptBehind (as_look result)) self.new.met.left self.old self.new (G.told outside.old) (G.told outside.new) }
         ensures tied { IsTrue G.tells → HasAnswer (as_look result) → (r q : Repository) (held : Holds self.old (G.told outside.old) r) (now : Holds self.new (G.told outside.new) q) →
             IsTied self.old held.stands.standing.records self.new now.stands.standing.records (finish_events self.old.collection (as_look result)) }
+        // Where nothing was pending a crash at any moment, within a fault of the ground too, leaves a front of its events.
+        ensures fronts { IsTrue G.tells → (r : Repository) (held : Holds self.old (G.told outside.old) r) → NothingPending (G.told outside.old) →
+            LeavesFront self.old held.stands.standing.records (ending self.old.collection ++ Event.Accept ∷ Event.Sweep ∷ []) (G.told outside.old) (G.told outside.new) }
         ensures counts { CountsFinish (as_look result) self.new.met.left (G.counts_of outside.old) (G.counts_of outside.new) }
     {
         let child = self.awaited(spawner);

@@ -4,16 +4,21 @@ ghost use Rattle.ip_ground.specs.Counts.{Counts};
 ghost use Rattle.ip_merge.specs.Rules.{IsDecisive};
 ghost use Rattle.ip_spec.specs.Path.{Bytes};
 ghost use Rattle.ip_spec.specs.Record.{IsBranchName, IsInfo, spelling};
+ghost use Rattle.ip_spec.specs.TreeAt.{Records};
 ghost use Rattle.ip_spec.specs.declared.record.Record.TheVariants as Record;
 ghost use Rattle.ip_spec.specs.Repository.{Repository, is_retained};
 ghost use Rattle.ip_spec.specs.Step.{with_branch};
+ghost use Rattle.ip_image.specs.Pending.{NothingPending};
 ghost use Rattle.ip_store.specs.Changes.{Appends, Changes, HasAnswer, IsUndamaged, LimitsSpace};
+ghost use Rattle.ip_store.specs.Clear.{KeepsClear};
 ghost use Rattle.ip_store.specs.Collecting.{phase_of};
 ghost use Rattle.ip_store.specs.Commits.{met_by};
 ghost use Rattle.ip_store.specs.Faults.{ground_store};
+ghost use Rattle.ip_store.specs.Fronts.{LeavesFront};
 ghost use Rattle.ip_store.specs.Merging.{merge_reply, AnswersMerge, AppendsMerge, GoesOnFrom, LimitsMerge, MergesAtMoments, IsCourse, IsCourseBy, IsBaseTree, IsJoin, IsJoined, IsForward, IsForwarded, course_in, stopped_by, unless_leaving};
 ghost use Rattle.ip_store.specs.Showing.{IsFetchedOr};
 ghost use Rattle.ip_store.specs.Store.{IsOf, Holds, SameTables, image_records};
+ghost use Rattle.ip_store.specs.Tie.{appending};
 ghost use Rattle.ip_store.specs.TieAppends.{IsTiedAnswer, moves};
 ghost use Rattle.ip_store.specs.Trees.{OnlyLooks, RecordsStay};
 
@@ -149,8 +154,12 @@ impl Store {
             MergesAtMoments (D.rule rules.now) r (phase_of self.old.collection) number branch.now info result self.new (G.told outside.old) (G.told outside.new) }
         ensures records_stay { IsTrue G.tells → HasAnswer result → (r q : Repository) (held : Holds self.old (G.told outside.old) r) (now : Holds self.new (G.told outside.new) q) →
             RecordsStay (image_records held) (image_records now) }
+        ensures clear { IsTrue G.tells → IsDecisive (D.rule rules.now) → HasAnswer result → (r : Repository) → Holds self.old (G.told outside.old) r → IsTrue (is_retained r number) → KeepsClear self.old self.new (G.told outside.old) (G.told outside.new) }
         ensures tied { IsTrue G.tells → (r q : Repository) (held : Holds self.old (G.told outside.old) r) (now : Holds self.new (G.told outside.new) q) →
             IsTiedAnswer moves result self.old held.stands.standing.records self.new now.stands.standing.records }
+        // Where nothing was pending a crash at any moment, within a fault of the ground too, leaves a front of its events.
+        ensures fronts { IsTrue G.tells → IsDecisive (D.rule rules.now) → (r : Repository) (held : Holds self.old (G.told outside.old) r) → IsTrue (is_retained r number) → NothingPending (G.told outside.old) →
+            (more : Records) × LeavesFront self.old held.stands.standing.records (appending more) (G.told outside.old) (G.told outside.new) }
         ensures counts { Counts ground_store result (G.counts_of outside.old) (G.counts_of outside.new) }
         // Files that others changed are never met where the ground tells what the store holds.
         ensures undamaged { IsTrue G.tells → IsDecisive (D.rule rules.now) → (r : Repository) → Holds self.old (G.told outside.old) r → IsTrue (is_retained r number) → IsUndamaged result }
@@ -233,8 +242,11 @@ impl Store {
             Changes r (with_branch r branch.now number) result self.new (G.told outside.old) (G.told outside.new) }
         ensures records_stay { IsTrue G.tells → HasAnswer result → (r q : Repository) (held : Holds self.old (G.told outside.old) r) (now : Holds self.new (G.told outside.new) q) →
             RecordsStay (image_records held) (image_records now) }
+        ensures clear { IsTrue G.tells → HasAnswer result → (r : Repository) → Holds self.old (G.told outside.old) r → IsForward r branch.now number → KeepsClear self.old self.new (G.told outside.old) (G.told outside.new) }
         ensures tied { IsTrue G.tells → (r q : Repository) (held : Holds self.old (G.told outside.old) r) (now : Holds self.new (G.told outside.new) q) →
             IsTiedAnswer moves result self.old held.stands.standing.records self.new now.stands.standing.records }
+        ensures fronts { IsTrue G.tells → (r : Repository) (held : Holds self.old (G.told outside.old) r) → IsForward r branch.now number → NothingPending (G.told outside.old) →
+            LeavesFront self.old held.stands.standing.records (appending ((self.old.slot.end, Record.BranchSet number branch.now) ∷ [])) (G.told outside.old) (G.told outside.new) }
         ensures counts { Counts ground_store result (G.counts_of outside.old) (G.counts_of outside.new) }
     {
         let name = self.retained_name(number);
@@ -274,8 +286,11 @@ impl Store {
             MergesAtMoments (D.rule rules.now) r (phase_of self.old.collection) sides.now.number branch.now info result self.new (G.told outside.old) (G.told outside.new) }
         ensures records_stay { IsTrue G.tells → HasAnswer result → (r q : Repository) (held : Holds self.old (G.told outside.old) r) (now : Holds self.new (G.told outside.new) q) →
             RecordsStay (image_records held) (image_records now) }
+        ensures clear { IsTrue G.tells → IsDecisive (D.rule rules.now) → HasAnswer result → (r : Repository) → Holds self.old (G.told outside.old) r → IsJoin r (phase_of self.old.collection) branch.now sides.now → KeepsClear self.old self.new (G.told outside.old) (G.told outside.new) }
         ensures tied { IsTrue G.tells → (r q : Repository) (held : Holds self.old (G.told outside.old) r) (now : Holds self.new (G.told outside.new) q) →
             IsTiedAnswer moves result self.old held.stands.standing.records self.new now.stands.standing.records }
+        ensures fronts { IsTrue G.tells → IsDecisive (D.rule rules.now) → (r : Repository) (held : Holds self.old (G.told outside.old) r) → IsJoin r (phase_of self.old.collection) branch.now sides.now → NothingPending (G.told outside.old) →
+            (more : Records) × LeavesFront self.old held.stands.standing.records (appending more) (G.told outside.old) (G.told outside.new) }
         ensures counts { Counts ground_store result (G.counts_of outside.old) (G.counts_of outside.new) }
         ensures undamaged { IsTrue G.tells → IsDecisive (D.rule rules.now) → (r : Repository) → Holds self.old (G.told outside.old) r → IsJoin r (phase_of self.old.collection) branch.now sides.now → IsUndamaged result }
     {

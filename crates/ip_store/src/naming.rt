@@ -1,18 +1,22 @@
 // Setting branches and taking them away: one record behind all others, and the slot that ends there.
 ghost use Rattle.std.specs.Prelude.{◌≡◌, ◌≢◌, ◌+◌, [], ◌∷◌, length, true, false, Some, Ok, IsTrue, IfSome, IfOk, OnOk, OnErr, IsErrOf, IsSome};
+ghost use Rattle.ip_store.specs.Clear.{KeepsClear};
 ghost use Rattle.ip_store.specs.Faults.{ground_store};
 ghost use Rattle.ip_ground.specs.Counts.{Counts};
 ghost use Rattle.ip_spec.specs.Record.{Fits, IsBranchName, spelling};
 ghost use Rattle.ip_spec.specs.Repository.{Repository, head, is_retained};
 ghost use Rattle.ip_spec.specs.Step.{with_branch, room_for_branch};
 ghost use Rattle.ip_spec.specs.declared.record.Record.TheVariants as Record;
+ghost use Rattle.ip_image.specs.Pending.{NothingPending};
 ghost use Rattle.ip_image.specs.Standing.{IsServedKind};
 ghost use Rattle.ip_image.specs.Appending.{MayName, renamed};
 ghost use Rattle.ip_store.specs.Changes.{Changes, Appends, HasAnswer, IsUndamaged, LimitsSpace};
 ghost use Rattle.ip_store.specs.Commits.{met_by};
+ghost use Rattle.ip_store.specs.Fronts.{LeavesFront};
 ghost use Rattle.ip_store.specs.Naming.{branch_reply, removed_reply, AnswersSet, AnswersRemove, without_branch, Renames};
 ghost use Rattle.ip_store.specs.Collecting.{IsAbove, phase_of, not_leaving_in};
 ghost use Rattle.ip_store.specs.Store.{IsOf, Holds, IsSound, image_records};
+ghost use Rattle.ip_store.specs.Tie.{appending};
 ghost use Rattle.ip_store.specs.TieAppends.{IsTiedAnswer};
 ghost use Rattle.ip_store.specs.Trees.{RecordsStay};
 ghost use Rattle.ip_store.specs.declared.committing.StoreFault.TheVariants as StoreFault;
@@ -75,8 +79,11 @@ impl Store {
             Changes r (renamed r rec) result self.new (G.told outside.old) (G.told outside.new) }
         ensures records_stay { IsTrue G.tells → HasAnswer result → (r q : Repository) (held : Holds self.old (G.told outside.old) r) (now : Holds self.new (G.told outside.new) q) →
             RecordsStay (image_records held) (image_records now) }
+        ensures clear { IsTrue G.tells → HasAnswer result → (r : Repository) → Holds self.old (G.told outside.old) r → MayName r rec → KeepsClear self.old self.new (G.told outside.old) (G.told outside.new) }
         ensures tied { IsTrue G.tells → (r q : Repository) (held : Holds self.old (G.told outside.old) r) (now : Holds self.new (G.told outside.new) q) →
             IsTiedAnswer (λ done. true) result self.old held.stands.standing.records self.new now.stands.standing.records }
+        ensures fronts { IsTrue G.tells → (r : Repository) (held : Holds self.old (G.told outside.old) r) → MayName r rec → NothingPending (G.told outside.old) →
+            LeavesFront self.old held.stands.standing.records (appending ((self.old.slot.end, rec) ∷ [])) (G.told outside.old) (G.told outside.new) }
         ensures counts { Counts ground_store result (G.counts_of outside.old) (G.counts_of outside.new) }
         ensures undamaged { IsUndamaged result }
     {
@@ -115,8 +122,12 @@ impl Store {
             Changes r (with_branch r name.now number) result self.new (G.told outside.old) (G.told outside.new) }
         ensures records_stay { IsTrue G.tells → HasAnswer result → (r q : Repository) (held : Holds self.old (G.told outside.old) r) (now : Holds self.new (G.told outside.new) q) →
             RecordsStay (image_records held) (image_records now) }
+        ensures clear { IsTrue G.tells → HasAnswer result → (r : Repository) → Holds self.old (G.told outside.old) r → IsTrue (is_retained r number) → KeepsClear self.old self.new (G.told outside.old) (G.told outside.new) }
         ensures tied { IsTrue G.tells → (r q : Repository) (held : Holds self.old (G.told outside.old) r) (now : Holds self.new (G.told outside.new) q) →
             IsTiedAnswer (λ done. true) result self.old held.stands.standing.records self.new now.stands.standing.records }
+        // Where nothing was pending a crash at any moment, within a fault of the ground too, leaves a front of its events.
+        ensures fronts { IsTrue G.tells → (r : Repository) (held : Holds self.old (G.told outside.old) r) → IsTrue (is_retained r number) → NothingPending (G.told outside.old) →
+            LeavesFront self.old held.stands.standing.records (appending ((self.old.slot.end, Record.BranchSet number name.now) ∷ [])) (G.told outside.old) (G.told outside.new) }
         ensures counts { Counts ground_store result (G.counts_of outside.old) (G.counts_of outside.new) }
         ensures undamaged { IsUndamaged result }
     {
@@ -156,8 +167,12 @@ impl Store {
             Changes r (without_branch r name.now) result self.new (G.told outside.old) (G.told outside.new) }
         ensures records_stay { IsTrue G.tells → HasAnswer result → (r q : Repository) (held : Holds self.old (G.told outside.old) r) (now : Holds self.new (G.told outside.new) q) →
             RecordsStay (image_records held) (image_records now) }
+        ensures clear { IsTrue G.tells → HasAnswer result → (r : Repository) → Holds self.old (G.told outside.old) r → KeepsClear self.old self.new (G.told outside.old) (G.told outside.new) }
         ensures tied { IsTrue G.tells → (r q : Repository) (held : Holds self.old (G.told outside.old) r) (now : Holds self.new (G.told outside.new) q) →
             IsTiedAnswer (λ removed. removed) result self.old held.stands.standing.records self.new now.stands.standing.records }
+        // Where nothing was pending a crash at any moment, within a fault of the ground too, leaves a front of its events.
+        ensures fronts { IsTrue G.tells → (r : Repository) (held : Holds self.old (G.told outside.old) r) → NothingPending (G.told outside.old) →
+            LeavesFront self.old held.stands.standing.records (appending ((self.old.slot.end, Record.BranchRemove name.now) ∷ [])) (G.told outside.old) (G.told outside.new) }
         ensures counts { Counts ground_store result (G.counts_of outside.old) (G.counts_of outside.new) }
         ensures undamaged { IsUndamaged result }
     {

@@ -7,6 +7,7 @@ ghost use Rattle.ip_image.specs.Slot.{IsSlot, layout_of};
 ghost use Rattle.ip_image.specs.Standing.{AreRetained};
 ghost use Rattle.ip_store.specs.Opening.{Opens};
 ghost use Rattle.ip_store.specs.Found.{FindsSlot, FindsGeneration, Finishes};
+ghost use Rattle.ip_store.specs.Clear.{unswept_in};
 ghost use Rattle.ip_store.specs.Commits.{met_nothing};
 ghost use Rattle.ip_store.specs.Placed.{IsSpaceOf};
 ghost use Rattle.ip_ground.specs.Told.{NoFile, ChangesOnly};
@@ -68,6 +69,7 @@ impl Store {
         ensures tables { IfOk result (λ store. (r : Repository) × IsOf store r) }
         ensures met { IfOk result (λ store. store.met ≡ met_nothing) }
         ensures idle { IfOk result (λ store. store.collection ≡ None) }
+        ensures unswept { IfOk result (λ store. store.unswept ≡ unswept_in store.slot) }
         ensures does { IsTrue G.tells → Opens result (G.told outside.old) (G.told outside.new) }
         ensures counts { Counts ground_open result (G.counts_of outside.old) (G.counts_of outside.new) }
     {

@@ -8,11 +8,14 @@ ghost use Rattle.ip_spec.specs.Record.{spelling};
 ghost use Rattle.ip_spec.specs.declared.record.Record.TheVariants as Record;
 ghost use Rattle.ip_spec.specs.Repository.{Repository, is_retained, name_at};
 ghost use Rattle.ip_spec.specs.Step.{held_branch};
+ghost use Rattle.ip_image.specs.Pending.{NothingPending};
+ghost use Rattle.ip_store.specs.Clear.{KeepsClear};
 ghost use Rattle.ip_store.specs.Collecting.{child_of, IsGoing, Collects};
 ghost use Rattle.ip_store.specs.Faults.{ground_start};
+ghost use Rattle.ip_store.specs.Fronts.{LeavesFront};
 ghost use Rattle.ip_store.specs.Starting.{new_collection, table_of, branch_name_at, branch_row, Replies, met_by_start, AnswersStart, IsBegun, IsTurnedDown, LimitsStart, IsJobAt, IsFree, RefusesStart, started_by, IsStart, Begins, StartsCollection};
 ghost use Rattle.ip_store.specs.Store.{IsOf, Holds, image_records};
-ghost use Rattle.ip_store.specs.Tie.{IsTied, begin_events};
+ghost use Rattle.ip_store.specs.Tie.{IsTied, begin_events, appending};
 ghost use Rattle.ip_store.specs.Trees.{RecordsStay};
 ghost use Rattle.ip_store.specs.declared.starting.CollectFault.TheVariants as CollectFault;
 
@@ -184,6 +187,7 @@ impl Store {
         ensures collects { IsTrue G.tells → (r : Repository) (number : ℕ) → Holds self.old (G.told outside.old) r → IsStart r self.old number start.now → IsTrue (is_retained r number) → held_branch r number ≡ None → (now : Holds self.new (G.told outside.new) r) →
             OnOk result (Collects (G.told outside.new) self.new.slot now.stands.standing.records r (new_collection number start.now.job)) }
         ensures rest { (self.new.collection ≡ None) × (self.new.met ≡ self.old.met) }
+        ensures unswept { self.new.unswept ≡ self.old.unswept }
         ensures fault { IsErr result → (result ≡ Err CollectFault.Start) ⊎ (result ≡ Err CollectFault.Ground) }
         ensures child { P.held spawner.new ≡ (if is_ok result then Some start.now.job.attempt else None) }
         ensures unasked { IsErrOf result CollectFault.Ground → spawner.new ≡ spawner.old }
@@ -192,6 +196,8 @@ impl Store {
         ensures begins { IsTrue G.tells → IsBegun result → (r : Repository) (number : ℕ) → IsOf self.old r → IsStart r self.old number start.now → Begins r self.old self.new (G.told outside.old) (G.told outside.new) }
         ensures any_moment { IsTrue G.tells → (r : Repository) (number : ℕ) → Holds self.old (G.told outside.old) r → IsStart r self.old number start.now →
             StartsCollection r start.now.job.attempt result self.new (G.told outside.old) (G.told outside.new) }
+        ensures fronts { IsTrue G.tells → (r : Repository) (number : ℕ) (held : Holds self.old (G.told outside.old) r) → IsStart r self.old number start.now → NothingPending (G.told outside.old) →
+            LeavesFront self.old held.stands.standing.records (appending ((self.old.slot.end, table_of r) ∷ [])) (G.told outside.old) (G.told outside.new) }
         ensures counts { Counts ground_start result (G.counts_of outside.old) (G.counts_of outside.new) }
     {
         durable_step(
@@ -242,8 +248,12 @@ impl Store {
             StartsCollection r self.old.slot.next_attempt result self.new (G.told outside.old) (G.told outside.new) }
         ensures records_stay { IsTrue G.tells → IsBegun result → (r q : Repository) (held : Holds self.old (G.told outside.old) r) (now : Holds self.new (G.told outside.new) q) →
             RecordsStay (image_records held) (image_records now) }
+        ensures clear { IsTrue G.tells → ¬ IsErrOf result CollectFault.Ground → (r : Repository) → Holds self.old (G.told outside.old) r → KeepsClear self.old self.new (G.told outside.old) (G.told outside.new) }
         ensures tied { IsTrue G.tells → ¬ IsErrOf result CollectFault.Ground → (r q : Repository) (held : Holds self.old (G.told outside.old) r) (now : Holds self.new (G.told outside.new) q) →
             IsTied self.old held.stands.standing.records self.new now.stands.standing.records (begin_events ((self.old.slot.end, table_of r) ∷ []) self.new.collection result) }
+        // Where nothing was pending a crash at any moment, within a fault of the ground too, leaves a front of its events.
+        ensures fronts { IsTrue G.tells → (r : Repository) (held : Holds self.old (G.told outside.old) r) → NothingPending (G.told outside.old) →
+            LeavesFront self.old held.stands.standing.records (appending ((self.old.slot.end, table_of r) ∷ [])) (G.told outside.old) (G.told outside.new) }
         ensures counts { Counts ground_start result (G.counts_of outside.old) (G.counts_of outside.new) }
     {
         let name = self.retained_name(number);

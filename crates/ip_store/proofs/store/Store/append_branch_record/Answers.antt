@@ -6,13 +6,16 @@ use Rattle.ip_image.specs.Slot.{IsChunkSize}
 use Rattle.ip_image.specs.Appending.{renamed}
 use Rattle.ip_store.specs.declared.committing.StoreFault.TheVariants as StoreFault
 use Rattle.ip_store.specs.declared.store.Store.{Store}
-use Rattle.ip_store.specs.Changes.{Changes, next_slot}
+use Rattle.ip_store.specs.Changes.{Changes, next_slot, HasAnswer}
 use Rattle.ip_store.specs.Collecting.{carried}
+use Rattle.ip_store.proofs.Clearing.{changed_clear, next_carries}
 use Rattle.ip_store.proofs.Stepping.{itself, changes_none, stays_still, same_step}
 use Rattle.ip_image.proofs.Renaming.{spelled_is}
-use Rattle.ip_store.proofs.Renamed.{renamed_tables, further, inside, can_rename, was_renamed, rename_cut, stays_renamed, list_renamed, slot_from, may_same}
+use Rattle.ip_store.proofs.Renamed.{renamed_tables, further, inside, can_rename, was_renamed, rename_cut, stays_renamed, list_renamed, slot_from, may_same, rename_front}
+use Rattle.ip_store.specs.Tie.{appending}
 use Rattle.ip_store.specs.TieAppends.{IsTiedAnswer}
 use Rattle.ip_store.proofs.CoreAppends.{is_appended, sees_same, still_fault}
+use Rattle.ip_store.proofs.StepFronts.{leaves_none}
 use Rattle.ip_store.proofs.store.Store.append_branch_record.Goals as goal
 
 pub returns-in_err-spelled-clause-any_moment : goal.returns-in_err-spelled-clause-any_moment
@@ -102,6 +105,25 @@ returns-clause-appends g c told =
           refl refl (c.as_slice-bytes.ensures.value ∙ c.in_ok-spelled.ensures) refl (c.in_ok-durable_step.ensures.does told (can_rename r c.args.self.now held.tables c.args.rec may c.requires.fits c.requires.served c.in_ok-slot.slot c.args.self.now.slot.next_attempt slot.0 slot.1 (λ _ _. refl) (g.G.Ground.told c.args.outside.now) held))) now;
     }
 
+-- ---- what was cleared away
+
+pub returns-in_err-spelled-clause-clear : goal.returns-in_err-spelled-clause-clear
+returns-in_err-spelled-clause-clear g c told has r held may clear = clear
+
+pub returns-in_err-slot-clause-clear : goal.returns-in_err-slot-clause-clear
+returns-in_err-slot-clause-clear g c told has r held may clear = clear
+
+pub returns-in_err-name_branch-clause-clear : goal.returns-in_err-name_branch-clause-clear
+returns-in_err-name_branch-clause-clear g c told has r held may clear = clear
+
+pub returns-in_err-durable_step-clause-clear : goal.returns-in_err-durable_step-clause-clear
+returns-in_err-durable_step-clause-clear g c told has = (let is : c.from_residual-in_err-durable_step.result ≡ Err StoreFault.Ground = search rules in absurd (subst HasAnswer is has))
+
+pub returns-clause-clear : goal.returns-clause-clear
+returns-clause-clear g c told has r held may =
+    changed_clear c.args.self.now r (g.G.Ground.told c.args.outside.now) (g.G.Ground.told c.durable_step.new.outside) held _ _ (next_carries c.args.self.now _ 0 _ (returns-clause-appends g c told).slot) refl
+    (returns-clause-any_moment g c told r held may).only
+
 -- ---- the core
 
 pub returns-in_err-spelled-clause-tied : goal.returns-in_err-spelled-clause-tied
@@ -136,3 +158,28 @@ returns-clause-tied g c told r q held now =
     let slot = slot_from c.args.self.now c.requires.tables.0 c.args.rec _ c.in_ok-slot.slot c.requires.tables.1 (ap length (c.as_slice-bytes.ensures.value ∙ c.in_ok-spelled.ensures)) c.in_ok-slot.ensures in
     let list = (returns-clause-appends g c told).records r q held now in
     is_appended c.args.self.now _ (g.G.Ground.told c.args.outside.now) (g.G.Ground.told c.durable_step.new.outside) r q held now refl (ap (λ (s : Slot). s.horizon) slot.0) ((c.args.self.now.slot.end, c.args.rec) ∷ []) list (refl, ap (λ (s : Slot). s.end) (sym slot.0))
+
+-- ---- what a crash leaves
+
+pub returns-in_err-spelled-clause-fronts : goal.returns-in_err-spelled-clause-fronts
+returns-in_err-spelled-clause-fronts g c told r held may pending = leaves_none c.args.self.now held.stands.standing.records (appending ((c.args.self.now.slot.end, c.args.rec) ∷ [])) (g.G.Ground.told c.args.outside.now)
+
+pub returns-in_err-slot-clause-fronts : goal.returns-in_err-slot-clause-fronts
+returns-in_err-slot-clause-fronts g c told r held may pending = leaves_none c.args.self.now held.stands.standing.records (appending ((c.args.self.now.slot.end, c.args.rec) ∷ [])) (g.G.Ground.told c.args.outside.now)
+
+pub returns-in_err-name_branch-clause-fronts : goal.returns-in_err-name_branch-clause-fronts
+returns-in_err-name_branch-clause-fronts g c told r held may pending = leaves_none c.args.self.now held.stands.standing.records (appending ((c.args.self.now.slot.end, c.args.rec) ∷ [])) (g.G.Ground.told c.args.outside.now)
+
+pub returns-in_err-durable_step-clause-fronts : goal.returns-in_err-durable_step-clause-fronts
+returns-in_err-durable_step-clause-fronts g c told r held may pending =
+    let slot = slot_from c.args.self.now c.requires.tables.0 c.args.rec _ c.in_ok-slot.slot c.requires.tables.1 (ap length (c.as_slice-bytes.ensures.value ∙ c.in_ok-spelled.ensures)) c.in_ok-slot.ensures in
+    rename_front r c.args.self.now held.tables c.args.rec may c.requires.fits c.requires.served c.in_ok-slot.slot c.args.self.now.slot.next_attempt slot.0 slot.1 (λ _ _. refl) (g.G.Ground.told c.args.outside.now) held (g.G.Ground.told c.durable_step.new.outside) _
+    (same_step c.args.self.now.slot.end c.args.self.now.slot.end c.args.self.now.index c.args.self.now.index _ (spelling c.args.rec) c.in_ok-slot.slot c.in_ok-slot.slot _ (g.G.Ground.told c.args.outside.now) (g.G.Ground.told c.durable_step.new.outside)
+    refl refl (c.as_slice-bytes.ensures.value ∙ c.in_ok-spelled.ensures) refl (c.durable_step.ensures.does told (can_rename r c.args.self.now held.tables c.args.rec may c.requires.fits c.requires.served c.in_ok-slot.slot c.args.self.now.slot.next_attempt slot.0 slot.1 (λ _ _. refl) (g.G.Ground.told c.args.outside.now) held))) pending
+
+pub returns-clause-fronts : goal.returns-clause-fronts
+returns-clause-fronts g c told r held may pending =
+    let slot = slot_from c.args.self.now c.requires.tables.0 c.args.rec _ c.in_ok-slot.slot c.requires.tables.1 (ap length (c.as_slice-bytes.ensures.value ∙ c.in_ok-spelled.ensures)) c.in_ok-slot.ensures in
+    rename_front r c.args.self.now held.tables c.args.rec may c.requires.fits c.requires.served c.in_ok-slot.slot c.args.self.now.slot.next_attempt slot.0 slot.1 (λ _ _. refl) (g.G.Ground.told c.args.outside.now) held (g.G.Ground.told c.durable_step.new.outside) _
+    (same_step c.args.self.now.slot.end c.args.self.now.slot.end c.args.self.now.index c.args.self.now.index _ (spelling c.args.rec) c.in_ok-slot.slot c.in_ok-slot.slot _ (g.G.Ground.told c.args.outside.now) (g.G.Ground.told c.durable_step.new.outside)
+    refl refl (c.as_slice-bytes.ensures.value ∙ c.in_ok-spelled.ensures) refl (c.in_ok-durable_step.ensures.does told (can_rename r c.args.self.now held.tables c.args.rec may c.requires.fits c.requires.served c.in_ok-slot.slot c.args.self.now.slot.next_attempt slot.0 slot.1 (λ _ _. refl) (g.G.Ground.told c.args.outside.now) held))) pending

@@ -3,9 +3,11 @@ use Rattle.ip_image.proofs.OneRepository.{all_records}
 use Rattle.ip_store.specs.declared.cancelling.CancelFault.TheVariants as CancelFault
 use Rattle.ip_store.specs.declared.cancelling.Cancelled.TheVariants as Cancelled
 use Rattle.ip_store.specs.declared.store.Store.{Store}
-use Rattle.ip_store.proofs.Cancels.{none_runs, idle_answers, orphan_answers, done_answers, orphan_left, orphan_stays, cut_off, swept_away, swept_list, swept_stays}
+use Rattle.ip_store.proofs.Cancels.{none_runs, idle_answers, orphan_answers, done_answers, orphan_left, orphan_stays, cut_off, swept_away, swept_list, swept_stays, cut_leaves, swept_leaves}
+use Rattle.ip_store.proofs.Clearing.{cancel_clear}
 use Rattle.ip_store.proofs.EndTied.{cancel_tied}
 use Rattle.ip_store.proofs.CoreAppends.{tied_still}
+use Rattle.ip_store.proofs.EndFronts.{none_fronts, still_fronts}
 use Rattle.ip_store.proofs.store.Store.cancel.Goals as goal
 
 pub returns-in_default-clause-answered : goal.returns-in_default-clause-answered
@@ -37,6 +39,24 @@ pub returns-clause-records_stay : goal.returns-clause-records_stay
 returns-clause-records_stay g c told ok r q held now =
     swept_stays c.args.self.now r _ held c.in-Some.collection (sym c.take.ensures.value ∙ c.in-Some.is) c.in-Some.collection (sym c.take.ensures.value ∙ c.in-Some.is) c.sweep-left.result _ _ (c.in_ok-settle.ensures.does told) (c.sweep-left.ensures.does told) _ q now
 
+-- ---- what was cleared away
+
+pub returns-in_default-clause-clear : goal.returns-in_default-clause-clear
+returns-in_default-clause-clear g c told answered r held = (λ clear. clear, λ done. absurd (cc (done)))
+
+pub returns-in-Err-clause-clear : goal.returns-in-Err-clause-clear
+returns-in-Err-clause-clear g c told answered r held = (λ clear. clear, λ done. absurd (cc (done)))
+
+pub returns-in_err-settle-clause-clear : goal.returns-in_err-settle-clause-clear
+returns-in_err-settle-clause-clear g c told answered = (let e : c.from_residual.result ≡ Err CancelFault.Ground = search rules in absurd (answered e))
+
+pub returns-clause-clear : goal.returns-clause-clear
+returns-clause-clear g c told answered r held =
+    let runs = sym c.take.ensures.value ∙ c.in-Some.is in
+    cancel_clear c.args.self.now _ r c.in-Some.collection _ _ held runs _ (returns-clause-any_moment g c told r held c.in-Some.collection runs) (ap (λ (s : Store). s.slot) c.sweep-left.ensures.unswept) (ap (λ (s : Store). s.unswept) c.sweep-left.ensures.unswept)
+
+-- ---- the core
+
 pub returns-in_default-clause-tied : goal.returns-in_default-clause-tied
 returns-in_default-clause-tied g c told answered r q held now =
     tied_still c.args.self.now _ held.stands.standing.records now.stands.standing.records (c.take.ensures.after ∙ sym (none_runs c.args.self.now.collection (λ x e. c.in_default.not-Some x (c.take.ensures.value ∙ e)))) refl (sym (all_records _ held.stands.standing now.stands.standing))
@@ -53,3 +73,19 @@ returns-clause-tied g c told answered r q held now =
     let runs = sym c.take.ensures.value ∙ c.in-Some.is in
     cancel_tied c.args.self.now _ c.in-Some.collection runs (ap (λ (s : Store). s.collection) c.sweep-left.ensures.unswept ∙ c.take.ensures.after) (ap (λ (s : Store). s.slot) c.sweep-left.ensures.unswept) _ held.stands.standing now.stands.standing.records
     (swept_list c.args.self.now r _ held c.in-Some.collection runs c.in-Some.collection runs c.sweep-left.result _ _ (c.in_ok-settle.ensures.does told) (c.sweep-left.ensures.does told) _ q now) (Ok Cancelled.Done) refl
+
+pub returns-in_default-clause-fronts : goal.returns-in_default-clause-fronts
+returns-in_default-clause-fronts g c told r held pending = none_fronts c.args.self.now r _ held _ _ refl
+
+pub returns-in-Err-clause-fronts : goal.returns-in-Err-clause-fronts
+returns-in-Err-clause-fronts g c told r held pending = none_fronts c.args.self.now r _ held _ _ refl
+
+pub returns-in_err-settle-clause-fronts : goal.returns-in_err-settle-clause-fronts
+returns-in_err-settle-clause-fronts g c told r held pending =
+    let runs = sym c.take.ensures.value ∙ c.in-Some.is in
+    still_fronts c.args.self.now r _ held (g.G.Ground.told c.settle.new.self) _ (cut_leaves c.args.self.now r _ held c.in-Some.collection runs c.in-Some.collection runs c.in_err-settle.field-0.0 _ (c.in_err-settle.ensures.does told) pending)
+
+pub returns-clause-fronts : goal.returns-clause-fronts
+returns-clause-fronts g c told r held pending =
+    let runs = sym c.take.ensures.value ∙ c.in-Some.is in
+    still_fronts c.args.self.now r _ held (g.G.Ground.told c.sweep-left.new.outside) _ (swept_leaves c.args.self.now r _ held c.in-Some.collection runs c.in-Some.collection runs c.sweep-left.result _ _ (c.in_ok-settle.ensures.does told) (c.sweep-left.ensures.does told) pending)

@@ -9,11 +9,12 @@ use Rattle.ip_image.specs.Slot.{IsChunkSize}
 use Rattle.ip_space.specs.SpaceView.{SpaceView, grown}
 use Rattle.ip_store.specs.declared.committing.StoreFault.TheVariants as StoreFault
 use Rattle.ip_store.specs.declared.store.Store.{Store}
-use Rattle.ip_store.specs.Changes.{LimitsSpace, next_slot}
+use Rattle.ip_store.specs.Changes.{LimitsSpace, next_slot, HasAnswer}
 use Rattle.ip_store.specs.Collecting.{phase_of, carried}
-use Rattle.ip_store.specs.Commits.{Commits, end_of, repository_after}
+use Rattle.ip_store.specs.Commits.{Commits, end_of, repository_after, records_of}
 use Rattle.ip_store.specs.Histories.{with_parents}
 use Rattle.ip_store.specs.Work.{session}
+use Rattle.ip_store.proofs.Clearing.{changed_clear, next_carries, noted_clear, looked_clear}
 use Rattle.ip_store.proofs.Histories.{may_enter}
 use Rattle.ip_store.proofs.Machine.{refused_memory}
 use Rattle.ip_store.proofs.Phases.{retained_parents}
@@ -24,8 +25,12 @@ use Rattle.ip_store.proofs.Tables.{none_named, free}
 use Rattle.ip_store.proofs.Noted.{noted_itself, noted_same, noted_changes, noted_answers, answers_met}
 use Rattle.ip_spec.specs.Batch.{AreEndToEnd}
 use Rattle.ip_spec.specs.Record.{Hash}
+use Rattle.ip_store.specs.Tie.{appending}
 use Rattle.ip_store.specs.TieAppends.{IsTiedAnswer}
 use Rattle.ip_store.proofs.CoreAppends.{is_appended, noted_fault, noted_tied, sees_same, still_fault}
+use Rattle.ip_store.proofs.CommitFront.{commit_front}
+use Rattle.ip_store.proofs.StepFronts.{leaves_none}
+use Rattle.ip_ground.proofs.Passing.{changes_nothing}
 use Rattle.ip_store.proofs.store.Store.commit.Goals as goal
 
 pub enter-entered-requires-clause-new : goal.enter-entered-requires-clause-new
@@ -242,6 +247,25 @@ returns-clause-appends g c told r v at =
           (ap (λ (s : Slot). s.end) c.enter-entered.ensures.rest.1) c.enter-entered.ensures.rest.0 c.bytes.ensures refl (c.in_ok-durable_step.ensures.does told can)) r' q before after;
     }
 
+-- ---- what was cleared away
+
+pub returns-in-Err-clause-clear : goal.returns-in-Err-clause-clear
+returns-in-Err-clause-clear g c told has r v at = noted_clear c.args.self.now c.args.self.now c.noted.new.self _ (g.G.Ground.told c.args.outside.now) (g.G.Ground.told c.args.outside.now) c.noted.ensures.met (λ clear. clear)
+
+pub returns-in-Err-entered-clause-clear : goal.returns-in-Err-entered-clause-clear
+returns-in-Err-entered-clause-clear g c told has r v at =
+    let same = c.in-Err-entered.ensures.err in
+    noted_clear c.args.self.now c.enter-entered.new.self c.noted-in-Err-entered.new.self _ (g.G.Ground.told c.args.outside.now) (g.G.Ground.told c.args.outside.now) c.noted-in-Err-entered.ensures.met
+    (looked_clear c.args.self.now c.enter-entered.new.self (g.G.Ground.told c.args.outside.now) (g.G.Ground.told c.args.outside.now) same.slot same.unswept (changes_nothing (g.G.Ground.told c.args.outside.now)))
+
+pub returns-in_err-durable_step-clause-clear : goal.returns-in_err-durable_step-clause-clear
+returns-in_err-durable_step-clause-clear g c told has = (let is : c.from_residual.result ≡ Err StoreFault.Ground = search rules in absurd (subst HasAnswer is has))
+
+pub returns-clause-clear : goal.returns-clause-clear
+returns-clause-clear g c told has r v at =
+    changed_clear c.args.self.now r (g.G.Ground.told c.args.outside.now) (g.G.Ground.told c.durable_step.new.outside) at.holds _ _ (next_carries c.args.self.now _ 1 _ (returns-clause-appends g c told r v at).slot) c.enter-entered.ensures.rest.4
+    (returns-clause-any_moment g c told r v at).only
+
 -- ---- the core
 
 pub returns-in-Err-clause-tied : goal.returns-in-Err-clause-tied
@@ -270,3 +294,33 @@ returns-clause-tied g c told r q held now =
     let list = more_committed r c.args.branch.now c.args.self.now plan of is (g.G.Ground.told c.args.outside.now) held (g.G.Ground.told c.durable_step.new.outside) step _ q now in
     is_appended c.args.self.now _ (g.G.Ground.told c.args.outside.now) (g.G.Ground.told c.durable_step.new.outside) r q held now c.enter-entered.ensures.rest.3 (ap (λ (s : Slot). s.horizon) is.slot) list.0 list.1
     (subst (λ (n : ℕ). AreEndToEnd c.args.self.now.slot.end list.0 n) (sym (ap (λ (s : Slot). s.end) is.slot)) list.2)
+
+-- ---- what a crash leaves
+
+pub returns-in-Err-clause-fronts : goal.returns-in-Err-clause-fronts
+returns-in-Err-clause-fronts g c told r v at pending = leaves_none c.args.self.now at.holds.stands.standing.records (appending (records_of r c.args.work.now v c.args.branch.now c.args.info c.args.self.now)) (g.G.Ground.told c.args.outside.now)
+
+pub returns-in-Err-entered-clause-fronts : goal.returns-in-Err-entered-clause-fronts
+returns-in-Err-entered-clause-fronts g c told r v at pending = leaves_none c.args.self.now at.holds.stands.standing.records (appending (records_of r c.args.work.now v c.args.branch.now c.args.info c.args.self.now)) (g.G.Ground.told c.args.outside.now)
+
+pub returns-in_err-durable_step-clause-fronts : goal.returns-in_err-durable_step-clause-fronts
+returns-in_err-durable_step-clause-fronts g c told r v at pending =
+    let plan = c.in-Ok.plan in
+    let of = at.holds.tables in
+    let is = c.in-Ok.ensures.coming r of in
+    let can = same_can_step c.enter-entered.new.self.slot.end c.args.self.now.slot.end c.enter-entered.new.self.index c.args.self.now.index plan.slot plan.slot (g.G.Ground.told c.args.outside.now)
+    (ap (λ (s : Slot). s.end) c.enter-entered.ensures.rest.1) c.enter-entered.ensures.rest.0 refl (can_step r c.args.branch.now c.args.self.now plan of is (g.G.Ground.told c.args.outside.now) at.holds) in
+    let step = same_step c.enter-entered.new.self.slot.end c.args.self.now.slot.end c.enter-entered.new.self.index c.args.self.now.index c.bytes.result.now plan.batch.bytes.items plan.slot plan.slot _ (g.G.Ground.told c.args.outside.now) (g.G.Ground.told c.durable_step.new.outside)
+    (ap (λ (s : Slot). s.end) c.enter-entered.ensures.rest.1) c.enter-entered.ensures.rest.0 c.bytes.ensures refl (c.durable_step.ensures.does told can) in
+    commit_front r c.args.work.now v c.args.branch.now c.args.info c.args.self.now plan is (c.in-Ok.ensures.planned _ r v of at.lawful) (g.G.Ground.told c.args.outside.now) at (g.G.Ground.told c.durable_step.new.outside) _ step pending
+
+pub returns-clause-fronts : goal.returns-clause-fronts
+returns-clause-fronts g c told r v at pending =
+    let plan = c.in-Ok.plan in
+    let of = at.holds.tables in
+    let is = c.in-Ok.ensures.coming r of in
+    let can = same_can_step c.enter-entered.new.self.slot.end c.args.self.now.slot.end c.enter-entered.new.self.index c.args.self.now.index plan.slot plan.slot (g.G.Ground.told c.args.outside.now)
+    (ap (λ (s : Slot). s.end) c.enter-entered.ensures.rest.1) c.enter-entered.ensures.rest.0 refl (can_step r c.args.branch.now c.args.self.now plan of is (g.G.Ground.told c.args.outside.now) at.holds) in
+    let step = same_step c.enter-entered.new.self.slot.end c.args.self.now.slot.end c.enter-entered.new.self.index c.args.self.now.index c.bytes.result.now plan.batch.bytes.items plan.slot plan.slot _ (g.G.Ground.told c.args.outside.now) (g.G.Ground.told c.durable_step.new.outside)
+    (ap (λ (s : Slot). s.end) c.enter-entered.ensures.rest.1) c.enter-entered.ensures.rest.0 c.bytes.ensures refl (c.in_ok-durable_step.ensures.does told can) in
+    commit_front r c.args.work.now v c.args.branch.now c.args.info c.args.self.now plan is (c.in-Ok.ensures.planned _ r v of at.lawful) (g.G.Ground.told c.args.outside.now) at (g.G.Ground.told c.durable_step.new.outside) _ step pending

@@ -4,10 +4,13 @@ use Rattle.ip_spec.specs.declared.command.Command.TheVariants as Command
 use Rattle.ip_spec.specs.declared.met.Met.{Met}
 use Rattle.ip_store.specs.declared.finishing.FinishFault.{FinishFault}
 use Rattle.ip_store.specs.declared.finishing.Looked.{Looked}
-use Rattle.ip_store.specs.Finishing.{Concludes, CountsFinish, FinishesBy, HasAnswer, IsKept, IsOver, IsQuiet, IsUndamaged, LimitsFinish, LookReplies, SlotBy, as_look, conditions_by, met_by_finish, unswept_by}
+use Rattle.ip_store.specs.Finishing.{Concludes, CountsFinish, FinishesBy, HasAnswer, IsKept, IsOver, IsQuiet, IsUndamaged, LimitsFinish, LookReplies, SlotBy, as_look, conditions_by, met_by_finish, unswept_by, IsSweptBehind}
+use Rattle.ip_store.proofs.Clearing.{finish_clear}
 use Rattle.ip_store.proofs.FinishCalls.{fault_looked, finish_replies}
 use Rattle.ip_store.specs.Tie.{IsTied, finish_events}
 use Rattle.ip_store.proofs.EndTied.{finish_tied, finishes_leaves, quiet_list}
+use Rattle.ip_store.proofs.EndFronts.{finish_fronts}
+use Rattle.ip_store.specs.Clear.{KeepsClear, ClearsAll}
 use Rattle.ip_store.proofs.store.Store.finish.Goals as goal
 
 pub awaited-child-requires : goal.awaited-child-requires
@@ -83,6 +86,14 @@ returns-clause-works_stay g c told has = c.goes.ensures.works_stay told (subst H
 pub returns-clause-counts : goal.returns-clause-counts
 returns-clause-counts g c = subst (λ (x : Result Looked FinishFault). CountsFinish x c.goes.new.self.met.left (g.G.Ground.counts_of c.args.outside.now) (g.G.Ground.counts_of c.goes.new.outside)) (sym c.whole.ensures) c.goes.ensures.counts
 
+pub returns-clause-clear : goal.returns-clause-clear
+returns-clause-clear g c told has r held =
+    let a = g.G.Ground.told c.args.outside.now in
+    let b = g.G.Ground.told c.goes.new.outside in
+    subst (λ (x : Result Looked FinishFault). KeepsClear c.args.self.now c.goes.new.self a b × ClearsAll (IsSweptBehind x) c.goes.new.self.met.left c.args.self.now c.goes.new.self a b) (sym c.whole.ensures)
+    (finish_clear c.awaited-child.result _ c.goes.result c.args.self.now c.goes.new.self c.goes.ensures.goes r a b held (λ quiet. ap g.G.Ground.told (c.goes.ensures.quiet quiet))
+    (λ x reaped runs heard. (_, (c.goes.ensures.any_moment told r held x reaped runs heard Command.Finish (c.goes.ensures.goes.running c.awaited-child.ensures.ended, c.goes.ensures.goes.whole refl)).does)) (subst HasAnswer c.whole.ensures has))
+
 pub returns-clause-tied : goal.returns-clause-tied
 returns-clause-tied g c told has r q held now =
     subst (λ (y : Result Looked FinishFault). IsTied c.args.self.now held.stands.standing.records c.goes.new.self now.stands.standing.records (finish_events c.args.self.now.collection y)) (sym c.whole.ensures)
@@ -91,3 +102,8 @@ returns-clause-tied g c told has r q held now =
       quiet = λ quiet. quiet_list _ _ held.stands.standing (ap g.G.Ground.told (c.goes.ensures.quiet quiet)) now.stands.standing;
       loud = λ x reaped runs heard. finishes_leaves r q x Command.Finish c.goes.result _ c.goes.new.self _ _ _ now (c.goes.ensures.any_moment told r held x reaped runs heard Command.Finish (c.goes.ensures.goes.running c.awaited-child.ensures.ended, c.goes.ensures.goes.whole refl));
     }) (subst HasAnswer c.whole.ensures has))
+
+pub returns-clause-fronts : goal.returns-clause-fronts
+returns-clause-fronts g c told r held pending =
+    finish_fronts c.args.self.now r _ held (g.G.Ground.told c.goes.new.outside) c.awaited-child.result _ c.goes.result c.goes.new.self c.goes.ensures.goes (λ quiet. ap g.G.Ground.told (c.goes.ensures.quiet quiet))
+    (λ x reaped runs heard. (c.goes.ensures.any_moment told r held x reaped runs heard Command.Finish (c.goes.ensures.goes.running c.awaited-child.ensures.ended, c.goes.ensures.goes.whole refl)).leaves pending)

@@ -1,18 +1,23 @@
-use Rattle.std.proofs.Common.{◌≡◌, sym, subst}
-use Rattle.std.specs.Prelude.{Ok, Err}
+use Rattle.std.proofs.Common.{sym, subst}
+use Rattle.std.specs.Prelude.{Ok, Err, [], ◌∷◌}
+use Rattle.ip_spec.specs.declared.record.Record.TheVariants as Record
 use Rattle.ip_spec.specs.Record.{Fits}
 use Rattle.ip_spec.specs.Step.{with_branch}
 use Rattle.ip_image.specs.Appending.{MayName, renamed}
 use Rattle.ip_store.specs.declared.committing.StoreFault.TheVariants as StoreFault
+use Rattle.ip_store.specs.declared.merging.Merge.{Merge}
 use Rattle.ip_store.specs.declared.merging.Merge.TheVariants as Merge
 use Rattle.ip_store.specs.Changes.{Changes}
 use Rattle.ip_store.specs.Collecting.{IsAbove}
+use Rattle.ip_store.specs.Fronts.{LeavesFront}
 use Rattle.ip_store.specs.Naming.{Renames}
+use Rattle.ip_store.specs.Tie.{appending}
 use Rattle.ip_store.proofs.BranchTurns.{set_may, set_fits}
-use Rattle.ip_store.proofs.Forwarding.{forward_comes, forward_goes, moved_goes, forward_above, forward_room, limits_value, limits_fault}
+use Rattle.ip_store.proofs.Forwarding.{forward_comes, forward_goes, moved_goes, forward_above, forward_room}
 use Rattle.ip_store.proofs.MergeExits.{goes_itself}
-use Rattle.ip_store.proofs.Stepping.{itself, changes_none, stays_still, with_value, with_fault}
+use Rattle.ip_store.proofs.Stepping.{itself, changes_none, stays_still, with_value, with_fault, with_answer}
 use Rattle.ip_store.proofs.CoreAppends.{sees_same, still_fault}
+use Rattle.ip_store.proofs.StepFronts.{leaves_none}
 use Rattle.ip_store.proofs.store.Store.forward.Goals as goal
 
 -- ---- the record's bytes could not be taken
@@ -84,6 +89,21 @@ returns-in-Err-append_branch_record-clause-any_moment g c told r held forward =
     (subst (λ x. Changes {A = Unit {0}} r (renamed r x) (Err fault) c.append_branch_record.new.self (g.G.Ground.told c.args.outside.now) (g.G.Ground.told c.append_branch_record.new.outside)) c.in-Ok.ensures
     (c.in-Err-append_branch_record.ensures.any_moment told r held may))
 
+-- ---- what was cleared away
+
+pub returns-in-Err-clause-clear : goal.returns-in-Err-clause-clear
+returns-in-Err-clause-clear g c told has r held forward clear = clear
+
+pub returns-in-Ok-append_branch_record-clause-clear : goal.returns-in-Ok-append_branch_record-clause-clear
+returns-in-Ok-append_branch_record-clause-clear g c told has r held forward =
+    let may = subst (MayName r) (sym c.in-Ok.ensures) (set_may r c.args.branch.now c.args.number c.args.self.now held.tables forward.retained (forward_room r c.args.branch.now c.args.number forward)) in
+    c.in-Ok-append_branch_record.ensures.clear told tt r held may
+
+pub returns-in-Err-append_branch_record-clause-clear : goal.returns-in-Err-append_branch_record-clause-clear
+returns-in-Err-append_branch_record-clause-clear g c told has r held forward =
+    let may = subst (MayName r) (sym c.in-Ok.ensures) (set_may r c.args.branch.now c.args.number c.args.self.now held.tables forward.retained (forward_room r c.args.branch.now c.args.number forward)) in
+    c.in-Err-append_branch_record.ensures.clear told (with_answer Merge (Unit {0}) c.in-Err-append_branch_record.fault has) r held may
+
 -- ---- the core
 
 pub returns-in-Err-clause-tied : goal.returns-in-Err-clause-tied
@@ -95,3 +115,20 @@ returns-in-Ok-append_branch_record-clause-tied g c told r q held now = c.in-Ok-a
 
 pub returns-in-Err-append_branch_record-clause-tied : goal.returns-in-Err-append_branch_record-clause-tied
 returns-in-Err-append_branch_record-clause-tied g c told r q held now = c.in-Err-append_branch_record.ensures.tied told r q held now
+
+-- ---- what a crash leaves
+
+pub returns-in-Err-clause-fronts : goal.returns-in-Err-clause-fronts
+returns-in-Err-clause-fronts g c told r held forward pending = leaves_none c.args.self.now held.stands.standing.records (appending ((c.args.self.now.slot.end, Record.BranchSet c.args.number c.args.branch.now) ∷ [])) (g.G.Ground.told c.args.outside.now)
+
+pub returns-in-Ok-append_branch_record-clause-fronts : goal.returns-in-Ok-append_branch_record-clause-fronts
+returns-in-Ok-append_branch_record-clause-fronts g c told r held forward pending =
+    let may = subst (MayName r) (sym c.in-Ok.ensures) (set_may r c.args.branch.now c.args.number c.args.self.now held.tables forward.retained (forward_room r c.args.branch.now c.args.number forward)) in
+    subst (λ x. LeavesFront c.args.self.now held.stands.standing.records (appending ((c.args.self.now.slot.end, x) ∷ [])) (g.G.Ground.told c.args.outside.now) (g.G.Ground.told c.append_branch_record.new.outside)) c.in-Ok.ensures
+    (c.in-Ok-append_branch_record.ensures.fronts told r held may pending)
+
+pub returns-in-Err-append_branch_record-clause-fronts : goal.returns-in-Err-append_branch_record-clause-fronts
+returns-in-Err-append_branch_record-clause-fronts g c told r held forward pending =
+    let may = subst (MayName r) (sym c.in-Ok.ensures) (set_may r c.args.branch.now c.args.number c.args.self.now held.tables forward.retained (forward_room r c.args.branch.now c.args.number forward)) in
+    subst (λ x. LeavesFront c.args.self.now held.stands.standing.records (appending ((c.args.self.now.slot.end, x) ∷ [])) (g.G.Ground.told c.args.outside.now) (g.G.Ground.told c.append_branch_record.new.outside)) c.in-Ok.ensures
+    (c.in-Err-append_branch_record.ensures.fronts told r held may pending)

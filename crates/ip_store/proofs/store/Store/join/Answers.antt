@@ -1,26 +1,27 @@
-use Rattle.std.proofs.Common.{◌≡◌, ℕ, Option, Some, true, false, refl, sym, ap, subst, [], ◌∷◌}
+use Rattle.std.proofs.Common.{◌≡◌, ℕ, Option, Some, true, false, refl, sym, ap, subst, []}
 use Rattle.std.specs.Prelude.{Ok, Err, min}
-use Rattle.ip_ground.specs.Told.{Told}
-use Rattle.ip_merge.specs.Rules.{IsDecisive}
 use Rattle.ip_spec.specs.declared.reply.Reply.TheVariants as Reply
-use Rattle.ip_spec.specs.Repository.{Repository}
 use Rattle.ip_store.specs.declared.committing.StoreFault.TheVariants as StoreFault
 use Rattle.ip_store.specs.declared.merging.Merge.{Merge}
 use Rattle.ip_store.specs.declared.work.Work.{Work}
 use Rattle.ip_store.specs.Changes.{IsUndamaged}
 use Rattle.ip_store.specs.Collecting.{phase_of}
+use Rattle.ip_store.specs.Commits.{records_of}
 use Rattle.ip_store.specs.Merging.{IsJoined, IsJoinedTree}
 use Rattle.ip_store.specs.Store.{image_records}
 use Rattle.ip_store.specs.Work.{AreParents}
+use Rattle.ip_store.proofs.Clearing.{looked_clear, noted_clear}
 use Rattle.ip_store.proofs.JoinDone.{looked_stays, join_limits, done_tables, done_answers, done_moments, done_limits, done_appends, is_at}
 use Rattle.ip_store.proofs.JoinedTrees.{join_parents}
-use Rattle.ip_store.proofs.LookedUp.{stays_behind}
+use Rattle.ip_store.proofs.LookedUp.{stays_behind, pending_on}
 use Rattle.ip_store.proofs.MergeExits.{conflict, join_failed, join_undamaged, moments_failed, noted_merged, noted_moments, noted_limits}
 use Rattle.ip_store.proofs.MergeStill.{still_answers, still_moments, still_goes, memory_answers, memory_moments}
 use Rattle.ip_store.proofs.Noted.{noted_stays}
 use Rattle.ip_store.proofs.Stepping.{same_tables}
+use Rattle.ip_store.specs.Tie.{appending}
 use Rattle.ip_store.specs.TieAppends.{moves}
 use Rattle.ip_store.proofs.CoreAppends.{answer_seen, fault_seen, noted_tied, sees_back, sees_itself, sees_still, still_fault, still_value}
+use Rattle.ip_store.proofs.StepFronts.{leaves_behind, leaves_looked}
 use Rattle.ip_store.proofs.store.Store.join.Goals as goal
 
 -- ---- the least path that conflicts
@@ -194,6 +195,39 @@ returns-clause-records_stay g c told has r q held now =
     let looks = c.joined.ensures.looks told in
     stays_behind (g.G.Ground.told c.args.outside.now) (g.G.Ground.told c.joined.new.outside) c.args.self.now c.joined.new.self looks (g.G.Ground.told c.commit.new.outside) c.commit.new.self r q held now (c.in-Err-commit.ensures.records_stay told has r q (looks.holds r held) now)
 
+-- ---- what was cleared away
+
+pub returns-in-Ok-Conflict-clause-clear : goal.returns-in-Ok-Conflict-clause-clear
+returns-in-Ok-Conflict-clause-clear g c told decides has r held is =
+    noted_clear c.args.self.now c.joined.new.self c.noted.new.self _ (g.G.Ground.told c.args.outside.now) (g.G.Ground.told c.joined.new.outside) c.noted.ensures.met
+    (looked_clear c.args.self.now c.joined.new.self (g.G.Ground.told c.args.outside.now) (g.G.Ground.told c.joined.new.outside) c.joined.ensures.same.slot c.joined.ensures.same.unswept (c.joined.ensures.looks told).reads.only)
+
+pub returns-in-Err-clause-clear : goal.returns-in-Err-clause-clear
+returns-in-Err-clause-clear g c told decides has r held is =
+    noted_clear c.args.self.now c.joined.new.self c.noted-in-Err.new.self _ (g.G.Ground.told c.args.outside.now) (g.G.Ground.told c.joined.new.outside) c.noted-in-Err.ensures.met
+    (looked_clear c.args.self.now c.joined.new.self (g.G.Ground.told c.args.outside.now) (g.G.Ground.told c.joined.new.outside) c.joined.ensures.same.slot c.joined.ensures.same.unswept (c.joined.ensures.looks told).reads.only)
+
+pub returns-in-Err-both-clause-clear : goal.returns-in-Err-both-clause-clear
+returns-in-Err-both-clause-clear g c told decides has r held is =
+    noted_clear c.args.self.now c.joined.new.self c.noted-in-Err-both.new.self _ (g.G.Ground.told c.args.outside.now) (g.G.Ground.told c.joined.new.outside) c.noted-in-Err-both.ensures.met
+    (looked_clear c.args.self.now c.joined.new.self (g.G.Ground.told c.args.outside.now) (g.G.Ground.told c.joined.new.outside) c.joined.ensures.same.slot c.joined.ensures.same.unswept (c.joined.ensures.looks told).reads.only)
+
+pub returns-in-Ok-commit-clause-clear : goal.returns-in-Ok-commit-clause-clear
+returns-in-Ok-commit-clause-clear g c told decides has r held is clear =
+    let J : IsJoinedTree (g.D.Decides.rule c.args.rules.now) (image_records held) r c.args.sides.now c.in-Ok-Tree.tree = subst (λ x. IsJoined (g.D.Decides.rule c.args.rules.now) (image_records held) r c.args.sides.now (Ok x)) c.in-Ok-Tree.field-0-is (c.in-Ok-Tree.ensures.joins told decides r c.args.branch.now held is) in
+    let work : Work = record { tree = c.in-Ok-Tree.tree; parents = c.in-Ok.parents; least = Some c.lesser.result } in
+    let low : Some c.lesser.result ≡ Some (min c.args.sides.now.head c.args.sides.now.number) = ap Some c.lesser.ensures in
+    let at = is_at (g.D.Decides.rule c.args.rules.now) r c.args.branch.now c.args.info c.args.sides.now c.args.self.now c.joined.new.self is (g.G.Ground.told c.args.outside.now) (g.G.Ground.told c.joined.new.outside) (c.joined.ensures.looks told) c.joined.ensures.same held c.in-Ok-Tree.tree J work refl c.in-Ok.ensures low in
+    c.in-Ok-commit.ensures.clear told tt r J.view at (looked_clear c.args.self.now c.joined.new.self (g.G.Ground.told c.args.outside.now) (g.G.Ground.told c.joined.new.outside) c.joined.ensures.same.slot c.joined.ensures.same.unswept (c.joined.ensures.looks told).reads.only clear)
+
+pub returns-clause-clear : goal.returns-clause-clear
+returns-clause-clear g c told decides has r held is clear =
+    let J : IsJoinedTree (g.D.Decides.rule c.args.rules.now) (image_records held) r c.args.sides.now c.in-Ok-Tree.tree = subst (λ x. IsJoined (g.D.Decides.rule c.args.rules.now) (image_records held) r c.args.sides.now (Ok x)) c.in-Ok-Tree.field-0-is (c.in-Ok-Tree.ensures.joins told decides r c.args.branch.now held is) in
+    let work : Work = record { tree = c.in-Ok-Tree.tree; parents = c.in-Ok.parents; least = Some c.lesser.result } in
+    let low : Some c.lesser.result ≡ Some (min c.args.sides.now.head c.args.sides.now.number) = ap Some c.lesser.ensures in
+    let at = is_at (g.D.Decides.rule c.args.rules.now) r c.args.branch.now c.args.info c.args.sides.now c.args.self.now c.joined.new.self is (g.G.Ground.told c.args.outside.now) (g.G.Ground.told c.joined.new.outside) (c.joined.ensures.looks told) c.joined.ensures.same held c.in-Ok-Tree.tree J work refl c.in-Ok.ensures low in
+    c.in-Err-commit.ensures.clear told has r J.view at (looked_clear c.args.self.now c.joined.new.self (g.G.Ground.told c.args.outside.now) (g.G.Ground.told c.joined.new.outside) c.joined.ensures.same.slot c.joined.ensures.same.unswept (c.joined.ensures.looks told).reads.only clear)
+
 -- ---- the core
 
 pub returns-in-Ok-Conflict-clause-tied : goal.returns-in-Ok-Conflict-clause-tied
@@ -224,3 +258,45 @@ returns-clause-tied g c told r q held now =
     let front = sees_back c.args.self.now c.joined.new.self held.stands.standing.records still.stands.standing.records (sees_still c.args.self.now c.joined.new.self c.joined.ensures.same (g.G.Ground.told c.args.outside.now) (g.G.Ground.told c.joined.new.outside) (c.joined.ensures.looks told).reads.only r r held still) in
     fault_seen c.joined.new.self c.args.self.now still.stands.standing.records held.stands.standing.records front c.commit.new.self c.commit.new.self now.stands.standing.records now.stands.standing.records (sees_itself c.commit.new.self now.stands.standing.records) c.in-Err-commit.fault
     (c.in-Err-commit.ensures.tied told r q still now)
+
+-- ---- what a crash leaves
+
+pub returns-in-Ok-Conflict-clause-fronts : goal.returns-in-Ok-Conflict-clause-fronts
+returns-in-Ok-Conflict-clause-fronts g c told decides r held is pending =
+    ([], leaves_looked c.args.self.now r (g.G.Ground.told c.args.outside.now) held (g.G.Ground.told c.joined.new.outside) (c.joined.ensures.looks told).reads.only pending (appending []))
+
+pub returns-in-Err-clause-fronts : goal.returns-in-Err-clause-fronts
+returns-in-Err-clause-fronts g c told decides r held is pending =
+    ([], leaves_looked c.args.self.now r (g.G.Ground.told c.args.outside.now) held (g.G.Ground.told c.joined.new.outside) (c.joined.ensures.looks told).reads.only pending (appending []))
+
+pub returns-in-Err-both-clause-fronts : goal.returns-in-Err-both-clause-fronts
+returns-in-Err-both-clause-fronts g c told decides r held is pending =
+    ([], leaves_looked c.args.self.now r (g.G.Ground.told c.args.outside.now) held (g.G.Ground.told c.joined.new.outside) (c.joined.ensures.looks told).reads.only pending (appending []))
+
+pub returns-in-Ok-commit-clause-fronts : goal.returns-in-Ok-commit-clause-fronts
+returns-in-Ok-commit-clause-fronts g c told decides r held is pending =
+    let J : IsJoinedTree (g.D.Decides.rule c.args.rules.now) (image_records held) r c.args.sides.now c.in-Ok-Tree.tree = subst (λ x. IsJoined (g.D.Decides.rule c.args.rules.now) (image_records held) r c.args.sides.now (Ok x)) c.in-Ok-Tree.field-0-is (c.in-Ok-Tree.ensures.joins told decides r c.args.branch.now held is) in
+    let work : Work = record { tree = c.in-Ok-Tree.tree; parents = c.in-Ok.parents; least = Some c.lesser.result } in
+    let low : Some c.lesser.result ≡ Some (min c.args.sides.now.head c.args.sides.now.number) = ap Some c.lesser.ensures in
+    let at = is_at (g.D.Decides.rule c.args.rules.now) r c.args.branch.now c.args.info c.args.sides.now c.args.self.now c.joined.new.self is (g.G.Ground.told c.args.outside.now) (g.G.Ground.told c.joined.new.outside) (c.joined.ensures.looks told) c.joined.ensures.same held c.in-Ok-Tree.tree J work refl c.in-Ok.ensures low in
+    let only = (c.joined.ensures.looks told).reads.only in
+    let more = records_of r work J.view c.args.branch.now c.args.info c.joined.new.self in (
+      more,
+      leaves_behind c.args.self.now r (g.G.Ground.told c.args.outside.now) held (g.G.Ground.told c.joined.new.outside) only pending (appending more) c.joined.new.self c.joined.ensures.same at.holds (g.G.Ground.told c.commit.new.outside)
+          (c.in-Ok-commit.ensures.any_moment told r J.view at).only.goes
+          (c.in-Ok-commit.ensures.fronts told r J.view at (pending_on r c.args.self.now (g.G.Ground.told c.args.outside.now) held (g.G.Ground.told c.joined.new.outside) only pending)),
+    )
+
+pub returns-clause-fronts : goal.returns-clause-fronts
+returns-clause-fronts g c told decides r held is pending =
+    let J : IsJoinedTree (g.D.Decides.rule c.args.rules.now) (image_records held) r c.args.sides.now c.in-Ok-Tree.tree = subst (λ x. IsJoined (g.D.Decides.rule c.args.rules.now) (image_records held) r c.args.sides.now (Ok x)) c.in-Ok-Tree.field-0-is (c.in-Ok-Tree.ensures.joins told decides r c.args.branch.now held is) in
+    let work : Work = record { tree = c.in-Ok-Tree.tree; parents = c.in-Ok.parents; least = Some c.lesser.result } in
+    let low : Some c.lesser.result ≡ Some (min c.args.sides.now.head c.args.sides.now.number) = ap Some c.lesser.ensures in
+    let at = is_at (g.D.Decides.rule c.args.rules.now) r c.args.branch.now c.args.info c.args.sides.now c.args.self.now c.joined.new.self is (g.G.Ground.told c.args.outside.now) (g.G.Ground.told c.joined.new.outside) (c.joined.ensures.looks told) c.joined.ensures.same held c.in-Ok-Tree.tree J work refl c.in-Ok.ensures low in
+    let only = (c.joined.ensures.looks told).reads.only in
+    let more = records_of r work J.view c.args.branch.now c.args.info c.joined.new.self in (
+      more,
+      leaves_behind c.args.self.now r (g.G.Ground.told c.args.outside.now) held (g.G.Ground.told c.joined.new.outside) only pending (appending more) c.joined.new.self c.joined.ensures.same at.holds (g.G.Ground.told c.commit.new.outside)
+          (c.in-Err-commit.ensures.any_moment told r J.view at).only.goes
+          (c.in-Err-commit.ensures.fronts told r J.view at (pending_on r c.args.self.now (g.G.Ground.told c.args.outside.now) held (g.G.Ground.told c.joined.new.outside) only pending)),
+    )

@@ -1,7 +1,9 @@
 use Rattle.std.proofs.Common.{inl, inr, sym, ◌∙◌, ap}
 use Rattle.ip_spec.specs.declared.command.Command.TheVariants as Command
 use Rattle.ip_spec.specs.declared.met.Met.{Met}
+use Rattle.ip_store.proofs.Clearing.{finish_clear}
 use Rattle.ip_store.proofs.EndTied.{finish_tied, finishes_leaves, quiet_list}
+use Rattle.ip_store.proofs.EndFronts.{finish_fronts}
 use Rattle.ip_store.proofs.store.Store.look.Goals as goal
 
 pub seen-child-requires : goal.seen-child-requires
@@ -70,6 +72,11 @@ returns-clause-works_stay g c = c.goes.ensures.works_stay
 pub returns-clause-counts : goal.returns-clause-counts
 returns-clause-counts g c = c.goes.ensures.counts
 
+pub returns-clause-clear : goal.returns-clause-clear
+returns-clause-clear g c told has r held =
+    finish_clear c.seen-child.result _ c.goes.result c.args.self.now c.goes.new.self c.goes.ensures.goes r (g.G.Ground.told c.args.outside.now) (g.G.Ground.told c.goes.new.outside) held (λ quiet. ap g.G.Ground.told (c.goes.ensures.quiet quiet))
+    (λ x reaped runs heard. (_, (c.goes.ensures.any_moment told r held x reaped runs heard Command.Look tt).does)) has
+
 pub returns-clause-tied : goal.returns-clause-tied
 returns-clause-tied g c told has r q held now =
     finish_tied c.seen-child.result _ c.args.self.now c.goes.new.self _ held.stands.standing now.stands.standing.records c.goes.result (record {
@@ -77,3 +84,8 @@ returns-clause-tied g c told has r q held now =
       quiet = λ quiet. quiet_list _ _ held.stands.standing (ap g.G.Ground.told (c.goes.ensures.quiet quiet)) now.stands.standing;
       loud = λ x reaped runs heard. finishes_leaves r q x Command.Look c.goes.result _ c.goes.new.self _ _ _ now (c.goes.ensures.any_moment told r held x reaped runs heard Command.Look tt);
     }) has
+
+pub returns-clause-fronts : goal.returns-clause-fronts
+returns-clause-fronts g c told r held pending =
+    finish_fronts c.args.self.now r _ held (g.G.Ground.told c.goes.new.outside) c.seen-child.result _ c.goes.result c.goes.new.self c.goes.ensures.goes (λ quiet. ap g.G.Ground.told (c.goes.ensures.quiet quiet))
+    (λ x reaped runs heard. (c.goes.ensures.any_moment told r held x reaped runs heard Command.Look tt).leaves pending)

@@ -1,6 +1,7 @@
 use Rattle.std.proofs.Common.{◌≡◌, Some, None, refl, sym, ◌∙◌, ap, subst}
-use Rattle.std.specs.Prelude.{Ok, Err}
+use Rattle.std.specs.Prelude.{Ok, Err, [], ◌∷◌}
 use Rattle.ip_ground.proofs.Passing.{changes_nothing}
+use Rattle.ip_spec.specs.declared.record.Record.TheVariants as Record
 use Rattle.ip_spec.specs.declared.reply.Reply.TheVariants as Reply
 use Rattle.ip_spec.specs.Repository.{head, name_at}
 use Rattle.ip_store.specs.declared.committing.StoreFault.TheVariants as StoreFault
@@ -9,14 +10,17 @@ use Rattle.ip_store.specs.Changes.{HasAnswer, IsUndamaged}
 use Rattle.ip_store.specs.Collecting.{phase_of}
 use Rattle.ip_store.specs.Merging.{IsCourse}
 use Rattle.ip_store.specs.Store.{image_records}
+use Rattle.ip_store.proofs.Clearing.{noted_clear}
 use Rattle.ip_store.proofs.Forwarding.{forward_undamaged}
 use Rattle.ip_store.proofs.JoinedTrees.{at_head, forward_from, join_from}
 use Rattle.ip_store.proofs.MergeExits.{forwarded, forward_moments, forward_limits, forward_appends, noted_goes, noted_merged, noted_moments, noted_appended, noted_limits}
 use Rattle.ip_store.proofs.MergeStill.{still_answers, still_moments, still_goes, still_stays, memory_answers, memory_moments, leaving_answers, fault_moments}
 use Rattle.ip_store.proofs.MergeTurns.{turn_none, turn_current, turn_leaving, turn_bases}
 use Rattle.ip_store.proofs.Noted.{noted_stays}
+use Rattle.ip_store.specs.Tie.{appending}
 use Rattle.ip_store.specs.TieAppends.{moves}
 use Rattle.ip_store.proofs.CoreAppends.{noted_fault, noted_none, noted_tied}
+use Rattle.ip_store.proofs.StepFronts.{leaves_none}
 use Rattle.ip_store.proofs.store.Store.merge_into.Goals as goal
 
 -- ---- no branch has the name
@@ -255,6 +259,38 @@ returns-in-Join-clause-undamaged g c told decides r held retained =
     let join = join_from r (phase_of c.args.self.now.collection) c.args.branch.now c.in-Some.head c.args.number c.in-Join.base at.0 at.1 retained course in
     c.join.ensures.undamaged told decides r held join
 
+-- ---- what was cleared away
+
+pub returns-in-None-clause-clear : goal.returns-in-None-clause-clear
+returns-in-None-clause-clear g c told decides has r held retained = noted_clear c.args.self.now c.args.self.now c.noted.new.self _ (g.G.Ground.told c.args.outside.now) (g.G.Ground.told c.args.outside.now) c.noted.ensures.met (λ clear. clear)
+
+pub returns-in-Err-clause-clear : goal.returns-in-Err-clause-clear
+returns-in-Err-clause-clear g c told decides has r held retained = noted_clear c.args.self.now c.args.self.now c.noted-in-Err.new.self _ (g.G.Ground.told c.args.outside.now) (g.G.Ground.told c.args.outside.now) c.noted-in-Err.ensures.met (λ clear. clear)
+
+pub returns-in-Current-clause-clear : goal.returns-in-Current-clause-clear
+returns-in-Current-clause-clear g c told decides has r held retained = noted_clear c.args.self.now c.args.self.now c.noted-in-Current.new.self _ (g.G.Ground.told c.args.outside.now) (g.G.Ground.told c.args.outside.now) c.noted-in-Current.ensures.met (λ clear. clear)
+
+pub returns-in-Leaving-clause-clear : goal.returns-in-Leaving-clause-clear
+returns-in-Leaving-clause-clear g c told decides has r held retained = noted_clear c.args.self.now c.args.self.now c.noted-in-Leaving.new.self _ (g.G.Ground.told c.args.outside.now) (g.G.Ground.told c.args.outside.now) c.noted-in-Leaving.ensures.met (λ clear. clear)
+
+pub returns-in-Bases-clause-clear : goal.returns-in-Bases-clause-clear
+returns-in-Bases-clause-clear g c told decides has r held retained = noted_clear c.args.self.now c.args.self.now c.noted-in-Bases.new.self _ (g.G.Ground.told c.args.outside.now) (g.G.Ground.told c.args.outside.now) c.noted-in-Bases.ensures.met (λ clear. clear)
+
+pub returns-in-Forward-clause-clear : goal.returns-in-Forward-clause-clear
+returns-in-Forward-clause-clear g c told decides has r held retained =
+    let at = at_head c.args.self.now r held.tables c.args.branch.now c.head.result c.in-Some.head (c.head.ensures r held.tables) c.in-Some.is in
+    let course = subst (IsCourse r (phase_of c.args.self.now.collection) c.in-Some.head c.args.number) c.in-Forward.is (c.in-Ok.ensures r held.tables at.1 retained) in
+    let forward = forward_from r (phase_of c.args.self.now.collection) c.args.branch.now c.in-Some.head c.args.number at.0 retained course in
+    noted_clear c.args.self.now c.forward-answer.new.self c.noted-in-Forward.new.self _ (g.G.Ground.told c.args.outside.now) (g.G.Ground.told c.forward-answer.new.outside) c.noted-in-Forward.ensures.met
+    (c.forward-answer.ensures.clear told (subst HasAnswer c.noted-in-Forward.ensures.answer has) r held forward)
+
+pub returns-in-Join-clause-clear : goal.returns-in-Join-clause-clear
+returns-in-Join-clause-clear g c told decides has r held retained =
+    let at = at_head c.args.self.now r held.tables c.args.branch.now c.head.result c.in-Some.head (c.head.ensures r held.tables) c.in-Some.is in
+    let course = subst (IsCourse r (phase_of c.args.self.now.collection) c.in-Some.head c.args.number) c.in-Join.is (c.in-Ok.ensures r held.tables at.1 retained) in
+    let join = join_from r (phase_of c.args.self.now.collection) c.args.branch.now c.in-Some.head c.args.number c.in-Join.base at.0 at.1 retained course in
+    c.join.ensures.clear told decides has r held join
+
 -- ---- the core
 
 pub returns-in-None-clause-tied : goal.returns-in-None-clause-tied
@@ -276,3 +312,34 @@ pub returns-in-Forward-clause-tied : goal.returns-in-Forward-clause-tied
 returns-in-Forward-clause-tied g c told r q held now =
     noted_tied moves c.args.self.now c.forward-answer.new.self c.noted-in-Forward.new.self c.forward-answer.result c.noted-in-Forward.result c.noted-in-Forward.ensures.answer c.noted-in-Forward.ensures.met (g.G.Ground.told c.forward-answer.new.outside) q held.stands.standing.records
     (λ mid. c.forward-answer.ensures.tied told r q held mid) now
+
+-- ---- what a crash leaves
+
+pub returns-in-None-clause-fronts : goal.returns-in-None-clause-fronts
+returns-in-None-clause-fronts g c told decides r held retained pending = ([], leaves_none c.args.self.now held.stands.standing.records (appending []) (g.G.Ground.told c.args.outside.now))
+
+pub returns-in-Err-clause-fronts : goal.returns-in-Err-clause-fronts
+returns-in-Err-clause-fronts g c told decides r held retained pending = ([], leaves_none c.args.self.now held.stands.standing.records (appending []) (g.G.Ground.told c.args.outside.now))
+
+pub returns-in-Current-clause-fronts : goal.returns-in-Current-clause-fronts
+returns-in-Current-clause-fronts g c told decides r held retained pending = ([], leaves_none c.args.self.now held.stands.standing.records (appending []) (g.G.Ground.told c.args.outside.now))
+
+pub returns-in-Leaving-clause-fronts : goal.returns-in-Leaving-clause-fronts
+returns-in-Leaving-clause-fronts g c told decides r held retained pending = ([], leaves_none c.args.self.now held.stands.standing.records (appending []) (g.G.Ground.told c.args.outside.now))
+
+pub returns-in-Bases-clause-fronts : goal.returns-in-Bases-clause-fronts
+returns-in-Bases-clause-fronts g c told decides r held retained pending = ([], leaves_none c.args.self.now held.stands.standing.records (appending []) (g.G.Ground.told c.args.outside.now))
+
+pub returns-in-Forward-clause-fronts : goal.returns-in-Forward-clause-fronts
+returns-in-Forward-clause-fronts g c told decides r held retained pending =
+    let at = at_head c.args.self.now r held.tables c.args.branch.now c.head.result c.in-Some.head (c.head.ensures r held.tables) c.in-Some.is in
+    let course = subst (IsCourse r (phase_of c.args.self.now.collection) c.in-Some.head c.args.number) c.in-Forward.is (c.in-Ok.ensures r held.tables at.1 retained) in
+    let forward = forward_from r (phase_of c.args.self.now.collection) c.args.branch.now c.in-Some.head c.args.number at.0 retained course in
+    ((c.args.self.now.slot.end, Record.BranchSet c.args.number c.args.branch.now) ∷ [], c.forward-answer.ensures.fronts told r held forward pending)
+
+pub returns-in-Join-clause-fronts : goal.returns-in-Join-clause-fronts
+returns-in-Join-clause-fronts g c told decides r held retained pending =
+    let at = at_head c.args.self.now r held.tables c.args.branch.now c.head.result c.in-Some.head (c.head.ensures r held.tables) c.in-Some.is in
+    let course = subst (IsCourse r (phase_of c.args.self.now.collection) c.in-Some.head c.args.number) c.in-Join.is (c.in-Ok.ensures r held.tables at.1 retained) in
+    let join = join_from r (phase_of c.args.self.now.collection) c.args.branch.now c.in-Some.head c.args.number c.in-Join.base at.0 at.1 retained course in
+    c.join.ensures.fronts told decides r held join pending

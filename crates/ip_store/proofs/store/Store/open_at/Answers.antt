@@ -1,4 +1,5 @@
 use Rattle.ip_store.proofs.OpenedStores.{opens_none, opens_no_space, tables_at_end, opens_bad_as, opens_by}
+use Rattle.ip_store.proofs.Clearing.{opened_unswept}
 use Rattle.ip_store.proofs.store.Store.open_at.Goals as goal
 
 pub returns-in_err-index-clause-does : goal.returns-in_err-index-clause-does
@@ -28,3 +29,6 @@ returns-clause-does g c told =
     let read = c.in_ok-found.ensures in
     opens_by c.in_ok-index.index c.in_ok-index.slot order.0 order.1 _ _ (c.in_ok-index.ensures.does told) _ _ (found.only told) (read.only told) c.in_ok-space.space found.view (found.finds told) (found.readable told) c.in_ok-found.found
     c.finish.result _ told read.covers c.finish.ensures.finishes c.finish.ensures.space
+
+pub returns-clause-unswept : goal.returns-clause-unswept
+returns-clause-unswept g c = opened_unswept c.in_ok-index.index c.in_ok-index.slot c.in_ok-found.found c.finish.result c.finish.ensures.finishes

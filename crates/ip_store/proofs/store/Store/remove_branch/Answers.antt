@@ -1,18 +1,23 @@
 use Rattle.std.proofs.Common.{◌≡◌, rules, true, false, Bool, None, refl, sym, subst, ◌∙◌}
 use Rattle.std.specs.Prelude.{Ok, Err, [], ◌∷◌}
 use Rattle.ip_spec.specs.Repository.{head}
+use Rattle.ip_spec.specs.declared.record.Record.TheVariants as Record
 use Rattle.ip_spec.specs.Record.{Fits}
 use Rattle.ip_image.specs.Standing.{IsServedKind}
 use Rattle.ip_image.specs.Appending.{MayName, renamed}
 use Rattle.ip_store.specs.declared.committing.StoreFault.TheVariants as StoreFault
 use Rattle.ip_store.specs.Collecting.{IsAbove, phase_of}
-use Rattle.ip_store.specs.Changes.{Changes, Appends}
+use Rattle.ip_store.specs.Changes.{Changes, Appends, HasAnswer}
+use Rattle.ip_store.specs.Fronts.{LeavesFront}
 use Rattle.ip_store.specs.Naming.{Renames, without_branch}
+use Rattle.ip_store.specs.Tie.{appending}
+use Rattle.ip_store.proofs.Clearing.{noted_clear}
 use Rattle.ip_store.proofs.Stepping.{itself, changes_none, stays_still, changes_still, same_appends, with_value, with_answer, with_fault}
 use Rattle.ip_store.proofs.BranchTurns.{none_in, some_in, remove_none, remove_memory, remove_done, remove_cut, remove_fits, absent_same}
 use Rattle.ip_store.proofs.Noted.{noted_itself, noted_back, noted_changes, noted_stays, noted_removed}
 use Rattle.ip_store.proofs.Phases.{removed_above}
 use Rattle.ip_store.proofs.CoreAppends.{noted_fault, noted_none, noted_tied}
+use Rattle.ip_store.proofs.StepFronts.{leaves_none}
 use Rattle.ip_store.proofs.store.Store.remove_branch.Goals as goal
 
 -- ---- there is none
@@ -118,6 +123,25 @@ returns-in-Err-append_branch_record-clause-records_stay g c told has r q held no
     noted_stays c.append_branch_record.new.self c.noted-in-Err-append_branch_record.new.self (Err c.in-Err-append_branch_record.fault) c.noted-in-Err-append_branch_record.result c.noted-in-Err-append_branch_record.ensures.answer c.noted-in-Err-append_branch_record.ensures.met (g.G.Ground.told c.append_branch_record.new.outside) q _
     (λ answered mid. c.in-Err-append_branch_record.ensures.records_stay told (with_answer (Unit {0}) Bool c.in-Err-append_branch_record.fault answered) r q held mid) has now
 
+-- ---- what was cleared away
+
+pub returns-then-is_none-clause-clear : goal.returns-then-is_none-clause-clear
+returns-then-is_none-clause-clear g c told has r held = noted_clear c.args.self.now c.args.self.now c.noted.new.self _ (g.G.Ground.told c.args.outside.now) (g.G.Ground.told c.args.outside.now) c.noted.ensures.met (λ clear. clear)
+
+pub returns-in-Err-clause-clear : goal.returns-in-Err-clause-clear
+returns-in-Err-clause-clear g c told has r held = noted_clear c.args.self.now c.args.self.now c.noted-in-Err.new.self _ (g.G.Ground.told c.args.outside.now) (g.G.Ground.told c.args.outside.now) c.noted-in-Err.ensures.met (λ clear. clear)
+
+pub returns-in-Ok-append_branch_record-clause-clear : goal.returns-in-Ok-append_branch_record-clause-clear
+returns-in-Ok-append_branch_record-clause-clear g c told has r held =
+    noted_clear c.args.self.now c.append_branch_record.new.self c.noted-in-Ok-append_branch_record.new.self _ (g.G.Ground.told c.args.outside.now) (g.G.Ground.told c.append_branch_record.new.outside) c.noted-in-Ok-append_branch_record.ensures.met
+    (c.in-Ok-append_branch_record.ensures.clear told tt r held (subst (MayName r) (sym c.in-Ok.ensures) tt))
+
+pub returns-in-Err-append_branch_record-clause-clear : goal.returns-in-Err-append_branch_record-clause-clear
+returns-in-Err-append_branch_record-clause-clear g c told has r held =
+    let fault = c.in-Err-append_branch_record.fault in
+    noted_clear c.args.self.now c.append_branch_record.new.self c.noted-in-Err-append_branch_record.new.self _ (g.G.Ground.told c.args.outside.now) (g.G.Ground.told c.append_branch_record.new.outside) c.noted-in-Err-append_branch_record.ensures.met
+    (c.in-Err-append_branch_record.ensures.clear told (with_answer (Unit {0}) Bool fault (subst HasAnswer c.noted-in-Err-append_branch_record.ensures.answer has)) r held (subst (MayName r) (sym c.in-Ok.ensures) tt))
+
 -- ---- the core
 
 pub returns-then-is_none-clause-tied : goal.returns-then-is_none-clause-tied
@@ -135,3 +159,21 @@ pub returns-in-Err-append_branch_record-clause-tied : goal.returns-in-Err-append
 returns-in-Err-append_branch_record-clause-tied g c told r q held now =
     noted_tied (λ removed. removed) c.args.self.now c.append_branch_record.new.self c.noted-in-Err-append_branch_record.new.self (Err c.in-Err-append_branch_record.fault) c.noted-in-Err-append_branch_record.result c.noted-in-Err-append_branch_record.ensures.answer c.noted-in-Err-append_branch_record.ensures.met (g.G.Ground.told c.append_branch_record.new.outside) q held.stands.standing.records
     (λ mid. c.in-Err-append_branch_record.ensures.tied told r q held mid) now
+
+-- ---- what a crash leaves
+
+pub returns-then-is_none-clause-fronts : goal.returns-then-is_none-clause-fronts
+returns-then-is_none-clause-fronts g c told r held pending = leaves_none c.args.self.now held.stands.standing.records (appending ((c.args.self.now.slot.end, Record.BranchRemove c.args.name.now) ∷ [])) (g.G.Ground.told c.args.outside.now)
+
+pub returns-in-Err-clause-fronts : goal.returns-in-Err-clause-fronts
+returns-in-Err-clause-fronts g c told r held pending = leaves_none c.args.self.now held.stands.standing.records (appending ((c.args.self.now.slot.end, Record.BranchRemove c.args.name.now) ∷ [])) (g.G.Ground.told c.args.outside.now)
+
+pub returns-in-Ok-append_branch_record-clause-fronts : goal.returns-in-Ok-append_branch_record-clause-fronts
+returns-in-Ok-append_branch_record-clause-fronts g c told r held pending =
+    subst (λ x. LeavesFront c.args.self.now held.stands.standing.records (appending ((c.args.self.now.slot.end, x) ∷ [])) (g.G.Ground.told c.args.outside.now) (g.G.Ground.told c.append_branch_record.new.outside)) c.in-Ok.ensures
+    (c.in-Ok-append_branch_record.ensures.fronts told r held (subst (MayName r) (sym c.in-Ok.ensures) tt) pending)
+
+pub returns-in-Err-append_branch_record-clause-fronts : goal.returns-in-Err-append_branch_record-clause-fronts
+returns-in-Err-append_branch_record-clause-fronts g c told r held pending =
+    subst (λ x. LeavesFront c.args.self.now held.stands.standing.records (appending ((c.args.self.now.slot.end, x) ∷ [])) (g.G.Ground.told c.args.outside.now) (g.G.Ground.told c.append_branch_record.new.outside)) c.in-Ok.ensures
+    (c.in-Err-append_branch_record.ensures.fronts told r held (subst (MayName r) (sym c.in-Ok.ensures) tt) pending)

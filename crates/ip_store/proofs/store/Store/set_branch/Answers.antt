@@ -1,18 +1,23 @@
 use Rattle.std.proofs.Common.{◌≡◌, Some, rules, true, sym, subst}
-use Rattle.std.specs.Prelude.{Ok, Err, [], ◌∷◌, IfSome, OnOk}
+use Rattle.std.specs.Prelude.{Ok, Err, [], ◌∷◌, OnOk}
+use Rattle.ip_spec.specs.declared.record.Record.TheVariants as Record
 use Rattle.ip_spec.specs.Record.{Fits}
 use Rattle.ip_spec.specs.Step.{room_for_branch, with_branch}
 use Rattle.ip_image.specs.Standing.{IsServedKind}
 use Rattle.ip_image.specs.Appending.{MayName, renamed}
 use Rattle.ip_store.specs.declared.committing.StoreFault.TheVariants as StoreFault
-use Rattle.ip_store.specs.Changes.{Changes, Appends}
+use Rattle.ip_store.specs.Changes.{Changes, Appends, HasAnswer}
 use Rattle.ip_store.specs.Collecting.{IsAbove, not_leaving_in, phase_of}
+use Rattle.ip_store.specs.Fronts.{LeavesFront}
 use Rattle.ip_store.specs.Naming.{Renames}
+use Rattle.ip_store.specs.Tie.{appending}
+use Rattle.ip_store.proofs.Clearing.{noted_clear}
 use Rattle.ip_store.proofs.Stepping.{itself, changes_none, stays_still}
 use Rattle.ip_store.proofs.BranchTurns.{set_leaving, set_refused, set_memory, set_answers, set_may, set_fits}
 use Rattle.ip_store.proofs.Noted.{noted_itself, noted_changes, noted_stays, noted_appends, noted_set}
 use Rattle.ip_store.proofs.Phases.{set_above}
 use Rattle.ip_store.proofs.CoreAppends.{noted_fault, noted_tied}
+use Rattle.ip_store.proofs.StepFronts.{leaves_none}
 use Rattle.ip_store.proofs.store.Store.set_branch.Goals as goal
 
 -- ---- a collection gives the commit up
@@ -114,6 +119,23 @@ returns-clause-appends g c told =
     noted_appends store c.noted-2.new.self made c.noted-2.result c.noted-2.ensures.answer c.noted-2.ensures.met _ 0 c.args.self.now _ _
     (subst (λ x. OnOk made (Appends ((c.args.self.now.slot.end, x) ∷ []) 0 c.args.self.now store (g.G.Ground.told c.args.outside.now) (g.G.Ground.told c.append_branch_record-answer.new.outside))) c.in-Ok.ensures (c.append_branch_record-answer.ensures.appends told))
 
+-- ---- what was cleared away
+
+pub returns-in-Err-clause-clear : goal.returns-in-Err-clause-clear
+returns-in-Err-clause-clear g c told has r held retained = noted_clear c.args.self.now c.args.self.now c.noted.new.self _ (g.G.Ground.told c.args.outside.now) (g.G.Ground.told c.args.outside.now) c.noted.ensures.met (λ clear. clear)
+
+pub returns-in-Err-room_for-clause-clear : goal.returns-in-Err-room_for-clause-clear
+returns-in-Err-room_for-clause-clear g c told has r held retained = noted_clear c.args.self.now c.args.self.now c.noted-in-Err-room_for.new.self _ (g.G.Ground.told c.args.outside.now) (g.G.Ground.told c.args.outside.now) c.noted-in-Err-room_for.ensures.met (λ clear. clear)
+
+pub returns-in-Err-set_record-clause-clear : goal.returns-in-Err-set_record-clause-clear
+returns-in-Err-set_record-clause-clear g c told has r held retained = noted_clear c.args.self.now c.args.self.now c.noted-in-Err-set_record.new.self _ (g.G.Ground.told c.args.outside.now) (g.G.Ground.told c.args.outside.now) c.noted-in-Err-set_record.ensures.met (λ clear. clear)
+
+pub returns-clause-clear : goal.returns-clause-clear
+returns-clause-clear g c told has r held retained =
+    let room : room_for_branch r c.args.name.now ≡ Ok tt = search rules in
+    noted_clear c.args.self.now c.append_branch_record-answer.new.self c.noted-2.new.self _ (g.G.Ground.told c.args.outside.now) (g.G.Ground.told c.append_branch_record-answer.new.outside) c.noted-2.ensures.met
+    (c.append_branch_record-answer.ensures.clear told (subst HasAnswer c.noted-2.ensures.answer has) r held (subst (MayName r) (sym c.in-Ok.ensures) (set_may r c.args.name.now c.args.number c.args.self.now held.tables retained room)))
+
 -- ---- the core
 
 pub returns-in-Err-clause-tied : goal.returns-in-Err-clause-tied
@@ -129,3 +151,20 @@ pub returns-clause-tied : goal.returns-clause-tied
 returns-clause-tied g c told r q held now =
     noted_tied (λ done. true) c.args.self.now c.append_branch_record-answer.new.self c.noted-2.new.self c.append_branch_record-answer.result c.noted-2.result c.noted-2.ensures.answer c.noted-2.ensures.met (g.G.Ground.told c.append_branch_record-answer.new.outside) q held.stands.standing.records
     (λ mid. c.append_branch_record-answer.ensures.tied told r q held mid) now
+
+-- ---- what a crash leaves
+
+pub returns-in-Err-clause-fronts : goal.returns-in-Err-clause-fronts
+returns-in-Err-clause-fronts g c told r held retained pending = leaves_none c.args.self.now held.stands.standing.records (appending ((c.args.self.now.slot.end, Record.BranchSet c.args.number c.args.name.now) ∷ [])) (g.G.Ground.told c.args.outside.now)
+
+pub returns-in-Err-room_for-clause-fronts : goal.returns-in-Err-room_for-clause-fronts
+returns-in-Err-room_for-clause-fronts g c told r held retained pending = leaves_none c.args.self.now held.stands.standing.records (appending ((c.args.self.now.slot.end, Record.BranchSet c.args.number c.args.name.now) ∷ [])) (g.G.Ground.told c.args.outside.now)
+
+pub returns-in-Err-set_record-clause-fronts : goal.returns-in-Err-set_record-clause-fronts
+returns-in-Err-set_record-clause-fronts g c told r held retained pending = leaves_none c.args.self.now held.stands.standing.records (appending ((c.args.self.now.slot.end, Record.BranchSet c.args.number c.args.name.now) ∷ [])) (g.G.Ground.told c.args.outside.now)
+
+pub returns-clause-fronts : goal.returns-clause-fronts
+returns-clause-fronts g c told r held retained pending =
+    let room : room_for_branch r c.args.name.now ≡ Ok tt = search rules in
+    subst (λ x. LeavesFront c.args.self.now held.stands.standing.records (appending ((c.args.self.now.slot.end, x) ∷ [])) (g.G.Ground.told c.args.outside.now) (g.G.Ground.told c.append_branch_record-answer.new.outside)) c.in-Ok.ensures
+    (c.append_branch_record-answer.ensures.fronts told r held (subst (MayName r) (sym c.in-Ok.ensures) (set_may r c.args.name.now c.args.number c.args.self.now held.tables retained room)) pending)

@@ -2,7 +2,7 @@ use Rattle.std.proofs.Common.{◌≡◌, rules, refl, sym, ◌∙◌, subst, Ok,
 use Rattle.ip_spec.specs.Record.{spelling}
 use Rattle.ip_store.specs.declared.starting.CollectFault.TheVariants as CollectFault
 use Rattle.ip_store.specs.Starting.{table_of, StartsCollection}
-use Rattle.ip_store.proofs.Begun.{begun, begun_tables, begun_going, begun_collects, can_begin, starts_cut, starts_lent, begun_list}
+use Rattle.ip_store.proofs.Begun.{begun, begun_tables, begun_going, begun_collects, can_begin, starts_cut, starts_lent, begun_list, cut_front, begun_front}
 use Rattle.ip_store.proofs.Stepping.{same_step}
 use Rattle.ip_store.proofs.store.Store.start.Goals as goal
 
@@ -75,3 +75,32 @@ returns-in-Ok-clause-collects g c told r number held is retained free now =
     (same_step c.args.self.now.slot.end c.args.self.now.slot.end c.args.self.now.index c.args.self.now.index c.as_slice.result.now (spelling (table_of r)) c.args.start.now.slot c.args.start.now.slot (Ok tt) (g.G.Ground.told c.args.outside.now) (g.G.Ground.told c.durable_step.new.outside)
     refl refl (c.as_slice.ensures.value ∙ is.bytes) refl (c.in_ok-durable_step.ensures.does told (can_begin r c.args.self.now number c.args.start.now held.tables is c.requires.idle (g.G.Ground.told c.args.outside.now) held)))
     (g.G.Ground.told c.lend.new.self) c.lend.result (c.lend.ensures.does told) retained free (c.in_ok-lend.ensures.does told).ok now
+
+-- ---- what a crash leaves
+
+pub returns-in_err-durable_step-clause-fronts : goal.returns-in_err-durable_step-clause-fronts
+returns-in_err-durable_step-clause-fronts g c told r number held is =
+    cut_front r c.args.self.now number c.args.start.now held.tables is c.requires.idle (g.G.Ground.told c.args.outside.now) held (g.G.Ground.told c.durable_step.new.outside) c.durable_step.result
+    (same_step c.args.self.now.slot.end c.args.self.now.slot.end c.args.self.now.index c.args.self.now.index c.as_slice.result.now (spelling (table_of r)) c.args.start.now.slot c.args.start.now.slot c.durable_step.result (g.G.Ground.told c.args.outside.now) (g.G.Ground.told c.durable_step.new.outside)
+    refl refl (c.as_slice.ensures.value ∙ is.bytes) refl (c.durable_step.ensures.does told (can_begin r c.args.self.now number c.args.start.now held.tables is c.requires.idle (g.G.Ground.told c.args.outside.now) held)))
+
+pub returns-in_err-lend-clause-fronts : goal.returns-in_err-lend-clause-fronts
+returns-in_err-lend-clause-fronts g c told r number held is =
+    begun_front r c.args.self.now number c.args.start.now held.tables is c.requires.idle (g.G.Ground.told c.args.outside.now) held c.grow.new.self c.grow.ensures (g.G.Ground.told c.durable_step.new.outside)
+    (same_step c.args.self.now.slot.end c.args.self.now.slot.end c.args.self.now.index c.args.self.now.index c.as_slice.result.now (spelling (table_of r)) c.args.start.now.slot c.args.start.now.slot (Ok tt) (g.G.Ground.told c.args.outside.now) (g.G.Ground.told c.durable_step.new.outside)
+    refl refl (c.as_slice.ensures.value ∙ is.bytes) refl (c.in_ok-durable_step.ensures.does told (can_begin r c.args.self.now number c.args.start.now held.tables is c.requires.idle (g.G.Ground.told c.args.outside.now) held)))
+    (g.G.Ground.told c.lend.new.self) c.lend.result (c.lend.ensures.does told)
+
+pub returns-in-Ok-clause-fronts : goal.returns-in-Ok-clause-fronts
+returns-in-Ok-clause-fronts g c told r number held is =
+    begun_front r c.args.self.now number c.args.start.now held.tables is c.requires.idle (g.G.Ground.told c.args.outside.now) held c.grow.new.self c.grow.ensures (g.G.Ground.told c.durable_step.new.outside)
+    (same_step c.args.self.now.slot.end c.args.self.now.slot.end c.args.self.now.index c.args.self.now.index c.as_slice.result.now (spelling (table_of r)) c.args.start.now.slot c.args.start.now.slot (Ok tt) (g.G.Ground.told c.args.outside.now) (g.G.Ground.told c.durable_step.new.outside)
+    refl refl (c.as_slice.ensures.value ∙ is.bytes) refl (c.in_ok-durable_step.ensures.does told (can_begin r c.args.self.now number c.args.start.now held.tables is c.requires.idle (g.G.Ground.told c.args.outside.now) held)))
+    (g.G.Ground.told c.lend.new.self) c.lend.result (c.lend.ensures.does told)
+
+pub returns-in-Err-clause-fronts : goal.returns-in-Err-clause-fronts
+returns-in-Err-clause-fronts g c told r number held is =
+    begun_front r c.args.self.now number c.args.start.now held.tables is c.requires.idle (g.G.Ground.told c.args.outside.now) held c.grow.new.self c.grow.ensures (g.G.Ground.told c.durable_step.new.outside)
+    (same_step c.args.self.now.slot.end c.args.self.now.slot.end c.args.self.now.index c.args.self.now.index c.as_slice.result.now (spelling (table_of r)) c.args.start.now.slot c.args.start.now.slot (Ok tt) (g.G.Ground.told c.args.outside.now) (g.G.Ground.told c.durable_step.new.outside)
+    refl refl (c.as_slice.ensures.value ∙ is.bytes) refl (c.in_ok-durable_step.ensures.does told (can_begin r c.args.self.now number c.args.start.now held.tables is c.requires.idle (g.G.Ground.told c.args.outside.now) held)))
+    (g.G.Ground.told c.lend.new.self) c.lend.result (c.lend.ensures.does told)

@@ -8,8 +8,11 @@ use Rattle.ip_store.specs.declared.store.Store.{Store}
 use Rattle.ip_store.specs.Commits.{met_nothing}
 use Rattle.ip_store.specs.Starting.{met_by_start, Replies, AnswersStart, IsBegun, IsJobAt, Begins, StartsCollection, table_of}
 use Rattle.ip_store.specs.Store.{Holds}
+use Rattle.ip_store.specs.Tie.{appending}
+use Rattle.ip_store.proofs.Clearing.{begun_carries, begun_clear, noted_clear}
 use Rattle.ip_store.proofs.StartTurns.{refused_answers, refusal_ends, begins_stays, failed_answers, begun_answers, running_holds, same_retained, started_phase, starts_none, starts_noted, begins_noted}
 use Rattle.ip_store.proofs.BeginTied.{failed_start, failed_tied, refused_tied, started_tied}
+use Rattle.ip_store.proofs.StepFronts.{leaves_none}
 use Rattle.ip_store.proofs.store.Store.start_collect.Goals as goal
 
 pub returns-in-Err-clause-answered : goal.returns-in-Err-clause-answered
@@ -98,6 +101,26 @@ returns-clause-any_moment g c told r held =
     (c.in-Ok-start.ensures.going tt r c.args.number held.tables planned) now (c.in-Ok-start.ensures.collects told r c.args.number held planned retained free.1 now)))
     (c.in-Ok-start.ensures.any_moment told r c.args.number held planned)
 
+-- ---- what was cleared away
+
+pub returns-in-Err-clause-clear : goal.returns-in-Err-clause-clear
+returns-in-Err-clause-clear g c told answered r held = noted_clear c.args.self.now c.args.self.now c.noted_start.new.self _ (g.G.Ground.told c.args.outside.now) (g.G.Ground.told c.args.outside.now) c.noted_start.ensures.met (λ clear. clear)
+
+pub returns-in-Err-start-clause-clear : goal.returns-in-Err-start-clause-clear
+returns-in-Err-start-clause-clear g c told answered r held =
+    let failed : c.in-Err-start.fault ≡ CollectFault.Start = failed_start c.in-Err-start.fault (c.in-Err-start.ensures.fault refl) (λ cut. answered (c.noted_start-in-Err-start.ensures.answer ∙ ap (λ (f : CollectFault). Err f) cut)) in
+    let begins = returns-in-Err-start-clause-begins g c told (subst IsBegun (sym (c.noted_start-in-Err-start.ensures.answer ∙ ap (λ (f : CollectFault). Err f) failed)) tt) r held.tables in
+    begun_clear c.args.self.now r (g.G.Ground.told c.args.outside.now) (g.G.Ground.told c.start.new.outside) held c.noted_start-in-Err-start.new.self.slot c.noted_start-in-Err-start.new.self.unswept (begun_carries c.args.self.now _ _ begins.slot)
+    (ap (λ (s : Store). s.unswept) c.noted_start-in-Err-start.ensures.met ∙ c.start.ensures.unswept) _ _ (returns-in-Err-start-clause-any_moment g c told r held)
+
+pub returns-clause-clear : goal.returns-clause-clear
+returns-clause-clear g c told answered r held =
+    let begins = returns-clause-begins g c told (subst IsBegun (sym c.noted_start-2.ensures.answer) tt) r held.tables in
+    begun_clear c.args.self.now r (g.G.Ground.told c.args.outside.now) (g.G.Ground.told c.start.new.outside) held c.noted_start-2.new.self.slot c.noted_start-2.new.self.unswept (begun_carries c.args.self.now _ _ begins.slot)
+    (ap (λ (s : Store). s.unswept) c.noted_start-2.ensures.met ∙ c.start.ensures.unswept) _ _ (returns-clause-any_moment g c told r held)
+
+-- ---- the core
+
 pub returns-in-Err-clause-tied : goal.returns-in-Err-clause-tied
 returns-in-Err-clause-tied g c told answered r q held now =
     refused_tied c.requires.tables.0 c.args.number c.args.self.now c.noted_start.new.self _ c.in-Err.fault (c.in-Err.ensures.refused c.requires.tables.0 c.requires.tables.1 c.requires.tables.2) c.noted_start.ensures.met _ held.stands.standing now.stands.standing ((c.args.self.now.slot.end, table_of r) ∷ []) c.noted_start.result
@@ -121,3 +144,18 @@ returns-clause-tied g c told answered r q held now =
     let slot = ap (λ (s : Store). s.slot) c.noted_start-2.ensures.met ∙ c.in-Ok-start.ensures.slot tt in
     started_tied c.args.self.now c.noted_start-2.new.self _ _ r q c.args.number c.in-Ok.start.job.horizon held now free.0 planned.job.horizon planned.small (returns-clause-begins g c told (subst IsBegun (sym c.noted_start-2.ensures.answer) tt) r held.tables)
     c.in-Ok.start.job (subst (λ (s : Slot). IsJobAt c.args.self.now c.args.number s c.in-Ok.start.job) (sym slot) planned.job) (ap (λ (s : Store). s.collection) c.noted_start-2.ensures.met) c.noted_start-2.result _ c.noted_start-2.ensures.answer
+
+-- ---- what a crash leaves
+
+pub returns-in-Err-clause-fronts : goal.returns-in-Err-clause-fronts
+returns-in-Err-clause-fronts g c told r held pending = leaves_none c.args.self.now held.stands.standing.records (appending ((c.args.self.now.slot.end, table_of r) ∷ [])) (g.G.Ground.told c.args.outside.now)
+
+pub returns-in-Err-start-clause-fronts : goal.returns-in-Err-start-clause-fronts
+returns-in-Err-start-clause-fronts g c told r held pending =
+    let retained = same_retained c.args.self.now c.requires.tables.0 r c.args.number c.requires.tables.1 held.tables c.requires.tables.2 in
+    c.in-Err-start.ensures.fronts told r c.args.number held (c.in-Ok.ensures.planned r held.tables retained) pending
+
+pub returns-clause-fronts : goal.returns-clause-fronts
+returns-clause-fronts g c told r held pending =
+    let retained = same_retained c.args.self.now c.requires.tables.0 r c.args.number c.requires.tables.1 held.tables c.requires.tables.2 in
+    c.in-Ok-start.ensures.fronts told r c.args.number held (c.in-Ok.ensures.planned r held.tables retained) pending
