@@ -525,10 +525,11 @@ any_counts Command.Finish (Ok reply) met old new counts = (met.left, counts)
 any_counts Command.Cancel (Ok reply) met old new counts = (met.left, counts)
 any_counts _ (Ok reply) met old new counts = (0, subst (CountsLeft 0 old) (sym counts) (none_left old))
 
-pub lined_counts : (command : Command) (line : Bytes) (result : Result Reply SessionEnd) (met : Met) (old new : GroundCounts) → ((other : Command) → IsLineOf other line → other ≡ command) → CountsBy result command met old new → CountsIn line result met old new
-lined_counts command line result met old new one counts = record {
+pub lined_counts : (command : Command) (line : Bytes) (result : Result Reply SessionEnd) (met : Met) (old new : GroundCounts) → IsLineOf command line → ((other : Command) → IsLineOf other line → other ≡ command) → CountsBy result command met old new → CountsIn line result met old new
+lined_counts command line result met old new is one counts = record {
   command = λ other spelled. subst (λ (c : Command). CountsBy result c met old new) (sym (one other spelled)) counts;
   any = any_counts command result met old new counts;
+  none = λ no. absurd (no command is);
 }
 
 nothing_counted : (command : Command) (reply : Reply) (met : Met) (c : GroundCounts) → met.left ≡ 0 → CountsBy (Ok reply) command met c c
@@ -541,6 +542,7 @@ pub none_counts : (line : Bytes) (reply : Reply) (met : Met) (c : GroundCounts) 
 none_counts line reply met c zero = record {
   command = λ command served. nothing_counted command reply met c zero;
   any = (0, none_left c);
+  none = λ _. refl;
 }
 
 -- ---- texts

@@ -1,7 +1,7 @@
 -- What a session does that put a branch at a commit, or took one away.
 --     set_goes, remove_goes      the store answered it.      set_cut, remove_cut      a fault of the ground cut it short
 --     unnamed_goes      no commit has the name that was given.      serves      the session goes on serving, whatever is told
---     is_ground_set, is_ground_removed      what has no reply is a fault of the ground
+--     has_answer_set, has_answer_removed      what has a reply is an answer.      is_ground_set, is_ground_removed      what has no reply is a fault of the ground
 use Rattle.std.proofs.Common.{◌≡◌, ℕ, Bool, true, false, refl, sym, ap, ◌∙◌, subst, Option, Some, None, Ok, Err}
 use Rattle.std.specs.Prelude.{Result, IfSome, IsErrOf, IsSome}
 use Rattle.std.proofs.lemmas.Option.{IfSome_then}
@@ -31,7 +31,7 @@ use Rattle.ip_session.specs.declared.session.Session.{Session}
 use Rattle.ip_session.specs.Session.{unasked, IsServing, IsWorking, state_in, met_only, conditions_of, IsDurable, ChangedBy, OnlyBy, GoesBy, CutBy}
 use Rattle.ip_session.proofs.SessionLemmas.{at, heard_none, plainly, ok_is_short, branch_refused, branch_rm_refused}
 use Rattle.ip_session.proofs.SessionGoes.{still_goes}
-use Rattle.ip_session.proofs.DurableGoes.{IsWhole, IsTurn, stays, refused_so, fault_so, done_so, reply_so, cut_so, Went, floor_stays, unanswered}
+use Rattle.ip_session.proofs.DurableGoes.{IsWhole, IsTurn, stays, refused_so, fault_so, done_so, reply_so, cut_so, Went, floor_stays, answered, unanswered}
 
 abbrev IsAccepted : Reply → Type 0
 IsAccepted Reply.Accepted = Unit {0}
@@ -192,6 +192,10 @@ module _ (a b : Told) (s : Session) (store : Store) (met : Met) (r : Repository)
   pub set_cut : met ≡ met_only false → not_leaving_in (phase_of s.store.collection) (Some n) ≡ Ok tt → room_for_branch r name ≡ Ok tt → CutBy unasked a b s (record s { store = store; met = met }) r v setting
   set_cut e staying room = cut_so a b s store s.work r set_to v here setting (whole_set r (phase_of s.store.collection) (work_at s.work v) name target n named) made met e refl (roomy r (phase_of s.store.collection) (work_at s.work v) name target n named staying room) does
 
+pub has_answer_set : (made : Result (Unit {0}) StoreFault) (reply : Reply) → branch_reply made ≡ Some reply → HasAnswer made
+has_answer_set (Ok done) reply e = tt
+has_answer_set (Err fault) reply e = answered (Unit {0}) fault reply e
+
 pub is_ground_set : (made : Result (Unit {0}) StoreFault) → IsUndamaged made → branch_reply made ≡ None → IsErrOf made StoreFault.Ground
 is_ground_set (Ok done) u e = absurd (cc e)
 is_ground_set (Err fault) u e = ap Err (unanswered (Unit {0}) fault u e)
@@ -275,6 +279,11 @@ module _ (a b : Told) (s : Session) (store : Store) (met : Met) (r : Repository)
   pub remove_cut : met ≡ met_only false → IsSome (head r name) → CutBy unasked a b s (record s { store = store; met = met }) r v removing
   remove_cut e there = cut_so a b s store s.work r removed_to v here removing (whole_removed r (phase_of s.store.collection) (work_at s.work v) name) made met e refl
       (ap (λ (t : Turned). t.1.repository) (removed_turn r (phase_of s.store.collection) (work_at s.work v) name (met_only false)) ∙ found r (phase_of s.store.collection) (work_at s.work v) name (head r name) there) does
+
+pub has_answer_removed : (name : Bytes) (made : Result Bool StoreFault) (reply : Reply) → removed_reply name made ≡ Some reply → HasAnswer made
+has_answer_removed name (Ok true) reply e = tt
+has_answer_removed name (Ok false) reply e = tt
+has_answer_removed name (Err fault) reply e = answered Bool fault reply e
 
 pub is_ground_removed : (name : Bytes) (made : Result Bool StoreFault) → IsUndamaged made → removed_reply name made ≡ None → IsErrOf made StoreFault.Ground
 is_ground_removed name (Ok true) u e = absurd (cc e)

@@ -9,10 +9,8 @@ use Rattle.std.specs.Prelude.{Result, IfOk, OnErr, IsSomeAnd, All, option_map, i
 use Rattle.ip_ground.specs.declared.names.FileName.{FileName}
 use Rattle.ip_ground.specs.declared.names.FileName.TheVariants.{Control, Chunk, Prefix, Mapping, Done}
 use Rattle.ip_ground.specs.declared.names.Reaped.{Reaped}
-use Rattle.ip_ground.specs.Contents.{Image}
-use Rattle.ip_ground.specs.Told.{Told, NoFile, IsSettledAs}
+use Rattle.ip_ground.specs.Told.{Told, NoFile}
 use Rattle.ip_ground.proofs.Spans.{only_nowhere}
-use Rattle.ip_spawn.specs.declared.job.Job.{Job}
 use Rattle.ip_spec.specs.declared.command.Command.{Command}
 use Rattle.ip_spec.specs.declared.met.Child.{Child}
 use Rattle.ip_spec.specs.declared.met.Met.{Met}

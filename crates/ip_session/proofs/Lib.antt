@@ -10,6 +10,7 @@ pub mod BranchGoes
 pub mod ReadGoes
 pub mod Beginning
 pub mod Placing
+mod ClearGoes
 pub mod MergeGoes
 mod Asking
 mod StartGoes

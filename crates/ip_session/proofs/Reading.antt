@@ -27,7 +27,7 @@ use Rattle.ip_spec.specs.Tree.{Tree, graft, subtree, is_empty, got_at, listed_at
 use Rattle.ip_spec.specs.TreeAt.{TreeAt, present}
 use Rattle.ip_spec.specs.View.{View, no_view, put_view, remove_view, graft_view, least}
 use Rattle.ip_spec.specs.Repository.{Repository, next, is_retained, tree_at, name_at}
-use Rattle.ip_spec.specs.Machine.{State, Conditions, empty_work}
+use Rattle.ip_spec.specs.Machine.{State, empty_work}
 use Rattle.ip_spec.specs.Machine as Machine
 use Rattle.ip_spec.specs.Step.{below, Step, contents_limit, got_reply, listed_reply, commit_reply, resolve, least_with}
 use Rattle.ip_spec.proofs.GraftLaws.{get-graft, get-graft_beside}
@@ -184,15 +184,15 @@ ends (StoreFault.Existing name) command met met' result held f refuses = subst (
 
 -- ---- what a command did that reads
 
-module _ (tells : Bool) (old new : Told) (s s' : Session) (command : Command) (tables : (r : Repository) → IsIn s r → IsIn s' r) (looks : IsTrue tells → OnlyLooks old new s.store s'.store) where
+module _ (tells : Bool) (old new : Told) (s s' : Session) (command : Command) (tables : (r : Repository) → IsIn s r → IsIn s' r) (looks : IsTrue tells → OnlyLooks old new s.store s'.store) (unswept : s'.store.unswept ≡ s.store.unswept) where
   abbrev Did : Result Reply SessionEnd → Type 0
   Did result = HasRead tells old new s s' command result
 
   pub answered_read : (reply : Reply) → (IsTrue tells → (r : Repository) (v : View) (here : IsWorking old s r v) → IsAnswered (image_records here.holds) s s' r v command reply) → Did (Ok reply)
-  answered_read reply answered = record { tables = tables; answered = answered; looks = looks; unmet = λ err. absurd (cc err) }
+  answered_read reply answered = record { tables = tables; answered = answered; looks = looks; unswept = unswept; unmet = λ err. absurd (cc err) }
 
   ended_read : (end : SessionEnd) → s'.met ≡ s.met → Did (Err end)
-  ended_read end same = record { tables = tables; answered = λ told r v here. tt; looks = looks; unmet = λ err. same }
+  ended_read end same = record { tables = tables; answered = λ told r v here. tt; looks = looks; unswept = unswept; unmet = λ err. same }
 
   -- over the view as it was
   module _ (phase : s'.store.collection ≡ s.store.collection) (same : (v : View) → work_at s'.work v ≡ work_at s.work v) (e : s.met ≡ met_only false) (refusable : Refusable command) where
@@ -217,19 +217,19 @@ pub unread : (tells : Bool) (a : Told) (s : Session) (met : Met) (command : Comm
     → ((r : Repository) (v : View) → IsOf s.store r → IsViewAfter r v command reply v)
     → ((r : Repository) (v : View) → IsOf s.store r → Step unasked (state_in s r v) command (conditions_of (met_only false)) reply (state_in s r v))
     → HasRead tells a a s (record s { met = met }) command (Ok reply)
-unread tells a s met command reply e refusable seen gives = answered_read tells a a s (record s { met = met }) command (λ r is. is) (λ told. looks_nowhere a s.store) reply
+unread tells a s met command reply e refusable seen gives = answered_read tells a a s (record s { met = met }) command (λ r is. is) (λ told. looks_nowhere a s.store) refl reply
     (λ told r v here. still_answered (image_records here.holds) s (record s { met = met }) r v command refl refl here.lawful reply e (gives r v here.holds.tables) (seen r v here.holds.tables) refusable)
 
 -- and it was refused memory
 pub refused_unread : (tells : Bool) (a : Told) (s : Session) (met : Met) (command : Command) (reply : Reply) → met ≡ met_only true → reply ≡ Reply.Memory → Refusable command → HasRead tells a a s (record s { met = met }) command (Ok reply)
 refused_unread tells a s met command reply e is refusable = subst (λ (x : Reply). HasRead tells a a s (record s { met = met }) command (Ok x)) (sym is)
-    (answered_read tells a a s (record s { met = met }) command (λ r is. is) (λ told. looks_nowhere a s.store) Reply.Memory
+    (answered_read tells a a s (record s { met = met }) command (λ r is. is) (λ told. looks_nowhere a s.store) refl Reply.Memory
     (λ told r v here. memory_answered (image_records here.holds) s (record s { met = met }) r v command refl refl here.lawful e refusable))
 
 -- it asks nothing of the ground
 pub within_read : (tells : Bool) (a : Told) (s s' : Session) (command : Command) (reply : Reply) → ((r : Repository) → IsIn s r → IsIn s' r) → s'.store ≡ s.store
     → ((records : ℕ → Option Record) (r : Repository) (v : View) → IsOf s.store r → IsLawful records r s.work v → IsAnswered records s s' r v command reply) → HasRead tells a a s s' command (Ok reply)
-within_read tells a s s' command reply tables same answered = answered_read tells a a s s' command tables (λ told. subst (OnlyLooks a a s.store) (sym same) (looks_nowhere a s.store)) reply
+within_read tells a s s' command reply tables same answered = answered_read tells a a s s' command tables (λ told. subst (OnlyLooks a a s.store) (sym same) (looks_nowhere a s.store)) (ap (λ (x : Store). x.unswept) same) reply
     (λ told r v here. answered (image_records here.holds) r v here.holds.tables here.lawful)
 
 -- by another name of the command
@@ -456,7 +456,7 @@ module _ (records : ℕ → Option Record) (s : Session) (r : Repository) (v : V
 
 -- a command that does nothing with a work that was given up, where this one was
 pub given_read : (tells : Bool) (a : Told) (s : Session) (command : Command) (number : ℕ) → s.met ≡ met_only false → AsksWork command → ((r : Repository) → IsOf s.store r → below r.floor s.work.least ≡ Some number) → HasRead tells a a s s command (Ok (Reply.GivenUp number))
-given_read tells a s command number e asks is = answered_read tells a a s s command (λ r in_it. in_it) (λ told. looks_nowhere a s.store) (Reply.GivenUp number)
+given_read tells a s command number e asks is = answered_read tells a a s s command (λ r in_it. in_it) (λ told. looks_nowhere a s.store) refl (Reply.GivenUp number)
     (λ told r v here. given_answered (image_records here.holds) s r v here.holds.tables here.lawful s.met command number e asks (is r here.holds.tables))
 
 -- and where it was not
@@ -495,25 +495,25 @@ module _ (tells : Bool) (old new : Told) (s : Session) (store : Store) (same : S
 
   pub set_read : ((r : Repository) → IsOf s.store r → IsThere r s.work.least) → (tree : lazy.Tree) (path : Path) (bytes : Bytes) → (IsTrue tells → (r : Repository) (v : View) (held : Holds s.store old r) → IsView (image_records held) s.work.tree v → IsSet (image_records held) path bytes tree v)
       → HasRead tells old new s (after tree s.met) (Command.Set path bytes) (Ok Reply.Accepted)
-  set_read there tree path bytes is = answered_read tells old new s (after tree s.met) (Command.Set path bytes) (kept_in s (after tree s.met) same refl refl) looks Reply.Accepted
+  set_read there tree path bytes is = answered_read tells old new s (after tree s.met) (Command.Set path bytes) (kept_in s (after tree s.met) same refl refl) looks same.unswept Reply.Accepted
       (λ told r v here. set_answered (image_records here.holds) s store s.met r v e same.collection here.lawful (there r here.holds.tables) tree path bytes (is told r v here.holds (here.lawful.tree (there r here.holds.tables))))
 
   pub rm_read : ((r : Repository) → IsOf s.store r → IsThere r s.work.least) → (tree : lazy.Tree) (path : Path) → (IsTrue tells → (r : Repository) (v : View) (held : Holds s.store old r) → IsView (image_records held) s.work.tree v → IsRemoved (image_records held) path tree v true)
       → HasRead tells old new s (after tree s.met) (Command.Rm path) (Ok Reply.Accepted)
-  rm_read there tree path is = answered_read tells old new s (after tree s.met) (Command.Rm path) (kept_in s (after tree s.met) same refl refl) looks Reply.Accepted
+  rm_read there tree path is = answered_read tells old new s (after tree s.met) (Command.Rm path) (kept_in s (after tree s.met) same refl refl) looks same.unswept Reply.Accepted
       (λ told r v here. rm_answered (image_records here.holds) s store s.met r v e same.collection here.lawful (there r here.holds.tables) tree path (is told r v here.holds (here.lawful.tree (there r here.holds.tables))))
 
   -- over the same view
   pub same_read : (tree : lazy.Tree) (command : Command) (reply : Reply) → Refusable command → ((r : Repository) (v : View) → IsOf s.store r → IsViewAfter r v command reply v)
       → (IsTrue tells → (r : Repository) (v : View) (here : IsWorking old s r v) → (IsThere r s.work.least → IsView (image_records here.holds) tree v) × Step unasked (state_in s r v) command (conditions_of (met_only false)) reply (state_in s r v))
       → HasRead tells old new s (after tree s.met) command (Ok reply)
-  same_read tree command reply refusable seen does = still_read tells old new s (after tree s.met) command (kept_in s (after tree s.met) same refl refl) looks same.collection (λ v. refl) e refusable reply refl seen
+  same_read tree command reply refusable seen does = still_read tells old new s (after tree s.met) command (kept_in s (after tree s.met) same refl refl) looks same.unswept same.collection (λ v. refl) e refusable reply refl seen
       (λ told r v here. let x = does told r v here in (lawful_with (image_records here.holds) r s.work v tree here.lawful x.0, x.1))
 
   pub failed_read : (tree : lazy.Tree) (met : Met) (command : Command) (fault : StoreFault) (result : Result Reply SessionEnd) → Refusable command → Fails fault s.met met result
       → (IsTrue tells → (r : Repository) (v : View) (here : IsWorking old s r v) → (IsThere r s.work.least → IsView (image_records here.holds) tree v) × Refuses (state_in s r v) command fault)
       → HasRead tells old new s (after tree met) command result
-  failed_read tree met command fault result refusable f does = fault_read tells old new s (after tree met) command (kept_in s (after tree met) same refl refl) looks same.collection (λ v. refl) e refusable fault result f
+  failed_read tree met command fault result refusable f does = fault_read tells old new s (after tree met) command (kept_in s (after tree met) same refl refl) looks same.unswept same.collection (λ v. refl) e refusable fault result f
       (λ told r v here. let x = does told r v here in (lawful_with (image_records here.holds) r s.work v tree here.lawful x.0, x.1))
 
 -- what came of a call on a tree
@@ -562,7 +562,7 @@ module _ (tells : Bool) (old new : Told) (s : Session) (store : Store) (same : S
       → HasRead tells old new s (record s { store = store; work = record { tree = tree; parents = parents; least = Some n } }) (Command.Checkout target) (Ok (Reply.At name))
   checkout_read tree parents name one is_name long_name read =
       let s' : Session = record s { store = store; work = record { tree = tree; parents = parents; least = Some n } } in
-      answered_read tells old new s s' (Command.Checkout target) (λ r is. (same_tables s.store store same r is.0, subst (AreParents r (Some n)) (sym one) (one_parent r n (retained r is.0)))) looks (Reply.At name)
+      answered_read tells old new s s' (Command.Checkout target) (λ r is. (same_tables s.store store same r is.0, subst (AreParents r (Some n)) (sym one) (one_parent r n (retained r is.0)))) looks same.unswept (Reply.At name)
       (λ told r v here.
       let of : IsOf s.store r = here.holds.tables in
       checkout_answered (image_records here.holds) s store s.met r v e same.collection here.lawful tree parents target n name one (sym (named r of)) (retained r of)
@@ -575,7 +575,7 @@ module _ (tells : Bool) (old new : Told) (s : Session) (store : Store) (same : S
       → HasRead tells old new s (record s { store = store; work = record s.work { tree = tree; least = Some low } }) (Command.Graft target from to) (Ok Reply.Accepted)
   graft_read there tree source from to low less read grafted =
       let s' : Session = record s { store = store; work = record s.work { tree = tree; least = Some low } } in
-      answered_read tells old new s s' (Command.Graft target from to) (λ r is. (same_tables s.store store same r is.0, less_parents r s.work.least low n s.work.parents less is.1)) looks Reply.Accepted
+      answered_read tells old new s s' (Command.Graft target from to) (λ r is. (same_tables s.store store same r is.0, less_parents r s.work.least low n s.work.parents less is.1)) looks same.unswept Reply.Accepted
       (λ told r v here.
       let of : IsOf s.store r = here.holds.tables in
       let t : IsReadFor r here.holds source = read told r here.holds (retained r of) in

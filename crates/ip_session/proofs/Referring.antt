@@ -3,8 +3,8 @@
 --     parent_known, parent_full, parent_done      the commit is a parent already, there are as many as there may be, or it is added
 --     IsUnnamed, names_none      the replies of a reference that names none
 --     named_retained      what a reference names is retained.      not_below      and what is retained is not below the floor
-use Rattle.std.proofs.Common.{◌≡◌, ℕ, ◌+◌, ◌<◌, ◌≤◌, ◌==◌, Bool, true, false, List, [], ◌∷◌, ◌++◌, map, length, refl, sym, ap, ◌∙◌, subst, arith, Option, Some, None, Ok, Err, IsTrue}
-use Rattle.std.specs.Prelude.{◌&&◌, IfSome, nat_le, nat_lt, position, reverse, option_map}
+use Rattle.std.proofs.Common.{◌≡◌, ℕ, ◌+◌, ◌<◌, ◌≤◌, ◌==◌, Bool, true, false, List, [], ◌∷◌, ◌++◌, map, length, refl, sym, ap, ◌∙◌, arith, Option, Some, None, Ok, Err, IsTrue}
+use Rattle.std.specs.Prelude.{◌&&◌, nat_le, nat_lt, position, reverse, option_map}
 use Rattle.std.specs.List.{list_any}
 use Rattle.std.proofs.lemmas.Bool.Decides.{nat_tests}
 use Rattle.std.proofs.lemmas.List.Quantifiers.{position-Some}
@@ -13,15 +13,12 @@ use Rattle.ip_spec.specs.declared.command.Command.{Command}
 use Rattle.ip_spec.specs.declared.command.Target.{Target}
 use Rattle.ip_spec.specs.declared.reply.Reply.{Reply}
 use Rattle.ip_spec.specs.History.{ancestors, lcas}
-use Rattle.ip_spec.specs.Path.{Bytes, Path, same_bytes}
+use Rattle.ip_spec.specs.Path.{Path, same_bytes}
 use Rattle.ip_spec.specs.Record.{Hash}
 use Rattle.ip_spec.specs.Repository.{Repository, Commit, next, head, name_at, tree_at, number_named, is_retained}
 use Rattle.ip_spec.specs.Tree.{Tree, subtree, place, graft, is_empty, height, widest, got_at}
 use Rattle.ip_spec.specs.Machine.{Phase, Work, State}
 use Rattle.ip_spec.specs.Step.{Refused, present, ◌>>=◌, ◌>>◌, refuse_if, or_refused, Turned, not_given_up, parents_limit, entries_limit, steps_limit, resolve, with_parent, graft_turn, least_with, head_of, commit_reply, got_reply, Step, outcome}
-use Rattle.ip_store.specs.declared.store.Store.{Store}
-use Rattle.ip_store.specs.Store.{IsOf}
-use Rattle.ip_store.proofs.Phases.{head_retained}
 use Rattle.ip_session.specs.Session.{unasked, met_only, conditions_of}
 use Rattle.ip_session.proofs.SessionLemmas.{at, plainly, NoneGivenUp, still_there, behind, tested as refused_by_test, passes, stays_in}
 

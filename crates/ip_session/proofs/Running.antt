@@ -19,6 +19,7 @@ use Rattle.ip_session.specs.declared.session.SessionEnd.{SessionEnd}
 use Rattle.ip_session.specs.Asking.{HandlesNone, MayReap}
 use Rattle.ip_session.specs.Running.{Runs}
 use Rattle.ip_session.specs.Session.{unasked, IsIn, IsServing, HasRead, IsAnswered, is_durable, met_only}
+use Rattle.ip_session.proofs.ClearGoes.{read_clear}
 use Rattle.ip_session.proofs.Placing.{read_placed}
 use Rattle.ip_session.proofs.Reading.{within_read}
 use Rattle.ip_session.proofs.ReadGoes.{read_serves, read_goes, read_cut}
@@ -36,6 +37,7 @@ by_any_rule tells rule a b s s' _ result plain runs = record {
   serving = runs.serving;
   goes = λ known r v here. runs.goes known.0 r v here;
   placed = λ known r v here. runs.placed known.0 r v here;
+  clear = λ known r v here. runs.clear known.0 r v here;
   cut = λ known r v here. runs.cut known.0 r v here;
 }
 
@@ -57,6 +59,7 @@ module _ (tells : Bool) (rule : Rule) (a b : Told) (s s' : Session) (command com
     serving = read_serves tells a b s s' command' result serving has;
     goes = λ known r v here. read_goes rule tells a b s s' command' known.0 r v here result quiet (asks_of command' handles) has;
     placed = λ known r v here. read_placed rule tells a b s s' command' known.0 r v here result quiet (none_reaps command' handles) has;
+    clear = λ known r v here. read_clear tells a b s s' command' known.0 r v here result (none_reaps command' handles) has;
     cut = λ known r v here. read_cut rule tells a b s s' command' known.0 r v here result quiet (asks_of command' handles) unmet has;
   })
 

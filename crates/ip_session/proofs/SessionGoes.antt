@@ -26,10 +26,12 @@ use Rattle.ip_session.specs.declared.session.Session.{Session}
 use Rattle.ip_session.specs.declared.session.SessionEnd.{SessionEnd}
 use Rattle.ip_store.specs.Views.{IsViewAfter}
 use Rattle.ip_session.specs.Asking.{QuietIfLong, Spawns}
+use Rattle.ip_session.specs.Clearing.{ClearIn}
 use Rattle.ip_session.specs.Session.{CountsIn, IsWorking, state_in, met_only, conditions_of, IsLong, Writes, OnlyBy, OnlyIn, IsViewIn, Goes, GoesBy, GoesIn, CutBy, CutIn}
 use Rattle.ip_session.proofs.Seeing.{memory_seen, bad_seen}
 use Rattle.ip_session.specs.Placing.{PlacedIn}
 use Rattle.ip_session.proofs.Asking.{unwritten, whole_asked}
+use Rattle.ip_session.proofs.ClearGoes.{quiet_clear}
 use Rattle.ip_session.proofs.Changing.{nothing_only, nothing_space, keeps_nothing}
 use Rattle.ip_session.proofs.Placing.{quiet_placed, still_slot}
 use Rattle.ip_session.proofs.SessionLemmas.{unjudged, unsettled, memory_is_short, bad_is_short, bad_line}
@@ -144,27 +146,35 @@ Tells tells rule a b s s' line reply = IsTrue tells → IsDecisive rule → (r :
 abbrev Places : (tells : Bool) (rule : Rule) (a : Told) (s s' : Session) (line : Bytes) (reply : Reply) → Type 0
 Places tells rule a s s' line reply = IsTrue tells → IsDecisive rule → (r : Repository) (v : View) → IsWorking a s r v → PlacedIn rule s.store.slot s.store.unswept s'.store.slot (state_in s r v) v line reply
 
+abbrev Clears : (tells : Bool) (rule : Rule) (a b : Told) (s s' : Session) (line : Bytes) (reply : Reply) → Type 0
+Clears tells rule a b s s' line reply = IsTrue tells → IsDecisive rule → (r : Repository) (v : View) → IsWorking a s r v → ClearIn a b s s' line reply
+
 -- what was written of its reply
 module _ (tells : Bool) (rule : Rule) (a b : Told) (s s' : Session) (met : Met) (line : Bytes) (reply : Reply) where
   abbrev Written : Reply → Type 0
-  Written written = IsTrue tells → IsDecisive rule → (r : Repository) (v : View) → IsWorking a s r v → GoesIn rule a b s (record s' { met = met }) r v line written × PlacedIn rule s.store.slot s.store.unswept s'.store.slot (state_in s r v) v line written
+  Written written = IsTrue tells → IsDecisive rule → (r : Repository) (v : View) → IsWorking a s r v → GoesIn rule a b s (record s' { met = met }) r v line written × PlacedIn rule s.store.slot s.store.unswept s'.store.slot (state_in s r v) v line written × ClearIn a b s (record s' { met = met }) line written
 
-  whole_goes : met ≡ s'.met → Tells tells rule a b s s' line reply → Places tells rule a s s' line reply → Written reply
-  whole_goes is goes placed told decisive r v here = (subst (λ (m : Met). GoesIn rule a b s (record s' { met = m }) r v line reply) (sym is) (goes told decisive r v here), placed told decisive r v here)
+  whole_goes : met ≡ s'.met → Tells tells rule a b s s' line reply → Places tells rule a s s' line reply → Clears tells rule a b s s' line reply → Written reply
+  whole_goes is goes placed clears told decisive r v here = (
+    subst (λ (m : Met). GoesIn rule a b s (record s' { met = m }) r v line reply) (sym is) (goes told decisive r v here),
+    placed told decisive r v here,
+    subst (λ (m : Met). ClearIn a b s (record s' { met = m }) line reply) (sym is) (clears told decisive r v here),
+  )
 
-  memory_goes : IsLong reply → met ≡ met_only true → Tells tells rule a b s s' line reply → Written Reply.Memory
-  memory_goes long is goes told decisive r v here =
+  memory_goes : IsLong reply → met ≡ met_only true → Tells tells rule a b s s' line reply → Clears tells rule a b s s' line reply → Written Reply.Memory
+  memory_goes long is goes clears told decisive r v here =
       let went = goes told decisive r v here in (
         memory_instead a b s s' met r v (OnlyIn s.store a b line) (LineStep IsLineOf rule (state_in s r v) line) (IsViewIn r v line) reply went long is (refused_in r v line) (nothing_only s.store a b line Reply.Memory),
         quiet_placed rule s.store.slot s.store.unswept s'.store.slot (state_in s r v) v line Reply.Memory (λ command h. h) (λ command h. h) (λ l is. absurd (cc is)) tt (still_slot s.store s'.store r went.after a b here.holds went.is_at.holds (went.still long)),
+        quiet_clear a b s (record s' { met = met }) line Reply.Memory (λ h. h) (clears told decisive r v here).keeps,
       )
 
   module _ (spawner_tells : Bool) (x y : spawn.Told) (m n : SpawnCounts) (old new : GroundCounts) (text : Bytes) where
-    pub written_goes : Tells tells rule a b s s' line reply → Writes reply s'.met met text → Places tells rule a s s' line reply → Spawns spawner_tells x y s s' line (Ok reply) m n → CountsIn line (Ok reply) s'.met old new → QuietIfLong s'.met old new reply
+    pub written_goes : Tells tells rule a b s s' line reply → Writes reply s'.met met text → Places tells rule a s s' line reply → Clears tells rule a b s s' line reply → Spawns spawner_tells x y s s' line (Ok reply) m n → CountsIn line (Ok reply) s'.met old new → QuietIfLong s'.met old new reply
         → (written : Reply) × (text ≡ reply_text written) × Spawns spawner_tells x y s (record s' { met = met }) line (Ok written) m n × CountsIn line (Ok written) met old new × Written written
-    written_goes goes (inl whole) placed spawns counts quiet =
+    written_goes goes (inl whole) placed clears spawns counts quiet =
         let told = whole_asked spawner_tells x y s s' met line reply m n old new spawns counts whole.0 in
-        (reply, whole.1, told.0, told.1, whole_goes whole.0 goes placed)
-    written_goes goes (inr refused) placed spawns counts quiet =
+        (reply, whole.1, told.0, told.1, whole_goes whole.0 goes placed clears)
+    written_goes goes (inr refused) placed clears spawns counts quiet =
         let told = unwritten spawner_tells x y s s' met line reply m n old new spawns refused.0 quiet refused.1 in
-        (Reply.Memory, refused.2, told.0, told.1, memory_goes refused.0 refused.1 goes)
+        (Reply.Memory, refused.2, told.0, told.1, memory_goes refused.0 refused.1 goes clears)

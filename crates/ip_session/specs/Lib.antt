@@ -3,3 +3,4 @@ pub mod Placing
 pub mod Running
 pub mod Asking
 pub mod Starting
+pub mod Clearing

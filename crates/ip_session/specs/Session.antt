@@ -25,7 +25,7 @@
 --     tree_fault fault      a call on a tree fails as one of the store.      IsEndOf fault end, EndsBecause made end      the session ends by it, or by what a call failed with
 --     IsNamed reply      a commit's name that a merge is answered with is no longer than a name
 --     IsLong reply      the text of such a reply may take memory.      Writes reply met met' text      it was written, or want of it
-use Rattle.std.specs.Prelude.{◌≡◌, ◌≢◌, ◌⊎◌, ◌<◌, ℕ, Bool, true, false, length, Option, Some, None, option_map, IsTrue, IfOk, IsErr, IsSome, IsSomeAnd, Result, Ok, Err}
+use Rattle.std.specs.Prelude.{◌≡◌, ◌≢◌, ◌⊎◌, ◌<◌, ℕ, Bool, true, false, length, Option, Some, None, option_map, IsTrue, IfOk, IsErr, IsSomeAnd, Result, Ok, Err}
 use Rattle.ip_ground.specs.declared.names.FileName.{FileName}
 use Rattle.ip_ground.specs.declared.names.FileName.TheVariants.{Control}
 use Rattle.ip_ground.specs.declared.names.Reaped.{Reaped}
@@ -199,6 +199,8 @@ pub record HasRead (tells : Bool) (old new : Told) (s s' : Session) (command : C
   pub tables : (r : Repository) → IsIn s r → IsIn s' r
   pub answered : IsTrue tells → (r : Repository) (v : View) (here : IsWorking old s r v) → IfOk result (IsAnswered (image_records here.holds) s s' r v command)
   pub looks : IsTrue tells → OnlyLooks old new s.store s'.store
+  -- what was unswept is so still
+  pub unswept : s'.store.unswept ≡ s.store.unswept
   -- one that was cut short met nothing
   pub unmet : IsErr result → s'.met ≡ s.met
 
@@ -304,6 +306,8 @@ CountsAny (Ok reply) old new = (left : ℕ) × CountsLeft left old new
 pub record CountsIn (line : Bytes) (result : Result Reply SessionEnd) (met : Met) (old new : GroundCounts) : Type 0 where
   pub command : (command : Command) → IsLineOf command line → CountsBy result command met old new
   pub any : CountsAny result old new
+  -- one that is no command counts nothing
+  pub none : ((command : Command) → ¬ IsLineOf command line) → IfOk result (λ reply. new ≡ old)
 
 -- refusals are answered, want of memory among them, and faults of the ground and of its files end the session
 abbrev pub fault_answer : StoreFault → Result Reply SessionEnd

@@ -20,6 +20,7 @@ ghost use Rattle.ip_store.specs.Commits.{met_nothing};
 ghost use Rattle.ip_store.specs.Store.{IsOf};
 ghost use Rattle.ip_store.specs.Work.{IsLawful, IsThere};
 ghost use Rattle.ip_merge.specs.Rules.{IsDecisive};
+ghost use Rattle.ip_session.specs.Clearing.{ClearIn};
 ghost use Rattle.ip_session.specs.Asking.{Asked, HandlesNone, QuietIfLong, MeetsNone, Spawns, TellsNone};
 ghost use Rattle.ip_session.specs.Placing.{PlacedIn};
 ghost use Rattle.ip_session.specs.Running.{Runs};
@@ -339,6 +340,8 @@ impl Session {
             IfOk result (GoesIn (D.rule rules.now) (G.told ground.old) (G.told ground.new) self.old self.new r v line.now) }
         ensures placed { IsTrue G.tells → IsDecisive (D.rule rules.now) → (r : Repository) (v : View) → IsWorking (G.told ground.old) self.old r v →
             IfOk result (PlacedIn (D.rule rules.now) self.old.store.slot self.old.store.unswept self.new.store.slot (state_in self.old r v) v line.now) }
+        ensures clear { IsTrue G.tells → IsDecisive (D.rule rules.now) → (r : Repository) (v : View) → IsWorking (G.told ground.old) self.old r v →
+            IfOk result (ClearIn (G.told ground.old) (G.told ground.new) self.old self.new line.now) }
         ensures cut { IsTrue G.tells → IsDecisive (D.rule rules.now) → (r : Repository) (v : View) → IsWorking (G.told ground.old) self.old r v →
             OnErr result (CutIn (D.rule rules.now) (G.told ground.old) (G.told ground.new) self.old self.new r v line.now) }
         ensures quiet { IfOk result (QuietIfLong self.new.met (G.counts_of ground.old) (G.counts_of ground.new)) }
@@ -377,7 +380,8 @@ impl Session {
             × Spawns P.tells (P.told spawner.old) (P.told spawner.new) self.old self.new line.now (Ok reply) (P.counts_of spawner.old) (P.counts_of spawner.new)
             × CountsIn line.now (Ok reply) self.new.met (G.counts_of ground.old) (G.counts_of ground.new) × (IsTrue G.tells → IsDecisive (D.rule rules.now) → (r : Repository) (v : View) → IsWorking (G.told ground.old) self.old r v →
             GoesIn (D.rule rules.now) (G.told ground.old) (G.told ground.new) self.old self.new r v line.now reply
-            × PlacedIn (D.rule rules.now) self.old.store.slot self.old.store.unswept self.new.store.slot (state_in self.old r v) v line.now reply)) }
+            × PlacedIn (D.rule rules.now) self.old.store.slot self.old.store.unswept self.new.store.slot (state_in self.old r v) v line.now reply
+            × ClearIn (G.told ground.old) (G.told ground.new) self.old self.new line.now reply)) }
         ensures cut { IsTrue G.tells → IsDecisive (D.rule rules.now) → (r : Repository) (v : View) → IsWorking (G.told ground.old) self.old r v →
             OnErr result (CutIn (D.rule rules.now) (G.told ground.old) (G.told ground.new) self.old self.new r v line.now) }
         ensures ended { IfErr result (λ end. Spawns P.tells (P.told spawner.old) (P.told spawner.new) self.old self.new line.now (Err end) (P.counts_of spawner.old) (P.counts_of spawner.new)

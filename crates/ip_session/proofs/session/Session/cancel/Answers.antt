@@ -9,9 +9,11 @@ use Rattle.ip_store.specs.Cancelling.{CountsCancel}
 use Rattle.ip_store.specs.Collecting.{child_of}
 use Rattle.ip_session.specs.declared.session.SessionEnd.{SessionEnd}
 use Rattle.ip_session.specs.Asking.{QuietIfLong}
+use Rattle.ip_session.specs.Clearing.{SweepsBehind, ClearBy}
 use Rattle.ip_session.specs.Placing.{PlacedBy}
 use Rattle.ip_session.specs.Session.{unasked, IsServing, IsHeld, state_in, CountsBy, CutBy, EndsBy, GoesBy}
 use Rattle.ip_session.proofs.Asking.{AskedSo, cancel_asked, cancel_counts, cancel_quiet, cancel_ends}
+use Rattle.ip_session.proofs.ClearGoes.{cancel_clear}
 use Rattle.ip_session.proofs.CancelGoes.{cancel_serves, cancel_placed, cancel_does, cancel_cuts}
 use Rattle.ip_session.proofs.session.Session.cancel.Goals as goal
 
@@ -30,6 +32,8 @@ returns-clause-runs g c =
           (cancel_does _ _ s store _ left done c.met-self.ensures slot_is r v here call.ensures.runs (call.ensures.answered r here.holds.tables) (λ idle. ap g.G.Ground.told (call.ensures.idle idle).0) (λ orphan. ap g.G.Ground.told (call.ensures.orphan orphan))
           call.ensures.unswept call.ensures.same (λ x runs. call.ensures.any_moment tells r here.holds x runs) (λ ok q now. call.ensures.records_stay tells ok r q here.holds now));
       placed = λ tells r v here. subst (λ (x : Result Reply SessionEnd). IfOk x (PlacedBy unasked s.store.slot s.store.unswept store.slot (state_in s r v) v Command.Cancel)) (sym says) (cancel_placed (g.G.Ground.told c.args.ground.now) (g.G.Ground.told call.new.outside) s store c.met-self.result left done c.met-self.ensures slot_is r v here done);
+      clear = λ tells r v here. subst (λ (x : Result Reply SessionEnd). IfOk x (λ reply. ClearBy (SweepsBehind Command.Cancel reply) (g.G.Ground.told c.args.ground.now) (g.G.Ground.told call.new.outside) s (record s { store = store; met = c.met-self.result }))) (sym says)
+          (cancel_clear _ _ s store c.met-self.result c.met-self.ensures done (λ answers. call.ensures.clear tells answers r here.holds));
       cut = λ tells r v here. subst (λ (x : Result Reply SessionEnd). OnErr x (CutBy unasked (g.G.Ground.told c.args.ground.now) (g.G.Ground.told call.new.outside) s (record s { store = store; met = c.met-self.result }) r v Command.Cancel)) (sym says)
           (cancel_cuts _ _ s store _ left done c.met-self.ensures slot_is r v here call.ensures.runs is_met (λ x runs. call.ensures.any_moment tells r here.holds x runs));
     }

@@ -5,6 +5,7 @@ use Rattle.ip_spec.specs.Record.{Hash}
 use Rattle.ip_store.specs.declared.store.Store.{Store}
 use Rattle.ip_session.specs.Session.{unasked, state_in, GoesBy}
 use Rattle.ip_session.proofs.Asking.{none_met, plain_asked, start_asked, start_counts, start_quiet, start_ends}
+use Rattle.ip_session.proofs.ClearGoes.{keeps_by, start_clear}
 use Rattle.ip_session.proofs.StartGoes.{runs_none, runs_at, retained_at, busy_goes, busy_placed, unnamed_start, unnamed_start_placed, start_goes, start_cut, start_placed, start_serves, found_of, says_as}
 use Rattle.ip_session.proofs.session.Session.collect.Goals as goal
 
@@ -25,6 +26,7 @@ returns-in-Collecting-clause-runs g c =
           (sym (c.retained_name.ensures r here.holds.tables (retained_at s.store.slot r s.store.collection c.in-Collecting.commit _ here.holds.tables.phase told)))
           (busy_goes _ s r v here c.args.target c.in-Collecting.commit c.requires.met (runs_at s.store.collection c.in-Collecting.commit _ told));
       placed = λ tells r v here. busy_placed _ _ (state_in s r v) v c.args.target c.retained_name.result;
+      clear = λ tells r v here. keeps_by _ _ s s (Command.Collect c.args.target) (Reply.Busy c.retained_name.result) (λ may. may) (λ clear. clear);
       cut = λ tells r v here. tt;
     }
 
@@ -40,6 +42,7 @@ returns-in-Err-clause-runs g c =
       serving = c.requires.tables;
       goes = λ tells r v here. unnamed_start _ s r v here c.args.target c.in-Err.reply c.requires.met (runs_none s.store.collection (λ n k is. c.in_default.not-Collecting n k (c.phase.ensures ∙ is))) (sym (c.in-Err.ensures.number r here.holds.tables));
       placed = λ tells r v here. unnamed_start_placed _ _ (state_in s r v) v c.args.target c.in-Err.reply (sym (c.in-Err.ensures.number r here.holds.tables));
+      clear = λ tells r v here. keeps_by _ _ s s (Command.Collect c.args.target) c.in-Err.reply (λ may. may) (λ clear. clear);
       cut = λ tells r v here. tt;
     }
 
@@ -85,6 +88,12 @@ returns-clause-runs g c =
           let says = says_as r n s.store.collection store c.args.target named call.result _ c.start_reply.new.met c.start_reply.result c.met-self.ensures A (c.start_reply.ensures r) in
           start_placed _ _ s store r v here c.args.target n named call.result c.start_reply.new.met c.start_reply.result says A call.ensures.met (call.ensures.limits r tables)
           (λ begun. call.ensures.begins tells begun r tables) (λ down. ap (λ (x : Store). x.slot) (call.ensures.turned_down down).1);
+      clear = λ tells r v here.
+          let tables = here.holds.tables in
+          let named = sym (c.in-Ok.ensures.number r tables) in
+          let A = call.ensures.answered r tables (c.in-Ok.ensures.retained r tables) in
+          let says = says_as r n s.store.collection store c.args.target named call.result _ c.start_reply.new.met c.start_reply.result c.met-self.ensures A (c.start_reply.ensures r) in
+          start_clear _ _ s store c.start_reply.new.met r c.args.target store.met call.result c.start_reply.result says (λ answers. call.ensures.clear tells answers r here.holds);
       cut = λ tells r v here.
           let tables = here.holds.tables in
           let named = sym (c.in-Ok.ensures.number r tables) in

@@ -6,9 +6,11 @@ use Rattle.ip_spec.specs.declared.command.Command.TheVariants as Command
 use Rattle.ip_spec.specs.declared.met.Child.{Child}
 use Rattle.ip_spec.specs.declared.reply.Reply.{Reply}
 use Rattle.ip_session.specs.declared.session.SessionEnd.{SessionEnd}
+use Rattle.ip_session.specs.Clearing.{SweepsBehind, ClearBy}
 use Rattle.ip_session.specs.Placing.{PlacedBy}
 use Rattle.ip_session.specs.Session.{unasked, IsServing, IsHeld, IsLong, state_in, CountsBy, CutBy, EndsBy, GoesBy}
 use Rattle.ip_session.proofs.Asking.{AskedSo}
+use Rattle.ip_session.proofs.ClearGoes.{finish_clear}
 use Rattle.ip_session.proofs.FinishAsked.{Sees, seen_so, finish_asked, finish_counts, finish_quiet, finish_ends}
 use Rattle.ip_session.proofs.FinishGoes.{Says, finish_serves, finish_goes, finish_cuts, finish_placed}
 use Rattle.ip_session.proofs.session.Session.look.Goals as goal
@@ -30,6 +32,8 @@ returns-clause-runs g c =
           (finish_goes s store met Command.Look tt call.result c.met-self.ensures says a b r v here (λ x reaped runs heard. call.ensures.any_moment tells r here.holds x reaped runs heard) (λ has q now. call.ensures.works_stay tells has r q here.holds now) (λ quiet. ap g.G.Ground.told (call.ensures.quiet quiet).0) short);
       placed = λ tells r v here. subst (λ (x : Result Reply SessionEnd). IfOk x (PlacedBy unasked s.store.slot s.store.unswept store.slot (state_in s r v) v Command.Look)) (sym answer)
           (finish_placed s store met Command.Look tt call.result c.met-self.ensures says r here.holds.tables v);
+      clear = λ tells r v here. subst (λ (x : Result Reply SessionEnd). IfOk x (λ reply. ClearBy (SweepsBehind Command.Look reply) a b s (record s { store = store; met = met }))) (sym answer)
+          (finish_clear a b s store met c.met-self.ensures Command.Look call.result (λ has. call.ensures.clear tells has r here.holds));
       cut = λ tells r v here. subst (λ (x : Result Reply SessionEnd). OnErr x (CutBy unasked a b s (record s { store = store; met = met }) r v Command.Look)) (sym answer)
           (finish_cuts s store met Command.Look tt call.result c.met-self.ensures says a b r v here (λ x reaped runs heard. call.ensures.any_moment tells r here.holds x reaped runs heard) (call.ensures.undamaged tells r here.holds));
     }

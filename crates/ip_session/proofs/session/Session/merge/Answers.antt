@@ -1,5 +1,6 @@
 use Rattle.std.proofs.Common.{sym, ◌∙◌, subst}
 use Rattle.std.specs.Prelude.{IfSome}
+use Rattle.ip_spec.specs.declared.command.Command.TheVariants as Command
 use Rattle.ip_spec.specs.Path.{Bytes}
 use Rattle.ip_store.specs.Collecting.{phase_of}
 use Rattle.ip_store.specs.Merging.{merge_reply, AnswersMerge, MergesAtMoments, AppendsMerge, LimitsMerge}
@@ -7,6 +8,7 @@ use Rattle.ip_store.specs.Store.{image_records}
 use Rattle.ip_session.specs.Asking.{MeetsNone}
 use Rattle.ip_session.specs.Session.{state_in}
 use Rattle.ip_session.proofs.Asking.{faulted}
+use Rattle.ip_session.proofs.ClearGoes.{keeps_by}
 use Rattle.ip_session.proofs.MergeGoes.{has_reply, merge_ends, merge_counts, answer_counts, merge_serves, unmerged_goes, unmerged_placed, merge_goes, merge_cut, merge_placed}
 use Rattle.ip_session.proofs.session.Session.merge.Goals as goal
 
@@ -17,6 +19,7 @@ returns-in-Err-clause-runs g c =
       serving = c.requires.tables;
       goes = λ known r v here. unmerged_goes c.args.target c.args.branch c.args.info rule _ c.args.self.now c.args.self.now.met r v here c.in-Err.reply c.requires.met (sym (c.in-Err.ensures.number r here.holds.tables));
       placed = λ known r v here. unmerged_placed c.args.target c.args.branch c.args.info rule _ _ (state_in c.args.self.now r v) v c.in-Err.reply (sym (c.in-Err.ensures.number r here.holds.tables));
+      clear = λ known r v here. keeps_by _ _ c.args.self.now _ (Command.Merge c.args.target c.args.branch c.args.info) c.in-Err.reply (λ may. may) (λ clear. clear);
       cut = λ known r v here. tt;
     }
 
@@ -51,6 +54,8 @@ returns-in-Ok-merge_answer-clause-runs g c =
           merge_placed rule a b c.args.self.now store c.merge_into-made.ensures.same_collection r v here c.args.target c.args.branch c.args.info c.in-Ok.number (sym (c.in-Ok.ensures.number r tables)) made c.in-Ok-merge_answer.reply c.in-Ok-merge_answer.ensures.reply
           (subst (λ (n : Bytes). AppendsMerge rule (image_records here.holds) r c.in-Ok.number n c.args.info made c.args.self.now.store store a b) c.as_slice.ensures (c.merge_into-made.ensures.appends known.0 known.1 r here.holds retained))
           (subst (λ (n : Bytes). LimitsMerge rule (image_records here.holds) r c.in-Ok.number n c.args.info made c.args.self.now.store) c.as_slice.ensures (c.merge_into-made.ensures.limits known.0 known.1 r here.holds retained));
+      clear = λ known r v here. keeps_by a b c.args.self.now _ (Command.Merge c.args.target c.args.branch c.args.info) c.in-Ok-merge_answer.reply (λ may. may)
+          (c.merge_into-made.ensures.clear known.0 known.1 (has_reply c.args.branch made c.in-Ok-merge_answer.reply c.in-Ok-merge_answer.ensures.reply) r here.holds (c.in-Ok.ensures.retained r here.holds.tables));
       cut = λ known r v here. tt;
     }
 
@@ -68,6 +73,7 @@ returns-in-Err-merge_answer-clause-runs g c =
       serving = tt;
       goes = λ known r v here. tt;
       placed = λ known r v here. tt;
+      clear = λ known r v here. tt;
       cut = λ known r v here.
           let tables = here.holds.tables in
           merge_cut rule a b c.args.self.now store c.merge_into-made.ensures.same_collection r v here c.args.target c.args.branch c.args.info c.in-Ok.number (sym (c.in-Ok.ensures.number r tables)) _ made c.requires.met

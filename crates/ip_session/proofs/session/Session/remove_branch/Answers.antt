@@ -12,7 +12,8 @@ use Rattle.ip_store.specs.Naming.{removed_reply, AnswersRemove, without_branch}
 use Rattle.ip_store.proofs.Works.{works_stay}
 use Rattle.ip_session.specs.Asking.{MeetsNone}
 use Rattle.ip_session.proofs.Asking.{faulted}
-use Rattle.ip_session.proofs.BranchGoes.{serves, remove_goes, remove_cut, is_ground_removed}
+use Rattle.ip_session.proofs.BranchGoes.{serves, remove_goes, remove_cut, has_answer_removed, is_ground_removed}
+use Rattle.ip_session.proofs.ClearGoes.{keeps_by}
 use Rattle.ip_session.proofs.Placing.{remove_placed}
 use Rattle.ip_session.proofs.session.Session.remove_branch.Goals as goal
 
@@ -42,6 +43,8 @@ returns-in-Some-clause-runs g c = record {
       (λ absent. ap g.G.Ground.told (c.remove_branch-made.ensures.absent absent))
       (subst (λ (n : Bytes). made ≡ Ok true → Appends ((c.args.self.now.store.slot.end, Record.BranchRemove n) ∷ []) 0 c.args.self.now.store store (g.G.Ground.told c.args.ground.now) (g.G.Ground.told c.remove_branch-made.new.outside)) c.as_slice.ensures
       (c.remove_branch-made.ensures.appends told));
+  clear = λ told r v here. keeps_by _ _ c.args.self.now _ (Command.BranchRm c.args.name) c.in-Some.reply (λ may. may)
+      (c.remove_branch-made.ensures.clear told (has_answer_removed c.args.name c.remove_branch-made.result c.in-Some.reply (sym c.removed_reply.ensures.value ∙ c.in-Some.is)) r here.holds);
   cut = λ told r v here. tt;
 }
 
@@ -50,6 +53,7 @@ returns-in-None-clause-runs g c = record {
   serving = tt;
   goes = λ told r v here. tt;
   placed = λ told r v here. tt;
+  clear = λ told r v here. tt;
   cut = λ told r v here.
       let made = c.remove_branch-made.result in
       let store = c.remove_branch-made.new.self in

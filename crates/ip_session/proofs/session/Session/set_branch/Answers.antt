@@ -8,7 +8,8 @@ use Rattle.ip_store.proofs.Works.{works_stay}
 use Rattle.ip_session.specs.Asking.{MeetsNone}
 use Rattle.ip_session.specs.Session.{state_in}
 use Rattle.ip_session.proofs.Asking.{faulted}
-use Rattle.ip_session.proofs.BranchGoes.{unnamed_goes, serves, set_goes, set_cut, is_ground_set}
+use Rattle.ip_session.proofs.BranchGoes.{unnamed_goes, serves, set_goes, set_cut, has_answer_set, is_ground_set}
+use Rattle.ip_session.proofs.ClearGoes.{keeps_by}
 use Rattle.ip_session.proofs.Placing.{unnamed_placed, set_placed}
 use Rattle.ip_session.proofs.session.Session.set_branch.Goals as goal
 
@@ -22,6 +23,7 @@ returns-in-Err-clause-runs g c = record {
   serving = c.requires.tables;
   goes = λ told r v here. unnamed_goes _ c.args.self.now c.args.self.now.met r v here c.args.name.now c.args.target c.in-Err.reply c.requires.met (sym (c.in-Err.ensures.number r here.holds.tables));
   placed = λ told r v here. unnamed_placed _ _ (state_in c.args.self.now r v) v c.args.name.now c.args.target c.in-Err.reply (sym (c.in-Err.ensures.number r here.holds.tables));
+  clear = λ told r v here. keeps_by _ _ c.args.self.now _ (Command.Branch c.args.name.now c.args.target) c.in-Err.reply (λ may. may) (λ clear. clear);
   cut = λ told r v here. tt;
 }
 
@@ -42,6 +44,8 @@ returns-in-Some-clause-runs g c = record {
       let tables = here.holds.tables in
       set_placed _ _ c.args.self.now c.set_branch-made.new.self r v here c.args.name.now c.args.target c.in-Ok.number (sym (c.in-Ok.ensures.number r tables)) c.set_branch-made.result c.in-Some.reply (sym c.branch_reply.ensures.value ∙ c.in-Some.is)
       (c.set_branch-made.ensures.any_moment told r here.holds (c.in-Ok.ensures.retained r tables)) c.set_branch-made.ensures.limits (c.set_branch-made.ensures.appends told);
+  clear = λ told r v here. keeps_by _ _ c.args.self.now _ (Command.Branch c.args.name.now c.args.target) c.in-Some.reply (λ may. may)
+      (c.set_branch-made.ensures.clear told (has_answer_set c.set_branch-made.result c.in-Some.reply (sym c.branch_reply.ensures.value ∙ c.in-Some.is)) r here.holds (c.in-Ok.ensures.retained r here.holds.tables));
   cut = λ told r v here. tt;
 }
 
@@ -50,6 +54,7 @@ returns-in-None-clause-runs g c = record {
   serving = tt;
   goes = λ told r v here. tt;
   placed = λ told r v here. tt;
+  clear = λ told r v here. tt;
   cut = λ told r v here.
       let tables = here.holds.tables in
       let retained = c.in-Ok.ensures.retained r tables in

@@ -9,7 +9,9 @@ use Rattle.ip_spec.specs.declared.met.Met.{Met}
 use Rattle.ip_session.proofs.Asking.{lined_asked, lined_counts, nothing_spawned, none_counts, none_met}
 use Rattle.ip_session.proofs.SessionLemmas.{line_refused, has_words}
 use Rattle.ip_session.proofs.SessionGoes.{lined_ok, lined_cut, bad_goes, refused_goes}
+use Rattle.ip_session.proofs.ClearGoes.{lined_clear, quiet_clear}
 use Rattle.ip_session.proofs.Placing.{lined_placed, quiet_placed}
+use Rattle.ip_session.specs.Clearing.{HasSwept}
 use Rattle.ip_session.specs.Placing.{PlacedIn}
 use Rattle.ip_session.specs.Session.{state_in}
 use Rattle.ip_spec.specs.declared.reply.Reply.{Reply}
@@ -44,12 +46,22 @@ pub returns-in-Err-Memory-clause-placed : goal.returns-in-Err-Memory-clause-plac
 returns-in-Err-Memory-clause-placed g c told decisive r v here =
     subst (PlacedIn (g.D.Decides.rule c.args.rules.now) c.args.self.now.store.slot c.args.self.now.store.unswept c.args.self.now.store.slot (state_in c.args.self.now r v) v c.args.line.now) (sym c.refuse.ensures.reply) (quiet_placed _ _ _ _ _ v c.args.line.now Reply.Memory (λ command h. h) (λ command h. h) (λ l is. absurd (cc is)) tt refl)
 
+pub returns-in-Ok-clause-clear : goal.returns-in-Ok-clause-clear
+returns-in-Ok-clause-clear g c told decisive r v here = lined_clear _ _ c.args.self.now c.run.new.self c.met_only-self.result c.in-Ok.command c.args.line.now c.run.result
+    (λ other spelled. one_command c.args.line.now other c.in-Ok.command spelled c.in-Ok.ensures.reads) (c.run.ensures.runs.clear (told, decisive) r v here)
+
+pub returns-in-Err-Bad-clause-clear : goal.returns-in-Err-Bad-clause-clear
+returns-in-Err-Bad-clause-clear g c told decisive r v here = quiet_clear _ _ c.args.self.now _ c.args.line.now (Reply.Bad c.in-Err-Bad.at) (λ h. h) (λ clear. clear)
+
+pub returns-in-Err-Memory-clause-clear : goal.returns-in-Err-Memory-clause-clear
+returns-in-Err-Memory-clause-clear g c told decisive r v here = quiet_clear _ _ c.args.self.now _ c.args.line.now c.refuse.result (subst (λ (x : Reply). ¬ HasSwept x) (sym c.refuse.ensures.reply) (λ h. h)) (λ clear. clear)
+
 pub returns-in-Ok-clause-asked : goal.returns-in-Ok-clause-asked
 returns-in-Ok-clause-asked g c = lined_asked _ _ _ c.args.self.now c.run.new.self c.met_only-self.result c.in-Ok.command c.args.line.now c.run.result _ _ c.in-Ok.ensures.reads
     (λ other spelled. one_command c.args.line.now other c.in-Ok.command spelled c.in-Ok.ensures.reads) c.run.ensures.asked
 
 pub returns-in-Ok-clause-counts : goal.returns-in-Ok-clause-counts
-returns-in-Ok-clause-counts g c = lined_counts c.in-Ok.command c.args.line.now c.run.result c.run.new.self.met _ _ (λ other spelled. one_command c.args.line.now other c.in-Ok.command spelled c.in-Ok.ensures.reads) c.run.ensures.counts
+returns-in-Ok-clause-counts g c = lined_counts c.in-Ok.command c.args.line.now c.run.result c.run.new.self.met _ _ c.in-Ok.ensures.reads (λ other spelled. one_command c.args.line.now other c.in-Ok.command spelled c.in-Ok.ensures.reads) c.run.ensures.counts
 
 pub returns-in-Err-Bad-clause-asked : goal.returns-in-Err-Bad-clause-asked
 returns-in-Err-Bad-clause-asked g c = nothing_spawned _ _ c.args.self.now _ c.args.line.now (Reply.Bad c.in-Err-Bad.at) _ tt (none_met c.met_only-self.result false c.met_only-self.ensures) refl

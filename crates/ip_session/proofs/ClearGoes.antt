@@ -1,0 +1,144 @@
+-- What a command leaves cleared away.
+--     still_clear      where no file changed what was cleared is so still.      still_cleared      so by a store with the same slot
+--     sweeps_none, sweeps_never      no sweep was made behind it.      keeps_by      so only what was cleared stays so
+--     read_clear      a command that may only read.      start_clear, finish_clear, cancel_clear      what the store says of a collection
+--     lined_clear      the line that spells a command.      quiet_clear      a line with a reply behind no sweep
+use Rattle.std.proofs.Common.{◌≡◌, Bool, refl, sym, ap, ◌∙◌, subst, Ok, Err, IsTrue}
+use Rattle.std.specs.Prelude.{Result, IfOk, IsErrOf}
+use Rattle.ip_ground.specs.declared.names.FileName.TheVariants.{Chunk}
+use Rattle.ip_ground.specs.Custody as custody
+use Rattle.ip_ground.specs.Told.{Told, lending, NoFile, IsForeign, ChangesOnly}
+use Rattle.ip_ground.proofs.Lending.{of_attempt}
+use Rattle.ip_ground.proofs.Spans.{lending_now}
+use Rattle.ip_spec.specs.declared.command.Command.{Command}
+use Rattle.ip_spec.specs.declared.command.Target.{Target}
+use Rattle.ip_spec.specs.declared.met.Met.{Met}
+use Rattle.ip_spec.specs.declared.reply.Reply.{Reply}
+use Rattle.ip_spec.specs.Line.{IsLineOf}
+use Rattle.ip_spec.specs.Path.{Bytes}
+use Rattle.ip_spec.specs.Record.{Hash}
+use Rattle.ip_spec.specs.Repository.{Repository}
+use Rattle.ip_spec.specs.View.{View}
+use Rattle.ip_image.specs.declared.slot.Slot.{Slot}
+use Rattle.ip_store.specs.declared.cancelling.CancelFault.{CancelFault}
+use Rattle.ip_store.specs.declared.cancelling.Cancelled.{Cancelled}
+use Rattle.ip_store.specs.declared.collection.Unswept.{Unswept}
+use Rattle.ip_store.specs.declared.finishing.FinishFault.{FinishFault}
+use Rattle.ip_store.specs.declared.finishing.Looked.{Looked}
+use Rattle.ip_store.specs.declared.finishing.Rejection.{Rejection}
+use Rattle.ip_store.specs.declared.starting.CollectFault.{CollectFault}
+use Rattle.ip_store.specs.declared.store.Store.{Store}
+use Rattle.ip_store.specs.Clear.{IsClearTo, KeepsClear, ClearsAll}
+use Rattle.ip_store.specs.Finishing.{HasAnswer, IsSweptBehind}
+use Rattle.ip_session.specs.declared.session.Session.{Session}
+use Rattle.ip_session.specs.declared.session.SessionEnd.{SessionEnd}
+use Rattle.ip_session.specs.Asking.{MayReap}
+use Rattle.ip_session.specs.Clearing.{HasSwept, SweepsBehind, ClearBy, ClearIn}
+use Rattle.ip_session.specs.Session.{IsWorking, HasRead}
+use Rattle.ip_session.specs.Starting.{StartReplies, cancel_answer, look_answer}
+use Rattle.ip_session.proofs.Placing.{still_slot}
+
+-- ---- no file changed
+
+still_clear : (a b : Told) → ChangesOnly NoFile a b → (s : Slot) (u : Unswept) → IsClearTo s u a.held (lending a) → IsClearTo s u b.held (lending b)
+still_clear a b only s u clear = record {
+  chunk = clear.chunk;
+  attempt = clear.attempt;
+  chunks = λ number low. (only.others (Chunk number) (λ none. none)).held (λ foreign. foreign) ∙ clear.chunks number low;
+  files = λ n file from low of mine.
+      let was : ¬ custody.IsForeign (lending a n) = λ foreign. mine (subst custody.IsForeign (sym (lending_now a b only.goes n (only.lending n))) foreign) in
+      let stays : ¬ IsForeign a file = λ foreign. was (subst custody.IsForeign (of_attempt (lending a) n file of) foreign) in
+      (only.others file (λ none. none)).held stays ∙ clear.files n file from low of was;
+}
+
+pub still_cleared : (store now : Store) (a b : Told) → ChangesOnly NoFile a b → now.slot ≡ store.slot → now.unswept ≡ store.unswept → KeepsClear store now a b
+still_cleared store now a b only slot unswept clear =
+    subst (λ (s : Slot). IsClearTo s now.unswept b.held (lending b)) (sym slot) (subst (λ (u : Unswept). IsClearTo store.slot u b.held (lending b)) (sym unswept) (still_clear a b only store.slot store.unswept clear))
+
+-- ---- no sweep was made
+
+sweeps_none : (command : Command) (reply : Reply) → ¬ MayReap command → ¬ SweepsBehind command reply
+sweeps_none Command.Look reply not sweeps = not tt
+sweeps_none Command.Finish reply not sweeps = not tt
+sweeps_none Command.Cancel reply not sweeps = not tt
+sweeps_none _ reply not sweeps = sweeps
+
+sweeps_never : (command : Command) (reply : Reply) → ¬ HasSwept reply → ¬ SweepsBehind command reply
+sweeps_never Command.Look reply not sweeps = not sweeps
+sweeps_never Command.Finish reply not sweeps = not sweeps
+sweeps_never Command.Cancel reply not sweeps = not sweeps
+sweeps_never _ reply not sweeps = sweeps
+
+pub keeps_by : (a b : Told) (s s' : Session) (command : Command) (reply : Reply) → ¬ MayReap command → KeepsClear s.store s'.store a b → ClearBy (SweepsBehind command reply) a b s s'
+keeps_by a b s s' command reply not keeps = record { keeps = keeps; all = λ sweeps. absurd (sweeps_none command reply not sweeps) }
+
+pub read_clear : (tells : Bool) (a b : Told) (s s' : Session) (command : Command) → IsTrue tells → (r : Repository) (v : View) → IsWorking a s r v → (result : Result Reply SessionEnd) → ¬ MayReap command → HasRead tells a b s s' command result
+    → IfOk result (λ reply. ClearBy (SweepsBehind command reply) a b s s')
+read_clear tells a b s s' command told r v here (Ok reply) not has =
+    let looks = has.looks told in
+    keeps_by a b s s' command reply not (still_cleared s.store s'.store a b looks.reads.only (still_slot s.store s'.store r r a b here.holds (looks.holds r here.holds) looks.reads.only) has.unswept)
+read_clear tells a b s s' command told r v here (Err end) not has = tt
+
+-- ---- the commands of a collection
+
+module _ (a b : Told) (s : Session) (store : Store) (met : Met) where
+  abbrev after_it : Session
+  after_it = record s { store = store; met = met }
+
+  abbrev Clears : Command → Reply → Type 0
+  Clears command reply = ClearBy (SweepsBehind command reply) a b s after_it
+
+  pub start_clear : (r : Repository) (target : Target) (before : Met) (begun : Result Hash CollectFault) (result : Result Reply SessionEnd) → StartReplies r begun before met result → (¬ IsErrOf begun CollectFault.Ground → KeepsClear s.store store a b) → IfOk result (Clears (Command.Collect target))
+  start_clear r target before begun (Ok reply) says keeps = keeps_by a b s after_it (Command.Collect target) reply (λ may. may)
+      (keeps (λ fault. let ends = (subst (λ (x : Result Hash CollectFault). StartReplies r x before met (Ok reply)) fault says).0 in absurd (cc ends)))
+  start_clear r target before begun (Err end) says keeps = tt
+
+  -- the store met what the session did
+  module _ (is_met : met ≡ store.met) where
+    swept_by : (command : Command) (reply : Reply) (Swept : Type 0) → (SweepsBehind command reply → Swept) → KeepsClear s.store store a b × ClearsAll Swept store.met.left s.store store a b → Clears command reply
+    swept_by command reply Swept by clear = record { keeps = clear.0; all = λ sweeps none. clear.1 (by sweeps) (ap (λ (m : Met). m.left) (sym is_met) ∙ none) }
+
+    has_swept : (command : Command) (reply : Reply) → SweepsBehind command reply → HasSwept reply
+    has_swept Command.Look reply sweeps = sweeps
+    has_swept Command.Finish reply sweeps = sweeps
+    has_swept Command.Cancel reply sweeps = sweeps
+    has_swept _ reply sweeps = absurd sweeps
+
+    -- the reply tells whether a sweep was made
+    pub finish_clear : (command : Command) (looked : Result Looked FinishFault) → (HasAnswer looked → KeepsClear s.store store a b × ClearsAll (IsSweptBehind looked) store.met.left s.store store a b) → IfOk (look_answer looked) (Clears command)
+    finish_clear command looked clear = by looked clear
+      where
+        each : (reply : Reply) (Swept : Type 0) → (HasSwept reply → Swept) → KeepsClear s.store store a b × ClearsAll Swept store.met.left s.store store a b → Clears command reply
+        each reply Swept told clear = swept_by command reply Swept (λ sweeps. told (has_swept command reply sweeps)) clear
+
+        by : (looked : Result Looked FinishFault) → (HasAnswer looked → KeepsClear s.store store a b × ClearsAll (IsSweptBehind looked) store.met.left s.store store a b) → IfOk (look_answer looked) (Clears command)
+        by (Ok Looked.Running) clear = each Reply.Running ⊥ (λ none. none) (clear tt)
+        by (Ok (Looked.Checking left)) clear = each (Reply.Checking left) ⊥ (λ none. none) (clear tt)
+        by (Ok (Looked.Collected collected)) clear = each (Reply.Collected collected.floor collected.left) (Unit {0}) (λ swept. tt) (clear tt)
+        by (Err FinishFault.Idle) clear = each Reply.Idle ⊥ (λ none. none) (clear tt)
+        by (Err FinishFault.Wait) clear = each Reply.WaitFault ⊥ (λ none. none) (clear tt)
+        by (Err (FinishFault.Rejected (Rejection.Exit exit))) clear = each (Reply.RejectedExit exit) (Unit {0}) (λ swept. tt) (clear tt)
+        by (Err (FinishFault.Rejected (Rejection.Differs difference))) clear = each (Reply.Rejected difference) (Unit {0}) (λ swept. tt) (clear tt)
+        by (Err (FinishFault.Limit limit)) clear = each (Reply.Limit limit) ⊥ (λ none. none) (clear tt)
+        by (Err FinishFault.Memory) clear = each Reply.Memory ⊥ (λ none. none) (clear tt)
+        by (Err FinishFault.Ground) clear = tt
+        by (Err (FinishFault.Damaged at)) clear = tt
+
+    pub cancel_clear : (done : Result Cancelled CancelFault) → (¬ IsErrOf done CancelFault.Ground → KeepsClear s.store store a b × ClearsAll (done ≡ Ok Cancelled.Done) store.met.left s.store store a b) → IfOk (cancel_answer done) (Clears Command.Cancel)
+    cancel_clear (Ok Cancelled.Done) clear = swept_by Command.Cancel Reply.Cancelled _ (λ swept. refl) (clear (λ fault. absurd (cc fault)))
+    cancel_clear (Ok Cancelled.Orphan) clear = swept_by Command.Cancel Reply.CancelledOrphan _ (λ none. absurd none) (clear (λ fault. absurd (cc fault)))
+    cancel_clear (Err CancelFault.Idle) clear = swept_by Command.Cancel Reply.Idle _ (λ none. absurd none) (clear (λ fault. absurd (cc fault)))
+    cancel_clear (Err CancelFault.Ground) clear = tt
+
+-- ---- lines
+
+pub lined_clear : (a b : Told) (s s' : Session) (met : Met) (command : Command) (line : Bytes) (result : Result Reply SessionEnd) → ((other : Command) → IsLineOf other line → other ≡ command)
+    → IfOk result (λ reply. ClearBy (SweepsBehind command reply) a b (record s { met = met }) s') → IfOk result (ClearIn a b s s' line)
+lined_clear a b s s' met command line (Ok reply) one clear = record {
+  keeps = clear.keeps;
+  all = λ (other, spelled, sweeps). clear.all (subst (λ (c : Command). SweepsBehind c reply) (one other spelled) sweeps);
+}
+lined_clear a b s s' met command line (Err end) one clear = tt
+
+pub quiet_clear : (a b : Told) (s s' : Session) (line : Bytes) (reply : Reply) → ¬ HasSwept reply → KeepsClear s.store s'.store a b → ClearIn a b s s' line reply
+quiet_clear a b s s' line reply not keeps = record { keeps = keeps; all = λ (command, spelled, sweeps). absurd (sweeps_never command reply not sweeps) }

@@ -1,0 +1,31 @@
+-- What a command leaves cleared away.
+--     HasSwept reply      a reply behind a sweep.      SweepsBehind command reply      a sweep was made behind a command with this reply
+--     ClearBy swept old new s s'      what was cleared stays so, and behind a sweep that left nothing all is
+--     ClearIn old new s s' line reply      so of a line
+use Rattle.ip_ground.specs.Told.{Told}
+use Rattle.ip_spec.specs.declared.command.Command.{Command}
+use Rattle.ip_spec.specs.declared.reply.Reply.{Reply}
+use Rattle.ip_spec.specs.Line.{IsLineOf}
+use Rattle.ip_spec.specs.Path.{Bytes}
+use Rattle.ip_store.specs.Clear.{KeepsClear, ClearsAll}
+use Rattle.ip_session.specs.declared.session.Session.{Session}
+
+abbrev pub HasSwept : Reply → Type 0
+HasSwept (Reply.Collected floor left) = Unit {0}
+HasSwept (Reply.RejectedExit exit) = Unit {0}
+HasSwept (Reply.Rejected difference) = Unit {0}
+HasSwept Reply.Cancelled = Unit {0}
+HasSwept reply = ⊥
+
+abbrev pub SweepsBehind : Command → Reply → Type 0
+SweepsBehind Command.Look reply = HasSwept reply
+SweepsBehind Command.Finish reply = HasSwept reply
+SweepsBehind Command.Cancel reply = HasSwept reply
+SweepsBehind command reply = ⊥
+
+pub record ClearBy (swept : Type 0) (old new : Told) (s s' : Session) : Type 0 where
+  pub keeps : KeepsClear s.store s'.store old new
+  pub all : ClearsAll swept s'.met.left s.store s'.store old new
+
+abbrev pub ClearIn : Told → Told → Session → Session → Bytes → Reply → Type 0
+ClearIn old new s s' line reply = ClearBy ((command : Command) × IsLineOf command line × SweepsBehind command reply) old new s s'
