@@ -1,7 +1,7 @@
 -- A child that was met as ended is refused only by what the machine names: its exit, a place of what it wrote, the end of the sequence, or want of memory.
 --     IsOver phase      no child is held.      Ends reaped met turned      the reply is one of these, and no child is held
 --     concluded_step      so of each step of the machine.      concluded_line      and of each line.      unheld      so no child is held behind it
-use Rattle.std.proofs.Common.{◌≡◌, inl, inr, ℕ, Bool, true, false, refl, sym, ap, ◌∙◌, subst, Option, None, Some}
+use Rattle.std.proofs.Common.{◌≡◌, inl, inr, ℕ, Bool, true, false, refl, sym, ap, subst, Option, None, Some}
 use Rattle.std.specs.Prelude.{MatchBool, if◌then◌else◌}
 use Rattle.ip_ground.specs.declared.names.Reaped.{Reaped}
 use Rattle.ip_spec.specs.declared.command.Command.{Command}

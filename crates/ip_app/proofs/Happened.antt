@@ -4,7 +4,7 @@
 --     happens_of      it tells what happened, by what the session asked and counted
 --     later_in      what the spawner counted meanwhile.      later_gone      and while a child was let go
 --     happen_more, spawned_more      of one exchange more
-use Rattle.std.proofs.Common.{◌≡◌, ◌≢◌, inl, inr, ℕ, ◌+◌, ◌-◌, ◌^◌, ◌<◌, ◌≤◌, Bool, true, false, List, [], ◌∷◌, ◌++◌, refl, sym, ap, ap₂, ◌∙◌, subst, arith, Option, None, Some, Ok, IsTrue}
+use Rattle.std.proofs.Common.{◌≡◌, ◌≢◌, inl, inr, ℕ, ◌+◌, ◌-◌, ◌^◌, ◌≤◌, Bool, true, false, List, [], ◌∷◌, ◌++◌, refl, sym, ap, ap₂, ◌∙◌, subst, arith, Option, None, Some, Ok}
 use Rattle.std.specs.Prelude.{◌⊎◌, if◌then◌else◌, IsSomeAnd}
 use Rattle.std.proofs.lemmas.Bool.{cases_lt}
 use Rattle.std.proofs.lemmas.List.{flat_map_more}
@@ -64,6 +64,12 @@ left_of Command.Finish reply met a b may counts = counts.rose
 left_of Command.Cancel reply met a b may counts = counts.rose
 left_of _ reply met a b may counts = absurd may
 
+none_left_of : (command : Command) (reply : Reply) (met : Met) (a b : GroundCounts) → (MayReap command → met.left ≡ 0) → CountsBy (Ok reply) command met a b → b.remove_faults ≡ a.remove_faults
+none_left_of Command.Look reply met a b none counts = ap (λ (c : GroundCounts). c.remove_faults) (counts.none (none tt))
+none_left_of Command.Finish reply met a b none counts = ap (λ (c : GroundCounts). c.remove_faults) (counts.none (none tt))
+none_left_of Command.Cancel reply met a b none counts = ap (λ (c : GroundCounts). c.remove_faults) (counts.none (none tt))
+none_left_of _ reply met a b none counts = ap (λ (c : GroundCounts). c.remove_faults) counts
+
 module _ (s s' : Session) (reply : Reply) (difference : Option Difference) (jobs : List Job) (ends : List Reaped) (after : State) (a b : GroundCounts) (p q : SpawnCounts) where
   abbrev plain : Bytes → Exchange
   plain line = exchange_of line s'.met (turn_counts a p) (turn_counts b q) difference jobs ends reply after
@@ -82,12 +88,13 @@ module _ (s s' : Session) (reply : Reply) (difference : Option Difference) (jobs
     cancelled = λ is. asked.cancelled (ap (λ (r : Reply). Ok r) is);
     kill = asked.kill;
     left = λ may. left_of command reply s'.met a b may counts;
+    none_left = λ none. none_left_of command reply s'.met a b none counts;
   }
 
   plainly : (line : Bytes) → AskedIn s s' line (Ok reply) jobs ends p q → CountsIn line (Ok reply) s'.met a b → Happens (phase_of s.store.collection) (plain line)
   plainly line asked counts = record {
     command = λ command served. by_command line command (asked.command command served) (counts.command command served);
-    none = asked.none;
+    none = λ no. let it = asked.none no in (it.0, it.1, it.2, ap (λ (c : GroundCounts). c.remove_faults) (counts.none no));
   }
 
   pub happens_of : (line read : Bytes) (met : Met) (before later : TurnCounts) → read ≡ line → met ≡ s'.met → before ≡ turn_counts a p → later ≡ turn_counts b q → AskedIn s s' read (Ok reply) jobs ends p q → CountsIn read (Ok reply) s'.met a b

@@ -13,7 +13,7 @@ use Rattle.ip_ground.specs.declared.names.FileName.{FileName}
 use Rattle.ip_ground.specs.declared.names.Reaped.{Reaped}
 use Rattle.ip_ground.specs.declared.names.FileName.TheVariants.{Mapping, Prefix}
 use Rattle.ip_ground.specs.Contents.{Content, Image}
-use Rattle.ip_ground.specs.Told.{Told, said, KeepsPast, KeepsFile, KeepsSaid, IsPossible, IsPossibleNow}
+use Rattle.ip_ground.specs.Told.{Told, said, lending, KeepsPast, KeepsFile, KeepsSaid, IsPossible, IsPossibleNow}
 use Rattle.ip_ground.proofs.Spans.{said_now}
 use Rattle.ip_spawn.specs.declared.job.Job.{Job}
 use Rattle.ip_spawn.specs.declared.spawner.SpawnCounts.{SpawnCounts}
@@ -39,16 +39,20 @@ use Rattle.ip_image.specs.Standing.{Generation, StandsFor}
 use Rattle.ip_image.specs.Virtual.{chunk_byte}
 use Rattle.ip_image.proofs.HeadlineLaws.{one_slot}
 use Rattle.ip_store.specs.declared.collection.Collection.{Collection}
+use Rattle.ip_store.specs.declared.collection.Unswept.{Unswept}
 use Rattle.ip_store.specs.declared.store.Store.{Store}
+use Rattle.ip_store.specs.Clear.{IsClear, IsClearAt, IsClearTo}
 use Rattle.ip_store.specs.Collecting.{phase_of, Collects, IsJobOf, IsPhaseOf}
 use Rattle.ip_store.specs.Store.{IsOf, Holds}
 use Rattle.ip_store.proofs.Recovering.{held_has}
 use Rattle.ip_session.specs.declared.session.Session.{Session}
 use Rattle.ip_session.specs.Asking.{GoesOnBy, HeardOf, AskedIn}
+use Rattle.ip_session.specs.Clearing.{ClearIn}
 use Rattle.ip_session.specs.Session.{conditions_with, state_in, IsWorking, IsJudgedIn, IsSettledIn, KeepsSpaceIn}
 use Rattle.ip_session.proofs.Changing.{still_space}
 use Rattle.ip_app.specs.Exchanges.{Exchange, after_all, texts_in}
 use Rattle.ip_app.specs.Judged.{IsWatchedTo, WatchedIn, texts_by, says_nothing, Started, last_started, IsSettledAt, IsConcluded, IsJudgedAs, IsServedAs, IsSameFor, ReadsSame, IsHeldIn, Watches, Watched, AllWatched}
+use Rattle.ip_app.proofs.Cleared.{clear_behind}
 use Rattle.ip_app.proofs.Happened.{exchange_of}
 use Rattle.ip_app.proofs.KeptSpace.{same_space, space_on, pending_space, stays_space}
 
@@ -130,6 +134,7 @@ module _ (a b : Told) (goes : KeepsPast a b) where
         left = possible_later answered behind was.by_now was.left;
         stands_behind = was.stands_behind;
         judged = λ reaped ended. some_more last _ _ (λ child is. judged_later answered behind s.phase was.stands.standing.records child.job reaped x was.by_now is) (was.judged reaped ended);
+        clear = λ clear swept none slot has. clear_behind slot behind (a.lending_at answered) (b.lending_at answered) (λ attempt. goes.lending answered attempt was.by_now) (was.clear clear swept none slot has);
         reads = λ order held. some_more last _ _ (λ child is. (reads_later child began early is.0, λ none. reads_later child answered was.by_now (is.1 none))) (was.reads order held);
       }
 
@@ -173,7 +178,7 @@ jobs_in store r tables = by store.collection tables.phase
 
 -- ---- one exchange
 
-module _ (a b : Told) (goes : KeepsPast a b) (s : State) (before now : Option Collection) (slot slot' : Slot) (x : Exchange) (w : Watches a b s before now slot slot' x) (last : Option Started) (going : Going before last) where
+module _ (a b : Told) (goes : KeepsPast a b) (s : State) (before now : Option Collection) (slot slot' : Slot) (unswept : Unswept) (x : Exchange) (w : Watches a b s before now slot slot' unswept x) (last : Option Started) (going : Going before last) where
   -- that of the collection
   by_going : (P : Job → Type 0) → IsSomeAnd before (λ c. P c.job) → IsSomeAnd last (λ child. P child.job)
   by_going P is = some_by before (λ c. IsSomeAnd last (λ child. child.job ≡ c.job)) (λ c. P c.job) _ (λ c started p. some_more last (λ child. child.job ≡ c.job) (λ child. P child.job) (λ child same. subst P (sym same) p) started) going is
@@ -248,8 +253,8 @@ module _ (a b : Told) (goes : KeepsPast a b) (s : State) (before now : Option Co
       by (Some c) is none (inr (nothing, same)) of = subst (λ (jobs : List Job). Found (last_started w.answered w.behind jobs last)) (sym nothing) (going_on c of none before refl same)
 
   -- an exchange that began at the moment of which this is told
-  watched_of : (old : Told) (text : Bytes) (since : ℕ) → since ≤ a.moment → said a ≡ text → (NothingPending old → NothingPending a) → (NothingPending old → Reads a s last) → Watched old b text since s last x a.moment w.answered a.held w.behind
-  watched_of old text since over all calm reads = record {
+  watched_of : (old : Told) (text : Bytes) (since : ℕ) → since ≤ a.moment → said a ≡ text → (NothingPending old → NothingPending a) → (NothingPending old → Reads a s last) → (IsClearAt old → IsClearTo slot unswept a.held (lending a)) → Watched old b text since s last x a.moment w.answered a.held w.behind
+  watched_of old text since over all calm reads cleared = record {
     over = over;
     later = w.later;
     by_now = w.by_now;
@@ -260,6 +265,7 @@ module _ (a b : Told) (goes : KeepsPast a b) (s : State) (before now : Option Co
     left = w.left;
     stands_behind = w.stands_behind;
     judged = λ reaped ended. by_going (λ job. IsJudgedAs b w.answered w.behind s.phase w.stands.standing.records job reaped x) (w.judged reaped ended);
+    clear = λ clear swept none u has. subst (λ (t : Slot). IsClear t w.behind (b.lending_at w.answered)) (one_slot slot' u w.behind w.has_behind has) (w.clear (cleared clear) swept none);
     reads = λ order held. some_both last (λ child. IsJobOf slot child.job) (λ child. ReadsNow a child) (λ child. Unit {0}) _
         (λ child of was u. (reads_later a b goes child a.moment (omega arith) was.0, λ none. reads_on (calm order) child of was none)) (job_there held) (reads order held) (some_more last _ _ (λ child was. tt) (reads order held));
   }
@@ -276,19 +282,19 @@ none_said (x ∷ xs) = none_said xs
 
 -- ---- one exchange more
 
-pub watched_more : (says : Reply → Bytes) (old a b : Told) → KeepsPast a b → (text : Bytes) (since : ℕ) (s : State) (last : Option Started) (xs : List Exchange) (end : Option Started) (before now : Option Collection) (slot slot' : Slot) (x : Exchange) → AllWatched says old a text since s last xs end → since ≤ a.moment → said a ≡ text ++ texts_by says xs
-    → Going before end → (NothingPending old → NothingPending a) → (NothingPending old → Reads a (after_all s xs) end) → (w : Watches a b (after_all s xs) before now slot slot' x) → AllWatched says old b text since s last (xs ++ x ∷ []) (last_started w.answered w.behind x.started end)
-watched_more says old a b goes text since s last [] end before now slot slot' x was over all going calm reads w =
+pub watched_more : (says : Reply → Bytes) (old a b : Told) → KeepsPast a b → (text : Bytes) (since : ℕ) (s : State) (last : Option Started) (xs : List Exchange) (end : Option Started) (before now : Option Collection) (slot slot' : Slot) (unswept : Unswept) (x : Exchange) → AllWatched says old a text since s last xs end → since ≤ a.moment → said a ≡ text ++ texts_by says xs
+    → Going before end → (NothingPending old → NothingPending a) → (NothingPending old → Reads a (after_all s xs) end) → (IsClearAt old → IsClearTo slot unswept a.held (lending a)) → (w : Watches a b (after_all s xs) before now slot slot' unswept x) → AllWatched says old b text since s last (xs ++ x ∷ []) (last_started w.answered w.behind x.started end)
+watched_more says old a b goes text since s last [] end before now slot slot' unswept x was over all going calm reads cleared w =
     let going_last = subst (λ (o : Option Started). Going before o) was going in
     let reads_last = λ (order : NothingPending old). subst (Reads a s) was (reads order) in
-    (a.moment, w.answered, a.held, w.behind, watched_of a b goes s before now slot slot' x w last going_last old text since over (all ∙ append-nil text) calm reads_last, ap (last_started w.answered w.behind x.started) was)
-watched_more says old a b goes text since s last (y ∷ xs) end before now slot slot' x was over all going calm reads w = (
+    (a.moment, w.answered, a.held, w.behind, watched_of a b goes s before now slot slot' unswept x w last going_last old text since over (all ∙ append-nil text) calm reads_last cleared, ap (last_started w.answered w.behind x.started) was)
+watched_more says old a b goes text since s last (y ∷ xs) end before now slot slot' unswept x was over all going calm reads cleared w = (
   was.0,
   was.1,
   was.2,
   was.3,
   watched_later a b goes old text since s last y was.0 was.1 was.2 was.3 was.4,
-  watched_more says old a b goes (text ++ says y.reply) was.1 y.after (last_started was.1 was.3 y.started last) xs end before now slot slot' x was.5 was.4.by_now (all ∙ sym (append_assoc text (says y.reply) (texts_by says xs))) going calm reads w,
+  watched_more says old a b goes (text ++ says y.reply) was.1 y.after (last_started was.1 was.3 y.started last) xs end before now slot slot' unswept x was.5 was.4.by_now (all ∙ sym (append_assoc text (says y.reply) (texts_by says xs))) going calm reads cleared w,
 )
 
 -- none more, while time goes on
@@ -327,13 +333,13 @@ going_more answered image jobs last before (Some c) going (inr (none, same)) =
     (some_by before (λ d. IsSomeAnd last (λ child. child.job ≡ d.job)) (λ d. (c.commit ≡ d.commit) × (c.job ≡ d.job) × (c.exit ≡ None → d.exit ≡ None)) _ (λ d started is. some_more last _ _ (λ child e. e ∙ sym is.1) started) going same)
 
 -- one exchange more of a run
-pub watched_next : (says : Reply → Bytes) (old a b : Told) → KeepsPast old a → KeepsPast a b → (first : State) (xs : List Exchange) (before now : Option Collection) (slot slot' : Slot) (x : Exchange) → IsWatchedTo says old a first xs before → said a ≡ said old ++ texts_by says xs → (NothingPending old → NothingPending a)
-    → after_all first (xs ++ x ∷ []) ≡ x.after → GoesOnBy x.started before now → Watches a b (after_all first xs) before now slot slot' x → IsWatchedTo says old b first (xs ++ x ∷ []) now
-watched_next says old a b past goes first xs before now slot slot' x was all calm after goes_on w = record {
+pub watched_next : (says : Reply → Bytes) (old a b : Told) → KeepsPast old a → KeepsPast a b → (first : State) (xs : List Exchange) (before now : Option Collection) (slot slot' : Slot) (unswept : Unswept) (x : Exchange) → IsWatchedTo says old a first xs before → said a ≡ said old ++ texts_by says xs → (NothingPending old → NothingPending a)
+    → after_all first (xs ++ x ∷ []) ≡ x.after → GoesOnBy x.started before now → (IsClearAt old → IsClearTo slot unswept a.held (lending a)) → Watches a b (after_all first xs) before now slot slot' unswept x → IsWatchedTo says old b first (xs ++ x ∷ []) now
+watched_next says old a b past goes first xs before now slot slot' unswept x was all calm after goes_on cleared w = record {
   last = last_started w.answered w.behind x.started was.last;
-  watched = watched_more says old a b goes (said old) old.moment first None xs was.last before now slot slot' x was.watched past.later all was.going calm was.reads w;
+  watched = watched_more says old a b goes (said old) old.moment first None xs was.last before now slot slot' unswept x was.watched past.later all was.going calm was.reads cleared w;
   going = going_more w.answered w.behind x.started was.last before now was.going goes_on;
-  reads = λ order. subst (λ (t : State). Reads b t (last_started w.answered w.behind x.started was.last)) (sym after) (reads_then a b goes (after_all first xs) before now slot slot' x w was.last was.going goes_on (calm order) (was.reads order));
+  reads = λ order. subst (λ (t : State). Reads b t (last_started w.answered w.behind x.started was.last)) (sym after) (reads_then a b goes (after_all first xs) before now slot slot' unswept x w was.last was.going goes_on (calm order) (was.reads order));
 }
 
 -- none yet
@@ -391,8 +397,8 @@ watched_all says is_cut_off is_cut_short old now first xs collection w ended le 
 }
 
 -- where a reply, or more, is said behind it
-pub watches_along : (a mid b : Told) → KeepsPast mid b → (s : State) (before now : Option Collection) (slot slot' : Slot) (x : Exchange) → (NothingPending a → NothingPending mid) → ((file : FileName) → KeepsFile mid b file) → HasLive slot' mid.held → Watches a mid s before now slot slot' x → Watches a b s before now slot slot' x
-watches_along a mid b goes s before now slot slot' x calm stays there w = record {
+pub watches_along : (a mid b : Told) → KeepsPast mid b → (s : State) (before now : Option Collection) (slot slot' : Slot) (unswept : Unswept) (x : Exchange) → (NothingPending a → NothingPending mid) → ((file : FileName) → KeepsFile mid b file) → HasLive slot' mid.held → Watches a mid s before now slot slot' unswept x → Watches a b s before now slot slot' unswept x
+watches_along a mid b goes s before now slot slot' unswept x calm stays there w = record {
   phase = w.phase;
   phase_behind = w.phase_behind;
   answered = w.answered;
@@ -407,6 +413,7 @@ watches_along a mid b goes s before now slot slot' x calm stays there w = record
   stands_behind = w.stands_behind;
   has_behind = w.has_behind;
   judged = λ reaped ended. some_more before _ _ (λ c is. judged_later mid b goes w.answered w.behind s.phase w.stands.standing.records c.job reaped x w.by_now is) (w.judged reaped ended);
+  clear = λ cleared swept none. clear_behind slot' w.behind (mid.lending_at w.answered) (b.lending_at w.answered) (λ attempt. goes.lending w.answered attempt w.by_now) (w.clear cleared swept none);
   job = w.job;
   job_behind = w.job_behind;
   space = λ order none t late le image possible. w.space order none t late le image (possible_before mid b goes t image (let now = w.by_now in omega (arith, le, now)) possible);
@@ -488,8 +495,8 @@ module _ (a mid : Told) (s s' : Session) (r : Repository) (v : View) (here : IsW
   Heard = (reaped : Reaped) → s'.met.child ≡ Child.Ended reaped → IsSomeAnd s.store.collection (λ c. reaped.attempt ≡ c.job.attempt)
 
   pub watches_of : KeepsSaid a mid → IsPossibleNow a → IsPossibleNow mid → Heard → Concludes → (IsHeldIn after → (reaped : Reaped) → s'.met.child ≢ Child.Ended reaped)
-      → IsJudgedIn a mid s s' r v difference → IsSettledIn mid s s' reply → KeepsSpaceIn a mid s' → (NothingPending a → NothingPending mid) → (q : Repository) (u : View) → after ≡ state_in s' q u → IsWorking mid s' q u → Watches a mid (state_in s r v) s.store.collection s'.store.collection s.store.slot s'.store.slot x
-  watches_of still possible possible_mid heard concluded unheard judged settled space calm q u after_is behind = record {
+      → IsJudgedIn a mid s s' r v difference → IsSettledIn mid s s' reply → ClearIn a mid s s' line reply → KeepsSpaceIn a mid s' → (NothingPending a → NothingPending mid) → (q : Repository) (u : View) → after ≡ state_in s' q u → IsWorking mid s' q u → Watches a mid (state_in s r v) s.store.collection s'.store.collection s.store.slot s'.store.slot s.store.unswept x
+  watches_of still possible possible_mid heard concluded unheard judged settled clear space calm q u after_is behind = record {
     phase = refl;
     phase_behind = ap (λ (t : State). t.phase) after_is;
     answered = mid.moment;
@@ -504,6 +511,7 @@ module _ (a mid : Told) (s s' : Session) (r : Repository) (v : View) (here : IsW
     stands_behind = subst (λ (t : State). StandsFor mid.held t.repository) (sym after_is) behind.holds.stands;
     has_behind = held_has s'.store q mid behind.holds;
     judged = λ reaped ended. by s.store.collection refl reaped ended (heard reaped (ap (λ (m : Met). m.child) (sym met_is) ∙ ended));
+    clear = λ cleared swept none. clear.all swept (ap (λ (m : Met). m.left) (sym met_is) ∙ none) cleared;
     job = jobs_in s.store r here.holds.tables;
     job_behind = jobs_in s'.store q behind.holds.tables;
     space = λ order none t late le image possible_then. space order (λ reaped ended. none reaped (ap (λ (m : Met). m.child) met_is ∙ ended)) s.store.slot (held_has s.store r a here.holds) t late le image possible_then;

@@ -5,6 +5,7 @@ pub mod Moments
 pub mod Counting
 pub mod Happened
 pub mod Concluding
+pub mod Cleared
 pub mod Judging
 pub mod KeptSpace
 pub mod RuleCases

@@ -3,8 +3,8 @@
 --     script_here, script_end      which line comes next
 --     loads_unopened      the store could not be opened, or memory was wanting.      loads_cut      a line was cut short.      loads_said      all were run, and the summary said, or a part of it
 --     load_ends      which statuses need a fault
-use Rattle.std.specs.Prelude.{◌≢◌, ◌⊎◌}
-use Rattle.std.proofs.Common.{true, false, ◌≡◌, inl, inr, ℕ, zero, suc, ◌+◌, ◌-◌, ◌<◌, ◌≤◌, Bool, List, [], ◌∷◌, ◌++◌, length, map, take, drop, codes, refl, sym, ap, ap₂, ◌∙◌, subst, arith, append_assoc, IsTrue, Option, None}
+use Rattle.std.specs.Prelude.{◌≢◌}
+use Rattle.std.proofs.Common.{true, false, ◌≡◌, inl, inr, ℕ, suc, ◌+◌, ◌-◌, ◌<◌, ◌≤◌, Bool, List, [], ◌∷◌, ◌++◌, length, map, take, drop, codes, refl, sym, ap, ap₂, ◌∙◌, subst, arith, append_assoc, IsTrue, Option, None}
 use Rattle.std.proofs.lemmas.List.{map-append}
 use Rattle.ip_ground.specs.declared.names.FileName.TheVariants.{Control}
 use Rattle.ip_spawn.specs.Children as spawn
@@ -26,23 +26,26 @@ use Rattle.ip_spec.specs.Machine.{State, opened}
 use Rattle.ip_spec.specs.Text.{reply_text}
 use Rattle.ip_spec.specs.declared.reply.Reply.{Reply}
 use Rattle.ip_merge.specs.Rules.{IsDecisive}
+use Rattle.ip_store.specs.Clear.{IsCleared, IsClearAt}
 use Rattle.ip_store.specs.Opening.{RecoversOnceOpen}
+use Rattle.ip_store.proofs.Recovering.{held_has}
 use Rattle.ip_session.specs.declared.session.Session.{Session}
 use Rattle.ip_session.specs.Session.{IsServing, IsWorking, state_in}
 use Rattle.ip_summary.specs.declared.summary.Summary.{Summary}
 use Rattle.ip_summary.specs.Tally.{Tallies}
 use Rattle.ip_app.specs.declared.statuses.Status.{Status}
 use Rattle.ip_app.specs.declared.statuses.Status.TheVariants as status
-use Rattle.ip_app.specs.Exchanges.{Exchange, answer_of, after_all, lines_in, texts_in}
-use Rattle.ip_app.specs.Exchanging.{is_cut_short, OnlyRemovals, CountsServing, Begun, Exchanged, Replied, CutShort, CutsShort, Trace}
-use Rattle.ip_app.specs.Loading.{load_script, replies_in, load_text, LoadHeadline, SaysSummary, LoadRow, LoadRun, Loads, LoadsWhereAllIsWell}
-use Rattle.ip_app.specs.Loaded.{QuietRun, Loaded, Summed, FinishesLoad}
+use Rattle.ip_app.specs.Exchanges.{Exchange, answer_of, lines_in, texts_in}
+use Rattle.ip_app.specs.Exchanging.{is_cut_short, CountsServing, Exchanged, Replied, CutShort, CutsShort}
+use Rattle.ip_app.specs.Loading.{load_script, replies_in, load_text, LoadHeadline, LoadRow, Loads, LoadsWhereAllIsWell}
+use Rattle.ip_app.specs.Loaded.{Loaded, Summed, FinishesLoad}
 use Rattle.ip_app.specs.Outside.{Outside, Tells, Knows, GoesOn, IsUnasked}
 use Rattle.ip_app.specs.Judged.{Watches, IsWatchedTo, texts_by, says_nothing}
 use Rattle.ip_app.specs.Places.{PlacesIn}
 use Rattle.ip_app.specs.Turns.{turn_counts}
-use Rattle.ip_app.specs.Run.{CouldNotOpen, IsUntouched, Begins, Row, IsBehindOpening, AsksChildren}
+use Rattle.ip_app.specs.Run.{CouldNotOpen, IsUntouched, Begins, IsBehindOpening, AsksChildren}
 use Rattle.ip_app.specs.Serving.{CountsOf}
+use Rattle.ip_app.proofs.Cleared.{clear_synced, cleared_at}
 use Rattle.ip_app.proofs.Counting.{removals_on, removals_same, serving_of, serving_on}
 use Rattle.ip_app.proofs.Judging.{none_said, watched_none, watched_unbegun, watched_next, watched_cut, watched_all}
 use Rattle.ip_app.proofs.LivePair.{owns_pending}
@@ -51,7 +54,6 @@ use Rattle.ip_app.proofs.LoadMoments.{quiet_first, quiet_more, headline_quiet, h
 use Rattle.ip_app.proofs.RanOn.{append_nil, after_more, ran_more, ran_first, trace_more, let_go_as, LetsGoAs, goes_on_gone, notes_of, asks_of, notes_none, asks_none, happen_all, happen_cut, placed_all, placed_cut, keeps_unchanged}
 use Rattle.ip_app.proofs.RunLemmas.{stands_open}
 use Rattle.ip_app.proofs.SameFiles.{stands_after}
-use Rattle.ip_app.proofs.TurnLemmas.{short_of}
 
 take_front : (xs ys : List Exchange) → take (length xs) (xs ++ ys) ≡ xs
 take_front [] ys = refl
@@ -64,17 +66,17 @@ drop_front (x ∷ xs) ys = drop_front xs ys
 -- ---- line by line
 
 pub loaded_first : (rule : Rule) (decisive : Bool) → (IsTrue decisive → IsDecisive rule) → (seed : ℕ) (old now : Outside) (counts : TurnCounts) (s : Session) (summary : Summary) (r : Repository) (v : View) → v ≡ no_view → (known : (b : Bool) × (Knows decisive old → IsTrue b) × (IsTrue b → Knows decisive old)) → IsServing s → state_in s r v ≡ opened r
-    → (Tells old → IsWorking now.told s r v) → (Tells old → StandsFor old.told.held r) → (opening : IsTrue old.ground_tells → RecoversOnceOpen old.told now.told) → ((tells : Tells old) → (opening tells.0).since ≤ now.told.moment)
+    → (Tells old → IsWorking now.told s r v) → (Tells old → IsClearAt old.told → IsCleared s.store now.told) → (Tells old → StandsFor old.told.held r) → (opening : IsTrue old.ground_tells → RecoversOnceOpen old.told now.told) → ((tells : Tells old) → (opening tells.0).since ≤ now.told.moment)
     → counts ≡ turn_counts old.counts old.spawns → now.counts ≡ old.counts → IsUnasked old now → s.store.collection ≡ None → old.held ≡ None → now.read_faults ≡ old.read_faults → GoesOn old now → (IsTrue old.ground_tells → SyncsOnly (Only Control) old.told now.told) → now.turns ≡ old.turns → now.left ≡ old.left → Tallies summary []
     → Loaded rule decisive seed seed 0 old now counts s summary
-loaded_first rule decisive by_rule seed old now counts s summary r v none_known known serving begun working began opening over counted no_fault unasked idle alone reads g f turns left tallies = record {
+loaded_first rule decisive by_rule seed old now counts s summary r v none_known known serving begun working cleared began opening over counted no_fault unasked idle alone reads g f turns left tallies = record {
   known = known.0;
   exchanges = [];
   first = r;
   repository = r;
   view = v;
   slot = s.store.slot;
-  ran = ran_first rule decisive by_rule old now counts s r v none_known known serving begun working began opening counted no_fault unasked idle alone reads g f turns;
+  ran = ran_first rule decisive by_rule old now counts s r v none_known known serving begun working cleared began opening counted no_fault unasked idle alone reads g f turns;
   watched = λ is. watched_none says_nothing old.told now.told (opened r) s.store.collection idle refl;
   no_fault = removals_same old.counts now.counts no_fault;
   lines_then = λ more. let n : 0 + more ≡ more = omega arith in ap (lines_from seed 1) n;
@@ -101,8 +103,8 @@ module _ (rule : Rule) (decisive : Bool) (seed state number : ℕ) (old mid : Ou
   silent is = h.said is ∙ (sym (append_nil (said old.told)) ∙ ap (λ (t : Bytes). said old.told ++ t) (sym (none_said h.exchanges)))
 
   watched_on : (new : Outside) (counts' : TurnCounts) (s' : Session) (after : Repository) (view : View) (x : Exchange) → Exchanged rule h.known mid new counts counts' s s' h.repository h.view x after view → IsTrue h.known → IsWatchedTo says_nothing old.told new.told (opened h.first) (h.exchanges ++ x ∷ []) s'.store.collection
-  watched_on new counts' s' after view x t is = watched_next says_nothing old.told mid.told new.told (h.ran.trace.files is).goes (t.begun.files is).goes (opened h.first) h.exchanges s.store.collection s'.store.collection s.store.slot s'.store.slot x (h.watched is) (silent is) (h.ran.nothing_pending is) (after_more (opened h.first) h.exchanges x) t.goes_on_by
-      (subst (λ (state : State). Watches mid.told new.told state s.store.collection s'.store.collection s.store.slot s'.store.slot x) (h.ran.now_at is) (t.watches is))
+  watched_on new counts' s' after view x t is = watched_next says_nothing old.told mid.told new.told (h.ran.trace.files is).goes (t.begun.files is).goes (opened h.first) h.exchanges s.store.collection s'.store.collection s.store.slot s'.store.slot s.store.unswept x (h.watched is) (silent is) (h.ran.nothing_pending is) (after_more (opened h.first) h.exchanges x) t.goes_on_by (h.ran.clear is)
+      (subst (λ (state : State). Watches mid.told new.told state s.store.collection s'.store.collection s.store.slot s'.store.slot s.store.unswept x) (h.ran.now_at is) (t.watches is))
 
   pub loaded_more : (new : Outside) (text : Bytes) (counts' : TurnCounts) (s' : Session) (summary' : Summary) (state' : ℕ) → (t : Replied rule h.known mid new (load_line state (number + 1)).0 text counts counts' s s' h.repository h.view) → new.left ≡ mid.left → state' ≡ (load_line state (number + 1)).1
       → ((reply : Reply) → text ≡ reply_text reply → Tallies summary' (replies_in h.exchanges ++ reply ∷ [])) → Loaded rule decisive seed state' (number + 1) old new counts' s' summary'
@@ -196,6 +198,7 @@ module _ (rule : Rule) (decisive : Bool) (seed state number : ℕ) (old mid : Ou
                 h.repository (ap (λ (state : State). state.repository) (h.ran.now_at is)) x.after.repository refl (u.quiet is) (u.atomic is (h.ran.nothing_pending is order))));
             again = λ b d may. let is = known_so b d may.nothing_pending in u.again is (h.ran.nothing_pending is may.nothing_pending);
             stands = λ b whole began. absurd (cc (cut, whole));
+            clear = λ b whole. absurd (cc (cut, whole));
             files = λ b. trace.files (h.ran.trace.known_so b);
           };
           notes = notes_of rule decisive h.known xs h.first s' old new counts' trace (serving_on s' old.counts mid.counts new.counts h.no_fault u.counted) spawned held spawns gone;
@@ -268,6 +271,7 @@ module _ (rule : Rule) (decisive : Bool) (seed state number : ℕ) (old mid : Ou
                 h.repository (ap (λ (state : State). state.repository) (h.ran.now_at is)) u.after (ap (λ (state : State). state.repository) (sym (u.exchanged.now_at is))) _ (u.turning is (h.ran.nothing_pending is order))));
             again = λ b d may. let is = known_so b d may.nothing_pending in record { repository = u.after; stands = (u.exchanged.working is).holds.stands; nothing_pending = ran.nothing_pending is may.nothing_pending };
             stands = λ b whole began. let is = h.ran.trace.known_so b in subst (λ (state : State). StandsFor new.told.held state.repository) (ran.now_at is) (u.exchanged.working is).holds.stands;
+            clear = λ b whole clear. let is = h.ran.trace.known_so b in cleared_at new.told session.store (held_has session.store u.after new.told (u.exchanged.working is).holds) (ran.clear is clear);
             files = λ b. ran.trace.files (h.ran.trace.known_so b);
           };
           notes = notes_of rule decisive h.known xs h.first s' old new counts' ran.trace (serving_on s' old.counts mid.counts new.counts h.no_fault u.counted) spawned held spawns gone;
@@ -319,6 +323,7 @@ loads_none rule decisive seed count old new s g f opening left turns unasked rea
           any_moment = λ b d r stands order. ((opening b).since, λ behind. absurd (unopened behind), headline_quiet (opening b).since old.told new.told (opened r) [] (load_text count []) (quiet_first (opening b).since old.told new.told (opened r) (headline_none old.told new.told (f b) (opening b) r stands order)));
           again = λ b d may. record { repository = may.repository; stands = stands_after old.told new.told (f b) (owns_pending old.told may.nothing_pending) may.repository may.stands; nothing_pending = (opening b).nothing_pending may.nothing_pending };
           stands = λ b whole h. stands_after old.told new.told (f b.0.0) b.0.1 first.repository h;
+          clear = λ b whole. clear_synced old.told new.told (f b.0.0);
           files = λ b. keeps_unchanged old.told new.told (f b.0.0);
         };
         notes = notes_none s old new turns reads unopened (serving_of s old.counts new.counts counted);

@@ -4,52 +4,43 @@
 --     trace_more, ran_more      one exchange more.      ran_first      none yet.      said_along      a reply is said behind it
 --     let_go_as, LetsGoAs, goes_on_gone      the child that is held is let go.      notes_of, asks_of      what was noted, and asked of the spawner.      notes_none, asks_none      where no command was begun
 --     places_in      where its records came to lie, from the slot that was live
-use Rattle.std.specs.Prelude.{◌≢◌, IfSome}
-use Rattle.std.proofs.Common.{true, ◌≡◌, inl, inr, ℕ, ◌≤◌, Bool, false, List, [], ◌∷◌, ◌++◌, length, refl, sym, ap, ap₂, ◌∙◌, subst, arith, append_assoc, length-append, map, IsTrue, All, take, drop, Option, Some, None, Result}
-use Rattle.std.proofs.lemmas.Bool.{cases_lt}
-use Rattle.std.proofs.lemmas.List.{map-append, take-append-drop}
-use Rattle.std.proofs.lemmas.List.Elements.{All-append, All-cons, All-nil}
+use Rattle.std.proofs.Common.{true, ◌≡◌, inl, ℕ, ◌≤◌, Bool, List, [], ◌∷◌, ◌++◌, length, refl, sym, ap, ap₂, ◌∙◌, subst, arith, append_assoc, map, IsTrue, Option, None}
+use Rattle.std.proofs.lemmas.List.{map-append}
 use Rattle.ip_ground.specs.declared.names.FileName.TheVariants.{Control}
 use Rattle.ip_ground.specs.declared.names.Reaped.{Reaped}
 use Rattle.ip_spawn.specs.Children as spawn
 use Rattle.ip_spawn.specs.declared.spawner.SpawnCounts.{SpawnCounts}
-use Rattle.ip_ground.specs.Counts.{Rose}
-use Rattle.ip_ground.specs.Told.{Told, said, ChangesOnly, SyncsOnly, Only, NoFile}
-use Rattle.ip_ground.proofs.Spans.{said_now, lending_now}
+use Rattle.ip_ground.specs.Told.{Told, SyncsOnly, Only}
 use Rattle.ip_ground.proofs.Rising.{none_falls_on}
 use Rattle.ip_image.specs.declared.counts.TurnCounts.{TurnCounts}
 use Rattle.ip_image.specs.declared.slot.Slot.{Slot}
-use Rattle.ip_image.specs.Slot.{live_index}
-use Rattle.ip_image.specs.Standing.{StandsFor, NoStore}
-use Rattle.ip_image.specs.Pending.{HasLive, NothingPending}
-use Rattle.ip_image.proofs.HeadlineLaws.{headline_later, one_slot}
-use Rattle.ip_image.proofs.OneRepository.{one_repository}
-use Rattle.ip_spec.specs.Path.{Bytes, line_feed}
+use Rattle.ip_image.specs.Standing.{StandsFor}
+use Rattle.ip_image.specs.Pending.{HasLive}
+use Rattle.ip_image.proofs.HeadlineLaws.{one_slot}
 use Rattle.ip_spec.specs.Merge.{Rule}
-use Rattle.ip_ground.specs.Contents.{Image, Content, bytes_of}
 use Rattle.ip_spec.specs.View.{View, no_view}
-use Rattle.ip_spec.specs.Repository.{Repository, no_repository}
+use Rattle.ip_spec.specs.Repository.{Repository}
 use Rattle.ip_spec.specs.Machine.{State, Phase, opened}
 use Rattle.ip_merge.specs.Rules.{IsDecisive}
 use Rattle.ip_spec.specs.Line.{IsLineOf}
-use Rattle.ip_spec.specs.Script.{whole_lines, LineStep}
-use Rattle.ip_spec.specs.Text.{reply_text}
+use Rattle.ip_spec.specs.Script.{LineStep}
 use Rattle.ip_store.specs.declared.collection.Unswept.{Unswept}
 use Rattle.ip_store.specs.Opening.{RecoversOnceOpen}
+use Rattle.ip_store.specs.Clear.{IsCleared, IsClearAt}
 use Rattle.ip_store.specs.Collecting.{phase_of, child_of}
 use Rattle.ip_store.specs.Sweeping.{KeepsFiles}
-use Rattle.ip_store.proofs.KeptFiles.{keeps_on, keeps_store, keeps_custody, stays_goes}
+use Rattle.ip_store.proofs.KeptFiles.{keeps_on, keeps_store}
 use Rattle.ip_store.proofs.Recovering.{held_has}
 use Rattle.ip_session.specs.declared.session.Session.{Session}
 use Rattle.ip_session.specs.Session.{IsServing, IsWorking, state_in}
 use Rattle.ip_app.specs.declared.turn_log.Turn.{Turn}
 use Rattle.ip_app.specs.declared.statuses.Status.{Status}
-use Rattle.ip_app.specs.Exchanges.{Exchange, conditions, answer_of, Run, after_all, lines_in, turns_in, texts_in}
+use Rattle.ip_app.specs.Exchanges.{Exchange, conditions, Run, after_all, turns_in}
 use Rattle.ip_session.specs.Placing.{PlacedIn}
 use Rattle.ip_session.specs.Session.{IsViewIn}
 use Rattle.ip_app.specs.Places.{Places, PlacesIn, StartsAt, HearsAt}
 use Rattle.ip_app.specs.Happening.{Happens, AllHappen, HappenIn, jobs_in, ends_in}
-use Rattle.ip_app.specs.Turns.{turn_counts, SpawnsLater, IsLater, Follow}
+use Rattle.ip_app.specs.Turns.{turn_counts, SpawnsLater, Follow}
 use Rattle.ip_app.specs.Outside.{Outside, Tells, Knows, GoesOn, IsUnasked}
 use Rattle.ip_app.specs.Run.{IsBehindOpening, Notes, AsksChildren}
 use Rattle.ip_app.proofs.Counting.{spawns_on, still_at, follow_more}
@@ -131,6 +122,7 @@ ran_more rule decisive known xs first r v slot old mid new counts counts' s s' x
       (subst (λ (state : State). PlacedIn rule s.store.slot s.store.unswept s'.store.slot state v x.line x.reply) (h.now_at g) (t.placed g)) (t.starts g) (t.hears g);
   serving = t.serving;
   working = t.working;
+  clear = λ g clear. t.clear g (h.clear g clear);
   nothing_pending = λ g order. t.nothing_pending g (h.nothing_pending g order);
   phases = happen_more (opened first) xs x h.phases (subst (λ (phase : Phase). Happens phase x) h.phase t.happens);
   phase = sym t.phase ∙ sym (ap (λ (state : State). state.phase) (after_more (opened first) xs x));
@@ -143,10 +135,10 @@ told_none told = ap₂ told_with (sym (append_nil told.started)) (sym (append_ni
 
 -- no line was run yet
 pub ran_first : (rule : Rule) (decisive : Bool) → (IsTrue decisive → IsDecisive rule) → (old now : Outside) (counts : TurnCounts) (s : Session) (r : Repository) (v : View) → v ≡ no_view → (known : (b : Bool) × (Knows decisive old → IsTrue b) × (IsTrue b → Knows decisive old)) → IsServing s → state_in s r v ≡ opened r
-    → (Tells old → IsWorking now.told s r v) → (Tells old → StandsFor old.told.held r) → (IsTrue old.ground_tells → RecoversOnceOpen old.told now.told)
+    → (Tells old → IsWorking now.told s r v) → (Tells old → IsClearAt old.told → IsCleared s.store now.told) → (Tells old → StandsFor old.told.held r) → (IsTrue old.ground_tells → RecoversOnceOpen old.told now.told)
     → counts ≡ turn_counts old.counts old.spawns → now.counts ≡ old.counts → IsUnasked old now → s.store.collection ≡ None → old.held ≡ None → now.read_faults ≡ old.read_faults → GoesOn old now → (IsTrue old.ground_tells → SyncsOnly (Only Control) old.told now.told) → now.turns ≡ old.turns
     → Ran rule decisive known.0 [] r r v s.store.slot old now counts s
-ran_first rule decisive by_rule old now counts s r v none_known known serving begun working began opening counted no_fault unasked idle alone reads g f turns = record {
+ran_first rule decisive by_rule old now counts s r v none_known known serving begun working cleared began opening counted no_fault unasked idle alone reads g f turns = record {
   trace = record {
     known_so = known.1;
     tells = λ is. (known.2 is).0;
@@ -166,6 +158,7 @@ ran_first rule decisive by_rule old now counts s r v none_known known serving be
   places = λ is. (refl, none_known);
   serving = serving;
   working = λ is. working (known.2 is).0;
+  clear = λ is. cleared (known.2 is).0;
   nothing_pending = λ is order. (opening (known.2 is).0.0).nothing_pending order;
   phases = tt;
   phase = ap phase_of idle;

@@ -6,44 +6,37 @@ use Rattle.std.proofs.lemmas.List.{map-append, take-append-drop}
 use Rattle.std.proofs.lemmas.List.Elements.{All-append, All-cons, All-nil}
 use Rattle.ip_ground.specs.declared.names.FileName.TheVariants.{Control}
 use Rattle.ip_ground.specs.declared.names.GroundFault.{GroundFault}
-use Rattle.ip_ground.specs.declared.names.Reaped.{Reaped}
 use Rattle.ip_spawn.specs.Children as spawn
 use Rattle.ip_spawn.specs.declared.spawner.SpawnCounts.{SpawnCounts}
 use Rattle.ip_ground.specs.Counts.{Rose}
 use Rattle.ip_ground.specs.Told.{Told, said, ChangesOnly, SyncsOnly, Only, NoFile}
 use Rattle.ip_ground.specs.Calls.{Says}
 use Rattle.ip_ground.proofs.Spans.{said_now, lending_now}
-use Rattle.ip_ground.proofs.Rising.{none_falls_on}
 use Rattle.ip_image.specs.declared.counts.TurnCounts.{TurnCounts}
-use Rattle.ip_image.specs.declared.slot.Slot.{Slot}
 use Rattle.ip_image.specs.Slot.{live_index}
 use Rattle.ip_image.specs.Standing.{StandsFor, NoStore}
-use Rattle.ip_image.specs.Pending.{HasLive, NothingPending}
+use Rattle.ip_image.specs.Pending.{NothingPending}
 use Rattle.ip_image.specs.Headline.{Headline}
 use Rattle.ip_image.proofs.DamageLaws.{not_damaged}
-use Rattle.ip_image.proofs.HeadlineLaws.{headline_later, one_slot}
+use Rattle.ip_image.proofs.HeadlineLaws.{headline_later}
 use Rattle.ip_image.proofs.OneRepository.{one_repository}
 use Rattle.ip_spec.specs.Path.{Bytes, line_feed}
 use Rattle.ip_spec.specs.Merge.{Rule}
 use Rattle.ip_ground.specs.Contents.{Image, Content, bytes_of}
 use Rattle.ip_spec.specs.View.{View, no_view}
 use Rattle.ip_spec.specs.Repository.{Repository, no_repository}
-use Rattle.ip_spec.specs.Machine.{State, Phase, opened}
+use Rattle.ip_spec.specs.Machine.{State, opened}
 use Rattle.ip_merge.specs.Rules.{IsDecisive}
-use Rattle.ip_spec.specs.Line.{IsLineOf}
-use Rattle.ip_spec.specs.Script.{whole_lines, LineStep}
+use Rattle.ip_spec.specs.Script.{whole_lines}
 use Rattle.ip_spec.specs.Text.{reply_text}
-use Rattle.ip_store.specs.declared.collection.Unswept.{Unswept}
 use Rattle.ip_store.specs.Control.{control_in}
-use Rattle.ip_store.specs.Publishing.{IsOfStore}
 use Rattle.ip_store.specs.Opening.{RecoversOnceOpen}
-use Rattle.ip_store.specs.Collecting.{phase_of, child_of}
+use Rattle.ip_store.specs.Clear.{IsCleared, IsClearAt}
 use Rattle.ip_store.specs.Sweeping.{KeepsFiles}
-use Rattle.ip_store.proofs.KeptFiles.{keeps_on, keeps_store, keeps_custody, stays_goes}
+use Rattle.ip_store.proofs.KeptFiles.{keeps_on, keeps_custody, stays_goes}
 use Rattle.ip_store.proofs.Recovering.{held_has}
 use Rattle.ip_session.specs.declared.session.Session.{Session}
 use Rattle.ip_session.specs.Session.{IsServing, IsWorking, state_in}
-use Rattle.ip_app.specs.declared.turn_log.Turn.{Turn}
 use Rattle.ip_app.specs.declared.lines.Lines.{Lines}
 use Rattle.ip_app.specs.declared.statuses.Status.{Status}
 use Rattle.ip_app.specs.declared.statuses.Status.TheVariants as status
@@ -51,21 +44,18 @@ use Rattle.ip_app.specs.declared.statuses.Bound.TheVariants as bound
 use Rattle.ip_app.specs.Lines.{longest_line, last_piece}
 use Rattle.ip_app.specs.Pending.{pending}
 use Rattle.ip_app.specs.Reading.{EndsReading, IsCaused}
-use Rattle.ip_app.specs.Exchanges.{Exchange, conditions, answer_of, Run, after_all, lines_in, turns_in, texts_in}
-use Rattle.ip_session.specs.Placing.{PlacedIn}
-use Rattle.ip_session.specs.Session.{IsViewIn}
+use Rattle.ip_app.specs.Exchanges.{Exchange, answer_of, lines_in, turns_in, texts_in}
 use Rattle.ip_app.specs.Places.{PlacesIn}
-use Rattle.ip_app.specs.Happening.{Happens, jobs_in, ends_in}
 use Rattle.ip_app.specs.Judged.{Watches}
-use Rattle.ip_app.specs.Turns.{turn_counts, SpawnsLater, IsLater, Follow}
+use Rattle.ip_app.specs.Turns.{turn_counts, Follow}
 use Rattle.ip_app.specs.Outside.{Outside, Tells, Knows, GoesOn, IsUnasked}
 use Rattle.ip_app.specs.Serving.{is_cut_short, SaysPart, TurnedIn, Stopped, Unsaid, CountsOf, OnlyRemovals, CountsServing, Stops, Served}
-use Rattle.ip_app.proofs.RanOn.{append_nil, after_more, told_before, goes_on_then, keeps_unchanged, told_none, trace_more, ran_more, ran_first, let_go_as, LetsGoAs, goes_on_gone, told_gone, notes_of, asks_of, notes_none, asks_none, happen_all, happen_cut, placed_all, placed_cut}
+use Rattle.ip_app.proofs.RanOn.{append_nil, after_more, told_before, goes_on_then, keeps_unchanged, trace_more, ran_more, ran_first, let_go_as, LetsGoAs, goes_on_gone, told_gone, notes_of, asks_of, notes_none, asks_none, happen_all, happen_cut, placed_all, placed_cut}
 use Rattle.ip_app.specs.Run.{CouldNotOpen, IsUntouched, IsOpened, Begins, is_cut_off, Row, IsBehindOpening, AsksChildren, Serves, EndsWhereAllIsWell}
-use Rattle.ip_app.proofs.Counting.{spawns_on, removals_same, removals_on, serving_of, serving_on, still_at, follow_more}
-use Rattle.ip_app.proofs.Happened.{happen_more, told_with, spawned_more}
+use Rattle.ip_app.proofs.Cleared.{clear_synced, cleared_same}
+use Rattle.ip_app.proofs.Counting.{removals_same, removals_on, serving_of, serving_on}
 use Rattle.ip_app.proofs.Judging.{texts_same, watched_none, watched_unbegun, watched_next, watched_along, watched_cut, ended_same}
-use Rattle.ip_app.proofs.LivePair.{owns_pending, live_before}
+use Rattle.ip_app.proofs.LivePair.{owns_pending}
 use Rattle.ip_app.proofs.SameFiles.{stands_after}
 use Rattle.ip_app.proofs.Moments.{headline_none, headline_turn}
 use Rattle.ip_app.proofs.LineLemmas.{whole_lines-line, whole_lines-rest, last_piece-line, last_piece-rest}
@@ -119,8 +109,8 @@ served_more rule decisive old mid new lines lines' counts counts' s s' h turned 
       rest_then = λ tail. ap last_piece (sym (regroup h.done x.line tail)) ∙ (h.rest_then (x.line ++ line_feed ∷ tail) ∙ last_piece-line x.line tail t.no_line_feed);
       short = subst (All IsShort) (sym (map-append (λ x. x.line) h.exchanges (x ∷ []))) (All-append IsShort (lines_in h.exchanges) (x.line ∷ []) h.short (All-cons IsShort x.line [] t.short (All-nil IsShort)));
       count = omega (arith, h.count, t.count, length-append h.done (x.line ++ line_feed ∷ []), length-append x.line (line_feed ∷ []));
-      watched = λ g. watched_next reply_text old.told mid.told new.told (h.ran.trace.files g).goes (goes.files g).goes (opened h.first) h.exchanges s.store.collection s'.store.collection s.store.slot s'.store.slot x (h.watched g) (h.said g ∙ ap (λ (t : Bytes). said old.told ++ t) (texts_same h.exchanges)) (h.ran.nothing_pending g) (after_more (opened h.first) h.exchanges x) turned.exchanged.goes_on_by
-          (subst (λ (state : State). Watches mid.told new.told state s.store.collection s'.store.collection s.store.slot s'.store.slot x) (h.ran.now_at g) (turned.exchanged.watches g));
+      watched = λ g. watched_next reply_text old.told mid.told new.told (h.ran.trace.files g).goes (goes.files g).goes (opened h.first) h.exchanges s.store.collection s'.store.collection s.store.slot s'.store.slot s.store.unswept x (h.watched g) (h.said g ∙ ap (λ (t : Bytes). said old.told ++ t) (texts_same h.exchanges)) (h.ran.nothing_pending g) (after_more (opened h.first) h.exchanges x) turned.exchanged.goes_on_by (h.ran.clear g)
+          (subst (λ (state : State). Watches mid.told new.told state s.store.collection s'.store.collection s.store.slot s'.store.slot s.store.unswept x) (h.ran.now_at g) (turned.exchanged.watches g));
       said = λ g. turned.said g ∙ (ap (λ (u : Bytes). u ++ reply_text x.reply) (h.said g) ∙ (append_assoc (said old.told) (texts_in h.exchanges) (reply_text x.reply) ∙ ap (λ (u : Bytes). said old.told ++ u) (sym (texts_more h.exchanges x))));
       opened_at = h.opened_at;
       headline = λ g order. headline_turn (h.opened_at g) old.told mid.told new.told (opened h.first) h.exchanges x (h.headline g order) (goes.files g).goes (h.over g) (h.said g)
@@ -129,10 +119,10 @@ served_more rule decisive old mid new lines lines' counts counts' s s' h turned 
     }
 
 -- no line was served yet
-pub served_first : (rule : Rule) (decisive : Bool) → (IsTrue decisive → IsDecisive rule) → (old now : Outside) (lines : Lines) (counts : TurnCounts) (s : Session) (r : Repository) (v : View) → v ≡ no_view → (known : (b : Bool) × (Knows decisive old → IsTrue b) × (IsTrue b → Knows decisive old)) → IsServing s → state_in s r v ≡ opened r → (Tells old → IsWorking now.told s r v) → (Tells old → StandsFor old.told.held r)
+pub served_first : (rule : Rule) (decisive : Bool) → (IsTrue decisive → IsDecisive rule) → (old now : Outside) (lines : Lines) (counts : TurnCounts) (s : Session) (r : Repository) (v : View) → v ≡ no_view → (known : (b : Bool) × (Knows decisive old → IsTrue b) × (IsTrue b → Knows decisive old)) → IsServing s → state_in s r v ≡ opened r → (Tells old → IsWorking now.told s r v) → (Tells old → IsClearAt old.told → IsCleared s.store now.told) → (Tells old → StandsFor old.told.held r)
     → (opening : IsTrue old.ground_tells → RecoversOnceOpen old.told now.told) → ((tells : Tells old) → (opening tells.0).since ≤ now.told.moment)
     → counts ≡ turn_counts old.counts old.spawns → now.counts ≡ old.counts → IsUnasked old now → s.store.collection ≡ None → old.held ≡ None → now.read_faults ≡ old.read_faults → GoesOn old now → (IsTrue old.ground_tells → SyncsOnly (Only Control) old.told now.told) → now.left ≡ old.left → now.turns ≡ old.turns → pending lines ≡ [] → lines.taken ≡ 0 → Served rule decisive old now lines counts s
-served_first rule decisive by_rule old now lines counts s r v none_known known serving begun working began opening over counted no_fault unasked idle alone reads g f left turns none zero =
+served_first rule decisive by_rule old now lines counts s r v none_known known serving begun working cleared began opening over counted no_fault unasked idle alone reads g f left turns none zero =
     record {
       known = known.0;
       done = [];
@@ -141,7 +131,7 @@ served_first rule decisive by_rule old now lines counts s r v none_known known s
       repository = r;
       view = v;
       slot = s.store.slot;
-      ran = ran_first rule decisive by_rule old now counts s r v none_known known serving begun working began opening counted no_fault unasked idle alone reads g f turns;
+      ran = ran_first rule decisive by_rule old now counts s r v none_known known serving begun working cleared began opening counted no_fault unasked idle alone reads g f turns;
       no_fault = removals_same old.counts now.counts no_fault;
       bytes = λ b. sym left ∙ ap (λ (u : Bytes). u ++ now.left) (sym none);
       lines_then = λ tail. refl;
@@ -182,6 +172,7 @@ serves_none rule decisive old new s g f opening left turns unasked reads unopene
         any_moment = λ b d r stands order. ((opening b).since, λ behind. absurd (unopened behind), headline_none old.told new.told (f b) (opening b) r stands order);
         again = λ b d may. record { repository = may.repository; stands = stands_after old.told new.told (f b) (owns_pending old.told may.nothing_pending) may.repository may.stands; nothing_pending = (opening b).nothing_pending may.nothing_pending };
         stands = λ b whole h. stands_after old.told new.told (f b.0.0) b.0.1 first.repository h;
+        clear = λ b whole. clear_synced old.told new.told (f b.0.0);
         files = λ b. keeps_unchanged old.told new.told (f b.0.0);
       };
       notes = notes_none s old new turns reads unopened (serving_of s old.counts new.counts counted);
@@ -296,6 +287,7 @@ serves_stopped rule decisive s old mid new lines lines' counts counts' session h
             (headline_later (h.opened_at is) old.told mid.told new.told first (map answer_of h.exchanges) (h.headline is order) t.files.goes t.same_moment);
         again = λ b d may. let is = known b d may.nothing_pending in record { repository = h.repository; stands = t.stands is; nothing_pending = t.nothing_pending (h.ran.nothing_pending is may.nothing_pending) };
         stands = λ b whole began. subst (λ (state : State). StandsFor new.told.held state.repository) (h.ran.now_at (h.ran.trace.known_so b)) (t.stands (h.ran.trace.known_so b));
+        clear = λ b whole clear. let is = h.ran.trace.known_so b in cleared_same mid.told new.told session.store t.same_held t.same_lending (held_has session.store h.repository mid.told (h.ran.working is).holds) (h.ran.clear is clear);
         files = λ g. keeps_on old.told mid.told new.told (h.ran.trace.files (h.ran.trace.known_so g)) t.files;
       };
       notes = record {
@@ -314,7 +306,7 @@ serves_stopped rule decisive s old mid new lines lines' counts counts' session h
 
 -- a reply could not be said
 serves_unsaid : (rule : Rule) (decisive : Bool) (s : Status) (old mid new : Outside) (lines lines' : Lines) (counts counts' : TurnCounts) (session : Session) (h : Served rule decisive old mid lines counts session) → is_cut_off s ≡ true → ((xs : List Exchange) → Begins s old (opened h.first) xs)
-    → Unsaid rule s h.known mid new lines lines' counts counts' (state_in session h.repository h.view) → ((taken : Bytes) (last : Outside) → Row decisive s old last taken)
+    → Unsaid rule s h.known mid new lines lines' counts counts' session.store (state_in session h.repository h.view) → ((taken : Bytes) (last : Outside) → Row decisive s old last taken)
     → (spawned : spawn.Told) (held : Option ℕ) (spawns : SpawnCounts) → LetsGoAs new spawned held spawns → Serves rule decisive old (let_go_as new spawned held spawns) s
 serves_unsaid rule decisive s old mid new lines lines' counts counts' session h cut opened_so u row spawned held spawns gone =
     let first = opened h.first in
@@ -351,6 +343,7 @@ serves_unsaid rule decisive s old mid new lines lines' counts counts' session h 
             h.repository x.after.repository (ap (λ (state : State). state.repository) (h.ran.now_at is)) refl (u.turning is (h.ran.nothing_pending is order)));
         again = λ b d may. let is = known b d may.nothing_pending in u.again is (h.ran.nothing_pending is may.nothing_pending);
         stands = λ b whole began. subst (λ (state : State). StandsFor new.told.held state.repository) (sym (after_more first h.exchanges x)) (u.stands (h.ran.trace.known_so b) whole);
+        clear = λ b whole clear. let is = h.ran.trace.known_so b in u.clear is whole (h.ran.clear is clear);
         files = λ g. trace.files (h.ran.trace.known_so g);
       };
       notes = notes_of rule decisive h.known xs h.first s old new counts' trace (serving_on s old.counts mid.counts new.counts h.no_fault u.counted) spawned held spawns gone;
@@ -359,7 +352,7 @@ serves_unsaid rule decisive s old mid new lines lines' counts counts' session h 
     }
 
 -- how a run ends
-pub serves_stop : (rule : Rule) (decisive : Bool) (s : Status) (old mid new : Outside) (lines lines' : Lines) (counts counts' : TurnCounts) (session : Session) (h : Served rule decisive old mid lines counts session) → Stops rule s h.known mid new lines lines' counts counts' (state_in session h.repository h.view)
+pub serves_stop : (rule : Rule) (decisive : Bool) (s : Status) (old mid new : Outside) (lines lines' : Lines) (counts counts' : TurnCounts) (session : Session) (h : Served rule decisive old mid lines counts session) → Stops rule s h.known mid new lines lines' counts counts' session.store (state_in session h.repository h.view)
     → (spawned : spawn.Told) (held : Option ℕ) (spawns : SpawnCounts) → LetsGoAs new spawned held spawns → Serves rule decisive old (let_go_as new spawned held spawns) s
 serves_stop rule decisive status.SayFault old mid new lines lines' counts counts' session h u = serves_unsaid rule decisive status.SayFault old mid new lines lines' counts counts' session h refl (λ xs b. h.ran.trace.began b) u (λ taken last. tt)
 serves_stop rule decisive status.GroundFault old mid new lines lines' counts counts' session h u = serves_unsaid rule decisive status.GroundFault old mid new lines lines' counts counts' session h refl (λ xs. inr h.ran.trace.began) u (λ taken last. tt)

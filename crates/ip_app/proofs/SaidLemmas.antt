@@ -1,11 +1,12 @@
 -- One line of a script whose command was run and noted: its reply was said, or a part of it.
 --     took_of      the line that was taken.      turned_in      the reply was said.      left_unsaid      or not, or not all of it
-use Rattle.std.proofs.Common.{◌≡◌, ℕ, ◌+◌, ◌-◌, ◌^◌, ◌≤◌, ◌++◌, [], ◌∷◌, length, refl, sym, ◌∙◌, ap, subst, Bool, true, false, Ok, Err, Result, IsTrue, OnOk}
+use Rattle.std.proofs.Common.{◌≡◌, ℕ, ◌+◌, ◌-◌, ◌^◌, ◌≤◌, ◌++◌, length, sym, ◌∙◌, ap, subst, Bool, Ok, Err, Result, IsTrue}
 use Rattle.ip_ground.specs.declared.names.GroundCounts.{GroundCounts}
 use Rattle.ip_ground.specs.declared.names.GroundFault.{GroundFault}
-use Rattle.ip_ground.specs.Counts.{NoneFalls, SayFault}
+use Rattle.ip_ground.specs.Counts.{SayFault}
 use Rattle.ip_ground.specs.Told.{Told, said}
 use Rattle.ip_ground.specs.Calls.{Says}
+use Rattle.ip_ground.proofs.Spans.{lending_now}
 use Rattle.ip_image.specs.declared.counts.TurnCounts.{TurnCounts}
 use Rattle.ip_image.specs.Pending.{NothingPending}
 use Rattle.ip_spec.specs.Merge.{Rule}
@@ -17,17 +18,19 @@ use Rattle.ip_spec.specs.Text.{reply_text}
 use Rattle.ip_image.specs.Standing.{StandsFor}
 use Rattle.ip_image.specs.Headline.{Turning}
 use Rattle.ip_store.specs.Sweeping.{KeepsFiles}
+use Rattle.ip_store.proofs.Recovering.{held_has}
 use Rattle.ip_session.specs.declared.session.Session.{Session}
 use Rattle.ip_session.specs.Session.{IsWorking, state_in}
 use Rattle.ip_app.specs.declared.lines.Lines.{Lines}
 use Rattle.ip_app.specs.declared.statuses.Status.TheVariants as status
-use Rattle.ip_app.specs.Exchanging.{Works, Replied}
+use Rattle.ip_app.specs.Exchanging.{Replied}
 use Rattle.ip_app.specs.Outside.{Outside}
 use Rattle.ip_app.specs.Pending.{pending}
 use Rattle.ip_app.specs.Reading.{GetsLine}
 use Rattle.ip_app.specs.Serving.{Took, TurnedIn, Unsaid}
 use Rattle.ip_app.specs.Turns.{turn_counts}
-use Rattle.ip_app.proofs.Counting.{serving_of, serving_on, say_falls, falls_same, removals_on, removals_same, falls_removals, counts_same}
+use Rattle.ip_app.proofs.Cleared.{clear_along, cleared_at}
+use Rattle.ip_app.proofs.Counting.{serving_of, serving_on, say_falls, falls_same, removals_on, removals_same, counts_same}
 use Rattle.ip_app.proofs.Moments.{order_says, turned_moments}
 use Rattle.ip_app.proofs.RunLemmas.{keeps_said}
 use Rattle.ip_app.proofs.SameFiles.{working_along}
@@ -63,14 +66,14 @@ module _ (rule : Rule) (known : Bool) (old mid : Outside) (read text shown : Byt
     after = h.after;
     view = h.view;
     took = took_it;
-    exchanged = exchanged_along rule known old mid c c' left read_faults told counts reads (files (Ok tt) says) (falls_same mid.counts counts still) (ap (λ (n : GroundCounts). turn_counts n mid.spawns) (sym still)) s s' r v h.exchange h.after h.view (works (Ok tt) says) (order (Ok tt) says) (λ is. (says is).files) h.exchanged;
+    exchanged = exchanged_along rule known old mid c c' left read_faults told counts reads (files (Ok tt) says) (falls_same mid.counts counts still) (ap (λ (n : GroundCounts). turn_counts n mid.spawns) (sym still)) s s' r v h.exchange h.after h.view (works (Ok tt) says) (order (Ok tt) says) (λ is. (says is).files) (λ is. (says is).lending) h.exchanged;
     no_fault = removals_on old.counts mid.counts counts h.no_fault (removals_same mid.counts counts still);
     said = λ is. said_of old.told mid.told told (h.exchanged.begun.files is) (h.quiet is) shown (Ok tt) (says is) _ (same ∙ h.text_is);
     turning = λ is none. turned_moments mid.told told shown (Ok tt) (says is) old.told (h.exchanged.begun.files is).goes (h.quiet is) _ (same ∙ h.text_is) r h.after (h.atomic is none) s'.store (h.exchanged.working is).holds (h.exchanged.nothing_pending is none);
   }
 
   pub left_unsaid : (fault : GroundFault) (says : IsTrue known → Says shown (Err fault) mid.told told) → mid.counts.say_faults ≤ 2 ^ 64 - 1 → SayFault mid.counts counts
-      → Unsaid rule status.SayFault known old (told_as mid left read_faults told counts) lines lines' c c' (state_in s r v)
+      → Unsaid rule status.SayFault known old (told_as mid left read_faults told counts) lines lines' c c' s.store (state_in s r v)
   left_unsaid fault says small counted = record {
     exchange = h.exchange;
     took = took_it;
@@ -80,6 +83,8 @@ module _ (rule : Rule) (known : Bool) (old mid : Outside) (read text shown : Byt
     silent = λ is cut_short. absurd (cc cut_short);
     space = λ is cut_short. absurd (cc cut_short);
     stands = λ is whole. subst (λ (q : Repository). StandsFor told.held q) (after_is is) (works (Err fault) says is (h.exchanged.working is)).holds.stands;
+    clear = λ is whole cleared. cleared_at told s'.store (held_has s'.store h.after told (works (Err fault) says is (h.exchanged.working is)).holds)
+        (clear_along mid.told told (λ file. ((says is).files file).held) (λ attempt. lending_now mid.told told (says is).goes attempt ((says is).lending attempt)) s'.store.slot s'.store.unswept (h.exchanged.clear is cleared));
     turning = λ is none. subst (λ (q : Repository). Turning old.told told (reply_text h.exchange.reply) r q) (after_is is) (turned_moments mid.told told shown (Err fault) (says is) old.told (h.exchanged.begun.files is).goes (h.quiet is) _ (same ∙ h.text_is) r h.after (h.atomic is none) s'.store (h.exchanged.working is).holds (h.exchanged.nothing_pending is none));
     again = λ is none. record {
       repository = h.after;

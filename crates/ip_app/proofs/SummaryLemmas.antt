@@ -2,7 +2,7 @@
 --     says_longer, says_both      one text said, and then another one
 --     cut_along, replied_along      of a line and a text that are equal to others.      line_written      the line that was drawn
 --     finish_cut      `stat` was cut short.      summed_done, summed_fault      all was said, or not all
-use Rattle.std.proofs.Common.{◌≡◌, ℕ, zero, suc, ◌-◌, ◌^◌, ◌+◌, ◌<◌, ◌≤◌, List, [], ◌∷◌, ◌++◌, codes, length, take, refl, sym, ap, ◌∙◌, subst, arith, inl, inr, Bool, true, false, Ok, Err, Result, IsTrue, OnOk, append_assoc, length-append}
+use Rattle.std.proofs.Common.{◌≡◌, ℕ, zero, suc, ◌-◌, ◌^◌, ◌+◌, ◌<◌, ◌≤◌, List, [], ◌∷◌, ◌++◌, codes, length, take, refl, sym, ap, ◌∙◌, subst, arith, inl, inr, Bool, Ok, Err, Result, IsTrue, OnOk, append_assoc, length-append}
 use Rattle.std.proofs.lemmas.Bool.{cases_lt}
 use Rattle.ip_ground.specs.declared.names.GroundCounts.{GroundCounts}
 use Rattle.ip_ground.specs.declared.names.GroundFault.{GroundFault}
@@ -81,7 +81,7 @@ module _ (rule : Rule) (known : Bool) (old mid : Outside) (text line first secon
     after = h.after;
     view = h.view;
     line_is = h.line_is;
-    exchanged = exchanged_along rule known old mid c c' mid.left mid.read_faults told counts refl (files (Ok tt) says) (falls_same mid.counts counts still) (ap (λ (n : GroundCounts). turn_counts n mid.spawns) (sym still)) s s' r v h.exchange h.after h.view (works (Ok tt) says) (order (Ok tt) says) (λ is. (says is).files) h.exchanged;
+    exchanged = exchanged_along rule known old mid c c' mid.left mid.read_faults told counts refl (files (Ok tt) says) (falls_same mid.counts counts still) (ap (λ (n : GroundCounts). turn_counts n mid.spawns) (sym still)) s s' r v h.exchange h.after h.view (works (Ok tt) says) (order (Ok tt) says) (λ is. (says is).files) (λ is. (says is).lending) h.exchanged;
     counted = removals_on old.counts mid.counts counts h.no_fault (removals_same mid.counts counts still);
     part = λ is. (line ++ reply_text h.exchange.reply, [], append_nil (line ++ reply_text h.exchange.reply), said_of old.told mid.told told (h.exchanged.begun.files is) (h.quiet is) (first ++ second) (Ok tt) (says is) _ all_is);
     whole = λ is done. refl;
@@ -94,7 +94,7 @@ module _ (rule : Rule) (known : Bool) (old mid : Outside) (text line first secon
     after = h.after;
     view = h.view;
     line_is = h.line_is;
-    exchanged = exchanged_along rule known old mid c c' mid.left mid.read_faults told counts refl (files (Err fault) says) (say_falls mid.counts counts small counted) (counts_same mid.counts counts mid.spawns counted.file_faults counted.remove_faults) s s' r v h.exchange h.after h.view (works (Err fault) says) (order (Err fault) says) (λ is. (says is).files) h.exchanged;
+    exchanged = exchanged_along rule known old mid c c' mid.left mid.read_faults told counts refl (files (Err fault) says) (say_falls mid.counts counts small counted) (counts_same mid.counts counts mid.spawns counted.file_faults counted.remove_faults) s s' r v h.exchange h.after h.view (works (Err fault) says) (order (Err fault) says) (λ is. (says is).files) (λ is. (says is).lending) h.exchanged;
     counted = serving_on status.SayFault old.counts mid.counts counts h.no_fault (serving_of status.SayFault mid.counts counts counted);
     part = λ is. part_of old.told mid.told told (h.exchanged.begun.files is) (h.quiet is) (first ++ second) (Err fault) (says is) _ all_is;
     whole = λ is done. absurd (cc done);

@@ -3,16 +3,16 @@
 --     files_of, said_of, part_of      the files and what was said, once the reply was said, or not
 --     settled      what is there in any case, and so where it is known.      went_to, cut_to      what a session did with a line, where it is known to work
 --     stops_reading      why a source is read no further.      ended_short, cuts_short, short_of, stops_short      the session has ended
-use Rattle.std.proofs.Common.{◌≡◌, ℕ, ◌+◌, ◌≤◌, ◌++◌, arith, List, [], ◌∷◌, length, refl, sym, ◌∙◌, subst, Bool, true, false, Option, None, Some, OnOk, Result, IsTrue}
+use Rattle.std.proofs.Common.{◌≡◌, ℕ, ◌+◌, ◌++◌, arith, List, [], ◌∷◌, refl, sym, ◌∙◌, subst, Bool, true, false, Option, None, Some, OnOk, Result, IsTrue}
 use Rattle.ip_ground.specs.declared.names.GroundCounts.{GroundCounts}
 use Rattle.ip_ground.specs.declared.names.GroundFault.{GroundFault}
 use Rattle.ip_ground.specs.declared.names.Reaped.{Reaped}
 use Rattle.ip_spawn.specs.declared.job.Job.{Job}
 use Rattle.ip_ground.specs.Counts.{NoneFalls}
 use Rattle.ip_ground.specs.declared.names.FileName.{FileName}
-use Rattle.ip_ground.specs.Told.{Told, said, KeepsPast, KeepsFile, KeepsSaid, IsPossibleNow}
+use Rattle.ip_ground.specs.Told.{Told, said, KeepsPast, KeepsFile, KeepsCustody, KeepsSaid, IsPossibleNow}
 use Rattle.ip_ground.specs.Calls.{Says}
-use Rattle.ip_ground.proofs.Spans.{said_now}
+use Rattle.ip_ground.proofs.Spans.{said_now, lending_now}
 use Rattle.ip_image.specs.declared.counts.TurnCounts.{TurnCounts}
 use Rattle.ip_spec.specs.declared.met.Met.{Met}
 use Rattle.ip_spec.specs.declared.reply.Difference.{Difference}
@@ -22,6 +22,7 @@ use Rattle.ip_spec.specs.Path.{Bytes}
 use Rattle.ip_spec.specs.Machine.{State}
 use Rattle.ip_spec.specs.Line.{IsLineOf}
 use Rattle.ip_spec.specs.Script.{LineStep}
+use Rattle.ip_store.specs.declared.store.Store.{Store}
 use Rattle.ip_store.specs.Sweeping.{KeepsFiles}
 use Rattle.ip_store.proofs.KeptFiles.{keeps_on, keeps_itself}
 use Rattle.ip_store.proofs.Recovering.{held_has}
@@ -29,7 +30,6 @@ use Rattle.ip_app.specs.declared.lines.Lines.{Lines}
 use Rattle.ip_session.specs.declared.session.SessionEnd.{SessionEnd}
 use Rattle.ip_app.specs.declared.statuses.Status.{Status}
 use Rattle.ip_app.specs.declared.statuses.Status.TheVariants as status
-use Rattle.ip_app.specs.Pending.{pending}
 use Rattle.ip_app.specs.Exchanges.{Exchange}
 use Rattle.ip_app.specs.Outside.{Outside, GoesOn}
 use Rattle.ip_session.specs.declared.session.Session.{Session}
@@ -41,6 +41,7 @@ use Rattle.ip_spec.specs.View.{View}
 use Rattle.ip_app.specs.Serving.{SaysPart, Took, Stopped, Unsaid, Stops}
 use Rattle.ip_app.specs.Exchanging.{is_cut_short, ended_status, Begun, Exchanged, CutShort, CutsShort}
 use Rattle.ip_app.specs.Turns.{turn_counts, IsLater}
+use Rattle.ip_app.proofs.Cleared.{clear_along}
 use Rattle.ip_app.proofs.Counting.{later_of}
 use Rattle.ip_app.proofs.Happened.{exchange_of}
 use Rattle.ip_app.proofs.Judging.{watches_along}
@@ -99,9 +100,9 @@ module _ (rule : Rule) (known : Bool) (old mid : Outside) (c c' : TurnCounts) (l
     possible = h.possible;
   }
 
-  pub exchanged_along : (s s' : Session) (r : Repository) (v : View) (x : Exchange) (after : Repository) (view : View) → (IsTrue known → IsWorking mid.told s' after view → IsWorking told s' after view) → (IsTrue known → NothingPending mid.told → NothingPending told) → (IsTrue known → (file : FileName) → KeepsFile mid.told told file)
+  pub exchanged_along : (s s' : Session) (r : Repository) (v : View) (x : Exchange) (after : Repository) (view : View) → (IsTrue known → IsWorking mid.told s' after view → IsWorking told s' after view) → (IsTrue known → NothingPending mid.told → NothingPending told) → (IsTrue known → (file : FileName) → KeepsFile mid.told told file) → (IsTrue known → (attempt : ℕ) → KeepsCustody mid.told told attempt)
       → Exchanged rule known old mid c c' s s' r v x after view → Exchanged rule known old (told_as mid left read_faults told counts) c c' s s' r v x after view
-  exchanged_along s s' r v x after view works order stays h = record {
+  exchanged_along s s' r v x after view works order stays lends h = record {
     begun = begun_along (state_in s r v) x h.begun;
     now_at = h.now_at;
     seen = h.seen;
@@ -109,7 +110,8 @@ module _ (rule : Rule) (known : Bool) (old mid : Outside) (c c' : TurnCounts) (l
     starts = h.starts;
     hears = h.hears;
     goes_on_by = h.goes_on_by;
-    watches = λ is. watches_along old.told mid.told told (files is).goes (state_in s r v) s.store.collection s'.store.collection s.store.slot s'.store.slot x (h.nothing_pending is) (stays is) (held_has s'.store after mid.told (h.working is).holds) (h.watches is);
+    watches = λ is. watches_along old.told mid.told told (files is).goes (state_in s r v) s.store.collection s'.store.collection s.store.slot s'.store.slot s.store.unswept x (h.nothing_pending is) (stays is) (held_has s'.store after mid.told (h.working is).holds) (h.watches is);
+    clear = λ is cleared. clear_along mid.told told (λ file. (stays is file).held) (λ attempt. lending_now mid.told told (files is).goes attempt (lends is attempt)) s'.store.slot s'.store.unswept (h.clear is cleared);
     happens = h.happens;
     phase = h.phase;
     child = h.child;
@@ -135,12 +137,12 @@ module _ (old mid new : Told) (files : KeepsFiles old mid) (still : KeepsSaid ol
 abbrev pub nothing_said : (old new : Told) (reply : Bytes) → KeepsPast old new → KeepsSaid old new → SaysPart reply (said old) (said new)
 nothing_said old new reply goes still = ([], reply, refl, said_now old new goes still ∙ sym (append_nil (said old)))
 
-pub stops_reading : (rule : Rule) (s : Status) (known : Bool) (old new : Outside) (lines lines' : Lines) (counts counts' : TurnCounts) (state : State) → Stopped s known old new lines lines' counts counts' state → Stops rule s known old new lines lines' counts counts' state
-stops_reading rule status.SayFault known old new lines lines' counts counts' state t = absurd t.ends
-stops_reading rule status.GroundFault known old new lines lines' counts counts' state t = absurd t.ends
-stops_reading rule (status.DamagedRecord at) known old new lines lines' counts counts' state t = absurd t.ends
-stops_reading rule (status.DamagedName at want got) known old new lines lines' counts counts' state t = absurd t.ends
-stops_reading rule _ known old new lines lines' counts counts' state t = t
+pub stops_reading : (rule : Rule) (s : Status) (known : Bool) (old new : Outside) (lines lines' : Lines) (counts counts' : TurnCounts) (store : Store) (state : State) → Stopped s known old new lines lines' counts counts' state → Stops rule s known old new lines lines' counts counts' store state
+stops_reading rule status.SayFault known old new lines lines' counts counts' store state t = absurd t.ends
+stops_reading rule status.GroundFault known old new lines lines' counts counts' store state t = absurd t.ends
+stops_reading rule (status.DamagedRecord at) known old new lines lines' counts counts' store state t = absurd t.ends
+stops_reading rule (status.DamagedName at want got) known old new lines lines' counts counts' store state t = absurd t.ends
+stops_reading rule _ known old new lines lines' counts counts' store state t = t
 
 -- a session's end cut the command short
 pub ended_short : (end : SessionEnd) → is_cut_short (ended_status end) ≡ true
@@ -175,11 +177,11 @@ short_of rule status.Unfinished known old new line counts counts' state h = absu
 short_of rule status.Exists known old new line counts counts' state h = absurd h
 
 -- the line of a source
-pub stops_short : (rule : Rule) (s : Status) (known : Bool) (old new : Outside) (line read : Bytes) (lines lines' : Lines) (counts counts' : TurnCounts) (state : State) (left : Bytes) (read_faults : ℕ) → CutsShort rule s known old new read counts counts' state → read ≡ line
-    → Took old (told_as new left read_faults new.told new.counts) lines lines' line → read_faults ≡ new.read_faults → Stops rule s known old (told_as new left read_faults new.told new.counts) lines lines' counts counts' state
-stops_short rule s known old new line read lines lines' counts counts' state left read_faults h read_is took same = by_status s h
+pub stops_short : (rule : Rule) (s : Status) (known : Bool) (old new : Outside) (line read : Bytes) (lines lines' : Lines) (counts counts' : TurnCounts) (store : Store) (state : State) (left : Bytes) (read_faults : ℕ) → CutsShort rule s known old new read counts counts' state → read ≡ line
+    → Took old (told_as new left read_faults new.told new.counts) lines lines' line → read_faults ≡ new.read_faults → Stops rule s known old (told_as new left read_faults new.told new.counts) lines lines' counts counts' store state
+stops_short rule s known old new line read lines lines' counts counts' store state left read_faults h read_is took same = by_status s h
   where
-    whole : (s : Status) → is_cut_short s ≡ true → CutShort rule s known old new read counts counts' state → Unsaid rule s known old (told_as new left read_faults new.told new.counts) lines lines' counts counts' state
+    whole : (s : Status) → is_cut_short s ≡ true → CutShort rule s known old new read counts counts' state → Unsaid rule s known old (told_as new left read_faults new.told new.counts) lines lines' counts counts' store state
     whole s is_short u = record {
       exchange = u.exchange;
       took = subst (λ (l : Bytes). Took old (told_as new left read_faults new.told new.counts) lines lines' l) (sym (u.line_is ∙ read_is)) took;
@@ -188,12 +190,13 @@ stops_short rule s known old new line read lines lines' counts counts' state lef
       part = λ is. nothing_said _ _ _ (u.begun.files is).goes (u.quiet is);
       silent = λ is cut_off. refl;
       stands = λ is other. absurd (cc (other, is_short));
+      clear = λ is other. absurd (cc (other, is_short));
       turning = λ is order. turns_quietly old.told new.told _ state.repository u.exchange.after.repository (u.quiet is) (u.atomic is order);
       again = u.again;
       space = λ is cut_off order none slot live. u.space is order none slot live;
     }
 
-    by_status : (s : Status) → CutsShort rule s known old new read counts counts' state → Stops rule s known old (told_as new left read_faults new.told new.counts) lines lines' counts counts' state
+    by_status : (s : Status) → CutsShort rule s known old new read counts counts' state → Stops rule s known old (told_as new left read_faults new.told new.counts) lines lines' counts counts' store state
     by_status status.GroundFault h = whole status.GroundFault refl h
     by_status (status.DamagedRecord at) h = (whole (status.DamagedRecord at) refl h.0, h.1)
     by_status (status.DamagedName at want got) h = (whole (status.DamagedName at want got) refl h.0, h.1)

@@ -3,7 +3,7 @@
 --     writes_on      the files that change.      counts_work, work_falls      what is counted
 --     collects_of, collects_none      the whole of the call, and where nothing was done
 use Rattle.std.specs.Prelude.{◌⊎◌}
-use Rattle.std.proofs.Common.{◌≡◌, ◌≢◌, inl, inr, ℕ, ◌-◌, ◌^◌, ◌<◌, ◌≤◌, Bool, refl, sym, ap, ◌∙◌, subst, arith, IsTrue, None, Result, Ok, Err}
+use Rattle.std.proofs.Common.{◌≡◌, inl, inr, ℕ, ◌-◌, ◌^◌, ◌<◌, ◌≤◌, Bool, refl, sym, ◌∙◌, subst, arith, IsTrue, None, Result, Ok, Err}
 use Rattle.std.proofs.Math.Nat.{le_refl}
 use Rattle.std.proofs.lemmas.Bool.{cases_lt}
 use Rattle.ip_ground.specs.declared.names.FileName.{FileName}
@@ -11,7 +11,7 @@ use Rattle.ip_ground.specs.declared.names.FileName.TheVariants.{Control, Chunk, 
 use Rattle.ip_ground.specs.declared.names.GroundCounts.{GroundCounts}
 use Rattle.ip_ground.specs.Contents.{Content, Image}
 use Rattle.ip_ground.specs.Custody as custody
-use Rattle.ip_ground.specs.Custody.{Custody, own, IsOfAttempt}
+use Rattle.ip_ground.specs.Custody.{Custody, IsOfAttempt}
 use Rattle.ip_ground.specs.Counts.{Rose, FileFault, RemoveFault, NoneFalls}
 use Rattle.ip_ground.specs.Told.{Told, lending, IsForeign, IsLoose, KeepsPast, ChangesOnly, NoFile}
 use Rattle.ip_ground.proofs.Spans.{only_on, only_more, only_nowhere, lending_now}
@@ -21,13 +21,13 @@ use Rattle.ip_spawn.specs.declared.job.Job.{Job}
 use Rattle.ip_worker.specs.Faults.{CountsWork}
 use Rattle.ip_worker.specs.Steps.{IsFree}
 use Rattle.ip_worker.specs.Whole.{AreWhole}
-use Rattle.ip_worker.specs.Working.{NothingLent, WritesAttempt, DoneLast, Works}
+use Rattle.ip_worker.specs.Working.{NothingLent, WritesAttempt, Works}
 use Rattle.ip_worker.specs.declared.fault.WorkFault.{WorkFault}
 use Rattle.ip_worker.specs.declared.worker.Counts.{Counts}
 use Rattle.ip_app.specs.declared.statuses.Status.{Status}
 use Rattle.ip_app.specs.declared.statuses.Status.TheVariants as status
 use Rattle.ip_app.specs.Outside.{Outside, GoesOn, IsUnasked}
-use Rattle.ip_app.specs.Working.{worked_status, WorksAs, CountsWorking, Collects}
+use Rattle.ip_app.specs.Working.{worked_status, WorksAs, CountsWorking, RunsJob}
 use Rattle.ip_app.proofs.Counting.{risen, falls_same, spawns_itself}
 
 -- ---- where nothing was ever lent
@@ -138,7 +138,7 @@ ends_well worked s a b records job old new e works counted files removals = subs
     by_answer (Err WorkFault.Memory) w h = inr refl
 
 pub collects_of : (job : Job) (old new : Outside) (s : Status) → GoesOn old new → new.left ≡ old.left → new.read_faults ≡ old.read_faults → new.turns ≡ old.turns → IsUnasked old new → (IsTrue old.ground_tells → IsFree old.told job.attempt → WritesAttempt job old.told new.told)
-    → WorksAs old.ground_tells job old.told new.told s → CountsWorking s old.counts new.counts → Collects job old new s
+    → WorksAs old.ground_tells job old.told new.told s → CountsWorking s old.counts new.counts → RunsJob job old new s
 collects_of job old new s goes left reads turns unasked only works counted = record {
   goes_on = goes;
   left = left;
@@ -152,7 +152,7 @@ collects_of job old new s goes left reads turns unasked only works counted = rec
 }
 
 -- memory was wanting at once
-pub collects_none : (job : Job) (old : Outside) → Collects job old old status.Memory
+pub collects_none : (job : Job) (old : Outside) → RunsJob job old old status.Memory
 collects_none job old = collects_of job old old status.Memory
     (record { source_tells = refl; ground_tells = refl; spawner_tells = refl; log_tells = λ t. t; read_faults = le_refl old.read_faults; counts = falls_itself old.counts; spawns = spawns_itself old.spawns })
     refl refl refl (record { spawned = refl; held = refl; spawns = refl }) (λ tells free. only_nowhere old.told (IsOfAttempt job.attempt))

@@ -26,6 +26,7 @@ use Rattle.ip_merge.specs.Rules.{IsDecisive}
 use Rattle.ip_spec.specs.Line.{IsLineOf}
 use Rattle.ip_spec.specs.Script.{LineStep}
 use Rattle.ip_spec.specs.Text.{reply_text}
+use Rattle.ip_store.specs.Clear.{IsCleared, IsClearAt, KeepsClear}
 use Rattle.ip_store.specs.Collecting.{phase_of, child_of}
 use Rattle.ip_store.specs.Sweeping.{KeepsFiles}
 use Rattle.ip_session.specs.declared.session.Session.{Session}
@@ -111,7 +112,9 @@ pub record Exchanged (rule : Rule) (known : Bool) (old new : Outside) (counts co
   pub starts : IsTrue known → StartsAt s.store.slot s'.store.slot x
   pub hears : IsTrue known → HearsAt s.store.slot x
   pub goes_on_by : GoesOnBy x.started s.store.collection s'.store.collection
-  pub watches : IsTrue known → Watches old.told new.told (state_in s r v) s.store.collection s'.store.collection s.store.slot s'.store.slot x
+  pub watches : IsTrue known → Watches old.told new.told (state_in s r v) s.store.collection s'.store.collection s.store.slot s'.store.slot s.store.unswept x
+  -- what had been cleared away is so still
+  pub clear : IsTrue known → KeepsClear s.store s'.store old.told new.told
   pub happens : Happens (phase_of s.store.collection) x
   pub phase : x.after.phase ≡ phase_of s'.store.collection
   pub child : new.held ≡ child_of s'.store.collection
@@ -176,6 +179,8 @@ pub record Ran (rule : Rule) (decisive known : Bool) (exchanges : List Exchange)
   pub places : IsTrue known → Places rule slot (opened first) no_view exchanges session.store.slot view
   pub serving : IsServing session
   pub working : IsTrue known → IsWorking now.told session repository view
+  -- where nothing was left to be cleared when it began that its slot names as swept, nothing is that is not unswept
+  pub clear : IsTrue known → IsClearAt old.told → IsCleared session.store now.told
   pub nothing_pending : IsTrue known → NothingPending old.told → NothingPending now.told
   pub phases : AllHappen Phase.Idle exchanges
   pub phase : phase_of session.store.collection ≡ (after_all (opened first) exchanges).phase

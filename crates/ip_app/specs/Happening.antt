@@ -38,10 +38,12 @@ pub record HappensBy (command : Command) (phase : Phase) (x : Exchange) : Type 0
   pub kill : IsTrue x.turn.met.kill_failed → Rose x.turn.before.spawner.spawn_faults x.turn.after.spawner.spawn_faults
   -- of the removals of a sweep so many failed at least as are told
   pub left : MayReap command → RoseBy x.turn.met.left x.turn.before.remove_faults x.turn.after.remove_faults
+  -- and none failed in another command, or where none is told
+  pub none_left : (MayReap command → x.turn.met.left ≡ 0) → x.turn.after.remove_faults ≡ x.turn.before.remove_faults
 
 pub record Happens (phase : Phase) (x : Exchange) : Type 0 where
   pub command : (command : Command) → IsLineOf command x.line → HappensBy command phase x
-  pub none : ((command : Command) → ¬ IsLineOf command x.line) → (x.started ≡ []) × (x.reaped ≡ []) × (x.turn.after.spawner ≡ x.turn.before.spawner)
+  pub none : ((command : Command) → ¬ IsLineOf command x.line) → (x.started ≡ []) × (x.reaped ≡ []) × (x.turn.after.spawner ≡ x.turn.before.spawner) × (x.turn.after.remove_faults ≡ x.turn.before.remove_faults)
 
 abbrev pub AllHappen : Phase → List Exchange → Type 0
 AllHappen phase [] = Unit {0}

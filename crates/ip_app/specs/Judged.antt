@@ -5,7 +5,8 @@
 --     IsServedAs told answered image job      where what it wrote was accepted, what the files read as then
 --     IsJudgedAs told answered behind phase records job reaped x      what an exchange met of the child with this job is what it left, by these records
 --     IsSameFor job image other      the bytes that a child may read are the same.      ReadsSame told child until      so they are up to this moment.      IsHeldIn s      a child is held
---     Watches a b s before now slot slot' x      so of an exchange that began in this state, between what is told before it and behind its reply
+--     HasSweptIn x      a sweep was made behind it
+--     Watches a b s before now slot slot' unswept x      so of an exchange that began in this state, between what is told before it and behind its reply
 --     Watched old told said since s last x began answered image behind      and so of one in a run, by the moments at which it began and was answered, and what the files read as then
 --     AllWatched says old told said since s last exchanges end      so of each of them, where this is said of a reply before the next command begins
 --     texts_by says exchanges      all that is said so.      says_nothing      nothing is
@@ -18,13 +19,15 @@ use Rattle.ip_ground.specs.declared.names.FileName.TheVariants.{Mapping, Prefix}
 use Rattle.ip_ground.specs.declared.names.Reaped.{Reaped}
 use Rattle.ip_ground.specs.Contents.{Image}
 use Rattle.ip_ground.specs.Custody.{settled}
-use Rattle.ip_ground.specs.Told.{Told, said, IsPossible}
+use Rattle.ip_ground.specs.Told.{Told, said, lending, IsPossible}
 use Rattle.ip_spawn.specs.declared.job.Job.{Job}
+use Rattle.ip_spec.specs.declared.command.Command.{Command}
 use Rattle.ip_spec.specs.declared.met.Child.TheVariants as Child
 use Rattle.ip_spec.specs.declared.record.CommitRecord.{CommitRecord}
 use Rattle.ip_spec.specs.declared.record.Record.TheVariants as record_of
 use Rattle.ip_spec.specs.declared.reply.Reply.{Reply}
 use Rattle.ip_spec.specs.declared.reply.Reply.TheVariants as Reply
+use Rattle.ip_spec.specs.Line.{IsLineOf}
 use Rattle.ip_spec.specs.Machine.{State, Phase, Conditions, Verdict, Limit, verdict_on}
 use Rattle.ip_spec.specs.Path.{Bytes}
 use Rattle.ip_spec.specs.Step.{phase_at}
@@ -36,7 +39,10 @@ use Rattle.ip_image.specs.Pending.{HasLive, SameChunks, SameSpace, NothingPendin
 use Rattle.ip_image.specs.Slot.{layout_of}
 use Rattle.ip_image.specs.Standing.{MappingIs, StandsFor}
 use Rattle.ip_store.specs.declared.collection.Collection.{Collection}
+use Rattle.ip_store.specs.declared.collection.Unswept.{Unswept}
+use Rattle.ip_store.specs.Clear.{IsClear, IsClearAt, IsClearTo}
 use Rattle.ip_store.specs.Collecting.{phase_of, IsJobOf}
+use Rattle.ip_session.specs.Clearing.{SweepsBehind}
 use Rattle.ip_app.specs.Exchanges.{Exchange, conditions, after_all}
 
 -- by a command that was answered at this moment, when the files read as this
@@ -102,7 +108,11 @@ ReadsSame told child until = (t : ℕ) → child.from < t → t ≤ until → (i
 abbrev pub IsHeldIn : State → Type 0
 IsHeldIn s = (commit : ℕ) × (s.phase ≡ Phase.Collecting commit None)
 
-pub record Watches (a b : Told) (s : State) (before now : Option Collection) (slot slot' : Slot) (x : Exchange) : Type 0 where
+-- a sweep was made behind it
+abbrev pub HasSweptIn : Exchange → Type 0
+HasSweptIn x = (command : Command) × IsLineOf command x.line × SweepsBehind command x.reply
+
+pub record Watches (a b : Told) (s : State) (before now : Option Collection) (slot slot' : Slot) (unswept : Unswept) (x : Exchange) : Type 0 where
   pub phase : s.phase ≡ phase_of before
   pub phase_behind : x.after.phase ≡ phase_of now
   pub answered : ℕ
@@ -117,6 +127,8 @@ pub record Watches (a b : Told) (s : State) (before now : Option Collection) (sl
   pub stands_behind : StandsFor behind x.after.repository
   pub has_behind : HasLive slot' behind
   pub judged : (reaped : Reaped) → x.turn.met.child ≡ Child.Ended reaped → IsSomeAnd before (λ c. IsJudgedAs b answered behind s.phase stands.standing.records c.job reaped x)
+  -- where nothing was left to be cleared that is not unswept: behind a sweep that left nothing all is gone that no collection needs
+  pub clear : IsClearTo slot unswept a.held (lending a) → HasSweptIn x → x.turn.met.left ≡ 0 → IsClear slot' behind (b.lending_at answered)
   -- what a child may read stays while the command runs, and while its reply is said
   pub job : IfSome before (λ c. IsJobOf slot c.job)
   pub job_behind : IfSome now (λ c. IsJobOf slot' c.job)
@@ -139,6 +151,8 @@ pub record Watched (old told : Told) (said_before : Bytes) (since : ℕ) (s : St
   pub stands_behind : StandsFor behind x.after.repository
   -- a child that it met had been started in the run, and was the last
   pub judged : (reaped : Reaped) → x.turn.met.child ≡ Child.Ended reaped → IsSomeAnd last (λ child. IsJudgedAs told answered behind s.phase stands.standing.records child.job reaped x)
+  -- Where nothing was left to be cleared when the run began that its slot names as swept: behind a sweep that left nothing all is gone that no collection needs.
+  pub clear : IsClearAt old → HasSweptIn x → x.turn.met.left ≡ 0 → (slot : Slot) → HasLive slot behind → IsClear slot behind (told.lending_at answered)
   -- where nothing was pending at first: a child that is held reads what there was at its start, until it is heard to have ended, or was killed
   pub reads : NothingPending old → IsHeldIn s → IsSomeAnd last (λ child. ReadsSame told child began × (((reaped : Reaped) → x.turn.met.child ≢ Child.Ended reaped) → ReadsSame told child answered))
 

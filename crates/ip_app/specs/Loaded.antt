@@ -2,7 +2,7 @@
 --     IsLoadRoom room      there is room for each line, and for the replies that take no memory
 --     QuietRun      the moments so far: nothing was said.      Loaded      so far: the lines that were run, and what came of them
 --     Summed      `stat` was run, and the summary said with its reply, or a part of the two.      FinishesLoad      so, or it was cut short
-use Rattle.std.specs.Prelude.{ℕ, ◌+◌, ◌<◌, ◌≤◌, ◌≡◌, Bool, IsTrue, List, [], ◌∷◌, ◌++◌, length, map, codes}
+use Rattle.std.specs.Prelude.{ℕ, ◌+◌, ◌<◌, ◌≤◌, ◌≡◌, Bool, IsTrue, List, [], ◌++◌, length, map, codes}
 use Rattle.std.specs.Vec.{vec_capacity}
 use Rattle.ip_ground.specs.Contents.{Image, Possible}
 use Rattle.ip_ground.specs.Told.{Told, said}

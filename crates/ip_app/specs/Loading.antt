@@ -5,7 +5,7 @@
 --     SaysSummary      what was said in the end
 --     LoadReplies, LoadReopens      its replies, and what its files stand for.      Loads      one record for the call
 --     LoadsWhereAllIsWell      which statuses need a fault
-use Rattle.std.specs.Prelude.{ℕ, ◌<◌, ◌≤◌, ◌≡◌, ◌≢◌, ◌⊎◌, Bool, true, false, IsTrue, List, [], ◌∷◌, ◌++◌, length, map, take, drop, codes}
+use Rattle.std.specs.Prelude.{ℕ, ◌<◌, ◌≤◌, ◌≡◌, ◌≢◌, ◌⊎◌, Bool, false, IsTrue, List, [], ◌∷◌, ◌++◌, length, map, take, drop, codes}
 use Rattle.ip_ground.specs.Contents.{Image, Possible}
 use Rattle.ip_ground.specs.Told.{Told, said}
 use Rattle.ip_image.specs.declared.slot.Slot.{Slot}
@@ -19,6 +19,7 @@ use Rattle.ip_spec.specs.Load.{load_lines, summary}
 use Rattle.ip_spec.specs.Machine.{State, opened}
 use Rattle.ip_spec.specs.Script.{Answered, state_after}
 use Rattle.ip_spec.specs.declared.reply.Reply.{Reply}
+use Rattle.ip_store.specs.Clear.{IsClearAt}
 use Rattle.ip_store.specs.Sweeping.{KeepsFiles}
 use Rattle.ip_app.specs.declared.statuses.Status.{Status}
 use Rattle.ip_app.specs.Exchanges.{Exchange, answer_of, Run, lines_in, texts_in, after_all}
@@ -26,7 +27,7 @@ use Rattle.ip_app.specs.Exchanging.{is_cut_short}
 use Rattle.ip_app.specs.Judged.{WatchedIn, says_nothing}
 use Rattle.ip_app.specs.Places.{PlacesIn}
 use Rattle.ip_app.specs.Outside.{Outside, Tells, Knows, GoesOn}
-use Rattle.ip_app.specs.Run.{Begins, IsBehindOpening, IsUntouched, Row, Notes, AsksChildren, NoneRose}
+use Rattle.ip_app.specs.Run.{Begins, IsBehindOpening, Row, Notes, AsksChildren, NoneRose}
 
 abbrev pub load_script : ℕ → ℕ → List Bytes
 load_script seed count = load_lines seed count ++ codes "stat" ∷ []
@@ -82,6 +83,8 @@ pub record LoadReopens (decisive : Bool) (count : ℕ) (old new : Outside) (stat
   pub again : IsTrue old.ground_tells → IsTrue decisive → MayServe old.told → MayServe new.told
   -- in the end the files stand for the repository after all of them, unless a fault of the ground or of its files cut the last one short
   pub stands : Knows decisive old → is_cut_short status ≡ false → StandsFor old.told.held first.repository → StandsFor new.told.held (after_all first exchanges).repository
+  -- Nothing is held then of what the live slot names as swept, where nothing was when the call began. A crash may bring a removed file back, and so may a fault that cut the last command short.
+  pub clear : Knows decisive old → is_cut_short status ≡ false → IsClearAt old.told → IsClearAt new.told
   -- of the files that are no chunk and not the control file none is written but by a child: it stays or is removed
   pub files : Knows decisive old → KeepsFiles old.told new.told
 

@@ -26,6 +26,7 @@ use Rattle.ip_store.specs.declared.opening.OpenFault.{OpenFault}
 use Rattle.ip_store.specs.declared.store.Store.{Store}
 use Rattle.ip_store.specs.Opening.{RecoversOnceOpen}
 use Rattle.ip_store.specs.Store.{IsOf, OwnsLive, Holds}
+use Rattle.ip_store.specs.Clear.{IsCleared, IsClearAt}
 use Rattle.ip_store.specs.Sweeping.{KeepsFiles}
 use Rattle.ip_spawn.specs.declared.spawner.SpawnCounts.{SpawnCounts}
 use Rattle.ip_app.specs.declared.statuses.Status.{Status}
@@ -63,6 +64,8 @@ pub record OpensAs (tells : Bool) (old new : Told) (store : Store) : Type 0 wher
   pub tables : IsOf store repository
   pub holds : IsTrue tells → OwnsLive old → Holds store new repository
   pub stands : IsTrue tells → OwnsLive old → StandsFor old.held repository
+  -- what its slot names as swept was cleared away
+  pub clear : IsTrue tells → OwnsLive old → IsClearAt old → IsCleared store new
   pub opening : IsTrue tells → RecoversOnceOpen old new
   pub over : (told : IsTrue tells) → OwnsLive old → (opening told).since ≤ new.moment
 
@@ -166,6 +169,8 @@ pub record Reopens (decisive : Bool) (old new : Outside) (status : Status) (exch
   pub again : IsTrue old.ground_tells → IsTrue decisive → MayServe old.told → MayServe new.told
   -- in the end the files stand for the repository after all of them, unless a fault of the ground or of its files cut the last one short
   pub stands : Knows decisive old → is_cut_short status ≡ false → StandsFor old.told.held first.repository → StandsFor new.told.held (after_all first exchanges).repository
+  -- Nothing is held then of what the live slot names as swept, where nothing was when the call began. A crash may bring a removed file back, and so may a fault that cut the last command short.
+  pub clear : Knows decisive old → is_cut_short status ≡ false → IsClearAt old.told → IsClearAt new.told
   -- of the files that are no chunk and not the control file none is written but by a child: it stays or is removed
   pub files : Knows decisive old → KeepsFiles old.told new.told
 
@@ -237,6 +242,7 @@ pub record IsMade (chunk : ℕ) (old new : Told) : Type 0 where
   pub fresh : IsFresh chunk new.held
   pub kept : IsSynced new Control
   pub stands : EachImageNow new (λ image. StandsFor image no_repository)
+  pub clear : IsClearAt new
   pub nothing_pending : ((attempt : ℕ) → lending old attempt ≡ own) → NothingPending new
 
 -- a slot was open, and nothing was changed

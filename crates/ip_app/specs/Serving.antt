@@ -7,7 +7,7 @@ use Rattle.std.specs.Prelude.{ℕ, ◌+◌, ◌≤◌, ◌≡◌, ◌≢◌, Boo
 use Rattle.ip_ground.specs.declared.names.GroundCounts.{GroundCounts}
 use Rattle.ip_ground.specs.Counts.{FileFault, SayFault}
 use Rattle.ip_ground.specs.declared.names.Reaped.{Reaped}
-use Rattle.ip_ground.specs.Told.{said}
+use Rattle.ip_ground.specs.Told.{said, lending}
 use Rattle.ip_image.specs.declared.counts.TurnCounts.{TurnCounts}
 use Rattle.ip_image.specs.Standing.{StandsFor}
 use Rattle.ip_image.specs.declared.slot.Slot.{Slot}
@@ -21,6 +21,8 @@ use Rattle.ip_spec.specs.Repository.{Repository}
 use Rattle.ip_spec.specs.View.{View}
 use Rattle.ip_spec.specs.Script.{whole_lines}
 use Rattle.ip_spec.specs.Text.{reply_text}
+use Rattle.ip_store.specs.declared.store.Store.{Store}
+use Rattle.ip_store.specs.Clear.{IsCleared, IsClearAt}
 use Rattle.ip_store.specs.Sweeping.{KeepsFiles}
 use Rattle.ip_session.specs.declared.session.Session.{Session}
 use Rattle.ip_app.specs.declared.statuses.Status.{Status}
@@ -67,6 +69,8 @@ pub record Stopped (status : Status) (known : Bool) (old new : Outside) (lines l
   pub cause : IsCaused status old.read_faults new.read_faults
   pub same_said : said new.told ≡ said old.told
   pub same_moment : new.told.moment ≡ old.told.moment
+  pub same_held : new.told.held ≡ old.told.held
+  pub same_lending : lending new.told ≡ lending old.told
   pub nothing_pending : NothingPending old.told → NothingPending new.told
   pub same_turns : new.turns ≡ old.turns
   pub same_counts : counts' ≡ counts
@@ -81,7 +85,7 @@ CountsOf _ old new = new ≡ old
 
 -- The line was the last: its reply was not said, or only a part of it. Of a command that a fault of the ground or of its
 -- files cuts short, the reply and the state are those that it has where none of its writes fails.
-pub record Unsaid (rule : Rule) (status : Status) (known : Bool) (old new : Outside) (lines lines' : Lines) (counts counts' : TurnCounts) (state : State) : Type 0 where
+pub record Unsaid (rule : Rule) (status : Status) (known : Bool) (old new : Outside) (lines lines' : Lines) (counts counts' : TurnCounts) (store : Store) (state : State) : Type 0 where
   pub exchange : Exchange
   pub took : Took old new lines lines' exchange.line
   pub begun : Begun rule known old new counts counts' state exchange
@@ -91,17 +95,19 @@ pub record Unsaid (rule : Rule) (status : Status) (known : Bool) (old new : Outs
   -- a command that was cut short says nothing
   pub silent : (is : IsTrue known) → is_cut_short status ≡ true → (part is).0 ≡ []
   pub stands : IsTrue known → is_cut_short status ≡ false → StandsFor new.told.held exchange.after.repository
+  -- what had been cleared away is so still, but behind a command that was cut short
+  pub clear : IsTrue known → is_cut_short status ≡ false → IsCleared store old.told → IsClearAt new.told
   pub turning : IsTrue known → NothingPending old.told → Turning old.told new.told (reply_text exchange.reply) state.repository exchange.after.repository
   pub again : IsTrue known → NothingPending old.told → MayServe new.told
   -- what a child may read stays while a command is cut short that did not hear of its end
   pub space : IsTrue known → is_cut_short status ≡ true → NothingPending old.told → ((reaped : Reaped) → exchange.turn.met.child ≢ Child.Ended reaped) → (slot : Slot) → HasLive slot old.told.held → KeepsSpace slot old.told new.told
 
-abbrev pub Stops : Rule → Status → (known : Bool) → Outside → Outside → Lines → Lines → TurnCounts → TurnCounts → State → Type 0
-Stops rule Status.SayFault known old new lines lines' counts counts' state = Unsaid rule Status.SayFault known old new lines lines' counts counts' state
-Stops rule Status.GroundFault known old new lines lines' counts counts' state = Unsaid rule Status.GroundFault known old new lines lines' counts counts' state
-Stops rule (Status.DamagedRecord at) known old new lines lines' counts counts' state = Unsaid rule (Status.DamagedRecord at) known old new lines lines' counts counts' state × (¬ IsTrue known)
-Stops rule (Status.DamagedName at want got) known old new lines lines' counts counts' state = Unsaid rule (Status.DamagedName at want got) known old new lines lines' counts counts' state × (¬ IsTrue known)
-Stops rule status known old new lines lines' counts counts' state = Stopped status known old new lines lines' counts counts' state
+abbrev pub Stops : Rule → Status → (known : Bool) → Outside → Outside → Lines → Lines → TurnCounts → TurnCounts → Store → State → Type 0
+Stops rule Status.SayFault known old new lines lines' counts counts' store state = Unsaid rule Status.SayFault known old new lines lines' counts counts' store state
+Stops rule Status.GroundFault known old new lines lines' counts counts' store state = Unsaid rule Status.GroundFault known old new lines lines' counts counts' store state
+Stops rule (Status.DamagedRecord at) known old new lines lines' counts counts' store state = Unsaid rule (Status.DamagedRecord at) known old new lines lines' counts counts' store state × (¬ IsTrue known)
+Stops rule (Status.DamagedName at want got) known old new lines lines' counts counts' store state = Unsaid rule (Status.DamagedName at want got) known old new lines lines' counts counts' store state × (¬ IsTrue known)
+Stops rule status known old new lines lines' counts counts' store state = Stopped status known old new lines lines' counts counts' state
 
 pub record Served (rule : Rule) (decisive : Bool) (old now : Outside) (lines : Lines) (counts : TurnCounts) (session : Session) : Type 0 where
   pub known : Bool

@@ -1,8 +1,8 @@
 -- What a call does that collects, as the child of a collection.
 --     worked_status worked      the status of what the collector answered.      WorksAs      it is that, over what was told
 --     CountsWorking status old new      the faults that are counted then
---     Collects job old new status      from what is told when it begins to what is told when it returns
-use Rattle.std.specs.Prelude.{◌≡◌, ◌⊎◌, ◌≤◌, ℕ, Bool, IsTrue, Result, Ok, Err}
+--     RunsJob job old new status      from what is told when it begins to what is told when it returns
+use Rattle.std.specs.Prelude.{◌≡◌, ◌⊎◌, Bool, IsTrue, Result, Ok, Err}
 use Rattle.ip_ground.specs.declared.names.GroundCounts.{GroundCounts}
 use Rattle.ip_ground.specs.Counts.{Rose, FileFault, RemoveFault}
 use Rattle.ip_ground.specs.Told.{Told}
@@ -32,7 +32,7 @@ abbrev pub CountsWorking : Status → GroundCounts → GroundCounts → Type 0
 CountsWorking Status.GroundFault old new = FileFault old new ⊎ RemoveFault old new
 CountsWorking _ old new = new ≡ old
 
-pub record Collects (job : Job) (old new : Outside) (status : Status) : Type 0 where
+pub record RunsJob (job : Job) (old new : Outside) (status : Status) : Type 0 where
   pub goes_on : GoesOn old new
   pub left : new.left ≡ old.left
   pub read_faults : new.read_faults ≡ old.read_faults

@@ -10,7 +10,7 @@ ghost use Rattle.ip_image.specs.Slot.{IsChunkSize};
 ghost use Rattle.ip_words.specs.Words.{Asked, making, serving, working, loading, Asks, AsksNothing, texts_of};
 ghost use Rattle.ip_app.specs.Loading.{Loads, LoadsWhereAllIsWell};
 ghost use Rattle.ip_app.specs.Outside.{outside};
-ghost use Rattle.ip_app.specs.Working.{Collects};
+ghost use Rattle.ip_app.specs.Working.{RunsJob};
 ghost use Rattle.ip_app.specs.Serving.{CountsOf};
 ghost use Rattle.ip_app.specs.Run.{init_status, InitRow, Inits, Serves, EndsAsBytes, EndsWhereAllIsWell, LeavesAll};
 
@@ -91,7 +91,7 @@ pub fn run<S: Source, G: Ground, P: Spawner, D: Decides, L: Log>(
         EndsWhereAllIsWell (told source.old ground.old spawner.old log.old) (told source.new ground.new spawner.new log.new) result }
     ensures worker { let told = outside S.tells S.left S.read_faults G.tells G.told G.counts_of P.tells P.told P.held P.counts_of L.tells L.turns in
         (folder : Bytes) (job : Job) → Asks (texts_of words.now) (working folder job) →
-        Collects job (told source.old ground.old spawner.old log.old) (told source.new ground.new spawner.new log.new) result }
+        RunsJob job (told source.old ground.old spawner.old log.old) (told source.new ground.new spawner.new log.new) result }
     ensures load { let told = outside S.tells S.left S.read_faults G.tells G.told G.counts_of P.tells P.told P.held P.counts_of L.tells L.turns in
         (folder : Bytes) (seed count : ℕ) → Asks (texts_of words.now) (loading folder seed count) → (decisive : Bool) → (IsTrue decisive → IsDecisive (D.rule rules.now)) →
         Loads (D.rule rules.now) decisive seed count (told source.old ground.old spawner.old log.old) (told source.new ground.new spawner.new log.new) result }

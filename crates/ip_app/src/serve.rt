@@ -84,7 +84,7 @@ impl LineRoom {
             OnOk result (TurnedIn (D.rule rules.now) known (told source.old ground.old spawner.old log.old) (told source.new ground.new spawner.new log.new) self.old.lines self.new.lines counts.old counts.new session.old session.new r v) }
         ensures stops { let told = outside S.tells S.left S.read_faults G.tells G.told G.counts_of P.tells P.told P.held P.counts_of L.tells L.turns in
             (known : Bool) (r : Repository) (v : View) → (IsTrue known → Works (D.rule rules.now) G.tells (G.told ground.old) session.old r v) →
-            IfErr result (λ status. Stops (D.rule rules.now) status known (told source.old ground.old spawner.old log.old) (told source.new ground.new spawner.new log.new) self.old.lines self.new.lines counts.old counts.new (state_in session.old r v)) }
+            IfErr result (λ status. Stops (D.rule rules.now) status known (told source.old ground.old spawner.old log.old) (told source.new ground.new spawner.new log.new) self.old.lines self.new.lines counts.old counts.new session.old.store (state_in session.old r v)) }
     {
         self.line.clear();
         self.text.clear();

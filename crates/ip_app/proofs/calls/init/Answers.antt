@@ -29,6 +29,7 @@ init_row chunk made s tells old mid new e only makes = subst (λ (t : Status). I
       fresh = (m told).made;
       kept = (m told).kept;
       stands = (m told).stands;
+      clear = (m told).clear;
       nothing_pending = λ none. (m told).nothing_pending (λ attempt. lending_now old mid (only told).goes attempt ((only told).lending attempt) ∙ none attempt);
     }
     by_answer (Err InitFault.Existing) m = λ told. record {

@@ -17,7 +17,7 @@ use Rattle.ip_app.specs.declared.statuses.Status.TheVariants as status
 use Rattle.ip_app.specs.Outside.{Outside}
 use Rattle.ip_app.specs.Loading.{LoadRow, Loads}
 use Rattle.ip_app.specs.Run.{Inits, Row, Serves}
-use Rattle.ip_app.specs.Working.{worked_status, Collects}
+use Rattle.ip_app.specs.Working.{worked_status, RunsJob}
 use Rattle.ip_app.proofs.LoadLemmas.{loads_unopened, load_ends}
 use Rattle.ip_app.proofs.WorkLemmas.{collects_of, collects_none}
 use Rattle.ip_app.proofs.Counting.{spawns_itself}
@@ -176,8 +176,8 @@ same_job : (folder other : Bytes) (job want : Job) → working folder job ≡ wo
 unfolding job_of
 same_job folder other job want e = let s : Some job ≡ Some want = ap job_of e in cc s
 
-collects_with : (job want : Job) (old new : Outside) (s : Status) → job ≡ want → Collects job old new s → Collects want old new s
-collects_with job want old new s e h = subst (λ (j : Job). Collects j old new s) e h
+collects_with : (job want : Job) (old new : Outside) (s : Status) → job ≡ want → RunsJob job old new s → RunsJob want old new s
+collects_with job want old new s e h = subst (λ (j : Job). RunsJob j old new s) e h
 
 pub returns-in-Worker-clause-worker : goal.returns-in-Worker-clause-worker
 returns-in-Worker-clause-worker g c folder job asks =

@@ -50,7 +50,8 @@ returns-in-Ok-clause-replied g c source_tells left read_faults known r v works =
             (heard_by (g.D.Decides.rule c.args.rules.now) s s' (state_in s r v) after line went.0.2 answered.0 asked.jobs asked.ends _ _ asked.asked gone.gives)
             (λ reaped ended. (concluded_line (g.D.Decides.rule c.args.rules.now) (state_in s r v) (conditions_with s'.met went.0.2) reaped ended answered.0 after line gone.gives).0)
             (λ held reaped ended. unheld (g.D.Decides.rule c.args.rules.now) (state_in s r v) (conditions_with s'.met went.0.2) reaped ended answered.0 after line gone.gives held)
-            gone.judged gone.settled gone.space gone.nothing_pending went.0.0 went.0.1 refl gone.working;
+            gone.judged gone.settled (let w = works is in (answered.4 w.0 w.2 r v w.1).2) gone.space gone.nothing_pending went.0.0 went.0.1 refl gone.working;
+        clear = λ is. let w = works is in (answered.4 w.0 w.2 r v w.1).2.keeps;
         happens = happens_of s s' answered.0 went.0.2 asked.jobs asked.ends _ _ _ _ _ line line c.met.result c.args.counts.now c.turn_counts.result refl c.met.ensures c.requires.counted counted asked.asked answered.3;
         phase = refl;
         child = c.answer-answered.ensures.child;

@@ -1,4 +1,3 @@
-use Rattle.std.proofs.Common.{refl, ◌≡◌, subst}
 use Rattle.ip_app.proofs.SummaryLemmas.{says_longer, says_both}
 use Rattle.ip_app.proofs.load.say_both.Goals as goal
 

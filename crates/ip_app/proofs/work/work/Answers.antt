@@ -1,4 +1,4 @@
-use Rattle.std.proofs.Common.{rules, ◌≡◌, inl, ◌-◌, ◌^◌, ◌≤◌, refl, sym, ◌∙◌, subst}
+use Rattle.std.proofs.Common.{rules, inl, ◌-◌, ◌^◌, ◌≤◌, sym, ◌∙◌, subst}
 use Rattle.ip_ground.specs.declared.names.GroundCounts.{GroundCounts}
 use Rattle.ip_app.proofs.Counting.{attach_counts, attached_same}
 use Rattle.ip_app.proofs.WorkLemmas.{writes_first, writes_on, works_refused, works_as, counts_work, work_falls}

@@ -1,5 +1,4 @@
-use Rattle.std.proofs.Common.{rules, ◌≡◌, refl, sym, ◌∙◌, subst}
-use Rattle.ip_session.specs.Session.{state_in}
+use Rattle.std.proofs.Common.{◌∙◌}
 use Rattle.ip_app.proofs.SummaryLemmas.{finish_cut, summed_done, summed_fault}
 use Rattle.ip_app.proofs.load.LoadRoom.finish.Goals as goal
 

@@ -1,4 +1,4 @@
-use Rattle.std.proofs.Common.{◌≡◌, ◌∙◌}
+use Rattle.std.proofs.Common.{◌∙◌}
 use Rattle.ip_session.specs.Session.{state_in}
 use Rattle.ip_app.proofs.SummaryLemmas.{cut_along, replied_along, line_written}
 use Rattle.ip_app.proofs.load.LoadRoom.turn.Goals as goal
