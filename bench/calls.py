@@ -1,6 +1,6 @@
 #!/usr/bin/env python3
 """Each call of the system that a run with collections makes, one after the other, fails or is where the run is killed: in the program, and in
-the child that it starts.
+the child that it starts. And each allocation of the program fails.
 
     bench/calls.py [PROGRAM] [--folder DIR] [--only NAME ..] [--every N]
 
@@ -11,9 +11,13 @@ be one of that call; opened again, the store must hold what the model does after
 must be collected once more, behind which the folder holds what is served and nothing else. Where it is the child's call, `finish` must be
 answered `rejected exit 7`, or `signal` where it was killed, and the next collection in the same run must end well.
 
+Of an allocation, which a small library makes fail where there is a `cc`, the line is answered `memory`, or as it is without, or the run ends:
+with status 5 in opening, 7 in a call on files, 8 in reading the script.
+
 Exit status 0, or 1 with the folder kept.
 """
 
+import collections
 import os
 import re
 import shutil
@@ -42,6 +46,12 @@ PROGRAM_CALLS = {"pwrite64": 7, "fsync": 7, "openat": 7, "pread64": 7, "unlink":
 
 # Those of the child.
 CHILD_CALLS = ("pwrite64", "fsync", "openat", "pread64", "unlink")
+
+# The lines that may want memory.
+MAY_WANT = ("set", "commit", "collect", "finish", "branch", "branch-rm")
+
+# How a run ends of which an allocation failed: in opening, in a call on files, in reading the script; or it goes on.
+WANTING = (0, 5, 7, 8)
 
 # How a call fails.
 FAULTS = {"pwrite64": "ENOSPC", "clone3": "EAGAIN", "wait4": "ECHILD"}
@@ -90,6 +100,8 @@ def children_ended(folder):
 
 def takes(model, line, reply):
     """Whether a line may be answered so where a call may have failed; it is done as that says."""
+    if reply == "memory":
+        return line.split(" ")[0] in MAY_WANT
     if reply == "start-fault" and line.startswith("collect ") or reply == "wait-fault" and line == "finish":
         return True
     if reply == "cancelled orphan" and line == "cancel":
@@ -271,6 +283,39 @@ def try_all_of_child(given, base):
     try_each(given, "child", CHILD_CALLS, found, lambda name, nth, how: try_child(given, base, name, nth, how))
 
 
+# Allocations
+
+
+def run_wanting(given, base, library, nth):
+    """The run of which the allocation of this number fails, over a new store: its status, what was said, and how many allocations there were."""
+    folder, told = common.new_folder(base, "store"), os.path.join(base, "log")
+    common.init(given.program, folder, chunk=4096)
+    status, replies, error = run_program(given, folder, ["env", f"LD_PRELOAD={library}", f"FAIL_AT={nth}", f"TOLD={told}"])
+    if status not in WANTING or status == 0 and len(replies) != len(LINES):
+        raise Wrong(f"the status is {status} behind {len(replies)} replies: {error!r}")
+    children_ended(folder)
+    goes_on(given.program, folder, followed(replies))
+    shutil.rmtree(folder)
+    with open(told) as file:
+        return status, replies, int(file.read())
+
+
+def try_allocations(given, base):
+    """Each allocation of the program."""
+    library = os.path.join(base, "allocations.so")
+    subprocess.run(["cc", "-O1", "-shared", "-fPIC", "-o", library, os.path.join(common.HERE, "allocations.c"), "-ldl"], check=True)
+    status, replies, count = run_wanting(given, base, library, 0)
+    if status or "memory" in replies:
+        raise Wrong(f"the run that is only counted ends with status {status}")
+    ends = collections.Counter()
+    for nth in range(1, count + 1, given.every):
+        def act():
+            status, replies, _ = run_wanting(given, base, library, nth)
+            ends["memory" if "memory" in replies else f"status {status}"] += 1
+        trying(f"the allocation of number {nth}", act)
+    print(f"ok    of {count} allocations each that was tried failed alone: {', '.join(f'{end} {n} times' for end, n in sorted(ends.items()))}")
+
+
 def main():
     parser = common.options(__doc__)
     parser.add_argument("--only", nargs="+", metavar="NAME", help="calls of these names alone")
@@ -281,6 +326,8 @@ def main():
         try:
             try_all_of_program(given, base)
             try_all_of_child(given, base)
+            if shutil.which("cc") and not given.only:
+                try_allocations(given, base)
         except Wrong as wrong:
             print(f"FAIL  {wrong}\n  the folder is {base}")
             sys.exit(1)
