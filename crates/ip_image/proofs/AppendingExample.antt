@@ -11,7 +11,8 @@ use Rattle.ip_spec.specs.declared.record.Record.{Record}
 use Rattle.ip_spec.specs.Tree as Tree
 use Rattle.ip_spec.specs.Tree.{Tree, IsTree}
 use Rattle.ip_spec.specs.Shape.{shape_runs}
-use Rattle.ip_spec.specs.Batch.{KnownStand, batch_runs}
+use Rattle.ip_spec.specs.Batch.{KnownStand, sources, batch, batch_end, batch_runs}
+use Rattle.ip_spec.proofs.BatchLaws.{sources_stand}
 use Rattle.ip_spec.specs.TreeAt.{present}
 use Rattle.ip_spec.specs.Repository.{no_repository}
 use Rattle.ip_spec.specs.Step.{new_commit, with_commit, step_runs}
@@ -20,7 +21,7 @@ use Rattle.ip_image.specs.Slot.{layout_of, fresh, fresh_control}
 use Rattle.ip_image.specs.Standing.{StandsFor, IsServedKind}
 use Rattle.ip_image.specs.Collection.{image_runs}
 use Rattle.ip_image.specs.Pending.{HasLive}
-use Rattle.ip_image.specs.Appending.{SameGeneration, AddsBytes, unread, MayGrow, fields_of, grown_batch, grown_end, bytes_of_records, AreWithin}
+use Rattle.ip_image.specs.Appending.{SameGeneration, AddsBytes, unread, MayGrow, fields_of, bytes_of_records, AreWithin}
 use Rattle.ip_image.proofs.InChunk.{chunk_lies, lies_below, first_chunk_byte}
 use Rattle.ip_image.proofs.FreshLaws.{fresh_stands, is_live}
 use Rattle.ip_image.proofs.AppendingLaws.{stands_grown}
@@ -84,11 +85,11 @@ first_known : KnownStand (present starts.standing.records) (unread tree) 0
 first_known = nothing_known (present starts.standing.records) tree 0
     (λ at r is. lies_below fresh_image (layout_of (fresh 4096)) (lit≤ tt) starts.standing.records (chunk_lies fresh_image (fresh 4096) fresh_live starts.standing) at r is)
 
-the_batch : grown_batch (unread tree) (fields_of no_repository [] info (codes "main")) 0 ≡ records
+the_batch : batch (unread tree) (sources (unread tree)) (fields_of no_repository [] info (codes "main")) 0 ≡ records
 unfolding batch_runs image_runs step_runs
 the_batch = refl
 
-the_end : grown_end (unread tree) (fields_of no_repository [] info (codes "main")) 0 ≡ 144
+the_end : batch_end (unread tree) (sources (unread tree)) (fields_of no_repository [] info (codes "main")) 0 ≡ 144
 unfolding batch_runs image_runs step_runs
 the_end = refl
 
@@ -119,6 +120,7 @@ pub same_generation : (sequence end next : ℕ) → SameGeneration (fresh 4096) 
 same_generation sequence end next = record { version = refl; chunk = refl; horizon = refl; floor = refl; live = refl; prefix_len = refl; rows = refl }
 
 the_next_image_by_the_law : StandsFor image (with_commit no_repository (new_commit no_repository tree [] info) (codes "main"))
-the_next_image_by_the_law = (stands_grown fresh_image image no_repository (fresh 4096) slot (unread tree) [] info (codes "main") starts fresh_live may_grow first_known
+the_next_image_by_the_law = (stands_grown fresh_image image no_repository (fresh 4096) slot (unread tree) (sources (unread tree)) [] info (codes "main") starts fresh_live may_grow first_known
+    (sources_stand (present starts.standing.records) (unread tree) 0 first_known)
     (subst (AreWithin 1) (sym the_batch) within) after_live (same_generation 2 144 1) (sym the_end) refl
     (subst (λ (bytes : Bytes). AddsBytes (fresh 4096) bytes fresh_image image) (sym (ap bytes_of_records the_batch ∙ the_bytes)) adds)).0

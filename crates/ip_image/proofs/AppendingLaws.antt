@@ -20,15 +20,15 @@ use Rattle.ip_spec.specs.Path.{Bytes, bytes_cmp}
 use Rattle.ip_spec.specs.Record.{Names, Fits, kind_of, spelling, spelling_of}
 use Rattle.ip_spec.specs.TreeAt.{Records, present, TreeAt}
 use Rattle.ip_spec.specs.View.{View}
-use Rattle.ip_spec.specs.Batch.{CommitFields, Sources, AreEndToEnd, KnownStand, SourcesStand, sources, batch, batch_end}
+use Rattle.ip_spec.specs.Batch.{CommitFields, Sources, AreEndToEnd, KnownStand, SourcesStand, batch, batch_end}
 use Rattle.ip_spec.specs.Repository.{Repository, Commit, next}
 use Rattle.ip_spec.specs.Step.{new_commit, with_commit}
 use Rattle.ip_spec.proofs.TreeAtLaws.{more_part}
-use Rattle.ip_spec.proofs.BatchLaws.{batch_lies, sources_stand}
+use Rattle.ip_spec.proofs.BatchLaws.{batch_lies}
 use Rattle.ip_spec.proofs.Widths.{none_wider}
 use Rattle.ip_image.specs.Slot.{Slot, IsSlot, layout_of}
 use Rattle.ip_image.specs.Standing.{Terms, RecordFits, IsServedKind, IsGood, AreGood, commit_of, commits_in, names_after, named, AreRetained, WholeFits, Spells, terms_of, may_be_outside}
-use Rattle.ip_image.specs.Appending.{SameGeneration, MayGrow, fields_of, grown_batch, AreWithin, StandsStill, StandsGrown}
+use Rattle.ip_image.specs.Appending.{SameGeneration, MayGrow, fields_of, AreWithin, StandsStill, StandsGrown}
 use Rattle.ip_image.proofs.OneRepository.{zero_or_not}
 use Rattle.ip_image.proofs.InChunk.{LiesIn, lies_on, lies_above, InChunk, in_chunk, same_in_chunk, stands_by, same_standing}
 use Rattle.ip_image.proofs.TreeParts.{all_left, all_right, IsTreePart, AreTreeParts}
@@ -308,17 +308,17 @@ module _ (s : Slot) (fields : IsSlot s) (image : Image) (r : Repository) (chunk 
       records_after = refl
 
 pub stands_grown : StandsGrown
-stands_grown image other r s t v parents info branch stands live may known within live' same ends next adds =
+stands_grown image other r s t v from parents info branch stands live may known stand within live' same ends next adds =
     let f = fields_of r parents info branch in
     let q = with_commit r (new_commit r v.map parents info) branch in
     let chunk = in_chunk image s live r stands in
     let same_records : chunk.records ≡ stands.standing.records = same_in_chunk image s live r stands in
     let known : KnownStand (present chunk.records) v s.end = subst (λ (rs : Records). KnownStand (present rs) v s.end) (sym same_records) known in
-    let stand = sources_stand (present chunk.records) v s.end known in
-    let lies = lies_on s t image other live.live.fields.none_live.0 same chunk.records (grown_batch v f s.end) chunk.lies (subst (AreEndToEnd s.end (grown_batch v f s.end)) (sym ends) (batch_lies v (sources v) f s.end)) adds in
-    let after = chunk_after s live.live.fields image r chunk v (sources v) parents info branch may known stand within t same next other lies in (
+    let stand : SourcesStand (present chunk.records) v from = subst (λ (rs : Records). SourcesStand (present rs) v from) (sym same_records) stand in
+    let lies = lies_on s t image other live.live.fields.none_live.0 same chunk.records (batch v from f s.end) chunk.lies (subst (AreEndToEnd s.end (batch v from f s.end)) (sym ends) (batch_lies v from f s.end)) adds in
+    let after = chunk_after s live.live.fields image r chunk v from parents info branch may known stand within t same next other lies in (
       stands_by other t live' q after,
       same_standing other t live' q after
-          ∙ records_after s live.live.fields image r chunk v (sources v) parents info branch may known stand within t same next other lies
-          ∙ ap (λ (rs : Records). rs ++ grown_batch v f s.end) same_records,
+          ∙ records_after s live.live.fields image r chunk v from parents info branch may known stand within t same next other lies
+          ∙ ap (λ (rs : Records). rs ++ batch v from f s.end) same_records,
     )

@@ -20,7 +20,8 @@ use Rattle.ip_spec.specs.Tree.{Tree, IsTree, subtree, entries_of, is_contents}
 use Rattle.ip_spec.specs.Shape.{root_name, part, shape_runs}
 use Rattle.ip_spec.specs.TreeAt.{Records, present, PartAt, leaf_at, contents_at, entry_first, no_entries}
 use Rattle.ip_spec.specs.View.{View, Part}
-use Rattle.ip_spec.specs.Batch.{CommitFields, AreEndToEnd, KnownStand, batch_runs}
+use Rattle.ip_spec.specs.Batch.{CommitFields, AreEndToEnd, KnownStand, SourcesStand, sources, batch, batch_end, batch_runs}
+use Rattle.ip_spec.proofs.BatchLaws.{sources_stand}
 use Rattle.ip_spec.specs.Repository.{Repository, no_repository, is_retained}
 use Rattle.ip_spec.specs.Step.{new_commit, with_commit, step_runs}
 use Rattle.ip_spec.proofs.Subtrees.{lawful_put, same_as}
@@ -29,7 +30,7 @@ use Rattle.ip_image.specs.Virtual.{chunk_byte}
 use Rattle.ip_image.specs.Standing.{StandsFor, IsServedKind}
 use Rattle.ip_image.specs.Collection.{image_runs}
 use Rattle.ip_image.specs.Pending.{HasLive}
-use Rattle.ip_image.specs.Appending.{SameGeneration, AddsBytes, unread, MayGrow, fields_of, grown_batch, grown_end, bytes_of_records, AreWithin}
+use Rattle.ip_image.specs.Appending.{SameGeneration, AddsBytes, unread, MayGrow, fields_of, bytes_of_records, AreWithin}
 use Rattle.ip_image.proofs.OneRepository.{good_fit, same_stretch}
 use Rattle.ip_image.proofs.InChunk.{lies_in_chunk, lies_below, chunk_lies, chunk_good, first_chunk_byte}
 use Rattle.ip_image.proofs.TreeBatch.{found_below}
@@ -99,19 +100,19 @@ first_fields = fields_of no_repository [] info (codes "main")
 abbrev second_fields : CommitFields
 second_fields = fields_of after_first (0 ∷ []) info (codes "main")
 
-first_batch : grown_batch (unread first_tree) first_fields 0 ≡ first_records
+first_batch : batch (unread first_tree) (sources (unread first_tree)) first_fields 0 ≡ first_records
 unfolding batch_runs image_runs step_runs
 first_batch = refl
 
-first_end : grown_end (unread first_tree) first_fields 0 ≡ 197
+first_end : batch_end (unread first_tree) (sources (unread first_tree)) first_fields 0 ≡ 197
 unfolding batch_runs image_runs step_runs
 first_end = refl
 
-second_batch : grown_batch second_view second_fields 197 ≡ second_records
+second_batch : batch second_view (sources second_view) second_fields 197 ≡ second_records
 unfolding batch_runs image_runs step_runs
 second_batch = refl
 
-second_end : grown_end second_view second_fields 197 ≡ 425
+second_end : batch_end second_view (sources second_view) second_fields 197 ≡ 425
 unfolding batch_runs image_runs step_runs
 second_end = refl
 
@@ -308,8 +309,9 @@ first_adds = record {
   added = λ k l. first_chunk_byte first_image (0 + k) (omega (arith, l, first_length)) ∙ get_behind [] first_chunk k;
 }
 
-the_first : (stands : StandsFor first_image after_first) × (stands.standing.records ≡ starts.standing.records ++ grown_batch (unread first_tree) first_fields 0)
-the_first = stands_grown fresh_image first_image no_repository (fresh 4096) first_slot (unread first_tree) [] info (codes "main") starts fresh_live first_may first_known
+the_first : (stands : StandsFor first_image after_first) × (stands.standing.records ≡ starts.standing.records ++ batch (unread first_tree) (sources (unread first_tree)) first_fields 0)
+the_first = stands_grown fresh_image first_image no_repository (fresh 4096) first_slot (unread first_tree) (sources (unread first_tree)) [] info (codes "main") starts fresh_live first_may first_known
+    (sources_stand (present starts.standing.records) (unread first_tree) 0 first_known)
     (subst (AreWithin 1) (sym first_batch) first_within) first_live (same_generation 2 197 1) (sym first_end) refl
     (subst (λ (rs : Records). AddsBytes (fresh 4096) (bytes_of_records rs) fresh_image first_image) (sym first_batch) first_adds)
 
@@ -387,9 +389,10 @@ second_adds = record {
 on_from_first : SameGeneration first_slot second_slot
 on_from_first = record { version = refl; chunk = refl; horizon = refl; floor = refl; live = refl; prefix_len = refl; rows = refl }
 
-the_second : (stands : StandsFor second_image after_second) × (stands.standing.records ≡ the_first.0.standing.records ++ grown_batch second_view second_fields 197)
-the_second = stands_grown first_image second_image after_first first_slot second_slot second_view (0 ∷ []) info (codes "main") the_first.0 first_live second_may
+the_second : (stands : StandsFor second_image after_second) × (stands.standing.records ≡ the_first.0.standing.records ++ batch second_view (sources second_view) second_fields 197)
+the_second = stands_grown first_image second_image after_first first_slot second_slot second_view (sources second_view) (0 ∷ []) info (codes "main") the_first.0 first_live second_may
     (subst (λ (rs : Records). KnownStand (present rs) second_view 197) (sym first_holds) second_known)
+    (subst (λ (rs : Records). SourcesStand (present rs) second_view (sources second_view)) (sym first_holds) (sources_stand (present first_records) second_view 197 second_known))
     (subst (AreWithin 1) (sym second_batch) second_within) second_live on_from_first (sym second_end) refl
     (subst (λ (rs : Records). AddsBytes first_slot (bytes_of_records rs) first_image second_image) (sym second_batch) second_adds)
 

@@ -3,7 +3,6 @@
 --     AddsBytes s bytes image other      the other image has the same bytes of the slot's records, and these behind them
 --     MayGrow r tree parents info branch      what a commit is made of, that no refusal stands against
 --     unread tree      a tree of which no part is known to be stored
---     grown_batch, grown_end      the records of a commit of which some parts are known, and where they end
 --     MayName r x, renamed r x      a record that changes the branches, or a table of them as they are, and the repository after it
 --     StandsStill, StandsGrown, StandsRenamed      the laws.      RecordsGoOn      the records of an image that goes on
 use Rattle.std.specs.Prelude.{◌≡◌, ◌≢◌, ℕ, ◌+◌, ◌≤◌, List, ◌++◌, length, map, All, AllPairs, None, IsTrue}
@@ -17,7 +16,7 @@ use Rattle.ip_spec.specs.Record.{Names, Fits, IsInfo, IsBranchName, spelling, sp
 use Rattle.ip_spec.specs.Tree.{Tree, IsTree, widest}
 use Rattle.ip_spec.specs.TreeAt.{Records, present}
 use Rattle.ip_spec.specs.View.{View}
-use Rattle.ip_spec.specs.Batch.{CommitFields, sources, batch, batch_end, AreEndToEnd, KnownStand}
+use Rattle.ip_spec.specs.Batch.{CommitFields, Sources, batch, batch_end, AreEndToEnd, KnownStand, SourcesStand}
 use Rattle.ip_spec.specs.Repository.{Repository, next, is_retained, number_named, name_at}
 use Rattle.ip_spec.specs.Step.{new_commit, with_commit, entries_limit}
 use Rattle.ip_image.specs.Slot.{Slot}
@@ -58,13 +57,6 @@ pub record MayGrow (r : Repository) (tree : Tree) (parents : List ℕ) (info : I
 abbrev pub fields_of : Repository → List ℕ → Info → Bytes → CommitFields
 fields_of r parents info branch = record { number = next r; parents = map (λ n. record { number = n; name = name_at r n }) parents; info = info; branch = branch }
 
--- the batch of a tree of which some parts are known, and where it ends
-abbrev pub grown_batch : View → CommitFields → ℕ → Records
-grown_batch v fields end = batch v (sources v) fields end
-
-abbrev pub grown_end : View → CommitFields → ℕ → ℕ
-grown_end v fields end = batch_end v (sources v) fields end
-
 abbrev pub bytes_of_records : Records → Bytes
 bytes_of_records records = spelling_of (map (λ x. x.1) records)
 
@@ -88,15 +80,15 @@ StandsStill = (image other : Image) (r : Repository) (s t : Slot) → StandsFor 
     → SameSpace s image other → StandsFor other r
 
 -- One with the records of a commit behind them, for the repository after the commit: of a tree of any depth, of which the known parts are spelled by
--- its records and the others by the batch. Its records are then the old ones and the batch.
+-- its records and the others by the batch, wherever that takes its contents from. Its records are then the old ones and the batch.
 abbrev pub StandsGrown : Type 0
-StandsGrown = (image other : Image) (r : Repository) (s t : Slot) (v : View) (parents : List ℕ) (info : Info) (branch : Bytes) (stands : StandsFor image r) → HasLive s image
+StandsGrown = (image other : Image) (r : Repository) (s t : Slot) (v : View) (from : Sources) (parents : List ℕ) (info : Info) (branch : Bytes) (stands : StandsFor image r) → HasLive s image
     → MayGrow r v.map parents info branch
-    → KnownStand (present stands.standing.records) v s.end
-    → AreWithin s.version (grown_batch v (fields_of r parents info branch) s.end)
-    → HasLive t other → SameGeneration s t → t.end ≡ grown_end v (fields_of r parents info branch) s.end → t.next ≡ s.next + 1
-    → AddsBytes s (bytes_of_records (grown_batch v (fields_of r parents info branch) s.end)) image other
-    → (after : StandsFor other (with_commit r (new_commit r v.map parents info) branch)) × (after.standing.records ≡ stands.standing.records ++ grown_batch v (fields_of r parents info branch) s.end)
+    → KnownStand (present stands.standing.records) v s.end → SourcesStand (present stands.standing.records) v from
+    → AreWithin s.version (batch v from (fields_of r parents info branch) s.end)
+    → HasLive t other → SameGeneration s t → t.end ≡ batch_end v from (fields_of r parents info branch) s.end → t.next ≡ s.next + 1
+    → AddsBytes s (bytes_of_records (batch v from (fields_of r parents info branch) s.end)) image other
+    → (after : StandsFor other (with_commit r (new_commit r v.map parents info) branch)) × (after.standing.records ≡ stands.standing.records ++ batch v from (fields_of r parents info branch) s.end)
 
 -- and one with a record of branches behind them, of a kind that is there so far, for the repository with its branches changed
 abbrev pub StandsRenamed : Type 0
