@@ -12,13 +12,14 @@ use Rattle.ip_spec.specs.Path.{Bytes}
 use Rattle.ip_spec.specs.Record.{reference_kind, name_of, spelling}
 use Rattle.ip_image.specs.Virtual.{Stands}
 use Rattle.ip_image.specs.Stored.{record_at, record_read, stored}
-use Rattle.ip_space.specs.SpaceView.{SpaceView, IsReadable, records_of, read_at, byte_at}
+use Rattle.ip_space.specs.SpaceView.{SpaceView, IsReadable, bare, records_of, read_at, byte_at}
 use Rattle.ip_space.specs.Ahead.{Shows, BeginsWith}
 use Rattle.ip_space.specs.ScanView.{ScanView}
 use Rattle.ip_space.specs.Fetching.{Fetches, FindsRecord, Refers, ReadsOne, BlamesPlace, Meets}
 use Rattle.ip_space.specs.Scanning.{Finds, IsCurrent}
 use Rattle.ip_space.specs.declared.fault.FetchFault.{FetchFault}
 use Rattle.ip_space.specs.declared.fault.FetchFault.TheVariants.{Ground, Form, Name, Memory}
+use Rattle.ip_space.proofs.Stayed.{bare_readable}
 use Rattle.ip_space.proofs.StoodBytes.{stands_drop, stands_front}
 
 pub record_there : (told : Told) (space : SpaceView) (at : ℕ) → records_of told space at ≡ record_read (read_at told space at)
@@ -121,6 +122,6 @@ begun told space now same next to ahead scan is current kept room below keeps =
     subst (λ (s : SpaceView). Shows (byte_at told s) s.layout.end next ahead) (sym same) (subst (λ (v : ScanView). IsCurrent told now v) (sym is) current) in
     shows_same (byte_at told space) space.layout.end next ahead kept (keeps (let i = shows.inside in omega (arith, i, below))) shows
 
--- a space by what is inside
-pub readable_of : {told : Told} {space now : SpaceView} → space ≡ now → IsReadable told now → IsReadable told space
-readable_of {told} same readable = subst (IsReadable told) (sym same) readable
+-- a space by what is inside, with nothing kept
+pub readable_of : {told : Told} {space now : SpaceView} → space ≡ now → IsReadable told now → IsReadable told (bare space)
+readable_of {told} {space} same readable = bare_readable told space (subst (IsReadable told) (sym same) readable)

@@ -138,11 +138,11 @@ bytes_few : (f : ℕ → Option ℕ) (at n : ℕ) → length (bytes_from f at n)
 bytes_few f at zero = omega arith
 bytes_few f at (suc n) = few_step f at n (bytes_few f (suc at) n) (f at)
 
-record IsReadAs (read : Result (Record × ℕ) RecordFault) (r : Record) : Type 0 where
-  length : ℕ
-  is : read ≡ Ok (r, length)
+pub record IsReadAs (read : Result (Record × ℕ) RecordFault) (r : Record) : Type 0 where
+  pub length : ℕ
+  pub is : read ≡ Ok (r, length)
 
-read_as_some : (read : Result (Record × ℕ) RecordFault) (r : Record) → record_read read ≡ Some r → IsReadAs read r
+pub read_as_some : (read : Result (Record × ℕ) RecordFault) (r : Record) → record_read read ≡ Some r → IsReadAs read r
 read_as_some (Ok found) r is = record { length = found.1; is = ap (λ (x : Record). Ok (x, found.1)) (same_some found.0 r is) }
 read_as_some (Err fault) r is = absurd (cc (is))
 

@@ -6,8 +6,11 @@ pub mod Kept
 pub mod LivePair
 pub mod Filled
 pub mod Answered
+pub mod Cached
+pub mod Current
+pub mod Bringing
 pub mod Passing
 pub mod Lying
-mod Laws
+pub mod Laws
 pub mod Stretches
 pub mod StretchRows

@@ -13,6 +13,7 @@ use Rattle.ip_image.specs.declared.run.Row.{Row}
 use Rattle.ip_image.specs.declared.run.Run.{Run}
 use Rattle.ip_image.specs.Virtual.{run_of, RowsFit, RowsFitFrom, locate, locate_from, lies_at}
 use Rattle.ip_mapping.proofs.Lookup.{begins}
+use Rattle.ip_spec.specs.declared.record.Record.{Record}
 use Rattle.ip_space.specs.SpaceView.{SpaceView, stretches_of, AreBelow}
 use Rattle.ip_space.proofs.Lying.{lies_above, lies_below}
 
@@ -44,7 +45,7 @@ row_inside h from place (x ∷ rows) fits zero d below = fits.0.below
 row_inside h from place (x ∷ rows) fits (suc i) d below = row_inside h (x.at + x.length + 1) (place + x.length) rows fits.1 i d (omega (arith, below))
 
 -- the space of a layout and of rows in order
-module _ (layout : Layout) (order : layout.horizon ≤ layout.end) (rows : List Row) (fits : RowsFit layout.horizon rows) (space : SpaceView) (is : record { layout = layout; runs = map run_of rows } ≡ space) where
+module _ (layout : Layout) (order : layout.horizon ≤ layout.end) (rows : List Row) (fits : RowsFit layout.horizon rows) (kept : List (ℕ × Record)) (space : SpaceView) (is : record { layout = layout; runs = map run_of rows; kept = kept } ≡ space) where
   abbrev last : Run
   last = record { at = layout.horizon; length = layout.end - layout.horizon }
 

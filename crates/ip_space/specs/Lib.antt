@@ -3,6 +3,7 @@ pub mod SpaceView
 pub mod Viewed
 pub mod Pair
 pub mod Fetching
+pub mod Kept
 pub mod Head
 pub mod Ahead
 pub mod Filling

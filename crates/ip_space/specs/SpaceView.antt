@@ -3,11 +3,14 @@
 --     read_at told space      what the bytes from an offset on are read as
 --     records_in image space, records_of told space      the record at each offset
 --     stretches_of space      the runs below the horizon, and the stretch from there to the end.      AreBelow at stretches      they end at or below an offset
+--     bare space      the same space, of which nothing is kept
+--     kept_at at kept      the record that was kept at an offset.      AreCurrent records kept      each kept record is the one that stands there
 --     grown space end      the space up to another end.      SameBelow space old new      below the end two images have the same bytes
 --     IsLayout layout      what a layout is
 --     IsReadable told space      what is read stays so: nobody else changes the files
 --     OnlyReads old new space now      a call changed no file at any moment, and the records stay
-use Rattle.std.specs.Prelude.{◌≡◌, ◌≢◌, ℕ, ◌+◌, ◌-◌, ◌<◌, ◌≤◌, List, [], ◌∷◌, ◌++◌, Option, Result}
+use Rattle.std.specs.Prelude.{◌≡◌, ◌≢◌, ℕ, ◌+◌, ◌-◌, ◌<◌, ◌≤◌, List, [], ◌∷◌, ◌++◌, Contains, Option, Some, Result, nat_eq}
+use Rattle.std.specs.Map.{lookup}
 use Rattle.std.specs.List.{AllByRecursion}
 use Rattle.ip_base.specs.declared.limit.TheConstants.{OFFSET_MAX}
 use Rattle.ip_ground.specs.declared.names.FileName.TheVariants.{Prefix}
@@ -22,10 +25,17 @@ use Rattle.ip_image.specs.declared.run.Run.{Run}
 use Rattle.ip_image.specs.Virtual.{virtual_byte}
 use Rattle.ip_image.specs.Stored.{bytes_from, stored}
 
--- the layout, and the runs of the mapping that was read
+-- the layout, the runs of the mapping that was read, and records that were fetched, each with its offset
 pub record SpaceView : Type 0 where
   pub layout : Layout
   pub runs : List Run
+  pub kept : List (ℕ × Record)
+
+abbrev pub kept_at : ℕ → List (ℕ × Record) → Option Record
+kept_at at kept = lookup (nat_eq at) kept
+
+abbrev pub AreCurrent : (ℕ → Option Record) → List (ℕ × Record) → Type 0
+AreCurrent records kept = (at : ℕ) (r : Record) → Contains kept (at, r) → records at ≡ Some r
 
 abbrev pub records_in : Image → SpaceView → ℕ → Option Record
 records_in image space = stored image space.layout space.runs
@@ -44,6 +54,10 @@ stretches_of space = space.runs ++ record { at = space.layout.horizon; length = 
 
 abbrev pub AreBelow : ℕ → List Run → Type 0
 AreBelow at stretches = AllByRecursion (λ run. run.at + run.length ≤ at) stretches
+
+-- the same space, of which nothing is kept
+abbrev pub bare : SpaceView → SpaceView
+bare space = record space { kept = [] }
 
 -- the space up to another end
 abbrev pub grown : SpaceView → ℕ → SpaceView
@@ -64,10 +78,11 @@ pub record IsLayout (layout : Layout) : Type 0 where
   pub ends : layout.end ≤ OFFSET_MAX
   pub nothing_below : layout.live ≡ 0 → layout.horizon ≡ 0
 
--- the live prefix is no child's, and where none is live there are no runs
+-- the live prefix is no child's, where none is live there are no runs, and what was kept stands
 pub record IsReadable (told : Told) (space : SpaceView) : Type 0 where
   pub own : space.layout.live ≢ 0 → ¬ IsForeign told (Prefix space.layout.live)
   pub none : space.layout.live ≡ 0 → space.runs ≡ []
+  pub kept : AreCurrent (records_of told space) space.kept
 
 pub record OnlyReads (old new : Told) (space now : SpaceView) : Type 0 where
   pub only : ChangesOnly NoFile old new

@@ -17,13 +17,16 @@ ghost use Rattle.ip_image.specs.Slot.{IsSlot, IsLive, layout_of};
 ghost use Rattle.ip_image.specs.Virtual.{run_of, lies_at};
 ghost use Rattle.ip_image.specs.Standing.{Standing, Generation, DamagedAt, stretches};
 ghost use Rattle.ip_space.specs.Pair.{IsBadPair};
-ghost use Rattle.ip_space.specs.SpaceView.{SpaceView, records_in, stretches_of, grown, SameBelow};
+ghost use Rattle.ip_space.specs.SpaceView.{SpaceView, records_in, stretches_of, grown, SameBelow, AreCurrent};
+ghost use Rattle.ip_image.specs.Pending.{SameSpace};
 ghost use Rattle.ip_space.specs.Fetching.{Fetches, Meets, IsFetched};
 ghost use Rattle.ip_space.specs.ScanView.{ScanView};
 ghost use Rattle.ip_space.specs.Scanning.{Finds, Moves, RunsTo, IsWalked};
 ghost use Rattle.ip_space.specs.declared.fault.FetchFault.{FetchFault};
 
 mod ahead;
+mod cache;
+mod copied;
 mod fault;
 mod live;
 mod scan;
@@ -67,6 +70,13 @@ pub fn stretches_lie()
 pub fn records_stay()
     ensures { (old new : Image) (space : SpaceView) (end : ℕ) → space.layout.end ≤ end → SameBelow space old new →
         (at : ℕ) (r : Record) → records_in old space at ≡ Some r → records_in new (grown space end) at ≡ Some r }
+{}
+
+/// What was kept stays current where the bytes of the space are what they were, also where the end is raised behind more.
+pub fn kept_stays()
+    ensures below { (s : Slot) (old new : Image) (space : SpaceView) → space.layout ≡ layout_of s → (s.live ≡ 0 → space.runs ≡ []) → SameSpace s old new → SameBelow space old new }
+    ensures current { (old new : Image) (space : SpaceView) (end : ℕ) → space.layout.end ≤ end → SameBelow space old new →
+        AreCurrent (records_in old space) space.kept → AreCurrent (records_in new (grown space end)) space.kept }
 {}
 
 /// Where the record of a reference stands, fetching it gives that record, faults of the ground and want of memory aside. Where records

@@ -1,14 +1,15 @@
 // The space of a store's records.
-ghost use Rattle.std.specs.Prelude.{◌≡◌, ◌≢◌, ℕ, ◌+◌, ◌<◌, ◌≤◌, ◌^◌, ◌==◌, [], length, map, take, slice_get, IfSome, IsTrue, IfOk, IsOk, IsErrOf, if◌then◌else◌};
+ghost use Rattle.std.specs.Prelude.{◌≡◌, ◌≢◌, ℕ, ◌+◌, ◌<◌, ◌≤◌, ◌^◌, ◌==◌, [], length, map, take, slice_get, None, Some, Ok, option_copied, IfSome, IsSome, IsTrue, IfOk, IsOk, IsErrOf, MatchResult, if◌then◌else◌};
 ghost use Rattle.ip_space.specs.Faults.{ground_fetch, ground_space};
 ghost use Rattle.ip_ground.specs.Counts.{Counts, CountsAs, FileFault};
 ghost use Rattle.ip_ground.specs.Told.{NoFile, ChangesOnly};
-ghost use Rattle.ip_spec.specs.Record.{Fits, spelling};
+ghost use Rattle.ip_spec.specs.Record.{Fits, name_of, spelling, reference_kind as kind_referred};
 ghost use Rattle.ip_image.specs.Slot.{newest_version, IsChunkSize};
 ghost use Rattle.ip_image.specs.Virtual.{run_of, placed, RowsFit, lies_at};
-ghost use Rattle.ip_space.specs.SpaceView.{grown, stretches_of, AreBelow, IsLayout, OnlyReads, IsReadable, records_of, read_at, byte_at};
+ghost use Rattle.ip_space.specs.SpaceView.{grown, bare, kept_at, stretches_of, AreBelow, IsLayout, OnlyReads, IsReadable, records_of, read_at, byte_at};
 ghost use Rattle.ip_space.specs.Ahead.{ReadsBytes};
 ghost use Rattle.ip_space.specs.Fetching.{Blames, BlamesPlace, Fetches, FindsRecord, IsBecause, Meets, ReadsOne, Refers};
+ghost use Rattle.ip_space.specs.Kept.{IsBounded, brought, GainsNone, GainsAtMost, IsKnown, Brings, answer_of, found_again};
 ghost use Rattle.ip_space.specs.Pair.{IsOwnPair, FindsSpace};
 ghost use Rattle.ip_space.specs.Scanning.{IsWhole};
 ghost use Rattle.ip_space.specs.ScanView.{ScanView};
@@ -16,10 +17,12 @@ ghost use Rattle.ip_space.specs.declared.fault.FetchFault.TheVariants as FetchFa
 ghost use Rattle.ip_space.specs.declared.fault.SpaceFault.TheVariants as SpaceFault;
 
 use crate::ahead::Ahead;
+use crate::cache::Cache;
+use crate::copied::copy_record;
 use crate::live::read_live;
 use crate::source::Source;
 use crate::{FetchFault, Scan, SpaceFault};
-use ip_base::Memory;
+use ip_base::{Hash, Memory};
 use ip_chunks::Chunks;
 use ip_ground::{FileName, Ground, GroundFault};
 use ip_image::layout::Layout;
@@ -34,21 +37,28 @@ use std::marker::Model;
 /// The bytes that are asked for where the length of a record is not known yet. Most records have fewer.
 const PAGE: u64 = 4096;
 
-/// The records of a store by reference, below the end of a layout.
+/// The bytes that a record that is kept may have: a head of 5, and a body of 64 KiB. Parts of directories and commits have fewer; of contents
+/// those that have more would drive out many others, and are rarely asked for twice.
+const KEPT_MOST: u64 = 5 + 65536;
+
+/// The records of a store by reference, below the end of a layout, and those of them that were fetched last.
 #[derive(Drop)]
 pub struct Space {
     alloc: Global,
     pub(crate) source: Source,
     ahead: Ahead,
+    cache: Cache,
 }
 
 impl Model for Space {
+    ghost use Rattle.std.specs.Prelude.{map};
+    ghost use Rattle.ip_image.specs.Virtual.{run_of};
     ghost use Rattle.ip_space.specs.SpaceView.{SpaceView};
-    ghost use Rattle.ip_space.specs.Viewed.{view_of, IsSource};
+    ghost use Rattle.ip_space.specs.Viewed.{IsSource};
 
     ghost Value = { SpaceView };
 
-    ghost view = { λ s. view_of s.source };
+    ghost view = { λ s. record { layout = s.source.layout; runs = map run_of s.source.mapping.rows; kept = s.cache } };
 
     ghost invariant = { λ s. IsSource s.source };
 }
@@ -67,6 +77,7 @@ impl Space {
         requires nothing_below { layout.live ≡ 0 → layout.horizon ≡ 0 }
         ensures view { IfOk result (λ space. space.layout ≡ layout) }
         ensures runs { layout.live ≡ 0 → IfOk result (λ space. space.runs ≡ []) }
+        ensures kept { IfOk result (λ space. space.kept ≡ []) }
         ensures opens { layout.live ≡ 0 → IsOk result }
         ensures finds { IsTrue G.tells → layout.live ≢ 0 → IsOwnPair (G.told outside.old) layout → FindsSpace (G.told outside.new).held layout result }
         ensures only { IsTrue G.tells → ChangesOnly NoFile (G.told outside.old) (G.told outside.new) }
@@ -92,18 +103,18 @@ impl Space {
         requires ends { layout.end ≤ 2 ^ 62 }
         requires nothing_below { layout.live ≡ 0 → layout.horizon ≡ 0 }
         requires fits { RowsFit layout.horizon (placed 0 runs.now) }
-        ensures { IfOk result (λ space. space ≡ record { layout = layout; runs = runs.now }) }
+        ensures { IfOk result (λ space. space ≡ record { layout = layout; runs = runs.now; kept = [] }) }
     {
         ip_mapping::built_is_mapping();
         let mapping = Mapping::of_runs(alloc, layout.horizon, layout.end, runs)?;
         Ok(Space::with(alloc, layout, mapping))
     }
 
-    /// The space up to an earlier end.
+    /// The space up to an earlier end, of which nothing is kept yet.
     pub fn copy_up_to(&self, end: u64) -> Result<Space, Memory>
         requires above { self.now.layout.horizon ≤ end }
         requires earlier { end ≤ self.now.layout.end }
-        ensures { IfOk result (λ space. space ≡ grown self.now end) }
+        ensures { IfOk result (λ space. space ≡ bare (grown self.now end)) }
     {
         let mapping = self.source.mapping.copy(self.alloc)?;
         let layout = Layout {
@@ -116,12 +127,13 @@ impl Space {
     fn with(alloc: Global, layout: Layout, mapping: Mapping) -> Space
         requires layout { IsLayout layout }
         requires horizon { mapping.horizon ≡ layout.horizon }
-        ensures { result ≡ record { layout = layout; runs = map run_of mapping.rows } }
+        ensures { result ≡ record { layout = layout; runs = map run_of mapping.rows; kept = [] } }
     {
         Space {
             alloc,
             source: Source { layout, mapping },
             ahead: Ahead::new(alloc),
+            cache: Cache::new(alloc),
         }
     }
 
@@ -175,7 +187,7 @@ impl Space {
         })
     }
 
-    /// The record at a reference, of its kind and name. It reads as `record_at` does, and tries the kind before the name.
+    /// The record at a reference, of its kind and name, as `bring` finds it. Where it is kept it is a copy.
     pub fn fetch<G: Ground>(
         &mut self,
         outside: &mut G,
@@ -191,13 +203,143 @@ impl Space {
         ensures bounds { IfOk result (λ found. Fits newest_version found) }
         ensures layout { self.new.layout ≡ self.old.layout }
         ensures runs { self.new.runs ≡ self.old.runs }
+        ensures kept { IsBounded self.new.kept }
         ensures counts { Counts ground_fetch result (G.counts_of outside.old) (G.counts_of outside.new) }
     {
-        let rec = match self.record_at(outside, reference.at) {
-            Ok((rec, _)) => rec,
+        let at = reference.at;
+        match self.bring(outside, reference) {
+            Ok(Some(rec)) => Ok(rec),
+            Ok(None) => self.copy_kept(at),
+            Err(fault) => Err(fault),
+        }
+    }
+
+    /// Brings the record at a reference, of its kind and name, and keeps it: then `kept` lends it. One that is not kept, since it has too many
+    /// bytes or memory was refused, is handed out. What is kept is not read again; else it reads as `record_at` does. The kind is tried before the
+    /// name, also of what is kept.
+    pub fn bring<G: Ground>(
+        &mut self,
+        outside: &mut G,
+        reference: Ref,
+    ) -> Result<Option<Record>, FetchFault>
+        ensures reads { IsTrue G.tells → OnlyReads (G.told outside.old) (G.told outside.new) self.old self.new }
+        ensures found { IsTrue G.tells → IsReadable (G.told outside.old) self.old →
+            Fetches (records_of (G.told outside.old) self.old) reference (brought (kept_at reference.at self.new.kept) result) }
+        ensures because { IsTrue G.tells → IsReadable (G.told outside.old) self.old →
+            IsBecause (read_at (G.told outside.old) self.old reference.at) (brought (kept_at reference.at self.new.kept) result) }
+        ensures here { IfOk result (λ found. found ≡ None → IsSome (kept_at reference.at self.new.kept)) }
+        ensures blames { Blames reference (brought (kept_at reference.at self.new.kept) result) }
+        ensures meets { IfOk (brought (kept_at reference.at self.new.kept) result) (λ found. Meets reference found) }
+        ensures bounds { IfOk (brought (kept_at reference.at self.new.kept) result) (λ found. Fits newest_version found) }
+        ensures layout { self.new.layout ≡ self.old.layout }
+        ensures runs { self.new.runs ≡ self.old.runs }
+        ensures kept { IsBounded self.new.kept }
+        ensures counts { Counts ground_fetch result (G.counts_of outside.old) (G.counts_of outside.new) }
+    {
+        if let Some(answer) = self.known(&reference) {
+            return self.again(reference.at, answer);
+        }
+        self.read_new(outside, &reference)
+    }
+
+    // What is kept is used again.
+    fn again(
+        &mut self,
+        at: u64,
+        answer: Result<(), FetchFault>,
+    ) -> Result<Option<Record>, FetchFault>
+        ensures layout { self.new.layout ≡ self.old.layout }
+        ensures runs { self.new.runs ≡ self.old.runs }
+        ensures none { GainsNone self.old.kept self.new.kept }
+        ensures is { kept_at at self.new.kept ≡ kept_at at self.old.kept }
+        ensures answers { result ≡ found_again answer }
+        ensures bounded { IsBounded self.new.kept }
+    {
+        self.cache.touch(at);
+        match answer {
+            Ok(()) => Ok(None),
+            Err(fault) => Err(fault),
+        }
+    }
+
+    // Reads the record at a reference, and keeps it.
+    fn read_new<G: Ground>(
+        &mut self,
+        outside: &mut G,
+        reference: &Ref,
+    ) -> Result<Option<Record>, FetchFault>
+        ensures brings { Brings G.tells (G.told outside.old) (G.told outside.new) self.old self.new reference.now result }
+        ensures counts { Counts ground_fetch result (G.counts_of outside.old) (G.counts_of outside.new) }
+    {
+        let (rec, length) = match self.record_at(outside, reference.at) {
+            Ok(found) => found,
             Err(fault) => return Err(fault),
         };
-        referred(rec, &reference)
+        let name = name_if_of_kind(&rec, reference);
+        match refers(&rec, name, reference) {
+            Ok(()) => Ok(self.keep(reference, rec, length)),
+            Err(refused) => Err(refused),
+        }
+    }
+
+    /// The record that is kept for an offset.
+    pub fn kept(&self, at: u64) -> Option<&Record>
+        ensures { option_copied result ≡ kept_at at self.now.kept }
+    {
+        let kept = self.cache.get(at)?;
+        Some(&kept.rec)
+    }
+
+    /// The record that `bring` answered for a reference at this offset: the one that is kept, where it handed none out.
+    pub fn lent<'a>(&'a self, at: u64, found: &'a Option<Record>) -> &'a Record
+        requires { found.now ≡ None → IsSome (kept_at at self.now.kept) }
+        ensures { Ok result.now ≡ brought (kept_at at self.now.kept) (Ok found.now) }
+    {
+        match found {
+            Some(rec) => rec,
+            None => match self.kept(at) {
+                Some(rec) => rec,
+                None => unreachable!(),
+            },
+        }
+    }
+
+    // Whether the record that is kept for the offset of a reference is the reference's, if there is one.
+    fn known(&self, reference: &Ref) -> Option<Result<(), FetchFault>>
+        ensures is { IsKnown (kept_at reference.now.at self.now.kept) reference.now result }
+        ensures bounded { IsBounded self.now.kept }
+    {
+        let kept = self.cache.get(reference.at)?;
+        Some(refers(&kept.rec, Some(kept.name), reference))
+    }
+
+    // Keeps the record of a reference, or hands it back.
+    fn keep(&mut self, reference: &Ref, rec: Record, bytes: u64) -> Option<Record>
+        requires fits { Fits newest_version rec }
+        requires meets { Meets reference.now rec }
+        requires bytes { bytes ≡ length (spelling rec) }
+        ensures layout { self.new.layout ≡ self.old.layout }
+        ensures runs { self.new.runs ≡ self.old.runs }
+        ensures gains { GainsAtMost reference.now.at rec self.old.kept self.new.kept }
+        ensures kept { result ≡ None → kept_at reference.now.at self.new.kept ≡ Some rec }
+        ensures back { IfSome result (λ back. back ≡ rec) }
+        ensures bounded { IsBounded self.old.kept → IsBounded self.new.kept }
+    {
+        if bytes > KEPT_MOST {
+            return Some(rec);
+        }
+        self.cache.keep(reference.at, reference.name, rec)
+    }
+
+    // A copy of the record that is kept for an offset.
+    fn copy_kept(&self, at: u64) -> Result<Record, FetchFault>
+        requires { IsSome (kept_at at self.now.kept) }
+        ensures { MatchResult result (λ rec. kept_at at self.now.kept ≡ Some rec) (λ fault. fault ≡ FetchFault.Memory) }
+    {
+        match self.kept(at) {
+            Some(rec) => Ok(copy_record(self.alloc, rec)?),
+            None => Err(FetchFault::Memory),
+        }
     }
 
     /// The record at an offset, whatever it is, and its length in bytes. It makes two reads at most of the file in which the record begins, and one of each file into which
@@ -217,6 +359,7 @@ impl Space {
         ensures inside { IfOk result (λ found. at + found.1 ≤ self.old.layout.end) }
         ensures layout { self.new.layout ≡ self.old.layout }
         ensures runs { self.new.runs ≡ self.old.runs }
+        ensures kept { self.new.kept ≡ self.old.kept }
         ensures counts { Counts ground_fetch result (G.counts_of outside.old) (G.counts_of outside.new) }
     {
         self.ahead.clear();
@@ -265,18 +408,29 @@ impl Space {
     }
 }
 
-// The record, where it has the kind and the name of the reference.
-fn referred(rec: Record, reference: &Ref) -> Result<Record, FetchFault>
-    requires { Fits newest_version rec }
-    ensures { Refers rec reference.now result }
+// The name of a record of the reference's kind. One of another kind is not hashed.
+fn name_if_of_kind(rec: &Record, reference: &Ref) -> Option<Hash>
+    requires { Fits newest_version rec.now }
+    ensures { kind_referred rec.now ≡ reference.now.kind → result ≡ name_of rec.now }
+{
+    if reference_kind(kind_of(rec)) != reference.kind {
+        return None;
+    }
+    name_of_record(rec)
+}
+
+// Whether a record has the kind and the name of the reference. The name is that of the record, where it has the kind.
+fn refers(rec: &Record, name: Option<Hash>, reference: &Ref) -> Result<(), FetchFault>
+    requires { kind_referred rec.now ≡ reference.now.kind → name ≡ name_of rec.now }
+    ensures { Refers rec.now reference.now (answer_of rec.now result) }
 {
     let at = reference.at;
     let want = reference.name;
-    let kind = kind_of(&rec);
-    match name_of_record(&rec) {
+    let kind = kind_of(rec);
+    match name {
         Some(got) if reference_kind(kind) == reference.kind => {
             if got == want {
-                Ok(rec)
+                Ok(())
             } else {
                 Err(FetchFault::Name { at, want, got })
             }

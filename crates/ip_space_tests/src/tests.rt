@@ -11,28 +11,28 @@ use std::test::Fail;
 
 // Five records end to end, spelled by hand: contents, a leaf, an inode, a commit, and a branch that is removed. They begin at 0, 8, 61, 161
 // and 228, and end at 238.
-const RECORDS: &[u8] =
+pub const RECORDS: &[u8] =
     b"\x01\x03\0\0\0abc\x02\x30\x00\x00\x00\x01\x00\x00\x00\x01\x61\x01\x00\x4b\xf5\x12\x2f\x34\x45\x54\xc5\x3b\xde\x2e\xbb\x8c\xd2\xb7\xe3\xd1\x60\x0a\xd6\x31\xc3\x85\xa5\xd7\xcc\xe2\x3c\x77\x85\x45\x9a\x00\x00\x00\x00\x00\x00\x00\x00\x03\x5f\x00\x00\x00\x00\x02\x00\x00\x80\x14\x00\x00\x00\x01\x39\x5c\x2f\x55\x98\xa1\x64\x3a\x20\x51\x54\xc6\xf4\xc4\x6c\xe3\x68\x95\xb2\x8e\x6c\x35\x66\x0a\x95\xe5\xc6\xfd\x5e\xf9\xae\xab\x07\x00\x00\x00\x00\x00\x00\x00\x0d\x00\x00\x00\x01\x4b\xf5\x12\x2f\x34\x45\x54\xc5\x3b\xde\x2e\xbb\x8c\xd2\xb7\xe3\xd1\x60\x0a\xd6\x31\xc3\x85\xa5\xd7\xcc\xe2\x3c\x77\x85\x45\x9a\x09\x00\x00\x00\x00\x00\x00\x00\x04\x3e\x00\x00\x00\x00\x00\x00\x00\x00\x00\x00\x00\x39\x5c\x2f\x55\x98\xa1\x64\x3a\x20\x51\x54\xc6\xf4\xc4\x6c\xe3\x68\x95\xb2\x8e\x6c\x35\x66\x0a\x95\xe5\xc6\xfd\x5e\xf9\xae\xab\x00\x00\x00\x00\x00\x00\x00\x00\x00\x00\x00\x00\x00\x00\x00\x00\x00\x01\x61\x01\x00\x6d\x06\x05\0\0\0\x04main";
 
 // Their names, by another program.
-const CONTENTS: Hash = Hash(
+pub const CONTENTS: Hash = Hash(
     *b"\xba\x78\x16\xbf\x8f\x01\xcf\xea\x41\x41\x40\xde\x5d\xae\x22\x23\xb0\x03\x61\xa3\x96\x17\x7a\x9c\xb4\x10\xff\x61\xf2\x00\x15\xad",
 );
 
-const LEAF: Hash = Hash(
+pub const LEAF: Hash = Hash(
     *b"\xb7\xe4\x25\x91\x75\x13\x0c\x72\xed\x16\x07\x1f\x4d\xe9\xa1\xe9\x31\x1b\xad\x6c\x9e\x54\xdd\xa4\x24\xdb\xc0\xad\x31\xaf\x63\x62",
 );
 
-const INODE: Hash = Hash(
+pub const INODE: Hash = Hash(
     *b"\xd0\xc2\xd3\xef\x7b\x7c\xca\x31\xca\xbc\x13\x87\x69\x67\x6f\x85\xb0\x5a\x9e\x1b\x54\xb9\x5a\x07\xed\x23\x38\x9f\xd6\x59\x75\xd2",
 );
 
-const COMMIT: Hash = Hash(
+pub const COMMIT: Hash = Hash(
     *b"\x36\x32\x43\x35\x41\x06\xfe\x78\x4e\x75\x0f\x16\x2f\x51\x47\xec\x8f\xd3\xd6\x6a\x3f\x3b\x58\x50\x8b\x26\x46\x39\xb5\x24\xe9\x3c",
 );
 
 // A ground whose chunk has these bytes; the call of the number `fails` fails, of which the write is 0.
-fn bench_of(alloc: Global, bytes: &[u8], fails: u64) -> Result<Bench, Fail> {
+pub fn bench_of(alloc: Global, bytes: &[u8], fails: u64) -> Result<Bench, Fail> {
     let mut bench = Bench::new(alloc, vec![in alloc; fails]?, None, Vec::new(alloc));
     if bench.write(FileName::Chunk(0), 0, bytes).is_err() {
         return Err("not written")?;
@@ -41,7 +41,7 @@ fn bench_of(alloc: Global, bytes: &[u8], fails: u64) -> Result<Bench, Fail> {
 }
 
 // Without a prefix, over chunks of a mebibyte, of which the tests fill the first.
-fn space_to(alloc: Global, bench: &mut Bench, end: u32) -> Result<Space, Fail> {
+pub fn space_to(alloc: Global, bench: &mut Bench, end: u32) -> Result<Space, Fail> {
     space_in(alloc, bench, 1048576, end)
 }
 
@@ -63,7 +63,7 @@ fn space_in(alloc: Global, bench: &mut Bench, chunk: u64, end: u32) -> Result<Sp
 }
 
 // The kind that a record has.
-fn shown(rec: Record) -> u8 {
+pub fn shown(rec: Record) -> u8 {
     match rec {
         Record::Contents(_) => 1,
         Record::Leaf(_) => 2,
@@ -78,7 +78,7 @@ fn shown_with((rec, length): (Record, u64)) -> (u8, u64) {
     (shown(rec), length)
 }
 
-fn form<T>(at: u64, fault: RecordFault) -> Result<T, FetchFault> {
+pub fn form<T>(at: u64, fault: RecordFault) -> Result<T, FetchFault> {
     Err(FetchFault::Form { at, fault })
 }
 
@@ -109,12 +109,12 @@ fn records_are_fetched_by_reference(rt: HostRuntime) -> Result<(), Fail> {
         let found = space.fetch(&mut bench, Ref { at, name, kind });
         assert_eq!(rt; found.map(shown), answer);
     }
-    assert_eq!(rt; bench.reads(FileName::Chunk(0)), 10);
+    assert_eq!(rt; bench.reads(FileName::Chunk(0)), 7);
     Ok(())
 }
 
 // Records of contents that are zeros, so many of each, and a part of one more.
-fn zeros(alloc: Global, count: u32, length: u32, part: usize) -> Result<Vec<u8>, Fail> {
+pub fn zeros(alloc: Global, count: u32, length: u32, part: usize) -> Result<Vec<u8>, Fail> {
     let mut bytes = Vec::new(alloc);
     for i in 0..=count {
         bytes.extend_from_slice(&[1])?;
@@ -139,7 +139,7 @@ fn a_long_record_takes_two_reads(rt: HostRuntime) -> Result<(), Fail> {
     let short = form(0, RecordFault::Short);
     let ground = Err(FetchFault::Ground);
     let rows = [
-        (5000, 5005, 9, Ok(1), Ok(1), 4),
+        (5000, 5005, 9, Ok(1), Ok(1), 2),
         (5000, 5004, 9, short, Ok(1), 4),
         (4999, 5005, 9, short, short, 4),
         (5000, 4, 9, short, Ok(1), 3),
@@ -162,7 +162,7 @@ fn a_long_record_takes_two_reads(rt: HostRuntime) -> Result<(), Fail> {
 }
 
 // Where the records of a walk begin, and where it stood then, with its fault.
-fn walked(
+pub fn walked(
     alloc: Global,
     bench: &mut Bench,
     space: &Space,

@@ -1,25 +1,25 @@
-use Rattle.std.proofs.Common.{◌≡◌, ◌+◌, ◌≤◌, refl, subst, arith, length}
+use Rattle.std.proofs.Common.{◌≡◌, ◌+◌, ◌≤◌, subst, arith, length}
 use Rattle.std.specs.Prelude.{Some, Ok, Err}
 use Rattle.ip_spec.specs.Record.{spelling}
 use Rattle.ip_space.specs.SpaceView.{SpaceView, records_of, read_at, byte_at}
 use Rattle.ip_space.specs.ScanView.{ScanView}
-use Rattle.ip_space.specs.Viewed.{view_of}
+use Rattle.ip_space.specs.contracts.space.Space.{the_view}
 use Rattle.ip_space.specs.Ahead.{held_in, Shows}
 use Rattle.ip_space.specs.Scanning.{Finds, FindsWhole}
-use Rattle.ip_space.proofs.Stayed.{only_reads}
+use Rattle.ip_space.proofs.Stayed.{only_looks}
 use Rattle.ip_space.proofs.Answered.{record_there, whole_there, found_err, found_ok, some_bytes, passed_shows, shows_same, begun, readable_of}
 use Rattle.ip_space.proofs.scan.Scan.step.Goals as goal
 
 pub returns-in-Ok-clause-reads : goal.returns-in-Ok-clause-reads
-returns-in-Ok-clause-reads g c told = only_reads _ _ (c.in-Ok.ensures.only told) c.args.space.now c.args.space.now refl
+returns-in-Ok-clause-reads g c told = only_looks _ _ (c.in-Ok.ensures.only told) c.args.space.now
 
 pub returns-in-Err-clause-reads : goal.returns-in-Err-clause-reads
-returns-in-Err-clause-reads g c told = only_reads _ _ (c.in-Err.ensures.only told) c.args.space.now c.args.space.now refl
+returns-in-Err-clause-reads g c told = only_looks _ _ (c.in-Err.ensures.only told) c.args.space.now
 
 pub returns-in-Ok-clause-found : goal.returns-in-Ok-clause-found
 returns-in-Ok-clause-found g c told readable current =
     let now = g.G.Ground.told c.args.outside.now in
-    let space : SpaceView = view_of c.space.inside.source in
+    let space : SpaceView = the_view c.space.inside in
     let at = c.self.inside.next in
     let shows = begun now space c.args.space.now c.space.view_is c.self.inside.next c.self.inside.to (held_in c.self.inside.ahead) c.args.self.now c.self.view_is current
     (held_in c.keep_up_to.new.self) c.saturating_sub.result c.saturating_sub.ensures c.keep_up_to.ensures.held in
@@ -30,7 +30,7 @@ returns-in-Ok-clause-found g c told readable current =
 pub returns-in-Err-clause-found : goal.returns-in-Err-clause-found
 returns-in-Err-clause-found g c told readable current =
     let now = g.G.Ground.told c.args.outside.now in
-    let space : SpaceView = view_of c.space.inside.source in
+    let space : SpaceView = the_view c.space.inside in
     let at = c.self.inside.next in
     let shows = begun now space c.args.space.now c.space.view_is c.self.inside.next c.self.inside.to (held_in c.self.inside.ahead) c.args.self.now c.self.view_is current
     (held_in c.keep_up_to.new.self) c.saturating_sub.result c.saturating_sub.ensures c.keep_up_to.ensures.held in
@@ -42,7 +42,7 @@ pub returns-in-Ok-clause-current : goal.returns-in-Ok-clause-current
 returns-in-Ok-clause-current g c told readable current =
     let now = g.G.Ground.told c.args.outside.now in
     let after = g.G.Ground.told c.read_one.new.outside in
-    let space : SpaceView = view_of c.space.inside.source in
+    let space : SpaceView = the_view c.space.inside in
     let at = c.self.inside.next in
     let shows = begun now space c.args.space.now c.space.view_is c.self.inside.next c.self.inside.to (held_in c.self.inside.ahead) c.args.self.now c.self.view_is current
     (held_in c.keep_up_to.new.self) c.saturating_sub.result c.saturating_sub.ensures c.keep_up_to.ensures.held in
@@ -54,7 +54,7 @@ pub returns-in-Ok-clause-whole : goal.returns-in-Ok-clause-whole
 returns-in-Ok-clause-whole g c told readable current =
     let now = g.G.Ground.told c.args.outside.now in
     let after = g.G.Ground.told c.read_one.new.outside in
-    let space : SpaceView = view_of c.space.inside.source in
+    let space : SpaceView = the_view c.space.inside in
     let at = c.self.inside.next in
     let shows = begun now space c.args.space.now c.space.view_is c.self.inside.next c.self.inside.to (held_in c.self.inside.ahead) c.args.self.now c.self.view_is current
     (held_in c.keep_up_to.new.self) c.saturating_sub.result c.saturating_sub.ensures c.keep_up_to.ensures.held in

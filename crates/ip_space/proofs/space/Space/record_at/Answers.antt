@@ -1,4 +1,4 @@
-use Rattle.std.proofs.Common.{◌≡◌, ◌+◌, ◌≤◌, Ok, Err, subst, arith}
+use Rattle.std.proofs.Common.{◌+◌, ◌≤◌, Ok, Err, subst, arith}
 use Rattle.ip_space.specs.SpaceView.{SpaceView, records_of, read_at, byte_at}
 use Rattle.ip_space.specs.Viewed.{view_of}
 use Rattle.ip_space.specs.Ahead.{held_in}
@@ -9,10 +9,10 @@ use Rattle.ip_space.proofs.Answered.{record_there, record_err, found_ok, some_by
 use Rattle.ip_space.proofs.space.Space.record_at.Goals as goal
 
 pub returns-in-Err-clause-reads : goal.returns-in-Err-clause-reads
-returns-in-Err-clause-reads g c told = only_reads _ _ (c.read_one.ensures.only told) c.args.self.now (view_of c.self.inside.source) c.self.view_is
+returns-in-Err-clause-reads g c told = only_reads _ _ (c.read_one.ensures.only told) c.args.self.now _ c.self.view_is
 
 pub returns-clause-reads : goal.returns-clause-reads
-returns-clause-reads g c told = only_reads _ _ (c.read_one.ensures.only told) c.args.self.now (view_of c.self.inside.source) c.self.view_is
+returns-clause-reads g c told = only_reads _ _ (c.read_one.ensures.only told) c.args.self.now _ c.self.view_is
 
 pub returns-in-Err-clause-found : goal.returns-in-Err-clause-found
 returns-in-Err-clause-found g c told readable =

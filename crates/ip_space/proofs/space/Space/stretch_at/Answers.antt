@@ -10,29 +10,29 @@ fits_by : (h k : ℕ) (rows others : List Row) → h ≡ k → others ≡ rows �
 fits_by h k rows others one two fits = subst (λ (n : ℕ). RowsFit n others) one (subst (RowsFit h) (sym two) fits)
 
 abbrev over : Inside → List Row → SpaceView
-over inside rows = record { layout = inside.source.layout; runs = map run_of rows }
+over inside rows = record { layout = inside.source.layout; runs = map run_of rows; kept = inside.cache }
 
 pub returns-then-number-rows-clause-in_order : goal.returns-then-number-rows-clause-in_order
 returns-then-number-rows-clause-in_order c =
-    row_order c.self.inside.source.layout c.self.invariant.layout.order c.rows-rows.result.now (fits_by _ _ _ _ c.self.invariant.horizon c.rows-rows.ensures.rows c.rows-rows.ensures.in_order) c.args.self.now
+    row_order c.self.inside.source.layout c.self.invariant.layout.order c.rows-rows.result.now (fits_by _ _ _ _ c.self.invariant.horizon c.rows-rows.ensures.rows c.rows-rows.ensures.in_order) c.self.inside.cache c.args.self.now
     (ap (over c.self.inside) c.rows-rows.ensures.rows ∙ c.self.view_is) c.args.number _ c.if-number-rows.true
 
 pub returns-then-number-rows-clause-inside : goal.returns-then-number-rows-clause-inside
 returns-then-number-rows-clause-inside c =
-    row_ends c.self.inside.source.layout c.self.invariant.layout.order c.rows-rows.result.now (fits_by _ _ _ _ c.self.invariant.horizon c.rows-rows.ensures.rows c.rows-rows.ensures.in_order) c.args.self.now
+    row_ends c.self.inside.source.layout c.self.invariant.layout.order c.rows-rows.result.now (fits_by _ _ _ _ c.self.invariant.horizon c.rows-rows.ensures.rows c.rows-rows.ensures.in_order) c.self.inside.cache c.args.self.now
     (ap (over c.self.inside) c.rows-rows.ensures.rows ∙ c.self.view_is) c.args.number _ c.if-number-rows.true
 
 pub returns-then-number-rows-2-clause-is : goal.returns-then-number-rows-2-clause-is
 returns-then-number-rows-2-clause-is c =
-    no_stretch c.self.inside.source.layout c.self.invariant.layout.order c.rows-rows.result.now (fits_by _ _ _ _ c.self.invariant.horizon c.rows-rows.ensures.rows c.rows-rows.ensures.in_order) c.args.self.now
+    no_stretch c.self.inside.source.layout c.self.invariant.layout.order c.rows-rows.result.now (fits_by _ _ _ _ c.self.invariant.horizon c.rows-rows.ensures.rows c.rows-rows.ensures.in_order) c.self.inside.cache c.args.self.now
     (ap (over c.self.inside) c.rows-rows.ensures.rows ∙ c.self.view_is) c.args.number c.if-number-rows-2.true
 
 pub returns-clause-is : goal.returns-clause-is
 returns-clause-is c =
-    last_is c.self.inside.source.layout c.self.invariant.layout.order c.rows-rows.result.now (fits_by _ _ _ _ c.self.invariant.horizon c.rows-rows.ensures.rows c.rows-rows.ensures.in_order) c.args.self.now
+    last_is c.self.inside.source.layout c.self.invariant.layout.order c.rows-rows.result.now (fits_by _ _ _ _ c.self.invariant.horizon c.rows-rows.ensures.rows c.rows-rows.ensures.in_order) c.self.inside.cache c.args.self.now
     (ap (over c.self.inside) c.rows-rows.ensures.rows ∙ c.self.view_is) c.args.number (omega arith)
 
 pub returns-clause-in_order : goal.returns-clause-in_order
 returns-clause-in_order c =
-    last_order c.self.inside.source.layout c.self.invariant.layout.order c.rows-rows.result.now (fits_by _ _ _ _ c.self.invariant.horizon c.rows-rows.ensures.rows c.rows-rows.ensures.in_order) c.args.self.now
+    last_order c.self.inside.source.layout c.self.invariant.layout.order c.rows-rows.result.now (fits_by _ _ _ _ c.self.invariant.horizon c.rows-rows.ensures.rows c.rows-rows.ensures.in_order) c.self.inside.cache c.args.self.now
     (ap (over c.self.inside) c.rows-rows.ensures.rows ∙ c.self.view_is) c.args.number (omega arith)
