@@ -14,10 +14,9 @@ use Rattle.ip_spec.specs.TreeAt.{Records}
 use Rattle.ip_spec.specs.declared.record.Record.{Record}
 use Rattle.ip_image.specs.declared.run.Run.{Run}
 use Rattle.ip_image.specs.Collection.{kept_bytes}
-use Rattle.ip_image.specs.Standing.{EndToEnd, RunByRun}
 use Rattle.ip_image.specs.Virtual.{Stands, total}
 use Rattle.ip_image.proofs.PairLaws.{Has}
-use Rattle.ip_image.proofs.StayingRecords.{has_left, has_right, has_either}
+use Rattle.ip_image.proofs.StayingRecords.{has_left, has_right}
 use Rattle.ip_space.proofs.StoodBytes.{stands_both}
 use Rattle.ip_keep.specs.Whole.{run_at}
 use Rattle.ip_check.specs.declared.prefix.Stretch.{Stretch}

@@ -3,8 +3,8 @@
 --     flushed      what comparing what was made says.      one_given, none_given      how many runs are left
 --     begun      the front was made.      whole_compared      nothing is left
 --     total_joined      joining leaves the sum.      row_taken      the rows of the runs that are left
-use Rattle.std.proofs.Common.{◌≡◌, ℕ, zero, suc, ◌+◌, ◌-◌, List, [], ◌∷◌, ◌++◌, length, take, drop, refl, sym, ap, ◌∙◌, subst, arith, Bool, true, false, length-drop, length-append, append_assoc}
-use Rattle.std.specs.Prelude.{Option, Some, None, Ok, ◌==◌, if◌then◌else◌}
+use Rattle.std.proofs.Common.{◌≡◌, ℕ, zero, suc, ◌+◌, ◌-◌, List, [], ◌∷◌, ◌++◌, length, take, drop, refl, sym, ap, ◌∙◌, subst, arith, length-drop, length-append}
+use Rattle.std.specs.Prelude.{Option, Some, None, Ok}
 use Rattle.std.proofs.lemmas.List.{take_all, take-append-le}
 use Rattle.std.proofs.lemmas.List.Sums.{sum_by-cons}
 use Rattle.ip_ground.specs.declared.names.GroundFault.{GroundFault}

@@ -17,7 +17,7 @@ use Rattle.ip_spawn.specs.declared.job.Job.{Job}
 use Rattle.ip_spawn.specs.Jobs.{IsValid as IsValidJob}
 use Rattle.ip_image.specs.Collection.{Pair, Found, IsValid, IsKept, difference, first_difference}
 use Rattle.ip_image.specs.Virtual.{total}
-use Rattle.ip_space.specs.SpaceView.{SpaceView, grown}
+use Rattle.ip_space.specs.SpaceView.{SpaceView, bare, grown}
 use Rattle.ip_keep.specs.Keeping.{IsKeep, IsKeeping, IsThrough, looked_in, starts_between}
 use Rattle.ip_keep.specs.Whole.{AreRecords}
 use Rattle.ip_check.specs.declared.fault.CheckFault.{CheckFault}
@@ -37,7 +37,7 @@ pub record IsSpaceOf (job : Job) (space : SpaceView) : Type 0 where
 abbrev pub begun : Job → SpaceView → CheckView
 begun job space = record {
   job = job;
-  keep = record { space = grown space job.end; horizon = job.horizon; next = job.horizon; seen = 0; waiting = []; kept = [] };
+  keep = record { space = bare (grown space job.end); horizon = job.horizon; next = job.horizon; seen = 0; waiting = []; kept = [] };
   stage = Stage.Keeping;
   compared = 0;
 }

@@ -1,6 +1,6 @@
 -- What a read tells of a record.
 use Rattle.std.proofs.Common.{◌≡◌, ℕ, Bool, refl, sym, ap, subst, ◌∙◌}
-use Rattle.std.specs.Prelude.{Option, Some, None, Err, IsErrOf}
+use Rattle.std.specs.Prelude.{Option, Some, Err, IsErrOf}
 use Rattle.ip_ground.specs.Counts.{CountsIf, FileFault}
 use Rattle.ip_ground.specs.declared.names.GroundCounts.{GroundCounts}
 use Rattle.ip_spec.specs.declared.record.Record.{Record}

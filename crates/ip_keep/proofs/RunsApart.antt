@@ -1,7 +1,7 @@
 -- Runs that are apart, below a horizon.
 --     apart_total, apart_few      what they add up to, and how many they are.      apart_inside      each ends at or below it
 --     joined_rows      those that touch joined, they are in order
-use Rattle.std.proofs.Common.{◌≡◌, ℕ, suc, ◌+◌, ◌^◌, ◌<◌, ◌≤◌, List, [], ◌∷◌, ◌++◌, refl, subst, Bool, true, false, cond, length, reverse, arith}
+use Rattle.std.proofs.Common.{ℕ, suc, ◌+◌, ◌^◌, ◌≤◌, List, [], ◌∷◌, ◌++◌, subst, Bool, true, false, cond, length, reverse, arith}
 use Rattle.std.specs.Prelude.{◌==◌}
 use Rattle.std.specs.List.{AllByRecursion}
 use Rattle.std.proofs.lemmas.Grind.{reverse_onto}

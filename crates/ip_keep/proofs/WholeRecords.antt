@@ -1,7 +1,7 @@
 -- The records that a space has in an image.
 --     in_space      each is read at its offset.      along_end      from the horizon on they lie end to end
 --     of_core, core_here      records and what the core sees of them
-use Rattle.std.proofs.Common.{◌≡◌, ◌⊎◌, inl, inr, ℕ, ◌+◌, ◌-◌, ◌<◌, ◌≤◌, List, [], ◌∷◌, ◌++◌, refl, sym, ap, subst, ◌∙◌, length, map, arith, append_assoc, append-nil}
+use Rattle.std.proofs.Common.{◌≡◌, ◌⊎◌, inl, inr, ℕ, ◌+◌, ◌-◌, ◌<◌, List, [], ◌∷◌, ◌++◌, refl, sym, ap, subst, ◌∙◌, length, map, arith, append_assoc, append-nil}
 use Rattle.std.specs.Prelude.{Contains, Option, Some, None, IsSome}
 use Rattle.std.specs.List.{AllByRecursion}
 use Rattle.ip_ground.specs.Contents.{Image}
@@ -12,8 +12,7 @@ use Rattle.ip_spec.specs.TreeAt.{Records, present}
 use Rattle.ip_spec.specs.Core.{core_record, core_records, IsPresent}
 use Rattle.ip_image.specs.Slot.{newest_version}
 use Rattle.ip_image.specs.declared.run.Run.{Run}
-use Rattle.ip_image.specs.declared.run.Row.{Row}
-use Rattle.ip_image.specs.Virtual.{run_of, placed, RowsFitFrom, virtual_byte}
+use Rattle.ip_image.specs.Virtual.{run_of, placed, virtual_byte}
 use Rattle.ip_image.specs.Standing.{EndToEnd, RunByRun}
 use Rattle.ip_image.specs.Stored.{stored}
 use Rattle.ip_image.proofs.PairLaws.{Has, Rises}

@@ -3,7 +3,7 @@
 --     Chosen      what was kept, as the one valid pair has it.      chosen      it is found.      none_left      what is there when the pair is begun
 --     removed_by, removed_still, removed_pair      no crash leaves a done file behind the removals, the search, and the pair
 --     before_done, done_last      no crash leaves the done file without the pair.      left      what a collection leaves
-use Rattle.std.proofs.Common.{◌≡◌, ◌⊎◌, inl, inr, ℕ, ◌+◌, List, [], ◌∷◌, ◌++◌, length, map, refl, sym, ◌∙◌, ap, subst, arith, Option}
+use Rattle.std.proofs.Common.{◌≡◌, inl, inr, ℕ, List, length, map, refl, sym, ◌∙◌, ap, subst, arith, Option}
 use Rattle.std.specs.Prelude.{Some, None, Result, Ok}
 use Rattle.std.proofs.lemmas.Bool.{cases_lt}
 use Rattle.std.proofs.lemmas.List.{length-map}
@@ -13,16 +13,14 @@ use Rattle.ip_ground.specs.declared.names.GroundFault.{GroundFault}
 use Rattle.ip_ground.specs.Custody.{IsOfAttempt}
 use Rattle.ip_ground.specs.Told.{Told, KeepsFile, IsSynced, Only, NoFile, ChangesOnly}
 use Rattle.ip_ground.proofs.Spans.{only_on, each_on}
-use Rattle.ip_spec.specs.declared.record.Record.{Record}
-use Rattle.ip_spec.specs.Record.{spelling}
 use Rattle.ip_spec.specs.TreeAt.{Records}
 use Rattle.ip_spawn.specs.declared.job.Job.{Job}
 use Rattle.ip_image.specs.declared.layout.Layout.{Layout}
 use Rattle.ip_image.specs.declared.run.Run.{Run}
-use Rattle.ip_image.specs.Virtual.{Stands, mapping_bytes, total}
-use Rattle.ip_image.specs.Standing.{EndToEnd, RunByRun}
+use Rattle.ip_image.specs.Virtual.{mapping_bytes, total}
+use Rattle.ip_image.specs.Standing.{RunByRun}
 use Rattle.ip_image.specs.Collection.{IsKept as IsKeptSet, Pair, IsValid, runs_of, kept_bytes}
-use Rattle.ip_image.proofs.PairLaws.{Has, has_from, contains_from, one_valid}
+use Rattle.ip_image.proofs.PairLaws.{has_from, contains_from, one_valid}
 use Rattle.ip_image.proofs.KeptRuns.{runs_filled, rows_total}
 use Rattle.ip_image.proofs.StoredLaws.{runs_stand}
 use Rattle.ip_space.specs.SpaceView.{byte_at, stretches_of}

@@ -4,8 +4,8 @@
 --     now_held, piece_copied      one piece.      run_on, run_place, run_missing      one piece more of a run
 --     begun, all_copied, runs_on, runs_missing      one run more, from the empty prefix on
 --     inside_at, total_next, total_front      where runs end, and what they add up to
-use Rattle.std.proofs.Common.{◌≡◌, ◌≢◌, ℕ, zero, suc, ◌+◌, ◌<◌, ◌≤◌, Bool, true, false, List, [], ◌∷◌, ◌++◌, length, take, drop, get_or, refl, sym, ◌∙◌, ap, subst, arith, length-append, append_assoc, append-nil, Option}
-use Rattle.std.specs.Prelude.{Some, None, slice_get, Result, Ok, nat_le, option_and_then, if◌then◌else◌}
+use Rattle.std.proofs.Common.{◌≡◌, ◌≢◌, ℕ, zero, suc, ◌+◌, ◌<◌, ◌≤◌, List, [], ◌∷◌, ◌++◌, length, take, drop, get_or, refl, sym, ◌∙◌, ap, subst, arith, length-append, append_assoc, append-nil, Option}
+use Rattle.std.specs.Prelude.{Some, None, slice_get, Result, Ok}
 use Rattle.std.proofs.lemmas.List.{take_all, drop_all}
 use Rattle.ip_ground.specs.declared.names.FileName.{FileName}
 use Rattle.ip_ground.specs.declared.names.FileName.TheVariants.{Control, Chunk, Prefix, Mapping, Done}
@@ -19,7 +19,7 @@ use Rattle.ip_spec.specs.Path.{Bytes}
 use Rattle.ip_image.specs.declared.run.Run.{Run}
 use Rattle.std.specs.List.{AllByRecursion}
 use Rattle.std.proofs.lemmas.List.Sums.{sum_by-cons}
-use Rattle.ip_image.specs.Virtual.{total, virtual_byte, byte_of, chunk_of, place_in_chunk, locate}
+use Rattle.ip_image.specs.Virtual.{total}
 use Rattle.ip_image.specs.Stored.{bytes_from}
 use Rattle.ip_space.specs.SpaceView.{SpaceView, IsReadable, byte_at}
 use Rattle.ip_space.specs.Ahead.{ReadsBytes}
@@ -27,7 +27,7 @@ use Rattle.ip_space.proofs.Stayed.{byte_beside, readable_beside}
 use Rattle.ip_space.proofs.StoodBytes.{alike}
 use Rattle.ip_worker.specs.Steps.{IsFree, IsReady, IsHeld, AreHeld, IsCopied, CopiesRuns, gathered}
 use Rattle.ip_worker.specs.declared.fault.WorkFault.{WorkFault}
-use Rattle.ip_worker.proofs.Gathered.{from_stood, from_more, more_size, held_gap, held_part, held_at, gathered_next}
+use Rattle.ip_worker.proofs.Gathered.{from_stood, from_more, more_size, held_part, held_at, gathered_next}
 
 -- ---- custody
 
@@ -51,7 +51,7 @@ free_on these old new attempt only free = lending_now old new only.goes attempt 
 
 module _ (attempt : ℕ) (old new : Told) (only : ChangesOnly (IsOfAttempt attempt) old new) where
   pub ready_on : (space : SpaceView) → IsReady attempt space old → IsReady attempt space new
-  ready_on space ready = record { free = free_on (IsOfAttempt attempt) old new attempt only ready.free; readable = readable_beside (IsOfAttempt attempt) old new only space ready.readable; apart = ready.apart }
+  ready_on space ready = record { free = free_on (IsOfAttempt attempt) old new attempt only ready.free; readable = readable_beside (IsOfAttempt attempt) old new only (λ number none. none) space ready.readable ready.apart; apart = ready.apart }
 
   pub bytes_stay : (space : SpaceView) → IsReadable old space → space.layout.live ≢ attempt → byte_at new space ≡ byte_at old space
   bytes_stay space readable apart = alike (byte_at old space) (byte_at new space) (byte_beside (IsOfAttempt attempt) old new only (λ number none. none) space readable apart)

@@ -2,7 +2,7 @@
 --     of_this      only the attempt's files change.      done_stays, none_now      what a crash may leave of the done file.      not_mapping, not_prefix, apart_pair      the names differ
 --     Removed attempt a b      since a no crash leaves a done file, where none was left before
 --     clear_two, clear_three, clear_all      the exits of the removals, behind the first, the second and the last one
---     sync_changes, of_attempt, pair_changes, this_pair      what a sync changes, and the pair's files among the attempt's
+--     sync_changes, of_attempt, pair_changes, both_changed      what a sync changes, and the pair's files among the attempt's
 --     pair_refused, pair_half, pair_synced      the exits of the pair's syncs.      ended_half, ended      those of the done file
 use Rattle.std.proofs.Common.{◌≡◌, ◌≢◌, ◌⊎◌, inl, inr, Bool, true, false, T, eqb→eq, ℕ, refl, sym, ◌∙◌, ap, subst}
 use Rattle.std.specs.Prelude.{Some, None, Result, Ok, Err, IsErr, codes, if◌then◌else◌, ◌==◌}
@@ -162,8 +162,11 @@ of_attempt attempt (Done n) is = absurd is
 pub pair_changes : (attempt : ℕ) (a b : Told) → ChangesOnly (IsPairFile attempt) a b → ChangesOnly (IsOfAttempt attempt) a b
 pair_changes attempt a b only = only_more a b (IsPairFile attempt) (IsOfAttempt attempt) (of_attempt attempt) only
 
-pub this_pair : (attempt : ℕ) (file : FileName) (a b : Told) → IsPairFile attempt file → ChangesOnly (Only file) a b → ChangesOnly (IsPairFile attempt) a b
+this_pair : (attempt : ℕ) (file : FileName) (a b : Told) → IsPairFile attempt file → ChangesOnly (Only file) a b → ChangesOnly (IsPairFile attempt) a b
 this_pair attempt file a b is only = only_more a b (Only file) (IsPairFile attempt) (λ f here. subst (IsPairFile attempt) (sym here) is) only
+
+pub both_changed : (attempt : ℕ) (a b c : Told) → ChangesOnly (Only (Prefix attempt)) a b → ChangesOnly (Only (Mapping attempt)) b c → ChangesOnly (IsPairFile attempt) a c
+both_changed attempt a b c one two = only_on a b c (IsPairFile attempt) (this_pair attempt (Prefix attempt) a b refl one) (this_pair attempt (Mapping attempt) b c refl two)
 
 module _ (attempt : ℕ) (a b c : Told) (q r : Result (Unit {0}) GroundFault) (free : IsFree a attempt) (one : Syncs (Prefix attempt) q a b) (two : Syncs (Mapping attempt) r b c) where
   first_only : ChangesOnly (Only (Prefix attempt)) a b
@@ -176,7 +179,7 @@ module _ (attempt : ℕ) (a b c : Told) (q r : Result (Unit {0}) GroundFault) (f
   second_only = sync_changes (Mapping attempt) attempt r b c free_then refl two
 
   both_only : ChangesOnly (IsPairFile attempt) a c
-  both_only = only_on a b c (IsPairFile attempt) (this_pair attempt (Prefix attempt) a b refl first_only) (this_pair attempt (Mapping attempt) b c refl second_only)
+  both_only = both_changed attempt a b c first_only second_only
 
   both_held : (file : FileName) → IsPairFile attempt file → c.held file ≡ a.held file
   both_held file is = (two.files file).held (not_foreign b attempt file free_then (of_attempt attempt file is)) ∙ (one.files file).held (not_foreign a attempt file free (of_attempt attempt file is))

@@ -1,6 +1,6 @@
 -- The search over what is told, while other files change.
 --     nothing_on      no attempt was ever lent.      generation_on, records_on, whole_on      what the job reads, while only the attempt's files change
---     readable_lent, readable_whole      where none was lent.      records_later      while no file changes.      for_job      the search is the job's
+--     readable_whole      where none was lent.      records_later      while no file changes.      for_job      the search is the job's
 --     lie_space, lie_before, readable_before      what it begins with.      found      what it found
 use Rattle.std.proofs.Common.{◌≡◌, ◌≢◌, ℕ, suc, ◌^◌, ◌<◌, ◌≤◌, List, [], length, map, sym, ◌∙◌, ap, subst, arith, Option}
 use Rattle.std.specs.Prelude.{Ok, IsSomeAnd}
@@ -16,6 +16,7 @@ use Rattle.ip_image.specs.declared.layout.Layout.{Layout}
 use Rattle.ip_image.specs.declared.run.Row.{Row}
 use Rattle.ip_image.specs.Virtual.{run_of}
 use Rattle.ip_image.specs.Standing.{Generation, RunByRun}
+use Rattle.ip_image.proofs.StayingRecords.{in_from}
 use Rattle.ip_space.specs.SpaceView.{SpaceView, IsReadable, stretches_of}
 use Rattle.ip_keep.specs.KeepView.{KeepView}
 use Rattle.ip_keep.specs.Keeping.{IsKeep, IsKeeping, SameWork, LooksUpTo, looked_in}
@@ -60,12 +61,13 @@ module _ (attempt : ℕ) (a b : Told) (only : ChangesOnly (IsOfAttempt attempt) 
     none = g.none;
   }
 
-pub readable_lent : (told : Told) (space : SpaceView) → NothingLent told → (space.layout.live ≡ 0 → space.runs ≡ []) → IsReadable told space
-readable_lent told space nothing none = record { own = λ live foreign. subst (λ (c : Custody). custody.IsForeign c) (nothing space.layout.live) foreign; none = none }
-
--- the space of a job whose files are whole
+-- where none was lent nobody else changes the space of a job whose files are whole
 pub readable_whole : (told : Told) (job : Job) (records : Records) → NothingLent told → (whole : AreWhole told.held job records) → IsReadable told (space_of_job job whole.rows)
-readable_whole told job records nothing whole = readable_lent told (space_of_job job whole.rows) nothing (λ z. ap (map run_of) (whole.generation.none z))
+readable_whole told job records nothing whole = record {
+  own = λ live foreign. subst (λ (c : Custody). custody.IsForeign c) (nothing job.live) foreign;
+  none = λ z. ap (map run_of) (whole.generation.none z);
+  kept = λ at r there. absurd (in_from [] (at, r) there);
+}
 
 pub whole_on : (job : Job) (a b : Told) → ChangesOnly (IsOfAttempt job.attempt) a b → job.live ≢ job.attempt → NothingLent a → (records : Records) → AreWhole a.held job records → AreWhole b.held job records
 whole_on job a b only apart nothing records whole = record {

@@ -2,18 +2,17 @@
 --     own_pair      no child changes it.      generation_later      what it holds stays while no file changes
 --     not_bad, bad_found      one that is whole is not bad.      opened      the space that is made of it
 use Rattle.std.proofs.Common.{◌≡◌, ◌≢◌, ℕ, zero, suc, List, [], ◌∷◌, ◌++◌, length, map, refl, sym, ◌∙◌, ap, subst, arith, append_assoc}
-use Rattle.std.specs.Prelude.{Some, Ok, Err, IsSomeAnd}
+use Rattle.std.specs.Prelude.{Ok, Err, IsSomeAnd}
 use Rattle.ip_ground.specs.declared.names.FileName.{FileName}
 use Rattle.ip_ground.specs.declared.names.FileName.TheVariants.{Prefix}
 use Rattle.ip_ground.specs.Contents.{Content, Image}
 use Rattle.ip_ground.specs.Custody.{Custody}
 use Rattle.ip_ground.specs.Custody as custody
 use Rattle.ip_ground.specs.Told.{Told, NoFile, ChangesOnly}
-use Rattle.ip_spec.specs.Path.{Bytes}
 use Rattle.ip_image.specs.declared.layout.Layout.{Layout}
 use Rattle.ip_image.specs.declared.run.Row.{Row}
-use Rattle.ip_image.specs.Virtual.{run_of, mapping_file, RowsFit}
-use Rattle.ip_image.specs.Standing.{MappingIs, Generation}
+use Rattle.ip_image.specs.Virtual.{run_of, RowsFit}
+use Rattle.ip_image.specs.Standing.{Generation}
 use Rattle.ip_image.proofs.DamageLaws.{rows_front}
 use Rattle.ip_space.specs.SpaceView.{SpaceView}
 use Rattle.ip_space.specs.Pair.{IsOwnPair, IsBadPair, no_mapping, no_row, no_sum, no_prefix, FindsSpace}
@@ -51,9 +50,9 @@ not_bad image s rows live g file at (no_prefix others is fits sum other) = other
 pub bad_found : (image : Image) (s : Layout) (rows : List Row) (fault : SpaceFault) (file : FileName) (at : ℕ) → fault ≡ Damaged file at → s.live ≢ 0 → Generation image s rows → FindsSpace image s (Err fault) → ⊥
 bad_found image s rows fault file at is live g finds = not_bad image s rows live g file at (subst (λ (f : SpaceFault). FindsSpace image s (Err f)) is finds)
 
-pub opened : (image : Image) (s : Layout) (rows : List Row) (space : SpaceView) → Generation image s rows → space.layout ≡ s → (s.live ≡ 0 → space.runs ≡ []) → (s.live ≢ 0 → FindsSpace image s (Ok space))
-    → space ≡ record { layout = s; runs = map run_of rows }
-opened image s rows space g layout none some = λ i. record { layout = layout i; runs = runs i }
+pub opened : (image : Image) (s : Layout) (rows : List Row) (space : SpaceView) → Generation image s rows → space.layout ≡ s → (s.live ≡ 0 → space.runs ≡ []) → space.kept ≡ [] → (s.live ≢ 0 → FindsSpace image s (Ok space))
+    → space ≡ record { layout = s; runs = map run_of rows; kept = [] }
+opened image s rows space g layout none kept some = λ i. record { layout = layout i; runs = runs i; kept = kept i }
   where
     by : (n : ℕ) → s.live ≡ n → space.runs ≡ map run_of rows
     by zero e = none e ∙ sym (ap (map run_of) (g.none e))

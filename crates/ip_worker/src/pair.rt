@@ -1,5 +1,5 @@
 // The pair of an attempt: the prefix, and the mapping that says where in it an offset lies.
-ghost use Rattle.std.specs.Prelude.{◌≡◌, ◌≢◌, [], ◌+◌, ◌<◌, ◌≤◌, ◌^◌, length, IsTrue, IfOk, OnOk, IsErrOf, Some, None};
+ghost use Rattle.std.specs.Prelude.{◌≡◌, [], ◌+◌, ◌<◌, ◌≤◌, ◌^◌, length, IsTrue, IfOk, OnOk, IsErrOf, Some, None};
 ghost use Rattle.std.specs.List.{AllByRecursion};
 ghost use Rattle.ip_ground.specs.declared.names.FileName.TheVariants.{Prefix, Mapping};
 ghost use Rattle.ip_ground.specs.Counts.{Counts as CountsBy};

@@ -1,5 +1,5 @@
 // The child's work.
-ghost use Rattle.std.specs.Prelude.{◌≡◌, IsTrue};
+ghost use Rattle.std.specs.Prelude.{IsTrue};
 ghost use Rattle.ip_spec.specs.TreeAt.{Records};
 ghost use Rattle.ip_spawn.specs.Jobs.{IsValid as IsValidJob};
 ghost use Rattle.ip_worker.specs.Faults.{CountsWork};

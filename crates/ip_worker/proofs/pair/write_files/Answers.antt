@@ -5,14 +5,13 @@ use Rattle.ip_ground.proofs.Spans.{only_on}
 use Rattle.ip_space.specs.SpaceView.{byte_at}
 use Rattle.ip_worker.specs.Steps.{IsPairFile}
 use Rattle.ip_worker.proofs.Copying.{free_on}
-use Rattle.ip_worker.proofs.Ending.{this_pair, absent_on, apart_pair}
+use Rattle.ip_worker.proofs.Ending.{both_changed, absent_on, apart_pair}
 use Rattle.ip_worker.proofs.Collecting.{files_written}
 use Rattle.ip_worker.proofs.pair.write_files.Goals as goal
 
 pub returns-in-Err-write_mapping-clause-only : goal.returns-in-Err-write_mapping-clause-only
 returns-in-Err-write_mapping-clause-only g c told free =
-    let attempt = c.args.job.now.attempt in
-    only_on _ _ _ (IsPairFile attempt) (this_pair attempt (Prefix attempt) _ _ refl (c.write_prefix.ensures.only told)) (this_pair attempt (Mapping attempt) _ _ refl (c.write_mapping.ensures.only told))
+    both_changed c.args.job.now.attempt _ _ _ (c.write_prefix.ensures.only told) (c.write_mapping.ensures.only told)
 
 pub returns-in-Ok-sync_pair-clause-writes : goal.returns-in-Ok-sync_pair-clause-writes
 returns-in-Ok-sync_pair-clause-writes g c told ready gone_prefix gone_mapping =
@@ -38,8 +37,7 @@ returns-in-Ok-sync_pair-clause-only g c told free =
     let a = g.G.Ground.told c.args.outside.now in
     let m = g.G.Ground.told c.write_mapping.new.outside in
     let attempt = c.args.job.now.attempt in
-    let both =
-    only_on _ _ _ (IsPairFile attempt) (this_pair attempt (Prefix attempt) _ _ refl (c.write_prefix.ensures.only told)) (this_pair attempt (Mapping attempt) _ _ refl (c.write_mapping.ensures.only told)) in
+    let both = both_changed attempt a _ m (c.write_prefix.ensures.only told) (c.write_mapping.ensures.only told) in
     only_on _ _ _ (IsPairFile attempt) both (c.sync_pair.ensures.syncs told (free_on (IsPairFile attempt) a m attempt both free)).only
 
 pub returns-in-Err-sync_pair-clause-only : goal.returns-in-Err-sync_pair-clause-only
@@ -47,6 +45,5 @@ returns-in-Err-sync_pair-clause-only g c told free =
     let a = g.G.Ground.told c.args.outside.now in
     let m = g.G.Ground.told c.write_mapping.new.outside in
     let attempt = c.args.job.now.attempt in
-    let both =
-    only_on _ _ _ (IsPairFile attempt) (this_pair attempt (Prefix attempt) _ _ refl (c.write_prefix.ensures.only told)) (this_pair attempt (Mapping attempt) _ _ refl (c.write_mapping.ensures.only told)) in
+    let both = both_changed attempt a _ m (c.write_prefix.ensures.only told) (c.write_mapping.ensures.only told) in
     only_on _ _ _ (IsPairFile attempt) both (c.sync_pair.ensures.syncs told (free_on (IsPairFile attempt) a m attempt both free)).only

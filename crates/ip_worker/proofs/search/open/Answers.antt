@@ -23,7 +23,7 @@ returns-in-Ok-clause-opens g c told nothing rows generation =
     let own = own_pair a s nothing in
     let does = c.in-Ok.ensures in
     record {
-      ok = opened b.held s rows c.in-Ok.space (generation_later a b s rows (does.only told) own generation) does.view does.runs (λ live. does.finds told live own);
+      ok = opened b.held s rows c.in-Ok.space (generation_later a b s rows (does.only told) own generation) does.view does.runs does.kept (λ live. does.finds told live own);
       whole = λ no. absurd (cc no);
     }
 

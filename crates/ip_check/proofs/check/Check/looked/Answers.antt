@@ -1,4 +1,4 @@
-use Rattle.std.proofs.Common.{◌≡◌, ◌≤◌, ℕ, rules, arith}
+use Rattle.std.proofs.Common.{◌≡◌, rules, arith}
 use Rattle.ip_keep.proofs.RunsApart.{apart_total, apart_few}
 use Rattle.ip_check.proofs.check.Check.looked.Goals as goal
 

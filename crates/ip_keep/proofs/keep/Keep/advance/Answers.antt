@@ -1,3 +1,4 @@
+use Rattle.ip_space.proofs.Stayed.{readable_stays}
 use Rattle.ip_keep.proofs.Goings.{goes_on, blames_later}
 use Rattle.ip_keep.proofs.keep.Keep.advance.Goals as goal
 
@@ -9,3 +10,9 @@ returns-clause-undamaged g c = blames_later g.G.Ground.tells _ _ c.args.self.now
 
 pub returns-clause-only : goal.returns-clause-only
 returns-clause-only g c = (goes_on g.G.Ground.tells _ _ _ c.args.self.now c.go_up.new.self c.go_down.new.self c.in-Ok.ensures.goes c.go_down.ensures.goes).only
+
+pub returns-in-Err-clause-readable : goal.returns-in-Err-clause-readable
+returns-in-Err-clause-readable g c told = readable_stays _ _ (c.in-Err.ensures.goes.only told) c.args.self.now.space
+
+pub returns-clause-readable : goal.returns-clause-readable
+returns-clause-readable g c told = readable_stays _ _ ((goes_on g.G.Ground.tells _ _ _ c.args.self.now c.go_up.new.self c.go_down.new.self c.in-Ok.ensures.goes c.go_down.ensures.goes).only told) c.args.self.now.space
