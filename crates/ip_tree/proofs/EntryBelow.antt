@@ -1,7 +1,7 @@
 -- The entry at a step below the record of a part, by that record.
---     leaf_finds, child_finds, no_child      what is found in a leaf, below a child of an inode, and where there is none
+--     leaf_finds, no_child      what is found in a leaf, and where there is none
 --     child_asked      the record of the child to which the step goes
---     leaf_through, inode_through, none_through      the same through any records
+--     leaf_through, next_through, none_through      the same through any records
 use Rattle.std.proofs.Common.{◌≡◌, ◌≢◌, ℕ, zero, suc, ◌-◌, ◌<◌, List, length, refl, sym, ap, subst, ◌∙◌, Option, Some, None, arith}
 use Rattle.std.specs.Prelude.{Contains, option_and_then, option_map, slice_index_or}
 use Rattle.std.specs.FinMap.Entries.{find}
@@ -20,7 +20,7 @@ use Rattle.ip_tree.specs.declared.node.Stored.{Stored}
 use Rattle.ip_tree.proofs.Indexes.{no_some, some_same}
 use Rattle.ip_tree.proofs.LeafEntered.{is_leaf_at}
 use Rattle.ip_tree.proofs.MoreRecords.{last_entry, leaf_entry, next_entry}
-use Rattle.ip_tree.proofs.PartLookups.{named, same_finds, step_down}
+use Rattle.ip_tree.proofs.PartLookups.{named, step_down}
 use Rattle.ip_shape.proofs.PartNames.{named_part}
 use Rattle.ip_tree.proofs.PartRecords.{above_deepest, child_known, child_none, child_spelled, is_inode}
 
@@ -37,9 +37,6 @@ module _ (records : ℕ → Option Record) (depth at : ℕ) (es : Entries) (part
 
     child_there : (s : Step) → option_map (λ (c : Stored × ℕ). offset_of c.0) (child_in (place s depth) (children_read cs)) ≡ child_with (place s d) cs
     child_there s = sym (child_known (place s depth) cs) ∙ ap (λ i. child_with i cs) (sym (same_place s))
-
-    pub child_finds : (s : Step) (found : Option Stored) → FindsEntry records (at_place depth (place s depth) es) s found → FindsEntry records es s found
-    child_finds s found finds = same_finds records (at_place depth (place s depth) es) es s found (step_down records depth es s) finds
 
     pub no_child : (s : Step) → None ≡ child_with (place s d) cs → find bytes_cmp s es ≡ None
     no_child s none = by (child_in (place s depth) (children_read cs)) refl (child_there s ∙ sym none)
@@ -91,13 +88,6 @@ module _ (all : ℕ → Option Record) (at : ℕ) (s : Step) where
   none_through zero d cs here none = ap (λ o. option_map stored_of_entry (option_and_then (λ (b : ℕ). None) o)) none ∙ ap (option_map stored_of_entry) (sym (last_entry all s at d cs here))
   none_through (suc levels) d cs here none = ap (λ o. option_map stored_of_entry (option_and_then (entry_through levels all s) o)) none ∙ ap (option_map stored_of_entry) (sym (next_entry all levels s at d cs here))
 
-  next_through : (levels d b : ℕ) (cs : List InodeChild) (found : Option Stored) → all at ≡ Some (Record.Inode d cs) → Some b ≡ child_with (place s d) cs → found ≡ entry_below all levels b s → found ≡ entry_below all (suc levels) at s
+  pub next_through : (levels d b : ℕ) (cs : List InodeChild) (found : Option Stored) → all at ≡ Some (Record.Inode d cs) → Some b ≡ child_with (place s d) cs → found ≡ entry_below all levels b s → found ≡ entry_below all (suc levels) at s
   next_through levels d b cs found here there is =
       is ∙ ap (λ o. option_map stored_of_entry (option_and_then (entry_through levels all s) o)) there ∙ ap (option_map stored_of_entry) (sym (next_entry all levels s at d cs here))
-
-  pub inode_through : (later : ℕ → Option Record) → ((b : ℕ) → later b ≡ all b) → (levels d b : ℕ) (cs : List InodeChild) (found : Option Stored) → levels ≢ 0 → all at ≡ Some (Record.Inode d cs) → Some b ≡ child_with (place s d) cs
-      → found ≡ entry_below later (levels - 1) b s → found ≡ entry_below all levels at s
-  inode_through later same levels d b cs found some here there is =
-      let one : levels ≡ suc (levels - 1) = omega (arith, some) in
-      let every : later ≡ all = λ i b. same b i in
-      next_through (levels - 1) d b cs found here there (is ∙ ap (λ r. entry_below r (levels - 1) b s) every) ∙ ap (λ n. entry_below all n at s) (sym one)

@@ -29,6 +29,9 @@ pub mod Empty
 pub mod Unfolded
 pub mod Found
 pub mod EntryBelow
+pub mod LeafSearch
+pub mod Leading
+pub mod Lending
 pub mod GotAt
 pub mod Descent
 pub mod Trees

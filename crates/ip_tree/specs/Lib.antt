@@ -6,6 +6,7 @@ pub mod Meaning
 pub mod Heights
 pub mod Reads
 pub mod Narrow
+pub mod Leading
 pub mod Listing
 pub mod Edits
 pub mod TreeView

@@ -6,10 +6,14 @@
 --     node_of_entry e, unread_child c      the same as what was not read
 --     leaf_read fields, children_read cs      the entries of a leaf and the children of an inode, not read
 --     record_of content, content_count content      a record of a directory, and how many entries it tells
+--     as_content lent      what it holds, where it is lent
+--     lent_at space at found      the record that was brought for an offset: the one that was handed out, or the one that is kept
+--     IsPartRecord r      it is the record of a directory, or of a part of one, within the bounds of the format
 --     entry_below records levels at s      what a walk through any records finds at a step
 --     FindsEntry records es s found      what an entry refers to, or that there is none
 --     Looks tells old new space now      a call only read records
 --     IsFree fault      no record was missing or another one, and no limit was passed
+--     IsFetchFault fault      a read is its cause
 --     IsOwn fault      no read is its cause
 --     IsBlamed fault      a fault of a fetch is one that fetching some reference may answer, whatever is told
 --     IsDamage records fault      and the records have at that reference what it says
@@ -23,12 +27,13 @@ use Rattle.ip_spec.specs.declared.record.InodeChild.{InodeChild}
 use Rattle.ip_spec.specs.declared.record.LeafEntry.{LeafEntry}
 use Rattle.ip_spec.specs.declared.record.Ref.{Ref}
 use Rattle.ip_spec.specs.declared.record.Record.{Record}
+use Rattle.ip_spec.specs.Record.{Fits, reference_kind}
 use Rattle.ip_spec.specs.Tree as Tree
 use Rattle.ip_spec.specs.Tree.{Tree, is_contents}
 use Rattle.ip_spec.specs.Shape.{Entries, name_of_part}
 use Rattle.ip_spec.specs.StoredParts.{entry_through}
 use Rattle.ip_spec.specs.TreeAt.{PartAt}
-use Rattle.ip_space.specs.SpaceView.{SpaceView, IsReadable, OnlyReads, records_of}
+use Rattle.ip_space.specs.SpaceView.{SpaceView, IsReadable, OnlyReads, kept_at, records_of}
 use Rattle.ip_space.specs.Fetching.{Blames, Fetches}
 use Rattle.ip_space.specs.declared.fault.FetchFault.TheVariants as fetch
 use Rattle.ip_shape.specs.declared.reading.Child.{Child}
@@ -36,6 +41,8 @@ use Rattle.ip_tree.specs.Meaning.{Spells, StoredIs}
 use Rattle.ip_tree.specs.Node.{Entry, stored}
 use Rattle.ip_tree.specs.declared.fetch.Content.{Content}
 use Rattle.ip_tree.specs.declared.fetch.Content.TheVariants as content
+use Rattle.ip_tree.specs.declared.fetch.LentContent.{LentContent}
+use Rattle.ip_tree.specs.declared.fetch.LentContent.TheVariants as lending
 use Rattle.ip_tree.specs.declared.node.Stored.{Stored}
 use Rattle.ip_tree.specs.declared.tree.TreeFault.{TreeFault}
 use Rattle.ip_tree.specs.declared.tree.TreeFault.TheVariants.{Limit, Fetch, Memory}
@@ -87,6 +94,20 @@ abbrev pub content_count : Content → ℕ
 content_count (content.Leaf entries) = length entries
 content_count (content.Inode depth children) = sum_by (λ (c : InodeChild). c.count) children
 
+-- what a record holds, where it is lent
+abbrev pub as_content : LentContent → Content
+as_content (lending.Leaf entries) = content.Leaf entries.now
+as_content (lending.Inode depth children) = content.Inode depth children.now
+
+-- the record that was brought for an offset
+abbrev pub lent_at : SpaceView → ℕ → Option Record → Option Record
+lent_at space at (Some rec) = Some rec
+lent_at space at None = kept_at at space.kept
+
+abbrev pub IsPartRecord : Option Record → Type 0
+IsPartRecord None = ⊥
+IsPartRecord (Some rec) = (reference_kind rec ≡ 2) × (version : ℕ) × Fits version rec
+
 -- through any records
 abbrev pub entry_below : (ℕ → Option Record) → ℕ → ℕ → Step → Option Stored
 entry_below records levels at s = option_map stored_of_entry (entry_through levels records s at)
@@ -111,6 +132,12 @@ IsFree (Fetch (fetch.Form at fault)) = ⊥
 IsFree (Fetch (fetch.Name at want got)) = ⊥
 IsFree (Fetch fetch.Memory) = Unit {0}
 IsFree Memory = Unit {0}
+
+-- a read is its cause
+abbrev pub IsFetchFault : TreeFault → Type 0
+IsFetchFault (Limit l) = ⊥
+IsFetchFault (Fetch fault) = Unit {0}
+IsFetchFault Memory = ⊥
 
 -- no read is its cause
 abbrev pub IsOwn : TreeFault → Type 0

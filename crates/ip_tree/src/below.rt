@@ -1,20 +1,23 @@
 // Walks below records of the store: nothing is loaded.
-ghost use Rattle.std.specs.Prelude.{◌≡◌, ◌+◌, ◌<◌, ℕ, Option, option_map, Contains, IsTrue, IfOk, IfErr, IfSome, IsErrOf, OnOk, MatchResult};
+ghost use Rattle.std.specs.Prelude.{◌≡◌, ◌+◌, ◌<◌, ℕ, Option, option_map, map, Contains, IsTrue, IfOk, IfErr, IfSome, IsErrOf, OnOk, MatchResult};
 ghost use Rattle.std.specs.FinMap.Entries.{find};
 ghost use Rattle.ip_ground.specs.Counts.{Counts};
 ghost use Rattle.ip_space.specs.declared.fault.FetchFault.TheVariants as FetchFault;
 ghost use Rattle.ip_tree.specs.Faults.{ground_tree};
 ghost use Rattle.ip_space.specs.SpaceView.{IsReadable, records_of};
 ghost use Rattle.ip_spec.specs.Path.{Step as TheStep, bytes_cmp};
+ghost use Rattle.ip_spec.specs.Record.{Fits, are_rising};
 ghost use Rattle.ip_spec.specs.Shape.{Entries, deepest, place};
 ghost use Rattle.ip_spec.specs.StoredParts.{child_with, entry_named};
 ghost use Rattle.ip_spec.specs.declared.record.InodeChild.{InodeChild};
+ghost use Rattle.ip_spec.specs.declared.record.LeafEntry.{LeafEntry};
 ghost use Rattle.ip_spec.specs.declared.record.Record.{Record};
+ghost use Rattle.ip_tree.specs.Leading.{HasDepth, LeadsBy, LeadsThrough, LeadsTo};
 ghost use Rattle.ip_tree.specs.Listing.{Adds, entry_kind, kind_or};
-ghost use Rattle.ip_tree.specs.Reads.{IsOver, IsPartRef, IsFree, FindsEntry, Looks, IsCause, entry_below, ref_of_child, stored_of_child, stored_of_entry};
+ghost use Rattle.ip_tree.specs.Reads.{IsOver, IsPartRef, IsFetchFault, IsFree, FindsEntry, Looks, IsCause, as_content, entry_below, record_of, ref_of_child, stored_of_child, stored_of_entry};
 ghost use Rattle.ip_tree.specs.declared.tree.TreeFault.TheVariants as TreeFault;
 
-use crate::fetch::{Content, fetch_part};
+use crate::fetch::{Content, LentContent, bring_part, fetch_part, lent_part};
 use crate::node::Stored;
 use crate::tree::TreeFault;
 use ip_base::{Memory, Step};
@@ -23,10 +26,10 @@ use ip_shape::places::place;
 use ip_space::Space;
 use ip_spec::kind;
 use ip_spec::record::{InodeChild, LeafEntries, LeafEntry, Ref};
-use std::cmp::Ordering;
 use std::collections::BTreeMap;
 
-/// The entry at a step of a directory, below the record of a part with so many depths below it. It fetches a record for each inode on the way, and the leaf.
+/// The entry at a step of a directory, below the record of a part with so many depths below it. It brings a record for each inode on the way, and the leaf, and copies none of those that
+/// are kept.
 pub fn entry_below<G: Ground>(
     outside: &mut G,
     space: &mut Space,
@@ -42,16 +45,66 @@ pub fn entry_below<G: Ground>(
     ensures looks { Looks G.tells (G.told outside.old) (G.told outside.new) space.old space.new }
     ensures counts { Counts ground_tree result (G.counts_of outside.old) (G.counts_of outside.new) }
     ensures causes { IfErr result (IsCause G.tells (G.told outside.old) space.old) }
+    ensures fault { IfErr result IsFetchFault }
 {
-    match fetch_part(outside, space, reference)? {
-        Content::Leaf(entries) => Ok(entry_in(entries.as_slice(), step)),
-        Content::Inode { depth, children } => {
+    let next = match next_below(outside, space, reference, levels, step) {
+        Ok(next) => next,
+        Err(fault) => return Err(fault),
+    };
+    match next {
+        Next::Found(found) => Ok(found),
+        Next::Child(child) => entry_below(outside, space, &child, levels - 1, step),
+    }
+}
+
+/// Where one record leads for a step.
+#[derive(Clone, Copy)]
+enum Next {
+    /// The entry at the step, or there is none.
+    Found(Option<Stored>),
+    /// To the record of a child, and there is a depth below.
+    Child(Ref),
+}
+
+// Where the record of a part leads for a step. It is let go before the next one is brought.
+fn next_below<G: Ground>(
+    outside: &mut G,
+    space: &mut Space,
+    reference: &Ref,
+    levels: u8,
+    step: &Step,
+) -> Result<Next, TreeFault>
+    ensures next { IsTrue G.tells → (records : ℕ → Option Record) (depth : ℕ) (es : Entries) → IsOver (G.told outside.old) space.old records → depth + levels ≡ deepest
+        → IsPartRef records depth reference.now es → MatchResult result (LeadsTo records depth es step.now) IsFree }
+    ensures any { IsTrue G.tells → IsReadable (G.told outside.old) space.old →
+        IfOk result (λ next. LeadsThrough (records_of (G.told outside.old) space.old) levels reference.now.at step.now next) }
+    ensures low { IfOk result (HasDepth levels) }
+    ensures looks { Looks G.tells (G.told outside.old) (G.told outside.new) space.old space.new }
+    ensures counts { Counts ground_tree result (G.counts_of outside.old) (G.counts_of outside.new) }
+    ensures causes { IfErr result (IsCause G.tells (G.told outside.old) space.old) }
+    ensures fault { IfErr result IsFetchFault }
+{
+    let found = match bring_part(outside, space, reference) {
+        Ok(found) => found,
+        Err(fault) => return Err(fault),
+    };
+    Ok(next_in(lent_part(space, reference.at, &found), levels, step))
+}
+
+// Where the record of a part with so many depths below it leads for a step.
+fn next_in(content: LentContent<'_>, levels: u8, step: &Step) -> Next
+    requires { (version : ℕ) × Fits version (record_of (as_content content)) }
+    ensures { LeadsBy levels step.now (as_content content.entry) result }
+{
+    match content {
+        LentContent::Leaf(entries) => Next::Found(entry_in(entries, step)),
+        LentContent::Inode { depth, children } => {
             if levels == 0 {
-                return Ok(None);
+                return Next::Found(None);
             }
-            match child_in(children.as_slice(), depth, step) {
-                Some(child) => entry_below(outside, space, &child, levels - 1, step),
-                None => Ok(None),
+            match child_in(children, depth, step) {
+                Some(child) => Next::Child(child),
+                None => Next::Found(None),
             }
         }
     }
@@ -59,14 +112,13 @@ pub fn entry_below<G: Ground>(
 
 /// What the entry of a leaf with this step refers to.
 pub fn entry_in(entries: &[LeafEntry], step: &Step) -> Option<Stored>
+    requires { IsTrue (are_rising (map (λ e. e.step) entries.now)) }
     ensures { result ≡ option_map stored_of_entry (entry_named step.now entries.now) }
 {
-    for entry in entries {
-        if step.bytes().cmp(entry.step.bytes()) == Ordering::Equal {
-            return Some(stored(entry));
-        }
+    match entries.binary_search_by(|entry| entry.step.cmp(step)) {
+        Ok(place) => Some(stored(&entries[place])),
+        Err(_) => None,
     }
-    None
 }
 
 /// What an entry of a leaf refers to.

@@ -1,4 +1,4 @@
-// Fetching contents and the records of directories.
+// Fetching contents and the records of directories, and what is lent of these.
 ghost use Rattle.std.specs.Prelude.{◌≡◌, ℕ, Option, Some, IsTrue, IfOk, IfErr, IsErrOf, MatchResult};
 ghost use Rattle.ip_ground.specs.Counts.{Counts};
 ghost use Rattle.ip_space.specs.declared.fault.FetchFault.TheVariants as FetchFault;
@@ -9,7 +9,7 @@ ghost use Rattle.ip_spec.specs.Shape.{Entries};
 ghost use Rattle.ip_spec.specs.Tree.{Tree as Map, contents};
 ghost use Rattle.ip_spec.specs.declared.record.Record.{Record};
 ghost use Rattle.ip_spec.specs.declared.record.Record.TheVariants as Record;
-ghost use Rattle.ip_tree.specs.Reads.{IsOver, IsPartRef, IsFree, Reaches, Looks, IsCause, record_of};
+ghost use Rattle.ip_tree.specs.Reads.{IsOver, IsPartRecord, IsPartRef, IsFetchFault, IsFree, Reaches, Looks, IsCause, as_content, lent_at, record_of};
 ghost use Rattle.ip_tree.specs.declared.tree.TreeFault.TheVariants as TreeFault;
 
 use crate::tree::TreeFault;
@@ -17,13 +17,83 @@ use ip_base::Blob;
 use ip_ground::Ground;
 use ip_space::Space;
 use ip_spec::kind;
-use ip_spec::record::{InodeChildren, LeafEntries, Record, Ref};
+use ip_spec::record::{InodeChild, InodeChildren, LeafEntries, LeafEntry, Record, Ref};
 
 /// What the record of a directory holds, or of a part of one.
 #[derive(Drop)]
 pub enum Content {
     Leaf(LeafEntries),
     Inode { depth: u8, children: InodeChildren },
+}
+
+/// What the record of a directory holds, or of a part of one, where it is lent.
+#[derive(Clone, Copy)]
+pub enum LentContent<'a> {
+    Leaf(&'a [LeafEntry]),
+    Inode {
+        depth: u8,
+        children: &'a [InodeChild],
+    },
+}
+
+impl Content {
+    ghost use Rattle.ip_tree.specs.Reads.{as_content};
+
+    /// The same, lent.
+    pub fn lent(&self) -> LentContent<'_>
+        ensures { as_content result ≡ self.now }
+    {
+        match self {
+            Content::Leaf(entries) => LentContent::Leaf(entries.as_slice()),
+            Content::Inode { depth, children } => LentContent::Inode {
+                depth: *depth,
+                children: children.as_slice(),
+            },
+        }
+    }
+}
+
+/// Brings the record of a directory, or of a part of one, as `Space::bring` does: then `lent_part` lends what it holds. It is asked for by that kind, whatever the reference says,
+/// which others may have written.
+pub fn bring_part<G: Ground>(
+    outside: &mut G,
+    space: &mut Space,
+    reference: &Ref,
+) -> Result<Option<Record>, TreeFault>
+    ensures part { IsTrue G.tells → (records : ℕ → Option Record) (depth : ℕ) (es : Entries) → IsOver (G.told outside.old) space.old records → IsPartRef records depth reference.now es
+        → MatchResult result (λ found. records reference.now.at ≡ lent_at space.new reference.now.at found) IsFree }
+    // over any records
+    ensures any { IsTrue G.tells → IsReadable (G.told outside.old) space.old → IfOk result (λ found. records_of (G.told outside.old) space.old reference.now.at ≡ lent_at space.new reference.now.at found) }
+    ensures is { IfOk result (λ found. IsPartRecord (lent_at space.new reference.now.at found)) }
+    ensures looks { Looks G.tells (G.told outside.old) (G.told outside.new) space.old space.new }
+    ensures counts { Counts ground_tree result (G.counts_of outside.old) (G.counts_of outside.new) }
+    ensures causes { IfErr result (IsCause G.tells (G.told outside.old) space.old) }
+    ensures fault { IfErr result IsFetchFault }
+{
+    let found = space.bring(
+        outside,
+        Ref {
+            kind: kind::DIRECTORY,
+            ..*reference
+        },
+    )?;
+    Ok(found)
+}
+
+/// What the record holds that `bring_part` brought for a reference at this offset.
+pub fn lent_part<'a>(space: &'a Space, at: u64, found: &'a Option<Record>) -> LentContent<'a>
+    requires { IsPartRecord (lent_at space.now at found.now) }
+    ensures is { lent_at space.now at found.now ≡ Some (record_of (as_content result)) }
+    ensures bounds { (version : ℕ) × Fits version (record_of (as_content result)) }
+{
+    match space.lent(at, found) {
+        Record::Leaf(entries) => LentContent::Leaf(entries.as_slice()),
+        Record::Inode { depth, children } => LentContent::Inode {
+            depth: *depth,
+            children: children.as_slice(),
+        },
+        _ => unreachable!(),
+    }
 }
 
 /// What the record of a directory holds, or of a part of one. It is asked for by that kind, whatever the reference says, which others may have written.
@@ -40,6 +110,7 @@ pub fn fetch_part<G: Ground>(
     ensures looks { Looks G.tells (G.told outside.old) (G.told outside.new) space.old space.new }
     ensures counts { Counts ground_tree result (G.counts_of outside.old) (G.counts_of outside.new) }
     ensures causes { IfErr result (IsCause G.tells (G.told outside.old) space.old) }
+    ensures fault { IfErr result IsFetchFault }
 {
     let found = space.fetch(
         outside,
@@ -76,6 +147,7 @@ pub fn fetch_contents<G: Ground>(
     ensures looks { Looks G.tells (G.told outside.old) (G.told outside.new) space.old space.new }
     ensures counts { Counts ground_tree result (G.counts_of outside.old) (G.counts_of outside.new) }
     ensures causes { IfErr result (IsCause G.tells (G.told outside.old) space.old) }
+    ensures fault { IfErr result IsFetchFault }
 {
     let found = space.fetch(
         outside,

@@ -8,12 +8,12 @@ ghost use Rattle.ip_spec.specs.View.{View};
 ghost use Rattle.ip_spec.specs.declared.record.Record.{Record};
 ghost use Rattle.ip_tree.specs.Heights.{content_height, node_height, unread_height};
 ghost use Rattle.ip_tree.specs.Meaning.{Spells};
-ghost use Rattle.ip_tree.specs.Reads.{IsOver, IsFree, Looks, IsCause};
+ghost use Rattle.ip_tree.specs.Reads.{IsOver, IsFree, Looks, IsCause, as_content};
 ghost use Rattle.ip_tree.specs.Shown.{shown, shown_directory};
 ghost use Rattle.ip_tree.specs.TreeView.{IsView};
 ghost use Rattle.ip_tree.specs.declared.tree.TreeFault.TheVariants as TreeFault;
 
-use crate::fetch::{Content, fetch_part};
+use crate::fetch::{LentContent, bring_part, lent_part};
 use crate::node::{Directory, Node, Stored};
 use crate::tree::{Root, Tree, TreeFault};
 use ip_ground::Ground;
@@ -40,12 +40,12 @@ impl Tree {
 }
 
 /// The greatest number of steps of what a record of a directory spells.
-pub fn height_of(content: &Content) -> u8
-    ensures { result ≡ content_height content.now }
+pub fn height_of(content: LentContent<'_>) -> u8
+    ensures { result ≡ content_height (as_content content.entry) }
 {
     match content {
-        Content::Leaf(entries) => leaf_height(entries.as_slice()),
-        Content::Inode { children, .. } => inode_height(children.as_slice()),
+        LentContent::Leaf(entries) => leaf_height(entries),
+        LentContent::Inode { children, .. } => inode_height(children),
     }
 }
 
@@ -61,8 +61,8 @@ pub fn stored_height<G: Ground>(
     ensures counts { Counts ground_tree result (G.counts_of outside.old) (G.counts_of outside.new) }
     ensures causes { IfErr result (IsCause G.tells (G.told outside.old) space.old) }
 {
-    let content = fetch_part(outside, space, reference)?;
-    Ok(height_of(&content))
+    let found = bring_part(outside, space, reference)?;
+    Ok(height_of(lent_part(space, reference.at, &found)))
 }
 
 /// The greatest height of the parts of a directory that were not read.

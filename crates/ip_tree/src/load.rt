@@ -14,13 +14,13 @@ ghost use Rattle.ip_spec.specs.declared.record.Record.{Record};
 ghost use Rattle.ip_tree.specs.Edits.{IsDirectory, IsKept, IsOpened, IsReadAt, IsSame, IsUnfolded};
 ghost use Rattle.ip_tree.specs.Known.{knows};
 ghost use Rattle.ip_tree.specs.Meaning.{NodeIs, Spells, steps_of};
-ghost use Rattle.ip_tree.specs.Reads.{IsOver, IsFree, Looks, IsCause, content_count, node_of_entry, record_of, unread_child};
+ghost use Rattle.ip_tree.specs.Reads.{IsOver, IsFree, Looks, IsCause, as_content, content_count, node_of_entry, record_of, unread_child};
 ghost use Rattle.ip_tree.specs.Shown.{shown, shown_directory, shown_entry};
 ghost use Rattle.ip_tree.specs.declared.node.Stored.{Stored};
 ghost use Rattle.ip_tree.specs.declared.tree.TreeFault.TheVariants as TreeFault;
 
 use crate::below::{stored, stored_child};
-use crate::fetch::{Content, fetch_part};
+use crate::fetch::{Content, LentContent, fetch_part};
 use crate::height::height_of;
 use crate::node::{Directory, Node, Stored};
 use crate::tree::TreeFault;
@@ -51,20 +51,20 @@ pub fn load<G: Ground>(
     let content = fetch_part(outside, space, reference)?;
     let by = Stored {
         reference: *reference,
-        height: height_of(&content),
+        height: height_of(content.lent()),
     };
-    let mut dir = unread(alloc, by, count_of(&content));
+    let mut dir = unread(alloc, by, count_of(content.lent()));
     enter(alloc, &mut dir, &[], content)?;
     Ok(dir)
 }
 
 /// How many entries a record of a directory tells. A number that lies stands at the greatest one.
-pub fn count_of(content: &Content) -> usize
-    ensures { result ≡ min (content_count content.now) (2 ^ 64 - 1) }
+pub fn count_of(content: LentContent<'_>) -> usize
+    ensures { result ≡ min (content_count (as_content content.entry)) (2 ^ 64 - 1) }
 {
     match content {
-        Content::Leaf(entries) => entries.len(),
-        Content::Inode { children, .. } => counted(children.as_slice()),
+        LentContent::Leaf(entries) => entries.len(),
+        LentContent::Inode { children, .. } => counted(children),
     }
 }
 

@@ -19,7 +19,7 @@ ghost use Rattle.ip_tree.specs.declared.tree.Root.TheVariants as Root;
 ghost use Rattle.ip_tree.specs.declared.tree.TreeFault.TheVariants as TreeFault;
 
 use crate::below::entry_below;
-use crate::fetch::{fetch_contents, fetch_part};
+use crate::fetch::{bring_part, fetch_contents, lent_part};
 use crate::load::count_of;
 use crate::node::{Directory, Node, Stored};
 use crate::tree::{Root, Tree, TreeFault};
@@ -211,8 +211,9 @@ fn whole<G: Ground>(outside: &mut G, space: &mut Space, reference: &Ref) -> Resu
     if reference.kind == kind::CONTENTS {
         return Ok(Got::Value(fetch_contents(outside, space, reference)?));
     }
-    let content = fetch_part(outside, space, reference)?;
-    Ok(Got::Dir(told_count(count_of(&content))))
+    let found = bring_part(outside, space, reference)?;
+    let content = lent_part(space, reference.at, &found);
+    Ok(Got::Dir(told_count(count_of(content))))
 }
 
 // A number of entries as it is told. No directory has more than the limit.

@@ -198,7 +198,7 @@ fn runs(alloc: Global, fails: u64, rows: &[Row]) -> Result<Option<(usize, Said)>
     Ok(None)
 }
 
-// What is stored is grafted by the records on its path alone, and read where it is asked for.
+// What is stored is grafted by the records on its path alone, and read where it is asked for. What was read is not read again.
 const STORED: &[Row] = &[
     (Word::Height, b"", b"", Said::Number(0)),
     (Word::Of(7), b"", b"", Said::Done),
@@ -206,21 +206,21 @@ const STORED: &[Row] = &[
     (Word::Reads, b"", b"", Said::Number(1)),
     (Word::Swap, b"", b"", Said::Done),
     (Word::Graft, b"a/q", b"x", Said::Nothing),
-    (Word::Reads, b"", b"", Said::Number(3)),
+    (Word::Reads, b"", b"", Said::Number(2)),
     (Word::Graft, b"a/b/c/d/e/f", b"x", Said::Nothing),
-    (Word::Reads, b"", b"", Said::Number(8)),
+    (Word::Reads, b"", b"", Said::Number(5)),
     (Word::Oldest, b"", b"", Said::Nothing),
     (Word::Graft, b"a/b", b"x", Said::Done),
-    (Word::Reads, b"", b"", Said::Number(10)),
+    (Word::Reads, b"", b"", Said::Number(5)),
     (Word::Oldest, b"", b"", Said::Number(7)),
     (Word::Get, b"x/c/d/e", b"", Said::Value(1)),
-    (Word::Reads, b"", b"", Said::Number(14)),
+    (Word::Reads, b"", b"", Said::Number(6)),
     (Word::Graft, b"a/b/c/d/e", b"y/z", Said::Done),
-    (Word::Reads, b"", b"", Said::Number(19)),
+    (Word::Reads, b"", b"", Said::Number(6)),
     (Word::Get, b"y/z", b"", Said::Value(1)),
-    (Word::Reads, b"", b"", Said::Number(20)),
+    (Word::Reads, b"", b"", Said::Number(6)),
     (Word::Graft, b"", b"y", Said::Done),
-    (Word::Reads, b"", b"", Said::Number(21)),
+    (Word::Reads, b"", b"", Said::Number(6)),
     (Word::Height, b"", b"", Said::Number(6)),
     (Word::Get, b"y/a/b", b"", Said::Dir(1)),
     (Word::Get, b"y/z", b"", Said::Nothing),
@@ -286,13 +286,13 @@ const FAILING: &[Row] = &[
     (Word::Of(3), b"", b"", Said::Done),
     (Word::Swap, b"", b"", Said::Done),
     (Word::Of(7), b"", b"", Said::Done),
-    (Word::Graft, b"a/b", b"a/x", Said::Ground),
+    (Word::Graft, b"a/b", b"a/b/c/x", Said::Ground),
     (Word::Oldest, b"", b"", Said::Number(7)),
-    (Word::Get, b"a/x/c", b"", Said::Nothing),
-    (Word::Graft, b"a/b", b"a/x", Said::Done),
+    (Word::Get, b"a/b/c/x/c", b"", Said::Nothing),
+    (Word::Graft, b"a/b", b"a/b/c/x", Said::Done),
     (Word::Oldest, b"", b"", Said::Number(3)),
-    (Word::Get, b"a/x/c/d", b"", Said::Dir(1)),
-    (Word::Get, b"a", b"", Said::Dir(2)),
+    (Word::Get, b"a/b/c/x/c/d", b"", Said::Dir(1)),
+    (Word::Get, b"a/b/c", b"", Said::Dir(2)),
 ];
 
 #[test]

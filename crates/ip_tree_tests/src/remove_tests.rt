@@ -200,23 +200,23 @@ fn a_removal_loads_its_path(rt: HostRuntime) -> Result<(), Fail> {
     Ok(())
 }
 
-// The call that fails leaves the tree as it was. A listing reads the directories on its path each time, and contents never.
+// The call that fails leaves the tree as it was. A listing reads the directories on its path that were not read before, and contents never.
 #[test]
 fn a_removal_that_fails_changes_nothing(rt: HostRuntime) -> Result<(), Fail> {
     let alloc = rt.alloc();
-    let mut bench = bench_of(alloc, 6)?;
+    let mut bench = bench_of(alloc, 3)?;
     let mut space = space_of(alloc, &mut bench)?;
     let mut tree = Tree::of(Number(7), ROOT);
     let rows: [(Word, &[u8], &[u8], u64); 9] = [
         (Word::List, b"", b"d:a d:d c:x", 1),
-        (Word::List, b"x", b"contents", 2),
-        (Word::List, b"d", b"d:e c:g", 4),
-        (Word::Remove, b"d/e/f", b"fault", 6),
-        (Word::List, b"d", b"d:e c:g", 7),
-        (Word::Remove, b"d/e/f", b"removed", 9),
-        (Word::List, b"d", b"c:g", 9),
-        (Word::Remove, b"d/g", b"removed", 9),
-        (Word::List, b"", b"d:a c:x", 9),
+        (Word::List, b"x", b"contents", 1),
+        (Word::List, b"d", b"d:e c:g", 2),
+        (Word::Remove, b"d/e/f", b"fault", 3),
+        (Word::List, b"d", b"d:e c:g", 3),
+        (Word::Remove, b"d/e/f", b"removed", 4),
+        (Word::List, b"d", b"c:g", 4),
+        (Word::Remove, b"d/g", b"removed", 4),
+        (Word::List, b"", b"d:a c:x", 4),
     ];
     for (word, path, want, reads) in rows {
         let text = ask(alloc, &mut bench, &mut space, &mut tree, word, path)?;

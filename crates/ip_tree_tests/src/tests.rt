@@ -163,17 +163,17 @@ fn limits_are_answered(rt: HostRuntime) -> Result<(), Fail> {
     Ok(())
 }
 
-// What stands at a path of a tree that was not read, and how many records were read the first time, and then again.
+// What stands at a path of a tree that was not read, and how many records were read the first time, and by the second, which reads none again.
 #[test]
 fn a_read_fetches_its_path_and_loads_nothing(rt: HostRuntime) -> Result<(), Fail> {
     let alloc = rt.alloc();
     let rows: [(&[u8], Seen, [u64; 2]); 6] = [
-        (b"a/b/c/d/e", Seen::Value(Some(1)), [6, 12]),
-        (b"a/b/c/d", Seen::Dir(1), [5, 10]),
-        (b"a/b/c/d/f", Seen::Absent, [5, 10]),
-        (b"a/b/c/d/e/f", Seen::Absent, [5, 10]),
-        (b"a/x", Seen::Absent, [2, 4]),
-        (b"", Seen::Dir(1), [1, 2]),
+        (b"a/b/c/d/e", Seen::Value(Some(1)), [6, 6]),
+        (b"a/b/c/d", Seen::Dir(1), [5, 5]),
+        (b"a/b/c/d/f", Seen::Absent, [5, 5]),
+        (b"a/b/c/d/e/f", Seen::Absent, [5, 5]),
+        (b"a/x", Seen::Absent, [2, 2]),
+        (b"", Seen::Dir(1), [1, 1]),
     ];
     for (path, want, fetches) in rows {
         let mut bench = bench_of(alloc, 99)?;

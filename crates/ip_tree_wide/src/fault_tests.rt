@@ -88,7 +88,7 @@ fn a_failing_read_changes_nothing(rt: HostRuntime) -> Result<(), Fail> {
         (Call::Remove(&[3]), 26),
         (Call::Remove(&[51, 7]), 27),
         (Call::Graft(&[], &[3]), 3),
-        (Call::Graft(&[39], &[50, 2]), 6),
+        (Call::Graft(&[39], &[50, 2]), 5),
     ];
     let (bytes, root, inner) = records(alloc)?;
     for (call, reads) in rows {

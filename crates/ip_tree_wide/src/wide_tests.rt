@@ -44,7 +44,7 @@ fn wide_directories_are_read(rt: HostRuntime) -> Result<(), Fail> {
     Ok(())
 }
 
-// A call reads a record for each level and for what stands there, each time; what an edit read is not read again.
+// A call reads a record for each level and for what stands there, but none that was read before.
 #[test]
 fn reads_are_counted(rt: HostRuntime) -> Result<(), Fail> {
     let alloc = rt.alloc();
@@ -52,20 +52,20 @@ fn reads_are_counted(rt: HostRuntime) -> Result<(), Fail> {
     let mut world = over(alloc, NEVER, &numbers)?;
     let rows: [(&[u32], Seen, u64); 4] = [
         (&[], Seen::Dir(40), 1),
-        (&[0], Seen::Byte(0), 4),
-        (&[0], Seen::Byte(0), 7),
-        (&[0, 1], Seen::Absent, 9),
+        (&[0], Seen::Byte(0), 3),
+        (&[0], Seen::Byte(0), 3),
+        (&[0, 1], Seen::Absent, 3),
     ];
     for (path, want, reads) in rows {
         assert_eq!(rt; world.get(path)?, want);
         assert_eq!(rt; world.reads(), reads);
     }
     assert_eq!(rt; world.set(&[0], 9)?, Ok(()));
-    assert_eq!(rt; world.reads(), 11);
+    assert_eq!(rt; world.reads(), 3);
     assert_eq!(rt; world.set(&[0], 8)?, Ok(()));
     assert_eq!(rt; world.get(&[0])?, Seen::Byte(8));
     assert_eq!(rt; world.get(&[])?, Seen::Dir(40));
-    assert_eq!(rt; world.reads(), 11);
+    assert_eq!(rt; world.reads(), 3);
     Ok(())
 }
 
