@@ -41,7 +41,7 @@ use Rattle.ip_image.proofs.SwapLaws.{stands_collected}
 use Rattle.ip_control.specs.Live.{live_slot, live_of}
 use Rattle.ip_control.specs.Changes.{control}
 use Rattle.ip_control.proofs.LiveLaws.{is_live, live_from}
-use Rattle.ip_space.specs.SpaceView.{SpaceView, grown}
+use Rattle.ip_space.specs.SpaceView.{SpaceView, bare, grown, records_of}
 use Rattle.ip_keep.specs.Runs.{joined}
 use Rattle.ip_check.specs.declared.check.Stage.TheVariants as Stage
 use Rattle.ip_check.specs.CheckView.{CheckView}
@@ -70,7 +70,7 @@ use Rattle.ip_store.proofs.Going.{phase_here, going_here, collects_here}
 use Rattle.ip_store.proofs.Judged.{kept_check, has_ended, over_here}
 use Rattle.ip_store.proofs.KeptFiles.{keeps_itself, keeps_on, keeps_store}
 use Rattle.ip_store.proofs.LeftImages.{by_same, swapped_front, swapped_none, swapped_still}
-use Rattle.ip_store.proofs.Listed.{same_slot}
+use Rattle.ip_store.proofs.Listed.{none_current, same_slot}
 use Rattle.ip_store.proofs.Recovering.{in_image, held_has, recovers_now}
 use Rattle.ip_store.proofs.Remaining.{remaining_places}
 use Rattle.ip_store.proofs.Stepping.{none_since}
@@ -264,7 +264,7 @@ module _ (store : Store) (r : Repository) (a : Told) (held : Holds store a r) (c
 
   module _ (check : CheckView) (kept : c.check ≡ Some check) where
     exit : IsSome c.exit
-    exit = (subst (λ (o : Option CheckView). IfSome o (λ check. IsCheck check × (check.job ≡ c.job) × (check.keep.space ≡ grown store.space c.job.end) × IsSome c.exit)) kept (going_here store r c runs held.tables).check).3
+    exit = (subst (λ (o : Option CheckView). IfSome o (λ check. IsCheck check × (check.job ≡ c.job) × (check.keep.space ≡ bare (grown store.space c.job.end)) × IsSome c.exit)) kept (going_here store r c runs held.tables).check).3
 
     of_check : IsCheckOf c store.space check
     of_check = subst (λ (o : Option CheckView). IfSome o (IsCheckOf c store.space)) kept (kept_check store r c runs exit held.tables)
@@ -312,6 +312,7 @@ module _ (store : Store) (r : Repository) (a : Told) (held : Holds store a r) (c
         places = was.places;
         collects = subst (λ (o : Option Collection). IfSome o (Collects b store.slot was.stands.standing.records r)) (sym runs)
             (subst (λ (rs : Records). Collects b store.slot rs r c) (sym (same_records b sync.only was.stands.standing)) collects_then);
+        current = was.current;
       })
 
 -- ---- the gate of the next slot is opened
@@ -432,9 +433,9 @@ module _ (store : Store) (r : Repository) (b : Told) (held : Holds store b r) (c
         (order store r b held c runs) (inside store r b held c runs) (space_then.mapping served) has_then D
 
     -- the store holds what is left
-    pub holds_then : (now : Store) → now.index ≡ 1 - store.index → now.slot ≡ next → now.space.runs ≡ list → now.places.items ≡ drop (next.floor - store.slot.floor) store.places.items → now.collection ≡ None → IsOf now (collected_at r c.commit)
+    pub holds_then : (now : Store) → now.index ≡ 1 - store.index → now.slot ≡ next → now.space.runs ≡ list → now.space.kept ≡ [] → now.places.items ≡ drop (next.floor - store.slot.floor) store.places.items → now.collection ≡ None → IsOf now (collected_at r c.commit)
         → Holds now d (collected_at r c.commit)
-    holds_then now index slot space places none tables = record {
+    holds_then now index slot space kept places none tables = record {
       tables = tables;
       stands = stands_then.0;
       live = subst (λ (i : ℕ). IsLive (control_in d.held) i now.slot) (sym index) (subst (λ (s : Slot). IsLive (control_in d.held) (1 - store.index) s) (sym slot) (is_live (control d) (1 - store.index) next gate.opens next_is));
@@ -446,6 +447,7 @@ module _ (store : Store) (r : Repository) (b : Told) (held : Holds store b r) (c
       runs = space ∙ runs_then;
       places = places ∙ ap (λ (n : ℕ). drop (n - store.slot.floor) store.places.items) pair.swapped.floor ∙ places_then;
       collects = subst (λ (o : Option Collection). IfSome o (Collects d now.slot D.records (collected_at r c.commit))) (sym none) tt;
+      current = none_current (records_of d now.space) now.space.kept kept;
     }
 
     -- by these records, whichever proof says that it stands
@@ -517,7 +519,7 @@ module _ (store : Store) (r : Repository) (a : Told) (held : Holds store a r) (c
       record {
         only = only d (Ok tt) gate;
         files = files d (Ok tt) gate;
-        holds = holds_then store r b then c runs swap.slot next_is (joined check.keep.kept) pair_then d gate was.pair was.settled now tables.index tables.slot (ap (λ (space : SpaceView). space.runs) (tables.space ∙ is.space)) tables.places tables.collection of;
+        holds = holds_then store r b then c runs swap.slot next_is (joined check.keep.kept) pair_then d gate was.pair was.settled now tables.index tables.slot (ap (λ (space : SpaceView). space.runs) (tables.space ∙ is.space)) (ap (λ (space : SpaceView). space.kept) (tables.space ∙ is.space)) tables.places tables.collection of;
         serves = serves_then store r b then c runs swap.slot next_is (joined check.keep.kept) pair_then d gate was.pair was.settled was.mapping was.prefix;
         remains = λ q holds. (
           pair_then.valid.kept,

@@ -59,7 +59,7 @@ use Rattle.ip_store.specs.declared.committing.StoreFault.{StoreFault}
 use Rattle.ip_store.specs.declared.store.Store.{Store}
 use Rattle.ip_store.specs.declared.work.Work.{Work}
 use Rattle.ip_store.specs.Commits.{IsNext, IsPlan, IsRefusal, Commits, Answers, Turns, repository_after, fault_reply, met_of, conditions_of, met_nothing, records_of}
-use Rattle.ip_space.specs.SpaceView.{SpaceView, grown}
+use Rattle.ip_space.specs.SpaceView.{bare, grown}
 use Rattle.ip_store.specs.Placed.{IsSpaceOf}
 use Rattle.ip_store.specs.Publishing.{CanStep, IsWritten, MakesStep}
 use Rattle.ip_store.specs.Changes.{next_slot}
@@ -159,7 +159,7 @@ module _ (r : Repository) (parents : List ℕ) (branch : Bytes) (store : Store) 
     rising = rising_same live_after store'.slot (store.places.items ++ plan.batch.commit_at ∷ []) store'.places.items (slot ∙ is.slot) places
         (rising_push store.slot.horizon store.slot.end plan.batch.commit_at store.places.items (let h = of.slot.horizon in let low = is.placed.0 in omega (arith, h, low)) is.placed.0
         (highs store.slot.horizon store.slot.end store.places.items of.within) of.rising);
-    going = going_to store.slot.floor store'.slot.floor (store.places.items ++ plan.batch.commit_at ∷ []) store'.places.items store.unswept store'.unswept (grown store.space plan.slot.end) store'.space store.collection store'.collection (ap (λ (s : Slot). s.floor) (slot ∙ is.slot)) places unswept space collection
+    going = going_to store.slot.floor store'.slot.floor (store.places.items ++ plan.batch.commit_at ∷ []) store'.places.items store.unswept store'.unswept (grown store.space plan.slot.end) store'.space store.collection store'.collection (ap (λ (s : Slot). s.floor) (slot ∙ is.slot)) places unswept (ap bare space) collection
         (going_on store.slot.floor plan.slot.end store.places.items (plan.batch.commit_at ∷ []) store.unswept store.space store.collection of.going);
   }
 
@@ -255,7 +255,7 @@ module _ (r : Repository) (work : Work) (v : View) (branch : Bytes) (info : Info
 
   pub stands_new : (image : Image) → HasLive next_live image → AddsBytes store.slot plan.batch.bytes.items a.held image → StandsFor image (repository_after r (phase_of store.collection) work v branch info)
   stands_new image live adds = subst (StandsFor image) (sym after_is)
-      (stands_grown a.held image r store.slot next_live v work.parents info branch held.stands (held_has store r a held) is.may known is.within live
+      (stands_grown a.held image r store.slot next_live v (sources v) work.parents info branch held.stands (held_has store r a held) is.may known (sources_stand (image_records held) v store.slot.end known) is.within live
       generation (sym is.behind) refl (subst (λ (bs : List ℕ). AddsBytes store.slot bs a.held image) is.bytes adds)).0
 
   pub all_lie : AreEndToEnd store.slot.end all next_live.end
@@ -309,7 +309,7 @@ module _ (r : Repository) (work : Work) (v : View) (branch : Bytes) (info : Info
       → (name : Hash) → Step b (Ok tt) → Commits r (phase_of store.collection) work v branch info (Ok name) store' a b
   made b store' slot index tables places space collection name step =
       changed r (repository_after r (phase_of store.collection) work v branch info) store store.slot.next_attempt 1 plan.batch.bytes.items of there a held stands_new b (to_next b (Ok tt) step)
-      all (within_fits store.slot of.slot all is.within) all_lie is.bytes store' (slot ∙ coming.slot) index (ap (λ (view : SpaceView). view.runs) space) (subst (IsOf store') (sym after_is) tables) (places ∙ ap (λ (ps : List ℕ). store.places.items ++ ps) (sym is.place)) (collects_after b store' slot collection (subst (IsOf store') (sym after_is) tables) step) name
+      all (within_fits store.slot of.slot all is.within) all_lie is.bytes store' (slot ∙ coming.slot) index (space ∙ ap (λ (s : Slot). grown store.space s.end) coming.slot) (subst (IsOf store') (sym after_is) tables) (places ∙ ap (λ (ps : List ℕ). store.places.items ++ ps) (sym is.place)) (collects_after b store' slot collection (subst (IsOf store') (sym after_is) tables) step) name
 
   pub held_after : (b : Told) (store' : Store) (name : Hash) → Commits r (phase_of store.collection) work v branch info (Ok name) store' a b → Holds store' b made_is
   held_after b store' name is = subst (Holds store' b) after_is is.ok
@@ -422,12 +422,12 @@ answers_made r work work' v v' branch info store store' plan name told coming is
 
 -- ---- the same store, with what was met
 
-pub same_at : (store store' : Store) → SameTables store store' → (told : Told) (r : Repository) (work : Work) (v : View) → IsAt told store r work v → IsAt told store' r work v
-same_at store store' same told r work v at =
-    let holds = same_holds store store' same r told at.holds in
+pub same_at : (store store' : Store) → SameTables store store' → store'.space ≡ store.space → (told : Told) (r : Repository) (work : Work) (v : View) → IsAt told store r work v → IsAt told store' r work v
+same_at store store' same space told r work v at =
+    let holds = same_holds store store' same space r told at.holds in
     record { holds = holds; lawful = subst (λ (records : ℕ → Option Record). IsLawful records r work v) (same_records told store store' r r at.holds holds) at.lawful }
 
-pub same_answers : (store store' : Store) → SameTables store store'
+pub same_answers : (store store' : Store) → SameTables store store' → store'.space ≡ store.space
     → (told : Told) (s : State) (v : View) (command : Command) (met : Met) (work : Work) (o : Option Reply) → IfSome o (λ reply. Answers told s v command met reply store work) → IfSome o (λ reply. Answers told s v command met reply store' work)
-same_answers store store' same told s v command met work None p = tt
-same_answers store store' same told s v command met work (Some reply) p = record { after = p.after; view = p.view; turns = p.turns; is_at = same_at store store' same told p.after work p.view p.is_at; seen = p.seen }
+same_answers store store' same space told s v command met work None p = tt
+same_answers store store' same space told s v command met work (Some reply) p = record { after = p.after; view = p.view; turns = p.turns; is_at = same_at store store' same space told p.after work p.view p.is_at; seen = p.seen }

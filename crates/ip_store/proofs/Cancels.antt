@@ -165,6 +165,7 @@ over_holds store r u met told unswept held = record {
   runs = held.runs;
   places = held.places;
   collects = tt;
+  current = held.current;
 }
 
 pub none_runs : (o : Option Collection) → ((c : Collection) → o ≡ Some c → ⊥) → o ≡ None

@@ -34,7 +34,7 @@ use Rattle.ip_store.specs.Store.{Holds, SameTables}
 use Rattle.ip_store.specs.Tie.{CorePhaseOf, IsCoreOf, IsTied, appending}
 use Rattle.ip_store.specs.TieAppends.{IsAppended, IsTiedAnswer, IsTiedBy, IsTiedFault}
 use Rattle.ip_store.proofs.BatchRests.{end_reached, follow_on, lie_ordered}
-use Rattle.ip_store.proofs.Noted.{noted_back, noted_itself}
+use Rattle.ip_store.proofs.Noted.{noted_back, noted_itself, noted_space}
 use Rattle.ip_store.proofs.Recovering.{held_has}
 use Rattle.ip_store.proofs.Stepping.{same_holds, still_list}
 
@@ -245,7 +245,7 @@ module _ (store store' : Store) (records records' : Records) (same : Sees store 
 pub noted_tied : {A : Type 0} (made : A → Bool) (store mid store' : Store) (res out : Result A StoreFault) → out ≡ res → store' ≡ record mid { met = met_by res } → (told : Told) (q : Repository) (records : Records)
     → ((now : Holds mid told q) → IsTiedAnswer made res store records mid now.stands.standing.records) → (now : Holds store' told q) → IsTiedAnswer made out store records store' now.stands.standing.records
 noted_tied made store mid store' res out same is told q records tied now =
-    let there = same_holds store' mid (noted_back mid store' (met_by res) is) q told now in
+    let there = same_holds store' mid (noted_back mid store' (met_by res) is) (sym (noted_space mid store' (met_by res) is)) q told now in
     subst (λ o. IsTiedAnswer made o store records store' now.stands.standing.records) (sym same)
     (answer_seen store store records records (sees_itself store records) mid store' there.stands.standing.records now.stands.standing.records (sees_same mid store' (noted_itself mid store' (met_by res) is) told q q there now) made res (tied there))
 

@@ -60,7 +60,7 @@ use Rattle.ip_store.proofs.Swept.{foreign_on}
 
 -- a store that has noted what was met
 pub noted_holds : (store : Store) (met : Met) (told : Told) (r : Repository) → Holds store told r → Holds (record store { met = met }) told r
-noted_holds store met told r held = same_holds store (record store { met = met }) (in_itself store met) r told held
+noted_holds store met told r held = same_holds store (record store { met = met }) (in_itself store met) refl r told held
 
 only_sequence : (limit : Limit) → IsSwapFault (FinishFault.Limit limit) → limit ≡ Limit.Sequence
 only_sequence Limit.Sequence is = refl

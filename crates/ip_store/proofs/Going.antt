@@ -2,7 +2,7 @@
 --     rising_low, rising_push, rising_drop      places that ascend: from less on, with one more behind them, and without those in front
 --     highs      each lies below an end
 --     get_more      what stands at a place stands there with more behind
---     going_to, going_on      a collection that goes on: by equal tables, and with more places and a longer space
+--     going_to, going_on      a collection that goes on: by equal tables, whatever is kept of the space, and with more places and a longer space
 --     collects_to, collects_still      what the swap asks for: by an equal slot, and where neither a file of an attempt nor custody is changed.      child_on      its child
 --     phase_here, going_here, collects_here      what a store says of the collection that runs
 use Rattle.std.proofs.Common.{◌≡◌, ℕ, zero, suc, ◌+◌, ◌-◌, ◌<◌, ◌≤◌, List, [], ◌∷◌, ◌++◌, Option, Some, None, drop, refl, sym, ◌∙◌, subst, arith}
@@ -22,7 +22,7 @@ use Rattle.ip_spec.specs.TreeAt.{Records}
 use Rattle.ip_image.specs.declared.slot.Slot.{Slot}
 use Rattle.ip_image.specs.Collection.{Found, found_in}
 use Rattle.ip_check.specs.Checking.{IsChecking}
-use Rattle.ip_space.specs.SpaceView.{SpaceView, grown}
+use Rattle.ip_space.specs.SpaceView.{SpaceView, bare, grown}
 use Rattle.ip_store.specs.declared.collection.Collection.{Collection}
 use Rattle.ip_store.specs.declared.collection.Unswept.{Unswept}
 use Rattle.ip_store.specs.Collecting.{IsGoing, HasEnded, IsOfChild, Collects, until, IsPhase, IsPhaseOf}
@@ -55,13 +55,22 @@ get_more [] ys k x e = absurd (cc (e))
 get_more (z ∷ xs) ys zero x e = e
 get_more (z ∷ xs) ys (suc k) x e = get_more xs ys k x e
 
-pub going_to : (f g : ℕ) (ps qs : List ℕ) (u v : Unswept) (a b : SpaceView) (c d : Option Collection) → g ≡ f → qs ≡ ps → v ≡ u → b ≡ a → d ≡ c → IfSome c (IsGoing f ps u a) → IfSome d (IsGoing g qs v b)
+-- it says nothing of what is kept of the space
+bared : (f : ℕ) (ps : List ℕ) (u : Unswept) (a : SpaceView) (c : Option Collection) → IfSome c (IsGoing f ps u a) → IfSome c (IsGoing f ps u (bare a))
+bared f ps u a None is = tt
+bared f ps u a (Some c) is = record { placed = is.placed; drawn = is.drawn; check = is.check }
+
+unbared : (f : ℕ) (ps : List ℕ) (u : Unswept) (a : SpaceView) (c : Option Collection) → IfSome c (IsGoing f ps u (bare a)) → IfSome c (IsGoing f ps u a)
+unbared f ps u a None is = tt
+unbared f ps u a (Some c) is = record { placed = is.placed; drawn = is.drawn; check = is.check }
+
+pub going_to : (f g : ℕ) (ps qs : List ℕ) (u v : Unswept) (a b : SpaceView) (c d : Option Collection) → g ≡ f → qs ≡ ps → v ≡ u → bare b ≡ bare a → d ≡ c → IfSome c (IsGoing f ps u a) → IfSome d (IsGoing g qs v b)
 going_to f g ps qs u v a b c d floor places unswept space same is =
     subst (λ (o : Option Collection). IfSome o (IsGoing g qs v b)) (sym same)
-    (subst (λ (s : SpaceView). IfSome c (IsGoing g qs v s)) (sym space)
-    (subst (λ (w : Unswept). IfSome c (IsGoing g qs w a)) (sym unswept)
+    (unbared g qs v b c (subst (λ (s : SpaceView). IfSome c (IsGoing g qs v s)) (sym space)
+    (bared g qs v a c (subst (λ (w : Unswept). IfSome c (IsGoing g qs w a)) (sym unswept)
     (subst (λ (xs : List ℕ). IfSome c (IsGoing g xs u a)) (sym places)
-    (subst (λ (n : ℕ). IfSome c (IsGoing n ps u a)) (sym floor) is))))
+    (subst (λ (n : ℕ). IfSome c (IsGoing n ps u a)) (sym floor) is))))))
 
 pub going_on : (f end : ℕ) (ps more : List ℕ) (u : Unswept) (a : SpaceView) (c : Option Collection) → IfSome c (IsGoing f ps u a) → IfSome c (IsGoing f (ps ++ more) u (grown a end))
 going_on f end ps more u a None is = tt

@@ -14,7 +14,7 @@ use Rattle.ip_spec.specs.declared.command.Target.{Target}
 use Rattle.ip_spec.specs.declared.met.Met.{Met}
 use Rattle.ip_spec.specs.declared.record.Record.{Record}
 use Rattle.ip_spec.specs.declared.reply.Reply.{Reply}
-use Rattle.ip_spec.specs.Batch.{AreEndToEnd, sources}
+use Rattle.ip_spec.specs.Batch.{AreEndToEnd, batch, sources}
 use Rattle.ip_spec.specs.Machine as Machine
 use Rattle.ip_spec.specs.declared.met.Child.{Child}
 use Rattle.ip_spec.specs.Machine.{Phase, State}
@@ -29,7 +29,7 @@ use Rattle.ip_spec.specs.TreeAt.{Records}
 use Rattle.ip_spec.specs.View.{View}
 use Rattle.ip_spec.proofs.BatchLaws.{batch_lies}
 use Rattle.ip_image.specs.declared.slot.Slot.{Slot}
-use Rattle.ip_image.specs.Appending.{fields_of, grown_batch, bytes_of_records}
+use Rattle.ip_image.specs.Appending.{fields_of, bytes_of_records}
 use Rattle.ip_store.specs.declared.committing.StoreFault.{StoreFault}
 use Rattle.ip_store.specs.declared.merging.Merge.{Merge}
 use Rattle.ip_store.specs.declared.merging.Sides.{Sides}
@@ -320,7 +320,7 @@ module _ (rule : Rule) (r : Repository) (phase : Phase) (branch : Bytes) (info :
         not_current = is.apart.0;
         not_forward = is.apart.1;
         merge = view;
-        are_records = λ i. grown_batch v (fields_of r (onto i) info branch) (slot i).end;
+        are_records = λ i. batch v (sources v) (fields_of r (onto i) info branch) (slot i).end;
         count = refl;
       })
 

@@ -45,7 +45,8 @@ same_on store mid now first next = record {
   places = next.places ∙ first.places;
   branches = next.branches ∙ first.branches;
   history = next.history ∙ first.history;
-  space = next.space ∙ first.space;
+  layout = next.layout ∙ first.layout;
+  runs = next.runs ∙ first.runs;
   collection = next.collection ∙ first.collection;
   unswept = next.unswept ∙ first.unswept;
 }

@@ -6,7 +6,7 @@
 --     begun_next      the check that begins.      none_looked      none was kept.      same_one, has_exit, put_check      the collection that keeps it
 --     sliced_tables, sliced_holds, sliced_says, slices, looks_on      behind a slice of it.      begins_over, begins_checking      what a slice asks
 --     zero_fits, ends_through, not_open, no_damage, counts_check      what an answer of it says
-use Rattle.std.proofs.Common.{◌≡◌, ◌≢◌, ◌⊎◌, inl, inr, ℕ, ◌+◌, ◌-◌, ◌^◌, ◌<◌, ◌≤◌, pos, Option, Some, None, true, refl, sym, ◌∙◌, ap, subst, arith}
+use Rattle.std.proofs.Common.{◌≡◌, ◌≢◌, ◌⊎◌, inl, inr, ℕ, ◌+◌, ◌-◌, ◌^◌, ◌<◌, ◌≤◌, pos, [], Option, Some, None, true, refl, sym, ◌∙◌, ap, subst, arith}
 use Rattle.std.proofs.lemmas.Bool.{false≢true}
 use Rattle.std.specs.Prelude.{Result, Ok, Err, IsSome, IfSome, IfOk, OnOk, is_some}
 use Rattle.ip_base.specs.declared.memory.Memory.{Memory}
@@ -31,7 +31,7 @@ use Rattle.ip_image.specs.Collection.{Found, found_in}
 use Rattle.ip_image.specs.Slot.{layout_of}
 use Rattle.ip_image.proofs.CoreTies.{collection_ends}
 use Rattle.ip_image.proofs.OneRepository.{all_records}
-use Rattle.ip_space.specs.SpaceView.{SpaceView, IsReadable, grown}
+use Rattle.ip_space.specs.SpaceView.{SpaceView, IsReadable, bare, grown, records_of}
 use Rattle.ip_keep.specs.Whole.{AreRecords}
 use Rattle.ip_keep.proofs.RunsApart.{apart_few, apart_total}
 use Rattle.ip_check.specs.CheckView.{CheckView}
@@ -50,11 +50,11 @@ use Rattle.ip_store.specs.Store.{IsOf, Holds}
 use Rattle.ip_store.specs.Sweeping.{IsApart, ChangesBeside}
 use Rattle.ip_store.proofs.Apart.{beside_for, holds_apart, list_apart}
 use Rattle.ip_store.proofs.Cancels.{below, for_settle, other}
-use Rattle.ip_store.proofs.Listed.{readable_of, same_slot}
+use Rattle.ip_store.proofs.Listed.{none_current, readable_of, same_slot}
 use Rattle.ip_store.proofs.Recovering.{held_has}
 use Rattle.ip_store.proofs.Going.{phase_here, going_here, collects_here}
 use Rattle.ip_store.proofs.StartTurns.{running_holds, running_tables}
-use Rattle.ip_store.proofs.Stepping.{itself, still_holds}
+use Rattle.ip_store.proofs.Stepping.{holds_still}
 use Rattle.ip_store.proofs.Until.{standing_until}
 
 no_exit : {X : Type 0} (exit : Option Reaped) → exit ≡ None → IsSome exit → X
@@ -72,7 +72,7 @@ module _ (store : Store) (r : Repository) (c : Collection) (runs : store.collect
     heard = record c { exit = Some reaped }
 
     -- so no check is kept
-    unchecked : (check : Option CheckView) → IfSome check (λ k. IsCheck k × (k.job ≡ c.job) × (k.keep.space ≡ grown store.space c.job.end) × IsSome c.exit) → check ≡ None
+    unchecked : (check : Option CheckView) → IfSome check (λ k. IsCheck k × (k.job ≡ c.job) × (k.keep.space ≡ bare (grown store.space c.job.end)) × IsSome c.exit) → check ≡ None
     unchecked None is = refl
     unchecked (Some k) is = no_exit c.exit none is.3
 
@@ -83,7 +83,7 @@ module _ (store : Store) (r : Repository) (c : Collection) (runs : store.collect
     heard_going of = let g = going_here store r c runs of in record {
       placed = g.placed;
       drawn = g.drawn;
-      check = subst (λ (check : Option CheckView). IfSome check (λ k. IsCheck k × (k.job ≡ c.job) × (k.keep.space ≡ grown store.space c.job.end) × IsSome (Some reaped))) (sym (unchecked c.check g.check)) tt;
+      check = subst (λ (check : Option CheckView). IfSome check (λ k. IsCheck k × (k.job ≡ c.job) × (k.keep.space ≡ bare (grown store.space c.job.end)) × IsSome (Some reaped))) (sym (unchecked c.check g.check)) tt;
     }
 
     pub heard_tables : IsOf store r → IsOf (record store { collection = Some (record c { exit = Some reaped }) }) r
@@ -148,15 +148,15 @@ module _ (store : Store) (r : Repository) (c : Collection) (runs : store.collect
   pub job_space : IsOf store r → IsSpaceOf c.job store.space
   job_space of =
       let told = (phase_here store r c runs of).told in
-      subst (λ (l : Layout). IsSpaceOf c.job (record { layout = l; runs = store.space.runs })) (sym of.space.layout)
+      subst (λ (l : Layout). IsSpaceOf c.job (record { layout = l; runs = store.space.runs; kept = store.space.kept })) (sym of.space.layout)
       (record { chunk = told.chunk; live = told.live; old_horizon = told.old_horizon; prefix_len = told.prefix_len; rows = told.rows; end = told.end })
 
   module _ (some : IsSome c.exit) where
-    checks : (check : Option CheckView) → IfSome check (λ k. IsCheck k × (k.job ≡ c.job) × (k.keep.space ≡ grown store.space c.job.end) × IsSome c.exit) → IfSome check (IsCheckOf c store.space)
+    checks : (check : Option CheckView) → IfSome check (λ k. IsCheck k × (k.job ≡ c.job) × (k.keep.space ≡ bare (grown store.space c.job.end)) × IsSome c.exit) → IfSome check (IsCheckOf c store.space)
     checks None is = tt
     checks (Some k) is = record { check = is.0; job = is.1; space = is.2 }
 
-    checked : (check : Option CheckView) → IfSome check (IsCheckOf c store.space) → IfSome check (λ k. IsCheck k × (k.job ≡ c.job) × (k.keep.space ≡ grown store.space c.job.end) × IsSome c.exit)
+    checked : (check : Option CheckView) → IfSome check (IsCheckOf c store.space) → IfSome check (λ k. IsCheck k × (k.job ≡ c.job) × (k.keep.space ≡ bare (grown store.space c.job.end)) × IsSome c.exit)
     checked None is = tt
     checked (Some k) is = (is.check, is.job, is.space, some)
 
@@ -214,17 +214,17 @@ module _ (store : Store) (r : Repository) (c : Collection) (runs : store.collect
         | inr there ↦ inr there
       ]
 
-      whole : AreRecords told.held (grown store.space c.job.end) c.job.horizon early
+      whole : AreRecords told.held (bare (grown store.space c.job.end)) c.job.horizon early
       whole =
           let job = (phase_here store r c runs held.tables).told in
           let low = ap (λ (s : Slot). s.horizon) slot_is in
           let high = ap (λ (s : Slot). s.end) slot_is in
-          standing_until told.held held.stands.standing store.space c.job.horizon c.job.end (held.tables.space.layout ∙ ap layout_of (sym slot_is)) held.runs
+          standing_until told.held held.stands.standing (bare store.space) c.job.horizon c.job.end (held.tables.space.layout ∙ ap layout_of (sym slot_is)) held.runs
           (let up = job.valid.horizon in let old = job.old_horizon in omega (arith, low, up, old)) job.valid.some (let end = job.end in omega (arith, high, end)) (ap is_some (collects_here store r c runs told held).collectable.here) border
 
       pub over_here : (k : CheckView) → IsCheckOf c store.space k → IsOver told (until c.job.end held.stands.standing.records) k
       over_here k of = record {
-        readable = subst (IsReadable told) (sym of.space) (let own = readable_of store r told held in record { own = own.own; none = own.none });
+        readable = subst (IsReadable told) (sym of.space) (let own = readable_of store r told held in record { own = own.own; none = own.none; kept = none_current (records_of told (bare (grown store.space c.job.end))) [] refl });
         fixed = record {
           mapping = λ foreign. own_settled c.job.attempt told has_ended.pair (Mapping k.job.attempt) has_ended.settled attempt foreign;
           prefix = λ foreign. own_settled c.job.attempt told has_ended.pair (Prefix k.job.attempt) has_ended.settled attempt foreign;
@@ -257,7 +257,7 @@ module _ (store : Store) (r : Repository) (c : Collection) (runs : store.collect
             (next.checking a.held (until c.job.end held.stands.standing.records) (found_in a.held c.job.attempt) (whole a held) (kept_checking a held))
 
         pub sliced_holds : (b : Told) → ChangesOnly NoFile a b → IsChecking (until c.job.end held.stands.standing.records) (found_in a.held k.job.attempt) now → Holds (with_check store c (Some now)) b r
-        sliced_holds b only found = still_holds (with_check store c (Some now)) (with_check store c (Some now)) (itself (with_check store c (Some now))) r a b only
+        sliced_holds b only found = holds_still (with_check store c (Some now)) r a b only
             (with_holds a held (Some now) still_of (subst (λ (j : Job). IsChecking (until c.job.end held.stands.standing.records) (found_in a.held j.attempt) now) next.of.job found))
 
         pub sliced_says : (result : Result Outcome CheckFault) (left : ℕ) → Says (until c.job.end held.stands.standing.records) k.job (found_in a.held k.job.attempt) result → TellsVerdict held.stands.standing.records c a (verdict_by result left)

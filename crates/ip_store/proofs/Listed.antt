@@ -1,7 +1,8 @@
 -- The records of an image, and what a store holds.
 --     good_newest, within_fits, places_size      good records are within the bounds of the newest version; and have as many places as commits
 --     same_rows, more_records      the rows of an image that goes on, and its records.      space_stays, pair_stays      what calls keep that change no file
---     readable_by, readable_of      a store's space is readable.      holds_on      a store holds on what it held, where the live slot and the bytes of its records are as before
+--     current_behind, current_on      what is kept of a space stays current where the bytes of the slot's records stay, up to a later end too.      none_current      so it does where nothing is kept
+--     readable_of      a store's space is readable.      holds_on      a store holds on what it held, where the live slot and the bytes of its records are as before
 --     commits_there      at the store's places stand the records of its commits
 --     over, records_good, records_parts, records_below      of the records of the image that a store holds: the space reads them; what each of them is, and of what it is a part; where it lies
 --     list_by, list_in      an image with the live slot and the bytes of the records has the same ones
@@ -47,12 +48,13 @@ use Rattle.ip_image.proofs.InChunk.{ordered_below, LiesIn, lies_ordered, lies_on
 use Rattle.ip_image.proofs.StayingRecords.{has_right, has_present, ordered_rises}
 use Rattle.ip_image.proofs.StoredLaws.{standing_stored}
 use Rattle.ip_image.proofs.TreeBatch.{ends_apart}
-use Rattle.ip_space.specs.SpaceView.{IsReadable, records_of}
+use Rattle.ip_space.specs.SpaceView.{SpaceView, AreCurrent, IsReadable, grown, records_in, records_of}
+use Rattle.ip_space.proofs.Current.{same_below, current_grown}
 use Rattle.ip_store.specs.declared.store.Store.{Store}
-use Rattle.ip_store.specs.Placed.{places_in, IsCommitAt, AreCommitsAt}
+use Rattle.ip_store.specs.Placed.{places_in, IsSpaceOf, IsCommitAt, AreCommitsAt}
 use Rattle.ip_tree.specs.Reads.{IsOver}
 use Rattle.ip_store.specs.Collecting.{Collects}
-use Rattle.ip_store.specs.Store.{IsOf, OwnsPair, Holds, image_records}
+use Rattle.ip_store.specs.Store.{OwnsPair, Holds, image_records}
 
 pub newest : (s : Slot) → IsSlot s → s.version ≡ newest_version
 newest s is = let low = is.version_low in let high = is.version_high in omega (arith, low, high)
@@ -256,16 +258,25 @@ pair_stays s a b own owns live = record { mapping = own (Mapping s.live) (owns l
 
 -- ---- what a store holds
 
-pub readable_by : (store : Store) (r : Repository) (told : Told) → IsOf store r → OwnsPair told store.slot → IsReadable told store.space
-readable_by store r told of owns =
-    let live : store.space.layout.live ≡ store.slot.live = ap (λ (l : Layout). l.live) of.space.layout in
-    record {
-      own = λ some. subst (λ (n : ℕ). ¬ IsForeign told (Prefix n)) (sym live) (owns (λ none. some (live ∙ none))).prefix;
-      none = λ none. of.space.runs (sym live ∙ none);
-    }
+pub current_behind : (s : Slot) (image other : Image) (space : SpaceView) (end : ℕ) → IsSpaceOf s space → s.end ≤ end → SameSpace s image other → AreCurrent (records_in image space) space.kept → AreCurrent (records_in other (grown space end)) space.kept
+current_behind s image other space end of further same current =
+    let ends = ap (λ (l : Layout). l.end) of.layout in
+    current_grown image other space end (omega (arith, ends, further)) (same_below s image other space of.layout of.runs same) current
+
+pub current_on : (s : Slot) (image other : Image) (space : SpaceView) → IsSpaceOf s space → SameSpace s image other → AreCurrent (records_in image space) space.kept → AreCurrent (records_in other space) space.kept
+current_on s image other space of same current = current_grown image other space space.layout.end (omega arith) (same_below s image other space of.layout of.runs same) current
+
+pub none_current : (records : ℕ → Option Record) (kept : List (ℕ × Record)) → kept ≡ [] → AreCurrent records kept
+none_current records kept none = subst (AreCurrent records) (sym none) (λ at r there. let within = there.1 in absurd (omega (arith, within)))
 
 pub readable_of : (store : Store) (r : Repository) (told : Told) → Holds store told r → IsReadable told store.space
-readable_of store r told holds = readable_by store r told holds.tables holds.pair
+readable_of store r told holds =
+    let live : store.space.layout.live ≡ store.slot.live = ap (λ (l : Layout). l.live) holds.tables.space.layout in
+    record {
+      own = λ some. subst (λ (n : ℕ). ¬ IsForeign told (Prefix n)) (sym live) (holds.pair (λ none. some (live ∙ none))).prefix;
+      none = λ none. holds.tables.space.runs (sym live ∙ none);
+      kept = holds.current;
+    }
 
 -- an image with the live slot and all bytes of the records has the same ones, in whatever way it stands
 pub list_by : (image other : Image) (s : Slot) (A : Standing image) → HasLive s image → HasLive s other → SameSpace s image other → (B : Standing other) → B.records ≡ A.records
@@ -355,6 +366,7 @@ module _ (store : Store) (told : Told) (r : Repository) (holds : Holds store tol
           runs = holds.runs ∙ ap (map run_of) (sym (same_rows told.held new.held store.slot store.slot has has_new (same_generation_itself store.slot) A stands.standing same.mapping));
           places = holds.places ∙ ap places_in (sym (same_list stands.standing));
           collects = subst (λ (rs : Records). IfSome store.collection (Collects new store.slot rs r)) (sym (same_list stands.standing)) collects;
+          current = current_on store.slot told.held new.held store.space holds.tables.space same holds.current;
         }
 
 -- ---- two ways to hold

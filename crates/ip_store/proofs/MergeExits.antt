@@ -35,7 +35,7 @@ use Rattle.ip_store.specs.Work.{AreParents}
 use Rattle.ip_store.proofs.JoinedTrees.{within_long, within_wide}
 use Rattle.ip_store.proofs.LookedUp.{changes_looked}
 use Rattle.ip_store.proofs.MergeTurns.{IsQuiet, some_turn, turn_memory, turn_forward, forward_space, forward_sequence, turn_conflict, refused_tree}
-use Rattle.ip_store.proofs.Noted.{noted_itself, noted_back, noted_met}
+use Rattle.ip_store.proofs.Noted.{noted_itself, noted_back, noted_space, noted_met}
 use Rattle.ip_store.proofs.Recovering.{held_has}
 use Rattle.ip_store.proofs.Stepping.{same_tables, same_holds, same_changes, same_appends}
 
@@ -178,20 +178,20 @@ module _ (rule : Rule) (r : Repository) (phase : Phase) (number : ℕ) (branch :
 
   -- ---- the same store, with what was met
 
-  module _ (store store' : Store) (same : SameTables store store') where
+  module _ (store store' : Store) (same : SameTables store store') (space : store'.space ≡ store.space) where
     pub same_goes : (after : Repository) → GoesOnFrom r store after → GoesOnFrom r store' after
     same_goes after goes = record { tables = same_tables store store' same after goes.tables; parents = goes.parents }
 
     pub same_merged : (told : Told) (met : Met) (o : Option Reply) → IfSome o (λ reply. Answered told met reply store) → IfSome o (λ reply. Answered told met reply store')
     same_merged told met None is = tt
-    same_merged told met (Some reply) is = record { after = is.after; turns = is.turns; floor = is.floor; stays = is.stays; holds = same_holds store store' same is.after told is.holds; goes_on = same_goes is.after is.goes_on }
+    same_merged told met (Some reply) is = record { after = is.after; turns = is.turns; floor = is.floor; stays = is.stays; holds = same_holds store store' same space is.after told is.holds; goes_on = same_goes is.after is.goes_on }
 
     pub same_moments : (result : Result Merge StoreFault) (a b : Told) → MergesAtMoments rule r phase number branch info result store a b → MergesAtMoments rule r phase number branch info result store' a b
-    same_moments result a b is = record { after = is.after; reply = is.reply; turns = is.turns; replies = is.replies; floor = is.floor; stays = is.stays; changes = same_changes store store' same r is.after result a b is.changes; unmoved = is.unmoved }
+    same_moments result a b is = record { after = is.after; reply = is.reply; turns = is.turns; replies = is.replies; floor = is.floor; stays = is.stays; changes = same_changes store store' same space r is.after result a b is.changes; unmoved = is.unmoved }
 
     module _ (records : ℕ → Option Record) (from : Store) (back : SameTables store' store) where
       same_has : (a b : Told) → HasAppended rule records r number branch info from store a b → HasAppended rule records r number branch info from store' a b
-      same_has a b is = record { more = is.more; commits = is.commits; are = is.are; appends = same_appends is.more is.commits from store store' a b same back is.appends; room = is.room; sequence = is.sequence }
+      same_has a b is = record { more = is.more; commits = is.commits; are = is.are; appends = same_appends is.more is.commits from store store' a b same back (sym space) is.appends; room = is.room; sequence = is.sequence }
 
       pub same_appended : (result : Result Merge StoreFault) (a b : Told) → AppendsMerge rule records r number branch info result from store a b → AppendsMerge rule records r number branch info result from store' a b
       same_appended (Ok (Merge.Merged name)) a b is = same_has a b is
@@ -208,21 +208,24 @@ module _ (rule : Rule) (r : Repository) (phase : Phase) (number : ℕ) (branch :
   itself : SameTables store store'
   itself = noted_itself store store' (met_by res) is
 
+  space : store'.space ≡ store.space
+  space = noted_space store store' (met_by res) is
+
   pub noted_goes : (after : Repository) → GoesOnFrom r store after → GoesOnFrom r store' after
-  noted_goes after goes = same_goes rule r phase number branch info store store' itself after goes
+  noted_goes after goes = same_goes rule r phase number branch info store store' itself space after goes
 
   pub noted_merged : (told : Told) → IfSome (merge_reply branch res) (λ reply. AnswersMerge rule told r phase number branch info (met_by res) reply store) → IfSome (merge_reply branch out) (λ reply. AnswersMerge rule told r phase number branch info store'.met reply store')
   noted_merged told answers =
       subst (λ o. IfSome (merge_reply branch o) (λ reply. AnswersMerge rule told r phase number branch info store'.met reply store')) (sym same)
       (subst (λ met. IfSome (merge_reply branch res) (λ reply. AnswersMerge rule told r phase number branch info met reply store')) (sym (noted_met store store' (met_by res) is))
-      (same_merged rule r phase number branch info store store' itself told (met_by res) (merge_reply branch res) answers))
+      (same_merged rule r phase number branch info store store' itself space told (met_by res) (merge_reply branch res) answers))
 
   pub noted_moments : (a b : Told) → MergesAtMoments rule r phase number branch info res store a b → MergesAtMoments rule r phase number branch info out store' a b
-  noted_moments a b moments = subst (λ o. MergesAtMoments rule r phase number branch info o store' a b) (sym same) (same_moments rule r phase number branch info store store' itself res a b moments)
+  noted_moments a b moments = subst (λ o. MergesAtMoments rule r phase number branch info o store' a b) (sym same) (same_moments rule r phase number branch info store store' itself space res a b moments)
 
   pub noted_appended : (records : ℕ → Option Record) (from : Store) (a b : Told) → AppendsMerge rule records r number branch info res from store a b → AppendsMerge rule records r number branch info out from store' a b
   noted_appended records from a b appends = subst (λ o. AppendsMerge rule records r number branch info o from store' a b) (sym same)
-      (same_appended rule r phase number branch info store store' itself records from (noted_back store store' (met_by res) is) res a b appends)
+      (same_appended rule r phase number branch info store store' itself space records from (noted_back store store' (met_by res) is) res a b appends)
 
   pub noted_limits : (records : ℕ → Option Record) (from : Store) → LimitsMerge rule records r number branch info res from → LimitsMerge rule records r number branch info out from
   noted_limits records from limits = subst (λ o. LimitsMerge rule records r number branch info o from) (sym same) limits

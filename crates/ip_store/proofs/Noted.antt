@@ -1,5 +1,5 @@
 -- A store that has noted what was met by an answer, and is as it was in all else.
---     noted_itself, noted_same, noted_back      its tables are those that it had
+--     noted_itself, noted_same, noted_back      its tables are those that it had.      noted_space      so is its space
 --     noted_changes, noted_stays, noted_appends      what a call did, once it is noted
 --     noted_set, noted_removed, noted_answers      what it answers.      answers_met      the same, where this is what was met
 use Rattle.std.proofs.Common.{◌≡◌, ℕ, sym, ap, subst}
@@ -34,26 +34,29 @@ module _ (store store' : Store) (met : Met) (is : store' ≡ record store { met 
 
   pub noted_same : (before : Store) → SameTables before store → SameTables before store'
   noted_same before same = subst (SameTables before) (sym is)
-      (record { index = same.index; slot = same.slot; names = same.names; places = same.places; branches = same.branches; history = same.history; space = same.space; collection = same.collection; unswept = same.unswept })
+      (record { index = same.index; slot = same.slot; names = same.names; places = same.places; branches = same.branches; history = same.history; layout = same.layout; runs = same.runs; collection = same.collection; unswept = same.unswept })
 
   pub noted_back : SameTables store' store
   noted_back = subst (λ (s : Store). SameTables s store) (sym is) (out_of_itself store met)
+
+  pub noted_space : store'.space ≡ store.space
+  noted_space = ap (λ (s : Store). s.space) is
 
   pub noted_met : store'.met ≡ met
   noted_met = ap (λ (s : Store). s.met) is
 
 module _ {A : Type 0} (store store' : Store) (res out : Result A StoreFault) (same : out ≡ res) (is : store' ≡ record store { met = met_by res }) where
   pub noted_changes : (r after : Repository) (a b : Told) → Changes r after res store a b → Changes r after out store' a b
-  noted_changes r after a b does = subst (λ o. Changes r after o store' a b) (sym same) (same_changes store store' (noted_itself store store' (met_by res) is) r after res a b does)
+  noted_changes r after a b does = subst (λ o. Changes r after o store' a b) (sym same) (same_changes store store' (noted_itself store store' (met_by res) is) (noted_space store store' (met_by res) is) r after res a b does)
 
   pub noted_stays : (told : Told) (q : Repository) (records : ℕ → Option Record) → (HasAnswer res → (mid : Holds store told q) → RecordsStay records (image_records mid))
       → HasAnswer out → (now : Holds store' told q) → RecordsStay records (image_records now)
   noted_stays told q records stay has now =
-      carried store store' (noted_back store store' (met_by res) is) told q (λ there. RecordsStay records there) (λ mid. stay (subst HasAnswer same has) mid) now
+      carried store store' (noted_back store store' (met_by res) is) (sym (noted_space store store' (met_by res) is)) told q (λ there. RecordsStay records there) (λ mid. stay (subst HasAnswer same has) mid) now
 
   pub noted_appends : (more : Records) (commits : ℕ) (before : Store) (a b : Told) → OnOk res (Appends more commits before store a b) → OnOk out (Appends more commits before store' a b)
   noted_appends more commits before a b appends = subst (λ o. OnOk o (Appends more commits before store' a b)) (sym same)
-      (on_ok_weaker res (same_appends more commits before store store' a b (noted_itself store store' (met_by res) is) (noted_back store store' (met_by res) is)) appends)
+      (on_ok_weaker res (same_appends more commits before store store' a b (noted_itself store store' (met_by res) is) (noted_back store store' (met_by res) is) (sym (noted_space store store' (met_by res) is))) appends)
 
 pub noted_set : (store store' : Store) (res out : Result (Unit {0}) StoreFault) → out ≡ res → store' ≡ record store { met = met_by res }
     → (r : Repository) (phase : Phase) (name : Bytes) (number : ℕ) → IfSome (branch_reply res) (AnswersSet r phase name number (met_by res) store) → IfSome (branch_reply out) (AnswersSet r phase name number store'.met store')
@@ -75,7 +78,7 @@ pub noted_answers : (store store' : Store) (res out : Result Hash StoreFault) �
 noted_answers store store' res out same is told s v command work answers =
     subst (λ o. IfSome (reply_to o) (λ reply. Answers told s v command store'.met reply store' work)) (sym same)
     (subst (λ met. IfSome (reply_to res) (λ reply. Answers told s v command met reply store' work)) (sym (noted_met store store' (met_by res) is))
-    (same_answers store store' (noted_itself store store' (met_by res) is) told s v command (met_by res) work (reply_to res) answers))
+    (same_answers store store' (noted_itself store store' (met_by res) is) (noted_space store store' (met_by res) is) told s v command (met_by res) work (reply_to res) answers))
 
 pub answers_met : (told : Told) (s : State) (v : View) (command : Command) (met met' : Met) (reply : Reply) (store : Store) (work : Work) → met' ≡ met
     → Answers told s v command met reply store work → Answers told s v command met' reply store work

@@ -93,7 +93,7 @@ module _ (told : Told) (index : ℕ) (s : Slot) (live : IsLive (control_in told.
     bytes_are = λ i. virtual_byte told.held (of.layout i) (runs i)
 
     stretches_are : stretches_of space ≡ stretches (layout_of s) rows
-    stretches_are = λ i. stretches_of (record { layout = of.layout i; runs = runs i })
+    stretches_are = λ i. stretches_of (record { layout = of.layout i; runs = runs i; kept = [] })
 
     pub bad_damaged : (file : FileName) (place : ℕ) → BadRecord s told space file place → DamagedAt told.held file place
     unfolding has_live

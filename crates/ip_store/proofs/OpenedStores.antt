@@ -36,7 +36,7 @@ use Rattle.ip_store.specs.declared.opening.OpenFault.{OpenFault}
 use Rattle.ip_store.specs.declared.store.Store.{Store}
 use Rattle.ip_store.specs.declared.walk.Found.{Found}
 use Rattle.ip_store.specs.Control.{control_in}
-use Rattle.ip_space.specs.SpaceView.{SpaceView, IsReadable, byte_at, stretches_of}
+use Rattle.ip_space.specs.SpaceView.{SpaceView, AreCurrent, IsReadable, byte_at, records_of, stretches_of}
 use Rattle.ip_space.proofs.Stayed.{readable_stays}
 use Rattle.ip_store.specs.Collecting.{IsGoing, Collects}
 use Rattle.ip_store.specs.Placed.{places_in, IsSpaceOf}
@@ -51,13 +51,11 @@ use Rattle.ip_store.proofs.Listed.{places_size}
 use Rattle.ip_store.proofs.BranchNames.{named_all, placed_within}
 use Rattle.ip_store.proofs.Stepping.{space_same, unswept_same, within_same, rising_same}
 use Rattle.ip_store.proofs.Reading.{own, control_passes}
+use Rattle.ip_store.proofs.RecordSteps.{same_fault}
 use Rattle.ip_store.proofs.OpenedImages.{has_live, form_damaged, generation_stays, pair_damaged, bad_damaged, misfit_damaged, standing_of, whole_from, repository_of, repository_names, repository_history, repository_floor, repository_branches, repository_tags, repository_size, commits_are}
 
 abbrev Branching : Type 0
 Branching = Map bytes_cmp ℕ
-
-same_fault : {A : Type 0} (one other : OpenFault) → IsErrOf {T = A} (Err one) other → one ≡ other
-same_fault one other e = cc
 
 -- the names are the commits'
 names_size : (names : _) (records : Records) → names ≡ map commit_name (commits_in records) → length names ≡ length (commits_in records)
@@ -112,8 +110,8 @@ module _ (index : ℕ) (s : Slot) (is : IsSlot s) (below : index < 2) (found : F
       }
 
   pub holds_of : (told : Told) → IsLive (control_in told.held) index s → (rows : List Row) → Generation told.held (layout_of s) rows → (space : SpaceView) → IsSpaceOf s space → space.runs ≡ map run_of rows
-      → RunByRun (byte_at told space) (stretches_of space) records → store.space ≡ space → IsSynced told Control → OwnsPair told s → Holds store told (repository_of s records tells.good)
-  holds_of told live rows generation space of runs fill space_is kept owns = record {
+      → RunByRun (byte_at told space) (stretches_of space) records → store.space ≡ space → AreCurrent (records_of told space) space.kept → IsSynced told Control → OwnsPair told s → Holds store told (repository_of s records tells.good)
+  holds_of told live rows generation space of runs fill space_is current kept owns = record {
     tables = tables_of;
     stands = record {
       standing = standing_of told index s live rows generation space of runs records tells.good fill fits;
@@ -128,6 +126,7 @@ module _ (index : ℕ) (s : Slot) (is : IsSlot s) (below : index < 2) (found : F
     runs = ap (λ (v : SpaceView). v.runs) space_is ∙ runs;
     places = sym (finished.places records tells);
     collects = subst (λ o. IfSome o (Collects told store.slot records (repository_of s records tells.good))) (sym finished.idle) tt;
+    current = subst (λ (v : SpaceView). AreCurrent (records_of told v) v.kept) (sym space_is) current;
   }
 
 -- ---- finding the slot
@@ -337,7 +336,7 @@ module _ (index : ℕ) (s : Slot) (below : index < 2) (is : IsSlot s) (a b : Tol
       holds = λ owns. (
         repository_of s covers.records covers.true_of.good,
         holds_of index s is below found store covers.records covers.true_of (within_slot s space covers.records of covers.within) finished c (live_now c reads) (finds (owned owns)).0 (generation_now owns) space of (finds (owned owns)).2
-            (covers.fill refl (readable_now owns)) space_is (kept_passes Control own b c reads slot.kept) (owns_now c reads owns),
+            (covers.fill refl (readable_now owns)) space_is (readable_now owns).kept (kept_passes Control own b c reads slot.kept) (owns_now c reads owns),
       );
       opening = opening_now c reads;
       reached = λ answered some. reached_now c reads some;

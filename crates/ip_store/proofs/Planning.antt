@@ -13,14 +13,14 @@ use Rattle.ip_spec.specs.Map.{insert, len, entries-insert}
 use Rattle.ip_spec.specs.Path.{Bytes, bytes_cmp}
 use Rattle.ip_spec.specs.declared.record.Record.{Record}
 use Rattle.ip_spec.specs.Record.{hashed_commit, Fits, IsHash, IsInfo, IsBranchName}
-use Rattle.ip_spec.specs.Batch.{batch}
+use Rattle.ip_spec.specs.Batch.{batch, batch_end, sources}
 use Rattle.ip_spec.specs.Shape.{root_name}
 use Rattle.ip_spec.specs.Machine.{Phase}
 use Rattle.ip_spec.specs.View.{View}
 use Rattle.ip_spec.specs.Batch as Batches
 use Rattle.ip_spec.specs.Repository.{Repository, next, head, is_retained}
 use Rattle.ip_spec.specs.Step.{room_for_branch, not_existing, refuse_if, new_commit, as_parent}
-use Rattle.ip_image.specs.Appending.{fields_of, grown_batch, grown_end, bytes_of_records, AreWithin}
+use Rattle.ip_image.specs.Appending.{fields_of, bytes_of_records, AreWithin}
 use Rattle.ip_save.specs.declared.batch.Batch.{Batch}
 use Rattle.ip_save.specs.declared.batch.CommitFields.{CommitFields}
 use Rattle.ip_save.specs.Batches.{fields_told, IsBatch}
@@ -72,7 +72,7 @@ module _ (r : Repository) (branch : Bytes) where
 
 module _ (r : Repository) (v : View) (f : Batches.CommitFields) (end : ℕ) where
   -- its records would pass the greatest end
-  pub none_made : (fault : StoreFault) → 2 ^ 62 < grown_end v f end → IsPastTheEnd r v f fault → IsNewBatch r v f end (Err fault)
+  pub none_made : (fault : StoreFault) → 2 ^ 62 < batch_end v (sources v) f end → IsPastTheEnd r v f fault → IsNewBatch r v f end (Err fault)
   none_made (StoreFault.Existing name) over is = is
   none_made (StoreFault.Limit Limit.Space) over is = (is, over)
   none_made (StoreFault.Limit _) over is = absurd is
@@ -84,7 +84,7 @@ module _ (r : Repository) (phase : Phase) (work : Work) (v : View) (branch : Byt
     (f : Batches.CommitFields) (told : f ≡ fields_of r work.parents info branch) where
   pub refused_batch : (slot : Slot) (end : ℕ) (fault : StoreFault) → IsNewBatch r v f end (Err fault) → IsRefusal r phase work v branch info fault
   refused_batch slot end (StoreFault.Existing name) is = refused_name r phase work v branch info first_is (StoreFault.Existing name) (subst (λ h. not_existing r h ≡ Err (Reply.Existing name)) (name_from r v work.parents info branch f told) is)
-  refused_batch slot end (StoreFault.Limit Limit.Space) is = refused_short r phase work v branch info first_is (subst (λ h. not_existing r h ≡ Ok tt) (name_from r v work.parents info branch f told) is.0) slot (grown_end v f end)
+  refused_batch slot end (StoreFault.Limit Limit.Space) is = refused_short r phase work v branch info first_is (subst (λ h. not_existing r h ≡ Ok tt) (name_from r v work.parents info branch f told) is.0) slot (batch_end v (sources v) f end)
       (StoreFault.Limit Limit.Space) (let over = is.1 in omega (arith, over))
   refused_batch slot end (StoreFault.Limit _) is = absurd is
   refused_batch slot end StoreFault.Memory is = refused_memory r phase work v branch info
@@ -99,7 +99,7 @@ module _ (r : Repository) (phase : Phase) (work : Work) (v : View) (branch : Byt
   }
     where
       by : (fault : StoreFault) → IsNewBatch r v f store.slot.end (Err fault) → fault ≡ StoreFault.Limit Limit.Space → 2 ^ 62 < end_of r work v branch info store
-      by (StoreFault.Limit Limit.Space) is e = subst (λ g. 2 ^ 62 < grown_end v g store.slot.end) told is.1
+      by (StoreFault.Limit Limit.Space) is e = subst (λ g. 2 ^ 62 < batch_end v (sources v) g store.slot.end) told is.1
       by fault is e = absurd (cc (e))
 
       by_sequence : (fault : StoreFault) → IsNewBatch r v f store.slot.end (Err fault) → fault ≡ StoreFault.Limit Limit.Sequence → (end_of r work v branch info store ≤ 2 ^ 62) × (store.slot.sequence ≡ 2 ^ 62)
@@ -114,7 +114,7 @@ module _ (r : Repository) (phase : Phase) (work : Work) (v : View) (branch : Byt
   }
     where
       ends : end_of r work v branch info store ≡ store.slot.end + length batch.bytes.items
-      ends = ap (λ g. grown_end v g store.slot.end) (sym told) ∙ sym is_batch.ends ∙ is_batch.long
+      ends = ap (λ g. batch_end v (sources v) g store.slot.end) (sym told) ∙ sym is_batch.ends ∙ is_batch.long
 
       by : (fault : StoreFault) → IsNextSlot (carried store) (length batch.bytes.items) 1 (Err fault) → fault ≡ StoreFault.Limit Limit.Space → 2 ^ 62 < end_of r work v branch info store
       by (StoreFault.Limit Limit.Space) is e = subst (λ (n : ℕ). 2 ^ 62 < n) (sym ends) is
@@ -164,10 +164,10 @@ module _ (records : ℕ → Option Record) (r : Repository) (work : Work) (v : V
       let new_is : not_existing r (new_commit r v.map work.parents info).name ≡ Ok tt = subst (λ h. not_existing r h ≡ Ok tt) name fresh in
       record {
         name = name;
-        bytes = is_batch.bytes ∙ ap (λ f. bytes_of_records (grown_batch v f store.slot.end)) told;
+        bytes = is_batch.bytes ∙ ap (λ f. bytes_of_records (Batches.batch v (sources v) f store.slot.end)) told;
         place = batch_places v (fields_of r work.parents info branch) store.slot.end ∙ ap (λ (n : ℕ). n ∷ []) (sym is_batch.commit_at);
         root = is_batch.root;
-        behind = ap (λ f. grown_end v f store.slot.end) (sym told) ∙ sym is_batch.ends ∙ is_batch.long;
+        behind = ap (λ f. batch_end v (sources v) f store.slot.end) (sym told) ∙ sym is_batch.ends ∙ is_batch.long;
         may = record {
           is_tree = (lawful.tree there).lawful;
           narrow = (lawful.tree there).narrow;
@@ -179,9 +179,9 @@ module _ (records : ℕ → Option Record) (r : Repository) (work : Work) (v : V
           new_name = none_named r (new_commit r v.map work.parents info).name new_is;
           room = room_after r branch (next r) room_is of.retained.few;
         };
-        within = subst (λ (n : ℕ). AreWithin n (grown_batch v (fields_of r work.parents info branch) store.slot.end)) (sym version_is)
+        within = subst (λ (n : ℕ). AreWithin n (Batches.batch v (sources v) (fields_of r work.parents info branch) store.slot.end)) (sym version_is)
             (batch_served v (fields_of r work.parents info branch) store.slot.end 1
-            (subst (λ f. All (λ (x : ℕ × Record). Fits 1 x.1) (grown_batch v f store.slot.end)) told is_batch.fits));
+            (subst (λ f. All (λ (x : ℕ × Record). Fits 1 x.1) (Batches.batch v (sources v) f store.slot.end)) told is_batch.fits));
         there = there;
         stays = first_stays r (phase_of store.collection) work.least work.parents branch first_is;
         turn = turn_is_done r (phase_of store.collection) work v branch info first_is new_is;

@@ -3,6 +3,7 @@
 --     bad_taken, too_long, bad_unread      where no good record stands
 --     within_stretches      a number names one of the stretches.      nothing_filled      none is filled at first
 --     begins_stretch, ends_stretch, covers_all      at the beginning of a stretch, behind it, and behind all of them
+--     same_fault      one answer has one fault
 use Rattle.std.proofs.Common.{◌≡◌, ℕ, zero, suc, ◌+◌, ◌<◌, ◌≤◌, Bool, List, [], ◌∷◌, ◌++◌, length, take, get_or, refl, sym, ◌∙◌, ap, subst, inl, inr, arith, append_assoc, append-nil}
 use Rattle.std.proofs.lemmas.List.{take_more, take_all}
 use Rattle.std.proofs.lemmas.Option.{same_Some, slice_get-get_or, slice_get_within}
@@ -37,7 +38,8 @@ use Rattle.ip_store.specs.Walk.{Tells, IsPlaced, IsUnread, TakesRead, Filled, Wa
 use Rattle.ip_store.proofs.Listed.{newest}
 use Rattle.ip_store.proofs.Walking.{beyond_push, beyond_up}
 
-same_fault : (one other : OpenFault) → IsErrOf {T = Bool} (Err one) other → one ≡ other
+-- one answer has one fault
+pub same_fault : {A : Type 0} (one other : OpenFault) → IsErrOf {T = A} (Err one) other → one ≡ other
 same_fault one other e = cc
 
 -- ---- stretches

@@ -32,7 +32,7 @@ use Rattle.ip_image.proofs.Tables.{made_again}
 use Rattle.ip_history.specs.History.{HasParentsFirst}
 use Rattle.ip_store.specs.declared.committing.StoreFault.{StoreFault}
 use Rattle.ip_store.specs.declared.store.Store.{Store}
-use Rattle.ip_space.specs.SpaceView.{SpaceView, grown}
+use Rattle.ip_space.specs.SpaceView.{bare, grown}
 use Rattle.ip_store.specs.Changes.{Changes, next_slot, IsNextSlot}
 use Rattle.ip_store.specs.Collecting.{IsAbove, IsGoing, Collects, carried}
 use Rattle.ip_store.specs.Placed.{places_in, IsSpaceOf}
@@ -158,7 +158,7 @@ module _ (r : Repository) (store : Store) (of : IsOf store r) where
       within = within_same next_live store'.slot store.places.items store'.places.items (slot' ∙ slot_is) places
           (subst (All (λ at. (next_live.horizon ≤ at) × (at < next_live.end))) (append-nil store.places.items) (within_on store.slot next_live store.places.items [] (omega arith) (omega arith) of.within tt));
       rising = rising_same next_live store'.slot store.places.items store'.places.items (slot' ∙ slot_is) places of.rising;
-      going = going_to store.slot.floor store'.slot.floor store.places.items store'.places.items store.unswept store'.unswept (grown store.space slot.end) store'.space store.collection store'.collection (ap (λ (s : Slot). s.floor) (slot' ∙ slot_is)) places unswept space collection
+      going = going_to store.slot.floor store'.slot.floor store.places.items store'.places.items store.unswept store'.unswept (grown store.space slot.end) store'.space store.collection store'.collection (ap (λ (s : Slot). s.floor) (slot' ∙ slot_is)) places unswept (ap bare space) collection
           (subst (λ (ps : List ℕ). IfSome store.collection (IsGoing store.slot.floor ps store.unswept (grown store.space slot.end))) (append-nil store.places.items) (going_on store.slot.floor slot.end store.places.items [] store.unswept store.space store.collection of.going));
     }
 
@@ -215,7 +215,7 @@ module _ (r : Repository) (store : Store) (of : IsOf store r) where
           → store'.places.items ≡ store.places.items → store'.space ≡ grown store.space slot.end → store'.collection ≡ store.collection → store'.unswept ≡ store.unswept → IsAbove store.collection x → Step b (Ok tt) → Changes {A = Unit {0}} r after (Ok tt) store' a b
       was_renamed b store' slot' index names branches history places space collection unswept above step =
           changed r after store attempt 0 (spelling x) of room a held stands_new b (to_next b (Ok tt) step)
-          ((store.slot.end, x) ∷ []) (fits, tt) (refl, refl) (spelled_is store.slot.end x) store' (slot' ∙ slot_is) index (ap (λ (view : SpaceView). view.runs) space) (renamed_tables store' slot' index names branches history places space collection unswept above)
+          ((store.slot.end, x) ∷ []) (fits, tt) (refl, refl) (spelled_is store.slot.end x) store' (slot' ∙ slot_is) index (space ∙ ap (λ (s : Slot). grown store.space s.end) slot_is) (renamed_tables store' slot' index names branches history places space collection unswept above)
           (places ∙ sym (append-nil store.places.items) ∙ ap (λ (ps : List ℕ). store.places.items ++ ps) (sym (no_place r store.slot.end x may))) (renamed_collects b store' slot' collection (renamed_tables store' slot' index names branches history places space collection unswept above) step) tt
 
       -- each record stays

@@ -168,6 +168,7 @@ running_holds store r o met told phase going held collects = record {
   runs = held.runs;
   places = held.places;
   collects = collects;
+  current = held.current;
 }
 
 -- ---- the answers
@@ -311,6 +312,7 @@ begins_noted r store now o met old new none is = record {
     runs = after.runs;
     places = after.places;
     collects = subst (λ (p : Option Collection). IfSome p (Collects new now.slot after.stands.standing.records q)) (sym none) tt;
+    current = after.current;
   });
 }
 

@@ -1,9 +1,9 @@
 -- A durable step from a repository to the next one, whatever command takes it.
 --     may_step      what the durable step asks.      changed, cut_short      the relation of a call that was made, and of one that a fault cut short
 --     list_after, more_made, stays_made      the records of the image after it, those that stand behind the ones before it, and that these stay
---     same_tables, same_holds, same_changes, same_appends      a store with the same tables.      changes_none      the relation of a call that was refused
+--     same_tables, kept_holds, same_holds, same_changes, same_appends      a store with the same tables.      holds_still, still_holds      where no file was changed.      changes_none      the relation of a call that was refused
 --     same_can_step, same_step      what a step asks and does, of a slot and bytes that are the same
-use Rattle.std.proofs.Common.{◌≡◌, ◌≢◌, ◌⊎◌, inl, inr, ℕ, ◌+◌, ◌-◌, ◌<◌, ◌≤◌, List, ◌++◌, length, refl, sym, ◌∙◌, ap, subst, arith, length-append}
+use Rattle.std.proofs.Common.{◌≡◌, ◌≢◌, ◌⊎◌, inl, inr, ℕ, ◌+◌, ◌-◌, ◌<◌, ◌≤◌, List, [], ◌++◌, length, refl, sym, ◌∙◌, ap, subst, arith, length-append}
 use Rattle.std.specs.Prelude.{Option, Some, IfSome, Result, Ok, Err, All, map}
 use Rattle.std.specs.List.{AllByRecursion}
 use Rattle.std.proofs.lemmas.Bool.{cases_lt}
@@ -50,12 +50,12 @@ use Rattle.ip_store.specs.declared.store.Store.{Store}
 use Rattle.ip_store.specs.Changes.{HasAnswer, Changes, Appends}
 use Rattle.ip_store.specs.Collecting.{IsUnswept, Collects}
 use Rattle.ip_store.specs.Publishing.{front_in, CanStep, MakesStep, IsWritten, MayChange, IsOfStore}
-use Rattle.ip_space.specs.SpaceView.{SpaceView, OnlyReads}
+use Rattle.ip_space.specs.SpaceView.{SpaceView, AreCurrent, OnlyReads, bare, grown, records_of}
 use Rattle.ip_store.specs.Placed.{place_of, places_in, AreRising, IsSpaceOf}
 use Rattle.ip_store.specs.Store.{IsOf, OwnsPair, Holds, SameTables, image_records}
 use Rattle.ip_store.specs.Trees.{RecordsStay, OnlyLooks}
 use Rattle.ip_store.proofs.Going.{going_to, collects_to, collects_still}
-use Rattle.ip_store.proofs.Listed.{AreNewest, newest, same_rows, more_records, space_stays, pair_stays, same_list, same_records, holds_on}
+use Rattle.ip_store.proofs.Listed.{AreNewest, newest, same_rows, more_records, space_stays, pair_stays, same_list, same_records, holds_on, readable_of, current_behind}
 use Rattle.ip_store.proofs.NextSlot.{slot_behind, HasRoom, next_is, next_generation}
 use Rattle.ip_store.proofs.Phases.{phase_to}
 use Rattle.ip_store.proofs.Reading.{own}
@@ -64,10 +64,10 @@ use Rattle.ip_store.proofs.Recovering.{in_image, recovers_now, pending_of, front
 -- ---- tables
 
 pub itself : (store : Store) → SameTables store store
-itself store = record { index = refl; slot = refl; names = refl; places = refl; branches = refl; history = refl; space = refl; collection = refl; unswept = refl }
+itself store = record { index = refl; slot = refl; names = refl; places = refl; branches = refl; history = refl; layout = refl; runs = refl; collection = refl; unswept = refl }
 
 pub in_itself : (store : Store) (met : Met) → SameTables store (record store { met = met })
-in_itself store met = record { index = refl; slot = refl; names = refl; places = refl; branches = refl; history = refl; space = refl; collection = refl; unswept = refl }
+in_itself store met = record { index = refl; slot = refl; names = refl; places = refl; branches = refl; history = refl; layout = refl; runs = refl; collection = refl; unswept = refl }
 
 pub space_same : (s t : Slot) (one other : SpaceView) → t ≡ s → other ≡ one → IsSpaceOf s one → IsSpaceOf t other
 space_same s t one other slot space is = subst (λ (u : Slot). IsSpaceOf u other) (sym slot) (subst (IsSpaceOf s) (sym space) is)
@@ -89,7 +89,16 @@ still_space s a b only owns = space_stays s a b (λ file. (only.others file (λ 
 still_pair : (s : Slot) (a b : Told) → ChangesOnly NoFile a b → OwnsPair a s → OwnsPair b s
 still_pair s a b only owns = pair_stays s a b (λ file. (only.others file (λ none. none)).own) owns
 
+-- over calls that change no file a store holds what it held
+pub holds_still : (store : Store) (r : Repository) (a b : Told) → ChangesOnly NoFile a b → Holds store a r → Holds store b r
+holds_still store r a b only held = holds_on store a r held b ((only.others Control (λ none. none)).held (λ x. x)) (still_space store.slot a b only held.pair) (kept_passes Control own a b only held.kept) (still_pair store.slot a b only held.pair)
+    (collects_still a b store.slot held.stands.standing.records r store.collection only.goes only.lending (λ file n of. only.others file (λ none. none)) held.collects)
+
 module _ (store store' : Store) (same : SameTables store store') where
+  -- whatever is kept
+  same_bare : bare store'.space ≡ bare store.space
+  same_bare = λ i. record { layout = same.layout i; runs = same.runs i; kept = [] }
+
   pub same_tables : (r : Repository) → IsOf store r → IsOf store' r
   same_tables r of = record {
     slot = subst IsSlot (sym same.slot) of.slot;
@@ -102,32 +111,33 @@ module _ (store store' : Store) (same : SameTables store store') where
     retained = subst (λ (s : Slot). AreRetained s r.branches) (sym same.slot) of.retained;
     history = of.history ∙ sym same.history;
     parents_first = subst HasParentsFirst (sym same.history) of.parents_first;
-    space = space_same store.slot store'.slot store.space store'.space same.slot same.space of.space;
+    space = record { layout = same.layout ∙ of.space.layout ∙ ap layout_of (sym same.slot); runs = λ none. same.runs ∙ of.space.runs (ap (λ (s : Slot). s.live) (sym same.slot) ∙ none) };
     placed = ap length same.places ∙ of.placed;
     phase = phase_to store.slot store'.slot r store.collection store'.collection same.slot same.collection of.phase;
     unswept = unswept_same store.slot store'.slot store.unswept store'.unswept same.slot same.unswept of.unswept;
     named = of.named;
     within = within_same store.slot store'.slot store.places.items store'.places.items same.slot same.places of.within;
     rising = rising_same store.slot store'.slot store.places.items store'.places.items same.slot same.places of.rising;
-    going = going_to store.slot.floor store'.slot.floor store.places.items store'.places.items store.unswept store'.unswept store.space store'.space store.collection store'.collection (ap (λ (s : Slot). s.floor) same.slot) same.places same.unswept same.space same.collection of.going;
+    going = going_to store.slot.floor store'.slot.floor store.places.items store'.places.items store.unswept store'.unswept store.space store'.space store.collection store'.collection (ap (λ (s : Slot). s.floor) same.slot) same.places same.unswept same_bare same.collection of.going;
   }
 
-  pub same_holds : (r : Repository) (a : Told) → Holds store a r → Holds store' a r
-  same_holds r a held = record {
+  -- where what is kept is current
+  pub kept_holds : (r : Repository) (a : Told) → AreCurrent (records_of a store'.space) store'.space.kept → Holds store a r → Holds store' a r
+  kept_holds r a current held = record {
     tables = same_tables r held.tables;
     stands = held.stands;
     live = subst (λ (i : ℕ). IsLive (bytes_of (a.held Control)) i store'.slot) (sym same.index) (subst (λ (s : Slot). IsLive (bytes_of (a.held Control)) store.index s) (sym same.slot) held.live);
     kept = held.kept;
     pair = subst (OwnsPair a) (sym same.slot) held.pair;
-    runs = ap (λ (space : SpaceView). space.runs) same.space ∙ held.runs;
+    runs = same.runs ∙ held.runs;
     places = same.places ∙ held.places;
     collects = collects_to a store.slot store'.slot held.stands.standing.records r store.collection store'.collection same.slot same.collection held.collects;
+    current = current;
   }
 
-  -- and where no file was changed
-  pub still_holds : (r : Repository) (a b : Told) → ChangesOnly NoFile a b → Holds store a r → Holds store' b r
-  still_holds r a b only held = same_holds r b (holds_on store a r held b ((only.others Control (λ none. none)).held (λ x. x)) (still_space store.slot a b only held.pair) (kept_passes Control own a b only held.kept) (still_pair store.slot a b only held.pair)
-      (collects_still a b store.slot held.stands.standing.records r store.collection only.goes only.lending (λ file n of. only.others file (λ none. none)) held.collects))
+  -- over a call that only reads
+  pub still_holds : (r : Repository) (a b : Told) → OnlyReads a b store.space store'.space → Holds store a r → Holds store' b r
+  still_holds r a b reads held = kept_holds r b (reads.readable (readable_of store r a held)).kept (holds_still store r a b reads.only held)
 
   -- by the same records
   pub still_list : (q r : Repository) (a b : Told) → ChangesOnly NoFile a b → (held : Holds store a q) (still : Holds store' b r) → still.stands.standing.records ≡ held.stands.standing.records
@@ -139,7 +149,7 @@ module _ (store store' : Store) (same : SameTables store store') where
   pub looks : (a b : Told) → OnlyReads a b store.space store'.space → OnlyLooks a b store store'
   looks a b reads = record {
     reads = reads;
-    holds = λ r held. still_holds r a b reads.only held;
+    holds = λ r held. still_holds r a b reads held;
     records = λ r held still. still_records r r a b reads.only held still;
   }
 
@@ -147,32 +157,37 @@ module _ (store store' : Store) (same : SameTables store store') where
   pub stays_still : (q r : Repository) (a : Told) (held : Holds store a q) (still : Holds store' a r) → RecordsStay (image_records held) (image_records still)
   stays_still q r a held still at x is = subst (λ (f : ℕ → Option Record). f at ≡ Some x) (same_records a store store' q r held still) is
 
-  pub same_changes : {A : Type 0} (r after : Repository) (res : Result A StoreFault) (a b : Told) → Changes r after res store a b → Changes r after res store' a b
-  same_changes r after res a b is = record {
-    only = is.only;
-    refused = λ ref. let both = is.refused ref in (both.0, same_holds r b both.1);
-    ok = on_ok_weaker res (same_holds after b) is.ok;
-    atomic = is.atomic;
-    recovers = is.recovers;
-    recovers_refused = is.recovers_refused;
-    nothing_pending = is.nothing_pending;
-    flushed = is.flushed;
-    space = is.space;
-  }
+  -- and where nothing was fetched
+  module _ (space : store'.space ≡ store.space) where
+    pub same_holds : (r : Repository) (a : Told) → Holds store a r → Holds store' a r
+    same_holds r a held = kept_holds r a (subst (λ (s : SpaceView). AreCurrent (records_of a s) s.kept) (sym space) held.current) held
 
-pub same_appends : (more : Records) (commits : ℕ) (store mid now : Store) (a b : Told) → SameTables mid now → SameTables now mid → Appends more commits store mid a b → Appends more commits store now a b
-unfolding same_holds
-same_appends more commits store mid now a b there back is = record {
+    pub same_changes : {A : Type 0} (r after : Repository) (res : Result A StoreFault) (a b : Told) → Changes r after res store a b → Changes r after res store' a b
+    same_changes r after res a b is = record {
+      only = is.only;
+      refused = λ ref. let both = is.refused ref in (both.0, same_holds r b both.1);
+      ok = on_ok_weaker res (same_holds after b) is.ok;
+      atomic = is.atomic;
+      recovers = is.recovers;
+      recovers_refused = is.recovers_refused;
+      nothing_pending = is.nothing_pending;
+      flushed = is.flushed;
+      space = is.space;
+    }
+
+pub same_appends : (more : Records) (commits : ℕ) (store mid now : Store) (a b : Told) → SameTables mid now → SameTables now mid → mid.space ≡ now.space → Appends more commits store mid a b → Appends more commits store now a b
+unfolding same_holds kept_holds
+same_appends more commits store mid now a b there back space is = record {
   slot = there.slot ∙ is.slot;
-  records = λ r q before after. is.records r q before (same_holds now mid back q b after);
+  records = λ r q before after. is.records r q before (same_holds now mid back space q b after);
 }
 
 pub out_of_itself : (store : Store) (met : Met) → SameTables (record store { met = met }) store
-out_of_itself store met = record { index = refl; slot = refl; names = refl; places = refl; branches = refl; history = refl; space = refl; collection = refl; unswept = refl }
+out_of_itself store met = record { index = refl; slot = refl; names = refl; places = refl; branches = refl; history = refl; layout = refl; runs = refl; collection = refl; unswept = refl }
 
 -- what is so of the records however one of the two holds them is so of those that the other holds
-pub carried : (store store' : Store) → SameTables store' store → (told : Told) (r : Repository) (P : (ℕ → Option Record) → Type 0) → ((held : Holds store told r) → P (image_records held)) → (now : Holds store' told r) → P (image_records now)
-carried store store' back told r P so now = let held = same_holds store' store back r told now in subst P (same_records told store store' r r held now) (so held)
+pub carried : (store store' : Store) → SameTables store' store → store.space ≡ store'.space → (told : Told) (r : Repository) (P : (ℕ → Option Record) → Type 0) → ((held : Holds store told r) → P (image_records held)) → (now : Holds store' told r) → P (image_records now)
+carried store store' back space told r P so now = let held = same_holds store' store back space r told now in subst P (same_records told store store' r r held now) (so held)
 
 -- ---- the files
 
@@ -363,7 +378,7 @@ module _ (r after : Repository) (store : Store) (attempt commits : ℕ) (bytes :
             (All-from_recursion (λ (x : ℕ × Record). Fits next.version x.1) more (subst (λ (v : ℕ). AllByRecursion (λ (x : ℕ × Record). Fits v x.1) more) (sym (newest store.slot of.slot)) fit))
             (subst (λ (bs : List ℕ). AddsBytes store.slot bs a.held b.held) spelled (adds_now b step))
 
-        module _ (store' : Store) (slot : store'.slot ≡ next) (index : store'.index ≡ 1 - store.index) (space : store'.space.runs ≡ store.space.runs) (tables : IsOf store' after) (places : store'.places.items ≡ store.places.items ++ places_in more)
+        module _ (store' : Store) (slot : store'.slot ≡ next) (index : store'.index ≡ 1 - store.index) (space : store'.space ≡ grown store.space next.end) (tables : IsOf store' after) (places : store'.places.items ≡ store.places.items ++ places_in more)
             (collects : (B : Standing b.held) → IfSome store'.collection (Collects b store'.slot B.records after)) where
           live_now : IsLive (bytes_of (b.held Control)) store'.index store'.slot
           live_now = subst (λ (i : ℕ). IsLive (bytes_of (b.held Control)) i store'.slot) (sym index)
@@ -376,9 +391,10 @@ module _ (r after : Repository) (store : Store) (attempt commits : ℕ) (bytes :
             live = live_now;
             kept = step.kept;
             pair = subst (OwnsPair b) (sym slot) (λ live. record { mapping = (mapping_stays b (Ok tt) step).own (held.pair live).mapping; prefix = (prefix_stays b (Ok tt) step).own (held.pair live).prefix });
-            runs = space ∙ held.runs ∙ ap (map run_of) (sym (same_rows a.held b.held store.slot next old_has (has_now b step) generation held.stands.standing stands_now.standing (adds_now b step).same.mapping));
+            runs = ap (λ (view : SpaceView). view.runs) space ∙ held.runs ∙ ap (map run_of) (sym (same_rows a.held b.held store.slot next old_has (has_now b step) generation held.stands.standing stands_now.standing (adds_now b step).same.mapping));
             places = places ∙ ap (λ (ps : List ℕ). ps ++ places_in more) held.places ∙ sym (filter_map-append place_of held.stands.standing.records more) ∙ ap places_in (sym (list_after stands_now.standing));
             collects = collects stands_now.standing;
+            current = subst (λ (view : SpaceView). AreCurrent (records_of b view) view.kept) (sym space) (current_behind store.slot a.held b.held store.space next.end of.space (omega arith) (adds_now b step).same held.current);
           }
 
           pending_now : NothingPending a → NothingPending b
@@ -417,10 +433,10 @@ module _ (r after : Repository) (store : Store) (attempt commits : ℕ) (bytes :
 
 -- it was refused, of a store with the same tables
 pub changes_none : {A : Type 0} (r after : Repository) (fault : StoreFault) (store store' : Store) (a : Told)
-    → SameTables store store' → Holds store a r → Changes {A = A} r after (Err fault) store' a a
-changes_none r after fault store store' a same held = record {
+    → SameTables store store' → store'.space ≡ store.space → Holds store a r → Changes {A = A} r after (Err fault) store' a a
+changes_none r after fault store store' a same space held = record {
   only = only_nowhere a (MayChange a.held);
-  refused = λ _. (only_nowhere a NoFile, same_holds store store' same r a held);
+  refused = λ _. (only_nowhere a NoFile, same_holds store store' same space r a held);
   ok = tt;
   atomic = λ order t late le. absurd (omega (arith, late, le));
   recovers = λ order. tt;

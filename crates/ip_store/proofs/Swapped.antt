@@ -32,7 +32,7 @@ use Rattle.ip_keep.proofs.RunsApart.{apart_total, apart_few, joined_few}
 use Rattle.ip_check.specs.CheckView.{CheckView}
 use Rattle.ip_check.specs.Checking.{IsCheck}
 use Rattle.ip_check.proofs.Making.{total_joined}
-use Rattle.ip_space.specs.SpaceView.{grown}
+use Rattle.ip_space.specs.SpaceView.{bare, grown}
 use Rattle.ip_store.specs.declared.collection.Collection.{Collection}
 use Rattle.ip_store.specs.declared.collection.Unswept.{Unswept}
 use Rattle.ip_store.specs.declared.store.Store.{Store}
@@ -73,7 +73,7 @@ few_rows k keep =
 module _ (store : Store) (r : Repository) (of : IsOf store r) (c : Collection) (runs : store.collection ≡ Some c) where
   pub check_of : (check : CheckView) → c.check ≡ Some check → IsCheck check × (check.job ≡ c.job)
   check_of check kept =
-      let is : IsCheck check × (check.job ≡ c.job) × (check.keep.space ≡ grown store.space c.job.end) × IsSome c.exit = subst (λ (o : Option CheckView). IfSome o (λ check. IsCheck check × (check.job ≡ c.job) × (check.keep.space ≡ grown store.space c.job.end) × IsSome c.exit)) kept (going_here store r c runs of).check in
+      let is : IsCheck check × (check.job ≡ c.job) × (check.keep.space ≡ bare (grown store.space c.job.end)) × IsSome c.exit = subst (λ (o : Option CheckView). IfSome o (λ check. IsCheck check × (check.job ≡ c.job) × (check.keep.space ≡ bare (grown store.space c.job.end)) × IsSome c.exit)) kept (going_here store r c runs of).check in
       (is.0, is.1)
 
 -- ---- the slot
@@ -227,7 +227,7 @@ module _ (store : Store) (r : Repository) (c : Collection) (check : CheckView) (
       retained = subst (λ (s : Slot). AreRetained s r.branches) (sym slot) (swapped_retained store.slot store.unswept c r (total (joined check.keep.kept)) (length (joined check.keep.kept)) of.slot of.unswept phase of.floor of.next going.drawn of.retained);
       history = history_now;
       parents_first = subst HasParentsFirst (sym history) (first_drop store.history of.parents_first gone c.commit (let f = same_floor in let l = low in omega (arith, f, l)));
-      space = space_same fields now.slot (record { layout = layout_of fields; runs = joined check.keep.kept }) now.space slot (swaps.space ∙ plan.space ∙ ap (λ (s : Slot). record { layout = layout_of s; runs = joined check.keep.kept }) plan.slot)
+      space = space_same fields now.slot (record { layout = layout_of fields; runs = joined check.keep.kept; kept = [] }) now.space slot (swaps.space ∙ plan.space ∙ ap (λ (s : Slot). record { layout = layout_of s; runs = joined check.keep.kept; kept = [] }) plan.slot)
           (record { layout = refl; runs = λ none. absurd (some store.slot store.unswept c r (total (joined check.keep.kept)) (length (joined check.keep.kept)) of.slot of.unswept phase of.floor of.next going.drawn none) });
       placed = ap length places ∙ length-drop gone store.places.items ∙ (let e = of.placed in let g = gone_here in let many = length-drop (c.commit - r.floor) r.commits in omega (arith, e, g, many));
       phase = no_phase now.slot (collected_at r c.commit) now.collection swaps.collection;

@@ -29,7 +29,7 @@ use Rattle.ip_spec.specs.TreeAt.{Records, present}
 use Rattle.ip_image.specs.declared.slot.Slot.{Slot}
 use Rattle.ip_image.specs.Collected.{IsCollectable}
 use Rattle.ip_image.specs.Collection.{found_in}
-use Rattle.ip_space.specs.SpaceView.{SpaceView, grown}
+use Rattle.ip_space.specs.SpaceView.{SpaceView, bare, grown}
 use Rattle.ip_check.specs.Checking.{IsCheck, IsChecking}
 use Rattle.ip_store.specs.declared.collection.Collection.{Collection}
 use Rattle.ip_store.specs.declared.collection.Unswept.{Unswept}
@@ -74,7 +74,7 @@ IsAbove (Some c) x = Unit {0}
 pub record IsGoing (floor : ℕ) (places : List ℕ) (u : Unswept) (space : SpaceView) (c : Collection) : Type 0 where
   pub placed : slice_get places (c.commit - floor) ≡ Some c.job.horizon
   pub drawn : u.attempt ≤ c.job.attempt
-  pub check : IfSome c.check (λ check. IsCheck check × (check.job ≡ c.job) × (check.keep.space ≡ grown space c.job.end) × IsSome c.exit)
+  pub check : IfSome c.check (λ check. IsCheck check × (check.job ≡ c.job) × (check.keep.space ≡ bare (grown space c.job.end)) × IsSome c.exit)
 
 abbrev pub until : ℕ → Records → Records
 until end records = filter (λ (x : ℕ × Record). nat_lt x.0 end) records

@@ -12,7 +12,7 @@ use Rattle.ip_base.specs.declared.info.Info.{Info}
 use Rattle.ip_ground.specs.Told.{Told}
 use Rattle.ip_spec.specs.declared.met.Met.{Met}
 use Rattle.ip_spec.specs.declared.met.Child.TheVariants as Child
-use Rattle.ip_spec.specs.Batch.{batch_root, sources}
+use Rattle.ip_spec.specs.Batch.{batch, batch_end, batch_root, sources}
 use Rattle.ip_spec.specs.Batch as Batches
 use Rattle.ip_spec.specs.Map.{insert, len}
 use Rattle.ip_spec.specs.Path.{Bytes}
@@ -28,7 +28,7 @@ use Rattle.ip_spec.specs.Step.{IsMet, turned, Refused, Turned, new_commit, with_
 use Rattle.ip_spec.specs.Tree.{Tree}
 use Rattle.ip_spec.specs.TreeAt.{Records}
 use Rattle.ip_spec.specs.View.{View}
-use Rattle.ip_image.specs.Appending.{fields_of, grown_batch, grown_end, bytes_of_records, AreWithin, MayGrow}
+use Rattle.ip_image.specs.Appending.{fields_of, bytes_of_records, AreWithin, MayGrow}
 use Rattle.ip_save.specs.Batches.{IsBatch}
 use Rattle.ip_save.specs.declared.batch.Batch.{Batch}
 use Rattle.ip_tree.specs.TreeView.{IsView, stored_view}
@@ -121,7 +121,7 @@ IsPastTheEnd r v f fault = ⊥
 abbrev pub IsNewBatch : Repository → View → Batches.CommitFields → ℕ → Result Batch StoreFault → Type 0
 IsNewBatch r v f end (Ok b) = IsBatch v f end b
 IsNewBatch r v f end (Err (StoreFault.Existing name)) = not_existing r (Batches.batch_name v f) ≡ Err (Reply.Existing name)
-IsNewBatch r v f end (Err (StoreFault.Limit Limit.Space)) = (not_existing r (Batches.batch_name v f) ≡ Ok tt) × (OFFSET_MAX < grown_end v f end)
+IsNewBatch r v f end (Err (StoreFault.Limit Limit.Space)) = (not_existing r (Batches.batch_name v f) ≡ Ok tt) × (OFFSET_MAX < batch_end v (sources v) f end)
 IsNewBatch r v f end (Err StoreFault.Memory) = Unit {0}
 IsNewBatch r v f end (Err fault) = ⊥
 
@@ -132,10 +132,10 @@ committed r phase work v branch info =
     (Reply.Committed c.name, record { repository = with_commit r c branch; phase = phase; work = record { tree = v.map; parents = next r ∷ []; least = Some (next r) } })
 
 abbrev pub records_of : Repository → Work → View → Bytes → Info → Store → Records
-records_of r work v branch info store = grown_batch v (fields_of r work.parents info branch) store.slot.end
+records_of r work v branch info store = batch v (sources v) (fields_of r work.parents info branch) store.slot.end
 
 abbrev pub end_of : Repository → Work → View → Bytes → Info → Store → ℕ
-end_of r work v branch info store = grown_end v (fields_of r work.parents info branch) store.slot.end
+end_of r work v branch info store = batch_end v (sources v) (fields_of r work.parents info branch) store.slot.end
 
 -- what a commit will do, once none of its refusals came
 pub record IsNext (r : Repository) (branch : Bytes) (store : Store) (plan : Plan) : Type 0 where

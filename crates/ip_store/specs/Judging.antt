@@ -14,7 +14,7 @@ use Rattle.ip_ground.specs.Contents.{Image}
 use Rattle.ip_ground.specs.Told.{Told}
 use Rattle.ip_spec.specs.TreeAt.{Records}
 use Rattle.ip_image.specs.Collection.{Found, found_in}
-use Rattle.ip_space.specs.SpaceView.{SpaceView, grown}
+use Rattle.ip_space.specs.SpaceView.{SpaceView, bare, grown}
 use Rattle.ip_keep.specs.Whole.{AreRecords}
 use Rattle.ip_check.specs.CheckView.{CheckView}
 use Rattle.ip_check.specs.Checking.{IsCheck, IsChecking, IsVerdict, looked_by}
@@ -74,13 +74,13 @@ verdict_by (Err fault) left = Err (fault_by fault)
 pub record IsCheckOf (c : Collection) (over : SpaceView) (k : CheckView) : Type 0 where
   pub check : IsCheck k
   pub job : k.job ≡ c.job
-  pub space : k.keep.space ≡ grown over c.job.end
+  pub space : k.keep.space ≡ bare (grown over c.job.end)
 
 -- the one that is kept, or one that begins
 pub record IsNextCheck (c : Collection) (over : SpaceView) (k : CheckView) : Type 0 where
   pub of : IsCheckOf c over k
   pub looked : looked_by k ≡ looked_at c
-  pub checking : (image : Image) (records : Records) (found : Found) → AreRecords image (grown over c.job.end) c.job.horizon records → IfSome c.check (IsChecking records found) → IsChecking records found k
+  pub checking : (image : Image) (records : Records) (found : Found) → AreRecords image (bare (grown over c.job.end)) c.job.horizon records → IfSome c.check (IsChecking records found) → IsChecking records found k
 
 abbrev pub with_check : Store → Collection → Option CheckView → Store
 with_check store c check = record store { collection = Some (record c { check = check }) }

@@ -26,13 +26,14 @@ use Rattle.ip_spec.specs.History.{is_ancestor, is_proper_ancestor, lcas}
 use Rattle.ip_spec.specs.Machine as Machine
 use Rattle.ip_spec.specs.Merge.{Rule, Merges, Outcome, merged, conflict_at}
 use Rattle.ip_spec.specs.MergeModel.{base_of}
+use Rattle.ip_spec.specs.Batch.{batch, sources}
 use Rattle.ip_spec.specs.Path.{Bytes}
 use Rattle.ip_spec.specs.Repository.{Repository, head, is_retained, name_at, tree_at}
 use Rattle.ip_spec.specs.Step.{Step, resolve, contents_limit, entries_limit, longest_value}
 use Rattle.ip_spec.specs.Tree.{Tree, widest}
 use Rattle.ip_spec.specs.TreeAt.{Records, TreeAt}
 use Rattle.ip_spec.specs.View.{View, no_view}
-use Rattle.ip_image.specs.Appending.{fields_of, grown_batch, bytes_of_records}
+use Rattle.ip_image.specs.Appending.{fields_of, bytes_of_records}
 use Rattle.ip_save.specs.Batches.{HasShortContents}
 use Rattle.ip_tree.specs.TreeView.{IsView, stored_view}
 use Rattle.ip_tree.specs.declared.tree.Tree as lazy
@@ -145,7 +146,7 @@ pub record JoinAppends (rule : Rule) (records : ℕ → Option Record) (r : Repo
   pub not_current : is_ancestor r number at ≡ false
   pub not_forward : is_proper_ancestor r at number ≡ false
   pub merge : IsMergeView rule records r at number view
-  pub are_records : more ≡ grown_batch view (fields_of r (at ∷ number ∷ []) info branch) end
+  pub are_records : more ≡ batch view (sources view) (fields_of r (at ∷ number ∷ []) info branch) end
   pub count : commits ≡ 1
 
 abbrev pub MergeAppends : Rule → (ℕ → Option Record) → Repository → ℕ → Bytes → Info → ℕ → Records → ℕ → Type 0

@@ -2,7 +2,7 @@
 --     IsOf store r      its tables are the repository's, in its history parents come first, and a collection goes on at one of its commits, if any does, and is kept with its check
 --     OwnsPair told s      no child changes the live pair of a slot.      OwnsLive told      nor that of the slot that is live
 --     Holds store told r      so are its tables, and so is what the ground reads as; its places are those of the commits' records; and a collection that goes on may be accepted, once it is checked
---     SameTables store other      they differ in what was met alone.      place_of_commit store number      where the record of a commit lies
+--     SameTables store other      they differ in what was met alone, and in which records are kept.      place_of_commit store number      where the record of a commit lies
 --     image_records holds      the records of the image that it holds, which are among those of its space
 use Rattle.std.specs.Prelude.{◌≡◌, ◌≢◌, ℕ, ◌-◌, ◌<◌, ◌≤◌, length, map, All, Option, IfSome, slice_get}
 use Rattle.ip_ground.specs.declared.names.FileName.TheVariants.{Control}
@@ -18,6 +18,7 @@ use Rattle.ip_image.specs.Standing.{StandsFor, AreRetained}
 use Rattle.ip_image.specs.Virtual.{run_of}
 use Rattle.ip_history.specs.History.{HasParentsFirst, history_of}
 use Rattle.ip_space.specs.Pair.{IsOwnPair}
+use Rattle.ip_space.specs.SpaceView.{AreCurrent, records_of}
 use Rattle.ip_store.specs.Collecting.{IsPhaseOf, IsUnswept, IsGoing, Collects}
 use Rattle.ip_store.specs.Control.{control_in}
 use Rattle.ip_store.specs.Placed.{places_in, AreRising, IsSpaceOf}
@@ -60,6 +61,7 @@ pub record Holds (store : Store) (told : Told) (r : Repository) : Type 0 where
   -- the records of the image are those of the space, so that there each commit's record stands at its place, and its tree where that says
   pub places : store.places.items ≡ places_in stands.standing.records
   pub collects : IfSome store.collection (Collects told store.slot stands.standing.records r)
+  pub current : AreCurrent (records_of told store.space) store.space.kept
 
 abbrev pub image_records : {store : Store} {told : Told} {r : Repository} → Holds store told r → ℕ → Option Record
 image_records holds = present holds.stands.standing.records
@@ -71,7 +73,9 @@ pub record SameTables (store other : Store) : Type 0 where
   pub places : other.places.items ≡ store.places.items
   pub branches : other.branches ≡ store.branches
   pub history : other.history ≡ store.history
-  pub space : other.space ≡ store.space
+  -- records may be kept that were not, and others not any more
+  pub layout : other.space.layout ≡ store.space.layout
+  pub runs : other.space.runs ≡ store.space.runs
   pub collection : other.collection ≡ store.collection
   pub unswept : other.unswept ≡ store.unswept
 

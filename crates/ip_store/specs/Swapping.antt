@@ -4,7 +4,7 @@
 --     SwapsTables swap store now      the tables go without the commits that are given up
 --     SyncsPair attempt result old new      what syncing the pair of a settled attempt does
 --     Accepts result r store now      what becomes of the tables.      AcceptsAs records r c result store old new      and what it does to what a ground tells
-use Rattle.std.specs.Prelude.{◌≡◌, ℕ, ◌-◌, ◌<◌, length, drop, None, Result, Ok, Err, OnOk}
+use Rattle.std.specs.Prelude.{◌≡◌, ℕ, ◌-◌, ◌<◌, [], length, drop, None, Result, Ok, Err, OnOk}
 use Rattle.ip_base.specs.declared.limit.TheConstants.{OFFSET_MAX}
 use Rattle.ip_base.specs.declared.limit.Limit.{Limit}
 use Rattle.ip_ground.specs.declared.names.FileName.TheVariants.{Control, Prefix, Mapping}
@@ -33,7 +33,7 @@ use Rattle.ip_store.specs.Sweeping.{EndsFor, KeepsFiles}
 
 pub record IsSwap (store : Store) (c : Collection) (check : CheckView) (swap : Swap) : Type 0 where
   pub slot : swap.slot ≡ swapped_slot store.slot store.unswept c (total (joined check.keep.kept)) (length (joined check.keep.kept))
-  pub space : swap.space ≡ record { layout = layout_of swap.slot; runs = joined check.keep.kept }
+  pub space : swap.space ≡ record { layout = layout_of swap.slot; runs = joined check.keep.kept; kept = [] }
   pub names : swap.names ≡ drop (c.commit - store.slot.floor) store.names
   pub sequence : store.slot.sequence < OFFSET_MAX
   pub above : 0 < c.job.horizon

@@ -1,15 +1,15 @@
 // What the store tells of one commit: its record is fetched from where it lies.
-ghost use Rattle.std.specs.Prelude.{◌≡◌, map, IsTrue, IfOk, IsErrOf};
+ghost use Rattle.std.specs.Prelude.{◌≡◌, map, IsTrue, IfOk};
 ghost use Rattle.ip_store.specs.Faults.{ground_store};
 ghost use Rattle.ip_ground.specs.Counts.{Counts};
 ghost use Rattle.ip_spec.specs.declared.record.Parent.{Parent};
 ghost use Rattle.ip_spec.specs.Record.{reference_kind};
 ghost use Rattle.ip_spec.specs.Repository.{Repository, is_retained, name_at};
-ghost use Rattle.ip_space.specs.SpaceView.{OnlyReads, records_of};
+ghost use Rattle.ip_space.specs.SpaceView.{IsReadable, OnlyReads, records_of};
 ghost use Rattle.ip_store.specs.declared.committing.StoreFault.TheVariants as StoreFault;
 ghost use Rattle.ip_store.specs.Showing.{IsFetchedOr, IsShown, IsRootOf, IsReference, IsRecordOf, IsCommitFrom, BlamesCommit, Damages};
 ghost use Rattle.ip_store.specs.Trees.{OnlyLooks};
-ghost use Rattle.ip_store.specs.Store.{IsOf, OwnsPair, Holds, SameTables, image_records, place_of_commit};
+ghost use Rattle.ip_store.specs.Store.{IsOf, Holds, SameTables, image_records, place_of_commit};
 
 use crate::{Store, StoreFault};
 use ip_base::{Hash, Hashes, Info, Items, Memory, Number};
@@ -57,7 +57,7 @@ impl Store {
         requires tables { (r : Repository) × IsOf self.old r × IsTrue (is_retained r number) }
         ensures shows { IsTrue G.tells → (r : Repository) → Holds self.old (G.told outside.old) r → IsTrue (is_retained r number) → IsShown r number result }
         ensures blames { (r : Repository) → IsOf self.old r → IsTrue (is_retained r number) → BlamesCommit (place_of_commit self.old number) (name_at r number) result }
-        ensures damages { IsTrue G.tells → OwnsPair (G.told outside.old) self.old.slot → Damages (records_of (G.told outside.old) self.old.space) result }
+        ensures damages { IsTrue G.tells → IsReadable (G.told outside.old) self.old.space → Damages (records_of (G.told outside.old) self.old.space) result }
         ensures same { SameTables self.old self.new }
         ensures met { self.new.met ≡ self.old.met }
         ensures looks { IsTrue G.tells → OnlyLooks (G.told outside.old) (G.told outside.new) self.old self.new }
@@ -81,7 +81,7 @@ impl Store {
         ensures root { IsTrue G.tells → (r : Repository) (held : Holds self.old (G.told outside.old) r) → IsTrue (is_retained r number) →
             IsFetchedOr (IsRootOf (image_records held) r number) result }
         ensures blames { (r : Repository) → IsOf self.old r → IsTrue (is_retained r number) → BlamesCommit (place_of_commit self.old number) (name_at r number) result }
-        ensures damages { IsTrue G.tells → OwnsPair (G.told outside.old) self.old.slot → Damages (records_of (G.told outside.old) self.old.space) result }
+        ensures damages { IsTrue G.tells → IsReadable (G.told outside.old) self.old.space → Damages (records_of (G.told outside.old) self.old.space) result }
         ensures same { SameTables self.old self.new }
         ensures met { self.new.met ≡ self.old.met }
         ensures reads { IsTrue G.tells → OnlyReads (G.told outside.old) (G.told outside.new) self.old.space self.new.space }
@@ -108,7 +108,7 @@ impl Store {
         ensures fetched { IsTrue G.tells → (r : Repository) (held : Holds self.old (G.told outside.old) r) → IsTrue (is_retained r number) →
             IsFetchedOr (IsRecordOf (image_records held) r number) result }
         ensures blames { (r : Repository) → IsOf self.old r → IsTrue (is_retained r number) → BlamesCommit (place_of_commit self.old number) (name_at r number) result }
-        ensures damages { IsTrue G.tells → OwnsPair (G.told outside.old) self.old.slot → Damages (records_of (G.told outside.old) self.old.space) result }
+        ensures damages { IsTrue G.tells → IsReadable (G.told outside.old) self.old.space → Damages (records_of (G.told outside.old) self.old.space) result }
         ensures same { SameTables self.old self.new }
         ensures met { self.new.met ≡ self.old.met }
         ensures reads { IsTrue G.tells → OnlyReads (G.told outside.old) (G.told outside.new) self.old.space self.new.space }

@@ -1,10 +1,9 @@
 // Trees over a store's records.
-ghost use Rattle.std.specs.Prelude.{◌≡◌, IsTrue, IsErrOf, MatchResult};
+ghost use Rattle.std.specs.Prelude.{◌≡◌, IsTrue, MatchResult};
 ghost use Rattle.ip_store.specs.Faults.{ground_store};
 ghost use Rattle.ip_tree.specs.Faults.{ground_tree};
 ghost use Rattle.ip_ground.specs.Counts.{Counts};
-ghost use Rattle.ip_space.specs.SpaceView.{records_of};
-ghost use Rattle.ip_space.specs.declared.fault.FetchFault.TheVariants as FetchFault;
+ghost use Rattle.ip_space.specs.SpaceView.{IsReadable, records_of};
 ghost use Rattle.ip_spec.specs.Path.{IsPath};
 ghost use Rattle.ip_spec.specs.Repository.{Repository, is_retained, name_at};
 ghost use Rattle.ip_spec.specs.Tree.{got_at, listed_at};
@@ -13,7 +12,7 @@ ghost use Rattle.ip_tree.specs.Reads.{IsFree};
 ghost use Rattle.ip_tree.specs.TreeView.{IsView, Sets, Removes, Grafts};
 ghost use Rattle.ip_tree.specs.declared.tree.TreeFault.TheVariants as TreeFault;
 ghost use Rattle.ip_store.specs.Showing.{IsFetchedOr, BlamesCommit, Damages};
-ghost use Rattle.ip_store.specs.Store.{IsOf, OwnsPair, Holds, SameTables, image_records, place_of_commit};
+ghost use Rattle.ip_store.specs.Store.{IsOf, Holds, SameTables, image_records, place_of_commit};
 ghost use Rattle.ip_store.specs.Trees.{OnlyLooks, IsTreeOf};
 ghost use Rattle.ip_store.specs.declared.committing.StoreFault.TheVariants as StoreFault;
 
@@ -135,7 +134,7 @@ impl Store {
         ensures tree { IsTrue G.tells → (r : Repository) (held : Holds self.old (G.told outside.old) r) → IsTrue (is_retained r number) →
             IsFetchedOr (IsTreeOf (image_records held) r number) result }
         ensures blames { (r : Repository) → IsOf self.old r → IsTrue (is_retained r number) → BlamesCommit (place_of_commit self.old number) (name_at r number) result }
-        ensures damages { IsTrue G.tells → OwnsPair (G.told outside.old) self.old.slot → Damages (records_of (G.told outside.old) self.old.space) result }
+        ensures damages { IsTrue G.tells → IsReadable (G.told outside.old) self.old.space → Damages (records_of (G.told outside.old) self.old.space) result }
         ensures same { SameTables self.old self.new }
         ensures met { self.new.met ≡ self.old.met }
         ensures looks { IsTrue G.tells → OnlyLooks (G.told outside.old) (G.told outside.new) self.old self.new }

@@ -221,7 +221,7 @@ fn changed(alloc: Global, place: usize, byte: u8) -> Result<Vec<u8>, Memory> {
     Ok(bytes)
 }
 
-// The first commit's record is at 9, its message at 75.
+// The first commit's record is at 9, its message at 75. What was shown once is kept, so the one that is shown comes last.
 #[test]
 fn a_record_that_was_changed_is_damaged(rt: HostRuntime) -> Result<(), Fail> {
     let alloc = rt.alloc();

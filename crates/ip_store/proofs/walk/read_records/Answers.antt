@@ -1,8 +1,11 @@
-use Rattle.std.proofs.Common.{◌∙◌, refl, sym, subst}
+use Rattle.std.proofs.Common.{◌≡◌, rules, ◌∙◌, refl, sym, ap, subst}
+use Rattle.std.specs.Prelude.{Err}
 use Rattle.ip_ground.specs.Told.{NoFile}
 use Rattle.ip_ground.proofs.Spans.{only_nowhere, only_on}
+use Rattle.ip_space.proofs.Stayed.{readable_stays}
+use Rattle.ip_store.specs.declared.opening.OpenFault.{OpenFault}
 use Rattle.ip_store.specs.Walk.{Filled}
-use Rattle.ip_store.proofs.RecordSteps.{nothing_filled, covers_all}
+use Rattle.ip_store.proofs.RecordSteps.{same_fault, nothing_filled, covers_all}
 use Rattle.ip_store.proofs.walk.read_records.Goals as goal
 
 pub loop-found-init : goal.loop-found-init
@@ -21,6 +24,13 @@ loop-found-preserved g c =
       only = λ told. only_on _ _ _ NoFile (kept.only told) (next.only told);
       counts = next.counts ∙ kept.counts;
     }
+
+pub returns-in_err-read_stretch-clause-damaged : goal.returns-in_err-read_stretch-clause-damaged
+returns-in_err-read_stretch-clause-damaged g c told readable file at damaged =
+    let fault = c.in_err-read_stretch.field-0.0 in
+    let same : c.from_residual.result ≡ Err fault = search rules in
+    let readable_then = readable_stays (g.G.Ground.told c.args.outside.now) (g.G.Ground.told c.loop-found.outside) (c.loop-found.invariant.only told) c.args.space.now readable in
+    c.in_err-read_stretch.ensures.damaged told readable_then file at (ap (λ (f : OpenFault). Err f) (same_fault fault (OpenFault.Damaged file at) (sym same ∙ damaged)))
 
 pub returns-in_err-read_stretch-clause-only : goal.returns-in_err-read_stretch-clause-only
 returns-in_err-read_stretch-clause-only g c told = only_on _ _ _ NoFile (c.loop-found.invariant.only told) (c.read_stretch.ensures.only told)

@@ -1,6 +1,8 @@
-use Rattle.std.proofs.Common.{refl, sym, ◌∙◌, subst, ℕ, ◌+◌}
+use Rattle.std.proofs.Common.{◌≡◌, rules, refl, sym, ◌∙◌, subst, ℕ, ◌+◌}
+use Rattle.std.specs.Prelude.{Err}
 use Rattle.ip_ground.specs.Told.{NoFile}
 use Rattle.ip_ground.proofs.Spans.{only_nowhere, only_on}
+use Rattle.ip_space.proofs.Stayed.{readable_stays}
 use Rattle.ip_store.specs.Walk.{Filled}
 use Rattle.ip_store.proofs.RecordSteps.{begins_stretch, ends_stretch, within_stretches}
 use Rattle.ip_store.proofs.walk.read_stretch.Goals as goal
@@ -25,6 +27,13 @@ loop-walk-preserved g c =
       only = λ told. only_on _ _ _ NoFile (kept.only told) (next.only told);
       counts = next.counts ∙ kept.counts;
     }
+
+pub returns-in_err-take_next-clause-damaged : goal.returns-in_err-take_next-clause-damaged
+returns-in_err-take_next-clause-damaged g c told readable file at damaged =
+    let fault = c.in_err-take_next.field-0.0 in
+    let same : c.from_residual.result ≡ Err fault = search rules in
+    let readable_then = readable_stays (g.G.Ground.told c.args.outside.now) (g.G.Ground.told c.loop-walk.outside) (c.loop-walk.invariant.only told) c.args.space.now readable in
+    c.in_err-take_next.ensures.damaged told readable_then file at (sym same ∙ damaged)
 
 pub returns-in_err-take_next-clause-only : goal.returns-in_err-take_next-clause-only
 returns-in_err-take_next-clause-only g c told = only_on _ _ _ NoFile (c.loop-walk.invariant.only told) (c.take_next.ensures.only told)

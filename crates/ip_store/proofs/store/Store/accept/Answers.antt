@@ -49,7 +49,7 @@ returns-in_err-swap-clause-does g c told r held x runs verdict =
 pub returns-clause-tables : goal.returns-clause-tables
 returns-clause-tables g c r x of runs =
     let t = check_through x (subst IsThrough runs c.requires.through) in
-    accepts_tables c.args.self.now c.swap.new.self r x t.0 c.in-Ok.swap (c.in-Ok.ensures.planned r x t.0 of runs t.1) c.in_ok-swap.ensures.swaps (c.in_ok-swap.ensures.tables r x of runs)
+    accepts_tables c.args.self.now c.swap-2.new.self r x t.0 c.in-Ok.swap (c.in-Ok.ensures.planned r x t.0 of runs t.1) c.in_ok-swap.ensures.swaps (c.in_ok-swap.ensures.tables r x of runs)
 
 pub returns-clause-does : goal.returns-clause-does
 returns-clause-does g c told r held x runs verdict =
@@ -59,4 +59,4 @@ returns-clause-does g c told r held x runs verdict =
     let plan = c.in-Ok.ensures.planned r x t.0 held.tables runs t.1 in
     let sync = pair_syncs c.args.self.now r a held x runs t.0 t.1 c.in-Ok.swap plan _ b (c.in_ok-sync_pair.ensures.does told) in
     accepts c.args.self.now r a held x runs t.0 t.1 t.2 verdict c.in-Ok.swap plan (slot_of_swap c.args.self.now r x t.0 c.in-Ok.swap held.tables runs t.1 plan) b sync
-    _ (c.in_ok-swap.ensures.does told r (going_on c.args.self.now r a held x runs t.0 t.1 b sync)) (g.met.G.Ground.possible _ told) c.swap.new.self c.in_ok-swap.ensures.swaps (c.in_ok-swap.ensures.tables r x held.tables runs)
+    _ (c.in_ok-swap.ensures.does told r (going_on c.args.self.now r a held x runs t.0 t.1 b sync)) (g.met.G.Ground.possible _ told) c.swap-2.new.self c.in_ok-swap.ensures.swaps (c.in_ok-swap.ensures.tables r x held.tables runs)

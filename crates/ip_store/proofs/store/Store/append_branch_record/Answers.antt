@@ -22,21 +22,21 @@ pub returns-in_err-spelled-clause-any_moment : goal.returns-in_err-spelled-claus
 returns-in_err-spelled-clause-any_moment g c told r held may =
     let is : c.from_residual.result ≡ Err StoreFault.Memory = search rules in
     subst (λ res. Changes {A = Unit {0}} r (renamed r c.args.rec) res c.args.self.now (g.G.Ground.told c.args.outside.now) (g.G.Ground.told c.args.outside.now)) (sym is)
-    (changes_none r (renamed r c.args.rec) StoreFault.Memory c.args.self.now c.args.self.now (g.G.Ground.told c.args.outside.now) (itself c.args.self.now) held)
+    (changes_none r (renamed r c.args.rec) StoreFault.Memory c.args.self.now c.args.self.now (g.G.Ground.told c.args.outside.now) (itself c.args.self.now) refl held)
 
 pub returns-in_err-slot-clause-any_moment : goal.returns-in_err-slot-clause-any_moment
 returns-in_err-slot-clause-any_moment g c told r held may =
     let fault = c.in_err-slot.field-0.0 in
     let is : c.from_residual-in_err-slot.result ≡ Err fault = search rules in
     subst (λ res. Changes {A = Unit {0}} r (renamed r c.args.rec) res c.args.self.now (g.G.Ground.told c.args.outside.now) (g.G.Ground.told c.args.outside.now)) (sym is)
-    (changes_none r (renamed r c.args.rec) fault c.args.self.now c.args.self.now (g.G.Ground.told c.args.outside.now) (itself c.args.self.now) held)
+    (changes_none r (renamed r c.args.rec) fault c.args.self.now c.args.self.now (g.G.Ground.told c.args.outside.now) (itself c.args.self.now) refl held)
 
 pub returns-in_err-name_branch-clause-any_moment : goal.returns-in_err-name_branch-clause-any_moment
 returns-in_err-name_branch-clause-any_moment g c told r held may =
     let is : c.from_residual-in_err-name_branch.result ≡ Err StoreFault.Memory = search rules in
     let store : Store = record { index = c.args.self.now.index; slot = c.args.self.now.slot; names = c.args.self.now.names; branches = c.name_branch.new.branches; history = c.args.self.now.history; places = c.args.self.now.places; space = c.args.self.now.space; collection = c.args.self.now.collection; unswept = c.args.self.now.unswept; met = c.args.self.now.met } in
     subst (λ res. Changes {A = Unit {0}} r (renamed r c.args.rec) res store (g.G.Ground.told c.args.outside.now) (g.G.Ground.told c.args.outside.now)) (sym is)
-    (changes_none r (renamed r c.args.rec) StoreFault.Memory c.args.self.now store (g.G.Ground.told c.args.outside.now) (record { index = refl; slot = refl; names = refl; places = refl; branches = c.in_err-name_branch.ensures.err; history = refl; space = refl; collection = refl; unswept = refl }) held)
+    (changes_none r (renamed r c.args.rec) StoreFault.Memory c.args.self.now store (g.G.Ground.told c.args.outside.now) (record { index = refl; slot = refl; names = refl; places = refl; branches = c.in_err-name_branch.ensures.err; history = refl; layout = refl; runs = refl; collection = refl; unswept = refl }) refl held)
 
 pub durable_step-requires-clause-chunk : goal.durable_step-requires-clause-chunk
 durable_step-requires-clause-chunk g c =
@@ -83,7 +83,7 @@ returns-in_err-slot-clause-records_stay g c told has r q held now = stays_still 
 
 pub returns-in_err-name_branch-clause-records_stay : goal.returns-in_err-name_branch-clause-records_stay
 returns-in_err-name_branch-clause-records_stay g c told has r q held now =
-    stays_still c.args.self.now _ (record { index = refl; slot = refl; names = refl; places = refl; branches = c.in_err-name_branch.ensures.err; history = refl; space = refl; collection = refl; unswept = refl }) r q (g.G.Ground.told c.args.outside.now) held now
+    stays_still c.args.self.now _ (record { index = refl; slot = refl; names = refl; places = refl; branches = c.in_err-name_branch.ensures.err; history = refl; layout = refl; runs = refl; collection = refl; unswept = refl }) r q (g.G.Ground.told c.args.outside.now) held now
 
 pub returns-clause-records_stay : goal.returns-clause-records_stay
 returns-clause-records_stay g c told has r q held now =
@@ -145,7 +145,7 @@ returns-in_err-name_branch-clause-tied g c told r q held now =
     let store : Store = record { index = c.args.self.now.index; slot = c.args.self.now.slot; names = c.args.self.now.names; branches = c.name_branch.new.branches; history = c.args.self.now.history; places = c.args.self.now.places; space = c.args.self.now.space; collection = c.args.self.now.collection; unswept = c.args.self.now.unswept; met = c.args.self.now.met } in
     subst (λ res. IsTiedAnswer {A = Unit {0}} (λ done. true) res c.args.self.now held.stands.standing.records store now.stands.standing.records) (sym is)
     (still_fault c.args.self.now store held.stands.standing.records now.stands.standing.records
-    (sees_same c.args.self.now store (record { index = refl; slot = refl; names = refl; places = refl; branches = c.in_err-name_branch.ensures.err; history = refl; space = refl; collection = refl; unswept = refl }) (g.G.Ground.told c.args.outside.now) r q held now) StoreFault.Memory)
+    (sees_same c.args.self.now store (record { index = refl; slot = refl; names = refl; places = refl; branches = c.in_err-name_branch.ensures.err; history = refl; layout = refl; runs = refl; collection = refl; unswept = refl }) (g.G.Ground.told c.args.outside.now) r q held now) StoreFault.Memory)
 
 pub returns-in_err-durable_step-clause-tied : goal.returns-in_err-durable_step-clause-tied
 returns-in_err-durable_step-clause-tied g c told r q held now =

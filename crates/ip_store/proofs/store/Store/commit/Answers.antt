@@ -97,7 +97,7 @@ returns-in-Err-clause-any_moment g c told r v at =
     let told_now = g.G.Ground.told c.args.outside.now in
     let after = repository_after r (phase_of c.args.self.now.collection) c.args.work.now v c.args.branch.now c.args.info in
     noted_changes c.args.self.now c.noted.new.self (Err fault) c.noted.result c.noted.ensures.answer c.noted.ensures.met r after told_now told_now
-    (changes_none r after fault c.args.self.now c.args.self.now told_now (itself c.args.self.now) at.holds)
+    (changes_none r after fault c.args.self.now c.args.self.now told_now (itself c.args.self.now) refl at.holds)
 
 pub returns-in-Err-clause-records_stay : goal.returns-in-Err-clause-records_stay
 returns-in-Err-clause-records_stay g c told has r q held now = stays_still c.args.self.now c.noted.new.self (noted_itself c.args.self.now c.noted.new.self _ c.noted.ensures.met) r q (g.G.Ground.told c.args.outside.now) held now
@@ -108,7 +108,7 @@ returns-in-Err-clause-tables g c r of are has = record { repository = r; tables 
 pub returns-in-Err-entered-clause-answered : goal.returns-in-Err-entered-clause-answered
 returns-in-Err-entered-clause-answered g c told r v at =
     noted_answers c.enter-entered.new.self c.noted-in-Err-entered.new.self (Err StoreFault.Memory) c.noted-in-Err-entered.result c.noted-in-Err-entered.ensures.answer c.noted-in-Err-entered.ensures.met (g.G.Ground.told c.args.outside.now) (session r (phase_of c.args.self.now.collection) c.args.work.now v) v (Command.Commit c.args.branch.now c.args.info) c.args.work.now
-    (answers_refused r (phase_of c.args.self.now.collection) c.args.work.now v c.args.branch.now c.args.info StoreFault.Memory c.enter-entered.new.self (g.G.Ground.told c.args.outside.now) (same_at c.args.self.now c.enter-entered.new.self c.in-Err-entered.ensures.err (g.G.Ground.told c.args.outside.now) r c.args.work.now v at)
+    (answers_refused r (phase_of c.args.self.now.collection) c.args.work.now v c.args.branch.now c.args.info StoreFault.Memory c.enter-entered.new.self (g.G.Ground.told c.args.outside.now) (same_at c.args.self.now c.enter-entered.new.self c.in-Err-entered.ensures.err c.enter-entered.ensures.rest.2 (g.G.Ground.told c.args.outside.now) r c.args.work.now v at)
     (refused_memory r (phase_of c.args.self.now.collection) c.args.work.now v c.args.branch.now c.args.info))
 
 pub returns-in-Err-entered-clause-any_moment : goal.returns-in-Err-entered-clause-any_moment
@@ -116,7 +116,7 @@ returns-in-Err-entered-clause-any_moment g c told r v at =
     let told_now = g.G.Ground.told c.args.outside.now in
     let after = repository_after r (phase_of c.args.self.now.collection) c.args.work.now v c.args.branch.now c.args.info in
     noted_changes c.enter-entered.new.self c.noted-in-Err-entered.new.self (Err StoreFault.Memory) c.noted-in-Err-entered.result c.noted-in-Err-entered.ensures.answer c.noted-in-Err-entered.ensures.met r after told_now told_now
-    (changes_none r after StoreFault.Memory c.args.self.now c.enter-entered.new.self told_now c.in-Err-entered.ensures.err at.holds)
+    (changes_none r after StoreFault.Memory c.args.self.now c.enter-entered.new.self told_now c.in-Err-entered.ensures.err c.enter-entered.ensures.rest.2 at.holds)
 
 pub returns-in-Err-entered-clause-records_stay : goal.returns-in-Err-entered-clause-records_stay
 returns-in-Err-entered-clause-records_stay g c told has r q held now =

@@ -2,7 +2,7 @@ use Rattle.std.proofs.Common.{◌∙◌, rules}
 use Rattle.ip_spec.specs.declared.record.Record.TheVariants as Record
 use Rattle.ip_space.specs.SpaceView.{records_of}
 use Rattle.ip_store.specs.Store.{image_records}
-use Rattle.ip_store.proofs.Listed.{readable_by, readable_of, records_held}
+use Rattle.ip_store.proofs.Listed.{readable_of, records_held}
 use Rattle.ip_store.proofs.Showing.{there_is, commit_is, name_is, commit_here, meets_commit, is_fetched, fetched_commit, damages_commit}
 use Rattle.ip_store.proofs.Stepping.{still_holds}
 use Rattle.ip_store.proofs.store.Store.commit_record.Goals as goal
@@ -20,11 +20,11 @@ returns-clause-fetched g c told r held retained =
     fetched_commit records r c.args.number here.spelled ((there_is r c.args.number retained).0, ref.at, commit_is r c.args.number retained, here.here, here.spells) c.fetch.result found c.commit_in.result c.commit_in.ensures
 
 pub returns-clause-damages : goal.returns-clause-damages
-returns-clause-damages g c told owns =
+returns-clause-damages g c told readable =
     let (r, of, retained) = c.requires.tables in
     let is = c.reference_to-reference.ensures r of retained in
     damages_commit (records_of (g.G.Ground.told c.args.outside.now) c.args.self.now.space) c.reference_to-reference.result is.kind c.fetch.result
-    (c.fetch.ensures.found told (readable_by c.args.self.now r (g.G.Ground.told c.args.outside.now) of owns)) c.commit_in.result c.commit_in.ensures
+    (c.fetch.ensures.found told readable) c.commit_in.result c.commit_in.ensures
 
 pub returns-clause-holds : goal.returns-clause-holds
-returns-clause-holds g c told r held = still_holds c.args.self.now _ (search rules) r (g.G.Ground.told c.args.outside.now) (g.G.Ground.told c.fetch.new.outside) (c.fetch.ensures.reads told).only held
+returns-clause-holds g c told r held = still_holds c.args.self.now _ (search rules) r (g.G.Ground.told c.args.outside.now) (g.G.Ground.told c.fetch.new.outside) (c.fetch.ensures.reads told) held

@@ -1,4 +1,4 @@
-use Rattle.std.proofs.Common.{sym, subst}
+use Rattle.std.proofs.Common.{refl, sym, subst}
 use Rattle.std.specs.Prelude.{Ok, Err, [], ◌∷◌}
 use Rattle.ip_spec.specs.declared.record.Record.TheVariants as Record
 use Rattle.ip_spec.specs.Record.{Fits}
@@ -27,7 +27,7 @@ returns-in-Err-clause-tables g c r of forward has = (r, goes_itself r c.args.sel
 
 pub returns-in-Err-clause-any_moment : goal.returns-in-Err-clause-any_moment
 returns-in-Err-clause-any_moment g c told r held forward =
-    changes_none r (with_branch r c.args.branch.now c.args.number) StoreFault.Memory c.args.self.now c.args.self.now (g.G.Ground.told c.args.outside.now) (itself c.args.self.now) held
+    changes_none r (with_branch r c.args.branch.now c.args.number) StoreFault.Memory c.args.self.now c.args.self.now (g.G.Ground.told c.args.outside.now) (itself c.args.self.now) refl held
 
 pub returns-in-Err-clause-records_stay : goal.returns-in-Err-clause-records_stay
 returns-in-Err-clause-records_stay g c told has r q held now = stays_still c.args.self.now c.args.self.now (itself c.args.self.now) r q (g.G.Ground.told c.args.outside.now) held now

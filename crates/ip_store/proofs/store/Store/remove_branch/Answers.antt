@@ -14,7 +14,7 @@ use Rattle.ip_store.specs.Tie.{appending}
 use Rattle.ip_store.proofs.Clearing.{noted_clear}
 use Rattle.ip_store.proofs.Stepping.{itself, changes_none, stays_still, changes_still, same_appends, with_value, with_answer, with_fault}
 use Rattle.ip_store.proofs.BranchTurns.{none_in, some_in, remove_none, remove_memory, remove_done, remove_cut, remove_fits, absent_same}
-use Rattle.ip_store.proofs.Noted.{noted_itself, noted_back, noted_changes, noted_stays, noted_removed}
+use Rattle.ip_store.proofs.Noted.{noted_itself, noted_back, noted_space, noted_changes, noted_stays, noted_removed}
 use Rattle.ip_store.proofs.Phases.{removed_above}
 use Rattle.ip_store.proofs.CoreAppends.{noted_fault, noted_none, noted_tied}
 use Rattle.ip_store.proofs.StepFronts.{leaves_none}
@@ -48,7 +48,7 @@ pub returns-in-Err-clause-any_moment : goal.returns-in-Err-clause-any_moment
 returns-in-Err-clause-any_moment g c told r held =
     let told_now = g.G.Ground.told c.args.outside.now in
     noted_changes c.args.self.now c.noted-in-Err.new.self (Err StoreFault.Memory) c.noted-in-Err.result c.noted-in-Err.ensures.answer c.noted-in-Err.ensures.met r (without_branch r c.args.name.now) told_now told_now
-    (changes_none r (without_branch r c.args.name.now) StoreFault.Memory c.args.self.now c.args.self.now told_now (itself c.args.self.now) held)
+    (changes_none r (without_branch r c.args.name.now) StoreFault.Memory c.args.self.now c.args.self.now told_now (itself c.args.self.now) refl held)
 
 pub returns-in-Err-clause-records_stay : goal.returns-in-Err-clause-records_stay
 returns-in-Err-clause-records_stay g c told has r q held now = stays_still c.args.self.now c.noted-in-Err.new.self (noted_itself c.args.self.now c.noted-in-Err.new.self _ c.noted-in-Err.ensures.met) r q (g.G.Ground.told c.args.outside.now) held now
@@ -93,7 +93,7 @@ returns-in-Ok-append_branch_record-clause-records_stay g c told has r q held now
 pub returns-in-Ok-append_branch_record-clause-appends : goal.returns-in-Ok-append_branch_record-clause-appends
 returns-in-Ok-append_branch_record-clause-appends g c told done =
     let store = c.append_branch_record.new.self in
-    same_appends _ 0 c.args.self.now store c.noted-in-Ok-append_branch_record.new.self _ _ (noted_itself store c.noted-in-Ok-append_branch_record.new.self _ c.noted-in-Ok-append_branch_record.ensures.met) (noted_back store c.noted-in-Ok-append_branch_record.new.self _ c.noted-in-Ok-append_branch_record.ensures.met)
+    same_appends _ 0 c.args.self.now store c.noted-in-Ok-append_branch_record.new.self _ _ (noted_itself store c.noted-in-Ok-append_branch_record.new.self _ c.noted-in-Ok-append_branch_record.ensures.met) (noted_back store c.noted-in-Ok-append_branch_record.new.self _ c.noted-in-Ok-append_branch_record.ensures.met) (sym (noted_space store c.noted-in-Ok-append_branch_record.new.self _ c.noted-in-Ok-append_branch_record.ensures.met))
     (subst (λ x. Appends ((c.args.self.now.slot.end, x) ∷ []) 0 c.args.self.now store (g.G.Ground.told c.args.outside.now) (g.G.Ground.told c.append_branch_record.new.outside)) c.in-Ok.ensures (c.in-Ok-append_branch_record.ensures.appends told))
 
 -- ---- a limit or a fault came

@@ -1,4 +1,4 @@
-use Rattle.std.proofs.Common.{◌≡◌, Some, rules, true, sym, subst}
+use Rattle.std.proofs.Common.{◌≡◌, Some, rules, true, refl, sym, subst}
 use Rattle.std.specs.Prelude.{Ok, Err, [], ◌∷◌, OnOk}
 use Rattle.ip_spec.specs.declared.record.Record.TheVariants as Record
 use Rattle.ip_spec.specs.Record.{Fits}
@@ -31,7 +31,7 @@ pub returns-in-Err-clause-any_moment : goal.returns-in-Err-clause-any_moment
 returns-in-Err-clause-any_moment g c told r held retained =
     let told_now = g.G.Ground.told c.args.outside.now in
     noted_changes c.args.self.now c.noted.new.self (Err c.in-Err.fault) c.noted.result c.noted.ensures.answer c.noted.ensures.met r (with_branch r c.args.name.now c.args.number) told_now told_now
-    (changes_none r (with_branch r c.args.name.now c.args.number) c.in-Err.fault c.args.self.now c.args.self.now told_now (itself c.args.self.now) held)
+    (changes_none r (with_branch r c.args.name.now c.args.number) c.in-Err.fault c.args.self.now c.args.self.now told_now (itself c.args.self.now) refl held)
 
 pub returns-in-Err-clause-records_stay : goal.returns-in-Err-clause-records_stay
 returns-in-Err-clause-records_stay g c told has r q held now = stays_still c.args.self.now c.noted.new.self (noted_itself c.args.self.now c.noted.new.self _ c.noted.ensures.met) r q (g.G.Ground.told c.args.outside.now) held now
@@ -47,7 +47,7 @@ pub returns-in-Err-room_for-clause-any_moment : goal.returns-in-Err-room_for-cla
 returns-in-Err-room_for-clause-any_moment g c told r held retained =
     let told_now = g.G.Ground.told c.args.outside.now in
     noted_changes c.args.self.now c.noted-in-Err-room_for.new.self (Err c.in-Err-room_for.fault) c.noted-in-Err-room_for.result c.noted-in-Err-room_for.ensures.answer c.noted-in-Err-room_for.ensures.met r (with_branch r c.args.name.now c.args.number) told_now told_now
-    (changes_none r (with_branch r c.args.name.now c.args.number) c.in-Err-room_for.fault c.args.self.now c.args.self.now told_now (itself c.args.self.now) held)
+    (changes_none r (with_branch r c.args.name.now c.args.number) c.in-Err-room_for.fault c.args.self.now c.args.self.now told_now (itself c.args.self.now) refl held)
 
 pub returns-in-Err-room_for-clause-records_stay : goal.returns-in-Err-room_for-clause-records_stay
 returns-in-Err-room_for-clause-records_stay g c told has r q held now = stays_still c.args.self.now c.noted-in-Err-room_for.new.self (noted_itself c.args.self.now c.noted-in-Err-room_for.new.self _ c.noted-in-Err-room_for.ensures.met) r q (g.G.Ground.told c.args.outside.now) held now
@@ -62,7 +62,7 @@ pub returns-in-Err-set_record-clause-any_moment : goal.returns-in-Err-set_record
 returns-in-Err-set_record-clause-any_moment g c told r held retained =
     let told_now = g.G.Ground.told c.args.outside.now in
     noted_changes c.args.self.now c.noted-in-Err-set_record.new.self (Err StoreFault.Memory) c.noted-in-Err-set_record.result c.noted-in-Err-set_record.ensures.answer c.noted-in-Err-set_record.ensures.met r (with_branch r c.args.name.now c.args.number) told_now told_now
-    (changes_none r (with_branch r c.args.name.now c.args.number) StoreFault.Memory c.args.self.now c.args.self.now told_now (itself c.args.self.now) held)
+    (changes_none r (with_branch r c.args.name.now c.args.number) StoreFault.Memory c.args.self.now c.args.self.now told_now (itself c.args.self.now) refl held)
 
 pub returns-in-Err-set_record-clause-records_stay : goal.returns-in-Err-set_record-clause-records_stay
 returns-in-Err-set_record-clause-records_stay g c told has r q held now = stays_still c.args.self.now c.noted-in-Err-set_record.new.self (noted_itself c.args.self.now c.noted-in-Err-set_record.new.self _ c.noted-in-Err-set_record.ensures.met) r q (g.G.Ground.told c.args.outside.now) held now
