@@ -52,7 +52,8 @@ idle_store store now none unswept is = record {
   places = ap (λ (x : Store). x.places.items) is;
   branches = ap (λ (x : Store). x.branches) is;
   history = ap (λ (x : Store). x.history) is;
-  space = ap (λ (x : Store). x.space) is;
+  layout = ap (λ (x : Store). x.space.layout) is;
+  runs = ap (λ (x : Store). x.space.runs) is;
   collection = ap (λ (x : Store). x.collection) is ∙ sym none;
   unswept = unswept;
 }
@@ -90,15 +91,15 @@ module _ (a b : Told) (s : Session) (store : Store) (met : Met) (left : ℕ) (do
     unheard reply A = ap (λ (m : Met). m.child) is_met ∙ heard_none (phase_of s.store.collection) Command.Cancel tt store.met.child (A.turns (work_at s.work v)).0.child
 
     -- none runs
-    pub idle_goes : SameTables s.store store → b ≡ a → Answers r Reply.Idle → Went Reply.Idle
-    idle_goes same told A = subst (λ (t : Told). GoesBy unasked a t s after_it r v Command.Cancel Reply.Idle) (sym told) (record {
+    pub idle_goes : SameTables s.store store → store.space ≡ s.store.space → b ≡ a → Answers r Reply.Idle → Went Reply.Idle
+    idle_goes same space told A = subst (λ (t : Told). GoesBy unasked a t s after_it r v Command.Cancel Reply.Idle) (sym told) (record {
       after = r;
       view = v;
       difference = None;
       gives = gives Reply.Idle A;
       judged = unjudged a a s after_it r v (unheard Reply.Idle A);
       settled = unsettled a s after_it Reply.Idle (unheard Reply.Idle A);
-      is_at = (let holds = same_holds s.store store same r a here.holds in record {
+      is_at = (let holds = same_holds s.store store same space r a here.holds in record {
         holds = holds;
         lawful = works_stay (image_records here.holds) (image_records holds) r r s.work v here.lawful (λ there. stays_still s.store store same r r a here.holds holds) (omega arith) here.lawful.parents;
       });
@@ -193,7 +194,7 @@ module _ (a b : Told) (s : Session) (store : Store) (met : Met) (left : ℕ) (do
         → store ≡ record s.store { collection = None; unswept = store.unswept; met = store.met } → Does → (IsOk done → (q : Repository) (now : Holds store b q) → RecordsStay (image_records here.holds) (image_records now)) → IfOk (cancel_answer done) Went
     cancel_does either A idle orphan unswept same does stay = by_running (IfOk (cancel_answer done) Went) either
         (λ none is. subst (λ (x : Result Cancelled CancelFault). IfOk (cancel_answer x) Went) (sym is)
-        (idle_goes (idle_store s.store store none (unswept ∙ ap (λ (x : Result Cancelled CancelFault). unswept_after x store.met.left s.store.slot s.store.unswept) is) same) (idle is) (subst (λ (x : Result Cancelled CancelFault). CancelReplies x (Answers r)) is A)))
+        (idle_goes (idle_store s.store store none (unswept ∙ ap (λ (x : Result Cancelled CancelFault). unswept_after x store.met.left s.store.slot s.store.unswept) is) same) (ap (λ (x : Store). x.space) same) (idle is) (subst (λ (x : Result Cancelled CancelFault). CancelReplies x (Answers r)) is A)))
         (λ c is not. cancel_goes c is (does c is) done refl not A stay orphan)
 
     pub cancel_cuts : Runs_or_not → store.met ≡ met_by_cancel done left → Does → OnErr (cancel_answer done) (CutBy unasked a b s after_it r v Command.Cancel)

@@ -29,11 +29,12 @@ use Rattle.ip_store.specs.declared.finishing.Rejection.{Rejection}
 use Rattle.ip_store.specs.declared.starting.CollectFault.{CollectFault}
 use Rattle.ip_store.specs.declared.store.Store.{Store}
 use Rattle.ip_store.specs.Clear.{IsClearTo, KeepsClear, ClearsAll}
+use Rattle.ip_spec.specs.Step.{IsSwept}
 use Rattle.ip_store.specs.Finishing.{HasAnswer, IsSweptBehind}
 use Rattle.ip_session.specs.declared.session.Session.{Session}
 use Rattle.ip_session.specs.declared.session.SessionEnd.{SessionEnd}
 use Rattle.ip_session.specs.Asking.{MayReap}
-use Rattle.ip_session.specs.Clearing.{HasSwept, SweepsBehind, ClearBy, ClearIn}
+use Rattle.ip_session.specs.Clearing.{SweepsBehind, ClearBy, ClearIn}
 use Rattle.ip_session.specs.Session.{IsWorking, HasRead}
 use Rattle.ip_session.specs.Starting.{StartReplies, cancel_answer, look_answer}
 use Rattle.ip_session.proofs.Placing.{still_slot}
@@ -63,7 +64,7 @@ sweeps_none Command.Finish reply not sweeps = not tt
 sweeps_none Command.Cancel reply not sweeps = not tt
 sweeps_none _ reply not sweeps = sweeps
 
-sweeps_never : (command : Command) (reply : Reply) → ¬ HasSwept reply → ¬ SweepsBehind command reply
+sweeps_never : (command : Command) (reply : Reply) → ¬ IsSwept reply → ¬ SweepsBehind command reply
 sweeps_never Command.Look reply not sweeps = not sweeps
 sweeps_never Command.Finish reply not sweeps = not sweeps
 sweeps_never Command.Cancel reply not sweeps = not sweeps
@@ -98,7 +99,7 @@ module _ (a b : Told) (s : Session) (store : Store) (met : Met) where
     swept_by : (command : Command) (reply : Reply) (Swept : Type 0) → (SweepsBehind command reply → Swept) → KeepsClear s.store store a b × ClearsAll Swept store.met.left s.store store a b → Clears command reply
     swept_by command reply Swept by clear = record { keeps = clear.0; all = λ sweeps none. clear.1 (by sweeps) (ap (λ (m : Met). m.left) (sym is_met) ∙ none) }
 
-    has_swept : (command : Command) (reply : Reply) → SweepsBehind command reply → HasSwept reply
+    has_swept : (command : Command) (reply : Reply) → SweepsBehind command reply → IsSwept reply
     has_swept Command.Look reply sweeps = sweeps
     has_swept Command.Finish reply sweeps = sweeps
     has_swept Command.Cancel reply sweeps = sweeps
@@ -108,7 +109,7 @@ module _ (a b : Told) (s : Session) (store : Store) (met : Met) where
     pub finish_clear : (command : Command) (looked : Result Looked FinishFault) → (HasAnswer looked → KeepsClear s.store store a b × ClearsAll (IsSweptBehind looked) store.met.left s.store store a b) → IfOk (look_answer looked) (Clears command)
     finish_clear command looked clear = by looked clear
       where
-        each : (reply : Reply) (Swept : Type 0) → (HasSwept reply → Swept) → KeepsClear s.store store a b × ClearsAll Swept store.met.left s.store store a b → Clears command reply
+        each : (reply : Reply) (Swept : Type 0) → (IsSwept reply → Swept) → KeepsClear s.store store a b × ClearsAll Swept store.met.left s.store store a b → Clears command reply
         each reply Swept told clear = swept_by command reply Swept (λ sweeps. told (has_swept command reply sweeps)) clear
 
         by : (looked : Result Looked FinishFault) → (HasAnswer looked → KeepsClear s.store store a b × ClearsAll (IsSweptBehind looked) store.met.left s.store store a b) → IfOk (look_answer looked) (Clears command)
@@ -140,5 +141,5 @@ lined_clear a b s s' met command line (Ok reply) one clear = record {
 }
 lined_clear a b s s' met command line (Err end) one clear = tt
 
-pub quiet_clear : (a b : Told) (s s' : Session) (line : Bytes) (reply : Reply) → ¬ HasSwept reply → KeepsClear s.store s'.store a b → ClearIn a b s s' line reply
+pub quiet_clear : (a b : Told) (s s' : Session) (line : Bytes) (reply : Reply) → ¬ IsSwept reply → KeepsClear s.store s'.store a b → ClearIn a b s s' line reply
 quiet_clear a b s s' line reply not keeps = record { keeps = keeps; all = λ (command, spelled, sweeps). absurd (sweeps_never command reply not sweeps) }

@@ -554,7 +554,7 @@ module _ (s : Session) (store : Store) (met : Met) (command : Command) (ending :
           let turns = C.turns w in
           let after_is : C.after ≡ r = ap (λ (t : Turned). t.1.repository) (sym turns.1 ∙ turn_is start command ending conditions) ∙ ap (λ (t : State). t.repository) (unheard_stays start start.phase conditions conditions.told.refused conditions.told.child un) in
           let step = step_heard start command ending conditions reply (state_at C.after (phase_of store.collection) w) turns in
-          let holds = same_holds s.store store tables_same r a here.holds in
+          let holds = same_holds s.store store tables_same (ap (λ (x : Store). x.space) (says.quiet quiet)) r a here.holds in
           subst (λ (t : Told). GoesBy unasked a t s after_it r v command reply) (sym same) (record {
             after = r;
             view = v;

@@ -41,7 +41,7 @@ use Rattle.ip_store.specs.Views.{IsViewAfter}
 use Rattle.ip_store.specs.Collecting.{phase_of}
 use Rattle.ip_store.specs.Work.{AreParents, IsAt, work_at, state_at}
 use Rattle.ip_store.specs.declared.collection.Collection.{Collection}
-use Rattle.ip_store.proofs.Stepping.{still_holds, of_store}
+use Rattle.ip_store.proofs.Stepping.{holds_still, of_store}
 use Rattle.ip_store.proofs.KeptFiles.{keeps_store}
 use Rattle.ip_store.proofs.Works.{works_stay}
 use Rattle.ip_session.specs.declared.session.Session.{Session}
@@ -140,7 +140,7 @@ module _ (rule : Rule) (a b : Told) (s : Session) (store : Store) (phase_is : st
 
   -- the image stands for what it stood for
   stood : ChangesOnly NoFile a b → Holds s.store b r
-  stood only = still_holds s.store s.store (record { index = refl; slot = refl; names = refl; places = refl; branches = refl; history = refl; space = refl; collection = refl; unswept = refl }) r a b only here.holds
+  stood only = holds_still s.store r a b only here.holds
 
   works : Stays → (reply : Reply) (A : Answered reply) → IsAt b store A.after s.work v
   works stay reply A = record {

@@ -124,7 +124,8 @@ same_on store mid now one two = record {
   places = two.places ∙ one.places;
   branches = two.branches ∙ one.branches;
   history = two.history ∙ one.history;
-  space = two.space ∙ one.space;
+  layout = two.layout ∙ one.layout;
+  runs = two.runs ∙ one.runs;
   collection = two.collection ∙ one.collection;
   unswept = two.unswept ∙ one.unswept;
 }

@@ -216,7 +216,7 @@ module _ (a b : Told) (s : Session) (store : Store) (r : Repository) (v : View) 
     met_alone = record s.store { met = met }
 
     holds_alone : Holds met_alone a r
-    holds_alone = same_holds s.store met_alone (in_itself s.store met) r a here.holds
+    holds_alone = same_holds s.store met_alone (in_itself s.store met) refl r a here.holds
 
     down : (now : Met) (reply : Reply) → Step unasked (state_in s r v) command (conditions_of now) reply (state_in s r v) → Went now reply
     down now reply step =

@@ -1,5 +1,5 @@
 -- What a command leaves cleared away.
---     HasSwept reply      a reply behind a sweep.      SweepsBehind command reply      a sweep was made behind a command with this reply
+--     SweepsBehind command reply      a sweep was made behind a command with this reply
 --     ClearBy swept old new s s'      what was cleared stays so, and behind a sweep that left nothing all is
 --     ClearIn old new s s' line reply      so of a line
 use Rattle.ip_ground.specs.Told.{Told}
@@ -7,20 +7,14 @@ use Rattle.ip_spec.specs.declared.command.Command.{Command}
 use Rattle.ip_spec.specs.declared.reply.Reply.{Reply}
 use Rattle.ip_spec.specs.Line.{IsLineOf}
 use Rattle.ip_spec.specs.Path.{Bytes}
+use Rattle.ip_spec.specs.Step.{IsSwept}
 use Rattle.ip_store.specs.Clear.{KeepsClear, ClearsAll}
 use Rattle.ip_session.specs.declared.session.Session.{Session}
 
-abbrev pub HasSwept : Reply → Type 0
-HasSwept (Reply.Collected floor left) = Unit {0}
-HasSwept (Reply.RejectedExit exit) = Unit {0}
-HasSwept (Reply.Rejected difference) = Unit {0}
-HasSwept Reply.Cancelled = Unit {0}
-HasSwept reply = ⊥
-
 abbrev pub SweepsBehind : Command → Reply → Type 0
-SweepsBehind Command.Look reply = HasSwept reply
-SweepsBehind Command.Finish reply = HasSwept reply
-SweepsBehind Command.Cancel reply = HasSwept reply
+SweepsBehind Command.Look reply = IsSwept reply
+SweepsBehind Command.Finish reply = IsSwept reply
+SweepsBehind Command.Cancel reply = IsSwept reply
 SweepsBehind command reply = ⊥
 
 pub record ClearBy (swept : Type 0) (old new : Told) (s s' : Session) : Type 0 where

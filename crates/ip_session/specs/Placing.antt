@@ -9,6 +9,7 @@
 use Rattle.std.specs.Prelude.{◌≡◌, ℕ, Option, ◌+◌, ◌<◌, ◌≤◌, true, length, [], ◌∷◌, Result, Ok, Err}
 use Rattle.ip_base.specs.declared.limit.TheConstants.{OFFSET_MAX}
 use Rattle.ip_base.specs.declared.limit.Limit.{Limit}
+use Rattle.ip_spec.specs.Batch.{batch, sources}
 use Rattle.ip_spec.specs.declared.command.Command.{Command}
 use Rattle.ip_spec.specs.declared.command.Target.{Target}
 use Rattle.ip_spec.specs.declared.record.Record.{Record}
@@ -22,7 +23,7 @@ use Rattle.ip_spec.specs.TreeAt.{Records}
 use Rattle.ip_spec.specs.View.{View}
 use Rattle.ip_spec.specs.Line.{IsLineOf}
 use Rattle.ip_image.specs.declared.slot.Slot.{Slot}
-use Rattle.ip_image.specs.Appending.{fields_of, grown_batch, bytes_of_records}
+use Rattle.ip_image.specs.Appending.{fields_of, bytes_of_records}
 use Rattle.ip_store.specs.declared.collection.Unswept.{Unswept}
 use Rattle.ip_store.specs.Changes.{next_slot}
 use Rattle.ip_store.specs.Collecting.{carrying}
@@ -37,7 +38,7 @@ named_record end name (Err reply) = []
 
 -- a commit's are those of its tree that no record is known of, its own and its branch's
 abbrev pub appended : Slot → State → View → Command → Records
-appended slot s v (Command.Commit branch info) = grown_batch v (fields_of s.repository s.work.parents info branch) slot.end
+appended slot s v (Command.Commit branch info) = batch v (sources v) (fields_of s.repository s.work.parents info branch) slot.end
 appended slot s v (Command.Branch name target) = named_record slot.end name (resolve s.repository target)
 appended slot s v (Command.BranchRm name) = (slot.end, record_of.BranchRemove name) ∷ []
 appended slot s v (Command.Collect target) = (slot.end, table_of s.repository) ∷ []

@@ -20,7 +20,7 @@ pub record Runs (known : Type 0) (rule : Rule) (old new : Told) (s s' : Session)
   pub goes : known → (r : Repository) (v : View) → IsWorking old s r v → IfOk result (GoesBy rule old new s s' r v command)
   -- its records lie behind those that there were
   pub placed : known → (r : Repository) (v : View) → IsWorking old s r v → IfOk result (PlacedBy rule s.store.slot s.store.unswept s'.store.slot (state_in s r v) v command)
-  -- what was cleared away stays so, and behind a sweep all that it was to remove is gone
+  -- what was cleared away stays so, and behind a sweep that left nothing all that it was to remove is gone
   pub clear : known → (r : Repository) (v : View) → IsWorking old s r v → IfOk result (λ reply. ClearBy (SweepsBehind command reply) old new s s')
   -- a fault of the ground or of its files cut it short
   pub cut : known → (r : Repository) (v : View) → IsWorking old s r v → OnErr result (CutBy rule old new s s' r v command)

@@ -6,12 +6,12 @@ use Rattle.ip_script.proofs.ReadLaw.{each_line}
 use Rattle.ip_store.specs.Collecting.{phase_of}
 use Rattle.ip_store.specs.Work.{work_at}
 use Rattle.ip_spec.specs.declared.met.Met.{Met}
+use Rattle.ip_spec.specs.Step.{IsSwept}
 use Rattle.ip_session.proofs.Asking.{lined_asked, lined_counts, nothing_spawned, none_counts, none_met}
 use Rattle.ip_session.proofs.SessionLemmas.{line_refused, has_words}
 use Rattle.ip_session.proofs.SessionGoes.{lined_ok, lined_cut, bad_goes, refused_goes}
 use Rattle.ip_session.proofs.ClearGoes.{lined_clear, quiet_clear}
 use Rattle.ip_session.proofs.Placing.{lined_placed, quiet_placed}
-use Rattle.ip_session.specs.Clearing.{HasSwept}
 use Rattle.ip_session.specs.Placing.{PlacedIn}
 use Rattle.ip_session.specs.Session.{state_in}
 use Rattle.ip_spec.specs.declared.reply.Reply.{Reply}
@@ -54,7 +54,7 @@ pub returns-in-Err-Bad-clause-clear : goal.returns-in-Err-Bad-clause-clear
 returns-in-Err-Bad-clause-clear g c told decisive r v here = quiet_clear _ _ c.args.self.now _ c.args.line.now (Reply.Bad c.in-Err-Bad.at) (λ h. h) (λ clear. clear)
 
 pub returns-in-Err-Memory-clause-clear : goal.returns-in-Err-Memory-clause-clear
-returns-in-Err-Memory-clause-clear g c told decisive r v here = quiet_clear _ _ c.args.self.now _ c.args.line.now c.refuse.result (subst (λ (x : Reply). ¬ HasSwept x) (sym c.refuse.ensures.reply) (λ h. h)) (λ clear. clear)
+returns-in-Err-Memory-clause-clear g c told decisive r v here = quiet_clear _ _ c.args.self.now _ c.args.line.now c.refuse.result (subst (λ (x : Reply). ¬ IsSwept x) (sym c.refuse.ensures.reply) (λ h. h)) (λ clear. clear)
 
 pub returns-in-Ok-clause-asked : goal.returns-in-Ok-clause-asked
 returns-in-Ok-clause-asked g c = lined_asked _ _ _ c.args.self.now c.run.new.self c.met_only-self.result c.in-Ok.command c.args.line.now c.run.result _ _ c.in-Ok.ensures.reads
