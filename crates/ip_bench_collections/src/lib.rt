@@ -4,6 +4,8 @@
 #[cfg(test)]
 mod finishes;
 #[cfg(test)]
+mod kept;
+#[cfg(test)]
 mod orphans;
 #[cfg(test)]
 mod rejected;

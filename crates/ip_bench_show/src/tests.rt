@@ -83,12 +83,13 @@ fn each_call_fails_once_where_commits_are_shown(rt: HostRuntime) -> Result<(), F
 }
 
 // A ground that tells nothing. Of chunk 0 it gives another byte than the one that stands there, in each read that begins behind the start: opening
-// reads from the start on, and showing a commit from its record on.
+// reads from the start on, and showing a commit from its record on. So many of these reads are as they were.
 #[derive(Drop)]
 struct Changed {
     bench: Bench,
     place: u64,
     byte: u8,
+    spared: u64,
 }
 
 impl Ground for Changed {
@@ -113,6 +114,10 @@ impl Ground for Changed {
     fn read(&mut self, file: FileName, at: u64, out: &mut [u8]) -> Result<usize, GroundFault> {
         let read = self.bench.read(file, at, out);
         if file == FileName::Chunk(0) && at > 0 && at <= self.place {
+            if self.spared > 0 {
+                self.spared -= 1;
+                return read;
+            }
             if let Some(byte) = out.get_mut((self.place - at) as usize) {
                 *byte = self.byte;
             }
@@ -149,13 +154,15 @@ impl Ground for Changed {
     }
 }
 
-// A script is served after others changed this byte of the open store that another one made: the status and its line, and what was said.
+// A script is served over the store that another one made, of which others change this byte while it is open, behind so many reads of it: the status
+// and its line, and what was said.
 fn served_over(
     alloc: Global,
     made: &[u8],
     asked: &[u8],
     place: u64,
     byte: u8,
+    spared: u64,
 ) -> Result<(u8, Vec<u8>, Vec<u8>), Fail> {
     let mut store = bench(alloc, &[])?;
     let _ = init(alloc, &mut store)?;
@@ -164,6 +171,7 @@ fn served_over(
         bench: store.after_stop(true)?,
         place,
         byte,
+        spared,
     };
     let status = answers_on(alloc, &mut changed, asked)?;
     let mut line = Vec::new(alloc);
@@ -199,7 +207,7 @@ fn a_record_that_was_changed_ends_the_session(rt: HostRuntime) -> Result<(), Fai
         (76, 0, 0, b"", STAT_AND_COMMIT),
     ];
     for (place, byte, code, line, said) in rows {
-        let (ended, printed, replies) = served_over(alloc, EMPTY_MADE, SHOWN, place, byte)?;
+        let (ended, printed, replies) = served_over(alloc, EMPTY_MADE, SHOWN, place, byte, 0)?;
         assert_eq!(rt; ended, code);
         assert_eq!(rt; printed.as_slice(), line);
         assert_eq!(rt; replies.as_slice(), said);
@@ -231,12 +239,29 @@ fn a_record_of_a_tree_that_was_changed_ends_the_session(rt: HostRuntime) -> Resu
         (b"checkout main\ncommit main 1 a m\n", 1, 0, b""),
     ];
     for (asked, byte, code, line) in rows {
-        let (ended, printed, said) = served_over(alloc, LEAF_MADE, asked, 6, byte)?;
+        let (ended, printed, said) = served_over(alloc, LEAF_MADE, asked, 6, byte, 0)?;
         assert_eq!(rt; ended, code);
         assert_eq!(rt; printed.as_slice(), line);
         if code == 4 {
             assert_eq!(rt; said.as_slice(), at.as_slice());
         }
     }
+    Ok(())
+}
+
+const TWICE: &[u8] = b"checkout main\nget k\nset k 02\ncheckout main\nget k\nlist /\n";
+
+const ONCE_READ: &[u8] = b"at 571ffe90a283223a2d630b786eff9b4c1fe990a15307903ee35e5d7d8fb3ecf8\n\
+    value 01\nok\n\
+    at 571ffe90a283223a2d630b786eff9b4c1fe990a15307903ee35e5d7d8fb3ecf8\n\
+    value 01\nlist 1 c:k\n";
+
+// The root is changed behind its first read. What was read is kept while the store is open.
+#[test]
+fn a_record_that_was_changed_later_is_not_read_again(rt: HostRuntime) -> Result<(), Fail> {
+    let (ended, printed, said) = served_over(rt.alloc(), LEAF_MADE, TWICE, 6, 1, 1)?;
+    assert_eq!(rt; ended, 0);
+    assert!(rt; printed.is_empty());
+    assert_eq!(rt; said.as_slice(), ONCE_READ);
     Ok(())
 }

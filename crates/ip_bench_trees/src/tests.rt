@@ -322,15 +322,15 @@ fn reads_in(alloc: Global, script: &[u8]) -> Result<u64, AllocError> {
 
 const DEEP: &[u8] = b"set a/b/c/d/e 01\nset a/b/x 02\nset z 03\ncommit main 0 a m\n";
 
-// Each of these records is fetched by one read.
+// Each of these records is fetched by one read, where it was not fetched before.
 #[test]
 fn what_a_line_touches_is_read(rt: HostRuntime) -> Result<(), Fail> {
     let alloc = rt.alloc();
     let rows: [(&[u8], &[u8], u64); 11] = [
         (b"", b"checkout main\n", 1),
-        // The root, the four directories and the contents; once more, since nothing was loaded.
+        // The root, the four directories and the contents; then the two directories and the contents that the other path has for itself.
         (b"checkout main\n", b"get a/b/c/d/e\n", 6),
-        (b"checkout main\nget a/b/c/d/e\n", b"get a/b/c/d/e\n", 6),
+        (b"checkout main\nget a/b/x\n", b"get a/b/c/d/e\n", 3),
         (b"checkout main\n", b"get a/b/c/d\n", 5),
         // An edit loads the path's directories.
         (b"checkout main\n", b"set z 04\n", 1),
@@ -338,12 +338,35 @@ fn what_a_line_touches_is_read(rt: HostRuntime) -> Result<(), Fail> {
         (b"checkout main\nset z 04\n", b"get a/b/c/d/e\n", 5),
         (b"checkout main\nset a/b/y 04\n", b"set a/b/c/q 05\n", 1),
         (b"checkout main\nset a/b/y 04\n", b"commit main 1 a m\n", 0),
-        // The commit, and the two roots.
-        (b"checkout main\n", b"graft main a q\n", 3),
+        // The root, which is that of both trees. The commit was fetched before.
+        (b"checkout main\n", b"graft main a q\n", 1),
         (b"", b"cat main z\n", 3),
     ];
     for (first, then, reads) in rows {
         assert_eq!(rt; reads_of(alloc, first, then)?, reads);
+    }
+    Ok(())
+}
+
+// What was fetched is kept, whatever line asks for it next.
+#[test]
+fn what_was_read_is_not_read_again(rt: HostRuntime) -> Result<(), Fail> {
+    let alloc = rt.alloc();
+    let rows: [(&[u8], &[u8]); 7] = [
+        (b"checkout main\nget a/b/x\n", b"get a/b/x\n"),
+        (b"checkout main\nget a/b/x\n", b"list a\nget a/b\n"),
+        (b"checkout main\nget a/b/x\nset z 04\n", b"get a/b/x\n"),
+        (
+            b"checkout main\nget a/b/x\nset a/b/y 04\n",
+            b"checkout main\nget a/b/x\n",
+        ),
+        (b"cat main a/b/x\n", b"cat main a/b/x\n"),
+        (b"cat main a/b/x\n", b"checkout main\nget a/b/x\n"),
+        (b"show main\n", b"show main\n"),
+    ];
+    for (first, then) in rows {
+        assert!(rt; reads_of(alloc, b"", first)? > 0);
+        assert_eq!(rt; reads_of(alloc, first, then)?, 0);
     }
     Ok(())
 }

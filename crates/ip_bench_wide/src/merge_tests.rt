@@ -43,9 +43,9 @@ merged 27f700a5274650203580b58ce599c82421b6a9092e5dccc64f6f91fc2d42fb91
 ";
 
 // On the ways to the ten paths of the right side there are 21 parts in each of the three trees: the root's leaf, the directory's first inode, 9 inodes below
-// it, and 10 leaves. They are read in the base and in the right tree to find what differs, and in the left one to be edited. Of each tree the commit
-// is read besides.
-const READS: u64 = 66;
+// it, and 10 leaves. They are wanted of the base and of the right tree to find what differs, and of the left one to be edited. Of each tree the commit
+// is wanted besides. The left side changed two of the 9 inodes, and none of the 10 leaves: 17 parts of its tree are those of the base, and were read.
+const READS: u64 = 49;
 
 // The parts on these ways in the merge, and its commit and branch.
 const APPENDED: u64 = 20058;
