@@ -5,7 +5,8 @@
 
 A thread writes the lines `get PATH` in large pieces, and the replies are read in large pieces, each of them compared; timed
 is from the first line's writing to the last reply's reading. The tree is in the work after edits, or it was
-committed, when each get reads the records on its path. The limits of the same run: a small program of Python that answers each line
+committed, when the records on its path were fetched by the first get and are kept; then also the processor's time of
+`serve` for a line is told. The limits of the same run: a small program of Python that answers each line
 with the same reply, by one call of the system a reply as `serve` does it, and knows nothing; and `cat`, which carries the lines in
 large pieces. Beside them stands sqlite: a row by its primary key, in this process and without a pipe.
 """
@@ -13,6 +14,7 @@ large pieces. Beside them stands sqlite: a row by its primary key, in this proce
 import contextlib
 import fcntl
 import os
+import resource
 import statistics
 import subprocess
 import sys
@@ -100,8 +102,14 @@ def path_of(steps):
     return "/".join("k" * steps)
 
 
+def spent():
+    """The processor's time of the programs that have ended, in seconds, without that of the system's calls."""
+    return resource.getrusage(resource.RUSAGE_CHILDREN).ru_utime
+
+
 def rate_of_store(program, base, steps, committed, count):
-    """Lines per second of a store of its own."""
+    """Lines per second of a store of its own, and the processor's time for one, in microseconds."""
+    before = spent()
     path = path_of(steps)
     with common.fresh_folder(base) as folder:
         common.init(program, folder)
@@ -112,7 +120,7 @@ def rate_of_store(program, base, steps, committed, count):
         line = f"get {path}\n".encode()
         lines = rate(serve.input, serve.output, line, f"value {VALUE}\n".encode(), count)
         serve.end()
-    return lines
+    return lines, (spent() - before) / count * 1e6
 
 
 def rate_of_program(words, line, reply, count):
@@ -149,22 +157,22 @@ def rate_of_sqlite(count):
 
 
 def medians(acts, rounds):
-    """The median of each, which take turns."""
+    """The median of each number of each, which take turns."""
     seen = [[] for _ in acts]
     for _ in range(rounds):
         for act, its in zip(acts, seen):
             its.append(act())
-    return [statistics.median(its) for its in seen]
+    return [tuple(statistics.median(each) for each in zip(*its)) for its in seen]
 
 
 def measure_path(program, base, steps, count, rounds):
     """The rows of a path of so many steps."""
-    edited, committed, limit, carried = medians(
+    (edited, work), (committed, kept), (limit,), (carried,) = medians(
         [
             lambda: rate_of_store(program, base, steps, False, count),
             lambda: rate_of_store(program, base, steps, True, count),
-            lambda: rate_of_answerer(steps, count),
-            lambda: rate_of_cat(steps, count),
+            lambda: (rate_of_answerer(steps, count),),
+            lambda: (rate_of_cat(steps, count),),
         ],
         rounds,
     )
@@ -173,6 +181,8 @@ def measure_path(program, base, steps, count, rounds):
         Row(f"gets of {name}, in the work after edits, over the answerer", edited, "lines/s", limit),
         Row(f"gets of {name}, after a commit, over the answerer", committed, "lines/s", limit),
         Row(f"gets of {name}, in the work after edits, over cat", edited, "lines/s", carried),
+        Row(f"gets of {name}, in the work after edits, the processor's time", work, "us"),
+        Row(f"gets of {name}, after a commit, the processor's time", kept, "us"),
     ]
 
 
@@ -183,7 +193,7 @@ def measure(program, folder=None, count=1000000, rounds=3, steps=(1,)):
     if sqlite3 is None:
         print("sqlite is left out: this Python has no sqlite3")
     else:
-        (asked,) = medians([lambda: rate_of_sqlite(count)], rounds)
+        ((asked,),) = medians([lambda: (rate_of_sqlite(count),)], rounds)
         rows.append(Row("sqlite, a row by its key, without a pipe", asked, "rows/s"))
     return rows
 
