@@ -13,6 +13,7 @@ use Rattle.std.specs.List.{AllByRecursion, range_with_len}
 use Rattle.sha2.specs.Sha256.{sha256}
 use Rattle.ip_spec.specs.Path.{Step}
 use Rattle.ip_spec.specs.declared.record.Record.{Record}
+use Rattle.ip_spec.specs.declared.kind.TheConstants as kinds
 use Rattle.ip_spec.specs.declared.record.CommitRecord.{CommitRecord}
 use Rattle.ip_spec.specs.declared.record.LeafEntry.{LeafEntry}
 use Rattle.ip_spec.specs.declared.record.InodeChild.{InodeChild}
@@ -120,8 +121,8 @@ AtDepth d p = InDepth p.depth p.count d
 
 abbrev pub EntryIs : Option Kept → LeafEntry → Type 0
 EntryIs None e = ⊥
-EntryIs (Some (kept_contents name)) e = (e.kind ≡ 1) × (e.height ≡ 0) × (e.name ≡ name)
-EntryIs (Some (kept_part p)) e = (e.kind ≡ 2) × AtDepth 0 p × (0 < p.count) × (e.height ≡ p.height) × (e.name ≡ p.name)
+EntryIs (Some (kept_contents name)) e = (e.kind ≡ kinds.CONTENTS) × (e.height ≡ 0) × (e.name ≡ name)
+EntryIs (Some (kept_part p)) e = (e.kind ≡ kinds.DIRECTORY) × AtDepth 0 p × (0 < p.count) × (e.height ≡ p.height) × (e.name ≡ p.name)
 
 abbrev pub EntryPasses : Look → ℕ → LeafEntry → Type 0
 EntryPasses look at e = (e.at < at) × EntryIs (look e.at) e

@@ -1,11 +1,12 @@
 -- References that are still to come.
 use Rattle.std.specs.Prelude.{◌≡◌, List, [], ◌∷◌, map, Option, Some, None}
+use Rattle.ip_spec.specs.declared.kind.TheConstants as kinds
 use Rattle.ip_spec.specs.declared.record.Ref.{Ref}
 use Rattle.ip_object.specs.declared.referring.RecordReferences.{RecordReferences}
 
 abbrev pub left_in : RecordReferences → List Ref
 left_in (RecordReferences.Entries entries) = map (λ e. record { at = e.at; name = e.name; kind = e.kind }) entries.now
-left_in (RecordReferences.Children children) = map (λ c. record { at = c.at; name = c.name; kind = 2 }) children.now
+left_in (RecordReferences.Children children) = map (λ c. record { at = c.at; name = c.name; kind = kinds.DIRECTORY }) children.now
 left_in (RecordReferences.Root root) = root ∷ []
 left_in RecordReferences.None = []
 

@@ -5,6 +5,7 @@ use Rattle.std.specs.List.{list_all, range_with_len}
 use Rattle.std.specs.Int.{Width, w8, w16, w32, w64, byte_len, from_le_bytes}
 use Rattle.std.specs.Ordering.{is_lt}
 use Rattle.ip_base.specs.declared.limit.TheConstants.{MESSAGE_MAX, PARENTS_MAX, BRANCHES_MAX}
+use Rattle.ip_spec.specs.declared.kind.TheConstants as kinds
 use Rattle.ip_spec.specs.Path.{Bytes, Step, bytes_cmp, slash, line_feed, is_word_byte}
 use Rattle.ip_spec.specs.Record.{Record, Names, name_set, name_remove, name_table, LeafEntry, InodeChild, Parent, Branch, Info, Hash, contents_limit}
 pub use Rattle.ip_spec.specs.declared.record.RecordFault.{RecordFault}
@@ -168,20 +169,20 @@ table_fields names = do
 -- the fields of each kind; contents are what the body is
 unfoldable pub fields_of : ℕ → Option (Fields Record)
 fields_of kind =
-    if kind == 1 then Some (λ left. Ok (Record.Contents left.1, (left.0 + length left.1, []))) else
-    if kind == 2 then Some leaf_fields else
-    if kind == 3 then Some inode_fields else
-    if kind == 4 then Some commit_fields else
-    if kind == 5 then Some (set_fields Names.branches) else
-    if kind == 6 then Some (remove_fields Names.branches) else
-    if kind == 7 then Some (table_fields Names.branches) else
-    if kind == 8 then Some (set_fields Names.tags) else
-    if kind == 9 then Some (remove_fields Names.tags) else
-    if kind == 10 then Some (table_fields Names.tags) else None
+    if kind == kinds.CONTENTS then Some (λ left. Ok (Record.Contents left.1, (left.0 + length left.1, []))) else
+    if kind == kinds.LEAF then Some leaf_fields else
+    if kind == kinds.INODE then Some inode_fields else
+    if kind == kinds.COMMIT then Some commit_fields else
+    if kind == kinds.BRANCH_SET then Some (set_fields Names.branches) else
+    if kind == kinds.BRANCH_REMOVE then Some (remove_fields Names.branches) else
+    if kind == kinds.BRANCH_TABLE then Some (table_fields Names.branches) else
+    if kind == kinds.TAG_SET then Some (set_fields Names.tags) else
+    if kind == kinds.TAG_REMOVE then Some (remove_fields Names.tags) else
+    if kind == kinds.TAG_TABLE then Some (table_fields Names.tags) else None
 
--- kinds 8 to 10 are there from version 2 on
+-- tags are there from version 2 on
 abbrev pub known : ℕ → ℕ → Bool
-known version kind = nat_lt 0 kind && nat_le kind (if nat_le 2 version then 10 else 7)
+known version kind = nat_lt 0 kind && nat_le kind (if nat_le 2 version then kinds.TAG_TABLE else kinds.BRANCH_TABLE)
 
 -- all of the body is used up
 abbrev pub whole : ℕ → Result (Record × Left) ℕ → Result (Record × ℕ) RecordFault
@@ -199,7 +200,7 @@ reading version (kind ∷ bytes) =
     let len = from_le_bytes w32 (take 4 bytes) in
     if not (known version kind) then Err (RecordFault.Kind kind) else
     if nat_lt (length bytes) 4 then Err RecordFault.Short else
-    if kind == 1 && nat_lt (contents_limit version) len then Err RecordFault.Length else
+    if kind == kinds.CONTENTS && nat_lt (contents_limit version) len then Err RecordFault.Length else
     if nat_lt (length bytes) (4 + len) then Err RecordFault.Short else
     body_of kind (take len (drop 4 bytes)) (fields_of kind)
 

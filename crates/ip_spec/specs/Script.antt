@@ -1,10 +1,10 @@
 -- A script and its run.
---     whole_lines bytes      the lines of a source: what stands before each line feed.      is_unfinished bytes      a piece is left behind the last one
+--     whole_lines bytes      the lines of a source: what stands before each line feed.
 --     LineStep IsLine rule s line met reply s'      the machine takes a line, which may be none of the grammar
 --     Plays IsLine rule s turns steps      a run: of each line and what it met, the reply and the state after it
 --     state_after, said_by      the state after the first k of them; the texts of the replies
-use Rattle.std.specs.Prelude.{◌≡◌, ◌⊎◌, ℕ, zero, suc, Bool, not, ◌==◌, List, [], ◌∷◌, flat_map, None, unwrap_or, IsTrue, if◌then◌else◌}
-use Rattle.std.specs.List.{list_any, last_or}
+use Rattle.std.specs.Prelude.{◌≡◌, ◌⊎◌, ℕ, zero, suc, ◌==◌, List, [], ◌∷◌, flat_map, IsTrue, if◌then◌else◌}
+use Rattle.std.specs.List.{list_any}
 use Rattle.ip_spec.specs.Path.{Bytes, line_feed, space}
 use Rattle.ip_spec.specs.Merge.{Rule}
 use Rattle.ip_spec.specs.Machine.{State, Command, Conditions, Reply}
@@ -20,9 +20,6 @@ onto_first b (line ∷ lines) = (b ∷ line) ∷ lines
 abbrev pub whole_lines : Bytes → List Bytes
 whole_lines [] = []
 whole_lines (b ∷ bytes) = if b == line_feed then [] ∷ whole_lines bytes else onto_first b (whole_lines bytes)
-
-abbrev pub is_unfinished : Bytes → Bool
-is_unfinished bytes = not (unwrap_or (last_or None bytes) line_feed == line_feed)
 
 -- A line that is no command is answered with the place where it goes wrong. It meets nothing but want of memory, and that only if it has
 -- more than one word.
