@@ -10,6 +10,3 @@ mod parents;
 pub use audit::{Audit, AuditFault};
 pub use ip_image::terms::Terms;
 pub use names::Names;
-
-#[cfg(test)]
-mod tests;

@@ -4,10 +4,6 @@
 mod commits;
 mod history;
 mod machine;
-#[cfg(test)]
-mod machine_tests;
-#[cfg(test)]
-mod tests;
 mod work;
 
 pub use history::History;

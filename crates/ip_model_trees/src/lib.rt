@@ -2,12 +2,8 @@
 #![tactic(auto)]
 
 mod merging;
-#[cfg(test)]
-mod merging_tests;
 mod names;
 mod places;
-#[cfg(test)]
-mod tests;
 mod trees;
 
 pub use merging::Joined;

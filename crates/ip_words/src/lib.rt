@@ -253,6 +253,3 @@ pub fn plain_words()
     ensures program { (program : Bytes) → AsksNothing (program ∷ []) }
     ensures help { (program : Bytes) → AsksNothing (program ∷ codes "--help" ∷ []) }
 {}
-
-#[cfg(test)]
-mod tests;

@@ -1,8 +1,8 @@
 //! Branches of the model's machine, merged. The expected names are those that a script gives which was written by docs/FORMAT.md alone.
-use crate::Machine;
 use ip_base::limit::CONTENTS_MAX;
 use ip_base::{Blob, Info, Limit, Path};
 use ip_merge::{Counter, LineSet, Rules};
+use ip_model::Machine;
 use ip_spec::command::{Command, Target};
 use ip_spec::reply::Reply;
 use std::alloc::Global;

@@ -1,4 +1,4 @@
-use crate::{Audit, AuditFault, Terms};
+use ip_audit::{Audit, AuditFault, Terms};
 use ip_object::read_record;
 use std::alloc::Global;
 use std::test::Fail;

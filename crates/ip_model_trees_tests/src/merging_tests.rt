@@ -1,9 +1,9 @@
 //! Worked merges of three trees.
 ghost use Rattle.ip_spec.specs.Merge.{same_means};
 
-use crate::{Joined, Tree};
 use ip_base::{Blob, Memory, Path, Step};
 use ip_merge::{Counter, Decides, LineSet, Merged, Merger, Rules, Same};
+use ip_model_trees::{Joined, Tree};
 use std::alloc::Global;
 use std::cell::Cell;
 use std::test::Fail;
@@ -36,14 +36,16 @@ fn tree_of(alloc: Global, parts: Parts) -> Result<Tree, Fail> {
 }
 
 fn has_just(alloc: Global, tree: &Tree, parts: Parts) -> Result<bool, Fail> {
+    let mut rest = tree.copy(alloc)?;
     for (text, contents) in parts {
         let path = read(alloc, text)?;
         match tree.get(path.steps()) {
             Some(found) if found.as_slice() == *contents => {}
             _ => return Ok(false),
         }
+        rest = rest.remove(alloc, path.steps())?;
     }
-    Ok(tree.parts.len() == parts.len())
+    Ok(rest.is_empty())
 }
 
 fn is_wanted(alloc: Global, joined: &Joined, want: &Want) -> Result<bool, Fail> {

@@ -1,6 +1,6 @@
 //! Names of directories, against a second program's.
-use crate::{Entry, contents_name, entries_name};
 use ip_base::{Blob, Hash, Step};
+use ip_model_trees::{Entry, contents_name, entries_name};
 use std::alloc::Global;
 use std::test::Fail;
 

@@ -1,9 +1,9 @@
 ghost use Rattle.std.specs.Prelude.{◌≡◌, true};
 ghost use Rattle.ip_history.specs.History.{Holds};
 
-use crate::History;
 use ip_base::{Number, Numbers};
 use ip_history::Table;
+use ip_model::History;
 use std::alloc::Global;
 use std::test::Fail;
 

@@ -1,6 +1,6 @@
 //! Words, and what they ask for.
-use crate::{Call, asked};
 use ip_spawn::Job;
+use ip_words::{Call, asked};
 use std::alloc::{AllocError, Global};
 use std::test::Fail;
 
