@@ -1,7 +1,8 @@
 -- What bringing a record comes to.
---     because_of, blames_of, meets_of, bounds_of, counts_of      what is said of a record by a reference
---     again_by, again_counts      of one that was kept.      new_brings, misses      of one that was read, and where it was not
-use Rattle.std.proofs.Common.{◌≡◌, ℕ, Bool, List, Option, Some, None, Result, Ok, Err, IsTrue, IfOk, IfSome, IsSome, is_some, refl, sym, ◌∙◌, ap, subst}
+--     Brings tells told space r kept result      what is said of it, where this is kept at the reference then
+--     brings_by, counts_by      of a record that stands there.      misses      where none was read
+--     again_reads, again_brings, again_counts      of one that was kept.      new_reads, new_brings      of one that was read
+use Rattle.std.proofs.Common.{◌≡◌, ℕ, Bool, List, Option, Some, None, Result, Ok, Err, IsTrue, IfOk, IsSome, refl, sym, ◌∙◌, ap, subst}
 use Rattle.ip_ground.specs.Told.{Told, NoFile}
 use Rattle.ip_ground.specs.Counts.{Counts}
 use Rattle.ip_ground.specs.declared.names.GroundCounts.{GroundCounts}
@@ -15,16 +16,19 @@ use Rattle.ip_image.specs.Stored.{record_read}
 use Rattle.ip_space.specs.SpaceView.{SpaceView, IsReadable, OnlyReads, kept_at, records_of, read_at}
 use Rattle.ip_space.specs.Faults.{ground_fetch}
 use Rattle.ip_space.specs.Fetching.{Fetches, IsBecause, Blames, BlamesPlace, Meets, Refers, ReadsOne, form_fault}
-use Rattle.ip_space.specs.Kept.{IsBounded, GainsNone, GainsAtMost, Brings, IsKnown, answer_of, brought, found_again}
+use Rattle.ip_space.specs.Kept.{GainsNone, GainsAtMost, IsKnown, answer_of, brought, found_again}
 use Rattle.ip_space.specs.declared.fault.FetchFault.{FetchFault}
 use Rattle.ip_space.specs.declared.fault.FetchFault.TheVariants.{Ground, Form, Name, Memory}
-use Rattle.ip_space.proofs.Laws.{read_as_some}
+use Rattle.ip_space.proofs.Laws.{IsReadAs, read_as_some}
 use Rattle.ip_space.proofs.Answered.{record_there, fetched_ok, fetched_err}
 use Rattle.ip_space.proofs.Stayed.{only_reads_kept}
 use Rattle.ip_space.proofs.Cached.{current_none, current_one, kept_stands}
 
 abbrev Answer : Type 0
 Answer = Result Record FetchFault
+
+abbrev Found : Type 0
+Found = Result (Option Record) FetchFault
 
 -- ---- of a record that was found
 
@@ -51,11 +55,38 @@ module _ (rec : Record) (r : Ref) where
   bounds_of fits (Ok found) refers = subst (Fits newest_version) (sym refers.0) fits
   bounds_of fits (Err fault) refers = tt
 
-  pub counts_of : (A : Type 0) (fault : FetchFault) → Refers rec r (Err fault) → (old new : GroundCounts) → new ≡ old → Counts {A = A} ground_fetch (Err fault) old new
-  counts_of A Ground refers old new same = absurd refers
-  counts_of A (Form at fault) refers old new same = same
-  counts_of A (Name at want got) refers old new same = same
-  counts_of A Memory refers old new same = absurd refers
+-- what is said of the answer
+pub record Brings (tells : Bool) (told : Told) (space : SpaceView) (r : Ref) (kept : Option Record) (result : Found) : Type 0 where
+  pub found : IsTrue tells → IsReadable told space → Fetches (records_of told space) r (brought kept result)
+  pub because : IsTrue tells → IsReadable told space → IsBecause (read_at told space r.at) (brought kept result)
+  pub here : IfOk result (λ found. found ≡ None → IsSome kept)
+  pub blames : Blames r (brought kept result)
+  pub meets : IfOk (brought kept result) (λ found. Meets r found)
+  pub bounds : IfOk (brought kept result) (λ found. Fits newest_version found)
+
+here_by : (rec : Record) (r : Ref) (kept : Option Record) (result : Found) → Refers rec r (brought kept result) → IfOk result (λ found. found ≡ None → IsSome kept)
+here_by rec r kept (Ok (Some found)) refers = λ none. absurd (cc none)
+here_by rec r (Some found) (Ok None) refers = λ none. refl
+here_by rec r None (Ok None) refers = absurd refers
+here_by rec r kept (Err fault) refers = tt
+
+pub brings_by : (tells : Bool) (told : Told) (space : SpaceView) (r : Ref) (kept : Option Record) (result : Found) (rec : Record) → Fits newest_version rec
+    → (IsTrue tells → IsReadable told space → IsReadAs (read_at told space r.at) rec) → Refers rec r (brought kept result) → Brings tells told space r kept result
+brings_by tells told space r kept result rec fits read refers = record {
+  found = λ t readable. let is = read t readable in fetched_ok (records_of told space) r.at (read_at told space r.at) (record_there told space r.at) r refl rec is.length is.is (brought kept result) refers;
+  because = λ t readable. let is = read t readable in because_of rec r (read_at told space r.at) is.length is.is (brought kept result) refers;
+  here = here_by rec r kept result refers;
+  blames = blames_of rec r (brought kept result) refers;
+  meets = meets_of rec r (brought kept result) refers;
+  bounds = bounds_of rec r fits (brought kept result) refers;
+}
+
+pub counts_by : (rec : Record) (r : Ref) (kept : Option Record) (result : Found) → Refers rec r (brought kept result) → (old new : GroundCounts) → new ≡ old → Counts ground_fetch result old new
+counts_by rec r kept (Ok found) refers old new same = same
+counts_by rec r kept (Err Ground) refers old new same = absurd refers
+counts_by rec r kept (Err (Form at fault)) refers old new same = same
+counts_by rec r kept (Err (Name at want got)) refers old new same = same
+counts_by rec r kept (Err Memory) refers old new same = absurd refers
 
 -- ---- of one that was kept
 
@@ -73,120 +104,53 @@ again_is : (kept : Option Record) (rec : Record) → kept ≡ Some rec → (answ
 again_is kept rec is (Ok u) = ap (λ (o : Option Record). brought o (Ok None)) is
 again_is kept rec is (Err fault) = refl
 
-again_here : (kept : Option Record) → IsSome kept → (answer : Result (Unit {0}) FetchFault) → IfOk (found_again answer) (λ found. found ≡ None → IsSome kept)
-again_here kept some (Ok u) = λ none. some
-again_here kept some (Err fault) = tt
+module _ (told : Told) (old new : SpaceView) (r : Ref) (answer : Result (Unit {0}) FetchFault) (result : Found) (is : result ≡ found_again answer)
+    (stays : kept_at r.at new.kept ≡ kept_at r.at old.kept) (known : Known (kept_at r.at old.kept) r answer) where
+  again_refers : Refers known.rec r (brought (kept_at r.at new.kept) result)
+  again_refers = subst (Refers known.rec r) (sym (ap (brought (kept_at r.at new.kept)) is ∙ again_is (kept_at r.at new.kept) known.rec (stays ∙ known.is) answer)) known.refers
 
-module _ (tells : Bool) (told : Told) (old new : SpaceView) (r : Ref) (answer : Result (Unit {0}) FetchFault) (layout : new.layout ≡ old.layout) (runs : new.runs ≡ old.runs)
-    (none : GainsNone old.kept new.kept) (stays : kept_at r.at new.kept ≡ kept_at r.at old.kept) (known : IsKnown (kept_at r.at old.kept) r (Some answer))
-    (bounded : IsBounded new.kept) where
-  abbrev is_known : Known (kept_at r.at old.kept) r answer
-  is_known = known_is (kept_at r.at old.kept) r answer known
+  pub again_brings : (tells : Bool) → Brings tells told old r (kept_at r.at new.kept) result
+  again_brings tells = brings_by tells told old r (kept_at r.at new.kept) result known.rec known.fits
+      (λ t readable. read_as_some (read_at told old r.at) known.rec (sym (record_there told old r.at) ∙ kept_stands (records_of told old) old.kept readable.kept r.at known.rec known.is)) again_refers
 
-  pub again_brings : Brings tells told told old new r (found_again answer)
-  again_brings =
-      let known = is_known in
-      let rec = known.rec in
-      let result = sym (again_is (kept_at r.at new.kept) rec (stays ∙ known.is) answer) in
-      record {
-        reads = λ t. only_reads_kept told told (only_nowhere told NoFile) old new layout runs (λ readable. current_none (records_of told old) old.kept new.kept readable.kept none);
-        found = λ t readable.
-            let there = kept_stands (records_of told old) old.kept readable.kept r.at rec known.is in
-            let read = read_as_some (read_at told old r.at) rec (sym (record_there told old r.at) ∙ there) in
-            subst (Fetches (records_of told old) r) result
-            (fetched_ok (records_of told old) r.at (read_at told old r.at) (record_there told old r.at) r refl rec read.length read.is (answer_of rec answer) known.refers);
-        because = λ t readable.
-            let there = kept_stands (records_of told old) old.kept readable.kept r.at rec known.is in
-            let read = read_as_some (read_at told old r.at) rec (sym (record_there told old r.at) ∙ there) in
-            subst (IsBecause (read_at told old r.at)) result (because_of rec r (read_at told old r.at) read.length read.is (answer_of rec answer) known.refers);
-        here = again_here (kept_at r.at new.kept) (ap is_some (stays ∙ known.is)) answer;
-        blames = subst (Blames r) result (blames_of rec r (answer_of rec answer) known.refers);
-        meets = subst (λ (x : Answer). IfOk x (λ found. Meets r found)) result (meets_of rec r (answer_of rec answer) known.refers);
-        bounds = subst (λ (x : Answer). IfOk x (λ found. Fits newest_version found)) result (bounds_of rec r known.fits (answer_of rec answer) known.refers);
-        layout = layout;
-        runs = runs;
-        bounded = λ was. bounded;
-      }
+  pub again_counts : (counts : GroundCounts) → Counts ground_fetch result counts counts
+  again_counts counts = counts_by known.rec r (kept_at r.at new.kept) result again_refers counts counts refl
 
-  pub again_by : (result : Result (Option Record) FetchFault) → result ≡ found_again answer → Brings tells told told old new r result
-  again_by result is = subst (λ (x : Result (Option Record) FetchFault). Brings tells told told old new r x) (sym is) again_brings
-
-  pub again_counts : (result : Result (Option Record) FetchFault) → result ≡ found_again answer → (counts : GroundCounts) → Counts ground_fetch result counts counts
-  again_counts result is counts = subst (λ (x : Result (Option Record) FetchFault). Counts ground_fetch x counts counts) (sym is) (again_counted answer is_known.rec is_known.refers counts)
-    where
-      again_counted : (answer : Result (Unit {0}) FetchFault) (rec : Record) → Refers rec r (answer_of rec answer) → (counts : GroundCounts) → Counts ground_fetch (found_again answer) counts counts
-      again_counted (Ok u) rec refers counts = refl
-      again_counted (Err fault) rec refers counts = counts_of rec r (Option Record) fault refers counts counts refl
+pub again_reads : (told : Told) (old new : SpaceView) → new.layout ≡ old.layout → new.runs ≡ old.runs → GainsNone old.kept new.kept → OnlyReads told told old new
+again_reads told old new layout runs none = only_reads_kept told told (only_nowhere told NoFile) old new layout runs (λ readable. current_none (records_of told old) old.kept new.kept readable.kept none)
 
 -- ---- of one that was read
 
-module _ (tells : Bool) (told now : Told) (old mid : SpaceView) (r : Ref) (reads : IsTrue tells → OnlyReads told now old mid) (layout : mid.layout ≡ old.layout) (runs : mid.runs ≡ old.runs)
-    (same : mid.kept ≡ old.kept) where
-  because_err : (read : Result (Record × ℕ) RecordFault) (fault : FetchFault) → ReadsOne read (Err fault) → IsBecause read (Err fault)
-  because_err read Ground is = tt
-  because_err read (Form at fault) is = sym (ap form_fault is)
-  because_err read (Name at want got) is = tt
-  because_err read Memory is = tt
+because_err : (read : Result (Record × ℕ) RecordFault) (fault : FetchFault) → ReadsOne read (Err fault) → IsBecause read (Err fault)
+because_err read Ground is = tt
+because_err read (Form at fault) is = sym (ap form_fault is)
+because_err read (Name at want got) is = tt
+because_err read Memory is = tt
 
-  blames_err : (fault : FetchFault) → BlamesPlace {A = Record × ℕ} r.at (Err fault) → Blames r (Err fault)
-  blames_err Ground is = tt
-  blames_err (Form at fault) is = is
-  blames_err (Name at want got) is = absurd is
-  blames_err Memory is = tt
+blames_err : (r : Ref) (fault : FetchFault) → BlamesPlace {A = Record × ℕ} r.at (Err fault) → Blames r (Err fault)
+blames_err r Ground is = tt
+blames_err r (Form at fault) is = is
+blames_err r (Name at want got) is = absurd is
+blames_err r Memory is = tt
 
-  pub misses : (fault : FetchFault) → (IsTrue tells → IsReadable told old → ReadsOne (read_at told old r.at) (Err fault)) → BlamesPlace {A = Record × ℕ} r.at (Err fault)
-      → Brings tells told now old mid r (Err fault)
-  misses fault because blames = record {
-    reads = reads;
-    found = λ t readable. fetched_err (records_of told old) r.at (read_at told old r.at) (record_there told old r.at) r refl fault (because t readable) blames;
-    because = λ t readable. because_err (read_at told old r.at) fault (because t readable);
-    here = tt;
-    blames = blames_err fault blames;
-    meets = tt;
-    bounds = tt;
-    layout = layout;
-    runs = runs;
-    bounded = λ was. subst IsBounded (sym same) was;
-  }
+pub misses : (tells : Bool) (told : Told) (space : SpaceView) (r : Ref) (kept : Option Record) (fault : FetchFault) → (IsTrue tells → IsReadable told space → ReadsOne (read_at told space r.at) (Err fault))
+    → BlamesPlace {A = Record × ℕ} r.at (Err fault) → Brings tells told space r kept (Err fault)
+misses tells told space r kept fault because blames = record {
+  found = λ t readable. fetched_err (records_of told space) r.at (read_at told space r.at) (record_there told space r.at) r refl fault (because t readable) blames;
+  because = λ t readable. because_err (read_at told space r.at) fault (because t readable);
+  here = tt;
+  blames = blames_err r fault blames;
+  meets = tt;
+  bounds = tt;
+}
 
-  module _ (rec : Record) (n : ℕ) (fits : Fits newest_version rec) (read : IsTrue tells → IsReadable told old → read_at told old r.at ≡ Ok (rec, n)) where
-    there : (t : IsTrue tells) → IsReadable told old → records_of told old r.at ≡ Some rec
-    there t readable = record_there told old r.at ∙ ap record_read (read t readable)
+module _ (told now : Told) (old mid new : SpaceView) (r : Ref) (rec : Record) (n : ℕ) where
+  pub new_brings : (tells : Bool) (result : Found) → Fits newest_version rec → (IsTrue tells → IsReadable told old → read_at told old r.at ≡ Ok (rec, n)) → Refers rec r (brought (kept_at r.at new.kept) result)
+      → Brings tells told old r (kept_at r.at new.kept) result
+  new_brings tells result fits read refers = brings_by tells told old r (kept_at r.at new.kept) result rec fits (λ t readable. record { length = n; is = read t readable }) refers
 
-    pub refuses : (fault : FetchFault) → Refers rec r (Err fault) → Brings tells told now old mid r (Err fault)
-    refuses fault refers = record {
-      reads = reads;
-      found = λ t readable. fetched_ok (records_of told old) r.at (read_at told old r.at) (record_there told old r.at) r refl rec n (read t readable) (Err fault) refers;
-      because = λ t readable. because_of rec r (read_at told old r.at) n (read t readable) (Err fault) refers;
-      here = tt;
-      blames = blames_of rec r (Err fault) refers;
-      meets = tt;
-      bounds = tt;
-      layout = layout;
-      runs = runs;
-      bounded = λ was. subst IsBounded (sym same) was;
-    }
-
-    module _ (new : SpaceView) (back : Option Record) (then : new.layout ≡ mid.layout) (runs_then : new.runs ≡ mid.runs) (bounded : IsBounded mid.kept → IsBounded new.kept)
-        (gains : GainsAtMost r.at rec mid.kept new.kept) (kept : back ≡ None → kept_at r.at new.kept ≡ Some rec) (is : IfSome back (λ b. b ≡ rec)) (refers : Refers rec r (Ok rec)) where
-      found_new : (o : Option Record) → (o ≡ None → kept_at r.at new.kept ≡ Some rec) → IfSome o (λ b. b ≡ rec) → Ok rec ≡ brought (kept_at r.at new.kept) (Ok o)
-      found_new None there is = sym (ap (λ (k : Option Record). brought k (Ok None)) (there refl))
-      found_new (Some b) there is = ap Ok (sym is)
-
-      pub new_brings : Brings tells told now old new r (Ok back)
-      new_brings =
-          let result : Ok rec ≡ brought (kept_at r.at new.kept) (Ok back) = found_new back kept is in
-          record {
-            reads = λ t. only_reads_kept told now (reads t).only old new (then ∙ layout) (runs_then ∙ runs)
-                (λ readable. current_one (records_of told old) old.kept new.kept readable.kept r.at rec (subst (λ (k : List (ℕ × Record)). GainsAtMost r.at rec k new.kept) same gains) (there t readable));
-            found = λ t readable. subst (Fetches (records_of told old) r) result
-                (fetched_ok (records_of told old) r.at (read_at told old r.at) (record_there told old r.at) r refl rec n (read t readable) (Ok rec) refers);
-            because = λ t readable. subst (IsBecause (read_at told old r.at)) result tt;
-            here = λ none. ap is_some (kept none);
-            blames = subst (Blames r) result tt;
-            meets = subst (λ (x : Answer). IfOk x (λ found. Meets r found)) result refers.1;
-            bounds = subst (λ (x : Answer). IfOk x (λ found. Fits newest_version found)) result fits;
-            layout = then ∙ layout;
-            runs = runs_then ∙ runs;
-            bounded = λ was. bounded (subst IsBounded (sym same) was);
-          }
+  pub new_reads : OnlyReads told now old mid → mid.kept ≡ old.kept → (IsReadable told old → read_at told old r.at ≡ Ok (rec, n)) → new.layout ≡ mid.layout → new.runs ≡ mid.runs → GainsAtMost r.at rec mid.kept new.kept
+      → OnlyReads told now old new
+  new_reads reads same read layout runs gains = only_reads_kept told now reads.only old new (layout ∙ reads.layout) (runs ∙ reads.runs)
+      (λ readable. current_one (records_of told old) old.kept new.kept readable.kept r.at rec (subst (λ (k : List (ℕ × Record)). GainsAtMost r.at rec k new.kept) same gains)
+      (record_there told old r.at ∙ ap record_read (read readable)))

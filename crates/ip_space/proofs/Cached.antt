@@ -18,6 +18,7 @@ use Rattle.ip_spec.specs.Record.{spelling}
 use Rattle.ip_space.specs.SpaceView.{AreCurrent, kept_at}
 use Rattle.ip_space.specs.Kept.{shown, kept_in, IsNamed, AreNamed, IsBounded, GainsNone, GainsAtMost, PutsAtMost}
 use Rattle.ip_space.specs.declared.cache.Kept.{Kept}
+use Rattle.ip_space.specs.declared.cache.TheConstants.{RECORDS_MAX, RECORD_BYTES_MAX}
 
 abbrev rec_of : Kept → Record
 rec_of k = k.rec
@@ -110,12 +111,12 @@ sees o c now is same = sym (ap kept_in same) ∙ is
 pub named_in : (o : Option (LruCache ℕ Kept)) (c : LruCache ℕ Kept) → IfSome o AreNamed → o ≡ Some c → AreNamed c
 named_in o c named same = subst (λ (x : Option (LruCache ℕ Kept)). IfSome x AreNamed) same named
 
--- 256 of them, and short ones
+-- few of them, and short ones
 pub bounded_in : (o : Option (LruCache ℕ Kept)) → IfSome o AreNamed → IsBounded (kept_in o)
 bounded_in None named = record { few = lit≤ tt; short = λ at r there. absurd (Contains-nil (at, r) there) }
 bounded_in (Some c) named = record {
-  few = subst (λ (n : ℕ). n ≤ 256) (sym (length-map c.entries shown)) named.few;
-  short = λ at r there. let h = shown_each c.entries (at, r) there in subst (λ (r : Record). length (spelling r) ≤ 65541) h.2 (named.each at h.0 h.1).short;
+  few = subst (λ (n : ℕ). n ≤ RECORDS_MAX) (sym (length-map c.entries shown)) named.few;
+  short = λ at r there. let h = shown_each c.entries (at, r) there in subst (λ (r : Record). length (spelling r) ≤ RECORD_BYTES_MAX) h.2 (named.each at h.0 h.1).short;
 }
 
 pub named_found : (c : LruCache ℕ Kept) (at : ℕ) → AreNamed c → (found : Option (Bor Kept)) → option_copied found ≡ lookup (nat_eq at) c.entries → IfSome found (λ k. IsNamed k.now)
@@ -156,7 +157,7 @@ pub promoted_named : (c d : LruCache ℕ Kept) (test : ℕ → Bool) → AreName
 promoted_named c d test all is = subst AreNamed (sym is) (record {
   each = λ at k there. all.each at k (Contains-promoted test c.entries (at, k) there);
   cap = all.cap;
-  few = subst (λ (n : ℕ). n ≤ 256) (sym (many_promoted test c.entries)) all.few;
+  few = subst (λ (n : ℕ). n ≤ RECORDS_MAX) (sym (many_promoted test c.entries)) all.few;
 })
 
 pub promoted_same : (es : List (ℕ × Kept)) (test : ℕ → Bool) → lookup test (map shown (promoted test es)) ≡ lookup test (map shown es)

@@ -3,19 +3,17 @@
 --     IsBounded kept      how many records are kept, and how many bytes each has
 --     GainsAtMost at rec old new      one record more, at most
 --     IsKnown kept r answer      whether the record that is kept for a reference is its own, if there is one
---     Brings tells told now old new r result      what the call that brings it does, and what it leaves
 --     brought kept result      what bringing a record comes to: it is kept, or handed out
-use Rattle.std.specs.Prelude.{◌≡◌, ◌≤◌, ◌⊎◌, ℕ, List, [], map, length, Contains, Option, Some, None, Result, Ok, Err, IfOk, IsSome, IsTrue, Bool}
-use Rattle.ip_ground.specs.Told.{Told}
+use Rattle.std.specs.Prelude.{◌≡◌, ◌≤◌, ◌⊎◌, ℕ, List, [], map, length, Contains, Option, Some, None, Result, Ok, Err}
 use Rattle.ip_spec.specs.declared.record.Record.{Record}
 use Rattle.ip_spec.specs.declared.record.Ref.{Ref}
 use Rattle.ip_spec.specs.Record.{Fits, name_of, spelling}
 use Rattle.ip_image.specs.Slot.{newest_version}
 use Rattle.ip_space.specs.declared.fault.FetchFault.{FetchFault}
 use Rattle.ip_space.specs.declared.fault.FetchFault.TheVariants.{Memory}
-use Rattle.ip_space.specs.Fetching.{Refers, Fetches, IsBecause, Blames, Meets}
-use Rattle.ip_space.specs.SpaceView.{SpaceView, OnlyReads, IsReadable, records_of, read_at, kept_at}
+use Rattle.ip_space.specs.Fetching.{Refers}
 use Rattle.ip_space.specs.declared.cache.Kept.{Kept}
+use Rattle.ip_space.specs.declared.cache.TheConstants.{RECORDS_MAX, RECORD_BYTES_MAX}
 use Rattle.lru.specs.LruCache.{LruCache}
 
 abbrev pub shown : ℕ × Kept → ℕ × Record
@@ -28,17 +26,16 @@ kept_in (Some c) = map shown c.entries
 pub record IsNamed (k : Kept) : Type 0 where
   pub fits : Fits newest_version k.rec
   pub name : name_of k.rec ≡ Some k.name
-  pub short : length (spelling k.rec) ≤ 65541
+  pub short : length (spelling k.rec) ≤ RECORD_BYTES_MAX
 
 pub record AreNamed (c : LruCache ℕ Kept) : Type 0 where
   pub each : (at : ℕ) (k : Kept) → Contains c.entries (at, k) → IsNamed k
-  pub cap : c.cap ≡ 256
-  pub few : length c.entries ≤ 256
+  pub cap : c.cap ≡ RECORDS_MAX
+  pub few : length c.entries ≤ RECORDS_MAX
 
--- 256 records, each with a head of 5 bytes and a body of 65536 at most
 pub record IsBounded (kept : List (ℕ × Record)) : Type 0 where
-  pub few : length kept ≤ 256
-  pub short : (at : ℕ) (r : Record) → Contains kept (at, r) → length (spelling r) ≤ 65541
+  pub few : length kept ≤ RECORDS_MAX
+  pub short : (at : ℕ) (r : Record) → Contains kept (at, r) → length (spelling r) ≤ RECORD_BYTES_MAX
 
 abbrev pub GainsNone : List (ℕ × Record) → List (ℕ × Record) → Type 0
 GainsNone old new = (e : ℕ × Record) → Contains new e → Contains old e
@@ -69,16 +66,3 @@ IsKnown (Some rec) r (Some answer) = Fits newest_version rec × Refers rec r (an
 abbrev pub found_again : Result (Unit {0}) FetchFault → Result (Option Record) FetchFault
 found_again (Ok u) = Ok None
 found_again (Err fault) = Err fault
-
--- of the call that brings it
-pub record Brings (tells : Bool) (told now : Told) (old new : SpaceView) (r : Ref) (result : Result (Option Record) FetchFault) : Type 0 where
-  pub reads : IsTrue tells → OnlyReads told now old new
-  pub found : IsTrue tells → IsReadable told old → Fetches (records_of told old) r (brought (kept_at r.at new.kept) result)
-  pub because : IsTrue tells → IsReadable told old → IsBecause (read_at told old r.at) (brought (kept_at r.at new.kept) result)
-  pub here : IfOk result (λ found. found ≡ None → IsSome (kept_at r.at new.kept))
-  pub blames : Blames r (brought (kept_at r.at new.kept) result)
-  pub meets : IfOk (brought (kept_at r.at new.kept) result) (λ found. Meets r found)
-  pub bounds : IfOk (brought (kept_at r.at new.kept) result) (λ found. Fits newest_version found)
-  pub layout : new.layout ≡ old.layout
-  pub runs : new.runs ≡ old.runs
-  pub bounded : IsBounded old.kept → IsBounded new.kept

@@ -5,6 +5,7 @@ ghost use Rattle.std.specs.Map.{lookup};
 ghost use Rattle.ip_spec.specs.Record.{Fits, name_of, spelling};
 ghost use Rattle.ip_image.specs.Slot.{newest_version};
 ghost use Rattle.ip_space.specs.SpaceView.{kept_at};
+ghost use Rattle.ip_space.specs.declared.cache.TheConstants.{RECORDS_MAX, RECORD_BYTES_MAX};
 ghost use Rattle.ip_space.specs.Kept.{IsNamed, IsBounded, GainsNone, GainsAtMost, PutsAtMost};
 
 use ip_base::Hash;
@@ -14,8 +15,12 @@ use std::alloc::Global;
 use std::marker::Model;
 use std::num::NonZeroUsize;
 
-/// How many records are kept. Were each one of 64 KiB, they would take some 16 MiB.
-const COUNT: usize = 256;
+/// The most records that are kept. Were each as long as one may be, they would take some 16 MiB.
+pub const RECORDS_MAX: usize = 256;
+
+/// The most bytes of a record that is kept: a head of 5, and a body of 64 KiB. Parts of directories and commits have fewer; of contents
+/// those that have more would drive out many others, and are rarely asked for twice.
+pub const RECORD_BYTES_MAX: u64 = 5 + 65536;
 
 /// A record that was fetched, and its name.
 #[derive(Drop)]
@@ -86,7 +91,7 @@ impl Cache {
     pub fn keep(&mut self, at: u64, name: Hash, rec: Record) -> Option<Record>
         requires fits { Fits newest_version rec }
         requires name { name_of rec ≡ Some name }
-        requires short { length (spelling rec) ≤ 65541 }
+        requires short { length (spelling rec) ≤ RECORD_BYTES_MAX }
         ensures gains { GainsAtMost at rec self.old self.new }
         ensures kept { result ≡ None → kept_at at self.new ≡ Some rec }
         ensures back { IfSome result (λ back. back ≡ rec) }
@@ -138,9 +143,9 @@ fn put(records: &mut LruCache<u64, Kept>, at: u64, kept: Kept) -> Option<Record>
 }
 
 fn most() -> NonZeroUsize
-    ensures { non_zero_usize_get result ≡ 256 }
+    ensures { non_zero_usize_get result ≡ RECORDS_MAX }
 {
-    match NonZeroUsize::new(COUNT) {
+    match NonZeroUsize::new(RECORDS_MAX) {
         Some(most) => most,
         None => NonZeroUsize::MIN,
     }

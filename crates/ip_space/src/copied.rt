@@ -1,5 +1,6 @@
 // Copies of records that have a name.
-ghost use Rattle.std.specs.Prelude.{◌≡◌, ◌++◌, [], length, take, IfOk};
+ghost use Rattle.std.specs.Prelude.{◌≡◌, ◌++◌, [], length, take, IfOk, IsSome};
+ghost use Rattle.ip_spec.specs.Record.{name_of};
 ghost use Rattle.ip_spec.specs.declared.record.Record.TheVariants as Record;
 
 use ip_base::{Info, Items, Memory};
@@ -8,8 +9,9 @@ use ip_spec::record::{
 };
 use std::alloc::Global;
 
-/// The record once more. One of a branch or a tag, which is never fetched by a reference, is refused.
+/// A record that has a name once more. Those of branches and tags have none, and no reference leads to them.
 pub fn copy_record(alloc: Global, rec: &Record) -> Result<Record, Memory>
+    requires { IsSome (name_of rec.now) }
     ensures { IfOk result (λ copy. copy ≡ rec.now) }
 {
     match rec {
@@ -23,7 +25,7 @@ pub fn copy_record(alloc: Global, rec: &Record) -> Result<Record, Memory>
             })
         }
         Record::Commit(c) => Ok(Record::Commit(copy_commit(alloc, c)?)),
-        _ => Err(Memory),
+        _ => unreachable!(),
     }
 }
 

@@ -3,13 +3,15 @@ ghost use Rattle.std.specs.Prelude.{◌≡◌, ◌≢◌, ℕ, ◌+◌, ◌<◌,
 ghost use Rattle.ip_space.specs.Faults.{ground_fetch, ground_space};
 ghost use Rattle.ip_ground.specs.Counts.{Counts, CountsAs, FileFault};
 ghost use Rattle.ip_ground.specs.Told.{NoFile, ChangesOnly};
+ghost use Rattle.ip_base.specs.declared.limit.TheConstants.{OFFSET_MAX};
+ghost use Rattle.ip_spec.specs.declared.kind.TheConstants as kinds;
 ghost use Rattle.ip_spec.specs.Record.{Fits, name_of, spelling, reference_kind as kind_referred};
 ghost use Rattle.ip_image.specs.Slot.{newest_version, IsChunkSize};
 ghost use Rattle.ip_image.specs.Virtual.{run_of, placed, RowsFit, lies_at};
 ghost use Rattle.ip_space.specs.SpaceView.{grown, bare, kept_at, stretches_of, AreBelow, IsLayout, OnlyReads, IsReadable, records_of, read_at, byte_at};
 ghost use Rattle.ip_space.specs.Ahead.{ReadsBytes};
 ghost use Rattle.ip_space.specs.Fetching.{Blames, BlamesPlace, Fetches, FindsRecord, IsBecause, Meets, ReadsOne, Refers};
-ghost use Rattle.ip_space.specs.Kept.{IsBounded, brought, GainsNone, GainsAtMost, IsKnown, Brings, answer_of, found_again};
+ghost use Rattle.ip_space.specs.Kept.{IsBounded, brought, GainsNone, GainsAtMost, IsKnown, answer_of, found_again};
 ghost use Rattle.ip_space.specs.Pair.{IsOwnPair, FindsSpace};
 ghost use Rattle.ip_space.specs.Scanning.{IsWhole};
 ghost use Rattle.ip_space.specs.ScanView.{ScanView};
@@ -17,7 +19,7 @@ ghost use Rattle.ip_space.specs.declared.fault.FetchFault.TheVariants as FetchFa
 ghost use Rattle.ip_space.specs.declared.fault.SpaceFault.TheVariants as SpaceFault;
 
 use crate::ahead::Ahead;
-use crate::cache::Cache;
+use crate::cache::{Cache, RECORD_BYTES_MAX};
 use crate::copied::copy_record;
 use crate::live::read_live;
 use crate::source::Source;
@@ -36,10 +38,6 @@ use std::marker::Model;
 
 /// The bytes that are asked for where the length of a record is not known yet. Most records have fewer.
 const PAGE: u64 = 4096;
-
-/// The bytes that a record that is kept may have: a head of 5, and a body of 64 KiB. Parts of directories and commits have fewer; of contents
-/// those that have more would drive out many others, and are rarely asked for twice.
-const KEPT_MOST: u64 = 5 + 65536;
 
 /// The records of a store by reference, below the end of a layout, and those of them that were fetched last.
 #[derive(Drop)]
@@ -73,7 +71,7 @@ impl Space {
     ) -> Result<Space, SpaceFault>
         requires chunk { IsChunkSize layout.chunk }
         requires order { layout.horizon ≤ layout.end }
-        requires ends { layout.end ≤ 2 ^ 62 }
+        requires ends { layout.end ≤ OFFSET_MAX }
         requires nothing_below { layout.live ≡ 0 → layout.horizon ≡ 0 }
         ensures view { IfOk result (λ space. space.layout ≡ layout) }
         ensures runs { layout.live ≡ 0 → IfOk result (λ space. space.runs ≡ []) }
@@ -100,12 +98,11 @@ impl Space {
     pub fn over(alloc: Global, layout: Layout, runs: &[Run]) -> Result<Space, Memory>
         requires chunk { IsChunkSize layout.chunk }
         requires order { layout.horizon ≤ layout.end }
-        requires ends { layout.end ≤ 2 ^ 62 }
+        requires ends { layout.end ≤ OFFSET_MAX }
         requires nothing_below { layout.live ≡ 0 → layout.horizon ≡ 0 }
         requires fits { RowsFit layout.horizon (placed 0 runs.now) }
         ensures { IfOk result (λ space. space ≡ record { layout = layout; runs = runs.now; kept = [] }) }
     {
-        ip_mapping::built_is_mapping();
         let mapping = Mapping::of_runs(alloc, layout.horizon, layout.end, runs)?;
         Ok(Space::with(alloc, layout, mapping))
     }
@@ -204,6 +201,7 @@ impl Space {
         ensures layout { self.new.layout ≡ self.old.layout }
         ensures runs { self.new.runs ≡ self.old.runs }
         ensures kept { IsBounded self.new.kept }
+        ensures unread { IsSome (kept_at reference.at self.old.kept) → outside.new ≡ outside.old }
         ensures counts { Counts ground_fetch result (G.counts_of outside.old) (G.counts_of outside.new) }
     {
         let at = reference.at;
@@ -234,12 +232,17 @@ impl Space {
         ensures layout { self.new.layout ≡ self.old.layout }
         ensures runs { self.new.runs ≡ self.old.runs }
         ensures kept { IsBounded self.new.kept }
+        ensures unread { IsSome (kept_at reference.at self.old.kept) → outside.new ≡ outside.old }
         ensures counts { Counts ground_fetch result (G.counts_of outside.old) (G.counts_of outside.new) }
     {
         if let Some(answer) = self.known(&reference) {
             return self.again(reference.at, answer);
         }
-        self.read_new(outside, &reference)
+        let (rec, length) = match self.record_at(outside, reference.at) {
+            Ok(found) => found,
+            Err(fault) => return Err(fault),
+        };
+        self.take(&reference, rec, length)
     }
 
     // What is kept is used again.
@@ -262,22 +265,24 @@ impl Space {
         }
     }
 
-    // Reads the record at a reference, and keeps it.
-    fn read_new<G: Ground>(
+    // What comes of a record that was read at a reference: it is kept or handed back, or it is not the reference's.
+    fn take(
         &mut self,
-        outside: &mut G,
         reference: &Ref,
+        rec: Record,
+        bytes: u64,
     ) -> Result<Option<Record>, FetchFault>
-        ensures brings { Brings G.tells (G.told outside.old) (G.told outside.new) self.old self.new reference.now result }
-        ensures counts { Counts ground_fetch result (G.counts_of outside.old) (G.counts_of outside.new) }
+        requires fits { Fits newest_version rec }
+        requires bytes { bytes ≡ length (spelling rec) }
+        ensures layout { self.new.layout ≡ self.old.layout }
+        ensures runs { self.new.runs ≡ self.old.runs }
+        ensures gains { GainsAtMost reference.now.at rec self.old.kept self.new.kept }
+        ensures refers { Refers rec reference.now (brought (kept_at reference.now.at self.new.kept) result) }
+        ensures bounded { IsBounded self.old.kept → IsBounded self.new.kept }
     {
-        let (rec, length) = match self.record_at(outside, reference.at) {
-            Ok(found) => found,
-            Err(fault) => return Err(fault),
-        };
         let name = name_if_of_kind(&rec, reference);
         match refers(&rec, name, reference) {
-            Ok(()) => Ok(self.keep(reference, rec, length)),
+            Ok(()) => Ok(self.keep(reference, rec, bytes)),
             Err(refused) => Err(refused),
         }
     }
@@ -325,7 +330,7 @@ impl Space {
         ensures back { IfSome result (λ back. back ≡ rec) }
         ensures bounded { IsBounded self.old.kept → IsBounded self.new.kept }
     {
-        if bytes > KEPT_MOST {
+        if bytes > RECORD_BYTES_MAX {
             return Some(rec);
         }
         self.cache.keep(reference.at, reference.name, rec)
@@ -336,9 +341,9 @@ impl Space {
         requires { IsSome (kept_at at self.now.kept) }
         ensures { MatchResult result (λ rec. kept_at at self.now.kept ≡ Some rec) (λ fault. fault ≡ FetchFault.Memory) }
     {
-        match self.kept(at) {
-            Some(rec) => Ok(copy_record(self.alloc, rec)?),
-            None => Err(FetchFault::Memory),
+        match self.cache.get(at) {
+            Some(kept) => Ok(copy_record(self.alloc, &kept.rec)?),
+            None => unreachable!(),
         }
     }
 
@@ -401,7 +406,7 @@ impl Space {
     /// Raises the end, after records were appended behind it.
     pub fn grow(&mut self, end: u64)
         requires further { self.old.layout.end ≤ end }
-        requires ends { end ≤ 2 ^ 62 }
+        requires ends { end ≤ OFFSET_MAX }
         ensures { self.new ≡ grown self.old end }
     {
         self.source.layout.end = end;
@@ -444,7 +449,7 @@ fn refers(rec: &Record, name: Option<Hash>, reference: &Ref) -> Result<(), Fetch
 
 // The number by which a reference tells the kind: an inode is a directory as a leaf is.
 fn reference_kind(kind: u8) -> u8
-    ensures { result ≡ (if kind == 3 then 2 else kind) }
+    ensures { result ≡ (if kind == kinds.INODE then kinds.DIRECTORY else kind) }
 {
     if kind == INODE { DIRECTORY } else { kind }
 }
