@@ -2,12 +2,13 @@
 --     first_behind, next_behind      where these stand in the slice.      one_stretch, stretch_more      the first one, and one more
 --     stretch_ends      where they end
 use Rattle.std.proofs.Common.{◌≡◌, ℕ, zero, suc, ◌+◌, ◌-◌, ◌<◌, ◌≤◌, List, [], ◌∷◌, ◌++◌, refl, sym, ap, subst, ◌∙◌, length, take, drop, reverse, get_or, arith}
-use Rattle.std.specs.List.{AllByRecursion}
 use Rattle.std.proofs.Math.Seq.{take-suc}
-use Rattle.std.proofs.lemmas.List.{get_or-reverse, get_or-drop, length-drop, length-reverse, length-take-le, reverse-append}
+use Rattle.std.proofs.lemmas.List.{get_or-reverse, get_or-drop, length-drop, length-reverse, length-take-le, reverse-reverse}
 use Rattle.std.proofs.lemmas.List.Sums.{sum_by-cons, sum_by_push}
 use Rattle.ip_image.specs.declared.run.Run.{Run}
 use Rattle.ip_image.specs.Virtual.{total}
+use Rattle.ip_space.specs.SpaceView.{AreBelow}
+use Rattle.ip_keep.proofs.RunsApart.{ends_back}
 use Rattle.ip_check.specs.declared.prefix.Stretch.{Stretch}
 use Rattle.ip_check.specs.Stretching.{AreLinked, IsStretch}
 
@@ -59,32 +60,20 @@ stretch_more ys most s next d st more few is touch = record {
 
 -- ---- where they end
 
-abbrev pub EndBy : ℕ → List Run → Type 0
-EndBy top runs = AllByRecursion (λ (run : Run). run.at + run.length ≤ top) runs
-
-pub end_higher : (low top : ℕ) (xs : List Run) → low ≤ top → EndBy low xs → EndBy top xs
-end_higher low top [] le all = tt
-end_higher low top (x ∷ xs) le all = let e = all.0 in (omega (arith, e, le), end_higher low top xs le all.1)
-
-end_take : (top n : ℕ) (xs : List Run) → EndBy top xs → EndBy top (take n xs)
+end_take : (top n : ℕ) (xs : List Run) → AreBelow top xs → AreBelow top (take n xs)
 end_take top zero xs all = tt
 end_take top (suc n) [] all = tt
 end_take top (suc n) (x ∷ xs) all = (all.0, end_take top n xs all.1)
 
-end_drop : (top n : ℕ) (xs : List Run) → EndBy top xs → EndBy top (drop n xs)
+end_drop : (top n : ℕ) (xs : List Run) → AreBelow top xs → AreBelow top (drop n xs)
 end_drop top zero xs all = all
 end_drop top (suc n) [] all = tt
 end_drop top (suc n) (x ∷ xs) all = end_drop top n xs all.1
 
-end_append : (top : ℕ) (xs ys : List Run) → EndBy top xs → EndBy top ys → EndBy top (xs ++ ys)
-end_append top [] ys one two = two
-end_append top (x ∷ xs) ys one two = (one.0, end_append top xs ys one.1 two)
+end_reverse : (top : ℕ) (xs : List Run) → AreBelow top xs → AreBelow top (reverse xs)
+end_reverse top xs all = ends_back top (reverse xs) (subst (AreBelow top) (sym (reverse-reverse xs)) all)
 
-end_reverse : (top : ℕ) (xs : List Run) → EndBy top xs → EndBy top (reverse xs)
-end_reverse top [] all = tt
-end_reverse top (x ∷ xs) all = subst (EndBy top) (sym (reverse-append (x ∷ []) xs)) (end_append top (reverse xs) (x ∷ []) (end_reverse top xs all.1) (all.0, tt))
-
-linked_ends : (top at : ℕ) (runs : List Run) → AreLinked at runs → EndBy top runs → 0 < length runs → at + total runs ≤ top
+linked_ends : (top at : ℕ) (runs : List Run) → AreLinked at runs → AreBelow top runs → 0 < length runs → at + total runs ≤ top
 linked_ends top at [] l a some = absurd (omega (arith, some))
 linked_ends top at (run ∷ []) (e, l) (b, a) some = let s = sum_by-cons (λ (r : Run). r.length) run [] in omega (arith, e, b, s)
 linked_ends top at (run ∷ next ∷ runs) (e, l) (b, a) some =
@@ -92,7 +81,7 @@ linked_ends top at (run ∷ next ∷ runs) (e, l) (b, a) some =
     let deep = linked_ends top (at + run.length) (next ∷ runs) l a (omega arith) in
     omega (arith, s, deep)
 
-pub stretch_ends : (top : ℕ) (xs : List Run) (c most : ℕ) (s : Stretch) → EndBy top xs → IsStretch (drop c (reverse xs)) most s → s.at + s.length ≤ top
+pub stretch_ends : (top : ℕ) (xs : List Run) (c most : ℕ) (s : Stretch) → AreBelow top xs → IsStretch (drop c (reverse xs)) most s → s.at + s.length ≤ top
 stretch_ends top xs c most s all st =
     let n = length-take-le s.records (drop c (reverse xs)) st.within in
     let some = st.some in

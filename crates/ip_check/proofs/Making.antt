@@ -1,11 +1,12 @@
 -- A mapping's file while it is made: what each step makes of `AreMade`.
 --     piece_of, made_on      what was made is a piece of the whole, and was compared
 --     flushed      what comparing what was made says.      one_given, none_given      how many runs are left
---     begun      the front was made.      whole_compared      nothing is left
+--     so_far_none      nothing was compared.      begun      the front was made.      whole_compared      nothing is left
 --     total_joined      joining leaves the sum.      row_taken      the rows of the runs that are left
-use Rattle.std.proofs.Common.{◌≡◌, ℕ, zero, suc, ◌+◌, ◌-◌, List, [], ◌∷◌, ◌++◌, length, take, drop, refl, sym, ap, ◌∙◌, subst, arith, length-drop, length-append}
+use Rattle.std.proofs.Common.{◌≡◌, ℕ, suc, ◌+◌, ◌-◌, List, [], ◌∷◌, ◌++◌, length, take, drop, refl, sym, ap, ◌∙◌, subst, arith, length-drop, length-append}
 use Rattle.std.specs.Prelude.{Option, Some, None, Ok}
-use Rattle.std.proofs.lemmas.List.{take_all, take-append-le}
+use Rattle.std.proofs.Math.Seq.{drop-append_seam}
+use Rattle.std.proofs.lemmas.List.{drop-drop, take_all, take-append-le}
 use Rattle.std.proofs.lemmas.List.Sums.{sum_by-cons}
 use Rattle.ip_ground.specs.declared.names.GroundFault.{GroundFault}
 use Rattle.ip_spec.specs.declared.reply.Produced.TheVariants as Produced
@@ -40,7 +41,7 @@ pub row_taken : (place : ℕ) (old left : List Run) (run : Run) → old ≡ run 
     → rows_from place old ≡ row_bytes (record { at = run.at; length = run.length; place = place }) ++ rows_from (place + run.length) left
 row_taken place old left run is = ap (rows_from place) is
 
-so_far_none : (whole : Bytes) (got : Option Bytes) → IsSoFar whole got 0
+pub so_far_none : (whole : Bytes) (got : Option Bytes) → IsSoFar whole got 0
 so_far_none whole None = refl
 so_far_none whole (Some bytes) = record { wanted = omega arith; found = omega arith; same = refl }
 
@@ -51,19 +52,6 @@ begun h e runs got p first front = record {
       ∙ ap (λ (n : ℕ). head_bytes (record { horizon = h; end = e; rows = n }) ++ rows_from 0 runs) (rows_many 0 runs) ∙ ap (λ (b : Bytes). b ++ rows_from 0 runs) (sym front);
   so_far = subst (IsSoFar (mapping_bytes h e runs) got) (sym first) (so_far_none (mapping_bytes h e runs) got);
 }
-
-drop_front : (xs ys : Bytes) → drop (length xs) (xs ++ ys) ≡ ys
-drop_front [] ys = refl
-drop_front (x ∷ xs) ys = drop_front xs ys
-
-drop_twice : (m n : ℕ) (xs : Bytes) → drop (m + n) xs ≡ drop n (drop m xs)
-drop_twice zero n xs = ap (λ (k : ℕ). drop k xs) (omega arith)
-drop_twice (suc m) n [] = drop_none (suc m + n) ∙ sym (drop_none n)
-  where
-    drop_none : (k : ℕ) → drop {A = ℕ} k [] ≡ []
-    drop_none zero = refl
-    drop_none (suc k) = refl
-drop_twice (suc m) n (x ∷ xs) = ap (λ (k : ℕ). drop k (x ∷ xs)) (let e : suc m + n ≡ suc (m + n) = omega arith in e) ∙ drop_twice m n xs
 
 module _ (whole : Bytes) (got : Option Bytes) (p : Pieces) (rest : Bytes) (made : AreMade whole got p rest) where
   sizes : length whole - p.place ≡ length p.bytes.items + length rest
@@ -78,7 +66,7 @@ module _ (whole : Bytes) (got : Option Bytes) (p : Pieces) (rest : Bytes) (made 
   pub made_on : (q : Pieces) → q.place ≡ p.place + length p.bytes.items → q.bytes.items ≡ [] → IsSoFar whole got (p.place + length p.bytes.items) → AreMade whole got q rest
   made_on q place none so_far = record {
     inside = let i = piece_of.inside in omega (arith, i, place);
-    is = ap (λ (n : ℕ). drop n whole) place ∙ drop_twice p.place (length p.bytes.items) whole ∙ ap (drop (length p.bytes.items)) made.is ∙ drop_front p.bytes.items rest ∙ ap (λ (b : Bytes). b ++ rest) (sym none);
+    is = ap (λ (n : ℕ). drop n whole) place ∙ sym (drop-drop (length p.bytes.items) p.place whole) ∙ ap (drop (length p.bytes.items)) made.is ∙ drop-append_seam p.bytes.items rest ∙ ap (λ (b : Bytes). b ++ rest) (sym none);
     so_far = subst (IsSoFar whole got) (sym place) so_far;
   }
 

@@ -1,8 +1,8 @@
 -- How a check goes on, over what is told.
 --     over_later, found_later      what is told of its files stays over calls that change no file
 --     goes_on, keeps_on      two steps
---     goes_kept, keeps_kept      records that are kept were looked for.      keeps_mapping      the mapping was compared
---     goes_stretch, keeps_stretch, keeps_fault      a stretch was.      goes_end, keeps_end      the end of the prefix was
+--     goes_kept, keeping_kept      records that are kept were looked for.      keeps_mapping      the mapping was compared
+--     goes_stretch, keeps_stretch      a stretch was.      goes_end, keeps_end      the end of the prefix was
 use Rattle.std.proofs.Common.{◌≡◌, ℕ, zero, suc, ◌+◌, ◌<◌, ◌≤◌, List, refl, sym, ap, subst, ◌∙◌, length, take, drop, map, arith}
 use Rattle.std.specs.Prelude.{Option, Some, None, Result, Ok, Err, IfOk, IsErrOf}
 use Rattle.std.proofs.Math.Seq.{take-add}
@@ -43,6 +43,7 @@ use Rattle.ip_check.specs.Faults.{IsUndamaged}
 use Rattle.ip_check.specs.Going.{Goes, HasNext, IsOpen, IsOver, KeepsTrue, found_of, next_stage}
 use Rattle.ip_check.specs.Stretching.{IsStretch}
 use Rattle.ip_check.proofs.KeptBytes.{Piece, piece_at, bytes_total}
+use Rattle.ip_check.proofs.Making.{so_far_none}
 
 -- ---- over calls that change no file
 
@@ -163,16 +164,8 @@ the_kept image records c whole check keeping through =
 
 -- ---- the mapping
 
-so_far_none : (want : Bytes) (got : Option Bytes) → IsSoFar want got 0
-so_far_none want None = refl
-so_far_none want (Some got) = record { wanted = omega arith; found = omega arith; same = refl }
-
 abbrev pub with_stage : CheckView → Stage → CheckView
 with_stage c stage = record { job = c.job; keep = c.keep; stage = stage; compared = c.compared }
-
-stage_mapping : (c : CheckView) (d : Option Difference) → c.compared ≡ 0 → IsThrough c.keep → IsAtStage (with_stage c (next_stage d 0)) (next_stage d 0)
-stage_mapping c None none through = (through, sym (ap (λ (n : ℕ). total (take n c.keep.kept)) none))
-stage_mapping c (Some d) none through = through
 
 pub keeps_mapping : (told : Told) (c : CheckView) (runs : List Run) (d : Option Difference) → IsCheck c → IsThrough c.keep → runs ≡ c.keep.kept
     → (IsFixed told c.job → SaysEnd {E = CheckFault} Produced.Mapping (mapping_bytes c.job.horizon c.job.end (joined runs)) (told.held (Mapping c.job.attempt)) (Ok d)) → {A : Type 0} (x : A) → KeepsTrue told c (with_stage c (next_stage d 0)) (Ok x)

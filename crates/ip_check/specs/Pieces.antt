@@ -11,13 +11,14 @@ use Rattle.ip_image.specs.Virtual.{placed, row_bytes}
 use Rattle.ip_image.specs.Collection.{difference}
 use Rattle.ip_check.specs.Alike.{IsSoFar}
 use Rattle.ip_check.specs.declared.mapping.Pieces.{Pieces}
+use Rattle.ip_check.specs.declared.mapping.TheConstants.{PIECE}
 
 abbrev pub rows_from : ℕ → List Run → Bytes
 rows_from place runs = flat_map row_bytes (placed place runs)
 
 pub record FitsIn (pieces : Pieces) : Type 0 where
-  pub few : length pieces.bytes.items ≤ 131072
-  pub room : length pieces.room.items ≡ 131072
+  pub few : length pieces.bytes.items ≤ PIECE
+  pub room : length pieces.room.items ≡ PIECE
 
 -- how much there is to compare, up to the end of what was made
 abbrev pub made_to : Pieces → ℕ

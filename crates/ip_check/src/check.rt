@@ -1,5 +1,6 @@
 // The check of what a collection wrote.
-ghost use Rattle.std.specs.Prelude.{◌≡◌, ◌≢◌, ℕ, ◌+◌, ◌≤◌, ◌<◌, ◌^◌, length, Some, None, IsTrue, IfOk, IfSome, IfNone};
+ghost use Rattle.std.specs.Prelude.{◌≡◌, ◌≢◌, ℕ, ◌+◌, ◌≤◌, ◌<◌, length, Some, None, IsTrue, IfOk, IfSome, IfNone};
+ghost use Rattle.ip_base.specs.declared.limit.TheConstants.{OFFSET_MAX};
 ghost use Rattle.ip_ground.specs.Contents.{Image};
 ghost use Rattle.ip_ground.specs.Counts.{Counts};
 ghost use Rattle.ip_ground.specs.Told.{NoFile, ChangesOnly};
@@ -118,8 +119,8 @@ impl Check {
         ensures runs { left_of result ≡ self.now.keep.kept }
         ensures fit { FitRuns (left_of result) }
         ensures rows { RowsFit self.now.job.horizon (placed 0 (joined self.now.keep.kept)) }
-        ensures total { total self.now.keep.kept ≤ 2 ^ 62 }
-        ensures few { length (joined self.now.keep.kept) ≤ 2 ^ 62 }
+        ensures total { total self.now.keep.kept ≤ OFFSET_MAX }
+        ensures few { length (joined self.now.keep.kept) ≤ OFFSET_MAX }
     {
         self.keep.runs()
     }

@@ -1,5 +1,6 @@
 // A file beside the bytes that it is to have.
-ghost use Rattle.std.specs.Prelude.{◌≡◌, ◌+◌, ◌<◌, ◌≤◌, ◌^◌, length, slice_index_or, IsTrue, IfOk};
+ghost use Rattle.std.specs.Prelude.{◌≡◌, ◌+◌, ◌<◌, ◌≤◌, length, slice_index_or, IsTrue, IfOk};
+ghost use Rattle.ip_base.specs.declared.limit.TheConstants.{OFFSET_MAX};
 ghost use Rattle.ip_ground.specs.Counts.{CountsAs, FileFault};
 ghost use Rattle.ip_ground.specs.Told.{NoFile, ChangesOnly, IsForeign};
 ghost use Rattle.ip_spec.specs.declared.reply.Seen.TheVariants as Seen;
@@ -20,7 +21,7 @@ pub fn compare<G: Ground>(
     room: &mut [u8],
 ) -> Result<Option<Difference>, GroundFault>
     requires room { length want.now ≤ length room.old }
-    requires fits { place + length want.now ≤ 2 ^ 63 }
+    requires fits { place + length want.now ≤ OFFSET_MAX }
     ensures says { IsTrue G.tells → ¬ IsForeign (G.told outside.old) file → (whole : Bytes) → IsPiece whole place want.now → IsSoFar whole ((G.told outside.old).held file) place →
         SaysAlike produced whole ((G.told outside.old).held file) (place + length want.now) result }
     ensures room { length room.new ≡ length room.old }
@@ -96,7 +97,7 @@ fn compare_part<G: Ground>(
 ) -> Result<Option<Difference>, GroundFault>
     requires some { 0 < length want.now }
     requires room { length want.now ≡ length room.old }
-    requires fits { place + length want.now ≤ 2 ^ 63 }
+    requires fits { place + length want.now ≤ OFFSET_MAX }
     ensures says { IsTrue G.tells → ¬ IsForeign (G.told outside.old) file → (whole : Bytes) → IsPiece whole place want.now → IsSoFar whole ((G.told outside.old).held file) place →
         SaysAlike produced whole ((G.told outside.old).held file) (place + length want.now) result }
     ensures only { IsTrue G.tells → ChangesOnly NoFile (G.told outside.old) (G.told outside.new) }

@@ -1,5 +1,6 @@
 // The mapping's file beside the runs that it is to have.
-ghost use Rattle.std.specs.Prelude.{◌≡◌, ◌+◌, ◌*◌, ◌≤◌, ◌^◌, ◌++◌, [], length, IsTrue, IfOk, OnOk};
+ghost use Rattle.std.specs.Prelude.{◌≡◌, ◌+◌, ◌*◌, ◌≤◌, ◌++◌, [], length, IsTrue, IfOk, OnOk};
+ghost use Rattle.ip_base.specs.declared.limit.TheConstants.{OFFSET_MAX};
 ghost use Rattle.ip_ground.specs.declared.names.FileName.TheVariants.{Mapping};
 ghost use Rattle.ip_ground.specs.Counts.{Counts};
 ghost use Rattle.ip_ground.specs.Told.{NoFile, ChangesOnly, IsForeign};
@@ -45,8 +46,8 @@ pub fn compare_mapping<G: Ground>(
     runs: Runs<'_>,
 ) -> Result<Option<Difference>, CheckFault>
     requires fit { FitRuns (left_of runs) }
-    requires few { length (joined (left_of runs)) ≤ 2 ^ 62 }
-    requires total { total (left_of runs) ≤ 2 ^ 62 }
+    requires few { length (joined (left_of runs)) ≤ OFFSET_MAX }
+    requires total { total (left_of runs) ≤ OFFSET_MAX }
     ensures says { IsTrue G.tells → ¬ IsForeign (G.told outside.old) (Mapping job.now.attempt) →
         SaysEnd Produced.Mapping (mapping_bytes job.now.horizon job.now.end (joined (left_of runs.entry))) ((G.told outside.old).held (Mapping job.now.attempt)) result }
     ensures undamaged { IsUndamaged result }
@@ -72,7 +73,7 @@ pub fn compare_mapping<G: Ground>(
 // How many runs are left.
 fn count_runs(runs: Runs<'_>) -> u64
     requires fit { FitRuns (left_of runs) }
-    requires few { length (joined (left_of runs)) ≤ 2 ^ 62 }
+    requires few { length (joined (left_of runs)) ≤ OFFSET_MAX }
     ensures { result ≡ length (joined (left_of runs.entry)) }
 {
     let mut left = runs;
@@ -109,11 +110,11 @@ impl Pieces {
         runs: Runs<'_>,
     ) -> Result<Option<Difference>, CheckFault>
         requires fit { FitRuns (left_of runs) }
-        requires total { total (joined (left_of runs)) ≤ 2 ^ 62 }
-        requires few { made_to self.old + 24 * length (joined (left_of runs)) ≤ 2 ^ 62 }
+        requires total { total (joined (left_of runs)) ≤ OFFSET_MAX }
+        requires few { made_to self.old + 24 * length (joined (left_of runs)) ≤ OFFSET_MAX }
         requires fits { FitsIn self.old }
         ensures file { self.new.file ≡ self.old.file }
-        ensures few { OnOk result (made_to self.new ≤ 2 ^ 62) }
+        ensures few { OnOk result (made_to self.new ≤ OFFSET_MAX) }
         ensures fits { OnOk result (FitsIn self.new) }
         ensures says { IsTrue G.tells → ¬ IsForeign (G.told outside.old) self.old.file → (whole : Bytes) →
             AreMade whole ((G.told outside.old).held self.old.file) self.old (rows_from 0 (joined (left_of runs.entry))) → Compares whole ((G.told outside.old).held self.old.file) self.new [] result }
@@ -143,7 +144,7 @@ impl Pieces {
         outside: &mut G,
         row: &Row,
     ) -> Result<Option<Difference>, CheckFault>
-        requires few { made_to self.old + 24 ≤ 2 ^ 62 }
+        requires few { made_to self.old + 24 ≤ OFFSET_MAX }
         requires fits { FitsIn self.old }
         ensures file { self.new.file ≡ self.old.file }
         ensures few { OnOk result (made_to self.new ≤ made_to self.old + 24) }
@@ -167,7 +168,7 @@ impl Pieces {
 
     // Compares what was made.
     fn flush<G: Ground>(&mut self, outside: &mut G) -> Result<Option<Difference>, CheckFault>
-        requires few { made_to self.old ≤ 2 ^ 62 }
+        requires few { made_to self.old ≤ OFFSET_MAX }
         requires fits { FitsIn self.old }
         ensures file { self.new.file ≡ self.old.file }
         ensures few { made_to self.new ≤ made_to self.old }
@@ -194,7 +195,7 @@ impl Pieces {
 
     // Compares what is left, and that the file ends there.
     fn end<G: Ground>(&mut self, outside: &mut G) -> Result<Option<Difference>, CheckFault>
-        requires few { made_to self.old ≤ 2 ^ 62 }
+        requires few { made_to self.old ≤ OFFSET_MAX }
         requires fits { FitsIn self.old }
         ensures says { IsTrue G.tells → ¬ IsForeign (G.told outside.old) self.old.file → (whole : Bytes) →
             AreMade whole ((G.told outside.old).held self.old.file) self.old [] → SaysEnd Produced.Mapping whole ((G.told outside.old).held self.old.file) result }

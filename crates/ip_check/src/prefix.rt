@@ -1,12 +1,13 @@
 // The prefix beside what is kept, by stretches in which records lie end to end.
-ghost use Rattle.std.specs.Prelude.{◌≡◌, ◌+◌, ◌<◌, ◌≤◌, ◌^◌, length, reverse, drop, IsTrue};
-ghost use Rattle.std.specs.List.{AllByRecursion};
+ghost use Rattle.std.specs.Prelude.{◌≡◌, ◌+◌, ◌<◌, ◌≤◌, length, reverse, drop, IsTrue};
+ghost use Rattle.ip_base.specs.declared.limit.TheConstants.{OFFSET_MAX};
 ghost use Rattle.ip_ground.specs.Counts.{Counts};
 ghost use Rattle.ip_ground.specs.Told.{NoFile, ChangesOnly, IsForeign};
 ghost use Rattle.ip_spec.specs.declared.reply.Produced.TheVariants as Produced;
 ghost use Rattle.ip_spec.specs.Path.{Bytes};
 ghost use Rattle.ip_image.specs.Virtual.{total, Stands};
 ghost use Rattle.ip_space.specs.SpaceView.{IsReadable, byte_at};
+ghost use Rattle.ip_keep.specs.Runs.{FitRuns};
 ghost use Rattle.ip_check.specs.Alike.{IsPiece, IsSoFar, SaysAlike};
 ghost use Rattle.ip_check.specs.Faults.{ground_check, IsUndamaged};
 ghost use Rattle.ip_check.specs.Stretching.{IsStretch};
@@ -19,7 +20,8 @@ use ip_space::Space;
 use ip_spec::reply::{Difference, Produced};
 use std::alloc::Global;
 
-/// The bytes that are read at once: a mebibyte, or one record where that is longer.
+/// The bytes that are read at once: a mebibyte, or one record where that is longer. So one read takes many small records, and what is held does not
+/// grow with the files.
 const ROOM: u64 = 1048576;
 
 /// Kept records that lie end to end.
@@ -34,8 +36,8 @@ pub struct Stretch {
 pub fn stretch_from(kept: &[Run], compared: usize, most: u64) -> Stretch
     requires more { compared < length kept.now }
     requires some { 1 ≤ most }
-    requires total { total (reverse kept.now) ≤ 2 ^ 62 }
-    requires fit { AllByRecursion (λ run. run.at + run.length ≤ 2 ^ 62) kept.now }
+    requires total { total (reverse kept.now) ≤ OFFSET_MAX }
+    requires fit { FitRuns kept.now }
     ensures { IsStretch (drop compared (reverse kept.now)) most result }
 {
     let left = kept.len() - compared;
@@ -67,7 +69,7 @@ pub fn compare_stretch<G: Ground>(
     stretch: &Stretch,
 ) -> Result<Option<Difference>, CheckFault>
     requires inside { stretch.now.at + stretch.now.length ≤ space.now.layout.end }
-    requires fits { place + stretch.now.length ≤ 2 ^ 62 }
+    requires fits { place + stretch.now.length ≤ OFFSET_MAX }
     ensures says { IsTrue G.tells → IsReadable (G.told outside.old) space.now → ¬ IsForeign (G.told outside.old) file →
         (bytes whole : Bytes) → length bytes ≡ stretch.now.length → Stands (byte_at (G.told outside.old) space.now) stretch.now.at bytes →
         IsPiece whole place bytes → IsSoFar whole ((G.told outside.old).held file) place →

@@ -31,13 +31,14 @@ impl Model for Core {
 
     ghost Value = { State };
 
-    ghost use Rattle.std.specs.Prelude.{◌≤◌, ◌^◌};
+    ghost use Rattle.std.specs.Prelude.{◌≤◌};
+    ghost use Rattle.ip_base.specs.declared.limit.TheConstants.{OFFSET_MAX};
     ghost use Rattle.ip_spec.specs.Core.{IsClosed, end_of};
     ghost use Rattle.ip_gen.specs.Phases.{phase_of};
 
     ghost view = { λ c. record { records = c.records.items; horizon = c.horizon; phase = phase_of c.phase } };
 
-    ghost invariant = { λ c. IsClosed (record { records = c.records.items; horizon = c.horizon; phase = phase_of c.phase }) × (end_of c.records.items ≤ 2 ^ 62) };
+    ghost invariant = { λ c. IsClosed (record { records = c.records.items; horizon = c.horizon; phase = phase_of c.phase }) × (end_of c.records.items ≤ OFFSET_MAX) };
 }
 
 impl Core {

@@ -63,7 +63,8 @@ fewer (x ∷ xs) (y ∷ ys) a b to = by (to x (inl refl)) (fewer xs ys a.1 b.1) 
     by (inl e) one two = let l = one (behind e) in omega (arith, l)
     by (inr there) one two = let l = two (over there) in omega (arith, l)
 
-all_in : (P : ℕ → Type 0) (xs : List ℕ) → ((x : ℕ) → In xs x → P x) → AllByRecursion P xs
+-- each member is such a one
+pub all_in : (P : ℕ → Type 0) (xs : List ℕ) → ((x : ℕ) → In xs x → P x) → AllByRecursion P xs
 all_in P [] all = tt
 all_in P (x ∷ xs) all = (all x (inl refl), all_in P xs (λ y c. all y (inr c)))
 

@@ -1,11 +1,12 @@
 -- How the search goes on, over what is told.
 --     goes_nowhere, goes_on      no call, and two.      blames_later      what is met by the second one is met by both
 --     goes_read, goes_up, goes_behind      a record from the horizon on: not entered whole, or looked at.      goes_down, goes_kept      one that waits
---     blameless_up, blameless_down, blameless_other      no damage is met where records are whole
+--     blameless_up, blameless_down      no damage is met where records are whole
 use Rattle.std.proofs.Common.{◌≡◌, ◌⊎◌, inl, inr, ℕ, ◌+◌, ◌<◌, ◌≤◌, List, [], ◌∷◌, ◌++◌, refl, sym, ap, subst, ◌∙◌, Bool, true, false, length, arith}
 use Rattle.std.proofs.lemmas.Bool.{false≢true}
 use Rattle.std.specs.Prelude.{Contains, Option, Some, IsTrue, Result, Err, IsErrOf}
 use Rattle.std.specs.List.Sorted.{IsStrictlyIncreasing}
+use Rattle.std.proofs.lemmas.Option.{same_Some}
 use Rattle.ip_ground.specs.Told.{Told, NoFile, ChangesOnly}
 use Rattle.ip_ground.proofs.Spans.{only_nowhere, only_on}
 use Rattle.ip_spec.specs.declared.record.Record.{Record}
@@ -27,9 +28,6 @@ use Rattle.ip_keep.specs.Whole.{AreRecords}
 use Rattle.ip_keep.proofs.Ascending.{up, increasing, up_front, last_is}
 use Rattle.ip_keep.proofs.Looked.{waits, behind_next, with_kept, waits_below, stays_keep, horizon_low, passed_keep, kept_keep, entered, above_sound, below_sound, next_there, passed, waits_there, inside_lowest, refers_under, refers_below, kept_one}
 use Rattle.ip_keep.proofs.WholeRecords.{in_space}
-
-same_some : (x y : Record) → Some x ≡ Some y → x ≡ y
-same_some x y e = cc
 
 pub later_whole : (a b : Told) (space : SpaceView) (h : ℕ) (records : Records) → ChangesOnly NoFile a b → IsReadable a space → AreRecords a.held space h records → AreRecords b.held space h records
 later_whole a b space h records only readable whole = record {
@@ -77,7 +75,7 @@ module _ (tells : Bool) where
     -- the one that stands there is the one that was read
     is_there : (records : Records) → AreRecords a.held k.space k.horizon records → (at : ℕ) (r : Record) → records_of a k.space at ≡ Some r → (s : Record) × (present records at ≡ Some s) → present records at ≡ Some r
     is_there records whole at r read (s, there) =
-        let e : s ≡ r = same_some s r (sym (in_space a.held k.space k.horizon records whole at s there) ∙ read) in
+        let e : s ≡ r = same_Some s r (sym (in_space a.held k.space k.horizon records whole at s there) ∙ read) in
         there ∙ ap (λ (x : Record). Some x) e
 
     module _ (r : Record) (w : List ℕ) (more : k.next < k.space.layout.end) (found : IsTrue tells → IsReadable a k.space → records_of a k.space k.next ≡ Some r) where

@@ -3,6 +3,7 @@
 use Rattle.std.proofs.Common.{◌≡◌, inl, inr, ℕ, ◌≤◌, List, [], ◌∷◌, refl, sym, ap, subst, ◌∙◌, length, map, arith}
 use Rattle.std.specs.Prelude.{Contains, Some}
 use Rattle.std.specs.List.Sorted.{IsStrictlyIncreasing}
+use Rattle.std.proofs.lemmas.Option.{same_Some}
 use Rattle.std.proofs.lemmas.List.{length-map}
 use Rattle.ip_spec.specs.declared.record.Record.{Record}
 use Rattle.ip_spec.specs.Record.{spelling}
@@ -59,9 +60,6 @@ joined_kept : (kept : Records) → joined (map run_at kept) ≡ runs_of kept
 joined_kept [] = refl
 joined_kept (x ∷ kept) = ap (in_front x.0 (length (spelling x.1))) (joined_kept kept)
 
-same_some : (x y : Record) → Some x ≡ Some y → x ≡ y
-same_some x y e = cc
-
 -- ---- the least set
 
 module _ (records : Records) (k : KeepView) (keeping : IsKeeping records k) where
@@ -103,7 +101,7 @@ keeps_all image records k whole keep keeping through =
         let at = subst (λ (l : List ℕ). Contains l x.0) (places kept same) (reached_kept records k keeping through x.0 reached) in
         let (y, there, place) = of_map (λ (x : ℕ × Record). x.0) kept x.0 (in_from (map (λ (x : ℕ × Record). x.0) kept) x.0 at) in
         let found = subst (λ (n : ℕ). present records n ≡ Some y.1) place (all y (in_has kept y there)) in
-        let rec : y.1 ≡ x.1 = same_some y.1 x.1 (sym found ∙ here) in
+        let rec : y.1 ≡ x.1 = same_Some y.1 x.1 (sym found ∙ here) in
         contains_from kept x (subst (Has kept) (λ j. (place j, rec j)) (in_has kept y there))
 
 -- ---- how many looks

@@ -6,6 +6,7 @@ pub mod Entered
 pub mod Looked
 pub mod Goings
 pub mod RunsApart
+pub mod Bounds
 pub mod Looks
 pub mod Begins
 pub mod Standings

@@ -17,6 +17,7 @@ use Rattle.ip_image.proofs.StayingRecords.{In, in_from, in_contains, present_has
 use Rattle.ip_space.specs.Scanning.{RunsTo, at_the_end, behind}
 use Rattle.std.proofs.lemmas.Bool.{cases_lt}
 use Rattle.std.proofs.lemmas.Bool.Decides.{nat_tests}
+use Rattle.std.proofs.lemmas.Option.{same_Some}
 use Rattle.ip_spec.proofs.ReadingLaws.{all_test}
 use Rattle.ip_spec.proofs.Spelling.{some_bytes}
 use Rattle.ip_keep.specs.Entering.{are_below, refs_of, GainsSome}
@@ -24,11 +25,8 @@ use Rattle.ip_keep.specs.KeepView.{KeepView}
 use Rattle.ip_keep.specs.Keeping.{IsKeep, IsKeeping, IsFound, offsets, lowest}
 use Rattle.ip_keep.specs.Runs.{least}
 use Rattle.ip_keep.specs.Whole.{AreRecords}
-use Rattle.ip_keep.proofs.Ascending.{Lies, up, in_push, push_in, push_last, push_below, in_order, one_here, counted}
+use Rattle.ip_keep.proofs.Ascending.{Lies, all_in, up, in_push, push_in, push_last, push_below, in_order, one_here, counted}
 use Rattle.ip_keep.proofs.WholeRecords.{in_place, rise, of_core, core_here, present_here}
-
-same_some : (x y : Record) → Some x ≡ Some y → x ≡ y
-same_some x y e = cc
 
 -- what waits, where references were entered
 abbrev pub waits : KeepView → List ℕ → KeepView
@@ -49,12 +47,8 @@ all_at P [] all x c = absurd c
 all_at P (y ∷ xs) all x (inl e) = subst P e all.0
 all_at P (y ∷ xs) all x (inr c) = all_at P xs all.1 x c
 
-all_of : (P : ℕ → Type 0) (xs : List ℕ) → ((x : ℕ) → In xs x → P x) → AllByRecursion P xs
-all_of P [] all = tt
-all_of P (x ∷ xs) all = (all x (inl refl), all_of P xs (λ y c. all y (inr c)))
-
 all_below : (n : ℕ) (refs : List ℕ) → ((at : ℕ) → In refs at → at < n) → are_below n refs ≡ true
-all_below n refs each = all_test (λ (at : ℕ). at < n) (λ (at : ℕ). nat_lt at n) (λ at less. grind (arith, nat_tests)) refs (all_of (λ (at : ℕ). at < n) refs each)
+all_below n refs each = all_test (λ (at : ℕ). at < n) (λ (at : ℕ). nat_lt at n) (λ at less. grind (arith, nat_tests)) refs (all_in (λ (at : ℕ). at < n) refs each)
 
 pub waits_below : (k : KeepView) → IsKeep k → (at : ℕ) → Contains k.waiting at → at < lowest k
 waits_below k keep at c = all_at (λ at. at < lowest k) k.waiting keep.below at (in_from k.waiting at c)
@@ -67,7 +61,7 @@ stays_keep k w refs below keep le gains = record {
   high = keep.high;
   seen = keep.seen;
   waits = gains.rises keep.waits;
-  below = all_of (λ at. at < lowest k) w (λ at c. by at (gains.only at (in_contains w at c)));
+  below = all_in (λ at. at < lowest k) w (λ at c. by at (gains.only at (in_contains w at c)));
   apart = keep.apart;
   first = keep.first;
 }
@@ -99,7 +93,7 @@ kept_keep k rest run keep through is some inside rises = record {
   high = keep.high;
   seen = keep.seen;
   waits = rises;
-  below = all_of (λ at. at < run.at) rest (λ at c. push_below rest run.at at (up (rest ++ run.at ∷ []) (subst IsStrictlyIncreasing is keep.waits)) c);
+  below = all_in (λ at. at < run.at) rest (λ at c. push_below rest run.at at (up (rest ++ run.at ∷ []) (subst IsStrictlyIncreasing is keep.waits)) c);
   apart = (some, inside, keep.apart);
   first = λ less. absurd (omega (arith, less, through));
 }
@@ -156,7 +150,7 @@ module _ (image : Image) (records : Records) (k : KeepView) (whole : AreRecords 
   runs_on : (from to : ℕ) (r : Record) → RunsTo (present records) from to → from < to → present records from ≡ Some r → RunsTo (present records) (from + length (spelling r)) to
   runs_on from to r at_the_end less is = absurd (omega (arith, less))
   runs_on from to r (behind other there rest) less is =
-      let same : other ≡ r = same_some other r (sym there ∙ is) in
+      let same : other ≡ r = same_Some other r (sym there ∙ is) in
       subst (λ (x : Record). RunsTo (present records) (from + length (spelling x)) to) same rest
 
   pub passed : (r : Record) → IsKeep k → k.next < k.space.layout.end → present records k.next ≡ Some r → ((at : ℕ) → Contains (refs_of r) at → at < k.horizon → IsFound k at) → IsKeeping records (behind_next k r)
@@ -256,7 +250,7 @@ module _ (image : Image) (records : Records) (k : KeepView) (whole : AreRecords 
           let (x, there, same) = of_core image k.space k.horizon records whole q c in
           let place : x.0 ≡ run.at = ap (λ (c : CoreRecord). c.at) same ∙ sym e in
           let x_here = subst (λ (n : ℕ). present records n ≡ Some x.1) place (has_present records x (rise image k.space k.horizon records whole) there) in
-          let rec : x.1 ≡ r = same_some x.1 r (sym x_here ∙ here) in
+          let rec : x.1 ≡ r = same_Some x.1 r (sym x_here ∙ here) in
           found at (subst (λ (s : Record). Contains (refs_of s) at) rec (subst (λ (c : CoreRecord). Contains c.refs at) (sym same) ref))
       by q at c (inr d) ref = keeping.closed q at c (in_contains (offsets k.kept) q.at d) ref
 

@@ -3,13 +3,13 @@
 --     joined_rows      those that touch joined, they are in order
 use Rattle.std.proofs.Common.{ℕ, suc, ◌+◌, ◌^◌, ◌≤◌, List, [], ◌∷◌, ◌++◌, subst, Bool, true, false, cond, length, reverse, arith}
 use Rattle.std.specs.Prelude.{◌==◌}
-use Rattle.std.specs.List.{AllByRecursion}
 use Rattle.std.proofs.lemmas.Grind.{reverse_onto}
 use Rattle.std.proofs.lemmas.List.Sums.{sum_by-cons}
 use Rattle.ip_image.specs.declared.run.Run.{Run}
 use Rattle.ip_image.specs.Virtual.{total, placed, RowsFitFrom}
 use Rattle.ip_image.specs.Collection.{in_front}
 use Rattle.ip_image.proofs.KeptRuns.{front_rows}
+use Rattle.ip_space.specs.SpaceView.{AreBelow}
 use Rattle.ip_keep.specs.Runs.{joined, least, AreApart, FitRuns}
 
 pub apart_total : (h : ℕ) (runs : List Run) → AreApart h runs → least h runs + total runs ≤ h
@@ -26,14 +26,11 @@ apart_few h (run ∷ runs) (some, low, apart) =
     let c = sum_by-cons (λ (run : Run). run.length) run runs in
     omega (arith, t, c, some)
 
-abbrev pub EndBy : ℕ → List Run → Type 0
-EndBy h runs = AllByRecursion (λ (run : Run). run.at + run.length ≤ h) runs
-
-pub apart_inside : (h : ℕ) (runs : List Run) → AreApart h runs → EndBy h runs
+pub apart_inside : (h : ℕ) (runs : List Run) → AreApart h runs → AreBelow h runs
 apart_inside h [] apart = tt
 apart_inside h (run ∷ runs) (some, low, apart) = (let t = apart_total h runs apart in omega (arith, t, low), apart_inside h runs apart)
 
-pub ends_fit : (h : ℕ) (runs : List Run) → h ≤ 2 ^ 62 → EndBy h runs → FitRuns runs
+pub ends_fit : (h : ℕ) (runs : List Run) → h ≤ 2 ^ 62 → AreBelow h runs → FitRuns runs
 ends_fit h [] le all = tt
 ends_fit h (run ∷ runs) le all = (let a = all.0 in omega (arith, a, le), ends_fit h runs le all.1)
 
@@ -59,10 +56,10 @@ joined_few (run ∷ runs) = let f = front_few run.at run.length (joined runs) in
 
 -- ---- in the other order
 
-all_push : (h : ℕ) (runs : List Run) (run : Run) → EndBy h (runs ++ run ∷ []) → EndBy h runs × (run.at + run.length ≤ h)
+all_push : (h : ℕ) (runs : List Run) (run : Run) → AreBelow h (runs ++ run ∷ []) → AreBelow h runs × (run.at + run.length ≤ h)
 all_push h [] run all = (tt, all.0)
 all_push h (r ∷ runs) run all = let (front, last) = all_push h runs run all.1 in ((all.0, front), last)
 
-pub ends_back : (h : ℕ) (runs : List Run) → EndBy h (reverse runs) → EndBy h runs
+pub ends_back : (h : ℕ) (runs : List Run) → AreBelow h (reverse runs) → AreBelow h runs
 ends_back h [] all = tt
-ends_back h (run ∷ runs) all = let (front, last) = all_push h (reverse runs) run (subst (EndBy h) (reverse_onto runs run []) all) in (last, ends_back h runs front)
+ends_back h (run ∷ runs) all = let (front, last) = all_push h (reverse runs) run (subst (AreBelow h) (reverse_onto runs run []) all) in (last, ends_back h runs front)

@@ -1,5 +1,5 @@
 -- The records that a space has in an image.
---     in_space      each is read at its offset.      along_end      from the horizon on they lie end to end
+--     in_space      each is read at its offset.      border      from the horizon on they lie end to end
 --     of_core, core_here      records and what the core sees of them
 use Rattle.std.proofs.Common.{◌≡◌, ◌⊎◌, inl, inr, ℕ, ◌+◌, ◌-◌, ◌<◌, List, [], ◌∷◌, ◌++◌, refl, sym, ap, subst, ◌∙◌, length, map, arith, append_assoc, append-nil}
 use Rattle.std.specs.Prelude.{Contains, Option, Some, None, IsSome}

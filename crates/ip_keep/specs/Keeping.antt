@@ -4,9 +4,10 @@
 --     IsKeeping records k      what it has found of these records
 --     SameWork old new      it goes on in the same space, at the same horizon.      LooksUpTo most old new result      how many records were looked at
 --     KeepsAll      law: then what was kept is the least set.      FewLooks      law: how many looks there are at most
-use Rattle.std.specs.Prelude.{◌≡◌, ◌⊎◌, ℕ, ◌+◌, ◌<◌, ◌≤◌, ◌^◌, ◌&&◌, List, [], length, map, count_by, Bool, Contains, Some, Result, Ok, Err, nat_le, nat_lt}
+use Rattle.std.specs.Prelude.{◌≡◌, ◌⊎◌, ℕ, ◌+◌, ◌<◌, ◌≤◌, ◌&&◌, List, [], length, map, count_by, Bool, Contains, Some, Result, Ok, Err, nat_le, nat_lt}
 use Rattle.std.specs.List.{AllByRecursion}
 use Rattle.std.specs.List.Sorted.{IsStrictlyIncreasing}
+use Rattle.ip_base.specs.declared.limit.TheConstants.{OFFSET_MAX}
 use Rattle.ip_ground.specs.Contents.{Image}
 use Rattle.ip_spec.specs.declared.record.Record.{Record}
 use Rattle.ip_spec.specs.declared.event.CoreRecord.{CoreRecord}
@@ -25,7 +26,7 @@ abbrev pub lowest : KeepView → ℕ
 lowest k = least k.horizon k.kept
 
 pub record IsKeep (k : KeepView) : Type 0 where
-  pub ends : k.space.layout.end ≤ 2 ^ 62
+  pub ends : k.space.layout.end ≤ OFFSET_MAX
   pub low : k.horizon ≤ k.next
   pub high : k.next ≤ k.space.layout.end
   pub seen : k.horizon + k.seen ≤ k.next

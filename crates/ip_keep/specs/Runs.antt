@@ -2,10 +2,11 @@
 --     joined kept      runs that touch are one.      AreApart h kept      each has some bytes and ends at or below the next, the last one at or below h
 --     least h kept      where they begin, h where there are none
 --     left_of runs      what is still to be joined.      GivesRun old result new      the first of the joined runs is given, or none is left
-use Rattle.std.specs.Prelude.{◌≡◌, ℕ, ◌+◌, ◌<◌, ◌≤◌, ◌^◌, List, [], ◌∷◌, reverse, Option, Some, None}
-use Rattle.std.specs.List.{AllByRecursion}
+use Rattle.std.specs.Prelude.{◌≡◌, ℕ, ◌+◌, ◌<◌, ◌≤◌, List, [], ◌∷◌, reverse, Option, Some, None}
+use Rattle.ip_base.specs.declared.limit.TheConstants.{OFFSET_MAX}
 use Rattle.ip_image.specs.declared.run.Run.{Run}
 use Rattle.ip_image.specs.Collection.{in_front}
+use Rattle.ip_space.specs.SpaceView.{AreBelow}
 use Rattle.ip_keep.specs.declared.runs.Runs.{Runs}
 
 abbrev pub joined : List Run → List Run
@@ -22,7 +23,7 @@ AreApart h (run ∷ kept) = (0 < run.length) × (run.at + run.length ≤ least h
 
 -- each ends at an offset
 abbrev pub FitRuns : List Run → Type 0
-FitRuns runs = AllByRecursion (λ run. run.at + run.length ≤ 2 ^ 62) runs
+FitRuns runs = AreBelow OFFSET_MAX runs
 
 -- the slice has the least run last
 abbrev pub left_of : Runs → List Run

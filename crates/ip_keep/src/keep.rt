@@ -1,12 +1,12 @@
 // The search for the records that a collection keeps.
-ghost use Rattle.std.specs.Prelude.{◌≡◌, ◌↔◌, ◌+◌, ◌≤◌, ◌<◌, ◌^◌, [], ◌∷◌, ◌++◌, ℕ, List, Contains, reverse, length, IsTrue, OnOk, OnErr};
-ghost use Rattle.std.specs.List.{AllByRecursion};
+ghost use Rattle.std.specs.Prelude.{◌≡◌, ◌↔◌, ◌+◌, ◌*◌, ◌≤◌, ◌<◌, [], ◌∷◌, ◌++◌, ℕ, List, Contains, reverse, length, IsTrue, OnOk, OnErr};
+ghost use Rattle.ip_base.specs.declared.limit.TheConstants.{OFFSET_MAX};
 ghost use Rattle.ip_ground.specs.Contents.{Image};
 ghost use Rattle.ip_ground.specs.Counts.{Counts};
 ghost use Rattle.ip_ground.specs.Told.{NoFile, ChangesOnly};
 ghost use Rattle.ip_spec.specs.TreeAt.{Records};
 ghost use Rattle.ip_image.specs.Virtual.{RowsFit, placed, total};
-ghost use Rattle.ip_space.specs.SpaceView.{IsReadable};
+ghost use Rattle.ip_space.specs.SpaceView.{AreBelow, IsReadable};
 ghost use Rattle.ip_space.specs.Scanning.{IsCurrent};
 ghost use Rattle.ip_keep.specs.Faults.{ground_keep, IsUndamaged};
 ghost use Rattle.ip_keep.specs.Going.{Goes, Blameless, IsAlong, LooksOne, LooksOn};
@@ -53,7 +53,7 @@ impl Keep {
     /// Nothing was looked at, of the records of a space up to its end. `horizon` is the offset of a record.
     pub fn new(alloc: Global, space: Space, horizon: u64) -> Keep
         requires inside { horizon ≤ space.layout.end }
-        requires ends { space.layout.end ≤ 2 ^ 62 }
+        requires ends { space.layout.end ≤ OFFSET_MAX }
         ensures view { result ≡ record { space = space; horizon = horizon; next = horizon; seen = 0; waiting = []; kept = [] } }
         ensures keep { IsKeep result }
         ensures keeping { (image : Image) (records : Records) → AreRecords image space horizon records → IsKeeping records result }
@@ -80,7 +80,7 @@ impl Keep {
     pub fn looked(&self) -> u64
         requires { IsKeep self.now }
         ensures looked { result ≡ looked_in self.now }
-        ensures most { result ≤ 2 ^ 63 }
+        ensures most { result ≤ 2 * OFFSET_MAX }
     {
         self.seen + self.kept.len() as u64
     }
@@ -104,9 +104,9 @@ impl Keep {
     pub fn kept(&self) -> &[Run]
         requires { IsKeep self.now }
         ensures kept { reverse result.now ≡ self.now.kept }
-        ensures few { length result.now ≤ 2 ^ 62 }
+        ensures few { length result.now ≤ OFFSET_MAX }
         ensures total { total self.now.kept ≤ self.now.horizon }
-        ensures inside { AllByRecursion (λ run. run.at + run.length ≤ self.now.horizon) result.now }
+        ensures inside { AreBelow self.now.horizon result.now }
     {
         &self.kept
     }
@@ -117,8 +117,8 @@ impl Keep {
         ensures runs { left_of result ≡ self.now.kept }
         ensures fit { FitRuns (left_of result) }
         ensures rows { RowsFit self.now.horizon (placed 0 (joined self.now.kept)) }
-        ensures total { total self.now.kept ≤ 2 ^ 62 }
-        ensures few { length (joined self.now.kept) ≤ 2 ^ 62 }
+        ensures total { total self.now.kept ≤ OFFSET_MAX }
+        ensures few { length (joined self.now.kept) ≤ OFFSET_MAX }
     {
         Runs::of(&self.kept)
     }

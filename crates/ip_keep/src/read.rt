@@ -1,6 +1,7 @@
 // Records that are read.
-ghost use Rattle.std.specs.Prelude.{◌≡◌, ◌+◌, ◌^◌, ◌≤◌, ◌<◌, Some, IsTrue, IfOk, IsErrOf, length, true, false, nat_lt, ℕ};
+ghost use Rattle.std.specs.Prelude.{◌≡◌, ◌+◌, ◌≤◌, ◌<◌, Some, IsTrue, IfOk, IsErrOf, length, true, false, nat_lt, ℕ};
 ghost use Rattle.std.specs.List.{list_all};
+ghost use Rattle.ip_base.specs.declared.limit.TheConstants.{OFFSET_MAX};
 ghost use Rattle.ip_ground.specs.Counts.{Counts};
 ghost use Rattle.ip_ground.specs.Told.{NoFile, ChangesOnly};
 ghost use Rattle.ip_spec.specs.Record.{spelling};
@@ -91,7 +92,7 @@ pub(crate) fn record_below<G: Ground>(
     at: u64,
     below: u64,
 ) -> Result<(Record, u64), KeepFault>
-    requires { space.old.layout.end ≤ 2 ^ 62 }
+    requires { space.old.layout.end ≤ OFFSET_MAX }
     ensures same { space.new ≡ space.old }
     ensures only { IsTrue G.tells → ChangesOnly NoFile (G.told outside.old) (G.told outside.new) }
     ensures found { IsTrue G.tells → IsReadable (G.told outside.old) space.old → IfOk result (λ found. records_of (G.told outside.old) space.old at ≡ Some found.0) }

@@ -1,11 +1,12 @@
 -- What is told while the prefix is written.
---     not_foreign, not_loose, free_on      of an attempt that was never lent.      readable_on, ready_on, bytes_stay, bytes_on      while only the attempt's files change
+--     not_foreign, not_loose, free_on      of an attempt that was never lent.      ready_on, bytes_stay, bytes_on      while only the attempt's files change
 --     of_prefix, of_none      changes of fewer files.      reaches_end, end_written      a write at the end of a file
 --     now_held, piece_copied      one piece.      run_on, run_place, run_missing      one piece more of a run
 --     begun, all_copied, runs_on, runs_missing      one run more, from the empty prefix on
---     inside_at, total_next, total_front      where runs end, and what they add up to
-use Rattle.std.proofs.Common.{◌≡◌, ◌≢◌, ℕ, zero, suc, ◌+◌, ◌<◌, ◌≤◌, List, [], ◌∷◌, ◌++◌, length, take, drop, get_or, refl, sym, ◌∙◌, ap, subst, arith, length-append, append_assoc, append-nil, Option}
+--     total_next      what one run more adds up to
+use Rattle.std.proofs.Common.{◌≡◌, ◌≢◌, ℕ, suc, ◌+◌, ◌<◌, ◌≤◌, List, [], ◌++◌, length, take, drop, get_or, refl, sym, ◌∙◌, ap, subst, arith, length-append, append_assoc, append-nil, Option}
 use Rattle.std.specs.Prelude.{Some, None, slice_get, Result, Ok}
+use Rattle.std.proofs.Math.Seq.{take-suc}
 use Rattle.std.proofs.lemmas.List.{take_all, drop_all}
 use Rattle.ip_ground.specs.declared.names.FileName.{FileName}
 use Rattle.ip_ground.specs.declared.names.FileName.TheVariants.{Control, Chunk, Prefix, Mapping, Done}
@@ -17,8 +18,7 @@ use Rattle.ip_ground.specs.Calls.{Writes}
 use Rattle.ip_ground.proofs.Spans.{lending_now, only_more}
 use Rattle.ip_spec.specs.Path.{Bytes}
 use Rattle.ip_image.specs.declared.run.Run.{Run}
-use Rattle.std.specs.List.{AllByRecursion}
-use Rattle.std.proofs.lemmas.List.Sums.{sum_by-cons}
+use Rattle.std.proofs.lemmas.List.Sums.{sum_by_push}
 use Rattle.ip_image.specs.Virtual.{total}
 use Rattle.ip_image.specs.Stored.{bytes_from}
 use Rattle.ip_space.specs.SpaceView.{SpaceView, IsReadable, byte_at}
@@ -153,28 +153,7 @@ module _ (attempt : ℕ) (space : SpaceView) (a m : Told) (ready : IsReady attem
 
 -- ---- sums of runs
 
-pub inside_at : (end : ℕ) (runs : List Run) (i : ℕ) (d : Run) → i < length runs → AllByRecursion (λ (run : Run). run.at + run.length ≤ end) runs → (get_or runs i d).at + (get_or runs i d).length ≤ end
-inside_at end [] i d below inside = absurd (omega (arith, below))
-inside_at end (run ∷ runs) zero d below inside = inside.0
-inside_at end (run ∷ runs) (suc i) d below inside = inside_at end runs i d (omega (arith, below)) inside.1
-
 pub total_next : (runs : List Run) (i : ℕ) (d : Run) → i < length runs → total (take (i + 1) runs) ≡ total (take i runs) + (get_or runs i d).length
-total_next runs i d below = ap (λ (k : ℕ). total (take k runs)) (let e : i + 1 ≡ suc i = omega arith in e) ∙ next runs i below
-  where
-    next : (runs : List Run) (i : ℕ) → i < length runs → total (take (suc i) runs) ≡ total (take i runs) + (get_or runs i d).length
-    next [] i below = absurd (omega (arith, below))
-    next (run ∷ runs) zero below = let s = sum_by-cons (λ (run : Run). run.length) run [] in let z : total [] ≡ 0 = refl in omega (arith, s, z)
-    next (run ∷ runs) (suc i) below =
-        let s = sum_by-cons (λ (run : Run). run.length) run (take (suc i) runs) in
-        let t = sum_by-cons (λ (run : Run). run.length) run (take i runs) in
-        let deep = next runs i (omega (arith, below)) in
-        omega (arith, s, t, deep)
-
-pub total_front : (runs : List Run) (i : ℕ) → total (take i runs) ≤ total runs
-total_front [] i = let z : total (take i []) ≡ 0 = (elim i as (λ i. total (take i []) ≡ 0) [ zero ↦ refl | suc i ↦ refl ]) in omega (arith, z)
-total_front (run ∷ runs) zero = omega arith
-total_front (run ∷ runs) (suc i) =
-    let s = sum_by-cons (λ (run : Run). run.length) run (take i runs) in
-    let t = sum_by-cons (λ (run : Run). run.length) run runs in
-    let deep = total_front runs i in
-    omega (arith, s, t, deep)
+total_next runs i d below =
+    let one : i + 1 ≡ suc i = omega arith in
+    ap total (ap (λ (k : ℕ). take k runs) one ∙ take-suc runs i d below) ∙ sum_by_push (λ (run : Run). run.length) (take i runs) (get_or runs i d)

@@ -2,8 +2,9 @@
 --     nothing_on      no attempt was ever lent.      generation_on, records_on, whole_on      what the job reads, while only the attempt's files change
 --     readable_whole      where none was lent.      records_later      while no file changes.      for_job      the search is the job's
 --     lie_space, lie_before, readable_before      what it begins with.      found      what it found
-use Rattle.std.proofs.Common.{◌≡◌, ◌≢◌, ℕ, suc, ◌^◌, ◌<◌, ◌≤◌, List, [], length, map, sym, ◌∙◌, ap, subst, arith, Option}
+use Rattle.std.proofs.Common.{◌≡◌, ◌≢◌, ℕ, suc, ◌*◌, ◌<◌, List, [], length, map, sym, ◌∙◌, ap, subst, arith, Option}
 use Rattle.std.specs.Prelude.{Ok, IsSomeAnd}
+use Rattle.ip_base.specs.declared.limit.TheConstants.{OFFSET_MAX}
 use Rattle.ip_ground.specs.declared.names.FileName.TheVariants.{Prefix, Mapping}
 use Rattle.ip_ground.specs.Contents.{Content}
 use Rattle.ip_ground.specs.Custody.{Custody, IsOfAttempt}
@@ -21,7 +22,7 @@ use Rattle.ip_space.specs.SpaceView.{SpaceView, IsReadable, stretches_of}
 use Rattle.ip_keep.specs.KeepView.{KeepView}
 use Rattle.ip_keep.specs.Keeping.{IsKeep, IsKeeping, SameWork, LooksUpTo, looked_in}
 use Rattle.ip_keep.specs.Whole.{AreRecords}
-use Rattle.ip_keep.proofs.RunsApart.{apart_total, apart_few}
+use Rattle.ip_keep.proofs.Bounds.{most_looks}
 use Rattle.ip_worker.specs.Steps.{IsFor, IsFound}
 use Rattle.ip_worker.specs.Whole.{AreWhole, layout_of_job, space_of_job}
 use Rattle.ip_worker.specs.Working.{NothingLent}
@@ -108,21 +109,12 @@ module _ (a b : Told) (job : Job) (nothing : NothingLent a) (records : Records) 
   pub readable_before : IsReadable b space → IsReadable b old.space
   readable_before readable = subst (λ (k : KeepView). IsReadable b k.space) (sym made) readable
 
-  few_looked : (new : KeepView) → IsKeep new → looked_in new ≤ 2 ^ 63
-  few_looked new keep =
-      let t = apart_total new.horizon new.kept keep.apart in
-      let f = apart_few new.horizon new.kept keep.apart in
-      let ends = keep.ends in
-      let high = keep.high in
-      let seen = keep.seen in
-      omega (arith, t, f, ends, high, seen)
-
   none_looked : looked_in old ≡ 0
   none_looked = ap looked_in made
 
-  pub found : (c : Told) (next : ChangesOnly NoFile b c) → IsReadable b space → (new : KeepView) (most left : ℕ) → 2 ^ 63 < most → IsKeep new → SameWork old new → LooksUpTo most old new (Ok left) → IsKeeping records new → IsFound records c.held new
+  pub found : (c : Told) (next : ChangesOnly NoFile b c) → IsReadable b space → (new : KeepView) (most left : ℕ) → 2 * OFFSET_MAX < most → IsKeep new → SameWork old new → LooksUpTo most old new (Ok left) → IsKeeping records new → IsFound records c.held new
   found c next readable new most left many keep work looks keeping =
-      let few = few_looked new keep in
+      let few = most_looks new keep in
       let none = none_looked in
       let (count, _, through) = looks in
       let lie = records_later b c next old.space old.horizon records (readable_before readable) lie_before in

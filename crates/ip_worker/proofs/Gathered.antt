@@ -1,6 +1,6 @@
 -- Bytes that stand, as a list.
 --     from_more, more_size      more bytes behind those that are there.      from_stood      bytes that stand are there
---     held_gap      a byte that is missing.      held_part, held_stood, held_at      a part, bytes that stand, and a run of several
+--     held_part, held_stood, held_at      a part, bytes that stand, and a run of several
 --     gathered_next      one run more.      kept_gathered, kept_held      the runs of records that stand
 use Rattle.std.proofs.Common.{◌≡◌, ◌≢◌, inl, ℕ, zero, suc, ◌+◌, ◌<◌, ◌≤◌, List, [], ◌∷◌, ◌++◌, length, take, get_or, refl, sym, ◌∙◌, ap, subst, arith, length-append, append_assoc, append-nil}
 use Rattle.std.specs.Prelude.{Option, Some, None, slice_get}
@@ -44,9 +44,6 @@ module _ (f : ℕ → Option ℕ) where
   -- where all that is asked for was read, these are the bytes
   pub from_stood : (at n : ℕ) (bytes : Bytes) → Stands f at bytes → length bytes ≡ n → bytes_from f at n ≡ bytes
   from_stood at n bytes stands size = all_from f bytes at n stands (omega (arith, size)) (inl size)
-
-  pub held_gap : (at n k : ℕ) → k < n → f (at + k) ≡ None → IsHeld f at n → ⊥
-  held_gap at n k below gap held = held k below gap
 
   pub held_part : (at n m k : ℕ) → m + k ≤ n → IsHeld f at n → IsHeld f (at + m) k
   held_part at n m k le held i below gap =

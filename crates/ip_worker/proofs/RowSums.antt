@@ -1,12 +1,12 @@
 -- Runs whose rows fit below a horizon.
 --     rows_inside      each ends at or below it.      rows_sum      what they add up to
 use Rattle.std.proofs.Common.{ℕ, ◌+◌, ◌≤◌, List, [], ◌∷◌, arith}
-use Rattle.std.specs.List.{AllByRecursion}
 use Rattle.std.proofs.lemmas.List.Sums.{sum_by-cons}
 use Rattle.ip_image.specs.declared.run.Run.{Run}
 use Rattle.ip_image.specs.Virtual.{total, placed, RowsFitFrom}
+use Rattle.ip_space.specs.SpaceView.{AreBelow}
 
-pub rows_inside : (h from place end : ℕ) (runs : List Run) → h ≤ end → RowsFitFrom h from place (placed place runs) → AllByRecursion (λ (run : Run). run.at + run.length ≤ end) runs
+pub rows_inside : (h from place end : ℕ) (runs : List Run) → h ≤ end → RowsFitFrom h from place (placed place runs) → AreBelow end runs
 rows_inside h from place end [] le fits = tt
 rows_inside h from place end (run ∷ runs) le (one, rest) = (let b = one.below in omega (arith, b, le), rows_inside h (run.at + run.length + 1) (place + run.length) end runs le rest)
 

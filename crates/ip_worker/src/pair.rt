@@ -1,13 +1,13 @@
 // The pair of an attempt: the prefix, and the mapping that says where in it an offset lies.
-ghost use Rattle.std.specs.Prelude.{◌≡◌, [], ◌+◌, ◌<◌, ◌≤◌, ◌^◌, length, IsTrue, IfOk, OnOk, IsErrOf, Some, None};
-ghost use Rattle.std.specs.List.{AllByRecursion};
+ghost use Rattle.std.specs.Prelude.{◌≡◌, [], ◌+◌, ◌<◌, ◌≤◌, length, IsTrue, IfOk, OnOk, IsErrOf, Some, None};
+ghost use Rattle.ip_base.specs.declared.limit.TheConstants.{OFFSET_MAX};
 ghost use Rattle.ip_ground.specs.declared.names.FileName.TheVariants.{Prefix, Mapping};
 ghost use Rattle.ip_ground.specs.Counts.{Counts as CountsBy};
 ghost use Rattle.ip_ground.specs.Told.{Only, ChangesOnly};
 ghost use Rattle.ip_spec.specs.Path.{Bytes};
 ghost use Rattle.ip_spawn.specs.Jobs.{IsValid as IsValidJob};
 ghost use Rattle.ip_image.specs.Virtual.{RowsFit, placed, total, mapping_bytes};
-ghost use Rattle.ip_space.specs.SpaceView.{byte_at};
+ghost use Rattle.ip_space.specs.SpaceView.{AreBelow, byte_at};
 ghost use Rattle.ip_keep.specs.Runs.{joined};
 ghost use Rattle.ip_worker.specs.Faults.{ground_work};
 ghost use Rattle.ip_worker.specs.declared.fault.WorkFault.TheVariants as WorkFault;
@@ -62,9 +62,9 @@ fn write_files<G: Ground>(
     space: &Space,
     runs: &[Run],
 ) -> Result<u64, WorkFault>
-    requires ends { space.now.layout.end ≤ 2 ^ 62 }
-    requires inside { AllByRecursion (λ run. run.at + run.length ≤ space.now.layout.end) runs.now }
-    requires room { total runs.now ≤ 2 ^ 62 }
+    requires ends { space.now.layout.end ≤ OFFSET_MAX }
+    requires inside { AreBelow space.now.layout.end runs.now }
+    requires room { total runs.now ≤ OFFSET_MAX }
     requires rows { RowsFit job.now.horizon (placed 0 runs.now) }
     ensures total { IfOk result (λ n. n ≡ total runs.now) }
     ensures writes { IsTrue G.tells → IsReady job.now.attempt space.now (G.told outside.old) →
@@ -114,9 +114,9 @@ fn write_prefix<G: Ground>(
     space: &Space,
     runs: &[Run],
 ) -> Result<u64, WorkFault>
-    requires ends { space.now.layout.end ≤ 2 ^ 62 }
-    requires inside { AllByRecursion (λ run. run.at + run.length ≤ space.now.layout.end) runs.now }
-    requires room { total runs.now ≤ 2 ^ 62 }
+    requires ends { space.now.layout.end ≤ OFFSET_MAX }
+    requires inside { AreBelow space.now.layout.end runs.now }
+    requires room { total runs.now ≤ OFFSET_MAX }
     ensures total { IfOk result (λ n. n ≡ total runs.now) }
     ensures copies { IsTrue G.tells → IsReady attempt space.now (G.told outside.old) → (G.told outside.old).held (Prefix attempt) ≡ None →
         CopiesRuns (byte_at (G.told outside.old) space.now) attempt runs.now result (G.told outside.new) }
@@ -130,7 +130,7 @@ fn write_prefix<G: Ground>(
 
 // The bytes of the runs together.
 fn total_of(runs: &[Run]) -> u64
-    requires { total runs.now ≤ 2 ^ 62 }
+    requires { total runs.now ≤ OFFSET_MAX }
     ensures { result ≡ total runs.now }
 {
     let mut sum = 0;
@@ -165,9 +165,9 @@ fn copy_runs<G: Ground>(
     runs: &[Run],
     buffer: &mut [u8],
 ) -> Result<u64, WorkFault>
-    requires ends { space.now.layout.end ≤ 2 ^ 62 }
-    requires inside { AllByRecursion (λ run. run.at + run.length ≤ space.now.layout.end) runs.now }
-    requires room { total runs.now ≤ 2 ^ 62 }
+    requires ends { space.now.layout.end ≤ OFFSET_MAX }
+    requires inside { AreBelow space.now.layout.end runs.now }
+    requires room { total runs.now ≤ OFFSET_MAX }
     requires buffer { 0 < length buffer.old }
     ensures total { IfOk result (λ n. n ≡ total runs.now) }
     ensures copies { IsTrue G.tells → IsReady attempt space.now (G.told outside.old) → (G.told outside.old).held (Prefix attempt) ≡ Some [] →
@@ -195,9 +195,9 @@ fn copy_run<G: Ground>(
     place: u64,
     buffer: &mut [u8],
 ) -> Result<(), WorkFault>
-    requires ends { space.now.layout.end ≤ 2 ^ 62 }
+    requires ends { space.now.layout.end ≤ OFFSET_MAX }
     requires inside { run.now.at + run.now.length ≤ space.now.layout.end }
-    requires room { place + run.now.length ≤ 2 ^ 62 }
+    requires room { place + run.now.length ≤ OFFSET_MAX }
     requires buffer { 0 < length buffer.old }
     ensures copies { IsTrue G.tells → IsReady attempt space.now (G.told outside.old) → (before : Bytes) → (G.told outside.old).held (Prefix attempt) ≡ Some before →
         length before ≡ place → Copies (byte_at (G.told outside.old) space.now) attempt run.now.at run.now.length before result (G.told outside.new) }

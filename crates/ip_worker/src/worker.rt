@@ -18,8 +18,9 @@ use std::alloc::Global;
 /// What a collection has kept.
 #[derive(Clone, Copy, Debug, PartialEq, Eq)]
 pub struct Counts {
+    /// The records that are kept.
     pub records: u64,
-    /// Of the prefix.
+    /// The bytes of the prefix.
     pub bytes: u64,
     /// The rows of the mapping.
     pub runs: u64,

@@ -1,4 +1,5 @@
-use Rattle.std.proofs.Common.{◌^◌, arith, drop, reverse}
+use Rattle.std.proofs.Common.{arith, drop, reverse}
+use Rattle.ip_base.specs.declared.limit.TheConstants.{OFFSET_MAX}
 use Rattle.ip_check.proofs.Linked.{first_behind, next_behind, behind_length, one_stretch, stretch_more, stretch_ends}
 use Rattle.ip_check.proofs.prefix.stretch_from.Goals as goal
 
@@ -9,7 +10,7 @@ loop-stretch-init c =
 
 pub overflow_add-stretch : goal.overflow_add-stretch
 overflow_add-stretch c =
-    let ends = stretch_ends (2 ^ 62) c.args.kept.now c.args.compared c.args.most c.loop-stretch.stretch c.requires.fit c.loop-stretch.invariant in
+    let ends = stretch_ends OFFSET_MAX c.args.kept.now c.args.compared c.args.most c.loop-stretch.stretch c.requires.fit c.loop-stretch.invariant in
     omega (arith, ends)
 
 pub loop-stretch-preserved : goal.loop-stretch-preserved

@@ -1,8 +1,6 @@
-use Rattle.std.proofs.Common.{◌≡◌, ◌+◌, ◌≤◌, List, ap, sym, subst, arith}
-use Rattle.std.specs.List.{AllByRecursion}
-use Rattle.ip_image.specs.declared.run.Run.{Run}
+use Rattle.std.proofs.Common.{◌≡◌, ap, sym, subst, arith}
 use Rattle.ip_image.specs.Virtual.{total}
-use Rattle.ip_space.specs.SpaceView.{SpaceView}
+use Rattle.ip_space.specs.SpaceView.{SpaceView, AreBelow}
 use Rattle.ip_keep.specs.Runs.{joined}
 use Rattle.ip_worker.proofs.RowSums.{rows_inside, rows_sum}
 use Rattle.ip_worker.proofs.pair.write_pair.Goals as goal
@@ -15,7 +13,7 @@ write_files-requires-clause-inside g c =
     let same = ap (λ (s : SpaceView). s.layout.end) c.space.ensures in
     let low = c.requires.keep.keep.low in
     let high = c.requires.keep.keep.high in
-    subst (λ (l : List Run). AllByRecursion (λ (run : Run). run.at + run.length ≤ end) l) (sym is) (rows_inside k.horizon 0 0 end (joined k.kept) (omega (arith, same, low, high)) c.in_ok-runs.ensures.rows)
+    subst (AreBelow end) (sym is) (rows_inside k.horizon 0 0 end (joined k.kept) (omega (arith, same, low, high)) c.in_ok-runs.ensures.rows)
 
 pub write_files-requires-clause-room : goal.write_files-requires-clause-room
 write_files-requires-clause-room g c =

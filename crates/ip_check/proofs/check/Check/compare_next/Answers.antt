@@ -1,14 +1,16 @@
-use Rattle.std.proofs.Common.{◌≡◌, ℕ, ◌+◌, ◌≤◌, ◌^◌, List, sym, ap, subst, ◌∙◌, drop, arith, Option, Ok}
+use Rattle.std.proofs.Common.{◌≡◌, ℕ, ◌+◌, ◌≤◌, List, sym, ap, subst, ◌∙◌, drop, arith, Option, Ok}
+use Rattle.ip_base.specs.declared.limit.TheConstants.{OFFSET_MAX}
 use Rattle.ip_spec.specs.declared.reply.Difference.{Difference}
 use Rattle.ip_image.specs.declared.run.Run.{Run}
 use Rattle.ip_image.specs.Virtual.{Stands}
 use Rattle.ip_space.specs.SpaceView.{SpaceView, IsReadable, byte_at}
+use Rattle.ip_keep.proofs.RunsApart.{ends_fit}
 use Rattle.ip_check.specs.declared.check.Stage.{Stage}
 use Rattle.ip_check.specs.CheckView.{CheckView}
 use Rattle.ip_check.specs.Checking.{IsCheck, IsChecking}
 use Rattle.ip_check.specs.Going.{Goes, IsOver, KeepsTrue, found_of}
 use Rattle.ip_check.specs.Stretching.{IsStretch}
-use Rattle.ip_check.proofs.Linked.{end_higher, stretch_ends}
+use Rattle.ip_check.proofs.Linked.{stretch_ends}
 use Rattle.ip_check.proofs.Stages.{behind_stretch, goes_stretch, is_next, keeps_stretch, place_fits, undamaged_as, undone}
 use Rattle.ip_check.proofs.check.Check.compare_next.Goals as goal
 
@@ -19,7 +21,7 @@ stretch_from-stretch-requires-clause-fit g c =
     let low = check.keep.low in
     let high = check.keep.high in
     let ends = check.keep.ends in
-    end_higher v.keep.horizon (2 ^ 62) c.kept.result.now (omega (arith, low, high, ends)) c.kept.ensures.inside
+    ends_fit v.keep.horizon c.kept.result.now (omega (arith, low, high, ends)) c.kept.ensures.inside
 
 pub compare_stretch-requires-clause-inside : goal.compare_stretch-requires-clause-inside
 compare_stretch-requires-clause-inside g c =
@@ -55,7 +57,7 @@ overflow_add-place g c =
     let high = check.keep.high in
     let ends = check.keep.ends in
     let fits = place_fits v c.args.place c.args.most s check stage st in
-    let small : c.args.place + s.length ≤ 2 ^ 62 = omega (arith, low, high, ends, fits, c.kept.ensures.total) in
+    let small : c.args.place + s.length ≤ OFFSET_MAX = omega (arith, low, high, ends, fits, c.kept.ensures.total) in
     omega (arith, small)
 
 pub returns-in-Err-clause-keeps : goal.returns-in-Err-clause-keeps

@@ -1,6 +1,7 @@
 use Rattle.std.proofs.Common.{◌≡◌, rules, subst, sym, reverse, arith}
 use Rattle.ip_keep.specs.Runs.{FitRuns}
-use Rattle.ip_keep.proofs.RunsApart.{apart_total, apart_few, apart_inside, ends_fit, joined_rows, joined_few}
+use Rattle.ip_keep.proofs.Bounds.{most_bytes, most_runs}
+use Rattle.ip_keep.proofs.RunsApart.{apart_inside, ends_fit, joined_rows}
 use Rattle.ip_keep.proofs.keep.Keep.runs.Goals as goal
 
 pub returns-clause-fit : goal.returns-clause-fit
@@ -17,23 +18,7 @@ pub returns-clause-rows : goal.returns-clause-rows
 returns-clause-rows c = joined_rows c.args.self.now.horizon c.args.self.now.kept c.requires.apart
 
 pub returns-clause-total : goal.returns-clause-total
-returns-clause-total c =
-    let k = c.args.self.now in
-    let keep = c.requires in
-    let t = apart_total k.horizon k.kept keep.apart in
-    let a = keep.ends in
-    let b = keep.low in
-    let d = keep.high in
-    omega (arith, t, a, b, d)
+returns-clause-total c = most_bytes c.args.self.now c.requires
 
 pub returns-clause-few : goal.returns-clause-few
-returns-clause-few c =
-    let k = c.args.self.now in
-    let keep = c.requires in
-    let t = apart_total k.horizon k.kept keep.apart in
-    let f = apart_few k.horizon k.kept keep.apart in
-    let j = joined_few k.kept in
-    let a = keep.ends in
-    let b = keep.low in
-    let d = keep.high in
-    omega (arith, t, f, j, a, b, d)
+returns-clause-few c = most_runs c.args.self.now c.requires
