@@ -11,6 +11,7 @@ use Rattle.std.specs.FinMap.Entries.{find}
 use Rattle.ip_spec.specs.Path.{Step, bytes_cmp}
 use Rattle.ip_spec.specs.Shape.{Entries, deepest, part}
 use Rattle.ip_spec.specs.View.{leads}
+use Rattle.ip_spec.specs.declared.kind.TheConstants as kinds
 use Rattle.ip_spec.specs.declared.record.LeafEntry.{LeafEntry}
 use Rattle.ip_spec.specs.declared.record.Record.{Record}
 use Rattle.ip_shape.specs.Directory.{entries_in, root_of}
@@ -52,7 +53,7 @@ below_record records levels x s = option_map (λ y. entry.Stored y) (entry_below
 
 abbrev pub at_place : (ℕ → Option Record) → Option Place → Step → Option Entry
 at_place records None s = None
-at_place records (Some (place.Stored x)) s = cond (x.reference.kind == 1) None (below_record records deepest x s)
+at_place records (Some (place.Stored x)) s = cond (x.reference.kind == kinds.CONTENTS) None (below_record records deepest x s)
 at_place records (Some (place.Contents b)) s = None
 at_place records (Some (place.Directory d)) s = in_directory records d.now s
 

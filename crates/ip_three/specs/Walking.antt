@@ -20,6 +20,7 @@ use Rattle.ip_spec.specs.Path.{Bytes, Step, Path}
 use Rattle.ip_spec.specs.Step.{contents_limit}
 use Rattle.ip_spec.specs.Tree.{IsTree, subtree, is_empty}
 use Rattle.ip_spec.specs.View.{View, Part, is_nil}
+use Rattle.ip_spec.specs.declared.kind.TheConstants as kinds
 use Rattle.ip_spec.specs.declared.record.Record.{Record}
 use Rattle.ip_spec.specs.declared.record.Ref.{Ref}
 use Rattle.sha2.specs.Sha256.{sha256}
@@ -63,13 +64,13 @@ FoundDirectory records w p (Some n) = (has_directory w.map p ≡ true) × FindsI
 
 abbrev pub is_directory_at : Option Node → Bool
 is_directory_at None = false
-is_directory_at (Some (stored x)) = not (x.reference.kind == 1)
+is_directory_at (Some (stored x)) = not (x.reference.kind == kinds.CONTENTS)
 is_directory_at (Some (contents bytes)) = false
 is_directory_at (Some (directory root ns)) = true
 
 abbrev pub holds_at : Option Node → Bool
 holds_at None = false
-holds_at (Some (stored x)) = x.reference.kind == 1
+holds_at (Some (stored x)) = x.reference.kind == kinds.CONTENTS
 holds_at (Some (contents bytes)) = true
 holds_at (Some (directory root ns)) = false
 
@@ -98,7 +99,7 @@ pub record IsOneStored (v w : View) (p : Path) : Type 0 where
 
 pub record IsRecordOf (records : ℕ → Option Record) (r : Ref) (bytes : Bytes) : Type 0 where
   pub there : records r.at ≡ Some (Record.Contents bytes)
-  pub kind : r.kind ≡ 1
+  pub kind : r.kind ≡ kinds.CONTENTS
   pub name : r.name ≡ sha256 bytes
 
 abbrev pub HoldsContent : (ℕ → Option Record) → Option Bytes → Content → Type 0

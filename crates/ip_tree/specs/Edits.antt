@@ -11,6 +11,7 @@ use Rattle.std.specs.Prelude.{◌≡◌, ℕ, Bool, false, not, ◌&&◌, List, 
 use Rattle.std.specs.FinMap.Entries.{find}
 use Rattle.ip_base.specs.declared.limit.Limit.TheVariants.{Entries}
 use Rattle.ip_spec.specs.Path.{Step, Path, bytes_cmp}
+use Rattle.ip_spec.specs.declared.kind.TheConstants as kinds
 use Rattle.ip_spec.specs.declared.record.Record.{Record}
 use Rattle.ip_spec.specs.Step.{entries_limit}
 use Rattle.ip_spec.specs.Tree.{Tree, entries_of}
@@ -54,7 +55,7 @@ abbrev pub IsReadAt : List ℕ → shape.Part Stored → Type 0
 IsReadAt is root = (x : Stored) → unread_in is root ≡ Some (x, []) → ⊥
 
 abbrev pub IsOpen : Node → Type 0
-IsOpen (stored x) = x.reference.kind ≡ 1
+IsOpen (stored x) = x.reference.kind ≡ kinds.CONTENTS
 IsOpen (contents bytes) = Unit {0}
 IsOpen (directory root ns) = Unit {0}
 

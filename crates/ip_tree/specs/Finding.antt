@@ -7,6 +7,7 @@
 --     walk_to records p r      the reference to which a path leads below another, over any records.      IsWalkTo records r p found      it is found
 use Rattle.std.specs.Prelude.{◌≡◌, ◌==◌, ℕ, cond, [], ◌∷◌, ◌++◌, Option, Some, None, option_and_then, IsTrue, IsFalse}
 use Rattle.ip_spec.specs.Path.{Path}
+use Rattle.ip_spec.specs.declared.kind.TheConstants as kinds
 use Rattle.ip_spec.specs.declared.record.Record.{Record}
 use Rattle.ip_spec.specs.declared.record.Ref.{Ref}
 use Rattle.ip_spec.specs.Shape.{deepest}
@@ -66,7 +67,7 @@ walk_by below (Some x) = below x.reference
 
 abbrev pub walk_to : (ℕ → Option Record) → Path → Ref → Option Ref
 walk_to records [] r = Some r
-walk_to records (s ∷ p) r = cond (r.kind == 1) None (walk_by (walk_to records p) (entry_below records deepest r.at s))
+walk_to records (s ∷ p) r = cond (r.kind == kinds.CONTENTS) None (walk_by (walk_to records p) (entry_below records deepest r.at s))
 
 abbrev pub ref_of : Node → Option Ref
 ref_of (stored x) = Some x.reference

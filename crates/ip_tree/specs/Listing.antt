@@ -9,12 +9,13 @@ use Rattle.ip_spec.specs.Path.{Step, bytes_cmp}
 use Rattle.ip_spec.specs.Tree.{Tree, is_contents}
 use Rattle.ip_spec.specs.Shape.{Entries}
 use Rattle.ip_spec.specs.StoredParts.{entry_named}
+use Rattle.ip_spec.specs.declared.kind.TheConstants as kinds
 use Rattle.ip_spec.specs.declared.record.LeafEntry.{LeafEntry}
 use Rattle.ip_spec.specs.declared.tree.Item.{Item}
 use Rattle.ip_tree.specs.Node.{Node, Entry, stored, contents, directory}
 
 abbrev pub is_directory : Node → Bool
-is_directory (stored x) = x.reference.kind == 2
+is_directory (stored x) = x.reference.kind == kinds.DIRECTORY
 is_directory (contents bytes) = false
 is_directory (directory root ns) = true
 
@@ -32,7 +33,7 @@ item_of e = record { step = e.0; dir = e.1 }
 
 -- the kind of the first of a leaf's entries at a step
 abbrev pub entry_kind : Step → List LeafEntry → Option Bool
-entry_kind s entries = option_map (λ (e : LeafEntry). e.kind == 2) (entry_named s entries)
+entry_kind s entries = option_map (λ (e : LeafEntry). e.kind == kinds.DIRECTORY) (entry_named s entries)
 
 abbrev pub kind_or : Option Bool → Option Bool → Option Bool
 kind_or (Some kind) old = Some kind

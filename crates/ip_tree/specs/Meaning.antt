@@ -9,6 +9,7 @@
 use Rattle.std.specs.Prelude.{◌≡◌, ℕ, ◌<◌, Bool, List, [], ◌∷◌, length, map, filter, Option, Some, is_none, IsFalse, IsSomeAnd}
 use Rattle.std.specs.FinMap.Entries.{find}
 use Rattle.ip_spec.specs.Path.{Bytes, Step, bytes_cmp}
+use Rattle.ip_spec.specs.declared.kind.TheConstants as kinds
 use Rattle.ip_spec.specs.declared.record.Ref.{Ref}
 use Rattle.ip_spec.specs.declared.record.Record.{Record}
 use Rattle.ip_spec.specs.Tree as Tree
@@ -28,7 +29,7 @@ pub record IsSome (t : Tree) : Type 0 where
 
 pub record SpellsPart (records : ℕ → Option Record) (depth : ℕ) (x : Stored) (es : Entries) : Type 0 where
   pub part : PartAt records depth x.reference.at es
-  pub kind : x.reference.kind ≡ 2
+  pub kind : x.reference.kind ≡ kinds.DIRECTORY
   pub name : x.reference.name ≡ name_of_part depth es
   pub height : x.height ≡ height_of_part es
 
@@ -39,7 +40,7 @@ pub data StoredIs (records : ℕ → Option Record) (x : Stored) : Tree → Type
 -- a root's record, of which the height is not told
 pub record Spells (records : ℕ → Option Record) (r : Ref) (t : Tree) : Type 0 where
   pub part : PartAt records 0 r.at (entries_of t).entries
-  pub kind : r.kind ≡ 2
+  pub kind : r.kind ≡ kinds.DIRECTORY
   pub name : r.name ≡ root_name t
 
 abbrev pub is_read : Part Stored → Step → Bool

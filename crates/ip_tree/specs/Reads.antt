@@ -23,6 +23,7 @@ use Rattle.std.specs.FinMap.Entries.{find}
 use Rattle.sha2.specs.Sha256.{sha256}
 use Rattle.ip_ground.specs.Told.{Told}
 use Rattle.ip_spec.specs.Path.{Bytes, Step, bytes_cmp}
+use Rattle.ip_spec.specs.declared.kind.TheConstants as kinds
 use Rattle.ip_spec.specs.declared.record.InodeChild.{InodeChild}
 use Rattle.ip_spec.specs.declared.record.LeafEntry.{LeafEntry}
 use Rattle.ip_spec.specs.declared.record.Ref.{Ref}
@@ -53,11 +54,11 @@ pub record IsOver (told : Told) (space : SpaceView) (records : ℕ → Option Re
 
 pub record IsPartRef (records : ℕ → Option Record) (depth : ℕ) (r : Ref) (es : Entries) : Type 0 where
   pub part : PartAt records depth r.at es
-  pub kind : r.kind ≡ 2
+  pub kind : r.kind ≡ kinds.DIRECTORY
   pub name : r.name ≡ name_of_part depth es
 
 pub data Reaches (records : ℕ → Option Record) (r : Ref) : Tree → Type 0 where
-  contents_at : (bytes : Bytes) → records r.at ≡ Some (Record.Contents bytes) → r.kind ≡ 1 → r.name ≡ sha256 bytes → Reaches records r (Tree.contents bytes)
+  contents_at : (bytes : Bytes) → records r.at ≡ Some (Record.Contents bytes) → r.kind ≡ kinds.CONTENTS → r.name ≡ sha256 bytes → Reaches records r (Tree.contents bytes)
   directory_at : (sub : Tree) → Spells records r sub → IsFalse (is_contents sub) → Reaches records r sub
 
 abbrev pub ref_of_entry : LeafEntry → Ref
@@ -68,7 +69,7 @@ abbrev pub stored_of_entry : LeafEntry → Stored
 stored_of_entry e = record { reference = ref_of_entry e; height = e.height }
 
 abbrev pub ref_of_child : InodeChild → Ref
-ref_of_child c = record { at = c.at; name = c.name; kind = 2 }
+ref_of_child c = record { at = c.at; name = c.name; kind = kinds.DIRECTORY }
 
 abbrev pub stored_of_child : InodeChild → Stored
 stored_of_child c = record { reference = ref_of_child c; height = c.height }
@@ -106,7 +107,7 @@ lent_at space at None = kept_at at space.kept
 
 abbrev pub IsPartRecord : Option Record → Type 0
 IsPartRecord None = ⊥
-IsPartRecord (Some rec) = (reference_kind rec ≡ 2) × (version : ℕ) × Fits version rec
+IsPartRecord (Some rec) = (reference_kind rec ≡ kinds.DIRECTORY) × (version : ℕ) × Fits version rec
 
 -- through any records
 abbrev pub entry_below : (ℕ → Option Record) → ℕ → ℕ → Step → Option Stored

@@ -171,7 +171,8 @@ pub fn stored_child(child: &InodeChild) -> Stored
     }
 }
 
-/// Puts the steps below the record of a part with so many depths below it, and whether a directory stands at each. It holds one path of records.
+/// Puts the steps below the record of a part with so many depths below it, and whether a directory stands at each. It holds one path of records,
+/// as copies: the steps of a leaf go into the map.
 pub fn gather<G: Ground>(
     outside: &mut G,
     space: &mut Space,

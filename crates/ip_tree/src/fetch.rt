@@ -7,6 +7,7 @@ ghost use Rattle.ip_space.specs.SpaceView.{IsReadable, records_of};
 ghost use Rattle.ip_spec.specs.Record.{Fits, reference_kind};
 ghost use Rattle.ip_spec.specs.Shape.{Entries};
 ghost use Rattle.ip_spec.specs.Tree.{Tree as Map, contents};
+ghost use Rattle.ip_spec.specs.declared.kind.TheConstants as kinds;
 ghost use Rattle.ip_spec.specs.declared.record.Record.{Record};
 ghost use Rattle.ip_spec.specs.declared.record.Record.TheVariants as Record;
 ghost use Rattle.ip_tree.specs.Reads.{IsOver, IsPartRecord, IsPartRef, IsFetchFault, IsFree, Reaches, Looks, IsCause, as_content, lent_at, record_of};
@@ -124,7 +125,7 @@ pub fn fetch_part<G: Ground>(
 
 // What a record holds that is a directory's, or a part's of one.
 fn content_of(found: Record) -> Content
-    requires { reference_kind found ≡ 2 }
+    requires { reference_kind found ≡ kinds.DIRECTORY }
     ensures { record_of result ≡ found }
 {
     match found {
@@ -140,7 +141,7 @@ pub fn fetch_contents<G: Ground>(
     space: &mut Space,
     reference: &Ref,
 ) -> Result<Blob, TreeFault>
-    ensures contents { IsTrue G.tells → (records : ℕ → Option Record) (t : Map) → IsOver (G.told outside.old) space.old records → Reaches records reference.now t → reference.now.kind ≡ 1
+    ensures contents { IsTrue G.tells → (records : ℕ → Option Record) (t : Map) → IsOver (G.told outside.old) space.old records → Reaches records reference.now t → reference.now.kind ≡ kinds.CONTENTS
         → MatchResult result (λ bytes. t ≡ contents bytes) IsFree }
     // over any records
     ensures any { IsTrue G.tells → IsReadable (G.told outside.old) space.old → IfOk result (λ bytes. records_of (G.told outside.old) space.old reference.now.at ≡ Some (Record.Contents bytes)) }
@@ -161,7 +162,7 @@ pub fn fetch_contents<G: Ground>(
 
 // The bytes of a record that is contents.
 fn bytes_of(found: Record) -> Blob
-    requires { reference_kind found ≡ 1 }
+    requires { reference_kind found ≡ kinds.CONTENTS }
     ensures { found ≡ Record.Contents result }
 {
     match found {
