@@ -4,11 +4,12 @@
 --     RowsOn end rest all out before row      what is to be laid for the rest completes what is laid for all
 --     rows_more, rows_last      one more of them, and none
 --     known_laid, new_laid, last_laid      what a part lays.      behind_result      the record behind its entries or children
+--     nothing_laid, there_result      what a record spells
 --     cause_up, entry_cause, child_cause      why a walk gives up
 use Rattle.std.proofs.Common.{◌≡◌, ℕ, zero, suc, ◌+◌, ◌<◌, ◌≤◌, List, [], ◌∷◌, ◌++◌, length, refl, ap, ◌∙◌, sym, subst, arith, append_assoc, Option, Some, None, Bool, true, false, cond}
 use Rattle.std.specs.Prelude.{◌==◌, Result, Ok, Err, OnOk, IfOk, IfErr, MatchResult}
 use Rattle.std.proofs.lemmas.List.{append-nil, length-append}
-use Rattle.ip_base.specs.declared.limit.Limit.TheVariants.{Contents, Depth, Entries, Parents, Branches, Space, Sequence, Attempt}
+use Rattle.ip_base.specs.declared.limit.Limit.TheVariants as limit
 use Rattle.ip_spec.specs.Path.{Bytes, Step, same_bytes}
 use Rattle.ip_spec.specs.Shape.{deepest}
 use Rattle.ip_spec.specs.declared.record.Record.{Record}
@@ -21,8 +22,8 @@ use Rattle.ip_shape.specs.declared.part.Part.TheOpen.{Part-F, Leaf, Inode, Unrea
 use Rattle.ip_tree.specs.Node.{Node, Nodes, stored, contents, directory, none, first}
 use Rattle.ip_tree.specs.declared.node.Stored.{Stored}
 use Rattle.ip_save.specs.declared.batch.SaveFault.{SaveFault}
-use Rattle.ip_save.specs.declared.batch.SaveFault.TheVariants.{Limit, Memory}
-use Rattle.ip_save.specs.Laid.{AllFit, IsCause, IsHighFault, IsLaid, IsLayFault, IsRow, IsRowFault, Laid, LaidRow, behind, behind_bytes, behind_inode, behind_leaf, bytes_of, child_for, count_of, field_for, fresh, in_front, known_or, lay, lay_at, lay_children, lay_layer, lay_new, lay_nothing, lay_part, lay_steps, new_inode, new_leaf, no_row, record_of, size_of, there}
+use Rattle.ip_save.specs.declared.batch.SaveFault.TheVariants.{Limit, Space, Fetch, Memory}
+use Rattle.ip_save.specs.Laid.{AllFit, IsCause, IsHighFault, IsLaid, IsLayFault, IsRow, IsRowFault, Laid, LaidRow, behind, behind_bytes, behind_inode, behind_leaf, behind_refs, bytes_of, child_for, count_of, field_for, in_front, known_or, lay, lay_at, lay_children, lay_layer, lay_new, lay_nothing, lay_part, lay_steps, new_inode, new_leaf, no_row, record_of, there}
 use Rattle.ip_shape.specs.Heights.{inode_height, leaf_height, raised}
 
 -- ---- bytes of records
@@ -112,15 +113,15 @@ module _ (child : Step → ℕ → Laid) (each : (s : Step) → Ends (child s)) 
   ends_part (suc levels) depth part at = ends_layer (lay_part child levels (suc depth)) (λ c at. ends_part levels (suc depth) c at) depth (out-Part Stored part) at
 
 mutual
-  pub ends_node : (n : Node) (from : ℕ) → Ends (lay n from)
-  ends_node (stored x) from at = none_end at
-  ends_node (contents b) from at = none_end at
-  ends_node (directory root ns) from at = ends_part (λ s. lay_at ns from s) (λ s at. ends_at ns from s at) deepest 0 root at
+  pub ends_node : (n : Node) (refs : List Stored) → Ends (lay n refs)
+  ends_node (stored x) refs at = none_end at
+  ends_node (contents b) refs at = none_end at
+  ends_node (directory root ns) refs at = ends_part (λ s. lay_at ns refs s) (λ s at. ends_at ns refs s at) deepest 0 root at
 
-  pub ends_at : (ns : Nodes) (from : ℕ) (s : Step) → Ends (lay_at ns from s)
-  ends_at none from s at = ends_nothing at
-  ends_at (first t n ns) from s at =
-      one_or_other (same_bytes s t) at (lay n from at) (lay_at ns (from + size_of (fresh n)) s at) (ends_node n from at) (ends_at ns (from + size_of (fresh n)) s at)
+  pub ends_at : (ns : Nodes) (refs : List Stored) (s : Step) → Ends (lay_at ns refs s)
+  ends_at none refs s at = ends_nothing at
+  ends_at (first t n ns) refs s at =
+      one_or_other (same_bytes s t) at (lay n refs at) (lay_at ns (behind_refs n refs) s at) (ends_node n refs at) (ends_at ns (behind_refs n refs) s at)
 
 -- ---- one behind the other
 
@@ -185,15 +186,17 @@ module _ (child : Step → ℕ → Laid) where
 
 -- ---- faults
 
-pub cause_up : (b h c k : ℕ) (f : SaveFault) → b ≤ c → (64 < h → 64 < k) → IsCause 0 b h f → IsCause 0 c k f
-cause_up b h c k (Limit Contents) bc hk is = is
-cause_up b h c k (Limit Entries) bc hk is = omega arith
-cause_up b h c k (Limit Depth) bc hk is = hk is
-cause_up b h c k (Limit Parents) bc hk is = is
-cause_up b h c k (Limit Branches) bc hk is = is
-cause_up b h c k (Limit Space) bc hk is = is
-cause_up b h c k (Limit Sequence) bc hk is = is
-cause_up b h c k (Limit Attempt) bc hk is = is
+pub cause_up : (b h c k : ℕ) (f : SaveFault) → b ≤ c → (64 < h → 64 < k) → IsCause b h f → IsCause c k f
+cause_up b h c k (Limit limit.Contents) bc hk is = is
+cause_up b h c k (Limit limit.Entries) bc hk is = omega arith
+cause_up b h c k (Limit limit.Depth) bc hk is = hk is
+cause_up b h c k (Limit limit.Parents) bc hk is = is
+cause_up b h c k (Limit limit.Branches) bc hk is = is
+cause_up b h c k (Limit limit.Space) bc hk is = is
+cause_up b h c k (Limit limit.Sequence) bc hk is = is
+cause_up b h c k (Limit limit.Attempt) bc hk is = is
+cause_up b h c k (Space name) bc hk is = is
+cause_up b h c k (Fetch fault) bc hk is = is
 cause_up b h c k Memory bc hk is = is
 
 above_at : (row : List LeafEntry) (e : LeafEntry) (more : List LeafEntry) → raised e.height ≤ leaf_height (row ++ e ∷ more)
@@ -259,3 +262,8 @@ nothing_put out = sym (append-nil out) ∙ ap (λ (b : Bytes). out ++ b) (sym by
 
 pub nothing_laid : (end : ℕ) (x : Stored) (out : Bytes) → IsLaid end (there x) out out x
 nothing_laid end x out = record { bytes = nothing_put out; stands = refl; fits = tt }
+
+-- what is only referred to, where there is memory
+pub there_result : (end : ℕ) (x : Stored) (out : Bytes) (r : Result Stored SaveFault) (breadth : ℕ) → IfOk r (λ y. y ≡ x) → IfErr r (λ f. f ≡ Memory) → MatchResult r (IsLaid end (there x) out out) (IsLayFault breadth end (there x) out)
+there_result end x out (Ok y) breadth is cause = subst (IsLaid end (there x) out out) (sym is) (nothing_laid end x out)
+there_result end x out (Err f) breadth is cause = subst (IsLayFault breadth end (there x) out) (sym cause) tt

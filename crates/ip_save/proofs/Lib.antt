@@ -11,9 +11,15 @@ mod Tallest
 pub mod Split
 mod Agreeing
 mod News
+mod Finding
+mod Again
 mod Lawful
 mod TreesAgree
 mod Placed
+mod Placing
+mod Reusing
 mod Viewed
 mod Limits
 mod Saved
+mod FirstTree
+mod FreshTable

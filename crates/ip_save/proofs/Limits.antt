@@ -23,13 +23,13 @@ use Rattle.ip_tree.specs.TreeView.{IsView}
 use Rattle.ip_tree.specs.declared.node.Stored.{Stored}
 use Rattle.ip_tree.specs.declared.tree.Tree as code
 use Rattle.ip_save.specs.declared.batch.SaveFault.{SaveFault}
-use Rattle.ip_save.specs.declared.batch.SaveFault.TheVariants.{Limit, Memory}
+use Rattle.ip_save.specs.declared.batch.SaveFault.TheVariants.{Limit, Space, Fetch, Memory}
 use Rattle.ip_save.specs.Batches.{HasShortContents, IsSaveFault}
-use Rattle.ip_save.specs.Laid.{IsCause, IsLongFault, IsRootFault, behind_bytes, breadth, breadth_among, breadth_root, count_of, fresh, fresh_among, fresh_root, lay_root, longest, longest_among, longest_root}
+use Rattle.ip_save.specs.Laid.{IsCause, IsRootFault, behind_bytes, breadth, breadth_among, breadth_root, count_of, fresh, fresh_among, fresh_root, lay_root, longest, longest_among, longest_root}
+use Rattle.ip_save.specs.Reused.{IsFreeSave, IsFreshFault}
 use Rattle.ip_save.proofs.Agreeing.{shape_count}
 use Rattle.ip_save.proofs.News.{fresh_values_root, news_root, value_of}
 use Rattle.ip_save.proofs.Placed.{IsNew}
-use Rattle.ip_save.proofs.Viewed.{each_new, root_low}
 
 -- ---- contents
 
@@ -106,27 +106,42 @@ module _ (records : ℕ → Option Record) where
 
 -- ---- no cause
 
-no_cause : (l b h : ℕ) (f : SaveFault) → IsCause l b h f → l ≤ contents_limit → b ≤ entries_limit → h ≤ 64 → (v : View) (fields : Batches.CommitFields) (end : ℕ) → IsSaveFault v fields end f
-no_cause l b h (Limit limit.Contents) is low narrow shallow v fields end = absurd (omega (arith, is, low))
-no_cause l b h (Limit limit.Entries) is low narrow shallow v fields end = absurd (omega (arith, is, narrow))
-no_cause l b h (Limit limit.Depth) is low narrow shallow v fields end = absurd (omega (arith, is, shallow))
-no_cause l b h (Limit limit.Parents) is low narrow shallow v fields end = is
-no_cause l b h (Limit limit.Branches) is low narrow shallow v fields end = is
-no_cause l b h (Limit limit.Space) is low narrow shallow v fields end = absurd is
-no_cause l b h (Limit limit.Sequence) is low narrow shallow v fields end = is
-no_cause l b h (Limit limit.Attempt) is low narrow shallow v fields end = is
-no_cause l b h Memory is low narrow shallow v fields end = tt
+module _ (v : View) (other : Option View) (fields : Batches.CommitFields) (end : ℕ) where
+  no_long : (l : ℕ) (f : SaveFault) → IsFreshFault l f → IsFreeSave f → l ≤ contents_limit → IsSaveFault v other fields end f
+  no_long l (Limit limit.Contents) is free low = absurd (omega (arith, is, low))
+  no_long l (Limit limit.Entries) is free low = is
+  no_long l (Limit limit.Depth) is free low = is
+  no_long l (Limit limit.Parents) is free low = is
+  no_long l (Limit limit.Branches) is free low = is
+  no_long l (Limit limit.Space) is free low = is
+  no_long l (Limit limit.Sequence) is free low = is
+  no_long l (Limit limit.Attempt) is free low = is
+  no_long l (Space name) is free low = absurd is
+  no_long l (Fetch fault) is free low = free
+  no_long l Memory is free low = tt
 
-module _ (records : ℕ → Option Record) (tree : code.Tree) (v : View) (is : IsView records tree v) (fields : Batches.CommitFields) (end : ℕ) (f : SaveFault) where
-  pub none_too_long : HasShortContents v.map → IsLongFault (longest_root (shown_root tree.root)) f → IsSaveFault v fields end f
-  none_too_long short cause =
-      let root = shown_root tree.root in
-      let each = subst (AllByRecursion (IsWithin contents_limit)) (fresh_values_root root) (values_short v short (news_root root) (each_new records tree v is)) in
-      no_cause (longest_root root) 0 0 f cause (root_within root contents_limit each) (omega arith) (omega arith) v fields end
+  no_wide : (b h : ℕ) (f : SaveFault) → IsCause b h f → b ≤ entries_limit → h ≤ 64 → IsSaveFault v other fields end f
+  no_wide b h (Limit limit.Contents) is narrow shallow = is
+  no_wide b h (Limit limit.Entries) is narrow shallow = absurd (omega (arith, is, narrow))
+  no_wide b h (Limit limit.Depth) is narrow shallow = absurd (omega (arith, is, shallow))
+  no_wide b h (Limit limit.Parents) is narrow shallow = is
+  no_wide b h (Limit limit.Branches) is narrow shallow = is
+  no_wide b h (Limit limit.Space) is narrow shallow = is
+  no_wide b h (Limit limit.Sequence) is narrow shallow = is
+  no_wide b h (Limit limit.Attempt) is narrow shallow = is
+  no_wide b h (Space name) is narrow shallow = absurd is
+  no_wide b h (Fetch fault) is narrow shallow = absurd is
+  no_wide b h Memory is narrow shallow = tt
 
-  pub none_too_wide : (before : Bytes) → IsRootFault end (shown_root tree.root) before f → IsSaveFault v fields end f
-  none_too_wide before cause =
+module _ (records : ℕ → Option Record) (tree : code.Tree) (v : View) (is : IsView records tree v) (other : Option View) (fields : Batches.CommitFields) (end : ℕ) (f : SaveFault) where
+  pub none_too_long : HasShortContents v.map → AllByRecursion (IsNew v) (news_root (shown_root tree.root)) → IsFreshFault (longest_root (shown_root tree.root)) f → IsFreeSave f → IsSaveFault v other fields end f
+  none_too_long short new cause free =
       let root = shown_root tree.root in
-      let at = behind_bytes end before in
-      let narrow : NoneWider entries_limit v.map = (λ p. let low = none_wider v.map p in let all = is.narrow in omega (arith, low, all)) in
-      no_cause 0 (breadth_root root) (lay_root root end at).stands.height f cause (omega arith) (root_narrow records root v.map is.root narrow) (root_low records tree v is end at) v fields end
+      let each = subst (AllByRecursion (IsWithin contents_limit)) (fresh_values_root root) (values_short v short (news_root root) new) in
+      no_long v other fields end (longest_root root) f cause free (root_within root contents_limit each)
+
+  pub none_too_wide : (refs : List Stored) (before : Bytes) → (lay_root refs (shown_root tree.root) (behind_bytes end before)).stands.height ≤ 64 → IsRootFault end refs (shown_root tree.root) before f → IsSaveFault v other fields end f
+  none_too_wide refs before low cause =
+      let root = shown_root tree.root in
+      let narrow : NoneWider entries_limit v.map = (λ p. let most = none_wider v.map p in let all = is.narrow in omega (arith, most, all)) in
+      no_wide v other fields end (breadth_root root) (lay_root refs root (behind_bytes end before)).stands.height f cause (root_narrow records root v.map is.root narrow) low

@@ -1,5 +1,6 @@
 -- The bytes of a batch are those of the records that the definition has.
-use Rattle.std.proofs.Common.{◌≡◌, ℕ, ◌+◌, ◌<◌, ◌≤◌, [], ◌∷◌, ◌++◌, refl, sym, ap, subst, ◌∙◌, Option, Some, map, length, arith, append_assoc}
+--     saved      what was put is the batch.      end_is, name_is      where it ends, and the commit's name
+use Rattle.std.proofs.Common.{◌≡◌, ℕ, ◌+◌, ◌<◌, ◌≤◌, List, [], ◌∷◌, ◌++◌, refl, sym, ap, subst, ◌∙◌, Option, Some, map, length, arith, append_assoc}
 use Rattle.std.specs.List.{AllByRecursion}
 use Rattle.std.proofs.lemmas.List.{append-nil, length-append}
 use Rattle.std.proofs.lemmas.List.Elements.{All-from_recursion}
@@ -13,22 +14,25 @@ use Rattle.ip_spec.specs.TreeAt.{Records}
 use Rattle.ip_spec.proofs.Spelling.{some_bytes}
 use Rattle.ip_spec.specs.View.{View}
 use Rattle.ip_spec.specs.Batch as Batches
-use Rattle.ip_spec.specs.Batch.{Spelled, sources, placed, new_contents, contents_record, root_spelled, tree_batch, batch, batch_root, batch_end, batch_name, commit_of, branch_of}
+use Rattle.ip_spec.specs.Batch.{Spelled, Sources, reusing_sources, contents_record, root_spelled, tree_batch, batch, batch_root, batch_end, batch_name, commit_of, branch_of}
 use Rattle.ip_tree.specs.Node.{Root, directory, unread, loaded}
 use Rattle.ip_tree.specs.Shown.{shown_root}
 use Rattle.ip_tree.specs.TreeView.{IsView}
+use Rattle.ip_tree.specs.declared.node.Stored.{Stored}
 use Rattle.ip_tree.specs.declared.tree.Tree as code
 use Rattle.ip_save.specs.declared.batch.Batch.{Batch}
 use Rattle.ip_save.specs.Batches.{IsBatch, commit_record, greatest_end}
-use Rattle.ip_save.specs.Laid.{size_of, fresh_root, contents_bytes, lay_root, Laid, bytes_of, AllFit, IsShort, IsLaidRoot}
+use Rattle.ip_save.specs.Laid.{size_of, contents_bytes, lay_root, Laid, bytes_of, AllFit, IsShort, IsLaidRoot}
+use Rattle.ip_save.specs.Reused.{spelled_from}
 use Rattle.ip_save.proofs.Laying.{bytes_append, bytes_none, ends_node, fit_append}
-use Rattle.ip_save.proofs.News.{news_root, fresh_values_root}
+use Rattle.ip_save.proofs.News.{news_root}
 use Rattle.ip_save.proofs.Placed.{contents_records, records_are, records_spell, records_fit, bytes_length}
-use Rattle.ip_save.proofs.Viewed.{each_new, placed_ones, root_is, root_named}
+use Rattle.ip_save.proofs.Reusing.{spelled_ones}
+use Rattle.ip_save.proofs.Viewed.{ones_new, placed_ones, refs_from, root_is, root_named, spelled_values, told}
 
-root_next : (root : Root) (from at : ℕ) → (lay_root root from at).next ≡ at + length (bytes_of (lay_root root from at).records)
-root_next (unread r) from at = let e = ap length bytes_none in omega (arith, e)
-root_next (loaded root ns) from at = ends_node (directory root ns) from at
+root_next : (refs : List Stored) (root : Root) (at : ℕ) → (lay_root refs root at).next ≡ at + length (bytes_of (lay_root refs root at).records)
+root_next refs (unread r) at = let e = ap length bytes_none in omega (arith, e)
+root_next refs (loaded root ns) at = ends_node (directory root ns) refs at
 
 same_some : (x y : Hash) → Some x ≡ Some y → x ≡ y
 same_some x y e = cc
@@ -37,80 +41,94 @@ two_spelled : (a b : ℕ) (r s : Record) → bytes_of ((a, r) ∷ (b, s) ∷ [])
 unfolding spelling_of
 two_spelled a b r s = ap (λ (x : Bytes). spelling r ++ x) (append-nil (spelling s))
 
-module _ (records : ℕ → Option Record) (tree : code.Tree) (v : View) (is : IsView records tree v) (f : Batches.CommitFields) (end : ℕ)
-    (empty contents directories commits all : Bytes) (r : Ref) (name : Hash)
-    (none : empty ≡ []) (put_contents : contents ≡ empty ++ contents_bytes (fresh_root (shown_root tree.root))) (short : AllByRecursion IsShort (fresh_root (shown_root tree.root)))
-    (laid : IsLaidRoot end (shown_root tree.root) contents directories r)
+module _ (records : ℕ → Option Record) (tree : code.Tree) (v : View) (is : IsView records tree v) (first : Option View) (f : Batches.CommitFields) (end : ℕ)
+    (table : List (Bytes × Option ℕ)) (put : List Bytes) (refs : List Stored) (empty contents directories commits all : Bytes) (r : Ref) (name : Hash)
+    (table_is : table ≡ told v first (shown_root tree.root)) (put_is : put ≡ spelled_from [] end table) (refs_are : refs ≡ refs_from end table)
+    (none : empty ≡ []) (put_contents : contents ≡ empty ++ contents_bytes put) (short : AllByRecursion IsShort put)
+    (laid : IsLaidRoot end refs (shown_root tree.root) contents directories r)
     (put_commit : commits ≡ directories ++ spelling (commit_record f r)) (commit_name : name_of (commit_record f r) ≡ Some name) (commit_fits : Fits 1 (commit_record f r))
     (put_branch : all ≡ commits ++ spelling (Record.BranchSet f.number f.branch)) (branch_fits : Fits 1 (Record.BranchSet f.number f.branch)) where
   abbrev root : Root
   root = shown_root tree.root
 
+  abbrev from : Sources
+  from = reusing_sources v first
+
+  -- what the batch spells of the new contents
+  abbrev spelled_new : List Bytes
+  spelled_new = spelled_from [] end (told v first root)
+
   abbrev laid_root : Laid
-  laid_root = lay_root root end (end + size_of (fresh_root root))
+  laid_root = lay_root (refs_from end (told v first root)) root (end + size_of spelled_new)
 
-  contents_are : contents ≡ contents_bytes (fresh_root root)
-  contents_are = put_contents ∙ ap (λ (b : Bytes). b ++ contents_bytes (fresh_root root)) none
+  put_new : put ≡ spelled_new
+  put_new = put_is ∙ ap (spelled_from [] end) table_is
 
-  contents_long : length contents ≡ size_of (fresh_root root)
-  contents_long = ap length contents_are ∙ bytes_length (fresh_root root)
+  contents_are : contents ≡ contents_bytes spelled_new
+  contents_are = put_contents ∙ ap (λ (b : Bytes). b ++ contents_bytes put) none ∙ ap contents_bytes put_new
 
-  laid_is : lay_root root end (end + length contents) ≡ laid_root
-  laid_is = ap (λ n. lay_root root end (end + n)) contents_long
+  contents_long : length contents ≡ size_of spelled_new
+  contents_long = ap length contents_are ∙ bytes_length spelled_new
 
-  directories_are : directories ≡ contents_bytes (fresh_root root) ++ bytes_of laid_root.records
-  directories_are = laid.bytes ∙ ap (λ (b : Bytes). b ++ bytes_of (lay_root root end (end + length contents)).records) contents_are ∙ ap (λ (x : Laid). contents_bytes (fresh_root root) ++ bytes_of x.records) laid_is
+  laid_is : lay_root refs root (end + length contents) ≡ laid_root
+  laid_is = ap (λ n. lay_root refs root (end + n)) contents_long ∙ ap (λ (l : List Stored). lay_root l root (end + size_of spelled_new)) (refs_are ∙ ap (refs_from end) table_is)
 
-  next_is : (root_spelled v (sources v) end).next ≡ end + length directories
+  directories_are : directories ≡ contents_bytes spelled_new ++ bytes_of laid_root.records
+  directories_are = laid.bytes ∙ ap (λ (b : Bytes). b ++ bytes_of (lay_root refs root (end + length contents)).records) contents_are ∙ ap (λ (x : Laid). contents_bytes spelled_new ++ bytes_of x.records) laid_is
+
+  next_is : (root_spelled v from end).next ≡ end + length directories
   next_is =
-      let s = ap (λ (x : Spelled). x.next) (root_is records tree v is end) in
-      let n = root_next root end (end + size_of (fresh_root root)) in
+      let s = ap (λ (x : Spelled). x.next) (root_is records tree v is first end) in
+      let n = root_next (refs_from end (told v first root)) root (end + size_of spelled_new) in
       let d = ap length directories_are in
-      let j = length-append (contents_bytes (fresh_root root)) (bytes_of laid_root.records) in
-      let c = bytes_length (fresh_root root) in
+      let j = length-append (contents_bytes spelled_new) (bytes_of laid_root.records) in
+      let c = bytes_length spelled_new in
       omega (arith, s, n, d, j, c)
 
-  root_ref : r ≡ batch_root v (sources v) end
+  root_ref : r ≡ batch_root v from end
   root_ref =
-      laid.stands ∙ ap (λ (x : Laid). x.stands.reference) laid_is ∙ root_named records tree v is end
-      ∙ ap (λ (s : Spelled). record { at = s.root; name = root_name v.map; kind = 2 }) (sym (root_is records tree v is end))
+      laid.stands ∙ ap (λ (x : Laid). x.stands.reference) laid_is ∙ root_named records tree v is first end
+      ∙ ap (λ (s : Spelled). record { at = s.root; name = root_name v.map; kind = 2 }) (sym (root_is records tree v is first end))
 
-  commit_is : commit_of v (sources v) f end ≡ commit_record f r
+  commit_is : commit_of v from f end ≡ commit_record f r
   commit_is = ap (commit_record f) (sym root_ref)
 
-  abbrev ones : Records
-  ones = contents_records end (news_root root)
+  abbrev news : List (Path × Bytes)
+  news = spelled_ones v first (news_root root)
 
-  tree_is : tree_batch v (sources v) end ≡ ones ++ laid_root.records
+  abbrev ones : Records
+  ones = contents_records end news
+
+  tree_is : tree_batch v from end ≡ ones ++ laid_root.records
   unfolding tree_batch
   tree_is =
-      ap (λ l. map (λ (x : Path × ℕ). (x.1, contents_record v x.0)) l ++ (root_spelled v (sources v) end).records) (placed_ones records tree v is end)
-      ∙ ap (λ (l : Records). l ++ (root_spelled v (sources v) end).records) (records_are v (news_root root) end (each_new records tree v is))
-      ∙ ap (λ (s : Spelled). ones ++ s.records) (root_is records tree v is end)
+      ap (λ l. map (λ (x : Path × ℕ). (x.1, contents_record v x.0)) l ++ (root_spelled v from end).records) (placed_ones records tree v is first end)
+      ∙ ap (λ (l : Records). l ++ (root_spelled v from end).records) (records_are v news end (ones_new records tree v is first end))
+      ∙ ap (λ (s : Spelled). ones ++ s.records) (root_is records tree v is first end)
 
-  tree_bytes : bytes_of (tree_batch v (sources v) end) ≡ directories
+  tree_bytes : bytes_of (tree_batch v from end) ≡ directories
   tree_bytes =
       ap bytes_of tree_is ∙ bytes_append ones laid_root.records
-      ∙ ap (λ (b : Bytes). b ++ bytes_of laid_root.records) (records_spell (news_root root) end ∙ ap contents_bytes (fresh_values_root root))
+      ∙ ap (λ (b : Bytes). b ++ bytes_of laid_root.records) (records_spell news end ∙ ap contents_bytes (spelled_values records tree v is first end))
       ∙ sym directories_are
 
   abbrev last : Records
-  last = ((root_spelled v (sources v) end).next, commit_of v (sources v) f end) ∷ ((root_spelled v (sources v) end).next + length (spelling (commit_of v (sources v) f end)), branch_of f) ∷ []
+  last = ((root_spelled v from end).next, commit_of v from f end) ∷ ((root_spelled v from end).next + length (spelling (commit_of v from f end)), branch_of f) ∷ []
 
-  batch_is : batch v (sources v) f end ≡ tree_batch v (sources v) end ++ last
+  batch_is : batch v from f end ≡ tree_batch v from end ++ last
   unfolding batch
   batch_is = refl
 
-  batch_bytes : bytes_of (batch v (sources v) f end) ≡ all
+  batch_bytes : bytes_of (batch v from f end) ≡ all
   batch_bytes =
-      ap bytes_of batch_is ∙ bytes_append (tree_batch v (sources v) end) last
+      ap bytes_of batch_is ∙ bytes_append (tree_batch v from end) last
       ∙ ap (λ (b : Bytes). b ++ bytes_of last) tree_bytes
-      ∙ ap (λ (b : Bytes). directories ++ b) (two_spelled (root_spelled v (sources v) end).next ((root_spelled v (sources v) end).next + length (spelling (commit_of v (sources v) f end))) (commit_of v (sources v) f end) (branch_of f))
+      ∙ ap (λ (b : Bytes). directories ++ b) (two_spelled (root_spelled v from end).next ((root_spelled v from end).next + length (spelling (commit_of v from f end))) (commit_of v from f end) (branch_of f))
       ∙ ap (λ (c : Record). directories ++ (spelling c ++ spelling (branch_of f))) commit_is
       ∙ sym (append_assoc directories (spelling (commit_record f r)) (spelling (branch_of f)))
       ∙ ap (λ (b : Bytes). b ++ spelling (branch_of f)) (sym put_commit) ∙ sym put_branch
 
-  pub end_is : batch_end v (sources v) f end ≡ end + length all
+  pub end_is : batch_end v from f end ≡ end + length all
   unfolding batch_end
   end_is =
       let c = ap (λ (x : Record). length (spelling x)) commit_is in
@@ -118,24 +136,27 @@ module _ (records : ℕ → Option Record) (tree : code.Tree) (v : View) (is : I
       let q = ap length put_branch in
       omega (arith, next_is, c, p, q, length-append directories (spelling (commit_record f r)), length-append commits (spelling (Record.BranchSet f.number f.branch)))
 
-  batch_fit : AllFit (batch v (sources v) f end)
+  pub name_is : name ≡ batch_name v f
+  name_is = same_some _ _ (sym commit_name) ∙ ap (λ (x : Ref). sha256 (hashed_commit x.name (map (λ p. p.name) f.parents) f.info)) root_ref
+
+  batch_fit : AllFit (batch v from f end)
   batch_fit =
       subst AllFit (sym batch_is)
-      (fit_append (tree_batch v (sources v) end) last
+      (fit_append (tree_batch v from end) last
       (subst AllFit (sym tree_is)
-      (fit_append ones laid_root.records (records_fit (news_root root) end (subst (AllByRecursion IsShort) (sym (fresh_values_root root)) short)) (subst (λ (x : Laid). AllFit x.records) laid_is laid.fits)))
+      (fit_append ones laid_root.records (records_fit news end (subst (AllByRecursion IsShort) (put_new ∙ sym (spelled_values records tree v is first end)) short)) (subst (λ (x : Laid). AllFit x.records) laid_is laid.fits)))
       (subst (Fits 1) (sym commit_is) commit_fits, (branch_fits, tt)))
 
-  pub saved : (b : Batch) → b.bytes.items ≡ all → b.root ≡ r → b.name ≡ name → b.commit_at ≡ end + length directories → b.end ≡ end + length all → b.end ≤ greatest_end → IsBatch v f end b
+  pub saved : (b : Batch) → b.bytes.items ≡ all → b.root ≡ r → b.name ≡ name → b.commit_at ≡ end + length directories → b.end ≡ end + length all → b.end ≤ greatest_end → IsBatch v first f end b
   saved b bytes root_at named commit_at ends room = record {
     bytes = bytes ∙ sym batch_bytes;
     root = root_at ∙ root_ref;
-    name = named ∙ same_some _ _ (sym commit_name) ∙ ap (λ (x : Ref). sha256 (hashed_commit x.name (map (λ p. p.name) f.parents) f.info)) root_ref;
+    name = named ∙ name_is;
     commit_at = commit_at ∙ sym next_is;
     ends = ends ∙ sym end_is;
     room = room;
     long = ends ∙ ap (λ (x : Bytes). end + length x) (sym bytes);
-    fits = All-from_recursion (λ x. Fits 1 x.1) (batch v (sources v) f end) batch_fit;
+    fits = All-from_recursion (λ x. Fits 1 x.1) (batch v from f end) batch_fit;
   }
 
 -- bytes with a record behind them

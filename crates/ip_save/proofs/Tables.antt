@@ -1,8 +1,8 @@
--- Where new contents begin, by a table of starts.
---     StartsOn rest all at from starts      what completes the table of the rest completes that of all.      starts_more      one more of them
+-- What refers to new contents, by a table of starts.
+--     StartsOn rest all at refs starts      what completes the table of the rest completes that of all.      starts_more      one more of them
 --     ascending      the steps of a map ascend
---     at_start      what the table has at a step is where it begins.      searched      a search finds the step, if it is there
-use Rattle.std.proofs.Common.{◌≡◌, ℕ, zero, suc, ◌+◌, ◌<◌, ◌≤◌, List, [], ◌∷◌, ◌++◌, length, map, get_or, refl, sym, ap, subst, ◌∙◌, arith, add-one, append_assoc, Bool, true, false, cond, T, ◌⊎◌, inl, inr}
+--     at_start      what the table has at a step.      searched      a search finds the step, if it is there
+use Rattle.std.proofs.Common.{◌≡◌, ℕ, zero, suc, ◌<◌, ◌≤◌, List, [], ◌∷◌, ◌++◌, length, map, get_or, refl, sym, ap, subst, ◌∙◌, arith, add-one, append_assoc, Bool, true, false, cond, T, ◌⊎◌, inl, inr}
 use Rattle.std.specs.Prelude.{◌||◌, Result, Ok, Err, MatchResult}
 use Rattle.std.specs.List.{AllByRecursion}
 use Rattle.std.specs.List.Sorted.{IsBinarySearchResult, IsPartitionPoint, IsSortedBy, IsStrictlySortedBy}
@@ -21,28 +21,27 @@ use Rattle.ip_shape.proofs.Steps.{both, equal, first as head_of, less, lt_of, sa
 use Rattle.ip_tree.specs.Node.{Nodes, none, first, steps_in}
 use Rattle.ip_tree.specs.Shown.{shown}
 use Rattle.ip_tree.specs.declared.node.Node as declared
+use Rattle.ip_tree.specs.declared.node.Stored.{Stored}
 use Rattle.ip_save.specs.declared.starts.Start.{Start}
-use Rattle.ip_save.specs.Laid.{AreStarts, fresh, fresh_among, size_of, start_in}
-use Rattle.ip_save.proofs.Rests.{rest_of, size_more}
+use Rattle.ip_save.specs.Laid.{AreStarts, behind_refs, start_in}
+use Rattle.ip_save.proofs.Rests.{rest_of}
 
 -- ---- the table is made
 
-pub record StartsOn (rest all : Nodes) (at from : ℕ) (starts : List Start) : Type 0 where
-  pub sum : at + size_of (fresh_among rest) ≡ from + size_of (fresh_among all)
-  pub made : (tail : List Start) → AreStarts rest at tail → AreStarts all from (starts ++ tail)
+pub record StartsOn (rest all : Nodes) (at refs : List Stored) (starts : List Start) : Type 0 where
+  pub made : (tail : List Start) → AreStarts rest at tail → AreStarts all refs (starts ++ tail)
 
-pub starts_more : (s : Step) (n : declared.Node) (es : List (Step × declared.Node)) (all : Nodes) (at from next : ℕ) (starts longer : List Start) (x : Start) → StartsOn (rest_of ((s, n) ∷ es)) all at from starts
-    → x.step.now ≡ s → x.at ≡ at → longer ≡ starts ++ x ∷ [] → next ≡ at + size_of (fresh (shown n)) → StartsOn (rest_of es) all next from longer
-starts_more s n es all at from next starts longer x now step here pushed moved = record {
-  sum = let whole = now.sum in omega (arith, whole, moved, size_more s n es);
+pub starts_more : (s : Step) (n : declared.Node) (es : List (Step × declared.Node)) (all : Nodes) (at refs next : List Stored) (starts longer : List Start) (x : Start) → StartsOn (rest_of ((s, n) ∷ es)) all at refs starts
+    → x.step.now ≡ s → x.refs.now ≡ at → longer ≡ starts ++ x ∷ [] → next ≡ behind_refs (shown n) at → StartsOn (rest_of es) all next refs longer
+starts_more s n es all at refs next starts longer x now step here pushed moved = record {
   made = λ tail are.
-      subst (AreStarts all from) (sym (ap (λ (l : List Start). l ++ tail) pushed ∙ append_assoc starts (x ∷ []) tail))
-      (now.made (x ∷ tail) (step, here, subst (λ m. AreStarts (rest_of es) m tail) moved are));
+      subst (AreStarts all refs) (sym (ap (λ (l : List Start). l ++ tail) pushed ∙ append_assoc starts (x ∷ []) tail))
+      (now.made (x ∷ tail) (step, here, subst (λ (m : List Stored). AreStarts (rest_of es) m tail) moved are));
 }
 
-pub starts_last : (es : List (Step × declared.Node)) → es ≡ [] → (all : Nodes) (at from : ℕ) (starts : List Start) → StartsOn (rest_of es) all at from starts → AreStarts all from starts
-starts_last es last all at from starts now =
-    subst (AreStarts all from) (append-nil starts) (now.made [] (subst (λ (l : List (Step × declared.Node)). AreStarts (rest_of l) at []) (sym last) tt))
+pub starts_last : (es : List (Step × declared.Node)) → es ≡ [] → (all : Nodes) (at refs : List Stored) (starts : List Start) → StartsOn (rest_of es) all at refs starts → AreStarts all refs starts
+starts_last es last all at refs starts now =
+    subst (AreStarts all refs) (append-nil starts) (now.made [] (subst (λ (l : List (Step × declared.Node)). AreStarts (rest_of l) at []) (sym last) tt))
 
 -- steps of which each is below those behind it
 below_all : (s : Step) (ss : List Step) → AllByRecursion (λ t. bytes_cmp s t ≡ Less) ss → T (is_below_all s ss)
@@ -63,11 +62,11 @@ steps_rest (e ∷ es) = ap (λ l. e.0 ∷ l) (steps_rest es)
 abbrev step_at : Start → Step
 step_at x = x.step.now
 
-starts_steps : (ns : Nodes) (from : ℕ) (xs : List Start) → AreStarts ns from xs → map step_at xs ≡ steps_in ns
-starts_steps none from [] are = refl
-starts_steps none from (x ∷ xs) are = absurd are
-starts_steps (first t n ns) from [] are = absurd are
-starts_steps (first t n ns) from (x ∷ xs) are = ap (λ (k : Step). k ∷ map step_at xs) are.0 ∙ ap (λ (l : List Step). t ∷ l) (starts_steps ns (from + size_of (fresh n)) xs are.2)
+starts_steps : (ns : Nodes) (refs : List Stored) (xs : List Start) → AreStarts ns refs xs → map step_at xs ≡ steps_in ns
+starts_steps none refs [] are = refl
+starts_steps none refs (x ∷ xs) are = absurd are
+starts_steps (first t n ns) refs [] are = absurd are
+starts_steps (first t n ns) refs (x ∷ xs) are = ap (λ (k : Step). k ∷ map step_at xs) are.0 ∙ ap (λ (l : List Step). t ∷ l) (starts_steps ns (behind_refs n refs) xs are.2)
 
 itself : (s : Step) → same_bytes s s ≡ true
 itself s = ap is_eq (tied_itself nat_list_cmp_total s)
@@ -76,12 +75,12 @@ or_true : (a b : Bool) → b ≡ true → (a || b) ≡ true
 or_true true b e = refl
 or_true false b e = e
 
-has_at : (ns : Nodes) (from : ℕ) (xs : List Start) (i : ℕ) (s : Step) → AreStarts ns from xs → i < length xs → ((d : Start) → (get_or xs i d).step.now ≡ s) → has s (steps_in ns) ≡ true
-has_at none from [] i s are lt is = absurd (omega (arith, lt))
-has_at none from (x ∷ xs) i s are lt is = absurd are
-has_at (first t n ns) from [] i s are lt is = absurd are
-has_at (first t n ns) from (x ∷ xs) zero s are lt is = ap (λ (k : Step). same_bytes s k || has s (steps_in ns)) (sym are.0 ∙ is x) ∙ ap (λ b. b || has s (steps_in ns)) (itself s)
-has_at (first t n ns) from (x ∷ xs) (suc i) s are lt is = or_true (same_bytes s t) (has s (steps_in ns)) (has_at ns (from + size_of (fresh n)) xs i s are.2 (omega (arith, lt)) is)
+has_at : (ns : Nodes) (refs : List Stored) (xs : List Start) (i : ℕ) (s : Step) → AreStarts ns refs xs → i < length xs → ((d : Start) → (get_or xs i d).step.now ≡ s) → has s (steps_in ns) ≡ true
+has_at none refs [] i s are lt is = absurd (omega (arith, lt))
+has_at none refs (x ∷ xs) i s are lt is = absurd are
+has_at (first t n ns) refs [] i s are lt is = absurd are
+has_at (first t n ns) refs (x ∷ xs) zero s are lt is = ap (λ (k : Step). same_bytes s k || has s (steps_in ns)) (sym are.0 ∙ is x) ∙ ap (λ b. b || has s (steps_in ns)) (itself s)
+has_at (first t n ns) refs (x ∷ xs) (suc i) s are lt is = or_true (same_bytes s t) (has s (steps_in ns)) (has_at ns (behind_refs n refs) xs i s are.2 (omega (arith, lt)) is)
 
 apart : (s t : Step) (ss : List Step) → T (is_below_all t ss) → has s ss ≡ true → same_bytes s t ≡ false
 apart s t ss below there = by (same_bytes s t) refl
@@ -90,16 +89,16 @@ apart s t ss below there = by (same_bytes s t) refl
     by true e = absurd (false≢true (sym (below_absent t ss below) ∙ ap (λ (k : Step). has k ss) (sym (same_step s t (equal (bytes_cmp s t) e))) ∙ there))
     by false e = refl
 
-pub at_start : (ns : Nodes) (from : ℕ) (xs : List Start) (i : ℕ) (s : Step) → AreSteps (steps_in ns) → AreStarts ns from xs → i < length xs → ((d : Start) → (get_or xs i d).step.now ≡ s) → (d : Start) → (get_or xs i d).at ≡ start_in ns from s
-at_start none from [] i s up are lt is d = absurd (omega (arith, lt))
-at_start none from (x ∷ xs) i s up are lt is d = absurd are
-at_start (first t n ns) from [] i s up are lt is d = absurd are
-at_start (first t n ns) from (x ∷ xs) zero s up are lt is d =
-    are.1 ∙ sym (ap (λ b. cond b from (start_in ns (from + size_of (fresh n)) s)) (ap (λ (k : Step). same_bytes s k) (sym are.0 ∙ is x) ∙ itself s))
-at_start (first t n ns) from (x ∷ xs) (suc i) s up are lt is d =
-    let there = has_at ns (from + size_of (fresh n)) xs i s are.2 (omega (arith, lt)) is in
-    at_start ns (from + size_of (fresh n)) xs i s (tail_of (is_below_all t (steps_in ns)) (ascend (steps_in ns)) up) are.2 (omega (arith, lt)) is d
-    ∙ sym (ap (λ b. cond b from (start_in ns (from + size_of (fresh n)) s)) (apart s t (steps_in ns) (head_of (is_below_all t (steps_in ns)) (ascend (steps_in ns)) up) there))
+pub at_start : (ns : Nodes) (refs : List Stored) (xs : List Start) (i : ℕ) (s : Step) → AreSteps (steps_in ns) → AreStarts ns refs xs → i < length xs → ((d : Start) → (get_or xs i d).step.now ≡ s) → (d : Start) → (get_or xs i d).refs.now ≡ start_in ns refs s
+at_start none refs [] i s up are lt is d = absurd (omega (arith, lt))
+at_start none refs (x ∷ xs) i s up are lt is d = absurd are
+at_start (first t n ns) refs [] i s up are lt is d = absurd are
+at_start (first t n ns) refs (x ∷ xs) zero s up are lt is d =
+    are.1 ∙ sym (ap (λ b. cond b refs (start_in ns (behind_refs n refs) s)) (ap (λ (k : Step). same_bytes s k) (sym are.0 ∙ is x) ∙ itself s))
+at_start (first t n ns) refs (x ∷ xs) (suc i) s up are lt is d =
+    let there = has_at ns (behind_refs n refs) xs i s are.2 (omega (arith, lt)) is in
+    at_start ns (behind_refs n refs) xs i s (tail_of (is_below_all t (steps_in ns)) (ascend (steps_in ns)) up) are.2 (omega (arith, lt)) is d
+    ∙ sym (ap (λ b. cond b refs (start_in ns (behind_refs n refs) s)) (apart s t (steps_in ns) (head_of (is_below_all t (steps_in ns)) (ascend (steps_in ns)) up) there))
 
 adjacent : (xs : List Start) (k : ℕ) (d : Start) → AreSteps (map step_at xs) → suc k < length xs → bytes_cmp (get_or xs k d).step.now (get_or xs (suc k) d).step.now ≡ Less
 adjacent [] k d up lt = absurd (omega (arith, lt))
@@ -129,13 +128,13 @@ placed s (x ∷ xs) there = by (same_bytes s (step_at x)) refl there (λ e. plac
     by false e f later = let p = later f in record { index = suc p.index; below = let l = p.below in omega (arith, l); is = p.is }
 
 -- what a search for a step answers, where the table has it
-pub searched : (ns : Nodes) (from : ℕ) (xs : List Start) (s : Step) (result : Result ℕ ℕ) → AreSteps (steps_in ns) → AreStarts ns from xs → has s (steps_in ns) ≡ true → IsBinarySearchResult (λ x. bytes_cmp (step_at x) s) xs result
+pub searched : (ns : Nodes) (refs : List Stored) (xs : List Start) (s : Step) (result : Result ℕ ℕ) → AreSteps (steps_in ns) → AreStarts ns refs xs → has s (steps_in ns) ≡ true → IsBinarySearchResult (λ x. bytes_cmp (step_at x) s) xs result
     → MatchResult result (λ i. (d : Start) → (get_or xs i d).step.now ≡ s) (λ i. ⊥)
-searched ns from xs s (Ok i) up are there found = λ d. same_step (step_at (get_or xs i d)) s (found d)
-searched ns from xs s (Err i) up are there found = by (order place.index i)
+searched ns refs xs s (Ok i) up are there found = λ d. same_step (step_at (get_or xs i d)) s (found d)
+searched ns refs xs s (Err i) up are there found = by (order place.index i)
   where
     steps : map step_at xs ≡ steps_in ns
-    steps = starts_steps ns from xs are
+    steps = starts_steps ns refs xs are
 
     parted : IsPartitionPoint (λ x. bytes_cmp (step_at x) s ≡ Less) (λ x. bytes_cmp (step_at x) s ≡ Greater) xs i
     parted = found (searchable_from_sorted nat_list_cmp_total step_at xs s (sorted xs (subst AreSteps (sym steps) up)))

@@ -1,11 +1,11 @@
 -- What is laid for a node is what the definition of a batch spells for the tree that it means.
---     OffsetsAt p from xs      new contents below a path lie one behind the other
---     TreeAgrees n t h p from at      of a node.      RootAgrees root t from at, root_agrees      of a root
-use Rattle.std.proofs.Common.{◌≡◌, ℕ, zero, suc, ◌+◌, ◌<◌, ◌≤◌, List, [], ◌∷◌, ◌++◌, length, refl, sym, ap, subst, ◌∙◌, Option, Some, None, Bool, true, false, cond, map, arith, append_assoc}
+--     RefsAt p refs xs      what refers to new contents below a path.      ref_for, refs_are      to those of a table
+--     TreeAgrees n t h p refs at      of a node.      RootAgrees refs root t at, root_agrees      of a root
+use Rattle.std.proofs.Common.{◌≡◌, ℕ, zero, suc, ◌+◌, ◌<◌, ◌≤◌, List, [], ◌∷◌, ◌++◌, length, drop, refl, sym, ap, subst, ◌∙◌, Option, Some, None, Bool, true, false, cond, map, arith, append_assoc}
 use Rattle.std.specs.Prelude.{◌||◌, ◌&&◌, is_none, is_some, if◌then◌else◌, IsSomeAnd}
 use Rattle.std.specs.FinMap.Entries.{find}
 use Rattle.std.proofs.lemmas.Bool.{false≢true}
-use Rattle.std.proofs.lemmas.List.{append-nil}
+use Rattle.std.proofs.lemmas.List.{append-nil, drop-drop}
 use Rattle.ip_spec.specs.Path.{Bytes, Step, Path, bytes_cmp, same_bytes}
 use Rattle.ip_spec.specs.declared.record.Record.{Record}
 use Rattle.ip_spec.specs.Tree.{Tree, contents, entries_of, height, is_contents}
@@ -24,11 +24,26 @@ use Rattle.ip_tree.specs.Meaning.{HasSteps, KnowsParts, NodeIs, NodesAre, RootIs
 use Rattle.ip_tree.specs.Node.{Node, Nodes, Root, stored, contents as new_contents, directory, none, first, unread, loaded, steps_in}
 use Rattle.ip_tree.specs.declared.node.Stored.{Stored}
 use Rattle.ip_tree.proofs.TreeHeights.{directory_height}
-use Rattle.ip_save.specs.Laid.{fresh, lay, lay_at, lay_root, size, size_of}
+use Rattle.ip_save.specs.Laid.{behind_refs, contents_at, lay, lay_at, lay_root, ref_at}
+use Rattle.ip_save.specs.Reused.{refs_of}
 use Rattle.ip_save.proofs.Agreeing.{Names, NamesPart, Stands, if_false, if_true, part_agrees, spelled_by}
 use Rattle.ip_save.proofs.Lawful.{child_of_contents, child_of_directory, contents_height, contents_some}
 use Rattle.ip_save.proofs.News.{fresh_values, news, news_among, news_root, value_of, values_under}
 use Rattle.ip_save.proofs.Split.{under}
+
+-- what refers to contents at a path
+abbrev pub ref_for : (Path → ℕ) → Path × Bytes → Stored
+ref_for offset x = contents_at x.1 (offset x.0)
+
+-- a table of new contents, each with where its record lies
+pub refs_are : (offset : Path → ℕ) (xs : List (Path × Bytes)) (told : List (Bytes × Option ℕ)) → map (λ x. x.0) told ≡ map value_of xs → refs_of told (map (λ x. offset x.0) xs) ≡ map (ref_for offset) xs
+refs_are offset [] [] same = refl
+refs_are offset [] (t ∷ told) same = absurd (cc same)
+refs_are offset (x ∷ xs) [] same = absurd (cc same)
+refs_are offset (x ∷ xs) (t ∷ told) same =
+    let one : t.0 ≡ x.1 = cc same in
+    let rest : map (λ (y : Bytes × Option ℕ). y.0) told ≡ map value_of xs = cc same in
+    ap (λ (b : Bytes). contents_at b (offset x.0) ∷ refs_of told (map (λ (y : Path × Bytes). offset y.0) xs)) one ∙ ap (λ (l : List Stored). ref_for offset x ∷ l) (refs_are offset xs told rest)
 
 module _ (v : View) (offset : Path → ℕ) where
   -- what stands at a path
@@ -43,23 +58,29 @@ module _ (v : View) (offset : Path → ℕ) where
   unfolding spell_directory
   as_part h p t at = refl
 
-  -- new contents below a path lie one behind the other
-  abbrev pub OffsetsAt : Path → ℕ → List (Path × Bytes) → Type 0
-  OffsetsAt p from [] = Unit {0}
-  OffsetsAt p from (x ∷ xs) = (offset (p ++ x.0) ≡ from) × OffsetsAt p (from + size x.1) xs
+  -- what refers to new contents below a path
+  abbrev pub RefsAt : Path → List Stored → List (Path × Bytes) → Type 0
+  RefsAt p refs [] = Unit {0}
+  RefsAt p refs (x ∷ xs) = (ref_at refs ≡ contents_at x.1 (offset (p ++ x.0))) × RefsAt p (drop 1 refs) xs
 
-  offsets_first : (p : Path) (from : ℕ) (xs ys : List (Path × Bytes)) → OffsetsAt p from (xs ++ ys) → OffsetsAt p from xs
-  offsets_first p from [] ys are = tt
-  offsets_first p from (x ∷ xs) ys are = (are.0, offsets_first p (from + size x.1) xs ys are.1)
+  refs_first : (p : Path) (refs : List Stored) (xs ys : List (Path × Bytes)) → RefsAt p refs (xs ++ ys) → RefsAt p refs xs
+  refs_first p refs [] ys are = tt
+  refs_first p refs (x ∷ xs) ys are = (are.0, refs_first p (drop 1 refs) xs ys are.1)
 
-  offsets_rest : (p : Path) (from : ℕ) (xs ys : List (Path × Bytes)) → OffsetsAt p from (xs ++ ys) → OffsetsAt p (from + size_of (map value_of xs)) ys
-  offsets_rest p from [] ys are = let e : from ≡ from + 0 = omega arith in subst (λ n. OffsetsAt p n ys) e are
-  offsets_rest p from (x ∷ xs) ys are =
-      let e : from + size x.1 + size_of (map value_of xs) ≡ from + (size x.1 + size_of (map value_of xs)) = omega arith in subst (λ n. OffsetsAt p n ys) e (offsets_rest p (from + size x.1) xs ys are.1)
+  refs_rest : (p : Path) (refs : List Stored) (xs ys : List (Path × Bytes)) → RefsAt p refs (xs ++ ys) → RefsAt p (drop (length (map value_of xs)) refs) ys
+  refs_rest p refs [] ys are = are
+  refs_rest p refs (x ∷ xs) ys are =
+      let e : drop (length (map value_of xs)) (drop 1 refs) ≡ drop (length (map value_of (x ∷ xs))) refs = drop-drop (length (map value_of xs)) 1 refs ∙ (let n : 1 + length (map value_of xs) ≡ length (map value_of (x ∷ xs)) = omega arith in ap (λ k. drop k refs) n) in
+      subst (λ (l : List Stored). RefsAt p l ys) e (refs_rest p (drop 1 refs) xs ys are.1)
 
-  offsets_under : (p : Path) (s : Step) (from : ℕ) (xs : List (Path × Bytes)) → OffsetsAt p from (map (under s) xs) → OffsetsAt (p ++ s ∷ []) from xs
-  offsets_under p s from [] are = tt
-  offsets_under p s from (x ∷ xs) are = (ap offset (append_assoc p (s ∷ []) x.0) ∙ are.0, offsets_under p s (from + size x.1) xs are.1)
+  refs_under : (p : Path) (s : Step) (refs : List Stored) (xs : List (Path × Bytes)) → RefsAt p refs (map (under s) xs) → RefsAt (p ++ s ∷ []) refs xs
+  refs_under p s refs [] are = tt
+  refs_under p s refs (x ∷ xs) are = (are.0 ∙ ap (λ (q : Path). contents_at x.1 (offset q)) (sym (append_assoc p (s ∷ []) x.0)), refs_under p s (drop 1 refs) xs are.1)
+
+  -- each by its path
+  refs_by : (xs : List (Path × Bytes)) → RefsAt [] (map (ref_for offset) xs) xs
+  refs_by [] = tt
+  refs_by (x ∷ xs) = (refl, refs_by xs)
 
   module _ (records : ℕ → Option Record) (known_offset : (p : Path) (at : ℕ) → v.known (whole_part p) ≡ Some at → offset p ≡ at) where
     -- what is known below a path is what the node tells
@@ -73,19 +94,19 @@ module _ (v : View) (offset : Path → ℕ) where
       under : height t < h
       shallow : height t ≤ 64
 
-    pub record TreeAgrees (n : Node) (t : Tree) (h : ℕ) (p : Path) (from at : ℕ) : Type 0 where
-      pub spelled : spelled_at h p t at ≡ spelled_by (lay n from at)
-      pub names : Names (lay n from at).stands t
+    pub record TreeAgrees (n : Node) (t : Tree) (h : ℕ) (p : Path) (refs : List Stored) (at : ℕ) : Type 0 where
+      pub spelled : spelled_at h p t at ≡ spelled_by (lay n refs at)
+      pub names : Names (lay n refs at).stands t
 
     -- what a record spells is only referred to
-    stored_agrees : (x : Stored) (t : Tree) (h : ℕ) (p : Path) (from at : ℕ) → StoredIs records x t → KnownAt p (stored x) → Low h t → TreeAgrees (stored x) t h p from at
-    stored_agrees x y h p from at (contents_in bytes is low child) known fits = record {
+    stored_agrees : (x : Stored) (t : Tree) (h : ℕ) (p : Path) (refs : List Stored) (at : ℕ) → StoredIs records x t → KnownAt p (stored x) → Low h t → TreeAgrees (stored x) t h p refs at
+    stored_agrees x y h p refs at (contents_in bytes is low child) known fits = record {
       spelled = if_true (is_contents (contents bytes)) (there_already (offset p) at) (spell_directory v offset h p (contents bytes) at) (contents_some bytes)
           ∙ ap (λ o. there_already o at) (known_offset p x.reference.at (known_here p (stored x) (Some x.reference.at) known refl));
       names = record { child = child; high = low ∙ sym (contents_height bytes) };
     }
-    stored_agrees x y zero p from at (directory_in t some spells) known fits = absurd (let u = fits.under in omega (arith, u))
-    stored_agrees x y (suc h) p from at (directory_in t some spells) known fits = record {
+    stored_agrees x y zero p refs at (directory_in t some spells) known fits = absurd (let u = fits.under in omega (arith, u))
+    stored_agrees x y (suc h) p refs at (directory_in t some spells) known fits = record {
       spelled = if_false (is_contents t) (there_already (offset p) at) (spell_directory v offset (suc h) p t at) some.directory
           ∙ known_directory h p t at x.reference.at (known_here p (stored x) (Some x.reference.at) known refl);
       names = record {
@@ -96,15 +117,15 @@ module _ (v : View) (offset : Path → ℕ) where
 
     -- ---- a directory
 
-    pub record DirectoryAgrees (root : shape.Part Stored) (ns : Nodes) (t : Tree) (h : ℕ) (p : Path) (from at : ℕ) : Type 0 where
-      pub spelled : spell_directory v offset h p t at ≡ spelled_by (lay (directory root ns) from at)
-      pub names : NamesPart 0 (entries_of t).entries (lay (directory root ns) from at).stands
+    pub record DirectoryAgrees (root : shape.Part Stored) (ns : Nodes) (t : Tree) (h : ℕ) (p : Path) (refs : List Stored) (at : ℕ) : Type 0 where
+      pub spelled : spell_directory v offset h p t at ≡ spelled_by (lay (directory root ns) refs at)
+      pub names : NamesPart 0 (entries_of t).entries (lay (directory root ns) refs at).stands
 
     -- each entry that was read is laid as it is spelled
-    abbrev BelowAgrees : Nodes → Tree → ℕ → Path → ℕ → Type 0
-    BelowAgrees ns t h p from =
+    abbrev BelowAgrees : Nodes → Tree → ℕ → Path → List Stored → Type 0
+    BelowAgrees ns t h p refs =
         (s : Step) (sub : Tree) → find bytes_cmp s (entries_of t).entries ≡ Some sub → has s (steps_in ns) ≡ true → (at : ℕ)
-        → (spelled_at h (p ++ s ∷ []) sub at ≡ spelled_by (lay_at ns from s at)) × Names (lay_at ns from s at).stands sub
+        → (spelled_at h (p ++ s ∷ []) sub at ≡ spelled_by (lay_at ns refs s at)) × Names (lay_at ns refs s at).stands sub
 
     was_read : (root : shape.Part Stored) (s : Step) → unread_in (way deepest 0 s) root ≡ None → is_read root s ≡ true
     unfolding way_to
@@ -113,11 +134,11 @@ module _ (v : View) (offset : Path → ℕ) where
     spells_from : (x : Stored) (es : Entries) (is : List ℕ) → SpellsPart records (length is) x (part es is) → SpellsPart records (0 + length is) x (part_from 0 es is)
     spells_from x es is spells = let e : length is ≡ 0 + length is = omega arith in subst (λ d. SpellsPart records d x (part es is)) e spells
 
-    directory_agrees : (root : shape.Part Stored) (ns : Nodes) (t : Tree) (h : ℕ) (p : Path) (from at : ℕ) → HasSteps root (steps_in ns) (entries_of t).entries → KnowsParts records root (entries_of t).entries → KnownAt p (directory root ns)
-        → Low (suc h) t → BelowAgrees ns t h p from → DirectoryAgrees root ns t (suc h) p from at
-    directory_agrees root ns t h p from at steps knows known low below =
+    directory_agrees : (root : shape.Part Stored) (ns : Nodes) (t : Tree) (h : ℕ) (p : Path) (refs : List Stored) (at : ℕ) → HasSteps root (steps_in ns) (entries_of t).entries → KnowsParts records root (entries_of t).entries → KnownAt p (directory root ns)
+        → Low (suc h) t → BelowAgrees ns t h p refs → DirectoryAgrees root ns t (suc h) p refs at
+    directory_agrees root ns t h p refs at steps knows known low below =
         let es = (entries_of t).entries in
-        let stands : Stands v offset (spell_directory v offset h) p (λ s. lay_at ns from s) records deepest 0 [] es root = record {
+        let stands : Stands v offset (spell_directory v offset h) p (λ s. lay_at ns refs s) records deepest 0 [] es root = record {
           sum = refl;
           up = steps.ascend;
           shape = steps.shape;
@@ -128,52 +149,53 @@ module _ (v : View) (offset : Path → ℕ) where
               ap (has s) steps.held ∙ has-filter (is_read root) s (steps_of es) ∙ ap (λ b. b && has s (steps_of es)) (was_read root s open_way) ∙ has_of s es ∙ ap is_some found in
               (below s sub found member, (let a = entry_height t s sub found in let b = low.shallow in omega (arith, a, b)));
         } in
-        let agrees = part_agrees v offset (spell_directory v offset h) p (λ s. lay_at ns from s) records deepest 0 [] es root at stands in
+        let agrees = part_agrees v offset (spell_directory v offset h) p (λ s. lay_at ns refs s) records deepest 0 [] es root at stands in
         record { spelled = as_part h p t at ∙ agrees.spelled; names = agrees.names }
 
     -- ---- below
 
-    rest_from : (p : Path) (t : Step) (n : Node) (ns : Nodes) (from : ℕ) → OffsetsAt p from (news_among (first t n ns)) → OffsetsAt p (from + size_of (fresh n)) (news_among ns)
-    rest_from p t n ns from offsets = subst (λ (l : List Bytes). OffsetsAt p (from + size_of l) (news_among ns)) (values_under t (news n) ∙ fresh_values n) (offsets_rest p from (map (under t) (news n)) (news_among ns) offsets)
+    rest_from : (p : Path) (t : Step) (n : Node) (ns : Nodes) (refs : List Stored) → RefsAt p refs (news_among (first t n ns)) → RefsAt p (behind_refs n refs) (news_among ns)
+    rest_from p t n ns refs are = subst (λ (l : List Bytes). RefsAt p (drop (length l) refs) (news_among ns)) (values_under t (news n) ∙ fresh_values n) (refs_rest p refs (map (under t) (news n)) (news_among ns) are)
 
-    abbrev StepAgrees : Nodes → Tree → Step → ℕ → Path → ℕ → ℕ → Type 0
-    StepAgrees ns sub s h p from at = (spelled_at h (p ++ s ∷ []) sub at ≡ spelled_by (lay_at ns from s at)) × Names (lay_at ns from s at).stands sub
+    abbrev StepAgrees : Nodes → Tree → Step → ℕ → Path → List Stored → ℕ → Type 0
+    StepAgrees ns sub s h p refs at = (spelled_at h (p ++ s ∷ []) sub at ≡ spelled_by (lay_at ns refs s at)) × Names (lay_at ns refs s at).stands sub
 
     -- what is known below the step
     abbrev KnownUnder : Path → Step → Nodes → (Path → List ℕ → Option ℕ) → Type 0
     KnownUnder p s ns other = (q : Path) (is : List ℕ) → v.known (record { path = p ++ s ∷ q; indexes = is }) ≡ known_among records ns s q is (other q is)
 
-    first_agrees : (t : Step) (n : Node) (ns : Nodes) (sub : Tree) (s : Step) (h : ℕ) (p : Path) (from at : ℕ) (all : Entries) (other : Path → List ℕ → Option ℕ) → IsSomeAnd (find bytes_cmp t all) (λ w. NodeIs records n w) → OffsetsAt p from (news_among (first t n ns))
+    first_agrees : (t : Step) (n : Node) (ns : Nodes) (sub : Tree) (s : Step) (h : ℕ) (p : Path) (refs : List Stored) (at : ℕ) (all : Entries) (other : Path → List ℕ → Option ℕ) → IsSomeAnd (find bytes_cmp t all) (λ w. NodeIs records n w) → RefsAt p refs (news_among (first t n ns))
         → KnownUnder p s (first t n ns) other → find bytes_cmp s all ≡ Some sub → has s (steps_in (first t n ns)) ≡ true
-        → (NodeIs records n sub → KnownAt (p ++ s ∷ []) n → OffsetsAt (p ++ s ∷ []) from (news n) → TreeAgrees n sub h (p ++ s ∷ []) from at)
-        → (KnownUnder p s ns other → has s (steps_in ns) ≡ true → StepAgrees ns sub s h p (from + size_of (fresh n)) at) → StepAgrees (first t n ns) sub s h p from at
-    first_agrees t n ns sub s h p from at all other means offsets known found there one later = by (same_bytes s t) refl known there
+        → (NodeIs records n sub → KnownAt (p ++ s ∷ []) n → RefsAt (p ++ s ∷ []) refs (news n) → TreeAgrees n sub h (p ++ s ∷ []) refs at)
+        → (KnownUnder p s ns other → has s (steps_in ns) ≡ true → StepAgrees ns sub s h p (behind_refs n refs) at) → StepAgrees (first t n ns) sub s h p refs at
+    first_agrees t n ns sub s h p refs at all other means are known found there one later = by (same_bytes s t) refl known there
       where
         by : (b : Bool) → same_bytes s t ≡ b → ((q : Path) (is : List ℕ) → v.known (record { path = p ++ s ∷ q; indexes = is }) ≡ cond b (known_at records n q is) (known_among records ns s q is (other q is)))
-            → (b || has s (steps_in ns)) ≡ true → (spelled_at h (p ++ s ∷ []) sub at ≡ spelled_by (cond b (lay n from at) (lay_at ns (from + size_of (fresh n)) s at))) × Names (cond b (lay n from at) (lay_at ns (from + size_of (fresh n)) s at)).stands sub
+            → (b || has s (steps_in ns)) ≡ true → (spelled_at h (p ++ s ∷ []) sub at ≡ spelled_by (cond b (lay n refs at) (lay_at ns (behind_refs n refs) s at))) × Names (cond b (lay n refs at) (lay_at ns (behind_refs n refs) s at)).stands sub
         by true same below there =
             let is : s ≡ t = same_step s t (equal (bytes_cmp s t) same) in
             let node : NodeIs records n sub = subst (λ o. IsSomeAnd o (λ w. NodeIs records n w)) (ap (λ (k : Step). find bytes_cmp k all) (sym is) ∙ found) means in
             let agrees =
             one node (λ q w. ap (λ (r : Path). v.known (record { path = r; indexes = w })) (append_assoc p (s ∷ []) q) ∙ below q w)
-            (subst (λ (k : Step). OffsetsAt (p ++ k ∷ []) from (news n)) (sym is) (offsets_under p t from (news n) (offsets_first p from (map (under t) (news n)) (news_among ns) offsets))) in
+            (subst (λ (k : Step). RefsAt (p ++ k ∷ []) refs (news n)) (sym is) (refs_under p t refs (news n) (refs_first p refs (map (under t) (news n)) (news_among ns) are))) in
             (agrees.spelled, agrees.names)
         by false apart below there = later below there
 
     mutual
-      one_agrees : (n : Node) (t : Tree) (h : ℕ) (p : Path) (from at : ℕ) → NodeIs records n t → KnownAt p n → OffsetsAt p from (news n) → Low h t → TreeAgrees n t h p from at
-      one_agrees (stored x) t h p from at is known offsets low = stored_agrees x t h p from at is known low
-      one_agrees (new_contents b) t h p from at is known offsets low = record {
-        spelled = if_true (is_contents t) (there_already (offset p) at) (spell_directory v offset h p t at) (ap is_contents is ∙ contents_some b) ∙ ap (λ o. there_already o at) (ap offset (sym (append-nil p)) ∙ offsets.0);
-        names = record { child = sym (child_of_contents b) ∙ ap child_of (sym is); high = sym (contents_height b) ∙ ap height (sym is) };
+      one_agrees : (n : Node) (t : Tree) (h : ℕ) (p : Path) (refs : List Stored) (at : ℕ) → NodeIs records n t → KnownAt p n → RefsAt p refs (news n) → Low h t → TreeAgrees n t h p refs at
+      one_agrees (stored x) t h p refs at is known are low = stored_agrees x t h p refs at is known low
+      one_agrees (new_contents b) t h p refs at is known are low = record {
+        spelled = if_true (is_contents t) (there_already (offset p) at) (spell_directory v offset h p t at) (ap is_contents is ∙ contents_some b)
+            ∙ ap (λ o. there_already o at) (ap offset (sym (append-nil p)) ∙ sym (ap (λ (x : Stored). x.reference.at) are.0));
+        names = subst (λ (x : Stored). Names x t) (sym are.0) record { child = sym (child_of_contents b) ∙ ap child_of (sym is); high = sym (contents_height b) ∙ ap height (sym is) };
       }
-      one_agrees (directory root ns) t zero p from at is known offsets low = absurd (let u = low.under in omega (arith, u))
-      one_agrees (directory root ns) t (suc h) p from at is known offsets low =
+      one_agrees (directory root ns) t zero p refs at is known are low = absurd (let u = low.under in omega (arith, u))
+      one_agrees (directory root ns) t (suc h) p refs at is known are low =
           let d =
-          directory_agrees root ns t h p from at is.1 is.2 known low
+          directory_agrees root ns t h p refs at is.1 is.2 known low
           (λ s sub found there next.
           let inner : Low h sub = (let a = entry_height t s sub found in let u = low.under in let k = low.shallow in record { under = omega (arith, a, u); shallow = omega (arith, a, k) }) in
-          nodes_agree ns (entries_of t).entries h p from is.3 offsets s sub (λ q w. below_unread records root s q w) (λ q w. known (s ∷ q) w) found there inner next) in
+          nodes_agree ns (entries_of t).entries h p refs is.3 are s sub (λ q w. below_unread records root s q w) (λ q w. known (s ∷ q) w) found there inner next) in
           record {
             spelled = if_false (is_contents t) (there_already (offset p) at) (spell_directory v offset (suc h) p t at) is.0.directory ∙ d.spelled;
             names = record {
@@ -182,36 +204,36 @@ module _ (v : View) (offset : Path → ℕ) where
             };
           }
 
-      nodes_agree : (ns : Nodes) (all : Entries) (h : ℕ) (p : Path) (from : ℕ) → NodesAre records ns all → OffsetsAt p from (news_among ns) → (s : Step) (sub : Tree) (other : Path → List ℕ → Option ℕ) → KnownUnder p s ns other
-          → find bytes_cmp s all ≡ Some sub → has s (steps_in ns) ≡ true → Low h sub → (at : ℕ) → StepAgrees ns sub s h p from at
-      nodes_agree none all h p from means offsets s sub other known found there low at = absurd (false≢true there)
-      nodes_agree (first t n ns) all h p from means offsets s sub other known found there low at =
-          first_agrees t n ns sub s h p from at all other means.0 offsets known found there (λ node below under. one_agrees n sub h (p ++ s ∷ []) from at node below under low)
-          (λ below later. nodes_agree ns all h p (from + size_of (fresh n)) means.1 (rest_from p t n ns from offsets) s sub other below found later low at)
+      nodes_agree : (ns : Nodes) (all : Entries) (h : ℕ) (p : Path) (refs : List Stored) → NodesAre records ns all → RefsAt p refs (news_among ns) → (s : Step) (sub : Tree) (other : Path → List ℕ → Option ℕ) → KnownUnder p s ns other
+          → find bytes_cmp s all ≡ Some sub → has s (steps_in ns) ≡ true → Low h sub → (at : ℕ) → StepAgrees ns sub s h p refs at
+      nodes_agree none all h p refs means are s sub other known found there low at = absurd (false≢true there)
+      nodes_agree (first t n ns) all h p refs means are s sub other known found there low at =
+          first_agrees t n ns sub s h p refs at all other means.0 are known found there (λ node below under. one_agrees n sub h (p ++ s ∷ []) refs at node below under low)
+          (λ below later. nodes_agree ns all h p (behind_refs n refs) means.1 (rest_from p t n ns refs are) s sub other below found later low at)
 
     -- ---- the root
 
-    pub record RootAgrees (root : Root) (t : Tree) (from at : ℕ) : Type 0 where
-      pub spelled : spell_directory v offset (suc (height t)) [] t at ≡ spelled_by (lay_root root from at)
-      pub named : (lay_root root from at).stands.reference ≡ record { at = (lay_root root from at).stands.reference.at; name = root_name t; kind = 2 }
-      pub low : (lay_root root from at).stands.height ≤ height t
+    pub record RootAgrees (refs : List Stored) (root : Root) (t : Tree) (at : ℕ) : Type 0 where
+      pub spelled : spell_directory v offset (suc (height t)) [] t at ≡ spelled_by (lay_root refs root at)
+      pub named : (lay_root refs root at).stands.reference ≡ record { at = (lay_root refs root at).stands.reference.at; name = root_name t; kind = 2 }
+      pub low : (lay_root refs root at).stands.height ≤ height t
 
-    pub root_agrees : (root : Root) (t : Tree) (from at : ℕ) → RootIs records root t → ((part : Part) → v.known part ≡ known_of records root part) → OffsetsAt [] from (news_root root) → height t ≤ 64 → RootAgrees root t from at
-    root_agrees (unread r) t from at is known offsets shallow = record {
+    pub root_agrees : (refs : List Stored) (root : Root) (t : Tree) (at : ℕ) → RootIs records root t → ((part : Part) → v.known part ≡ known_of records root part) → refs ≡ map (ref_for offset) (news_root root) → height t ≤ 64 → RootAgrees refs root t at
+    root_agrees refs (unread r) t at is known are shallow = record {
       spelled = known_directory (height t) [] t at r.at (known (whole_part []));
       named = λ i. record { at = r.at; name = is.1.name i; kind = is.1.kind i };
       low = omega arith;
     }
-    root_agrees (loaded root ns) t from at is known offsets shallow =
+    root_agrees refs (loaded root ns) t at is known are shallow =
         let low : Low (suc (height t)) t = record { under = omega arith; shallow = shallow } in
         let d =
-        directory_agrees root ns t (height t) [] from at is.steps is.parts (λ q w. known (record { path = q; indexes = w })) low
+        directory_agrees root ns t (height t) [] refs at is.steps is.parts (λ q w. known (record { path = q; indexes = w })) low
         (λ s sub found there next.
         let inner : Low (height t) sub = (let a = entry_height t s sub found in record { under = omega (arith, a); shallow = omega (arith, a, shallow) }) in
-        nodes_agree ns (entries_of t).entries (height t) [] from is.nodes offsets s sub (λ q w. below_unread records root s q w) (λ q w. known (record { path = s ∷ q; indexes = w })) found there inner next) in
+        nodes_agree ns (entries_of t).entries (height t) [] refs is.nodes (subst (λ (l : List Stored). RefsAt [] l (news_among ns)) (sym are) (refs_by (news_among ns))) s sub (λ q w. below_unread records root s q w) (λ q w. known (record { path = s ∷ q; indexes = w })) found there inner next) in
         let high = d.names.high ∙ sym (directory_height t is.directory) in
         record {
           spelled = d.spelled;
-          named = λ i. record { at = (lay (directory root ns) from at).stands.reference.at; name = (d.names.name ∙ sym (root_name-entries t)) i; kind = d.names.kind i };
+          named = λ i. record { at = (lay (directory root ns) refs at).stands.reference.at; name = (d.names.name ∙ sym (root_name-entries t)) i; kind = d.names.kind i };
           low = omega (arith, high);
         }

@@ -2,25 +2,27 @@
 --     fresh n      the new contents, in the order of their paths.      contents_bytes bs      the bytes of their records.      size_of bs      how many these are
 --     longest n      the greatest length of the new contents.      breadth n      the most entries of a directory that was loaded
 --     count_of part      how many entries a part has.      record_of part      the record that spells it, where one is known
---     lay n from at      the records of the directories that are to be written, from the offset `at` on, where the new contents below the node lie from `from` on
---     lay_at ns from s at      of the node at a step, where those below the first node lie from `from` on.      start_in ns from s      where those at the step begin
+--     ref_at refs      the first of these references.      behind_refs n refs      those that are left behind a node
+--     lay n refs at      the records of the directories that are to be written, from the offset `at` on, where the first of `refs` refer to the new contents below the node
+--     lay_at ns refs s at      of the node at a step, where they refer to those below the nodes.      start_in ns refs s      those from the step on
 --     lay_part child levels depth part at      of a part, where `child` lays what stands at a step
 --     fresh_root, longest_root, breadth_root, lay_root      of a root
---     AreStarts ns from starts, IsReady dir from table end      a table of where the new contents of each entry begin
---     IsLaid, IsRow, IsLaidRoot      what the walk over directories does.      IsCause l b h fault      a limit only where one of the three is passed
-use Rattle.std.specs.Prelude.{◌≡◌, ℕ, zero, suc, ◌+◌, ◌<◌, ◌≤◌, ◌^◌, ◌==◌, cond, max, List, [], ◌∷◌, ◌++◌, length, map, flat_map, Option, Some, None}
+--     AreStarts ns refs starts, IsReady dir refs table end      a table of the references from each entry on
+--     IsLaid, IsRow, IsLaidRoot      what the walk over directories does.      IsCause b h fault      a limit only where one of the two is passed
+use Rattle.std.specs.Prelude.{◌≡◌, ℕ, zero, suc, ◌+◌, ◌<◌, ◌≤◌, ◌==◌, cond, max, List, [], ◌∷◌, ◌++◌, length, drop, map, flat_map, slice_get, unwrap_or, Option, Some, None}
 use Rattle.std.specs.List.{AllByRecursion}
 use Rattle.sha2.specs.Sha256.{sha256}
 use Rattle.ip_base.specs.declared.limit.TheConstants.{OFFSET_MAX}
-use Rattle.ip_base.specs.declared.limit.Limit.TheVariants.{Contents, Depth, Entries}
+use Rattle.ip_base.specs.declared.limit.Limit.TheVariants.{Depth, Entries}
 use Rattle.ip_spec.specs.Path.{Bytes, Step, same_bytes}
+use Rattle.ip_spec.specs.declared.kind.TheConstants as kinds
 use Rattle.ip_spec.specs.declared.record.Record.{Record}
 use Rattle.ip_spec.specs.declared.record.LeafEntry.{LeafEntry}
 use Rattle.ip_spec.specs.declared.record.InodeChild.{InodeChild}
 use Rattle.ip_spec.specs.declared.record.Ref.{Ref}
 use Rattle.ip_spec.specs.Record.{Hash, Fits, spelling, spelling_of}
 use Rattle.ip_spec.specs.Shape.{deepest}
-use Rattle.ip_spec.specs.Step.{contents_limit, entries_limit, steps_limit}
+use Rattle.ip_spec.specs.Step.{entries_limit, steps_limit}
 use Rattle.ip_spec.specs.TreeAt.{Records}
 use Rattle.ip_shape.specs.Heights.{inode_height, leaf_height}
 use Rattle.ip_shape.specs.PartNames.{inode_name, leaf_name}
@@ -33,7 +35,7 @@ use Rattle.ip_tree.specs.Shown.{entries_shown}
 use Rattle.ip_tree.specs.declared.node.Node as code
 use Rattle.ip_tree.specs.declared.node.Stored.{Stored}
 use Rattle.ip_save.specs.declared.batch.SaveFault.{SaveFault}
-use Rattle.ip_save.specs.declared.batch.SaveFault.TheVariants.{Limit, Memory}
+use Rattle.ip_save.specs.declared.batch.SaveFault.TheVariants.{Limit, Space, Fetch, Memory}
 use Rattle.ip_save.specs.declared.starts.Start.{Start}
 
 -- ---- new contents
@@ -111,11 +113,11 @@ child_for i n x = record { index = i; count = n; height = x.height; name = x.ref
 
 -- contents whose record lies there
 abbrev pub contents_at : Bytes → ℕ → Stored
-contents_at bytes at = record { reference = record { at = at; name = sha256 bytes; kind = 1 }; height = 0 }
+contents_at bytes at = record { reference = record { at = at; name = sha256 bytes; kind = kinds.CONTENTS }; height = 0 }
 
 -- a part of a directory whose record lies there
 abbrev pub part_at : ℕ → Hash → ℕ → Stored
-part_at height name at = record { reference = record { at = at; name = name; kind = 2 }; height = height }
+part_at height name at = record { reference = record { at = at; name = name; kind = kinds.DIRECTORY }; height = height }
 
 abbrev pub new_leaf : List LeafEntry → ℕ → Stored
 new_leaf fields at = part_at (leaf_height fields) (leaf_name fields) at
@@ -181,19 +183,27 @@ module _ (child : Step → ℕ → Laid) where
   lay_part zero depth part at = lay_layer lay_nothing depth (out-Part Stored part) at
   lay_part (suc levels) depth part at = lay_layer (lay_part levels (suc depth)) depth (out-Part Stored part) at
 
+-- the first of these references
+abbrev pub ref_at : List Stored → Stored
+ref_at refs = unwrap_or (slice_get refs 0) (contents_at [] 0)
+
+-- those that are left behind a node
+abbrev pub behind_refs : Node → List Stored → List Stored
+behind_refs n refs = drop (length (fresh n)) refs
+
 abbrev mutual
-  pub lay : Node → ℕ → ℕ → Laid
-  lay (stored x) from at = there x at
-  lay (contents bytes) from at = there (contents_at bytes from) at
-  lay (directory root ns) from at = lay_part (λ s. lay_at ns from s) deepest 0 root at
+  pub lay : Node → List Stored → ℕ → Laid
+  lay (stored x) refs at = there x at
+  lay (contents bytes) refs at = there (ref_at refs) at
+  lay (directory root ns) refs at = lay_part (λ s. lay_at ns refs s) deepest 0 root at
 
-  pub lay_at : Nodes → ℕ → Step → ℕ → Laid
-  lay_at none from s at = behind_leaf (no_row at)
-  lay_at (first t n ns) from s at = cond (same_bytes s t) (lay n from at) (lay_at ns (from + size_of (fresh n)) s at)
+  pub lay_at : Nodes → List Stored → Step → ℕ → Laid
+  lay_at none refs s at = behind_leaf (no_row at)
+  lay_at (first t n ns) refs s at = cond (same_bytes s t) (lay n refs at) (lay_at ns (behind_refs n refs) s at)
 
-abbrev pub start_in : Nodes → ℕ → Step → ℕ
-start_in none from s = from
-start_in (first t n ns) from s = cond (same_bytes s t) from (start_in ns (from + size_of (fresh n)) s)
+abbrev pub start_in : Nodes → List Stored → Step → List Stored
+start_in none refs s = refs
+start_in (first t n ns) refs s = cond (same_bytes s t) refs (start_in ns (behind_refs n refs) s)
 
 -- ---- roots
 
@@ -209,27 +219,27 @@ abbrev pub breadth_root : Root → ℕ
 breadth_root (unread r) = 0
 breadth_root (loaded root ns) = breadth (directory root ns)
 
-abbrev pub lay_root : Root → ℕ → ℕ → Laid
-lay_root (unread r) from at = there (record { reference = r; height = 0 }) at
-lay_root (loaded root ns) from at = lay (directory root ns) from at
+abbrev pub lay_root : List Stored → Root → ℕ → Laid
+lay_root refs (unread r) at = there (record { reference = r; height = 0 }) at
+lay_root refs (loaded root ns) at = lay (directory root ns) refs at
 
--- ---- where new contents begin
+-- ---- what refers to new contents
 
-abbrev pub AreStarts : Nodes → ℕ → List Start → Type 0
-AreStarts none from [] = Unit {0}
-AreStarts none from (x ∷ xs) = ⊥
-AreStarts (first s n ns) from [] = ⊥
-AreStarts (first s n ns) from (x ∷ xs) = (x.step.now ≡ s) × (x.at ≡ from) × AreStarts ns (from + size_of (fresh n)) xs
+abbrev pub AreStarts : Nodes → List Stored → List Start → Type 0
+AreStarts none refs [] = Unit {0}
+AreStarts none refs (x ∷ xs) = ⊥
+AreStarts (first s n ns) refs [] = ⊥
+AreStarts (first s n ns) refs (x ∷ xs) = (x.step.now ≡ s) × (x.refs.now ≡ refs) × AreStarts ns (behind_refs n refs) xs
 
 -- what stands in a directory at the steps whose parts were read
 abbrev pub nodes_in : Dir code.Node Stored → Nodes
 nodes_in dir = nodes_of (entries_shown dir)
 
--- the table is the directory's, whose first new contents lie at `from`, and the offsets from the end of what there was on can be counted
-pub record IsReady (dir : Dir code.Node Stored) (from : ℕ) (table : List Start) (end : ℕ) : Type 0 where
+-- the table is the directory's, there are references enough, and the offsets from the end of what there was on can be counted
+pub record IsReady (dir : Dir code.Node Stored) (refs : List Stored) (table : List Start) (end : ℕ) : Type 0 where
   pub ascend : AreSteps (steps_in (nodes_in dir))
-  pub starts : AreStarts (nodes_in dir) from table
-  pub room : from + size_of (fresh_among (nodes_in dir)) < 2 ^ 64
+  pub starts : AreStarts (nodes_in dir) refs table
+  pub enough : length (fresh_among (nodes_in dir)) ≤ length refs
   pub low : end ≤ OFFSET_MAX
 
 -- ---- what the walks do
@@ -260,32 +270,30 @@ pub record IsRow {F : Type 0} (end : ℕ) (walk : ℕ → LaidRow F) (before aft
   pub fields : row ≡ (walk (behind_bytes end before)).fields
   pub fits : AllFit (walk (behind_bytes end before)).records
 
-pub record IsLaidRoot (end : ℕ) (root : Root) (before after : Bytes) (r : Ref) : Type 0 where
-  pub bytes : after ≡ before ++ bytes_of (lay_root root end (behind_bytes end before)).records
-  pub stands : r ≡ (lay_root root end (behind_bytes end before)).stands.reference
-  pub fits : AllFit (lay_root root end (behind_bytes end before)).records
+pub record IsLaidRoot (end : ℕ) (refs : List Stored) (root : Root) (before after : Bytes) (r : Ref) : Type 0 where
+  pub bytes : after ≡ before ++ bytes_of (lay_root refs root (behind_bytes end before)).records
+  pub stands : r ≡ (lay_root refs root (behind_bytes end before)).stands.reference
+  pub fits : AllFit (lay_root refs root (behind_bytes end before)).records
 
--- limits of contents, of a directory's entries and of steps
-abbrev pub IsCause : ℕ → ℕ → ℕ → SaveFault → Type 0
-IsCause l b h (Limit Contents) = contents_limit < l
-IsCause l b h (Limit Entries) = entries_limit < b
-IsCause l b h (Limit Depth) = steps_limit < h
-IsCause l b h (Limit other) = ⊥
-IsCause l b h Memory = Unit {0}
-
-abbrev pub IsLongFault : ℕ → SaveFault → Type 0
-IsLongFault l = IsCause l 0 0
+-- limits of a directory's entries and of steps
+abbrev pub IsCause : ℕ → ℕ → SaveFault → Type 0
+IsCause b h (Limit Entries) = entries_limit < b
+IsCause b h (Limit Depth) = steps_limit < h
+IsCause b h (Limit other) = ⊥
+IsCause b h (Space name) = ⊥
+IsCause b h (Fetch fault) = ⊥
+IsCause b h Memory = Unit {0}
 
 -- steps alone
 abbrev pub IsHighFault : ℕ → SaveFault → Type 0
-IsHighFault h = IsCause 0 0 h
+IsHighFault h = IsCause 0 h
 
 -- of a walk over directories of at most so many entries: the height is that of what it lays
 abbrev pub IsLayFault : ℕ → ℕ → (ℕ → Laid) → Bytes → SaveFault → Type 0
-IsLayFault breadth end walk before = IsCause 0 breadth (walk (behind_bytes end before)).stands.height
+IsLayFault breadth end walk before = IsCause breadth (walk (behind_bytes end before)).stands.height
 
 abbrev pub IsRowFault : {F : Type 0} → (List F → ℕ) → ℕ → ℕ → (ℕ → LaidRow F) → Bytes → SaveFault → Type 0
-IsRowFault height breadth end walk before = IsCause 0 breadth (height (walk (behind_bytes end before)).fields)
+IsRowFault height breadth end walk before = IsCause breadth (height (walk (behind_bytes end before)).fields)
 
-abbrev pub IsRootFault : ℕ → Root → Bytes → SaveFault → Type 0
-IsRootFault end root before = IsLayFault (breadth_root root) end (lay_root root end) before
+abbrev pub IsRootFault : ℕ → List Stored → Root → Bytes → SaveFault → Type 0
+IsRootFault end refs root before = IsLayFault (breadth_root root) end (lay_root refs root) before

@@ -1,2 +1,4 @@
 pub mod Laid
+pub mod Reused
+pub mod Earlier
 pub mod Batches

@@ -1,13 +1,15 @@
 // The records of directories that no record is known to spell.
-ghost use Rattle.std.specs.Prelude.{◌≡◌, ◌≢◌, ◌+◌, ◌-◌, ◌++◌, ◌≤◌, ◌<◌, ◌^◌, ℕ, length, Option, Some, None, IfErr, IfOk, OnOk, MatchResult, IsOkAnd, IsSomeAnd};
+ghost use Rattle.std.specs.Prelude.{◌≡◌, ◌≢◌, ◌+◌, ◌-◌, ◌++◌, ◌≤◌, ◌<◌, ℕ, List, length, Option, Some, None, IfErr, IfOk, OnOk, MatchResult, IsOkAnd, IsSomeAnd};
 ghost use Rattle.ip_base.specs.declared.limit.TheConstants.{OFFSET_MAX};
 ghost use Rattle.ip_save.specs.Laid.{IsHighFault, IsLaid, IsLaidRoot, IsLayFault, IsReady, IsRootFault, IsRow, IsRowFault};
-ghost use Rattle.ip_save.specs.Laid.{breadth, breadth_among, contents_at, count_of, fresh, fresh_root, lay, lay_at, lay_children, lay_part, lay_steps, new_inode, new_leaf, nodes_in, record_of, size_of};
+ghost use Rattle.ip_save.specs.Laid.{breadth, breadth_among, count_of, fresh, fresh_root, lay, lay_at, lay_children, lay_part, lay_steps, new_inode, new_leaf, nodes_in, record_of, ref_at};
+ghost use Rattle.ip_save.specs.declared.batch.SaveFault.TheVariants as SaveFault;
 ghost use Rattle.ip_shape.specs.Heights.{inode_height, leaf_height};
 ghost use Rattle.ip_spec.specs.Record.{Fits, spelling};
 ghost use Rattle.ip_spec.specs.Shape.{deepest};
 ghost use Rattle.ip_spec.specs.declared.record.Record.TheVariants as Record;
 ghost use Rattle.ip_tree.specs.Shown.{shown, shown_directory, shown_root};
+ghost use Rattle.ip_tree.specs.declared.node.Stored.{Stored};
 
 use crate::SaveFault;
 use crate::inode::add_child;
@@ -17,63 +19,65 @@ use crate::records::{put_inode, put_leaf};
 use crate::starts::{Start, start_at, starts_of};
 use ip_base::limit::ENTRIES_MAX;
 use ip_base::{Items, Limit, Step};
-use ip_object::hash_contents;
 use ip_shape::dir::find;
 use ip_shape::height::{inode_height, leaf_height};
 use ip_shape::part::Part;
 use ip_shape::places::DEEPEST;
-use ip_spec::kind::{CONTENTS, DIRECTORY};
+use ip_spec::kind::DIRECTORY;
 use ip_spec::record::{InodeChildren, LeafEntries, Ref};
 use ip_tree::{Directory, Node, Root, Stored};
 use std::alloc::Global;
 
-/// Puts the records of the directories of a tree behind those of its new contents, which alone are there and lie from the offset `end` on,
-/// and answers the root.
-pub fn put_root(alloc: Global, root: &Root, end: u64, out: &mut Vec<u8>) -> Result<Ref, SaveFault>
+/// Puts the records of the directories of a tree behind what is there, whose first byte lies at the offset `end`, and answers the root. Of each of
+/// the tree's new contents, ascending by path, `refs` has what refers to it.
+pub fn put_root(
+    alloc: Global,
+    root: &Root,
+    refs: &[Stored],
+    end: u64,
+    out: &mut Vec<u8>,
+) -> Result<Ref, SaveFault>
     requires end { end ≤ OFFSET_MAX }
-    requires contents { length out.old.items ≡ size_of (fresh_root (shown_root root.now)) }
-    ensures laid { MatchResult result (IsLaidRoot end (shown_root root.now) out.old.items out.new.items) (IsRootFault end (shown_root root.now) out.old.items) }
+    requires all { length refs.now ≡ length (fresh_root (shown_root root.now)) }
+    ensures laid { MatchResult result (IsLaidRoot end refs.now (shown_root root.now) out.old.items out.new.items) (IsRootFault end refs.now (shown_root root.now) out.old.items) }
 {
     match root {
         Root::Stored(reference) => Ok(*reference),
-        Root::Loaded(dir) => {
-            let stored = put_directory(alloc, dir, end, end, out)?;
-            Ok(stored.reference)
-        }
+        Root::Loaded(dir) => match put_directory(alloc, dir, refs, end, out) {
+            Ok(stored) => Ok(stored.reference),
+            Err(fault) => Err(fault),
+        },
     }
 }
 
-// Puts the records of what stands at a node, where there are such, and answers what refers to it. Its first new contents lie at `from`, and the
-// first byte at `end`.
+// Puts the records of what stands at a node, where there are such, and answers what refers to it. The first of `refs` refer to its new contents, and
+// the first byte lies at `end`.
 #[cycle(lay)]
 fn put_node(
     alloc: Global,
     node: &Node,
-    from: u64,
+    refs: &[Stored],
     end: u64,
     out: &mut Vec<u8>,
 ) -> Result<Stored, SaveFault>
-    ensures laid { end ≤ OFFSET_MAX → from + size_of (fresh (shown node.now)) < 2 ^ 64
-        → MatchResult result (IsLaid end (lay (shown node.now) from) out.old.items out.new.items) (IsLayFault (breadth (shown node.now)) end (lay (shown node.now) from) out.old.items) }
+    ensures laid { end ≤ OFFSET_MAX → length (fresh (shown node.now)) ≤ length refs.now
+        → MatchResult result (IsLaid end (lay (shown node.now) refs.now) out.old.items out.new.items) (IsLayFault (breadth (shown node.now)) end (lay (shown node.now) refs.now) out.old.items) }
 {
     match node {
         Node::Stored(stored) => Ok(*stored),
-        Node::Contents(bytes) => Ok(contents_at(bytes.as_slice(), from)),
-        Node::Directory(dir) => put_directory(alloc, dir, from, end, out),
+        Node::Contents(_) => first_of(refs),
+        Node::Directory(dir) => put_directory(alloc, dir, refs, end, out),
     }
 }
 
-// What refers to contents whose record lies at an offset.
-fn contents_at(bytes: &[u8], at: u64) -> Stored
-    ensures { result ≡ contents_at bytes.now at }
+// What refers to new contents: there is one for each.
+fn first_of(refs: &[Stored]) -> Result<Stored, SaveFault>
+    ensures first { IfOk result (λ stored. stored ≡ ref_at refs.now) }
+    ensures cause { IfErr result (λ fault. fault ≡ SaveFault.Memory) }
 {
-    Stored {
-        reference: Ref {
-            at,
-            name: hash_contents(bytes),
-            kind: CONTENTS,
-        },
-        height: 0,
+    match refs.first() {
+        Some(stored) => Ok(*stored),
+        None => Err(SaveFault::Memory),
     }
 }
 
@@ -82,12 +86,12 @@ fn contents_at(bytes: &[u8], at: u64) -> Stored
 fn put_directory(
     alloc: Global,
     dir: &Directory,
-    from: u64,
+    refs: &[Stored],
     end: u64,
     out: &mut Vec<u8>,
 ) -> Result<Stored, SaveFault>
-    ensures laid { end ≤ OFFSET_MAX → from + size_of (fresh (shown_directory dir.now)) < 2 ^ 64
-        → MatchResult result (IsLaid end (lay (shown_directory dir.now) from) out.old.items out.new.items) (IsLayFault (breadth (shown_directory dir.now)) end (lay (shown_directory dir.now) from) out.old.items) }
+    ensures laid { end ≤ OFFSET_MAX → length (fresh (shown_directory dir.now)) ≤ length refs.now
+        → MatchResult result (IsLaid end (lay (shown_directory dir.now) refs.now) out.old.items out.new.items) (IsLayFault (breadth (shown_directory dir.now)) end (lay (shown_directory dir.now) refs.now) out.old.items) }
 {
     let root = dir.root();
     if let Some(stored) = record_of(root) {
@@ -96,7 +100,7 @@ fn put_directory(
     if root.count() > ENTRIES_MAX {
         return Err(SaveFault::Limit(Limit::Entries));
     }
-    let starts = starts_of(alloc, dir, from)?;
+    let starts = starts_of(alloc, dir, refs)?;
     put_new_part(alloc, dir, &starts, root, 0, end, out)
 }
 
@@ -111,9 +115,9 @@ fn put_part(
     end: u64,
     out: &mut Vec<u8>,
 ) -> Result<Stored, SaveFault>
-    ensures laid { (from : ℕ) → IsReady dir.now from starts.now end → depth ≤ deepest
-        → MatchResult result (IsLaid end (lay_part (lay_at (nodes_in dir.now) from) (deepest - depth) depth part.now) out.old.items out.new.items)
-        (IsLayFault (breadth_among (nodes_in dir.now)) end (lay_part (lay_at (nodes_in dir.now) from) (deepest - depth) depth part.now) out.old.items) }
+    ensures laid { (refs : List Stored) → IsReady dir.now refs starts.now end → depth ≤ deepest
+        → MatchResult result (IsLaid end (lay_part (lay_at (nodes_in dir.now) refs) (deepest - depth) depth part.now) out.old.items out.new.items)
+        (IsLayFault (breadth_among (nodes_in dir.now)) end (lay_part (lay_at (nodes_in dir.now) refs) (deepest - depth) depth part.now) out.old.items) }
 {
     match record_of(part) {
         Some(stored) => Ok(stored),
@@ -132,9 +136,9 @@ fn put_new_part(
     end: u64,
     out: &mut Vec<u8>,
 ) -> Result<Stored, SaveFault>
-    ensures laid { (from : ℕ) → IsReady dir.now from starts.now end → depth ≤ deepest → record_of part.now ≡ None
-        → MatchResult result (IsLaid end (lay_part (lay_at (nodes_in dir.now) from) (deepest - depth) depth part.now) out.old.items out.new.items)
-        (IsLayFault (breadth_among (nodes_in dir.now)) end (lay_part (lay_at (nodes_in dir.now) from) (deepest - depth) depth part.now) out.old.items) }
+    ensures laid { (refs : List Stored) → IsReady dir.now refs starts.now end → depth ≤ deepest → record_of part.now ≡ None
+        → MatchResult result (IsLaid end (lay_part (lay_at (nodes_in dir.now) refs) (deepest - depth) depth part.now) out.old.items out.new.items)
+        (IsLayFault (breadth_among (nodes_in dir.now)) end (lay_part (lay_at (nodes_in dir.now) refs) (deepest - depth) depth part.now) out.old.items) }
 {
     match part {
         Part::Leaf { steps, .. } => {
@@ -163,9 +167,9 @@ fn put_entries(
     end: u64,
     out: &mut Vec<u8>,
 ) -> Result<LeafEntries, SaveFault>
-    ensures row { (from : ℕ) → IsReady dir.now from starts.now end
-        → MatchResult result (IsRow end (lay_steps (lay_at (nodes_in dir.now) from) steps.now) out.old.items out.new.items)
-        (IsRowFault leaf_height (breadth_among (nodes_in dir.now)) end (lay_steps (lay_at (nodes_in dir.now) from) steps.now) out.old.items) }
+    ensures row { (refs : List Stored) → IsReady dir.now refs starts.now end
+        → MatchResult result (IsRow end (lay_steps (lay_at (nodes_in dir.now) refs) steps.now) out.old.items out.new.items)
+        (IsRowFault leaf_height (breadth_among (nodes_in dir.now)) end (lay_steps (lay_at (nodes_in dir.now) refs) steps.now) out.old.items) }
 {
     let mut leaf = Items::of(Vec::with_capacity(alloc, steps.len())?);
     for step in steps {
@@ -188,9 +192,9 @@ fn put_at(
     end: u64,
     out: &mut Vec<u8>,
 ) -> Result<Stored, SaveFault>
-    ensures laid { (from : ℕ) → IsReady dir.now from starts.now end
-        → MatchResult result (IsLaid end (lay_at (nodes_in dir.now) from step.now) out.old.items out.new.items)
-        (IsLayFault (breadth_among (nodes_in dir.now)) end (lay_at (nodes_in dir.now) from step.now) out.old.items) }
+    ensures laid { (refs : List Stored) → IsReady dir.now refs starts.now end
+        → MatchResult result (IsLaid end (lay_at (nodes_in dir.now) refs step.now) out.old.items out.new.items)
+        (IsLayFault (breadth_among (nodes_in dir.now)) end (lay_at (nodes_in dir.now) refs step.now) out.old.items) }
 {
     // Each step of a part that was read has its entry.
     let Some(node) = find(dir, step) else {
@@ -210,9 +214,9 @@ fn put_children(
     end: u64,
     out: &mut Vec<u8>,
 ) -> Result<InodeChildren, SaveFault>
-    ensures row { (from : ℕ) → IsReady dir.now from starts.now end → depth < deepest
-        → MatchResult result (IsRow end (lay_children (lay_at (nodes_in dir.now) from) (lay_part (lay_at (nodes_in dir.now) from) (deepest - (depth + 1)) (depth + 1)) 0 children.now) out.old.items out.new.items)
-        (IsRowFault inode_height (breadth_among (nodes_in dir.now)) end (lay_children (lay_at (nodes_in dir.now) from) (lay_part (lay_at (nodes_in dir.now) from) (deepest - (depth + 1)) (depth + 1)) 0 children.now) out.old.items) }
+    ensures row { (refs : List Stored) → IsReady dir.now refs starts.now end → depth < deepest
+        → MatchResult result (IsRow end (lay_children (lay_at (nodes_in dir.now) refs) (lay_part (lay_at (nodes_in dir.now) refs) (deepest - (depth + 1)) (depth + 1)) 0 children.now) out.old.items out.new.items)
+        (IsRowFault inode_height (breadth_among (nodes_in dir.now)) end (lay_children (lay_at (nodes_in dir.now) refs) (lay_part (lay_at (nodes_in dir.now) refs) (deepest - (depth + 1)) (depth + 1)) 0 children.now) out.old.items) }
 {
     let mut row = Items::of(Vec::with_capacity(alloc, children.len())?);
     for index in 0..children.len() {
@@ -238,9 +242,9 @@ fn put_some(
     out: &mut Vec<u8>,
 ) -> Result<Option<Stored>, SaveFault>
     ensures absent { count_of child.now ≡ 0 → IsOkAnd result (λ stored. stored ≡ None) × (out.new.items ≡ out.old.items) }
-    ensures laid { (from : ℕ) → IsReady dir.now from starts.now end → depth < deepest → count_of child.now ≢ 0
-        → MatchResult result (λ stored. IsSomeAnd stored (IsLaid end (lay_part (lay_at (nodes_in dir.now) from) (deepest - (depth + 1)) (depth + 1) child.now) out.old.items out.new.items))
-        (IsLayFault (breadth_among (nodes_in dir.now)) end (lay_part (lay_at (nodes_in dir.now) from) (deepest - (depth + 1)) (depth + 1) child.now) out.old.items) }
+    ensures laid { (refs : List Stored) → IsReady dir.now refs starts.now end → depth < deepest → count_of child.now ≢ 0
+        → MatchResult result (λ stored. IsSomeAnd stored (IsLaid end (lay_part (lay_at (nodes_in dir.now) refs) (deepest - (depth + 1)) (depth + 1) child.now) out.old.items out.new.items))
+        (IsLayFault (breadth_among (nodes_in dir.now)) end (lay_part (lay_at (nodes_in dir.now) refs) (deepest - (depth + 1)) (depth + 1) child.now) out.old.items) }
 {
     if child.count() == 0 {
         return Ok(None);

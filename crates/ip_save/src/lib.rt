@@ -2,8 +2,10 @@
 #![tactic(auto)]
 
 ghost use Rattle.std.specs.Prelude.{◌≡◌, ◌<◌, ℕ, Option, Some};
-ghost use Rattle.ip_spec.specs.Batch.{CommitFields as Fields, sources, batch, batch_root, with_batch};
+ghost use Rattle.ip_spec.specs.Batch.{CommitFields as Fields, reusing_sources, batch, batch_root, with_batch};
+ghost use Rattle.ip_save.specs.Batches.{IsFirst};
 ghost use Rattle.ip_spec.specs.TreeAt.{TreeAt};
+ghost use Rattle.ip_spec.specs.declared.record.Ref.{Ref};
 ghost use Rattle.ip_spec.specs.View.{View};
 ghost use Rattle.ip_spec.specs.declared.record.Record.{Record};
 ghost use Rattle.ip_tree.specs.TreeView.{IsView};
@@ -15,6 +17,7 @@ mod inode;
 mod lay;
 mod leaf;
 mod measure;
+mod places;
 mod records;
 mod starts;
 
@@ -23,10 +26,10 @@ use ip_spec::batch_stands;
 use ip_tree::known_parts;
 
 /// A law, which does nothing when it is called: the records of a batch, together with those that were there and lie below it, spell the tree
-/// at the batch's root.
+/// at the batch's root. So do those of one that takes contents from another tree of these records.
 pub fn saved_trees()
-    ensures { (records : ℕ → Option Record) (tree : Tree) (v : View) (f : Fields) (end : ℕ) → ((at : ℕ) (r : Record) → records at ≡ Some r → at < end) → IsView records tree v
-        → TreeAt (with_batch records (batch v (sources v) f end)) (batch_root v (sources v) end).at v.map }
+    ensures { (records : ℕ → Option Record) (tree : Tree) (v : View) (r : Option Ref) (first : Option View) (f : Fields) (end : ℕ) → ((at : ℕ) (x : Record) → records at ≡ Some x → at < end) → IsView records tree v → IsFirst records r first
+        → TreeAt (with_batch records (batch v (reusing_sources v first) f end)) (batch_root v (reusing_sources v first) end).at v.map }
 {
     batch_stands();
     known_parts();

@@ -1,6 +1,6 @@
 // Measures of what was loaded of a tree.
-ghost use Rattle.std.specs.Prelude.{◌≡◌, ◌+◌, ◌<◌, ◌^◌};
-ghost use Rattle.ip_save.specs.Laid.{fresh, record_of, size, size_of};
+ghost use Rattle.std.specs.Prelude.{◌≡◌, drop};
+ghost use Rattle.ip_save.specs.Laid.{behind_refs, record_of};
 ghost use Rattle.ip_tree.specs.Shown.{shown, shown_directory};
 
 use crate::CommitFields;
@@ -8,8 +8,8 @@ use ip_base::Step;
 use ip_shape::part::Part;
 use ip_tree::{Directory, Node, Root, Stored};
 
-/// How many bytes the records will take, so that room is taken once. It is no more than a hint.
-pub fn room_for(root: &Root, fields: &CommitFields) -> usize {
+/// How many bytes the records will take when these new contents are put, so that room is taken once. It is no more than a hint.
+pub fn room_for(root: &Root, put: &[&[u8]], fields: &CommitFields) -> usize {
     let tree = match root {
         Root::Stored(_) => 0,
         Root::Loaded(dir) => room_in(dir),
@@ -22,7 +22,16 @@ pub fn room_for(root: &Root, fields: &CommitFields) -> usize {
         .saturating_add(fields.info.message.len())
         .saturating_add(fields.branch.len())
         .saturating_add(88)
+        .saturating_add(room_of_contents(put))
         .saturating_add(tree)
+}
+
+fn room_of_contents(put: &[&[u8]]) -> usize {
+    let mut room = 0usize;
+    for bytes in put {
+        room = room.saturating_add(bytes.len()).saturating_add(5);
+    }
+    room
 }
 
 #[cycle(room)]
@@ -37,8 +46,7 @@ fn room_in(dir: &Directory) -> usize {
 #[cycle(room)]
 fn room_at(node: &Node) -> usize {
     match node {
-        Node::Stored(_) => 0,
-        Node::Contents(bytes) => bytes.len().saturating_add(5),
+        Node::Stored(_) | Node::Contents(_) => 0,
         Node::Directory(dir) => room_in(dir),
     }
 }
@@ -83,33 +91,36 @@ pub fn record_of(part: &Part<Stored>) -> Option<Stored>
     }
 }
 
-/// Where the contents behind those at a node lie, when its first new contents lie at an offset.
+/// What refers to the new contents behind those at a node, where the first of `refs` refer to these.
 #[cycle(behind)]
-pub fn behind(node: &Node, from: u64) -> u64
-    ensures { from + size_of (fresh (shown node.now)) < 2 ^ 64 → result ≡ from + size_of (fresh (shown node.now)) }
+pub fn behind<'a>(node: &Node, refs: &'a [Stored]) -> &'a [Stored]
+    ensures { result.now ≡ behind_refs (shown node.now) refs.now }
 {
     match node {
-        Node::Stored(_) => from,
-        Node::Contents(bytes) => behind_one(bytes.as_slice(), from),
-        Node::Directory(dir) => behind_all(dir, from),
+        Node::Stored(_) => refs,
+        Node::Contents(_) => behind_one(refs),
+        Node::Directory(dir) => behind_all(dir, refs),
     }
 }
 
 // The same of those below a directory.
 #[cycle(behind)]
-fn behind_all(dir: &Directory, from: u64) -> u64
-    ensures { from + size_of (fresh (shown_directory dir.now)) < 2 ^ 64 → result ≡ from + size_of (fresh (shown_directory dir.now)) }
+fn behind_all<'a>(dir: &Directory, refs: &'a [Stored]) -> &'a [Stored]
+    ensures { result.now ≡ behind_refs (shown_directory dir.now) refs.now }
 {
-    let mut at = from;
+    let mut left = refs;
     for (_, node) in dir.entries() {
-        at = behind(node, at);
+        left = behind(node, left);
     }
-    at
+    left
 }
 
-// Where the contents behind these lie, whose record lies at an offset.
-fn behind_one(bytes: &[u8], from: u64) -> u64
-    ensures { from + size bytes.now < 2 ^ 64 → result ≡ from + size bytes.now }
+// All but the first of them.
+fn behind_one(refs: &[Stored]) -> &[Stored]
+    ensures { result.now ≡ drop 1 refs.now }
 {
-    from.saturating_add(bytes.len() as u64).saturating_add(5)
+    match refs.split_first() {
+        Some((_, left)) => left,
+        None => refs,
+    }
 }

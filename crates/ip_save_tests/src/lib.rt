@@ -2,6 +2,8 @@
 #![tactic(auto)]
 
 #[cfg(test)]
+mod reuse_tests;
+#[cfg(test)]
 mod spelled;
 #[cfg(test)]
 mod tests;

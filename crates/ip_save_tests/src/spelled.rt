@@ -46,6 +46,8 @@ pub(crate) struct Speller {
     pub(crate) records: Vec<u8>,
     pub(crate) known: Parts,
     pub(crate) new: Parts,
+    // Contents of one byte that are put once.
+    once: BTreeMap<u8, Spelled>,
     // How many leaves and inodes there are.
     pub(crate) leaves: u32,
     pub(crate) inodes: u32,
@@ -59,6 +61,7 @@ impl Speller {
             records: Vec::new(alloc),
             known,
             new: BTreeMap::new(alloc),
+            once: BTreeMap::new(alloc),
             leaves: 0,
             inodes: 0,
         }
@@ -80,6 +83,18 @@ impl Speller {
             height: 0,
             count: 0,
         })
+    }
+
+    // The same where equal bytes have one record.
+    pub(crate) fn contents_once(&mut self, byte: u8) -> Result<Spelled, Fail> {
+        if self.once.get(&byte).is_none() {
+            let spelled = self.contents(byte)?;
+            self.once.insert(byte, spelled)?;
+        }
+        match self.once.get(&byte) {
+            Some(spelled) => Ok(*spelled),
+            None => Err("no contents")?,
+        }
     }
 
     // What refers to a part, whose record is put behind the others where it is new, and then remembered.

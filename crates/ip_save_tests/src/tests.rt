@@ -8,7 +8,7 @@ use ip_ground::{Bench, FileName, Ground};
 use ip_save::{Batch, CommitFields, SaveFault};
 use ip_shape::dir::{Entries, build, forget};
 use ip_shape::reading::{Child, read_inode, unread};
-use ip_space::{Layout, Space};
+use ip_space::{FetchFault, Layout, Space};
 use ip_spec::record::{Parent, Parents, Ref};
 use ip_tree::{Directory, Node, Root, Stored, Tree};
 use std::alloc::Global;
@@ -35,11 +35,43 @@ const NESTED: &[u8] =
 const NEXT_ROOT: &[u8] =
     b"\x02\x5c\x00\x00\x00\x02\x00\x00\x00\x01\x61\x02\x01\x9e\x7c\xf7\x0c\x53\x8d\xf6\x4a\xb7\x58\xb9\xbc\x84\xa9\xc4\xe4\xf1\x8e\x8b\x5d\x2e\x39\x49\x63\x5b\x06\xfd\x67\x89\x17\xd9\x22\x06\x00\x00\x00\x00\x00\x00\x00\x01\x63\x01\x00\x4b\xf5\x12\x2f\x34\x45\x54\xc5\x3b\xde\x2e\xbb\x8c\xd2\xb7\xe3\xd1\x60\x0a\xd6\x31\xc3\x85\xa5\xd7\xcc\xe2\x3c\x77\x85\x45\x9a\xc5\x00\x00\x00\x00\x00\x00\x00";
 
-fn step(alloc: Global, text: &[u8]) -> Result<Step, Memory> {
+// Why there is no batch, in plain numbers.
+#[derive(Clone, Copy, Debug, PartialEq, Eq)]
+pub(crate) enum Fault {
+    Limit(Limit),
+    // The first byte of the commit's name.
+    Space(u8),
+    // The record there has another name.
+    Name(u64),
+    Fetch,
+    Memory,
+}
+
+impl From<Memory> for Fault {
+    fn from(_: Memory) -> Self {
+        Fault::Memory
+    }
+}
+
+fn first_of(name: &Hash) -> u8 {
+    name.0[0]
+}
+
+fn fault_of(fault: &SaveFault) -> Fault {
+    match fault {
+        SaveFault::Limit(limit) => Fault::Limit(*limit),
+        SaveFault::Space(name) => Fault::Space(first_of(name)),
+        SaveFault::Fetch(FetchFault::Name { at, .. }) => Fault::Name(*at),
+        SaveFault::Fetch(_) => Fault::Fetch,
+        SaveFault::Memory => Fault::Memory,
+    }
+}
+
+pub(crate) fn step(alloc: Global, text: &[u8]) -> Result<Step, Memory> {
     Ok(Step::of(Blob::copy_of(alloc, text)?))
 }
 
-fn contents(alloc: Global, bytes: &[u8]) -> Result<Node, Memory> {
+pub(crate) fn contents(alloc: Global, bytes: &[u8]) -> Result<Node, Memory> {
     Ok(Node::Contents(Blob::copy_of(alloc, bytes)?))
 }
 
@@ -90,24 +122,75 @@ fn fields_of(alloc: Global, number: u64, parents: Parents) -> Result<CommitField
     })
 }
 
+// A ground that has these records in one chunk.
+fn bench_over(alloc: Global, records: &[u8]) -> Result<Bench, Memory> {
+    let mut bench = Bench::new(alloc, Vec::new(alloc), None, Vec::new(alloc));
+    if bench.write(FileName::Chunk(0), 0, records).is_err() {
+        return Err(Memory);
+    }
+    Ok(bench)
+}
+
+// A space of them.
+fn space_over(alloc: Global, bench: &mut Bench, records: &[u8]) -> Result<Space, Memory> {
+    let layout = Layout {
+        chunk: 1048576,
+        horizon: 0,
+        end: (records.len() as u64).min(1048576),
+        live: 0,
+        prefix_len: 0,
+        rows: 0,
+    };
+    match Space::of(alloc, bench, layout) {
+        Ok(space) => Ok(space),
+        Err(_) => Err(Memory),
+    }
+}
+
+// The batch of a commit behind these records, where the root of the first parent's tree is at the reference.
+fn made(
+    alloc: Global,
+    records: &[u8],
+    tree: &Tree,
+    fields: &CommitFields,
+    from: Option<Ref>,
+    end: u64,
+) -> Result<Batch, Fault>
+    requires fields { AreFields (fields_told fields.now) }
+    requires end { end ≤ 2 ^ 62 }
+{
+    let mut bench = bench_over(alloc, records)?;
+    let mut space = space_over(alloc, &mut bench, records)?;
+    match Batch::of(alloc, &mut bench, &mut space, tree, fields, from, end) {
+        Ok(batch) => Ok(batch),
+        Err(fault) => Err(fault_of(&fault)),
+    }
+}
+
 // The first commit, at an offset.
-pub(crate) fn first(alloc: Global, tree: &Tree, end: u64) -> Result<Batch, SaveFault>
+pub(crate) fn first(alloc: Global, tree: &Tree, end: u64) -> Result<Batch, Fault>
     requires { end ≤ 2 ^ 62 }
 {
     let fields = fields_of(alloc, 0, Items::empty(alloc))?;
-    Batch::of(alloc, tree, &fields, end)
+    made(alloc, b"", tree, &fields, None, end)
 }
 
-// The second one.
-pub(crate) fn second(alloc: Global, tree: &Tree, end: u64) -> Result<Batch, SaveFault>
+// The second one, behind these records, by the tree of the first one, if its root is told.
+pub(crate) fn second(
+    alloc: Global,
+    records: &[u8],
+    tree: &Tree,
+    from: Option<Ref>,
+    end: u64,
+) -> Result<Batch, Fault>
     requires { end ≤ 2 ^ 62 }
 {
     let fields = fields_of(alloc, 1, one_parent(alloc)?)?;
-    Batch::of(alloc, tree, &fields, end)
+    made(alloc, records, tree, &fields, from, end)
 }
 
 // Where the root and the commit lie, and the end.
-fn places(batch: &Batch) -> (u64, u64, u64) {
+pub(crate) fn places(batch: &Batch) -> (u64, u64, u64) {
     (batch.root().at, batch.commit_at(), batch.end())
 }
 
@@ -115,13 +198,14 @@ fn one(alloc: Global) -> Result<Tree, Memory> {
     Ok(tree_of(directory_of(alloc, b"a", contents(alloc, &[1])?)?))
 }
 
-fn nested(alloc: Global) -> Result<Tree, Memory> {
+// 02 at `a/b`.
+pub(crate) fn nested(alloc: Global) -> Result<Tree, Memory> {
     let inner = directory_of(alloc, b"b", contents(alloc, &[2])?)?;
     Ok(tree_of(directory_of(alloc, b"a", Node::Directory(inner))?))
 }
 
 #[test]
-fn first_commits(rt: HostRuntime) -> Result<(), SaveFault> {
+fn first_commits(rt: HostRuntime) -> Result<(), Fault> {
     let alloc = rt.alloc();
     let one = one(alloc)?;
     let empty = Tree::empty(alloc);
@@ -133,56 +217,44 @@ fn first_commits(rt: HostRuntime) -> Result<(), SaveFault> {
     Ok(())
 }
 
-// A space of 197 bytes in one chunk.
-fn space_of(alloc: Global, bench: &mut Bench, records: &[u8]) -> Result<Space, Memory> {
-    if bench.write(FileName::Chunk(0), 0, records).is_err() {
-        return Err(Memory);
-    }
-    let layout = Layout {
-        chunk: 4096,
-        horizon: 0,
-        end: 197,
-        live: 0,
-        prefix_len: 0,
-        rows: 0,
-    };
-    match Space::of(alloc, bench, layout) {
-        Ok(space) => Ok(space),
-        Err(_) => Err(Memory),
-    }
-}
-
-// Puts 01 at `c`.
-fn put(alloc: Global, bench: &mut Bench, space: &mut Space, tree: &mut Tree) -> bool {
-    match Path::read(alloc, b"c") {
+// Puts 01 at a path of one letter.
+fn put(alloc: Global, bench: &mut Bench, space: &mut Space, tree: &mut Tree, letter: u8) -> bool {
+    match Path::read(alloc, &[letter]) {
         Ok(path) => tree.set(alloc, bench, space, path.steps(), &[1]) == Ok(()),
         Err(_) => false,
     }
 }
 
-// The tree whose root is at the reference, among these records in one chunk, with 01 at `c` besides.
-fn edited(alloc: Global, root: Ref, records: &[u8]) -> Result<Tree, Memory> {
-    let mut bench = Bench::new(alloc, Vec::new(alloc), None, Vec::new(alloc));
-    let mut space = space_of(alloc, &mut bench, records)?;
+// The tree whose root is at the reference, among these records in one chunk, with 01 at these paths of one letter besides.
+pub(crate) fn edited(
+    alloc: Global,
+    root: Ref,
+    records: &[u8],
+    letters: &[u8],
+) -> Result<Tree, Memory> {
+    let mut bench = bench_over(alloc, records)?;
+    let mut space = space_over(alloc, &mut bench, records)?;
     let mut tree = Tree::of(Number(0), root);
-    if put(alloc, &mut bench, &mut space, &mut tree) {
-        return Ok(tree);
+    for letter in letters {
+        if !put(alloc, &mut bench, &mut space, &mut tree, *letter) {
+            return Err(Memory);
+        }
     }
-    Err(Memory)
+    Ok(tree)
 }
 
 // A directory in a directory, and then the tree that is read again and edited: what was saved is referred to.
 #[test]
-fn a_later_commit_saves_what_is_new(rt: HostRuntime) -> Result<(), SaveFault> {
+fn a_later_commit_saves_what_is_new(rt: HostRuntime) -> Result<(), Fault> {
     let alloc = rt.alloc();
     let batch = first(alloc, &nested(alloc)?, 0)?;
     assert_eq!(rt; places(&batch), (59, 112, 197));
     assert_eq!(rt; batch.bytes().get(6..112), Some(NESTED));
-    let tree = edited(alloc, batch.root(), batch.bytes())?;
-    let later = second(alloc, &tree, 197)?;
+    let tree = edited(alloc, batch.root(), batch.bytes(), b"c")?;
+    let later = second(alloc, batch.bytes(), &tree, None, 197)?;
     assert_eq!(rt; places(&later), (203, 300, 425));
     assert_eq!(rt; later.bytes().get(6..103), Some(NEXT_ROOT));
-    let again = second(alloc, &Tree::of(Number(1), later.root()), 425)?;
+    let again = second(alloc, b"", &Tree::of(Number(1), later.root()), None, 425)?;
     assert_eq!(rt; places(&again), (203, 425, 550));
     Ok(())
 }
@@ -233,19 +305,19 @@ fn over_child(alloc: Global, count: usize, height: u8) -> Result<Tree, Memory> {
 
 // Limits, also those of a tree that no edit gives.
 #[test]
-fn limits_are_answered(rt: HostRuntime) -> Result<(), SaveFault> {
+fn limits_are_answered(rt: HostRuntime) -> Result<(), Fault> {
     let alloc = rt.alloc();
     let empty = Tree::empty(alloc);
     assert_eq!(rt;
         first(alloc, &empty, 4611686018427387811).err(),
-        Some(SaveFault::Limit(Limit::Space))
+        Some(Fault::Space(0x36))
     );
     first(alloc, &empty, 4611686018427387810)?;
     for count in [1, 2] {
         let tree = filled(alloc, count, 1048577)?;
         assert_eq!(rt;
             first(alloc, &tree, 0).err(),
-            Some(SaveFault::Limit(Limit::Contents))
+            Some(Fault::Limit(Limit::Contents))
         );
     }
     first(alloc, &filled(alloc, 32, 1)?, 0)?;
@@ -259,7 +331,7 @@ fn limits_are_answered(rt: HostRuntime) -> Result<(), SaveFault> {
         (over_child(alloc, 1048577, 64)?, Limit::Entries),
     ];
     for (tree, limit) in &rows {
-        assert_eq!(rt; first(alloc, tree, 0).err(), Some(SaveFault::Limit(*limit)));
+        assert_eq!(rt; first(alloc, tree, 0).err(), Some(Fault::Limit(*limit)));
     }
     Ok(())
 }

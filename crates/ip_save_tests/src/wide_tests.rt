@@ -1,10 +1,10 @@
 // Batches of directories of more entries than a leaf has, against records that are spelled by the definition.
 use crate::spelled::{Item, Listing, Spelled, Speller, byte_of, step, steps_to};
-use crate::tests::{first, second, tree_of};
-use ip_base::{Blob, Limit, Number, Path, Step};
+use crate::tests::{Fault, first, second, tree_of};
+use ip_base::{Blob, Number, Path, Step};
 use ip_ground::{Bench, FileName, Ground};
 use ip_object::read_record;
-use ip_save::{Batch, SaveFault};
+use ip_save::Batch;
 use ip_shape::dir::{Entries, build};
 use ip_space::{Layout, Space};
 use ip_spec::record::{Record, Ref};
@@ -30,7 +30,7 @@ fn numbered(alloc: Global, count: u32, inner: Option<(u32, u32)>) -> Result<Dire
     Ok(build(alloc, entries)?)
 }
 
-// The same as records: contents first, in the order of paths.
+// The same as records: contents first, in the order of paths, equal ones once.
 fn listed(
     alloc: Global,
     speller: &mut Speller,
@@ -43,7 +43,7 @@ fn listed(
             Some((place, below)) if place == number => {
                 Item::Dir(listed(alloc, speller, below, None)?)
             }
-            _ => Item::There(speller.contents(byte_of(number))?),
+            _ => Item::There(speller.contents_once(byte_of(number))?),
         };
         listing.push((at, item))?;
     }
@@ -85,21 +85,18 @@ fn starts(batch: &Batch, speller: &Speller, root: &Spelled) -> bool {
 #[test]
 fn wide_directories_are_written(rt: HostRuntime) -> Result<(), Fail> {
     let alloc = rt.alloc();
-    let rows: [(u32, Option<(u32, u32)>, u64); 6] = [
-        (32, None, 0),
-        (33, None, 0),
-        (40, None, 77),
-        (1000, None, 4096),
-        (40, Some((7, 33)), 0),
-        (33, Some((10, 0)), 0),
+    // with how many contents differ
+    let rows: [(u32, Option<(u32, u32)>, u64, u32); 6] = [
+        (32, None, 0, 32),
+        (33, None, 0, 33),
+        (40, None, 77, 40),
+        (1000, None, 4096, 251),
+        (40, Some((7, 33)), 0, 40),
+        (33, Some((10, 0)), 0, 32),
     ];
-    for (count, inner, end) in rows {
+    for (count, inner, end, news) in rows {
         let mut speller = Speller::from(alloc, end, BTreeMap::new(alloc));
         let listing = listed(alloc, &mut speller, count, inner)?;
-        let news = match inner {
-            Some((_, below)) => count - 1 + below,
-            None => count,
-        };
         let root = speller.directory(listing)?;
         let tree = tree_of(numbered(alloc, count, inner)?);
         let batch = first(alloc, &tree, end)?;
@@ -153,7 +150,7 @@ fn room_for_wide_directories(rt: HostRuntime) -> Result<(), Fail> {
         &tree,
         most.saturating_sub(size).saturating_add(1).min(most),
     );
-    assert_eq!(rt; none.err(), Some(SaveFault::Limit(Limit::Space)));
+    assert_eq!(rt; matches!(none.err(), Some(Fault::Space(_))), true);
     Ok(())
 }
 
@@ -259,10 +256,36 @@ fn only_parts_on_the_way_are_written(rt: HostRuntime) -> Result<(), Fail> {
         let listing = with_item(alloc, &entries, 431, item)?;
         let own = speller.directory(listing)?;
         assert_eq!(rt; speller.leaves.saturating_add(speller.inodes) <= 5, true);
-        let batch = second(alloc, &tree, end.min(4096000))?;
+        let batch = second(alloc, b"", &tree, None, end.min(4096000))?;
         assert_eq!(rt; starts(&batch, &speller, &own), true);
         assert_eq!(rt; kinds(alloc, &batch)?, (1, speller.leaves, speller.inodes));
         assert_eq!(rt; own.height, if below { 2 } else { 1 });
     }
+    Ok(())
+}
+
+// A thousand contents that the first parent has at the same paths are set again: none of them is put, and each is referred to where its own path has it.
+// Without the first parent each bytes are put once.
+#[test]
+fn contents_that_stay_are_not_put(rt: HostRuntime) -> Result<(), Fail> {
+    let alloc = rt.alloc();
+    let (old, entries, root) = written(alloc, 1000)?;
+    let tree = tree_of(numbered(alloc, 1000, None)?);
+    let end = (old.records.len() as u64).min(4096000);
+    let mut stay = Vec::new(alloc);
+    for (at, spelled) in &entries {
+        stay.push((at.copy(alloc)?, Item::There(*spelled)))?;
+    }
+    let mut again = Speller::from(alloc, end, BTreeMap::new(alloc));
+    let own = again.directory(stay)?;
+    let batch = second(alloc, &old.records, &tree, Some(root.reference), end)?;
+    assert_eq!(rt; starts(&batch, &again, &own), true);
+    assert_eq!(rt; kinds(alloc, &batch)?, (0, old.leaves, old.inodes));
+    let mut anew = Speller::from(alloc, end, BTreeMap::new(alloc));
+    let listing = listed(alloc, &mut anew, 1000, None)?;
+    let own = anew.directory(listing)?;
+    let batch = second(alloc, &old.records, &tree, None, end)?;
+    assert_eq!(rt; starts(&batch, &anew, &own), true);
+    assert_eq!(rt; kinds(alloc, &batch)?, (251, old.leaves, old.inodes));
     Ok(())
 }

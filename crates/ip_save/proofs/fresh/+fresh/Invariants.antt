@@ -1,13 +1,13 @@
-use Rattle.std.proofs.Common.{◌≡◌, ◌++◌, ◌≤◌}
-use Rattle.std.specs.List.{AllByRecursion}
-use Rattle.ip_save.specs.Laid.{fresh_among, contents_bytes, longest_among, IsShort}
+use Rattle.std.proofs.Common.{◌≡◌, None}
+use Rattle.ip_save.proofs.Finding.{SoFar}
 use Rattle.ip_save.proofs.Rests.{rest_of}
 use Rattle.ip_save.proofs.fresh.+fresh.Given as goal
 
-abbrev pub invariant-put_fresh_in-loop-node : goal.invariant-put_fresh_in-loop-node
-invariant-put_fresh_in-loop-node l =
-    (goal.iterator-put_fresh_in-loop-node).can_next l.node-iterator ×
-    (goal.iterator-put_fresh_in-loop-node).is_finite l.node-iterator ×
-    (l.out.items ++ contents_bytes (fresh_among (rest_of l.node-iterator)) ≡ l.fn.out.items ++ contents_bytes (fresh_among (rest_of l.fn.dir.entries.entries))) ×
-    (AllByRecursion IsShort (fresh_among (rest_of l.node-iterator)) → AllByRecursion IsShort (fresh_among (rest_of l.fn.dir.entries.entries))) ×
-    (longest_among (rest_of l.node-iterator) ≤ longest_among (rest_of l.fn.dir.entries.entries))
+abbrev pub invariant-find_in-loop-step : goal.invariant-find_in-loop-step
+invariant-find_in-loop-step g l =
+    let ground = g.G.Ground in
+    (goal.iterator-find_in-loop-step g).can_next l.step-iterator ×
+    (goal.iterator-find_in-loop-step g).is_finite l.step-iterator ×
+    SoFar ground.tells (ground.told l.fn.outside) (ground.told l.outside) l.fn.space l.space l.fn.other (rest_of l.step-iterator) (rest_of l.fn.dir.entries.entries) l.fn.out.items l.out.items ×
+    (ground.counts_of l.outside ≡ ground.counts_of l.fn.outside) ×
+    (l.fn.other ≡ None → (l.outside ≡ l.fn.outside) × (l.space ≡ l.fn.space))

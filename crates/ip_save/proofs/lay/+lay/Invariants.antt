@@ -1,5 +1,6 @@
-use Rattle.std.proofs.Common.{ℕ, ◌+◌, ◌-◌, ◌*◌, ◌<◌, min, drop}
+use Rattle.std.proofs.Common.{◌+◌, ◌-◌, ◌*◌, ◌<◌, min, List, drop}
 use Rattle.ip_spec.specs.Shape.{deepest}
+use Rattle.ip_tree.specs.declared.node.Stored.{Stored}
 use Rattle.ip_save.specs.Laid.{IsReady, lay_at, lay_children, lay_part, lay_steps, nodes_in}
 use Rattle.ip_save.proofs.Laying.{RowsOn}
 use Rattle.ip_save.proofs.lay.+lay.Given as goal
@@ -30,11 +31,11 @@ decreases-put_at l = 4096 * goal.size-put_at l + 1
 
 abbrev pub invariant-put_entries-loop-step : goal.invariant-put_entries-loop-step
 invariant-put_entries-loop-step l =
-    (from : ℕ) → IsReady l.dir from l.starts l.end
-    → RowsOn l.end (lay_steps (lay_at (nodes_in l.dir) from) (drop l.step-index l.steps)) (lay_steps (lay_at (nodes_in l.dir) from) l.steps) l.out.items l.fn.out.items l.leaf
+    (refs : List Stored) → IsReady l.dir refs l.starts l.end
+    → RowsOn l.end (lay_steps (lay_at (nodes_in l.dir) refs) (drop l.step-index l.steps)) (lay_steps (lay_at (nodes_in l.dir) refs) l.steps) l.out.items l.fn.out.items l.leaf
 
 abbrev pub invariant-put_children-loop-index : goal.invariant-put_children-loop-index
 invariant-put_children-loop-index l =
-    (from : ℕ) → IsReady l.dir from l.starts l.end → l.depth < deepest
-    → RowsOn l.end (lay_children (lay_at (nodes_in l.dir) from) (lay_part (lay_at (nodes_in l.dir) from) (deepest - (l.depth + 1)) (l.depth + 1)) l.index (drop l.index l.children))
-    (lay_children (lay_at (nodes_in l.dir) from) (lay_part (lay_at (nodes_in l.dir) from) (deepest - (l.depth + 1)) (l.depth + 1)) 0 l.children) l.out.items l.fn.out.items l.row
+    (refs : List Stored) → IsReady l.dir refs l.starts l.end → l.depth < deepest
+    → RowsOn l.end (lay_children (lay_at (nodes_in l.dir) refs) (lay_part (lay_at (nodes_in l.dir) refs) (deepest - (l.depth + 1)) (l.depth + 1)) l.index (drop l.index l.children))
+    (lay_children (lay_at (nodes_in l.dir) refs) (lay_part (lay_at (nodes_in l.dir) refs) (deepest - (l.depth + 1)) (l.depth + 1)) 0 l.children) l.out.items l.fn.out.items l.row

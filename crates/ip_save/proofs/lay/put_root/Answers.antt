@@ -7,6 +7,6 @@ use Rattle.ip_save.proofs.lay.put_root.Goals as goal
 
 pub returns-in-Stored : goal.returns-in-Stored
 returns-in-Stored c = record {
-  laid = subst (λ (root : Root). IsLaidRoot c.args.end root c.args.out.now.items c.args.out.now.items c.in-Stored.reference) (sym (ap shown_root c.in-Stored.is))
+  laid = subst (λ (root : Root). IsLaidRoot c.args.end c.args.refs.now root c.args.out.now.items c.args.out.now.items c.in-Stored.reference) (sym (ap shown_root c.in-Stored.is))
       record { bytes = nothing_put c.args.out.now.items; stands = refl; fits = tt };
 }

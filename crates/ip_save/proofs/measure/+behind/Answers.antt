@@ -1,17 +1,16 @@
-use Rattle.std.proofs.Common.{rules, ◌≡◌, ◌∷◌, ap, arith}
-use Rattle.ip_save.specs.Laid.{fresh_among, size_of}
-use Rattle.ip_save.proofs.Rests.{rest_of, size_more}
+use Rattle.std.proofs.Common.{rules, ◌≡◌, ◌∷◌, List, sym, ap, ◌∙◌}
+use Rattle.ip_spec.specs.Path.{Step}
+use Rattle.ip_tree.specs.declared.node.Node.{Node}
+use Rattle.ip_save.proofs.Rests.{left_behind, left_more, rest_of}
 use Rattle.ip_save.proofs.measure.+behind.Goals as goal
 
 pub behind_all-loop-node-preserved : goal.behind_all-loop-node-preserved
 behind_all-loop-node-preserved t c = (
   tt,
   tt,
-  λ low.
-      let steps : c.loop-node.node-iterator ≡ (c.in-Some.field-0-0.now, c.in-Some.node.now) ∷ c.next.new.self = search rules in
-      let whole = ap size_of (ap (λ es. fresh_among (rest_of es)) steps) in
-      let more = size_more c.in-Some.field-0-0.now c.in-Some.node.now c.next.new.self in
-      let now = c.loop-node.invariant.2 low in
-      let moved = c.behind-at.ensures (omega (arith, low, now, whole, more)) in
-      omega (arith, now, whole, more, moved),
+  (let s = c.in-Some.field-0-0.now in
+      let n = c.in-Some.node.now in
+      let steps : c.loop-node.node-iterator ≡ (s, n) ∷ c.next.new.self = search rules in
+      ap (left_behind (rest_of c.next.new.self)) c.behind-left.ensures ∙ left_more s n c.next.new.self c.loop-node.left.now
+      ∙ ap (λ (es : List (Step × Node)). left_behind (rest_of es) c.loop-node.left.now) (sym steps) ∙ c.loop-node.invariant.2),
 )

@@ -1,5 +1,3 @@
-use Rattle.std.proofs.Common.{◌+◌, ◌<◌, ◌^◌}
-use Rattle.ip_save.specs.Laid.{fresh_among, size_of}
 use Rattle.ip_save.proofs.Rests.{rest_of}
 use Rattle.ip_save.proofs.Tables.{StartsOn}
 use Rattle.ip_save.proofs.starts.starts_of.Given as goal
@@ -8,4 +6,4 @@ abbrev pub invariant-loop-step : goal.invariant-loop-step
 invariant-loop-step l =
     (goal.iterator-loop-step).can_next l.step-iterator ×
     (goal.iterator-loop-step).is_finite l.step-iterator ×
-    (l.fn.from + size_of (fresh_among (rest_of l.fn.dir.entries.entries)) < 2 ^ 64 → StartsOn (rest_of l.step-iterator) (rest_of l.fn.dir.entries.entries) l.at l.fn.from l.starts.items)
+    StartsOn (rest_of l.step-iterator) (rest_of l.fn.dir.entries.entries) l.left l.fn.refs l.starts.items
