@@ -14,7 +14,7 @@ use std::alloc::Global;
 use std::test::Fail;
 
 // The empty tree at 0, its commit on `main` at 9 and the branch at 76; and one more commit of it at 94, whose branch ends at 219.
-const TWO: &[u8] = b"\x02\x04\x00\x00\x00\x00\x00\x00\x00\
+pub(crate) const TWO: &[u8] = b"\x02\x04\x00\x00\x00\x00\x00\x00\x00\
 \x04\x3e\x00\x00\x00\x00\x00\x00\x00\x00\x00\x00\x00\x39\x5c\x2f\x55\x98\xa1\x64\x3a\x20\x51\x54\xc6\xf4\xc4\x6c\xe3\x68\x95\xb2\x8e\x6c\x35\x66\x0a\x95\xe5\xc6\xfd\x5e\xf9\xae\xab\x00\x00\x00\x00\x00\x00\x00\x00\x00\x00\x00\x00\x00\x00\x00\x00\x00\x01\x61\x01\x00\x61\
 \x05\x0d\x00\x00\x00\x00\x00\x00\x00\x00\x00\x00\x00\x04main\
 \x04\x66\x00\x00\x00\x01\x00\x00\x00\x00\x00\x00\x00\x39\x5c\x2f\x55\x98\xa1\x64\x3a\x20\x51\x54\xc6\xf4\xc4\x6c\xe3\x68\x95\xb2\x8e\x6c\x35\x66\x0a\x95\xe5\xc6\xfd\x5e\xf9\xae\xab\x00\x00\x00\x00\x00\x00\x00\x00\x01\x00\x00\x00\x00\x00\x00\x00\x00\x4d\x6f\x2f\x96\xe2\xb7\xb1\x8a\xfc\x35\x5f\x3d\x0d\x2c\x21\xc5\xc2\x69\xbb\x9f\x73\x66\x9e\xa1\x9d\xfe\x3c\xd7\x75\x61\x56\x84\x00\x00\x00\x00\x00\x00\x00\x00\x01\x61\x01\x00\x62\
@@ -41,7 +41,7 @@ const JOB: Job = Job {
 };
 
 // A control file whose second slot is open, with this attempt as the one that comes next. With `side` that branch stands behind the others.
-fn control(attempt: u64, side: bool) -> [u8; 256] {
+pub(crate) fn control(attempt: u64, side: bool) -> [u8; 256] {
     let mut out = [0; 256];
     out[128] = 0xa5;
     out[136] = 1;
@@ -68,7 +68,7 @@ fn files(alloc: Global, attempt: u64, side: bool) -> Result<Bench, Fail> {
 }
 
 // One child is planned. The first start fails, or none.
-fn children(alloc: Global, fails: bool) -> Result<Scripted, Memory>
+pub(crate) fn children(alloc: Global, fails: bool) -> Result<Scripted, Memory>
     ensures { IfOk result (λ children. ⟦<Scripted as Spawner>⟧.held children ≡ None) }
 {
     let mut calls = Vec::new(alloc);
@@ -91,7 +91,7 @@ fn is_cut(answer: &Result<Hash, CollectFault>) -> bool
 }
 
 // Begins a collection at the commit of `main`.
-fn collect(
+pub(crate) fn collect(
     alloc: Global,
     ground: &mut Bench,
     children: &mut Scripted,
@@ -140,6 +140,7 @@ fn a_collection_begins_and_the_store_goes_on(rt: HostRuntime) -> Result<(), Fail
         let again = collect(alloc, &mut ground, &mut children, &mut store)?;
         assert_eq!(&rt; again, Err(CollectFault::Busy(LAST)));
         assert_eq!(&rt; put(alloc, &mut ground, &mut store, number), answer);
+        assert_eq!(&rt; store.branch_count(), branches);
         let phase = Phase::Collecting {
             commit: Number(1),
             kept: false,

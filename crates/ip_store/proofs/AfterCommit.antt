@@ -6,7 +6,7 @@
 --     saved_tree      the tree at the batch's root, over the records of the image after it
 --     answers_refused, answers_made, goes_on_still      what is answered, and how the work goes on
 use Rattle.std.proofs.Common.{◌≡◌, ℕ, ◌+◌, ◌-◌, ◌^◌, ◌<◌, ◌≤◌, Bool, true, false, List, [], ◌∷◌, ◌++◌, length, map, Option, Some, None, refl, sym, ◌∙◌, ap, subst, arith, length-append}
-use Rattle.std.specs.Prelude.{Result, Ok, Err, All, IsFalse, IfSome, min, cond}
+use Rattle.std.specs.Prelude.{Result, Ok, Err, All, IsFalse, IsTrue, IfSome, IsSomeAnd, min, cond}
 use Rattle.std.specs.List.{AllByRecursion}
 use Rattle.std.proofs.lemmas.List.{map-append}
 use Rattle.std.proofs.lemmas.List.Elements.{All-from_recursion, recursion_from_All}
@@ -25,12 +25,12 @@ use Rattle.ip_spec.specs.declared.reply.Reply.{Reply}
 use Rattle.ip_spec.specs.Map.{get, insert, get-insert}
 use Rattle.ip_spec.specs.Path.{Bytes, bytes_cmp}
 use Rattle.ip_spec.specs.Record.{Hash, IsHash}
-use Rattle.ip_spec.specs.Repository.{Repository, Commit, next}
+use Rattle.ip_spec.specs.Repository.{Repository, Commit, next, is_retained}
 use Rattle.ip_spec.specs.Tree.{Tree, IsTree, is_contents, no_tree, widest}
 use Rattle.ip_spec.specs.TreeAt.{Records, TreeAt, present}
 use Rattle.ip_spec.specs.View.{View}
-use Rattle.ip_spec.specs.Batch.{AreEndToEnd, KnownStand, commit_of, sources, with_batch}
-use Rattle.ip_spec.proofs.BatchLaws.{batch_lies, batch_stands, sources_stand}
+use Rattle.ip_spec.specs.Batch.{AreEndToEnd, KnownStand, Sources, SourcesStand, commit_of, reusing_sources, with_batch}
+use Rattle.ip_spec.proofs.BatchLaws.{batch_lies, batch_stands, reusing_stand}
 use Rattle.ip_spec.proofs.TreeAtLaws.{more_part}
 use Rattle.ip_spec.proofs.Widths.{none_wider}
 use Rattle.ip_spec.specs.Step.{as_parent, new_commit, with_commit, entries_limit, Turned, IsMet}
@@ -58,7 +58,7 @@ use Rattle.ip_store.specs.declared.committing.Plan.{Plan}
 use Rattle.ip_store.specs.declared.committing.StoreFault.{StoreFault}
 use Rattle.ip_store.specs.declared.store.Store.{Store}
 use Rattle.ip_store.specs.declared.work.Work.{Work}
-use Rattle.ip_store.specs.Commits.{IsNext, IsPlan, IsRefusal, Commits, Answers, Turns, repository_after, fault_reply, met_of, conditions_of, met_nothing, records_of}
+use Rattle.ip_store.specs.Commits.{IsNext, IsPlan, IsRefusal, Commits, Answers, Turns, repository_after, fault_reply, met_of, conditions_of, met_nothing, first_parent, records_of}
 use Rattle.ip_space.specs.SpaceView.{bare, grown}
 use Rattle.ip_store.specs.Placed.{IsSpaceOf}
 use Rattle.ip_store.specs.Publishing.{CanStep, IsWritten, MakesStep}
@@ -75,7 +75,8 @@ use Rattle.ip_store.proofs.CollectsOn.{RestsBy, collects_on, unwritten}
 use Rattle.ip_store.proofs.Going.{highs, rising_push, going_to, going_on}
 use Rattle.ip_store.proofs.Recovering.{held_has}
 use Rattle.ip_store.proofs.BatchKinds.{batch_commit}
-use Rattle.ip_store.proofs.Phases.{least_above, oldest_above, phase_to, phase_on, retained_is, set_heads}
+use Rattle.ip_store.proofs.FirstTree.{first_held, first_staying}
+use Rattle.ip_store.proofs.Phases.{least_above, oldest_above, retained_parents, phase_to, phase_on, retained_is, set_heads}
 use Rattle.ip_store.proofs.RootedViews.{rooted_stored}
 use Rattle.ip_store.proofs.Listed.{good_here, records_ordered, within_fits, same_records, records_below, found_here}
 use Rattle.ip_store.proofs.Stepping.{same_holds, space_same, unswept_same, within_same, rising_same, may_step, changed, list_after, more_made, stays_made, cut_short, same_can_step, same_step}
@@ -212,6 +213,10 @@ module _ (r : Repository) (branch : Bytes) (store : Store) (plan : Plan) (of : I
 
 -- ---- the files, where the tree has this view
 
+-- for what doesn't depend on the commit's info
+abbrev pub no_info : Info
+no_info = record { date = 0; author = []; message = [] }
+
 -- what `Tree::of` says of the tree that it gives
 abbrev pub IsRead : ℕ → Ref → lazy.Tree → Type 0
 IsRead number root tree = (records : ℕ → Option Record) (map : Tree) → IsFalse (is_contents map) → Spells records root map → IsTree map → widest map ≤ entries_limit → IsView records tree (stored_view records number root.at map)
@@ -219,7 +224,7 @@ IsRead number root tree = (records : ℕ → Option Record) (map : Tree) → IsF
 pub read_root : (number : ℕ) (given root : Ref) (tree : lazy.Tree) → given ≡ root → IsRead number given tree → IsRead number root tree
 read_root number given root tree same read = subst (λ (at : Ref). IsRead number at tree) same read
 
-module _ (r : Repository) (work : Work) (v : View) (branch : Bytes) (info : Info) (store : Store) (plan : Plan) (coming : IsNext r branch store plan) (is : IsPlan r work v branch info store plan) (a : Told) (at : IsAt a store r work v) where
+module _ (r : Repository) (work : Work) (v : View) (branch : Bytes) (info : Info) (store : Store) (plan : Plan) (coming : IsNext r branch store plan) (a : Told) (at : IsAt a store r work v) (is : IsPlan r work v (first_parent at) branch info store plan) where
   abbrev held : Holds store a r
   held = at.holds
 
@@ -233,7 +238,7 @@ module _ (r : Repository) (work : Work) (v : View) (branch : Bytes) (info : Info
   made_is = with_commit r commit branch
 
   abbrev all : Records
-  all = records_of r work v branch info store
+  all = records_of r work v (first_parent at) branch info store
 
   abbrev next_live : Slot
   next_live = next_slot (carried store) (length plan.batch.bytes.items) 1
@@ -253,13 +258,22 @@ module _ (r : Repository) (work : Work) (v : View) (branch : Bytes) (info : Info
   known : KnownStand (image_records held) v store.slot.end
   known = known_stand (image_records held) work.tree v store.slot.end view_is (records_below store a r held)
 
+  retained : All (λ n. IsTrue (is_retained r n)) work.parents
+  retained = retained_parents r work.least work.parents at.lawful.parents is.there
+
+  abbrev from : Sources
+  from = reusing_sources v (first_parent at)
+
+  stand : SourcesStand (image_records held) v from
+  stand = reusing_stand (image_records held) v (first_parent at) store.slot.end known (first_held store a r held work.parents retained)
+
   pub stands_new : (image : Image) → HasLive next_live image → AddsBytes store.slot plan.batch.bytes.items a.held image → StandsFor image (repository_after r (phase_of store.collection) work v branch info)
   stands_new image live adds = subst (StandsFor image) (sym after_is)
-      (stands_grown a.held image r store.slot next_live v (sources v) work.parents info branch held.stands (held_has store r a held) is.may known (sources_stand (image_records held) v store.slot.end known) is.within live
+      (stands_grown a.held image r store.slot next_live v from work.parents info branch held.stands (held_has store r a held) is.may known stand is.within live
       generation (sym is.behind) refl (subst (λ (bs : List ℕ). AddsBytes store.slot bs a.held image) is.bytes adds)).0
 
   pub all_lie : AreEndToEnd store.slot.end all next_live.end
-  all_lie = subst (λ (n : ℕ). AreEndToEnd store.slot.end all n) is.behind (batch_lies v (sources v) (fields_of r work.parents info branch) store.slot.end)
+  all_lie = subst (λ (n : ℕ). AreEndToEnd store.slot.end all n) is.behind (batch_lies v from (fields_of r work.parents info branch) store.slot.end)
 
   abbrev Step : Told → Result (Unit {0}) GroundFault → Type 0
   Step b res = MakesStep store.slot.end plan.batch.bytes.items (1 - store.index) plan.slot res a b
@@ -290,9 +304,14 @@ module _ (r : Repository) (work : Work) (v : View) (branch : Bytes) (info : Info
       let oldest = oldest_above c.commit v.oldest work.parents (subst (λ (o : Option ℕ). IfSome o (λ n. c.commit ≤ n)) at.lawful.least least) in
       let rooted = rooted_rests records c.job.horizon collects.kept set store.slot rise good collectable.commit collectable.here v (subst (λ (low : ℕ). IfSome v.oldest (λ n. low ≤ n)) (sym collectable.number) oldest) (at.lawful.rooted is.there) in
       let staying = known_staying records c.job.horizon collects.kept set rise store.slot.end v known rooted in
-      batch_rests records c.job.horizon collects.kept store.slot.end (records_ordered store a r held) (omega (arith, some, inside)) (terms_of store.slot) v (fields_of r work.parents info branch)
-      (tree_behind (terms_of store.slot) v (sources v) (fields_of r work.parents info branch) store.slot.end (staying_records records c.job.horizon collects.kept) staying
-      (sources_stand (present (staying_records records c.job.horizon collects.kept)) v store.slot.end staying) is.may.is_tree (λ p. (let most = none_wider v.map p in let narrow = is.may.narrow in omega (arith, most, narrow))))
+      batch_rests records c.job.horizon collects.kept store.slot.end (records_ordered store a r held) (omega (arith, some, inside)) (terms_of store.slot) v from (fields_of r work.parents info branch)
+      (tree_behind (terms_of store.slot) v from (fields_of r work.parents info branch) store.slot.end (staying_records records c.job.horizon collects.kept) staying
+      (reusing_stand (present (staying_records records c.job.horizon collects.kept)) v (first_parent at) store.slot.end staying
+      (first_staying store a r held c.job.horizon collects.kept set collectable.commit collectable.here work.parents retained (none_below work.least least collectable.commit.number (sym collectable.number) at.lawful.parents.above))) is.may.is_tree (λ p. (let most = none_wider v.map p in let narrow = is.may.narrow in omega (arith, most, narrow))))
+    where
+      none_below : (low : Option ℕ) → IfSome low (λ m. c.commit ≤ m) → (number : ℕ) → c.commit ≡ number → All (λ n. IsSomeAnd low (λ m. m ≤ n)) work.parents → All (λ n. number ≤ n) work.parents
+      none_below None some number same above k d l = absurd (above k d l)
+      none_below (Some m) some number same above k d l = let one = above k d l in omega (arith, some, same, one)
 
   collects_after : (b : Told) (store' : Store) → store'.slot ≡ plan.slot → store'.collection ≡ store.collection → IsOf store' (repository_after r (phase_of store.collection) work v branch info) → Step b (Ok tt)
       → (B : Standing b.held) → IfSome store'.collection (Collects b store'.slot B.records (repository_after r (phase_of store.collection) work v branch info))
@@ -327,7 +346,7 @@ module _ (r : Repository) (work : Work) (v : View) (branch : Bytes) (info : Info
 
     spelled : TreeAt (with_batch (image_records held) all) plan.batch.root.at v.map
     spelled = subst (λ (root : Ref). TreeAt (with_batch (image_records held) all) root.at v.map) (sym is.root)
-        (batch_stands (image_records held) v (sources v) store.slot.end known (sources_stand (image_records held) v store.slot.end known) view_is.lawful (fields_of r work.parents info branch))
+        (batch_stands (image_records held) v from store.slot.end known stand view_is.lawful (fields_of r work.parents info branch))
 
     found : (place : ℕ) (x : Record) → with_batch (image_records held) all place ≡ Some x → image_records now place ≡ Some x
     found place x there = subst (λ (rs : Records). present rs place ≡ Some x) (sym list_on)
@@ -351,16 +370,16 @@ module _ (r : Repository) (work : Work) (v : View) (branch : Bytes) (info : Info
         view_is.lawful view_is.narrow)
 
     abbrev committed_here : Record
-    committed_here = commit_of v (sources v) (fields_of r work.parents info branch) store.slot.end
+    committed_here = commit_of v from (fields_of r work.parents info branch) store.slot.end
 
-    commit_here : image_records now (commit_place v store.slot.end) ≡ Some committed_here
-    commit_here = found_here store' b q now (commit_place v store.slot.end, committed_here)
-        (subst (λ (rs : Records). Has rs (commit_place v store.slot.end, committed_here)) (sym list_on) (has_right held.stands.standing.records all (commit_place v store.slot.end, committed_here) (batch_commit v (fields_of r work.parents info branch) store.slot.end)))
+    commit_here : image_records now (commit_place v (first_parent at) store.slot.end) ≡ Some committed_here
+    commit_here = found_here store' b q now (commit_place v (first_parent at) store.slot.end, committed_here)
+        (subst (λ (rs : Records). Has rs (commit_place v (first_parent at) store.slot.end, committed_here)) (sym list_on) (has_right held.stands.standing.records all (commit_place v (first_parent at) store.slot.end, committed_here) (batch_commit v from (fields_of r work.parents info branch) store.slot.end)))
 
     -- which the commit's record reaches
     rooted_now : IsRooted (image_records now) (stored_view (image_records now) (next r) plan.batch.root.at v.map)
     rooted_now = subst (λ (root : Ref). IsRooted (image_records now) (stored_view (image_records now) (next r) root.at v.map)) (sym is.root)
-        (rooted_stored (image_records now) (next r) (commit_place v store.slot.end) _ v.map commit_here refl)
+        (rooted_stored (image_records now) (next r) (commit_place v (first_parent at) store.slot.end) _ v.map commit_here refl)
 
     pub work_after : (work' : Work) → IsRead plan.number plan.batch.root work'.tree → work'.parents ≡ plan.parents → work'.least ≡ Some plan.number → q ≡ made_is
         → IsLawful (image_records now) q work' (stored_view (image_records now) (next r) plan.batch.root.at v.map)
@@ -402,10 +421,10 @@ answers_refused r phase work v branch info fault store told at is = by_reply (fa
     by_reply (Some reply) turns seen = record { after = r; view = v; turns = turns; is_at = at; seen = seen }
 
 -- the answer of a commit that was made
-pub answers_made : (r : Repository) (work work' : Work) (v v' : View) (branch : Bytes) (info : Info) (store store' : Store) (plan : Plan) (name : Hash) (told : Told) → IsNext r branch store plan → IsPlan r work v branch info store plan
+pub answers_made : (r : Repository) (work work' : Work) (v v' : View) (branch : Bytes) (info : Info) (store store' : Store) (plan : Plan) (name : Hash) (told : Told) (first : Option View) → IsNext r branch store plan → IsPlan r work v first branch info store plan
     → name ≡ plan.batch.name → v'.map ≡ v.map → work'.parents ≡ plan.parents → work'.least ≡ Some plan.number → IsAt told store' (with_commit r (new_commit r v.map work.parents info) branch) work' v'
     → IsStored (next r) v.map v' → Answers told (session r (phase_of store.collection) work v) v (Command.Commit branch info) met_nothing (Reply.Committed name) store' work'
-answers_made r work work' v v' branch info store store' plan name told coming is named same parents least at stored =
+answers_made r work work' v v' branch info store store' plan name told first coming is named same parents least at stored =
     let name_is : name ≡ (new_commit r v.map work.parents info).name = named ∙ is.name in
     let after = with_commit r (new_commit r v.map work.parents info) branch in
     let phase = phase_of store.collection in

@@ -13,13 +13,12 @@ use Rattle.ip_spec.specs.Tree.{Tree, entries_of, is_contents, height}
 use Rattle.ip_spec.specs.Shape.{Entries, deepest, is_leaf, children_of}
 use Rattle.ip_spec.specs.TreeAt.{Records}
 use Rattle.ip_spec.specs.View.{View}
-use Rattle.ip_spec.specs.Batch.{commit_of, CommitFields, Spelled, Row, sources, contents_record, contents_offset, contents_end, new_contents, placed, there_already, behind, known_or, spell_entry, spell_entries, spell_children, spell_part, spell_directory, root_spelled, tree_batch, batch}
+use Rattle.ip_spec.specs.Batch.{commit_of, CommitFields, Sources, Spelled, Row, contents_record, contents_offset, contents_end, new_contents, placed, there_already, behind, known_or, spell_entry, spell_entries, spell_children, spell_part, spell_directory, root_spelled, tree_batch, batch}
 use Rattle.ip_image.specs.Standing.{IsServedKind}
 use Rattle.ip_image.specs.Appending.{AreWithin}
 use Rattle.ip_image.proofs.PairLaws.{Has}
 use Rattle.ip_image.proofs.StayingRecords.{has_right}
 use Rattle.ip_image.proofs.TreeParts.{all_join}
-use Rattle.ip_save.specs.Batches.{commit_place}
 use Rattle.ip_store.specs.Placed.{place_of, places_in}
 
 -- contents, or a part of a directory
@@ -95,12 +94,12 @@ contents_plain : (v : View) (xs : List (Path × ℕ)) → ArePlain (map (λ (x :
 contents_plain v [] = tt
 contents_plain v (x ∷ xs) = (tt, contents_plain v xs)
 
-module _ (v : View) (f : CommitFields) (end : ℕ) where
-  tree_plain : ArePlain (tree_batch v (sources v) end)
+module _ (v : View) (from : Sources) (f : CommitFields) (end : ℕ) where
+  tree_plain : ArePlain (tree_batch v from end)
   unfolding tree_batch
-  tree_plain = all_join IsPlainAt (map (λ (x : Path × ℕ). (x.1, contents_record v x.0)) (placed v end (new_contents v (sources v)))) (root_spelled v (sources v) end).records
-      (contents_plain v (placed v end (new_contents v (sources v))))
-      (directory_plain v (contents_offset v (sources v) end) (suc (height v.map)) [] v.map (contents_end v end (new_contents v (sources v))))
+  tree_plain = all_join IsPlainAt (map (λ (x : Path × ℕ). (x.1, contents_record v x.0)) (placed v end (new_contents v from))) (root_spelled v from end).records
+      (contents_plain v (placed v end (new_contents v from)))
+      (directory_plain v (contents_offset v from end) (suc (height v.map)) [] v.map (contents_end v end (new_contents v from)))
 
   plain_served : (xs : Records) → ArePlain xs → AllByRecursion (λ (x : ℕ × Record). IsServedKind x.1) xs
   plain_served [] are = tt
@@ -112,13 +111,13 @@ module _ (v : View) (f : CommitFields) (end : ℕ) where
       by (Record.Inode depth children) is = tt
       by _ is = absurd is
 
-  served : AllByRecursion (λ (x : ℕ × Record). IsServedKind x.1) (batch v (sources v) f end)
+  served : AllByRecursion (λ (x : ℕ × Record). IsServedKind x.1) (batch v from f end)
   unfolding batch
-  served = all_join (λ (x : ℕ × Record). IsServedKind x.1) (tree_batch v (sources v) end) _ (plain_served (tree_batch v (sources v) end) tree_plain) (tt, (tt, tt))
+  served = all_join (λ (x : ℕ × Record). IsServedKind x.1) (tree_batch v from end) _ (plain_served (tree_batch v from end) tree_plain) (tt, (tt, tt))
 
-  pub batch_served : (version : ℕ) → All (λ (x : ℕ × Record). Fits version x.1) (batch v (sources v) f end) → AreWithin version (batch v (sources v) f end)
-  batch_served version fit = All-from_recursion (λ (x : ℕ × Record). Fits version x.1 × IsServedKind x.1) (batch v (sources v) f end)
-      (both (batch v (sources v) f end) (recursion_from_All (λ (x : ℕ × Record). Fits version x.1) (batch v (sources v) f end) fit) served)
+  pub batch_served : (version : ℕ) → All (λ (x : ℕ × Record). Fits version x.1) (batch v from f end) → AreWithin version (batch v from f end)
+  batch_served version fit = All-from_recursion (λ (x : ℕ × Record). Fits version x.1 × IsServedKind x.1) (batch v from f end)
+      (both (batch v from f end) (recursion_from_All (λ (x : ℕ × Record). Fits version x.1) (batch v from f end) fit) served)
     where
       both : (xs : Records) → AllByRecursion (λ (x : ℕ × Record). Fits version x.1) xs → AllByRecursion (λ (x : ℕ × Record). IsServedKind x.1) xs → AllByRecursion (λ (x : ℕ × Record). Fits version x.1 × IsServedKind x.1) xs
       both [] one other = tt
@@ -134,10 +133,10 @@ module _ (v : View) (f : CommitFields) (end : ℕ) where
       by at (Record.Inode depth children) is = refl
       by at _ is = absurd is
 
-  pub batch_places : places_in (batch v (sources v) f end) ≡ commit_place v end ∷ []
+  pub batch_places : places_in (batch v from f end) ≡ (root_spelled v from end).next ∷ []
   unfolding batch
-  batch_places = filter_map-append place_of (tree_batch v (sources v) end) _ ∙ ap (λ (ps : List ℕ). ps ++ commit_place v end ∷ []) (no_places (tree_batch v (sources v) end) tree_plain)
+  batch_places = filter_map-append place_of (tree_batch v from end) _ ∙ ap (λ (ps : List ℕ). ps ++ (root_spelled v from end).next ∷ []) (no_places (tree_batch v from end) tree_plain)
 
-  pub batch_commit : Has (batch v (sources v) f end) (commit_place v end, commit_of v (sources v) f end)
+  pub batch_commit : Has (batch v from f end) ((root_spelled v from end).next, commit_of v from f end)
   unfolding batch
-  batch_commit = has_right (tree_batch v (sources v) end) _ (commit_place v end, commit_of v (sources v) f end) (inl refl)
+  batch_commit = has_right (tree_batch v from end) _ ((root_spelled v from end).next, commit_of v from f end) (inl refl)

@@ -14,7 +14,7 @@ use Rattle.ip_ground.specs.Contents.{Image}
 use Rattle.ip_spec.specs.declared.event.CoreRecord.{CoreRecord}
 use Rattle.ip_spec.specs.declared.record.CommitRecord.{CommitRecord}
 use Rattle.ip_spec.specs.declared.record.Record.{Record}
-use Rattle.ip_spec.specs.Batch.{CommitFields, AreEndToEnd, KnownStand, batch, batch_end, sources, whole_part}
+use Rattle.ip_spec.specs.Batch.{CommitFields, AreEndToEnd, KnownStand, Sources, batch, batch_end, whole_part}
 use Rattle.ip_spec.specs.Core.{CorePhase, FollowOn, IsKeptSet, IsPresent, Stays, core_record, core_records, end_of, stays}
 use Rattle.ip_spec.specs.Record.{references, spelling}
 use Rattle.ip_spec.specs.TreeAt.{Records, present}
@@ -142,7 +142,7 @@ lie_ordered from (x ∷ xs) to lie = (
 )
 
 -- over the records that stay the batch is the same, so all that it refers to is among them or in itself
-module _ (records : Records) (h : ℕ) (kept : List ℕ) (end : ℕ) (order : Ordered 0 records end) (above : h ≤ end) (terms : Terms) (v : View) (f : CommitFields) (B : TreeBatch terms v (sources v) f end (staying records h kept)) where
+module _ (records : Records) (h : ℕ) (kept : List ℕ) (end : ℕ) (order : Ordered 0 records end) (above : h ≤ end) (terms : Terms) (v : View) (from : Sources) (f : CommitFields) (B : TreeBatch terms v from f end (staying records h kept)) where
   abbrev old : Records
   old = staying records h kept
 
@@ -152,19 +152,19 @@ module _ (records : Records) (h : ℕ) (kept : List ℕ) (end : ℕ) (order : Or
   abbrev ends : Records
   ends = (B.commit_at, Record.Commit (commit_record v.map f B.root)) ∷ (B.branch_at, Record.BranchSet f.number f.branch) ∷ []
 
-  lies : Ordered end (B.parts ++ ends) (batch_end v (sources v) f end)
-  lies = subst (λ (xs : Records). Ordered end xs (batch_end v (sources v) f end)) B.is (lie_ordered end (batch v (sources v) f end) (batch_end v (sources v) f end) (batch_lies v (sources v) f end))
+  lies : Ordered end (B.parts ++ ends) (batch_end v from f end)
+  lies = subst (λ (xs : Records). Ordered end xs (batch_end v from f end)) B.is (lie_ordered end (batch v from f end) (batch_end v from f end) (batch_lies v from f end))
 
   all_rise : Rises (old ++ B.parts)
   all_rise = rises_front (old ++ B.parts) ends (subst Rises (sym (append_assoc old B.parts ends))
-      (ordered_rises 0 (old ++ (B.parts ++ ends)) (batch_end v (sources v) f end) (ordered_append 0 old (B.parts ++ ends) end (batch_end v (sources v) f end) (filter_ordered (test records h kept) 0 records end order) lies)))
+      (ordered_rises 0 (old ++ (B.parts ++ ends)) (batch_end v from f end) (ordered_append 0 old (B.parts ++ ends) end (batch_end v from f end) (filter_ordered (test records h kept) 0 records end order) lies)))
 
   found_rests : (at : ℕ) (r : Record) → J at ≡ Some r → Rests records h kept at
   found_rests at r is = by (has_either old B.parts (at, r) (present_has (old ++ B.parts) at r is))
     where
       by : Has old (at, r) ⊎ Has B.parts (at, r) → Rests records h kept at
       by (inl low) = test_rests records h kept (at, r) (filter_has (test records h kept) records (at, r) low).1
-      by (inr high) = let from = (ordered_has end (B.parts ++ ends) (batch_end v (sources v) f end) (at, r) lies (has_left B.parts ends (at, r) high)).0 in inl (omega (arith, above, from))
+      by (inr high) = let low = (ordered_has end (B.parts ++ ends) (batch_end v from f end) (at, r) lies (has_left B.parts ends (at, r) high)).0 in inl (omega (arith, above, low))
 
   one_rests : (at : ℕ) (r : Record) → Has B.parts (at, r) → IsTreePart J at r → (b : ℕ) → In (refs_of r) b → Rests records h kept b
   one_rests at (Record.Contents bytes) has part b ref = absurd ref
@@ -183,7 +183,7 @@ module _ (records : Records) (h : ℕ) (kept : List ℕ) (end : ℕ) (order : Or
   root_rests b (inl same) = let found = part_found J B.spelled.1 in subst (Rests records h kept) same (found_rests B.root found.0 found.1)
   root_rests b (inr none) = absurd none
 
-  pub batch_rests : (x : ℕ × Record) → Has (batch v (sources v) f end) x → (b : ℕ) → In (refs_of x.1) b → Rests records h kept b
+  pub batch_rests : (x : ℕ × Record) → Has (batch v from f end) x → (b : ℕ) → In (refs_of x.1) b → Rests records h kept b
   batch_rests x has b ref = by (has_either B.parts ends x (subst (λ (xs : Records). Has xs x) B.is has))
     where
       by : Has B.parts x ⊎ Has ends x → Rests records h kept b

@@ -13,7 +13,7 @@ use Rattle.ip_store.specs.declared.committing.Plan.{Plan}
 use Rattle.ip_store.specs.declared.store.Store.{Store}
 use Rattle.ip_store.specs.declared.work.Work.{Work}
 use Rattle.ip_store.specs.Collecting.{phase_of}
-use Rattle.ip_store.specs.Commits.{IsNext, IsPlan, records_of, repository_after}
+use Rattle.ip_store.specs.Commits.{IsNext, IsPlan, records_of, repository_after, first_parent}
 use Rattle.ip_store.specs.Fronts.{LeavesFront}
 use Rattle.ip_store.specs.Publishing.{MakesStep}
 use Rattle.ip_store.specs.Tie.{appending}
@@ -23,9 +23,9 @@ use Rattle.ip_store.proofs.Listed.{within_fits}
 use Rattle.ip_store.proofs.StepFronts.{leaves_step}
 
 -- whatever the answer is
-pub commit_front : (r : Repository) (work : Work) (v : View) (branch : Bytes) (info : Info) (store : Store) (plan : Plan) (coming : IsNext r branch store plan) (is : IsPlan r work v branch info store plan) (a : Told) (at : IsAt a store r work v)
-    → (b : Told) (res : Result (Unit {0}) GroundFault) → MakesStep store.slot.end plan.batch.bytes.items (1 - store.index) plan.slot res a b → NothingPending a → LeavesFront store at.holds.stands.standing.records (appending (records_of r work v branch info store)) a b
-commit_front r work v branch info store plan coming is a at b res step =
-    leaves_step r (repository_after r (phase_of store.collection) work v branch info) store store.slot.next_attempt 1 plan.batch.bytes.items at.holds.tables (there r work v branch info store plan coming is a at) a at.holds
-    (stands_new r work v branch info store plan coming is a at) (records_of r work v branch info store) (within_fits store.slot at.holds.tables.slot (records_of r work v branch info store) is.within) (all_lie r work v branch info store plan coming is a at) is.bytes
-    (rests r work v branch info store plan coming is a at) b res (to_next r work v branch info store plan coming is a at b res step)
+pub commit_front : (r : Repository) (work : Work) (v : View) (branch : Bytes) (info : Info) (store : Store) (plan : Plan) (coming : IsNext r branch store plan) (a : Told) (at : IsAt a store r work v) (is : IsPlan r work v (first_parent at) branch info store plan)
+    → (b : Told) (res : Result (Unit {0}) GroundFault) → MakesStep store.slot.end plan.batch.bytes.items (1 - store.index) plan.slot res a b → NothingPending a → LeavesFront store at.holds.stands.standing.records (appending (records_of r work v (first_parent at) branch info store)) a b
+commit_front r work v branch info store plan coming a at is b res step =
+    leaves_step r (repository_after r (phase_of store.collection) work v branch info) store store.slot.next_attempt 1 plan.batch.bytes.items at.holds.tables (there r work v branch info store plan coming a at is) a at.holds
+    (stands_new r work v branch info store plan coming a at is) (records_of r work v (first_parent at) branch info store) (within_fits store.slot at.holds.tables.slot (records_of r work v (first_parent at) branch info store) is.within) (all_lie r work v branch info store plan coming a at is) is.bytes
+    (rests r work v branch info store plan coming a at is) b res (to_next r work v branch info store plan coming a at is b res step)

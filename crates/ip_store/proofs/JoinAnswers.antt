@@ -14,7 +14,7 @@ use Rattle.ip_spec.specs.declared.command.Target.{Target}
 use Rattle.ip_spec.specs.declared.met.Met.{Met}
 use Rattle.ip_spec.specs.declared.record.Record.{Record}
 use Rattle.ip_spec.specs.declared.reply.Reply.{Reply}
-use Rattle.ip_spec.specs.Batch.{AreEndToEnd, batch, sources}
+use Rattle.ip_spec.specs.Batch.{AreEndToEnd, batch, reusing_sources}
 use Rattle.ip_spec.specs.Machine as Machine
 use Rattle.ip_spec.specs.declared.met.Child.{Child}
 use Rattle.ip_spec.specs.Machine.{Phase, State}
@@ -308,9 +308,9 @@ module _ (rule : Rule) (r : Repository) (phase : Phase) (branch : Bytes) (info :
   -- ---- the records
 
   module _ (records : ℕ → Option Record) (view : IsMergeView rule records r sides.head sides.number v) where
-    module _ (store mid : Store) (slot : mid.slot ≡ store.slot) where
+    module _ (store mid : Store) (slot : mid.slot ≡ store.slot) (first : Option View) (first_is : first ≡ Some view.left) where
       abbrev more : Records
-      more = records_of r work v branch info mid
+      more = records_of r work v first branch info mid
 
       more_are : MergeAppends rule records r sides.number branch info store.slot.end more 1
       more_are = inr (record {
@@ -320,14 +320,14 @@ module _ (rule : Rule) (r : Repository) (phase : Phase) (branch : Bytes) (info :
         not_current = is.apart.0;
         not_forward = is.apart.1;
         merge = view;
-        are_records = λ i. batch v (sources v) (fields_of r (onto i) info branch) (slot i).end;
+        are_records = λ i. batch v (reusing_sources v (first_is i)) (fields_of r (onto i) info branch) (slot i).end;
         count = refl;
       })
 
-      ends_there : end_of r work v branch info mid ≡ store.slot.end + length (bytes_of_records more)
-      ends_there = lie_long mid.slot.end more (end_of r work v branch info mid) (batch_lies v (sources v) (fields_of r work.parents info branch) mid.slot.end) ∙ ap (λ (n : ℕ). n + length (bytes_of_records more)) (ap (λ (t : Slot). t.end) slot)
+      ends_there : end_of r work v first branch info mid ≡ store.slot.end + length (bytes_of_records more)
+      ends_there = lie_long mid.slot.end more (end_of r work v first branch info mid) (batch_lies v (reusing_sources v first) (fields_of r work.parents info branch) mid.slot.end) ∙ ap (λ (n : ℕ). n + length (bytes_of_records more)) (ap (λ (t : Slot). t.end) slot)
 
-      pub limits_joined : (result : Result Hash StoreFault) → LimitsSpace (end_of r work v branch info mid) result mid → LimitsMerge rule records r sides.number branch info (merged_of result) store
+      pub limits_joined : (result : Result Hash StoreFault) → LimitsSpace (end_of r work v first branch info mid) result mid → LimitsMerge rule records r sides.number branch info (merged_of result) store
       limits_joined (Err (StoreFault.Limit Limit.Space)) limits = record { more = more; commits = 1; are = more_are; short = subst (λ (n : ℕ). 2 ^ 62 < n) ends_there (limits.space refl) }
       limits_joined (Err (StoreFault.Limit Limit.Sequence)) limits =
           let both = limits.sequence refl in
@@ -336,7 +336,7 @@ module _ (rule : Rule) (r : Repository) (phase : Phase) (branch : Bytes) (info :
       limits_joined (Err _) limits = tt
       limits_joined (Ok name) limits = tt
 
-      pub appends_joined : (result : Result Hash StoreFault) (now : Store) (a b : Told) → LimitsSpace (end_of r work v branch info mid) result mid → OnOk result (Appends more 1 store now a b) → (HasAnswer result → OnOk result ⊥ → now.slot ≡ store.slot)
+      pub appends_joined : (result : Result Hash StoreFault) (now : Store) (a b : Told) → LimitsSpace (end_of r work v first branch info mid) result mid → OnOk result (Appends more 1 store now a b) → (HasAnswer result → OnOk result ⊥ → now.slot ≡ store.slot)
           → AppendsMerge rule records r sides.number branch info (merged_of result) store now a b
       appends_joined (Ok name) now a b limits appends still = record {
         more = more;

@@ -2,7 +2,7 @@
 --     is_at      the work is one over what the store holds
 --     done_answers, done_moments, done_limits, done_appends, done_stays      of the merge.      done_tables      whatever is told
 --     looked_stays, join_limits      where the trees were not merged
-use Rattle.std.proofs.Common.{◌≡◌, ℕ, [], ◌∷◌, Option, Some, refl, sym, ◌∙◌, subst}
+use Rattle.std.proofs.Common.{◌≡◌, ℕ, List, [], ◌∷◌, Option, Some, refl, sym, ◌∙◌, ap, subst}
 use Rattle.std.specs.Prelude.{Result, Ok, Err, OnOk, IfSome, min}
 use Rattle.std.proofs.lemmas.Result.{on_ok_weaker}
 use Rattle.ip_base.specs.declared.info.Info.{Info}
@@ -22,7 +22,7 @@ use Rattle.ip_store.specs.declared.merging.Sides.{Sides}
 use Rattle.ip_store.specs.declared.store.Store.{Store}
 use Rattle.ip_store.specs.declared.work.Work.{Work}
 use Rattle.ip_store.specs.Changes.{Appends, HasAnswer, KeepsNumbers, LimitsSpace}
-use Rattle.ip_store.specs.Commits.{Answers, Commits, GoesOn, reply_to, repository_after, records_of, end_of}
+use Rattle.ip_store.specs.Commits.{Answers, Commits, GoesOn, reply_to, repository_after, records_of, end_of, first_parent, first_view}
 use Rattle.ip_store.specs.Merging.{merge_reply, GoesOnFrom, AnswersMerge, MergesAtMoments, AppendsMerge, LimitsMerge, IsJoin, IsJoined, IsJoinedTree}
 use Rattle.ip_store.specs.Store.{IsOf, Holds, SameTables, image_records}
 use Rattle.ip_store.specs.Trees.{OnlyLooks, RecordsStay}
@@ -30,7 +30,9 @@ use Rattle.ip_store.specs.Collecting.{not_leaving_in, phase_of}
 use Rattle.ip_store.specs.Work.{IsLawful, IsAt, IsThere, session}
 use Rattle.ip_store.proofs.JoinAnswers.{merged_of, answers_joined, moments_joined, limits_joined, appends_joined}
 use Rattle.ip_store.proofs.JoinedTrees.{join_outcome, join_good, join_view, join_lawful, join_parents, join_there, goes_on_from}
-use Rattle.ip_store.proofs.Phases.{stays_least}
+use Rattle.ip_store.proofs.BehindPlan.{first_same}
+use Rattle.ip_store.proofs.FirstTree.{first_left}
+use Rattle.ip_store.proofs.Phases.{retained_parents, stays_least}
 use Rattle.ip_store.proofs.Listed.{same_records}
 use Rattle.ip_store.proofs.LookedUp.{changes_behind, appends_behind}
 use Rattle.ip_store.proofs.MergeExits.{slot_still}
@@ -79,6 +81,14 @@ module _ (rule : Rule) (r : Repository) (branch : Bytes) (info : Info) (sides : 
   pub is_at : IsAt b mid r work J.view
   is_at = record { holds = now; lawful = subst (λ (records : ℕ → Option Record). IsLawful records r work J.view) (sym (looks.records r held now)) lawful }
 
+  -- the first parent is the branch's commit
+  first_is : (at : IsAt b mid r work J.view) → first_parent at ≡ Some J.left
+  first_is at =
+      first_same store mid same (image_records held) (image_records at.holds) (looks.records r held at.holds) r work.parents
+      ∙ ap (λ (ns : List ℕ). first_view (image_records held) store r ns) onto
+      ∙ first_left store a r held sides.head (sides.number ∷ []) (retained_parents r (Some (min sides.head sides.number)) (sides.head ∷ sides.number ∷ []) (join_parents r phase branch sides is) (join_there r phase branch sides is)) J.left_is.at J.left_is.root
+      ∙ ap Some (sym J.left_is.is)
+
   module _ (result : Result Hash StoreFault) (store' : Store) (work' : Work) (c : Told) where
     abbrev DoneIn : Option Collection → Type 0
     DoneIn o = IfSome (reply_to result) (λ reply. Answers c (session r (phase_of o) work J.view) J.view (Command.Commit branch info) store'.met reply store' work')
@@ -103,15 +113,15 @@ module _ (rule : Rule) (r : Repository) (branch : Bytes) (info : Info) (sides : 
     done_moments A does = moments_joined rule r phase branch info sides is work J.view onto there stays (join_outcome rule (image_records held) r sides tree J) (join_good rule (image_records held) r sides tree J) result store' work' a c c store'.met (in_phase A)
         (changes_behind r store a held b looks.reads.only (repository_after r phase work J.view branch info) result store' c (does_in does))
 
-    pub done_limits : LimitsSpace (end_of r work J.view branch info mid) result mid → LimitsMerge rule (image_records held) r sides.number branch info (merged_of result) store
-    done_limits limits = limits_joined rule r phase branch info sides is work J.view onto there stays (join_outcome rule (image_records held) r sides tree J) (join_good rule (image_records held) r sides tree J)
-        (image_records held) (join_view rule (image_records held) r sides tree J phase branch is) store mid same.slot result limits
+    pub done_limits : (at : IsAt b mid r work J.view) → LimitsSpace (end_of r work J.view (first_parent at) branch info mid) result mid → LimitsMerge rule (image_records held) r sides.number branch info (merged_of result) store
+    done_limits at limits = limits_joined rule r phase branch info sides is work J.view onto there stays (join_outcome rule (image_records held) r sides tree J) (join_good rule (image_records held) r sides tree J)
+        (image_records held) (join_view rule (image_records held) r sides tree J phase branch is) store mid same.slot (first_parent at) (first_is at) result limits
 
-    pub done_appends : LimitsSpace (end_of r work J.view branch info mid) result mid → OnOk result (Appends (records_of r work J.view branch info mid) 1 mid store' b c) → Does
+    pub done_appends : (at : IsAt b mid r work J.view) → LimitsSpace (end_of r work J.view (first_parent at) branch info mid) result mid → OnOk result (Appends (records_of r work J.view (first_parent at) branch info mid) 1 mid store' b c) → Does
         → AppendsMerge rule (image_records held) r sides.number branch info (merged_of result) store store' a c
-    done_appends limits appends does = appends_joined rule r phase branch info sides is work J.view onto there stays (join_outcome rule (image_records held) r sides tree J) (join_good rule (image_records held) r sides tree J)
-        (image_records held) (join_view rule (image_records held) r sides tree J phase branch is) store mid same.slot result store' a c limits
-        (on_ok_weaker result (appends_behind a b store mid looks (records_of r work J.view branch info mid) 1 store' c same.slot same.unswept) appends) (still result does)
+    done_appends at limits appends does = appends_joined rule r phase branch info sides is work J.view onto there stays (join_outcome rule (image_records held) r sides tree J) (join_good rule (image_records held) r sides tree J)
+        (image_records held) (join_view rule (image_records held) r sides tree J phase branch is) store mid same.slot (first_parent at) (first_is at) result store' a c limits
+        (on_ok_weaker result (appends_behind a b store mid looks (records_of r work J.view (first_parent at) branch info mid) 1 store' c same.slot same.unswept) appends) (still result does)
       where
         still : (result : Result Hash StoreFault) → Commits r (phase_of mid.collection) work J.view branch info result store' b c → HasAnswer result → OnOk result ⊥ → store'.slot ≡ store.slot
         still (Ok name) does has none = absurd none

@@ -98,7 +98,7 @@ module _ (records : ℕ → Option Record) (r : Repository) where
     short : HasShortContents view.map
 
   seen : (n : ℕ) (tree : lazy.Tree) → IsTreeOf records r n tree → IsSeen n tree
-  seen n tree of = record { view = stored_view records n of.at (tree_at r n); stored = record { at = of.at; spelled = of.spelled; is = refl }; is = of.view; rooted = of.rooted; short = of.short }
+  seen n tree of = record { view = stored_view records n of.at (tree_at r n); stored = record { at = of.at; root = of.root; spelled = of.spelled; is = refl }; is = of.view; rooted = of.rooted; short = of.short }
 
   record IsSeenBase (base : Option ℕ) (tree : lazy.Tree) : Type 0 where
     view : View
@@ -189,7 +189,7 @@ module _ (rule : Rule) (records : ℕ → Option Record) (r : Repository) (sides
   pub join_good : within_limits J.view.map ≡ Ok J.view.map
   join_good = within_good J.view.map (longest_short J.view.map J.short) J.is.narrow
 
-  pub join_view : (phase : Phase) (branch : Bytes) → IsJoin r phase branch sides → IsMergeView rule records r sides.head sides.number J.view
+  abbrev pub join_view : (phase : Phase) (branch : Bytes) → IsJoin r phase branch sides → IsMergeView rule records r sides.head sides.number J.view
   join_view phase branch is = record {
     base = J.base;
     left = J.left;

@@ -19,6 +19,9 @@ pub mod Phases
 pub mod RootedViews
 pub mod Machine
 mod BatchKinds
+pub mod FirstTree
+mod BehindPlan
+mod Causing
 mod SpelledTrees
 pub mod Going
 mod Hashes

@@ -41,7 +41,7 @@ inside low n high e = (first low n high e, second low n high e)
 
 -- ---- the commit and where it stands
 
-some_there : {A : Type 0} (xs : List A) (k : ℕ) → k < length xs → (x : A) × (slice_get xs k ≡ Some x)
+pub some_there : {A : Type 0} (xs : List A) (k : ℕ) → k < length xs → (x : A) × (slice_get xs k ≡ Some x)
 some_there [] k below = absurd (omega (arith, below))
 some_there (x ∷ xs) zero below = (x, refl)
 some_there (x ∷ xs) (suc k) below = some_there xs k (omega (arith, below))
@@ -50,7 +50,7 @@ above : (low n : ℕ) → low ≤ n → nat_le low n ≡ true
 above low n l = grind (arith, nat_tests)
 
 module _ (r : Repository) (number : ℕ) (retained : IsTrue (is_retained r number)) where
-  within : (r.floor ≤ number) × (number < next r)
+  pub within : (r.floor ≤ number) × (number < next r)
   within = inside r.floor number (next r) retained
 
   pub there_is : (m : Commit) × (slice_get r.commits (number - r.floor) ≡ Some m)

@@ -139,6 +139,7 @@ pub record EndsBy (records : Records) (r : Repository) (c : Collection) (result 
 
 -- ---- the call
 
+-- What a look or a finish says of its answer, of what it met and of the store, by what was heard of the child, where it looks at so many records at most.
 pub record Goes (child : Child) (most : ℕ) (result : Result Looked FinishFault) (store now : Store) : Type 0 where
   pub left : ℕ
   pub met : now.met ≡ met_by_finish child result left
@@ -147,6 +148,7 @@ pub record Goes (child : Child) (most : ℕ) (result : Result Looked FinishFault
   pub quiet : IsQuiet result → now ≡ record store { met = now.met }
   pub ended : IsQuiet result ⊎ ((reaped : Reaped) × (child ≡ Child.Ended reaped))
   pub held : child_of now.collection ≡ held_behind child (child_of store.collection)
+  -- how the child ended is kept where it is not over, and so is the check
   pub goes_on : IsKept result → (c : Collection) (reaped : Reaped) → store.collection ≡ Some c → child ≡ Child.Ended reaped → KeepsCollection c reaped now.collection
   pub sliced : (c : Collection) → store.collection ≡ Some c → Slices most c result now.collection
   pub whole : most ≡ 2 ^ 64 - 1 → ¬ IsChecking result

@@ -1,4 +1,5 @@
 pub mod Faults
+pub mod Causes
 pub mod Changes
 pub mod Commits
 pub mod Control

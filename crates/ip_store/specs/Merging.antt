@@ -5,7 +5,7 @@
 --     GoesOnFrom r store after      the store's tables are this repository's, and who goes on from commits of the one before goes on from them
 --     AnswersMerge rule told r phase number branch info met reply store      the reply and the repository that the store holds are the machine's, for what was met
 --     MergesAtMoments rule r phase number branch info result store' old new      what it does to what a ground tells
---     IsStoredAs records r n v      the view of a commit's tree, which these records spell.      IsBase records r cs v      of the ancestor's, where cs are the least common ancestors
+--     IsStoredAs records r n v      the view of a commit's tree, which these records spell from the root that the commit's record refers to.      IsBase records r cs v      of the ancestor's, where cs are the least common ancestors
 --     IsMergeView rule records r head number v      the view of the merge of two commits' trees
 --     MergeAppends rule records r number branch info end more commits      the records that a merge appends where nothing refuses it, and how many commits are among them
 --     AppendsMerge .. result store now old new      where they lie.      LimitsMerge .. result store      which limit is met
@@ -26,7 +26,7 @@ use Rattle.ip_spec.specs.History.{is_ancestor, is_proper_ancestor, lcas}
 use Rattle.ip_spec.specs.Machine as Machine
 use Rattle.ip_spec.specs.Merge.{Rule, Merges, Outcome, merged, conflict_at}
 use Rattle.ip_spec.specs.MergeModel.{base_of}
-use Rattle.ip_spec.specs.Batch.{batch, sources}
+use Rattle.ip_spec.specs.Batch.{batch, reusing_sources}
 use Rattle.ip_spec.specs.Path.{Bytes}
 use Rattle.ip_spec.specs.Repository.{Repository, head, is_retained, name_at, tree_at}
 use Rattle.ip_spec.specs.Step.{Step, resolve, contents_limit, entries_limit, longest_value}
@@ -46,7 +46,7 @@ use Rattle.ip_store.specs.Commits.{conditions_of, fault_reply, met_nothing}
 use Rattle.ip_store.specs.Showing.{fault_from}
 use Rattle.ip_store.specs.Rooted.{IsRooted}
 use Rattle.ip_store.specs.Store.{IsOf, Holds}
-use Rattle.ip_store.specs.Trees.{IsTreeOf}
+use Rattle.ip_store.specs.Trees.{IsRootAt, IsTreeOf}
 use Rattle.ip_store.specs.Work.{AreParents, state_at}
 use Rattle.ip_store.specs.declared.committing.StoreFault.{StoreFault}
 use Rattle.ip_store.specs.declared.merging.Course.{Course}
@@ -109,6 +109,7 @@ pub record MergesAtMoments (rule : Rule) (r : Repository) (phase : Machine.Phase
 
 pub record IsStoredAs (records : ℕ → Option Record) (r : Repository) (n : ℕ) (v : View) : Type 0 where
   pub at : ℕ
+  pub root : IsRootAt records n at
   pub spelled : TreeAt records at (tree_at r n)
   pub is : v ≡ stored_view records n at (tree_at r n)
 
@@ -146,7 +147,8 @@ pub record JoinAppends (rule : Rule) (records : ℕ → Option Record) (r : Repo
   pub not_current : is_ancestor r number at ≡ false
   pub not_forward : is_proper_ancestor r at number ≡ false
   pub merge : IsMergeView rule records r at number view
-  pub are_records : more ≡ batch view (sources view) (fields_of r (at ∷ number ∷ []) info branch) end
+  -- contents are taken from the branch's commit
+  pub are_records : more ≡ batch view (reusing_sources view (Some merge.left)) (fields_of r (at ∷ number ∷ []) info branch) end
   pub count : commits ≡ 1
 
 abbrev pub MergeAppends : Rule → (ℕ → Option Record) → Repository → ℕ → Bytes → Info → ℕ → Records → ℕ → Type 0

@@ -7,6 +7,7 @@
 --     BlamesCommit place name result      what a fault says of the commit's place and name, whatever is told
 --     Damages records result      what stands at the place that a fault blames
 use Rattle.std.specs.Prelude.{◌≡◌, ◌≢◌, ℕ, Option, Some, None, Result, Ok, Err}
+use Rattle.ip_spec.specs.declared.kind.TheConstants as kinds
 use Rattle.ip_spec.specs.declared.record.Record.{Record}
 use Rattle.ip_spec.specs.declared.record.CommitRecord.{CommitRecord}
 use Rattle.ip_spec.specs.declared.record.Ref.{Ref}
@@ -39,7 +40,7 @@ abbrev pub IsShown : Repository → ℕ → Result Shown StoreFault → Type 0
 IsShown r number result = IsFetchedOr (λ shown. commit_reply r number ≡ Reply.Commit shown.name shown.number shown.root shown.parents shown.info) result
 
 pub record IsRootOf (records : ℕ → Option Record) (r : Repository) (n : ℕ) (root : Ref) : Type 0 where
-  pub kind : root.kind ≡ 2
+  pub kind : root.kind ≡ kinds.DIRECTORY
   pub name : root.name ≡ root_name (tree_at r n)
   pub tree : TreeAt records root.at (tree_at r n)
   -- the commit's record refers to it
@@ -52,7 +53,7 @@ pub record IsRootOf (records : ℕ → Option Record) (r : Repository) (n : ℕ)
 pub record IsReference (store : Store) (wanted : Hash) (number : ℕ) (ref : Ref) : Type 0 where
   pub at : place_of_commit store number ≡ Some ref.at
   pub name : ref.name ≡ wanted
-  pub kind : ref.kind ≡ 4
+  pub kind : ref.kind ≡ kinds.COMMIT
 
 abbrev pub IsRecordOf : (ℕ → Option Record) → Repository → ℕ → CommitRecord → Type 0
 IsRecordOf records r number c = (m : Commit) × (place : ℕ) × (commit_at r number ≡ Some m) × (records place ≡ Some (Record.Commit c)) × SpellsCommit records number c m

@@ -10,6 +10,7 @@
 use Rattle.std.specs.Prelude.{◌≡◌, ◌≢◌, ℕ, ◌+◌, ◌<◌, ◌≤◌, Bool, [], ◌∷◌, ◌++◌, length, take, Some, Result, Ok, Err, IsTrue, slice_get}
 use Rattle.ip_ground.specs.declared.names.FileName.{FileName}
 use Rattle.ip_ground.specs.Told.{Told}
+use Rattle.ip_spec.specs.declared.kind.TheConstants as kinds
 use Rattle.ip_spec.specs.declared.record.Record.{Record}
 use Rattle.ip_spec.specs.Record.{Names, Fits, kind_of, spelling}
 use Rattle.ip_spec.specs.TreeAt.{Records}
@@ -32,8 +33,8 @@ use Rattle.ip_store.specs.declared.walk.Walk.{Walk}
 -- below the horizon only parts of trees, and at the horizon of a live generation its commit
 pub record MayStand (s : Slot) (at : ℕ) (r : Record) : Type 0 where
   pub served : IsServedKind r
-  pub kept_kind : at < s.horizon → kind_of r ≤ 3
-  pub first : s.live ≢ 0 → at ≡ s.horizon → kind_of r ≡ 4
+  pub kept_kind : at < s.horizon → kind_of r ≤ kinds.INODE
+  pub first : s.live ≢ 0 → at ≡ s.horizon → kind_of r ≡ kinds.COMMIT
 
 pub record Tells (s : Slot) (found : Found) (before : Records) : Type 0 where
   pub good : AreGood s [] before

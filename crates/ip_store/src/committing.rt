@@ -1,9 +1,9 @@
 // Committing a work: its refusals, its records, and the durable step.
-ghost use Rattle.std.specs.Prelude.{◌≡◌, ◌≢◌, ◌+◌, ◌++◌, [], ◌∷◌, ◌==◌, ◌≤◌, ◌<◌, ℕ, Option, Ok, Err, None, true, map, position, All, length, vec_len, IsTrue, IfSome, IfOk, IfErr, OnOk, OnErr, IsErr, IsErrOf};
+ghost use Rattle.std.specs.Prelude.{◌≡◌, ◌+◌, ◌++◌, [], ◌∷◌, ◌≤◌, ◌<◌, Option, Ok, Err, None, true, map, position, All, length, vec_len, IsTrue, IfSome, IfOk, IfErr, OnOk, OnErr, IsErr, IsErrOf};
 ghost use Rattle.std.specs.Vec.{vec_capacity};
-ghost use Rattle.std.specs.List.{list_any};
 ghost use Rattle.ip_base.specs.declared.limit.TheConstants.{OFFSET_MAX, PARENTS_MAX};
 ghost use Rattle.ip_store.specs.Clear.{KeepsClear};
+ghost use Rattle.ip_store.specs.Causes.{IsFaultFrom, IsStoreCause};
 ghost use Rattle.ip_store.specs.Faults.{ground_store};
 ghost use Rattle.ip_ground.specs.Counts.{Counts};
 ghost use Rattle.ip_spec.specs.declared.command.Command.TheVariants as Command;
@@ -17,20 +17,21 @@ ghost use Rattle.ip_spec.specs.Step.{below, unless_some, moved_head, room_for_br
 ghost use Rattle.ip_image.specs.Pending.{NothingPending};
 ghost use Rattle.ip_image.specs.Slot.{IsSlot};
 ghost use Rattle.ip_image.specs.Appending.{fields_of};
-ghost use Rattle.ip_save.specs.Batches.{fields_told, AreFields, HasShortContents};
+ghost use Rattle.ip_save.specs.Batches.{fields_told, AreFields, HasShortContents, IsFirst};
+ghost use Rattle.ip_save.specs.Reused.{ground_save};
 ghost use Rattle.ip_spec.specs.View.{View};
-ghost use Rattle.ip_spec.specs.declared.record.Record.{Record};
 ghost use Rattle.ip_tree.specs.TreeView.{IsView};
 ghost use Rattle.ip_store.specs.Fronts.{LeavesFront};
 ghost use Rattle.ip_store.specs.Tie.{appending};
 ghost use Rattle.ip_store.specs.declared.committing.StoreFault.TheVariants as StoreFault;
-ghost use Rattle.ip_store.specs.Commits.{parent_named, reply_to, RefusesBy, met_by, IsRefusal, IsLeaving, first_refusal, IsNewBatch, IsNext, IsPlan, IsPastTheEnd, records_of, end_of, Answers, Commits, GoesOn, IsSaved};
+ghost use Rattle.ip_store.specs.Commits.{parent_named, reply_to, RefusesBy, met_by, IsRefusal, IsLeaving, IsCut, IsNewBatch, IsNext, IsNotMade, IsPlan, first_parent, first_view, records_of, end_of, Answers, Commits, GoesOn, IsSaved};
 ghost use Rattle.ip_store.specs.Changes.{Appends, HasAnswer, IsUndamaged, IsNextSlot, KeepsNumbers, LimitsSpace};
 ghost use Rattle.ip_store.specs.Histories.{with_parents, MayEnter};
+ghost use Rattle.ip_store.specs.Showing.{IsFetchedOr};
 ghost use Rattle.ip_store.specs.Store.{IsOf, Holds, SameTables, image_records};
 ghost use Rattle.ip_store.specs.TieAppends.{IsTiedAnswer};
-ghost use Rattle.ip_store.specs.Trees.{RecordsStay};
-ghost use Rattle.ip_store.specs.Work.{AreParents, IsLawful, IsAt, IsThere, session};
+ghost use Rattle.ip_store.specs.Trees.{OnlyLooks, RecordsStay};
+ghost use Rattle.ip_store.specs.Work.{AreParents, IsAt, IsThere, session};
 ghost use Rattle.ip_store.specs.Collecting.{carried, phase_of, not_leaving_in};
 
 use crate::opening::nothing_met;
@@ -44,7 +45,7 @@ use ip_history::Table;
 use ip_save::{Batch, CommitFields, SaveFault};
 use ip_space::FetchFault;
 use ip_spec::met::Met;
-use ip_spec::record::{Parent, Parents};
+use ip_spec::record::{Parent, Parents, Ref};
 use ip_tree::Tree;
 use std::alloc::Global;
 
@@ -353,7 +354,8 @@ impl Store {
 
 impl Store {
     /// Commits the work's tree to a branch, and answers the commit's name. Afterwards the work goes on from that commit, and its tree is the
-    /// one that was stored. Once it is `Ok` the commit is there for good. After `Ground` the store may not be used any more. It reads nothing.
+    /// one that was stored. Once it is `Ok` the commit is there for good. Contents that the tree of the work's first parent has at the same path are not
+    /// written again. After `Ground` and `Damaged` the store may not be used any more.
     pub fn commit<G: Ground>(
         &mut self,
         alloc: Global,
@@ -373,10 +375,10 @@ impl Store {
             IfSome (reply_to result) (λ reply. Answers (G.told outside.new) (session r (phase_of self.old.collection) work.old v) v (Command.Commit branch.now info) self.new.met reply self.new work.new) }
         ensures saved { IsTrue G.tells → (r q : Repository) (v : View) → IsAt (G.told outside.old) self.old r work.old v → (now : Holds self.new (G.told outside.new) q) →
             OnOk result (IsSaved (image_records now) work.new.tree (next r) v.map) }
-        ensures limits { IsTrue G.tells → (r : Repository) (v : View) → IsAt (G.told outside.old) self.old r work.old v →
-            LimitsSpace (end_of r work.old v branch.now info self.old) result self.old }
-        ensures appends { IsTrue G.tells → (r : Repository) (v : View) → IsAt (G.told outside.old) self.old r work.old v →
-            OnOk result (Appends (records_of r work.old v branch.now info self.old) 1 self.old self.new (G.told outside.old) (G.told outside.new)) }
+        ensures limits { IsTrue G.tells → (r : Repository) (v : View) (here : IsAt (G.told outside.old) self.old r work.old v) →
+            LimitsSpace (end_of r work.old v (first_parent here) branch.now info self.old) result self.old }
+        ensures appends { IsTrue G.tells → (r : Repository) (v : View) (here : IsAt (G.told outside.old) self.old r work.old v) →
+            OnOk result (Appends (records_of r work.old v (first_parent here) branch.now info self.old) 1 self.old self.new (G.told outside.old) (G.told outside.new)) }
         ensures any_moment { IsTrue G.tells → (r : Repository) (v : View) → IsAt (G.told outside.old) self.old r work.old v →
             Commits r (phase_of self.old.collection) work.old v branch.now info result self.new (G.told outside.old) (G.told outside.new) }
         ensures records_stay { IsTrue G.tells → HasAnswer result → (r q : Repository) (held : Holds self.old (G.told outside.old) r) (now : Holds self.new (G.told outside.new) q) →
@@ -386,14 +388,54 @@ impl Store {
             IsTiedAnswer (λ name. true) result self.old held.stands.standing.records self.new now.stands.standing.records }
         // Where nothing was pending a crash at any moment, within a fault of the ground too, leaves a front of its events.
         ensures fronts { IsTrue G.tells → (r : Repository) (v : View) (here : IsAt (G.told outside.old) self.old r work.old v) → NothingPending (G.told outside.old) →
-            LeavesFront self.old here.holds.stands.standing.records (appending (records_of r work.old v branch.now info self.old)) (G.told outside.old) (G.told outside.new) }
+            LeavesFront self.old here.holds.stands.standing.records (appending (records_of r work.old v (first_parent here) branch.now info self.old)) (G.told outside.old) (G.told outside.new) }
         ensures counts { Counts ground_store result (G.counts_of outside.old) (G.counts_of outside.new) }
-        ensures undamaged { IsUndamaged result }
+        ensures causes { IfErr result (IsStoreCause G.tells (G.told outside.old) self.old.space) }
+        ensures undamaged { IsTrue G.tells → (r : Repository) (v : View) → IsAt (G.told outside.old) self.old r work.old v → IsUndamaged result }
+        // a work without parents has no tree to look into, over any ground
+        ensures alone { work.old.parents ≡ [] → IsUndamaged result }
     {
-        let plan = match self.plan(alloc, work, branch, info) {
-            Ok(plan) => plan,
-            Err(fault) => return self.noted(Err(fault)),
-        };
+        match self.plan(alloc, outside, work, branch, info) {
+            Ok(plan) => self.carry_out(outside, work, branch, plan),
+            Err(fault) => self.noted(Err(fault)),
+        }
+    }
+
+    // Carries out a commit that nothing refuses, but for want of memory for the tables. It reads nothing.
+    fn carry_out<G: Ground>(
+        &mut self,
+        outside: &mut G,
+        work: &mut Work,
+        branch: &[u8],
+        plan: Plan,
+    ) -> Result<Hash, StoreFault>
+        requires tables { (r : Repository) × IsOf self.old r × AreParents r work.old.least work.old.parents }
+        requires coming { (r : Repository) → IsOf self.old r → IsNext r branch.now self.old plan }
+        requires there { (r : Repository) → IsOf self.old r → IsThere r work.old.least }
+        ensures numbers { KeepsNumbers self.old self.new }
+        ensures tables { (r : Repository) → IsOf self.old r → AreParents r work.old.least work.old.parents → HasAnswer result → GoesOn self.new work.new }
+        ensures met { self.new.met ≡ met_by result }
+        ensures same_collection { self.new.collection ≡ self.old.collection }
+        ensures answered { IsTrue G.tells → (r : Repository) (v : View) (info : Info) (here : IsAt (G.told outside.old) self.old r work.old v) → IsPlan r work.old v (first_parent here) branch.now info self.old plan →
+            IfSome (reply_to result) (λ reply. Answers (G.told outside.new) (session r (phase_of self.old.collection) work.old v) v (Command.Commit branch.now info) self.new.met reply self.new work.new) }
+        ensures saved { IsTrue G.tells → (r q : Repository) (v : View) (info : Info) (here : IsAt (G.told outside.old) self.old r work.old v) → IsPlan r work.old v (first_parent here) branch.now info self.old plan →
+            (now : Holds self.new (G.told outside.new) q) → OnOk result (IsSaved (image_records now) work.new.tree (next r) v.map) }
+        ensures appends { IsTrue G.tells → (r : Repository) (v : View) (info : Info) (here : IsAt (G.told outside.old) self.old r work.old v) → IsPlan r work.old v (first_parent here) branch.now info self.old plan →
+            OnOk result (Appends (records_of r work.old v (first_parent here) branch.now info self.old) 1 self.old self.new (G.told outside.old) (G.told outside.new)) }
+        ensures any_moment { IsTrue G.tells → (r : Repository) (v : View) (info : Info) (here : IsAt (G.told outside.old) self.old r work.old v) → IsPlan r work.old v (first_parent here) branch.now info self.old plan →
+            Commits r (phase_of self.old.collection) work.old v branch.now info result self.new (G.told outside.old) (G.told outside.new) }
+        ensures records_stay { IsTrue G.tells → HasAnswer result → (r q : Repository) (held : Holds self.old (G.told outside.old) r) (now : Holds self.new (G.told outside.new) q) →
+            RecordsStay (image_records held) (image_records now) }
+        ensures clear { IsTrue G.tells → HasAnswer result → (r : Repository) (v : View) (info : Info) (here : IsAt (G.told outside.old) self.old r work.old v) → IsPlan r work.old v (first_parent here) branch.now info self.old plan →
+            KeepsClear self.old self.new (G.told outside.old) (G.told outside.new) }
+        ensures tied { IsTrue G.tells → (r q : Repository) (held : Holds self.old (G.told outside.old) r) (now : Holds self.new (G.told outside.new) q) →
+            IsTiedAnswer (λ name. true) result self.old held.stands.standing.records self.new now.stands.standing.records }
+        ensures fronts { IsTrue G.tells → (r : Repository) (v : View) (info : Info) (here : IsAt (G.told outside.old) self.old r work.old v) → IsPlan r work.old v (first_parent here) branch.now info self.old plan → NothingPending (G.told outside.old) →
+            LeavesFront self.old here.holds.stands.standing.records (appending (records_of r work.old v (first_parent here) branch.now info self.old)) (G.told outside.old) (G.told outside.new) }
+        ensures counts { Counts ground_store result (G.counts_of outside.old) (G.counts_of outside.new) }
+        // nothing is met but want of memory, and a fault of the ground
+        ensures faults { IfErr result IsCut }
+    {
         let name = plan.batch.name();
         let entered = self.enter(
             name,
@@ -423,33 +465,40 @@ impl Store {
         Ok(name)
     }
 
-    // The refusals in their order, the records, and all memory but for the tables.
-    fn plan(
-        &self,
+    // The refusals in their order, the records, and all memory but for the tables. Of the tree of the first parent records are fetched.
+    fn plan<G: Ground>(
+        &mut self,
         alloc: Global,
+        outside: &mut G,
         work: &Work,
         branch: &[u8],
         info: Info,
     ) -> Result<Plan, StoreFault>
         requires branch { IsBranchName branch.now }
         requires info { IsInfo info }
-        requires tables { (r : Repository) × IsOf self.now r × AreParents r work.now.least work.now.parents }
-        ensures coming { (r : Repository) → IsOf self.now r → IfOk result (IsNext r branch.now self.now) }
-        ensures there { (r : Repository) → IsOf self.now r → IfOk result (λ plan. IsThere r work.now.least) }
-        ensures refused { (records : ℕ → Option Record) (r : Repository) (v : View) → IsOf self.now r → IsLawful records r work.now v → IfErr result (IsRefusal r (phase_of self.now.collection) work.now v branch.now info) }
-        ensures planned { (records : ℕ → Option Record) (r : Repository) (v : View) → IsOf self.now r → IsLawful records r work.now v → IfOk result (IsPlan r work.now v branch.now info self.now) }
-        ensures space { (records : ℕ → Option Record) (r : Repository) (v : View) → IsOf self.now r → IsLawful records r work.now v → IsErrOf result (StoreFault.Limit Limit.Space) → OFFSET_MAX < end_of r work.now v branch.now info self.now }
-        ensures sequence { (records : ℕ → Option Record) (r : Repository) (v : View) → IsOf self.now r → IsLawful records r work.now v → IsErrOf result (StoreFault.Limit Limit.Sequence) →
-            (end_of r work.now v branch.now info self.now ≤ OFFSET_MAX) × (self.now.slot.sequence ≡ OFFSET_MAX) }
-        ensures no_fault { IsErrOf result StoreFault.Ground → ⊥ }
-        ensures undamaged { IsUndamaged result }
+        requires tables { (r : Repository) × IsOf self.old r × AreParents r work.now.least work.now.parents }
+        ensures coming { (r : Repository) → IsOf self.old r → IfOk result (IsNext r branch.now self.old) }
+        ensures there { (r : Repository) → IsOf self.old r → IfOk result (λ plan. IsThere r work.now.least) }
+        ensures refused { IsTrue G.tells → (r : Repository) (v : View) → IsAt (G.told outside.old) self.old r work.now v → IfErr result (IsRefusal r (phase_of self.old.collection) work.now v branch.now info) }
+        ensures planned { IsTrue G.tells → (r : Repository) (v : View) (here : IsAt (G.told outside.old) self.old r work.now v) → IfOk result (IsPlan r work.now v (first_parent here) branch.now info self.old) }
+        ensures space { IsTrue G.tells → (r : Repository) (v : View) (here : IsAt (G.told outside.old) self.old r work.now v) → IsErrOf result (StoreFault.Limit Limit.Space) →
+            OFFSET_MAX < end_of r work.now v (first_parent here) branch.now info self.old }
+        ensures sequence { IsTrue G.tells → (r : Repository) (v : View) (here : IsAt (G.told outside.old) self.old r work.now v) → IsErrOf result (StoreFault.Limit Limit.Sequence) →
+            (end_of r work.now v (first_parent here) branch.now info self.old ≤ OFFSET_MAX) × (self.old.slot.sequence ≡ OFFSET_MAX) }
+        ensures same { SameTables self.old self.new }
+        ensures met { self.new.met ≡ self.old.met }
+        ensures looks { IsTrue G.tells → OnlyLooks (G.told outside.old) (G.told outside.new) self.old self.new }
+        ensures counts { Counts ground_store result (G.counts_of outside.old) (G.counts_of outside.new) }
+        ensures causes { IfErr result (IsStoreCause G.tells (G.told outside.old) self.old.space) }
+        ensures undamaged { IsTrue G.tells → (r : Repository) (v : View) → IsAt (G.told outside.old) self.old r work.now v → IsUndamaged result }
+        ensures alone { work.now.parents ≡ [] → (outside.new ≡ outside.old) × IsUndamaged result }
     {
         self.there(work.least)?;
         self.head_among(work.parents.as_slice(), branch)?;
         self.staying(work.least)?;
         self.room_for(branch)?;
         let fields = self.fields(alloc, work.parents.as_slice(), branch, info)?;
-        let batch = self.new_batch(alloc, &work.tree, &fields)?;
+        let batch = self.batch_of(alloc, outside, &work.tree, work.parents.as_slice(), &fields)?;
         let slot = self.next_slot(batch.bytes().len(), 1)?;
         let parents = only(alloc, fields.number)?;
         Ok(Plan {
@@ -459,6 +508,61 @@ impl Store {
             slot,
             parents,
         })
+    }
+
+    // The commit's batch, by the tree of its first parent, where no other has its name.
+    fn batch_of<G: Ground>(
+        &mut self,
+        alloc: Global,
+        outside: &mut G,
+        tree: &Tree,
+        parents: &[Number],
+        fields: &CommitFields,
+    ) -> Result<Batch, StoreFault>
+        requires tables { (r : Repository) × IsOf self.old r × All (λ n. IsTrue (is_retained r n)) parents.now }
+        requires fields { AreFields (fields_told fields.now) }
+        ensures made { IsTrue G.tells → (r : Repository) (v : View) (held : Holds self.old (G.told outside.old) r) → All (λ n. IsTrue (is_retained r n)) parents.now → IsView (image_records held) tree.now v → HasShortContents v.map
+            → IsNewBatch r v (first_view (image_records held) self.old r parents.now) (fields_told fields.now) self.old.slot.end result }
+        ensures is_name { IfOk result (λ b. IsHash b.name) }
+        ensures some { IfOk result (λ b. 0 < length b.bytes.items) }
+        ensures placed { IfOk result (λ b. (self.old.slot.end ≤ b.commit_at) × (b.commit_at < self.old.slot.end + length b.bytes.items)) }
+        ensures fresh { (r : Repository) → IsOf self.old r → IfOk result (λ b. not_existing r b.name ≡ Ok tt) }
+        ensures same { SameTables self.old self.new }
+        ensures met { self.new.met ≡ self.old.met }
+        ensures looks { IsTrue G.tells → OnlyLooks (G.told outside.old) (G.told outside.new) self.old self.new }
+        ensures counts { Counts ground_store result (G.counts_of outside.old) (G.counts_of outside.new) }
+        ensures causes { IfErr result (IsStoreCause G.tells (G.told outside.old) self.old.space) }
+        ensures alone { parents.now ≡ [] → (outside.new ≡ outside.old) × IsUndamaged result }
+    {
+        match self.first_root(outside, parents) {
+            Ok(first) => self.new_batch(alloc, outside, tree, fields, first),
+            Err(fault) => Err(fault),
+        }
+    }
+
+    // Where the root of the tree of a work's first parent lies, if it has one.
+    fn first_root<G: Ground>(
+        &mut self,
+        outside: &mut G,
+        parents: &[Number],
+    ) -> Result<Option<Ref>, StoreFault>
+        requires tables { (r : Repository) × IsOf self.old r × All (λ n. IsTrue (is_retained r n)) parents.now }
+        ensures first { IsTrue G.tells → (r : Repository) (held : Holds self.old (G.told outside.old) r) → All (λ n. IsTrue (is_retained r n)) parents.now →
+            IsFetchedOr (λ root. IsFirst (image_records held) root (first_view (image_records held) self.old r parents.now)) result }
+        ensures same { SameTables self.old self.new }
+        ensures met { self.new.met ≡ self.old.met }
+        ensures looks { IsTrue G.tells → OnlyLooks (G.told outside.old) (G.told outside.new) self.old self.new }
+        ensures counts { Counts ground_store result (G.counts_of outside.old) (G.counts_of outside.new) }
+        ensures causes { IfErr result (IsStoreCause G.tells (G.told outside.old) self.old.space) }
+        ensures alone { parents.now ≡ [] → (result ≡ Ok None) × (outside.new ≡ outside.old) }
+    {
+        match parents.first() {
+            None => Ok(None),
+            Some(number) => match self.root_of(outside, *number) {
+                Ok(root) => Ok(Some(root)),
+                Err(fault) => Err(fault),
+            },
+        }
     }
 
     // What the commit's record and its branch's are made of.
@@ -486,52 +590,56 @@ impl Store {
         })
     }
 
-    // The commit's batch, where no other has its name.
-    fn new_batch(
-        &self,
+    // The commit's batch, where no other has its name. That one has it comes before the space that the batch would take.
+    fn new_batch<G: Ground>(
+        &mut self,
         alloc: Global,
+        outside: &mut G,
         tree: &Tree,
         fields: &CommitFields,
+        first: Option<Ref>,
     ) -> Result<Batch, StoreFault>
-        requires slot { IsSlot self.now.slot }
+        requires slot { IsSlot self.old.slot }
         requires fields { AreFields (fields_told fields.now) }
-        ensures made { (records : ℕ → Option Record) (r : Repository) (v : View) → IsOf self.now r → IsView records tree.now v → HasShortContents v.map
-            → IsNewBatch r v (fields_told fields.now) self.now.slot.end result }
+        ensures made { IsTrue G.tells → (r : Repository) (v : View) (other : Option View) (held : Holds self.old (G.told outside.old) r) → IsView (image_records held) tree.now v
+            → IsFirst (image_records held) first other → HasShortContents v.map → IsNewBatch r v other (fields_told fields.now) self.old.slot.end result }
         ensures is_name { IfOk result (λ b. IsHash b.name) }
         ensures some { IfOk result (λ b. 0 < length b.bytes.items) }
-        ensures placed { IfOk result (λ b. (self.now.slot.end ≤ b.commit_at) × (b.commit_at < self.now.slot.end + length b.bytes.items)) }
-        ensures fresh { (r : Repository) → IsOf self.now r → IfOk result (λ b. not_existing r b.name ≡ Ok tt) }
-        ensures no_fault { IsErrOf result StoreFault.Ground → ⊥ }
-        ensures undamaged { IsUndamaged result }
+        ensures placed { IfOk result (λ b. (self.old.slot.end ≤ b.commit_at) × (b.commit_at < self.old.slot.end + length b.bytes.items)) }
+        ensures fresh { (r : Repository) → IsOf self.old r → IfOk result (λ b. not_existing r b.name ≡ Ok tt) }
+        ensures same { SameTables self.old self.new }
+        ensures met { self.new.met ≡ self.old.met }
+        ensures looks { IsTrue G.tells → OnlyLooks (G.told outside.old) (G.told outside.new) self.old self.new }
+        ensures counts { Counts ground_store result (G.counts_of outside.old) (G.counts_of outside.new) }
+        ensures causes { IfErr result (IsStoreCause G.tells (G.told outside.old) self.old.space) }
+        ensures alone { first ≡ None → (outside.new ≡ outside.old) × IsUndamaged result }
     {
-        match Batch::of(alloc, tree, fields, self.slot.end) {
+        let end = self.slot.end;
+        match Batch::of(alloc, outside, &mut self.space, tree, fields, first, end) {
             Ok(batch) => {
                 let name = batch.name();
                 see_name(&name);
                 self.is_new(name)?;
                 Ok(batch)
             }
-            Err(SaveFault::Limit(Limit::Space)) => Err(self.past_the_end(alloc, tree, fields)),
-            Err(SaveFault::Limit(limit)) => Err(StoreFault::Limit(limit)),
-            Err(SaveFault::Memory) => Err(StoreFault::Memory),
+            Err(fault) => Err(self.not_made(fault)),
         }
     }
 
-    // Why there is no batch where its records would pass the greatest end. That a commit has its name comes first, and it has the same name
-    // wherever it lies.
-    fn past_the_end(&self, alloc: Global, tree: &Tree, fields: &CommitFields) -> StoreFault
-        requires fields { AreFields (fields_told fields.now) }
-        ensures because { (records : ℕ → Option Record) (r : Repository) (v : View) → IsOf self.now r → IsView records tree.now v → HasShortContents v.map
-            → IsPastTheEnd r v (fields_told fields.now) result }
-        ensures no_fault { result ≢ StoreFault.Ground }
-        ensures undamaged { IsUndamaged {A = Batch} (Err result) }
+    // Why there is no batch.
+    fn not_made(&self, fault: SaveFault) -> StoreFault
+        ensures made { (r : Repository) → IsOf self.now r → IsNotMade r fault result }
+        ensures comes { IsFaultFrom fault result }
+        ensures ground { (result ≡ StoreFault.Ground → ground_save fault ≡ true) × (ground_save fault ≡ true → result ≡ StoreFault.Ground) }
     {
-        match Batch::of(alloc, tree, fields, 0) {
-            Ok(batch) => match self.is_new(batch.name()) {
+        match fault {
+            SaveFault::Space(name) => match self.is_new(name) {
                 Ok(()) => StoreFault::Limit(Limit::Space),
                 Err(fault) => fault,
             },
-            Err(_) => StoreFault::Memory,
+            SaveFault::Limit(limit) => StoreFault::Limit(limit),
+            SaveFault::Fetch(fault) => StoreFault::from(fault),
+            SaveFault::Memory => StoreFault::Memory,
         }
     }
 }

@@ -1,12 +1,11 @@
 // The end of a collection: its child is asked, what it wrote is checked, and where that is the valid pair the store goes over to it.
-ghost use Rattle.std.specs.Prelude.{◌≡◌, ◌≢◌, ◌↔◌, ◌⊎◌, ℕ, ◌-◌, ◌≤◌, [], ◌∷◌, ◌++◌, false, Some, None, Result, Ok, Err, IsTrue, IsErrOf, OnOk, OnErr, is_some};
+ghost use Rattle.std.specs.Prelude.{◌≡◌, ◌≢◌, ◌-◌, ◌^◌, ◌≤◌, [], ◌∷◌, ◌++◌, false, Some, None, Result, Ok, Err, IsTrue, IsErrOf, OnOk, OnErr, is_some};
 ghost use Rattle.ip_ground.specs.Calls.{Settles};
 ghost use Rattle.ip_ground.specs.Counts.{CountsAs, FileFault};
 ghost use Rattle.ip_ground.specs.Told.{NoFile, ChangesOnly};
 ghost use Rattle.ip_ground.specs.declared.names.Reaped.{Reaped as ReapedValue};
 ghost use Rattle.ip_spec.specs.declared.command.Command.{Command as CommandValue};
 ghost use Rattle.ip_spec.specs.declared.command.Command.TheVariants as Command;
-ghost use Rattle.ip_spec.specs.declared.met.Child.{Child as ChildValue};
 ghost use Rattle.ip_spec.specs.declared.met.Child.TheVariants as Heard;
 ghost use Rattle.ip_spec.specs.Repository.{Repository};
 ghost use Rattle.ip_spec.specs.declared.event.Event.TheVariants as Event;
@@ -14,10 +13,11 @@ ghost use Rattle.ip_image.specs.Pending.{NothingPending};
 ghost use Rattle.ip_store.specs.Clear.{KeepsClear, ClearsAll};
 ghost use Rattle.ip_store.specs.Collecting.{child_of};
 ghost use Rattle.ip_store.specs.Ending.{AwaitsChild, Ends, EndsBy, Goes, IsHeardIn, Listens, MayBeHeard, SeesChild, held_behind};
-ghost use Rattle.ip_store.specs.Finishing.{FinishReplies, LookReplies, as_look, fault_by, met_by_finish, conditions_by, Concludes, HasAnswer, IsAsked, IsChecking, IsUndamaged, IsQuiet, IsSweptBehind, IsOver, IsKept, SlotBy, KeepsCollection, Slices, CountsFinish, unswept_by, LimitsFinish, FinishesBy, WorksStay};
+ghost use Rattle.ip_store.specs.Finishing.{FinishReplies, LookReplies, as_look, fault_by, met_by_finish, conditions_by, Concludes, HasAnswer, IsAsked, IsChecking, IsUndamaged, IsQuiet, IsSweptBehind, CountsFinish, FinishesBy, WorksStay};
 ghost use Rattle.ip_store.specs.Fronts.{LeavesFront};
 ghost use Rattle.ip_store.specs.Store.{IsOf, Holds};
 ghost use Rattle.ip_store.specs.Tie.{IsTied, finish_events, ending};
+ghost use Rattle.ip_store.specs.declared.finishing.TheConstants.{LOOKS};
 ghost use Rattle.ip_store.specs.declared.finishing.FinishFault.TheVariants as FinishFault;
 ghost use Rattle.ip_store.specs.declared.finishing.Looked.TheVariants as Looked;
 ghost use Rattle.ip_store.specs.declared.collection.Collection.{Collection};
@@ -342,22 +342,13 @@ impl Store {
         requires tables { (r : Repository) × IsOf self.old r }
         requires child { P.held spawner.old ≡ child_of self.old.collection }
         ensures answered { (r : Repository) → IsOf self.old r → LookReplies result (Concludes r self.old.collection Command.Look (conditions_by self.new.met result) self.new) }
-        ensures met { (child : ChildValue) × (left : ℕ) × (self.new.met ≡ met_by_finish child result left) }
+        ensures goes { Goes self.new.met.child LOOKS result self.old self.new }
         ensures child { P.held spawner.new ≡ child_of self.new.collection }
-        ensures runs { (self.old.collection ≡ None) ↔ IsErrOf result FinishFault.Idle }
         ensures idle { IsErrOf result FinishFault.Idle → spawner.new ≡ spawner.old }
-        ensures quiet { IsQuiet result → (outside.new ≡ outside.old) × (self.new ≡ record self.old { met = self.new.met }) }
+        ensures quiet { IsQuiet result → outside.new ≡ outside.old }
         // A child that was reaped before is not asked again.
         ensures kept { (c : Collection) (reaped : ReapedValue) → self.old.collection ≡ Some c → c.exit ≡ Some reaped → (spawner.new ≡ spawner.old) × (self.new.met.child ≡ Heard.Ended reaped) }
         ensures asked { (c : Collection) → self.old.collection ≡ Some c → c.exit ≡ None → SeesChild c.job.attempt self.new.met.child P.tells (P.told spawner.old) (P.told spawner.new) (P.counts_of spawner.old) (P.counts_of spawner.new) }
-        ensures ended { IsQuiet result ⊎ ((reaped : ReapedValue) × (self.new.met.child ≡ Heard.Ended reaped)) }
-        // How the child ended is kept where it is not over, and so is the check.
-        ensures goes_on { IsKept result → (c : Collection) (reaped : ReapedValue) → self.old.collection ≡ Some c → self.new.met.child ≡ Heard.Ended reaped → KeepsCollection c reaped self.new.collection }
-        ensures sliced { (c : Collection) → self.old.collection ≡ Some c → Slices 1024 c result self.new.collection }
-        ensures over { IsOver result → self.new.collection ≡ None }
-        ensures limits { LimitsFinish result self.old }
-        ensures slot { (c : Collection) → self.old.collection ≡ Some c → SlotBy result c self.old self.new.slot }
-        ensures unswept { self.new.unswept ≡ unswept_by result self.new.met.left self.new.slot self.old.unswept }
         ensures any_moment { IsTrue G.tells → (r : Repository) (held : Holds self.old (G.told outside.old) r) (c : Collection) (reaped : ReapedValue) → self.old.collection ≡ Some c → self.new.met.child ≡ Heard.Ended reaped →
             FinishesBy held.stands.standing.records r c Command.Look result self.old.unswept self.new (G.told outside.old) (G.told outside.new) }
         ensures undamaged { IsTrue G.tells → (r : Repository) → Holds self.old (G.told outside.old) r → IsUndamaged result }
@@ -388,21 +379,13 @@ impl Store {
         requires tables { (r : Repository) × IsOf self.old r }
         requires child { P.held spawner.old ≡ child_of self.old.collection }
         ensures answered { (r : Repository) → IsOf self.old r → FinishReplies result (Concludes r self.old.collection Command.Finish (conditions_by self.new.met (as_look result)) self.new) }
-        ensures met { (child : ChildValue) × (left : ℕ) × (self.new.met ≡ met_by_finish child (as_look result) left) }
+        ensures goes { Goes self.new.met.child (2 ^ 64 - 1) (as_look result) self.old self.new }
         ensures child { P.held spawner.new ≡ child_of self.new.collection }
-        ensures runs { (self.old.collection ≡ None) ↔ IsErrOf result FinishFault.Idle }
         ensures idle { IsErrOf result FinishFault.Idle → spawner.new ≡ spawner.old }
-        ensures quiet { IsQuiet (as_look result) → (outside.new ≡ outside.old) × (self.new ≡ record self.old { met = self.new.met }) }
+        ensures quiet { IsQuiet (as_look result) → outside.new ≡ outside.old }
         // A child that was reaped before is not asked again.
         ensures kept { (c : Collection) (reaped : ReapedValue) → self.old.collection ≡ Some c → c.exit ≡ Some reaped → (spawner.new ≡ spawner.old) × (self.new.met.child ≡ Heard.Ended reaped) }
         ensures asked { (c : Collection) → self.old.collection ≡ Some c → c.exit ≡ None → AwaitsChild c.job.attempt self.new.met.child P.tells (P.told spawner.old) (P.told spawner.new) (P.counts_of spawner.old) (P.counts_of spawner.new) }
-        ensures ended { IsQuiet (as_look result) ⊎ ((reaped : ReapedValue) × (self.new.met.child ≡ Heard.Ended reaped)) }
-        // How the child ended is kept where it is not over, and so is the check.
-        ensures goes_on { IsKept (as_look result) → (c : Collection) (reaped : ReapedValue) → self.old.collection ≡ Some c → self.new.met.child ≡ Heard.Ended reaped → KeepsCollection c reaped self.new.collection }
-        ensures over { IsOver (as_look result) → self.new.collection ≡ None }
-        ensures limits { LimitsFinish (as_look result) self.old }
-        ensures slot { (c : Collection) → self.old.collection ≡ Some c → SlotBy (as_look result) c self.old self.new.slot }
-        ensures unswept { self.new.unswept ≡ unswept_by (as_look result) self.new.met.left self.new.slot self.old.unswept }
         ensures any_moment { IsTrue G.tells → (r : Repository) (held : Holds self.old (G.told outside.old) r) (c : Collection) (reaped : ReapedValue) → self.old.collection ≡ Some c → self.new.met.child ≡ Heard.Ended reaped →
             FinishesBy held.stands.standing.records r c Command.Finish (as_look result) self.old.unswept self.new (G.told outside.old) (G.told outside.new) }
         ensures undamaged { IsTrue G.tells → (r : Repository) → Holds self.old (G.told outside.old) r → IsUndamaged (as_look result) }

@@ -11,8 +11,6 @@ mod history;
 mod merging;
 mod naming;
 mod opening;
-#[cfg(test)]
-mod phase_tests;
 mod publish;
 mod show;
 mod starting;

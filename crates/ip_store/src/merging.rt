@@ -1,5 +1,5 @@
 // Merging a commit into a branch: the commit of a work whose tree is the merged one, or the branch moves on.
-ghost use Rattle.std.specs.Prelude.{◌≡◌, ◌+◌, [], ◌∷◌, length, min, IfSome, IfOk, OnOk, IsTrue};
+ghost use Rattle.std.specs.Prelude.{◌≡◌, ◌+◌, [], ◌∷◌, length, min, IfSome, IfErr, IfOk, OnOk, IsTrue};
 ghost use Rattle.ip_ground.specs.Counts.{Counts};
 ghost use Rattle.ip_merge.specs.Rules.{IsDecisive};
 ghost use Rattle.ip_spec.specs.Path.{Bytes};
@@ -13,6 +13,7 @@ ghost use Rattle.ip_store.specs.Changes.{Appends, Changes, HasAnswer, IsUndamage
 ghost use Rattle.ip_store.specs.Clear.{KeepsClear};
 ghost use Rattle.ip_store.specs.Collecting.{phase_of};
 ghost use Rattle.ip_store.specs.Commits.{met_by};
+ghost use Rattle.ip_store.specs.Causes.{IsStoreCause};
 ghost use Rattle.ip_store.specs.Faults.{ground_store};
 ghost use Rattle.ip_store.specs.Fronts.{LeavesFront};
 ghost use Rattle.ip_store.specs.Merging.{merge_reply, AnswersMerge, AppendsMerge, GoesOnFrom, LimitsMerge, MergesAtMoments, IsCourse, IsCourseBy, IsBaseTree, IsJoin, IsJoined, IsForward, IsForwarded, course_in, stopped_by, unless_leaving};
@@ -161,6 +162,7 @@ impl Store {
         ensures fronts { IsTrue G.tells → IsDecisive (D.rule rules.now) → (r : Repository) (held : Holds self.old (G.told outside.old) r) → IsTrue (is_retained r number) → NothingPending (G.told outside.old) →
             (more : Records) × LeavesFront self.old held.stands.standing.records (appending more) (G.told outside.old) (G.told outside.new) }
         ensures counts { Counts ground_store result (G.counts_of outside.old) (G.counts_of outside.new) }
+        ensures causes { IfErr result (IsStoreCause G.tells (G.told outside.old) self.old.space) }
         // Files that others changed are never met where the ground tells what the store holds.
         ensures undamaged { IsTrue G.tells → IsDecisive (D.rule rules.now) → (r : Repository) → Holds self.old (G.told outside.old) r → IsTrue (is_retained r number) → IsUndamaged result }
     {
@@ -248,6 +250,7 @@ impl Store {
         ensures fronts { IsTrue G.tells → (r : Repository) (held : Holds self.old (G.told outside.old) r) → IsForward r branch.now number → NothingPending (G.told outside.old) →
             LeavesFront self.old held.stands.standing.records (appending ((self.old.slot.end, Record.BranchSet number branch.now) ∷ [])) (G.told outside.old) (G.told outside.new) }
         ensures counts { Counts ground_store result (G.counts_of outside.old) (G.counts_of outside.new) }
+        ensures undamaged { IsUndamaged result }
     {
         let name = self.retained_name(number);
         let rec = match set_record(alloc, branch, number) {
@@ -292,6 +295,7 @@ impl Store {
         ensures fronts { IsTrue G.tells → IsDecisive (D.rule rules.now) → (r : Repository) (held : Holds self.old (G.told outside.old) r) → IsJoin r (phase_of self.old.collection) branch.now sides.now → NothingPending (G.told outside.old) →
             (more : Records) × LeavesFront self.old held.stands.standing.records (appending more) (G.told outside.old) (G.told outside.new) }
         ensures counts { Counts ground_store result (G.counts_of outside.old) (G.counts_of outside.new) }
+        ensures causes { IfErr result (IsStoreCause G.tells (G.told outside.old) self.old.space) }
         ensures undamaged { IsTrue G.tells → IsDecisive (D.rule rules.now) → (r : Repository) → Holds self.old (G.told outside.old) r → IsJoin r (phase_of self.old.collection) branch.now sides.now → IsUndamaged result }
     {
         let tree = match self.joined(alloc, outside, sides, rules) {
@@ -328,6 +332,7 @@ impl Store {
         ensures same { SameTables self.old self.new }
         ensures looks { IsTrue G.tells → OnlyLooks (G.told outside.old) (G.told outside.new) self.old self.new }
         ensures counts { Counts ground_store result (G.counts_of outside.old) (G.counts_of outside.new) }
+        ensures causes { IfErr result (IsStoreCause G.tells (G.told outside.old) self.old.space) }
     {
         let base = self.base_tree(alloc, outside, sides.base)?;
         let left = self.tree_of(outside, sides.head)?;
@@ -352,6 +357,7 @@ impl Store {
         ensures met { self.new.met ≡ self.old.met }
         ensures looks { IsTrue G.tells → OnlyLooks (G.told outside.old) (G.told outside.new) self.old self.new }
         ensures counts { Counts ground_store result (G.counts_of outside.old) (G.counts_of outside.new) }
+        ensures causes { IfErr result (IsStoreCause G.tells (G.told outside.old) self.old.space) }
     {
         match base {
             Some(number) => self.tree_of(outside, number),

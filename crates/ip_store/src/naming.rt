@@ -1,5 +1,5 @@
 // Setting branches and taking them away: one record behind all others, and the slot that ends there.
-ghost use Rattle.std.specs.Prelude.{◌≡◌, ◌≢◌, ◌+◌, [], ◌∷◌, length, true, false, Some, Ok, IsTrue, IfSome, IfOk, OnOk, OnErr, IsErrOf, IsSome};
+ghost use Rattle.std.specs.Prelude.{◌≡◌, ◌≢◌, ◌+◌, [], ◌∷◌, length, true, false, Some, Ok, IsTrue, IfSome, IfOk, OnOk, IsErrOf, IsSome};
 ghost use Rattle.ip_store.specs.Clear.{KeepsClear};
 ghost use Rattle.ip_store.specs.Faults.{ground_store};
 ghost use Rattle.ip_ground.specs.Counts.{Counts};
@@ -15,7 +15,7 @@ ghost use Rattle.ip_store.specs.Commits.{met_by};
 ghost use Rattle.ip_store.specs.Fronts.{LeavesFront};
 ghost use Rattle.ip_store.specs.Naming.{branch_reply, removed_reply, AnswersSet, AnswersRemove, without_branch, Renames};
 ghost use Rattle.ip_store.specs.Collecting.{IsAbove, phase_of, not_leaving_in};
-ghost use Rattle.ip_store.specs.Store.{IsOf, Holds, IsSound, image_records};
+ghost use Rattle.ip_store.specs.Store.{IsOf, Holds, image_records};
 ghost use Rattle.ip_store.specs.Tie.{appending};
 ghost use Rattle.ip_store.specs.TieAppends.{IsTiedAnswer};
 ghost use Rattle.ip_store.specs.Trees.{RecordsStay};

@@ -5,7 +5,7 @@
 //   4. The slot that is not live is closed and synced, unless it is whole and closed; its other bytes are written and synced.
 //   5. Its gate is opened, by one byte, and synced. What a crash in that write leaves has the old slot live, or the new one.
 //   6. The caller answers only behind that.
-ghost use Rattle.std.specs.Prelude.{◌+◌, ◌<◌, ◌≤◌, length, IsTrue, OnErr};
+ghost use Rattle.std.specs.Prelude.{◌+◌, ◌<◌, ◌≤◌, length, IsTrue};
 ghost use Rattle.ip_base.specs.declared.limit.TheConstants.{OFFSET_MAX};
 ghost use Rattle.ip_ground.specs.Counts.{CountsAs, FileFault};
 ghost use Rattle.ip_image.specs.Slot.{IsChunkSize};

@@ -1,7 +1,9 @@
 // What the store tells of one commit: its record is fetched from where it lies.
-ghost use Rattle.std.specs.Prelude.{◌≡◌, map, IsTrue, IfOk};
+ghost use Rattle.std.specs.Prelude.{◌≡◌, map, IsTrue, IfErr, IfOk};
+ghost use Rattle.ip_store.specs.Causes.{IsStoreCause};
 ghost use Rattle.ip_store.specs.Faults.{ground_store};
 ghost use Rattle.ip_ground.specs.Counts.{Counts};
+ghost use Rattle.ip_spec.specs.declared.kind.TheConstants as kinds;
 ghost use Rattle.ip_spec.specs.declared.record.Parent.{Parent};
 ghost use Rattle.ip_spec.specs.Record.{reference_kind};
 ghost use Rattle.ip_spec.specs.Repository.{Repository, is_retained, name_at};
@@ -87,6 +89,7 @@ impl Store {
         ensures reads { IsTrue G.tells → OnlyReads (G.told outside.old) (G.told outside.new) self.old.space self.new.space }
         ensures holds { IsTrue G.tells → (r : Repository) → Holds self.old (G.told outside.old) r → Holds self.new (G.told outside.new) r }
         ensures counts { Counts ground_store result (G.counts_of outside.old) (G.counts_of outside.new) }
+        ensures causes { IfErr result (IsStoreCause G.tells (G.told outside.old) self.old.space) }
     {
         match self.commit_record(outside, number) {
             Ok(commit) => Ok(Ref {
@@ -114,6 +117,7 @@ impl Store {
         ensures reads { IsTrue G.tells → OnlyReads (G.told outside.old) (G.told outside.new) self.old.space self.new.space }
         ensures holds { IsTrue G.tells → (r : Repository) → Holds self.old (G.told outside.old) r → Holds self.new (G.told outside.new) r }
         ensures counts { Counts ground_store result (G.counts_of outside.old) (G.counts_of outside.new) }
+        ensures causes { IfErr result (IsStoreCause G.tells (G.told outside.old) self.old.space) }
     {
         let reference = self.reference_to(number);
         commit_in(self.space.fetch(outside, reference))
@@ -139,7 +143,7 @@ impl Store {
 
 // What comes of a record that was fetched by the reference to a commit.
 fn commit_in(fetched: Result<Record, FetchFault>) -> Result<CommitRecord, StoreFault>
-    requires { IfOk fetched (λ rec. reference_kind rec ≡ 4) }
+    requires { IfOk fetched (λ rec. reference_kind rec ≡ kinds.COMMIT) }
     ensures { IsCommitFrom fetched result }
 {
     match fetched {

@@ -1,5 +1,5 @@
 // Beginning a collection: a table of the branches behind all records, the slot that ends there and draws an attempt, and a child for it.
-ghost use Rattle.std.specs.Prelude.{◌≡◌, ◌⊎◌, ℕ, ◌+◌, ◌<◌, [], ◌∷◌, ◌++◌, length, map, true, false, Option, Some, None, Ok, Err, IsTrue, IfOk, IfErr, OnOk, IsOk, IsErr, IsErrOf, is_ok, is_err, if◌then◌else◌, MatchOption, IsSomeAnd};
+ghost use Rattle.std.specs.Prelude.{◌≡◌, ◌⊎◌, ℕ, ◌+◌, ◌<◌, [], ◌∷◌, ◌++◌, length, map, false, Option, Some, None, Ok, Err, IsTrue, IfOk, IfErr, OnOk, IsOk, IsErr, IsErrOf, is_ok, is_err, if◌then◌else◌, MatchOption, IsSomeAnd};
 ghost use Rattle.ip_base.specs.declared.limit.TheConstants.{OFFSET_MAX};
 ghost use Rattle.ip_ground.specs.Counts.{Counts};
 ghost use Rattle.ip_spawn.specs.Counts as spawn;

@@ -1,10 +1,8 @@
 // The store: how it is made, its tables, and what it tells of its numbers, names and branches.
-ghost use Rattle.std.specs.Prelude.{◌≡◌, ◌↔◌, IsTrue, OnErr, IfOk, IsErrOf, is_some, take, length, ◌+◌, ◌≤◌, nat_le, ◌&&◌, ◌==◌, slice_index, slice_get, map, option_map, MatchOption, None, Some};
+ghost use Rattle.std.specs.Prelude.{◌≡◌, IsTrue, IfOk, is_some, length, ◌+◌, ◌≤◌, nat_le, ◌&&◌, ◌==◌, slice_index, slice_get, map, option_map, MatchOption, None, Some};
 ghost use Rattle.ip_store.specs.Faults.{ground_init};
 ghost use Rattle.ip_ground.specs.Counts.{Counts};
-ghost use Rattle.ip_ground.specs.Told.{NoFile, ChangesOnly};
 ghost use Rattle.ip_image.specs.Slot.{IsChunkSize, live_index, fresh_control};
-ghost use Rattle.ip_store.specs.Control.{control_in};
 ghost use Rattle.ip_spec.specs.Map.{len};
 ghost use Rattle.ip_spec.specs.Repository.{Repository, next, head, number_named, commit_at, is_retained};
 ghost use Rattle.ip_spec.specs.Machine.{phase_told};

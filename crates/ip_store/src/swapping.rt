@@ -3,7 +3,7 @@
 //   2. Both files of the pair are synced. No slot refers to them yet.
 //   3. The slot that is not live is made ready, and its gate is opened, as in any durable step. From there on the pair is live.
 //   4. The tables go without the commits that were given up. No memory is taken there.
-ghost use Rattle.std.specs.Prelude.{◌≡◌, ◌<◌, ◌≤◌, ◌^◌, drop, length, Some, None, IsTrue, IfOk, IfErr, OnOk, IsErr, ◌-◌};
+ghost use Rattle.std.specs.Prelude.{◌≡◌, ◌<◌, ◌≤◌, drop, length, Some, None, IsTrue, IfOk, IfErr, OnOk, IsErr, ◌-◌};
 ghost use Rattle.ip_base.specs.declared.limit.TheConstants.{OFFSET_MAX};
 ghost use Rattle.ip_ground.specs.Contents.{Image};
 ghost use Rattle.ip_ground.specs.Counts.{Counts, CountsAs, FileFault};
@@ -53,8 +53,8 @@ fn runs_of(alloc: Global, check: &Check) -> Result<Vec<Run>, Memory>
     requires { IsCheck check.now }
     ensures runs { IfOk result (λ list. list.items ≡ joined check.now.keep.kept) }
     ensures rows { RowsFit check.now.job.horizon (placed 0 (joined check.now.keep.kept)) }
-    ensures total { total check.now.keep.kept ≤ 2 ^ 62 }
-    ensures few { length (joined check.now.keep.kept) ≤ 2 ^ 62 }
+    ensures total { total check.now.keep.kept ≤ OFFSET_MAX }
+    ensures few { length (joined check.now.keep.kept) ≤ OFFSET_MAX }
 {
     let mut runs = check.runs();
     let mut list = Vec::new(alloc);
@@ -66,7 +66,7 @@ fn runs_of(alloc: Global, check: &Check) -> Result<Vec<Run>, Memory>
 
 // How many bytes the runs have.
 fn length_of(runs: &[Run]) -> u64
-    requires { total runs.now ≤ 2 ^ 62 }
+    requires { total runs.now ≤ OFFSET_MAX }
     ensures { result ≡ total runs.now }
 {
     let mut length = 0;

@@ -1,5 +1,6 @@
 // Trees over a store's records.
-ghost use Rattle.std.specs.Prelude.{◌≡◌, IsTrue, MatchResult};
+ghost use Rattle.std.specs.Prelude.{◌≡◌, IfErr, IsTrue, MatchResult};
+ghost use Rattle.ip_store.specs.Causes.{IsStoreCause};
 ghost use Rattle.ip_store.specs.Faults.{ground_store};
 ghost use Rattle.ip_tree.specs.Faults.{ground_tree};
 ghost use Rattle.ip_ground.specs.Counts.{Counts};
@@ -139,6 +140,7 @@ impl Store {
         ensures met { self.new.met ≡ self.old.met }
         ensures looks { IsTrue G.tells → OnlyLooks (G.told outside.old) (G.told outside.new) self.old self.new }
         ensures counts { Counts ground_store result (G.counts_of outside.old) (G.counts_of outside.new) }
+        ensures causes { IfErr result (IsStoreCause G.tells (G.told outside.old) self.old.space) }
     {
         match self.root_of(outside, number) {
             Ok(root) => Ok(Tree::of(number, root)),

@@ -2,7 +2,7 @@
 ghost use Rattle.std.specs.Prelude.{◌≡◌, ℕ, Option};
 ghost use Rattle.ip_spec.specs.Machine.{empty_work};
 ghost use Rattle.ip_spec.specs.Repository.{Repository};
-ghost use Rattle.ip_spec.specs.View.{View, no_view};
+ghost use Rattle.ip_spec.specs.View.{no_view};
 ghost use Rattle.ip_spec.specs.declared.record.Record.{Record};
 ghost use Rattle.ip_store.specs.Work.{work_at, AreParents, IsLawful};
 

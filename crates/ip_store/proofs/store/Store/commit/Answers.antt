@@ -1,326 +1,199 @@
-use Rattle.std.proofs.Common.{◌≡◌, ◌+◌, ◌-◌, ◌^◌, ◌≤◌, ◌++◌, length, [], ◌∷◌, ℕ, Some, None, true, rules, refl, sym, ◌∙◌, ap, subst}
-use Rattle.std.specs.Prelude.{Err, position}
-use Rattle.ip_spec.specs.declared.command.Command.TheVariants as Command
-use Rattle.ip_spec.specs.Path.{same_bytes}
-use Rattle.ip_spec.specs.Map.{insert}
-use Rattle.ip_spec.specs.Step.{new_commit, with_commit}
-use Rattle.ip_image.specs.declared.slot.Slot.{Slot}
-use Rattle.ip_image.specs.Slot.{IsChunkSize}
-use Rattle.ip_space.specs.SpaceView.{SpaceView, grown}
-use Rattle.ip_store.specs.declared.committing.StoreFault.TheVariants as StoreFault
-use Rattle.ip_store.specs.declared.store.Store.{Store}
-use Rattle.ip_store.specs.Changes.{LimitsSpace, next_slot, HasAnswer}
-use Rattle.ip_store.specs.Collecting.{phase_of, carried}
-use Rattle.ip_store.specs.Commits.{Commits, end_of, repository_after, records_of}
-use Rattle.ip_store.specs.Histories.{with_parents}
-use Rattle.ip_store.specs.Work.{session}
-use Rattle.ip_store.proofs.Clearing.{changed_clear, next_carries, noted_clear, looked_clear}
-use Rattle.ip_store.proofs.Histories.{may_enter}
-use Rattle.ip_store.proofs.Machine.{refused_memory}
-use Rattle.ip_store.proofs.Phases.{retained_parents}
-use Rattle.ip_store.proofs.Planning.{err_of}
-use Rattle.ip_store.proofs.Stepping.{itself, same_tables, changes_none, stays_still, same_can_step, same_step}
-use Rattle.ip_store.proofs.AfterCommit.{some_commit, after_tables, after_parents, held_after, list_committed, read_root, further, inside, can_step, more_committed, stays_committed, made, cut, saved_tree, stored_tree, work_after, answers_refused, answers_made, same_at}
-use Rattle.ip_store.proofs.Tables.{none_named, free}
-use Rattle.ip_store.proofs.Noted.{noted_itself, noted_same, noted_changes, noted_answers, answers_met}
-use Rattle.ip_spec.specs.Batch.{AreEndToEnd}
+use Rattle.std.proofs.Common.{ℕ, ◌^◌, ◌≤◌, Option, true, sym, subst}
+use Rattle.std.specs.Prelude.{Err, IfSome, OnOk}
+use Rattle.std.proofs.lemmas.Result.{on_ok_weaker}
 use Rattle.ip_spec.specs.Record.{Hash}
+use Rattle.ip_spec.specs.TreeAt.{Records}
+use Rattle.ip_spec.specs.declared.command.Command.TheVariants as Command
+use Rattle.ip_store.specs.declared.collection.Collection.{Collection}
+use Rattle.ip_store.specs.declared.committing.Plan.{Plan}
+use Rattle.ip_store.specs.Changes.{Appends, IsUndamaged, LimitsSpace}
+use Rattle.ip_store.specs.Collecting.{phase_of}
+use Rattle.ip_store.specs.Commits.{Answers, Commits, end_of, first_parent, records_of, reply_to, repository_after}
+use Rattle.ip_store.specs.Fronts.{LeavesFront}
+use Rattle.ip_store.specs.Store.{image_records}
 use Rattle.ip_store.specs.Tie.{appending}
-use Rattle.ip_store.specs.TieAppends.{IsTiedAnswer}
-use Rattle.ip_store.proofs.CoreAppends.{is_appended, noted_fault, noted_tied, sees_same, still_fault}
-use Rattle.ip_store.proofs.CommitFront.{commit_front}
-use Rattle.ip_store.proofs.StepFronts.{leaves_none}
-use Rattle.ip_ground.proofs.Passing.{changes_nothing}
+use Rattle.ip_store.specs.Work.{session}
+use Rattle.ip_store.proofs.AfterCommit.{answers_refused}
+use Rattle.ip_store.proofs.BehindPlan.{at_behind, cut_limits, cut_undamaged, first_same, next_behind, plan_behind, records_behind, tables_back, undamaged_as}
+use Rattle.ip_store.proofs.Causing.{cause_of, cut_cause}
+use Rattle.ip_store.proofs.Clearing.{looked_clear, noted_clear}
+use Rattle.ip_store.proofs.CoreAppends.{answer_seen, noted_tied, sees_back, sees_itself, sees_still, still_fault}
+use Rattle.ip_store.proofs.JoinDone.{looked_stays}
+use Rattle.ip_store.proofs.LookedUp.{appends_behind, changes_behind, changes_looked, pending_on, stays_behind}
+use Rattle.ip_store.proofs.Noted.{noted_answers, noted_changes, noted_same, noted_stays}
+use Rattle.ip_store.proofs.Planning.{err_of}
+use Rattle.ip_store.proofs.StepFronts.{leaves_behind, leaves_looked}
+use Rattle.ip_store.proofs.Stepping.{same_tables}
 use Rattle.ip_store.proofs.store.Store.commit.Goals as goal
 
-pub enter-entered-requires-clause-new : goal.enter-entered-requires-clause-new
-enter-entered-requires-clause-new g c =
-    let r = c.requires.tables.0 in
-    let of = c.requires.tables.1 in
-    let is = c.in-Ok.ensures.coming r of in
-    subst (λ h. position (λ n. same_bytes n h) c.args.self.now.names ≡ None) (sym c.name-name.ensures) (free c.args.self.now r of _ (none_named r _ is.new_name))
+-- ---- what a commit asks that nothing refuses
 
-pub enter-entered-requires-clause-key : goal.enter-entered-requires-clause-key
-enter-entered-requires-clause-key g c = (c.in-Ok.ensures.coming c.requires.tables.0 c.requires.tables.1).same_branch
+pub carry_out-requires-clause-tables : goal.carry_out-requires-clause-tables
+carry_out-requires-clause-tables g c = (c.requires.tables.0, same_tables c.args.self.now c.plan.new.self c.plan.ensures.same c.requires.tables.0 c.requires.tables.1, c.requires.tables.2)
 
-pub enter-entered-requires-clause-parents : goal.enter-entered-requires-clause-parents
-enter-entered-requires-clause-parents g c = may_enter c.args.self.now c.requires.tables.0 c.requires.tables.1 c.args.work.now.parents _ c.as_slice.ensures (retained_parents c.requires.tables.0 c.args.work.now.least c.args.work.now.parents c.requires.tables.2 (c.in-Ok.ensures.there c.requires.tables.0 c.requires.tables.1))
+pub carry_out-requires-clause-coming : goal.carry_out-requires-clause-coming
+carry_out-requires-clause-coming g c r of = next_behind c.args.self.now c.plan.new.self c.plan.ensures.same r c.args.branch.now c.in-Ok.plan (c.in-Ok.ensures.coming r (tables_back c.args.self.now c.plan.new.self c.plan.ensures.same r of))
 
-pub grow-requires-clause-further : goal.grow-requires-clause-further
-grow-requires-clause-further g c =
-    let r = c.requires.tables.0 in
-    let of = c.requires.tables.1 in
-    let plan = c.in-Ok.plan in
-    let is = c.in-Ok.ensures.coming r of in
-    subst (λ (s : SpaceView). s.layout.end ≤ plan.slot.end) (sym c.enter-entered.ensures.rest.2)
-    (further r c.args.work.now.parents c.args.branch.now c.args.self.now plan of is (some_commit r c.args.work.now.parents c.args.info plan) refl refl)
+pub carry_out-requires-clause-there : goal.carry_out-requires-clause-there
+carry_out-requires-clause-there g c r of = c.in-Ok.ensures.there r (tables_back c.args.self.now c.plan.new.self c.plan.ensures.same r of)
 
-pub grow-requires-clause-ends : goal.grow-requires-clause-ends
-grow-requires-clause-ends g c =
-    let r = c.requires.tables.0 in
-    let of = c.requires.tables.1 in
-    let plan = c.in-Ok.plan in
-    inside r c.args.work.now.parents c.args.branch.now c.args.self.now plan of (c.in-Ok.ensures.coming r of) (some_commit r c.args.work.now.parents c.args.info plan) refl refl
+pub returns-in-Ok-clause-tables : goal.returns-in-Ok-clause-tables
+returns-in-Ok-clause-tables g c r of are has =
+    c.carry_out.ensures.tables r (same_tables c.args.self.now c.plan.new.self c.plan.ensures.same r of) are has
 
-pub durable_step-requires-clause-chunk : goal.durable_step-requires-clause-chunk
-durable_step-requires-clause-chunk g c =
-    let of = c.requires.tables.1 in
-    let is = c.in-Ok.ensures.coming c.requires.tables.0 of in
-    subst (λ (s : Slot). IsChunkSize s.chunk) (sym is.slot) of.slot.chunk
+pub returns-in-Ok-clause-answered : goal.returns-in-Ok-clause-answered
+returns-in-Ok-clause-answered g c told r v at =
+    let looks = c.plan.ensures.looks told in
+    let same = c.plan.ensures.same in
+    let here = at_behind c.args.self.now c.plan.new.self (g.G.Ground.told c.args.outside.now) (g.G.Ground.told c.plan.new.outside) looks r c.args.work.now v at in
+    let first = first_same c.args.self.now c.plan.new.self same (image_records at.holds) (image_records here.holds) (looks.records r at.holds here.holds) r c.args.work.now.parents in
+    let planned = plan_behind c.args.self.now c.plan.new.self same r c.args.work.now v (first_parent at) (first_parent here) first c.args.branch.now c.args.info c.in-Ok.plan (c.in-Ok.ensures.planned told r v at) in
+    subst (λ (o : Option Collection). IfSome (reply_to c.carry_out.result) (λ reply. Answers (g.G.Ground.told c.carry_out.new.outside) (session r (phase_of o) c.args.work.now v) v (Command.Commit c.args.branch.now c.args.info) c.carry_out.new.self.met reply c.carry_out.new.self c.carry_out.new.work)) same.collection
+    (c.carry_out.ensures.answered told r v c.args.info here planned)
 
-pub durable_step-requires-clause-room : goal.durable_step-requires-clause-room
-durable_step-requires-clause-room g c =
-    let is = c.in-Ok.ensures.coming c.requires.tables.0 c.requires.tables.1 in
-    subst (λ (s : Slot). s.end + length c.bytes.result.now ≤ 2 ^ 62) (sym c.enter-entered.ensures.rest.1) (subst (λ bytes. c.args.self.now.slot.end + length bytes ≤ 2 ^ 62) (sym c.bytes.ensures) is.ends)
+pub returns-in-Ok-clause-saved : goal.returns-in-Ok-clause-saved
+returns-in-Ok-clause-saved g c told r q v at now =
+    let looks = c.plan.ensures.looks told in
+    let same = c.plan.ensures.same in
+    let here = at_behind c.args.self.now c.plan.new.self (g.G.Ground.told c.args.outside.now) (g.G.Ground.told c.plan.new.outside) looks r c.args.work.now v at in
+    let first = first_same c.args.self.now c.plan.new.self same (image_records at.holds) (image_records here.holds) (looks.records r at.holds here.holds) r c.args.work.now.parents in
+    let planned = plan_behind c.args.self.now c.plan.new.self same r c.args.work.now v (first_parent at) (first_parent here) first c.args.branch.now c.args.info c.in-Ok.plan (c.in-Ok.ensures.planned told r v at) in
+    c.carry_out.ensures.saved told r q v c.args.info here planned now
+
+pub returns-in-Ok-clause-limits : goal.returns-in-Ok-clause-limits
+returns-in-Ok-clause-limits g c told r v at =
+    let planned = c.in-Ok.ensures.planned told r v at in
+    let is = c.in-Ok.ensures.coming r at.holds.tables in
+    cut_limits (end_of r c.args.work.now v (first_parent at) c.args.branch.now c.args.info c.args.self.now) c.args.self.now c.carry_out.result c.carry_out.ensures.faults (subst (λ (n : ℕ). n ≤ 2 ^ 62) (sym planned.behind) is.ends, is.sequence)
+
+pub returns-in-Ok-clause-appends : goal.returns-in-Ok-clause-appends
+returns-in-Ok-clause-appends g c told r v at =
+    let looks = c.plan.ensures.looks told in
+    let same = c.plan.ensures.same in
+    let here = at_behind c.args.self.now c.plan.new.self (g.G.Ground.told c.args.outside.now) (g.G.Ground.told c.plan.new.outside) looks r c.args.work.now v at in
+    let first = first_same c.args.self.now c.plan.new.self same (image_records at.holds) (image_records here.holds) (looks.records r at.holds here.holds) r c.args.work.now.parents in
+    let planned = plan_behind c.args.self.now c.plan.new.self same r c.args.work.now v (first_parent at) (first_parent here) first c.args.branch.now c.args.info c.in-Ok.plan (c.in-Ok.ensures.planned told r v at) in
+    subst (λ (rs : Records). OnOk c.carry_out.result (Appends rs 1 c.args.self.now c.carry_out.new.self (g.G.Ground.told c.args.outside.now) (g.G.Ground.told c.carry_out.new.outside))) (records_behind c.args.self.now c.plan.new.self same r c.args.work.now v (first_parent at) (first_parent here) first c.args.branch.now c.args.info)
+    (on_ok_weaker c.carry_out.result (appends_behind (g.G.Ground.told c.args.outside.now) (g.G.Ground.told c.plan.new.outside) c.args.self.now c.plan.new.self looks (records_of r c.args.work.now v (first_parent here) c.args.branch.now c.args.info c.plan.new.self) 1 c.carry_out.new.self (g.G.Ground.told c.carry_out.new.outside) same.slot same.unswept) (c.carry_out.ensures.appends told r v c.args.info here planned))
+
+pub returns-in-Ok-clause-any_moment : goal.returns-in-Ok-clause-any_moment
+returns-in-Ok-clause-any_moment g c told r v at =
+    let looks = c.plan.ensures.looks told in
+    let same = c.plan.ensures.same in
+    let here = at_behind c.args.self.now c.plan.new.self (g.G.Ground.told c.args.outside.now) (g.G.Ground.told c.plan.new.outside) looks r c.args.work.now v at in
+    let first = first_same c.args.self.now c.plan.new.self same (image_records at.holds) (image_records here.holds) (looks.records r at.holds here.holds) r c.args.work.now.parents in
+    let planned = plan_behind c.args.self.now c.plan.new.self same r c.args.work.now v (first_parent at) (first_parent here) first c.args.branch.now c.args.info c.in-Ok.plan (c.in-Ok.ensures.planned told r v at) in
+    changes_behind r c.args.self.now (g.G.Ground.told c.args.outside.now) at.holds (g.G.Ground.told c.plan.new.outside) looks.reads.only (repository_after r (phase_of c.args.self.now.collection) c.args.work.now v c.args.branch.now c.args.info) c.carry_out.result c.carry_out.new.self (g.G.Ground.told c.carry_out.new.outside)
+    (subst (λ (o : Option Collection). Commits r (phase_of o) c.args.work.now v c.args.branch.now c.args.info c.carry_out.result c.carry_out.new.self (g.G.Ground.told c.plan.new.outside) (g.G.Ground.told c.carry_out.new.outside)) same.collection (c.carry_out.ensures.any_moment told r v c.args.info here planned))
+
+pub returns-in-Ok-clause-records_stay : goal.returns-in-Ok-clause-records_stay
+returns-in-Ok-clause-records_stay g c told has r q held now =
+    let looks = c.plan.ensures.looks told in
+    stays_behind (g.G.Ground.told c.args.outside.now) (g.G.Ground.told c.plan.new.outside) c.args.self.now c.plan.new.self looks (g.G.Ground.told c.carry_out.new.outside) c.carry_out.new.self r q held now (c.carry_out.ensures.records_stay told has r q (looks.holds r held) now)
+
+pub returns-in-Ok-clause-clear : goal.returns-in-Ok-clause-clear
+returns-in-Ok-clause-clear g c told has r v at clear =
+    let looks = c.plan.ensures.looks told in
+    let same = c.plan.ensures.same in
+    let here = at_behind c.args.self.now c.plan.new.self (g.G.Ground.told c.args.outside.now) (g.G.Ground.told c.plan.new.outside) looks r c.args.work.now v at in
+    let first = first_same c.args.self.now c.plan.new.self same (image_records at.holds) (image_records here.holds) (looks.records r at.holds here.holds) r c.args.work.now.parents in
+    let planned = plan_behind c.args.self.now c.plan.new.self same r c.args.work.now v (first_parent at) (first_parent here) first c.args.branch.now c.args.info c.in-Ok.plan (c.in-Ok.ensures.planned told r v at) in
+    c.carry_out.ensures.clear told has r v c.args.info here planned (looked_clear c.args.self.now c.plan.new.self (g.G.Ground.told c.args.outside.now) (g.G.Ground.told c.plan.new.outside) same.slot same.unswept looks.reads.only clear)
+
+pub returns-in-Ok-clause-tied : goal.returns-in-Ok-clause-tied
+returns-in-Ok-clause-tied g c told r q held now =
+    let looks = c.plan.ensures.looks told in
+    let still = looks.holds r held in
+    let front = sees_back c.args.self.now c.plan.new.self held.stands.standing.records still.stands.standing.records (sees_still c.args.self.now c.plan.new.self c.plan.ensures.same (g.G.Ground.told c.args.outside.now) (g.G.Ground.told c.plan.new.outside) looks.reads.only r r held still) in
+    answer_seen c.plan.new.self c.args.self.now still.stands.standing.records held.stands.standing.records front c.carry_out.new.self c.carry_out.new.self now.stands.standing.records now.stands.standing.records (sees_itself c.carry_out.new.self now.stands.standing.records) (λ name. true) c.carry_out.result
+    (c.carry_out.ensures.tied told r q still now)
+
+pub returns-in-Ok-clause-fronts : goal.returns-in-Ok-clause-fronts
+returns-in-Ok-clause-fronts g c told r v at pending =
+    let looks = c.plan.ensures.looks told in
+    let same = c.plan.ensures.same in
+    let here = at_behind c.args.self.now c.plan.new.self (g.G.Ground.told c.args.outside.now) (g.G.Ground.told c.plan.new.outside) looks r c.args.work.now v at in
+    let first = first_same c.args.self.now c.plan.new.self same (image_records at.holds) (image_records here.holds) (looks.records r at.holds here.holds) r c.args.work.now.parents in
+    let planned = plan_behind c.args.self.now c.plan.new.self same r c.args.work.now v (first_parent at) (first_parent here) first c.args.branch.now c.args.info c.in-Ok.plan (c.in-Ok.ensures.planned told r v at) in
+    subst (λ (rs : Records). LeavesFront c.args.self.now at.holds.stands.standing.records (appending rs) (g.G.Ground.told c.args.outside.now) (g.G.Ground.told c.carry_out.new.outside)) (records_behind c.args.self.now c.plan.new.self same r c.args.work.now v (first_parent at) (first_parent here) first c.args.branch.now c.args.info)
+    (leaves_behind c.args.self.now r (g.G.Ground.told c.args.outside.now) at.holds (g.G.Ground.told c.plan.new.outside) looks.reads.only pending (appending (records_of r c.args.work.now v (first_parent here) c.args.branch.now c.args.info c.plan.new.self)) c.plan.new.self same here.holds (g.G.Ground.told c.carry_out.new.outside) (c.carry_out.ensures.any_moment told r v c.args.info here planned).only.goes
+    (c.carry_out.ensures.fronts told r v c.args.info here planned (pending_on r c.args.self.now (g.G.Ground.told c.args.outside.now) at.holds (g.G.Ground.told c.plan.new.outside) looks.reads.only pending)))
+
+pub returns-in-Ok-clause-undamaged : goal.returns-in-Ok-clause-undamaged
+returns-in-Ok-clause-undamaged g c told r v at =
+    cut_undamaged c.carry_out.result c.carry_out.ensures.faults
 
 -- ---- refused
 
+pub returns-in-Err-clause-tables : goal.returns-in-Err-clause-tables
+returns-in-Err-clause-tables g c r of are has =
+    record { repository = r; tables = same_tables c.args.self.now c.noted.new.self (noted_same c.plan.new.self c.noted.new.self _ c.noted.ensures.met c.args.self.now c.plan.ensures.same) r of; parents = are }
+
 pub returns-in-Err-clause-answered : goal.returns-in-Err-clause-answered
 returns-in-Err-clause-answered g c told r v at =
+    let looks = c.plan.ensures.looks told in
+    let same = c.plan.ensures.same in
+    let here = at_behind c.args.self.now c.plan.new.self (g.G.Ground.told c.args.outside.now) (g.G.Ground.told c.plan.new.outside) looks r c.args.work.now v at in
     let fault = c.in-Err.fault in
-    noted_answers c.args.self.now c.noted.new.self (Err fault) c.noted.result c.noted.ensures.answer c.noted.ensures.met (g.G.Ground.told c.args.outside.now) (session r (phase_of c.args.self.now.collection) c.args.work.now v) v (Command.Commit c.args.branch.now c.args.info) c.args.work.now
-    (answers_refused r (phase_of c.args.self.now.collection) c.args.work.now v c.args.branch.now c.args.info fault c.args.self.now (g.G.Ground.told c.args.outside.now) at (c.in-Err.ensures.refused _ r v at.holds.tables at.lawful))
+    noted_answers c.plan.new.self c.noted.new.self (Err fault) c.noted.result c.noted.ensures.answer c.noted.ensures.met (g.G.Ground.told c.plan.new.outside) (session r (phase_of c.args.self.now.collection) c.args.work.now v) v (Command.Commit c.args.branch.now c.args.info) c.args.work.now
+    (answers_refused r (phase_of c.args.self.now.collection) c.args.work.now v c.args.branch.now c.args.info fault c.plan.new.self (g.G.Ground.told c.plan.new.outside) here (c.in-Err.ensures.refused told r v at))
 
 pub returns-in-Err-clause-limits : goal.returns-in-Err-clause-limits
 returns-in-Err-clause-limits g c told r v at =
     let fault = c.in-Err.fault in
-    subst (λ res. LimitsSpace (end_of r c.args.work.now v c.args.branch.now c.args.info c.args.self.now) res c.args.self.now) (sym c.noted.ensures.answer)
+    subst (λ res. LimitsSpace (end_of r c.args.work.now v (first_parent at) c.args.branch.now c.args.info c.args.self.now) res c.args.self.now) (sym c.noted.ensures.answer)
     (record {
-      space = λ e. c.in-Err.ensures.space _ r v at.holds.tables at.lawful (err_of fault _ e);
-      sequence = λ e. c.in-Err.ensures.sequence _ r v at.holds.tables at.lawful (err_of fault _ e);
+      space = λ e. c.in-Err.ensures.space told r v at (err_of fault _ e);
+      sequence = λ e. c.in-Err.ensures.sequence told r v at (err_of fault _ e);
       enough = tt;
     })
 
 pub returns-in-Err-clause-any_moment : goal.returns-in-Err-clause-any_moment
 returns-in-Err-clause-any_moment g c told r v at =
+    let looks = c.plan.ensures.looks told in
+    let same = c.plan.ensures.same in
+    let here = at_behind c.args.self.now c.plan.new.self (g.G.Ground.told c.args.outside.now) (g.G.Ground.told c.plan.new.outside) looks r c.args.work.now v at in
     let fault = c.in-Err.fault in
-    let told_now = g.G.Ground.told c.args.outside.now in
     let after = repository_after r (phase_of c.args.self.now.collection) c.args.work.now v c.args.branch.now c.args.info in
-    noted_changes c.args.self.now c.noted.new.self (Err fault) c.noted.result c.noted.ensures.answer c.noted.ensures.met r after told_now told_now
-    (changes_none r after fault c.args.self.now c.args.self.now told_now (itself c.args.self.now) refl at.holds)
+    noted_changes c.plan.new.self c.noted.new.self (Err fault) c.noted.result c.noted.ensures.answer c.noted.ensures.met r after (g.G.Ground.told c.args.outside.now) (g.G.Ground.told c.plan.new.outside)
+    (changes_looked r c.args.self.now (g.G.Ground.told c.args.outside.now) at.holds (g.G.Ground.told c.plan.new.outside) looks.reads.only after (Err fault) c.plan.new.self here.holds tt)
 
 pub returns-in-Err-clause-records_stay : goal.returns-in-Err-clause-records_stay
-returns-in-Err-clause-records_stay g c told has r q held now = stays_still c.args.self.now c.noted.new.self (noted_itself c.args.self.now c.noted.new.self _ c.noted.ensures.met) r q (g.G.Ground.told c.args.outside.now) held now
-
-pub returns-in-Err-clause-tables : goal.returns-in-Err-clause-tables
-returns-in-Err-clause-tables g c r of are has = record { repository = r; tables = same_tables c.args.self.now c.noted.new.self (noted_itself c.args.self.now c.noted.new.self _ c.noted.ensures.met) r of; parents = are }
-
-pub returns-in-Err-entered-clause-answered : goal.returns-in-Err-entered-clause-answered
-returns-in-Err-entered-clause-answered g c told r v at =
-    noted_answers c.enter-entered.new.self c.noted-in-Err-entered.new.self (Err StoreFault.Memory) c.noted-in-Err-entered.result c.noted-in-Err-entered.ensures.answer c.noted-in-Err-entered.ensures.met (g.G.Ground.told c.args.outside.now) (session r (phase_of c.args.self.now.collection) c.args.work.now v) v (Command.Commit c.args.branch.now c.args.info) c.args.work.now
-    (answers_refused r (phase_of c.args.self.now.collection) c.args.work.now v c.args.branch.now c.args.info StoreFault.Memory c.enter-entered.new.self (g.G.Ground.told c.args.outside.now) (same_at c.args.self.now c.enter-entered.new.self c.in-Err-entered.ensures.err c.enter-entered.ensures.rest.2 (g.G.Ground.told c.args.outside.now) r c.args.work.now v at)
-    (refused_memory r (phase_of c.args.self.now.collection) c.args.work.now v c.args.branch.now c.args.info))
-
-pub returns-in-Err-entered-clause-any_moment : goal.returns-in-Err-entered-clause-any_moment
-returns-in-Err-entered-clause-any_moment g c told r v at =
-    let told_now = g.G.Ground.told c.args.outside.now in
-    let after = repository_after r (phase_of c.args.self.now.collection) c.args.work.now v c.args.branch.now c.args.info in
-    noted_changes c.enter-entered.new.self c.noted-in-Err-entered.new.self (Err StoreFault.Memory) c.noted-in-Err-entered.result c.noted-in-Err-entered.ensures.answer c.noted-in-Err-entered.ensures.met r after told_now told_now
-    (changes_none r after StoreFault.Memory c.args.self.now c.enter-entered.new.self told_now c.in-Err-entered.ensures.err c.enter-entered.ensures.rest.2 at.holds)
-
-pub returns-in-Err-entered-clause-records_stay : goal.returns-in-Err-entered-clause-records_stay
-returns-in-Err-entered-clause-records_stay g c told has r q held now =
-    stays_still c.args.self.now c.noted-in-Err-entered.new.self (noted_same c.enter-entered.new.self c.noted-in-Err-entered.new.self _ c.noted-in-Err-entered.ensures.met c.args.self.now c.in-Err-entered.ensures.err) r q (g.G.Ground.told c.args.outside.now) held now
-
-pub returns-in-Err-entered-clause-tables : goal.returns-in-Err-entered-clause-tables
-returns-in-Err-entered-clause-tables g c r of are has = record {
-  repository = r;
-  tables = same_tables c.args.self.now c.noted-in-Err-entered.new.self (noted_same c.enter-entered.new.self c.noted-in-Err-entered.new.self _ c.noted-in-Err-entered.ensures.met c.args.self.now c.in-Err-entered.ensures.err) r of;
-  parents = are;
-}
-
--- ---- cut short
-
-pub returns-in_err-durable_step-clause-any_moment : goal.returns-in_err-durable_step-clause-any_moment
-returns-in_err-durable_step-clause-any_moment g c told r v at =
-    let is : c.from_residual.result ≡ Err StoreFault.Ground = search rules in
-    let plan = c.in-Ok.plan in
-    let of = at.holds.tables in
-    let can = same_can_step c.enter-entered.new.self.slot.end c.args.self.now.slot.end c.enter-entered.new.self.index c.args.self.now.index plan.slot plan.slot (g.G.Ground.told c.args.outside.now)
-    (ap (λ (s : Slot). s.end) c.enter-entered.ensures.rest.1) c.enter-entered.ensures.rest.0 refl (can_step r c.args.branch.now c.args.self.now plan of (c.in-Ok.ensures.coming r of) (g.G.Ground.told c.args.outside.now) at.holds) in
-    let step = same_step c.enter-entered.new.self.slot.end c.args.self.now.slot.end c.enter-entered.new.self.index c.args.self.now.index c.bytes.result.now plan.batch.bytes.items plan.slot plan.slot _ (g.G.Ground.told c.args.outside.now) (g.G.Ground.told c.durable_step.new.outside)
-    (ap (λ (s : Slot). s.end) c.enter-entered.ensures.rest.1) c.enter-entered.ensures.rest.0 c.bytes.ensures refl (c.durable_step.ensures.does told can) in
-    let store : Store = record { index = c.enter-entered.new.self.index; slot = c.enter-entered.new.self.slot; names = c.enter-entered.new.self.names; branches = c.enter-entered.new.self.branches; history = c.enter-entered.new.self.history; places = c.enter-entered.new.self.places; space = c.enter-entered.new.self.space; collection = c.enter-entered.new.self.collection; unswept = c.enter-entered.new.self.unswept; met = c.nothing_met-self.result } in
-    subst (λ res. Commits r (phase_of c.args.self.now.collection) c.args.work.now v c.args.branch.now c.args.info res store (g.G.Ground.told c.args.outside.now) (g.G.Ground.told c.durable_step.new.outside)) (sym is)
-    (cut r c.args.work.now v c.args.branch.now c.args.info c.args.self.now plan (c.in-Ok.ensures.coming r of) (c.in-Ok.ensures.planned _ r v of at.lawful) (g.G.Ground.told c.args.outside.now) at (g.G.Ground.told c.durable_step.new.outside) store _ step)
-
-pub returns-in_err-durable_step-clause-limits : goal.returns-in_err-durable_step-clause-limits
-returns-in_err-durable_step-clause-limits g c told r v at =
-    let is : c.from_residual.result ≡ Err StoreFault.Ground = search rules in
-    subst (λ res. LimitsSpace (end_of r c.args.work.now v c.args.branch.now c.args.info c.args.self.now) res c.args.self.now) (sym is) (record { space = λ e. absurd (cc (e)); sequence = λ e. absurd (cc (e)); enough = tt })
-
--- ---- made
-
-pub returns-clause-tables : goal.returns-clause-tables
-returns-clause-tables g c r of are has =
-    let plan = c.in-Ok.plan in
-    let is = c.in-Ok.ensures.coming r of in
-    let one = some_commit r c.args.work.now.parents c.args.info plan in
-    record {
-      repository = with_commit r one c.args.branch.now;
-      tables = after_tables r c.args.work.now.parents c.args.branch.now c.args.self.now plan of is one refl refl _ refl (ap (λ (i : ℕ). 1 - i) c.enter-entered.ensures.rest.0) (c.in_default.ensures.ok.0 ∙ ap (λ h. c.args.self.now.names ++ h ∷ []) c.name-name.ensures) (c.in_default.ensures.ok.1 ∙ ap (λ b. insert c.args.self.now.branches b plan.number) (sym is.same_branch)) (may_enter c.args.self.now r of c.args.work.now.parents c.args.work.now.parents refl (retained_parents r c.args.work.now.least c.args.work.now.parents are (c.in-Ok.ensures.there r of))) (c.in_default.ensures.history ∙ ap (with_parents c.args.self.now.history) c.as_slice.ensures) (c.put_place.ensures ∙ (λ i. c.enter-entered.ensures.places i ++ c.commit_at.ensures i ∷ [])) (c.grow.ensures ∙ ap (λ (s : SpaceView). grown s plan.slot.end) c.enter-entered.ensures.rest.2) c.enter-entered.ensures.rest.3 c.enter-entered.ensures.rest.4;
-      parents = after_parents r c.args.work.now.parents c.args.branch.now c.args.self.now plan of is one refl refl plan.parents is.parents _ (ap Some is.number);
-    }
-
-pub returns-clause-any_moment : goal.returns-clause-any_moment
-returns-clause-any_moment g c told r v at =
-    let plan = c.in-Ok.plan in
-    let of = at.holds.tables in
-    let are = at.lawful.parents in
-    let is = c.in-Ok.ensures.coming r of in
-    let planned = c.in-Ok.ensures.planned _ r v of at.lawful in
-    let one = new_commit r v.map c.args.work.now.parents c.args.info in
-    let placed = c.put_place.ensures ∙ (λ i. c.enter-entered.ensures.places i ++ c.commit_at.ensures i ∷ []) in
-    let can = same_can_step c.enter-entered.new.self.slot.end c.args.self.now.slot.end c.enter-entered.new.self.index c.args.self.now.index plan.slot plan.slot (g.G.Ground.told c.args.outside.now)
-    (ap (λ (s : Slot). s.end) c.enter-entered.ensures.rest.1) c.enter-entered.ensures.rest.0 refl (can_step r c.args.branch.now c.args.self.now plan of (c.in-Ok.ensures.coming r of) (g.G.Ground.told c.args.outside.now) at.holds) in
-    let step = same_step c.enter-entered.new.self.slot.end c.args.self.now.slot.end c.enter-entered.new.self.index c.args.self.now.index c.bytes.result.now plan.batch.bytes.items plan.slot plan.slot _ (g.G.Ground.told c.args.outside.now) (g.G.Ground.told c.durable_step.new.outside)
-    (ap (λ (s : Slot). s.end) c.enter-entered.ensures.rest.1) c.enter-entered.ensures.rest.0 c.bytes.ensures refl (c.in_ok-durable_step.ensures.does told can) in
-    made r c.args.work.now v c.args.branch.now c.args.info c.args.self.now plan is planned (g.G.Ground.told c.args.outside.now) at (g.G.Ground.told c.durable_step.new.outside) _ refl (ap (λ (i : ℕ). 1 - i) c.enter-entered.ensures.rest.0)
-    (after_tables r c.args.work.now.parents c.args.branch.now c.args.self.now plan of is one (sym planned.name) refl _ refl (ap (λ (i : ℕ). 1 - i) c.enter-entered.ensures.rest.0) (c.in_default.ensures.ok.0 ∙ ap (λ h. c.args.self.now.names ++ h ∷ []) c.name-name.ensures) (c.in_default.ensures.ok.1 ∙ ap (λ b. insert c.args.self.now.branches b plan.number) (sym is.same_branch)) (may_enter c.args.self.now r of c.args.work.now.parents c.args.work.now.parents refl (retained_parents r c.args.work.now.least c.args.work.now.parents are (c.in-Ok.ensures.there r of))) (c.in_default.ensures.history ∙ ap (with_parents c.args.self.now.history) c.as_slice.ensures) (c.put_place.ensures ∙ (λ i. c.enter-entered.ensures.places i ++ c.commit_at.ensures i ∷ [])) (c.grow.ensures ∙ ap (λ (s : SpaceView). grown s plan.slot.end) c.enter-entered.ensures.rest.2) c.enter-entered.ensures.rest.3 c.enter-entered.ensures.rest.4) placed (c.grow.ensures ∙ ap (λ (s : SpaceView). grown s plan.slot.end) c.enter-entered.ensures.rest.2) c.enter-entered.ensures.rest.3 c.name-name.result step
-
-pub returns-clause-limits : goal.returns-clause-limits
-returns-clause-limits g c told r v at =
-    let of = at.holds.tables in
-    let is = c.in-Ok.ensures.coming r of in
-    let planned = c.in-Ok.ensures.planned _ r v of at.lawful in
-    record {
-      space = λ e. absurd (cc (e));
-      sequence = λ e. absurd (cc (e));
-      enough = (subst (λ (n : ℕ). n ≤ 2 ^ 62) (sym planned.behind) is.ends, is.sequence);
-    }
-
-pub returns-clause-answered : goal.returns-clause-answered
-returns-clause-answered g c told r v at =
-    let plan = c.in-Ok.plan in
-    let of = at.holds.tables in
-    let is = c.in-Ok.ensures.coming r of in
-    let planned = c.in-Ok.ensures.planned _ r v of at.lawful in
-    let can = same_can_step c.enter-entered.new.self.slot.end c.args.self.now.slot.end c.enter-entered.new.self.index c.args.self.now.index plan.slot plan.slot (g.G.Ground.told c.args.outside.now)
-    (ap (λ (s : Slot). s.end) c.enter-entered.ensures.rest.1) c.enter-entered.ensures.rest.0 refl (can_step r c.args.branch.now c.args.self.now plan of (c.in-Ok.ensures.coming r of) (g.G.Ground.told c.args.outside.now) at.holds) in
-    let step = same_step c.enter-entered.new.self.slot.end c.args.self.now.slot.end c.enter-entered.new.self.index c.args.self.now.index c.bytes.result.now plan.batch.bytes.items plan.slot plan.slot _ (g.G.Ground.told c.args.outside.now) (g.G.Ground.told c.durable_step.new.outside)
-    (ap (λ (s : Slot). s.end) c.enter-entered.ensures.rest.1) c.enter-entered.ensures.rest.0 c.bytes.ensures refl (c.in_ok-durable_step.ensures.does told can) in
-    let done = returns-clause-any_moment g c told r v at in
-    let holds = held_after r c.args.work.now v c.args.branch.now c.args.info c.args.self.now plan is planned (g.G.Ground.told c.args.outside.now) at (g.G.Ground.told c.durable_step.new.outside) _ _ done in
-    answers_met _ _ _ _ _ _ _ _ _ c.nothing_met-self.ensures
-    (answers_made r c.args.work.now _ v _ c.args.branch.now c.args.info c.args.self.now _ plan c.name-name.result (g.G.Ground.told c.durable_step.new.outside) is planned c.name-name.ensures refl refl refl
-    (record {
-      holds = holds;
-      lawful = work_after r c.args.work.now v c.args.branch.now c.args.info c.args.self.now plan is planned (g.G.Ground.told c.args.outside.now) at (g.G.Ground.told c.durable_step.new.outside) _ step _ holds _ (read_root plan.number c.root.result plan.batch.root c.of.result c.root.ensures c.of.ensures) refl refl refl;
-    })
-    (stored_tree r c.args.work.now v c.args.branch.now c.args.info c.args.self.now plan is planned (g.G.Ground.told c.args.outside.now) at (g.G.Ground.told c.durable_step.new.outside) _ step _ holds))
-
-pub returns-clause-saved : goal.returns-clause-saved
-returns-clause-saved g c told r q v at now =
-    let plan = c.in-Ok.plan in
-    let of = at.holds.tables in
-    let is = c.in-Ok.ensures.coming r of in
-    let planned = c.in-Ok.ensures.planned _ r v of at.lawful in
-    let can = same_can_step c.enter-entered.new.self.slot.end c.args.self.now.slot.end c.enter-entered.new.self.index c.args.self.now.index plan.slot plan.slot (g.G.Ground.told c.args.outside.now)
-    (ap (λ (s : Slot). s.end) c.enter-entered.ensures.rest.1) c.enter-entered.ensures.rest.0 refl (can_step r c.args.branch.now c.args.self.now plan of (c.in-Ok.ensures.coming r of) (g.G.Ground.told c.args.outside.now) at.holds) in
-    let step = same_step c.enter-entered.new.self.slot.end c.args.self.now.slot.end c.enter-entered.new.self.index c.args.self.now.index c.bytes.result.now plan.batch.bytes.items plan.slot plan.slot _ (g.G.Ground.told c.args.outside.now) (g.G.Ground.told c.durable_step.new.outside)
-    (ap (λ (s : Slot). s.end) c.enter-entered.ensures.rest.1) c.enter-entered.ensures.rest.0 c.bytes.ensures refl (c.in_ok-durable_step.ensures.does told can) in
-    (plan.batch.root.at, saved_tree r c.args.work.now v c.args.branch.now c.args.info c.args.self.now plan is planned (g.G.Ground.told c.args.outside.now) at (g.G.Ground.told c.durable_step.new.outside) _ step q now _ (read_root plan.number c.root.result plan.batch.root c.of.result c.root.ensures c.of.ensures))
-
-pub returns-clause-records_stay : goal.returns-clause-records_stay
-returns-clause-records_stay g c told has r q held now =
-    let plan = c.in-Ok.plan in
-    let of = held.tables in
-    let is = c.in-Ok.ensures.coming r of in
-    let can = same_can_step c.enter-entered.new.self.slot.end c.args.self.now.slot.end c.enter-entered.new.self.index c.args.self.now.index plan.slot plan.slot (g.G.Ground.told c.args.outside.now)
-    (ap (λ (s : Slot). s.end) c.enter-entered.ensures.rest.1) c.enter-entered.ensures.rest.0 refl (can_step r c.args.branch.now c.args.self.now plan of is (g.G.Ground.told c.args.outside.now) held) in
-    let step = same_step c.enter-entered.new.self.slot.end c.args.self.now.slot.end c.enter-entered.new.self.index c.args.self.now.index c.bytes.result.now plan.batch.bytes.items plan.slot plan.slot _ (g.G.Ground.told c.args.outside.now) (g.G.Ground.told c.durable_step.new.outside)
-    (ap (λ (s : Slot). s.end) c.enter-entered.ensures.rest.1) c.enter-entered.ensures.rest.0 c.bytes.ensures refl (c.in_ok-durable_step.ensures.does told can) in
-    stays_committed r c.args.branch.now c.args.self.now plan of is (g.G.Ground.told c.args.outside.now) held (g.G.Ground.told c.durable_step.new.outside) step _ q now
-
-pub returns-clause-appends : goal.returns-clause-appends
-returns-clause-appends g c told r v at =
-    let plan = c.in-Ok.plan in
-    let of = at.holds.tables in
-    let is = c.in-Ok.ensures.coming r of in
-    let planned = c.in-Ok.ensures.planned _ r v of at.lawful in
-    record {
-      slot = is.slot ∙ ap (λ bytes. next_slot (carried c.args.self.now) (length bytes) 1) planned.bytes;
-      records = λ r' q before after. list_committed r c.args.work.now v c.args.branch.now c.args.info c.args.self.now plan is planned (g.G.Ground.told c.args.outside.now) at (g.G.Ground.told c.durable_step.new.outside) _
-          (let can = same_can_step c.enter-entered.new.self.slot.end c.args.self.now.slot.end c.enter-entered.new.self.index c.args.self.now.index plan.slot plan.slot (g.G.Ground.told c.args.outside.now)
-          (ap (λ (s : Slot). s.end) c.enter-entered.ensures.rest.1) c.enter-entered.ensures.rest.0 refl (can_step r c.args.branch.now c.args.self.now plan of is (g.G.Ground.told c.args.outside.now) at.holds) in
-          same_step c.enter-entered.new.self.slot.end c.args.self.now.slot.end c.enter-entered.new.self.index c.args.self.now.index c.bytes.result.now plan.batch.bytes.items plan.slot plan.slot _ (g.G.Ground.told c.args.outside.now) (g.G.Ground.told c.durable_step.new.outside)
-          (ap (λ (s : Slot). s.end) c.enter-entered.ensures.rest.1) c.enter-entered.ensures.rest.0 c.bytes.ensures refl (c.in_ok-durable_step.ensures.does told can)) r' q before after;
-    }
-
--- ---- what was cleared away
+returns-in-Err-clause-records_stay g c told has r q held now =
+    noted_stays c.plan.new.self c.noted.new.self _ c.noted.result c.noted.ensures.answer c.noted.ensures.met (g.G.Ground.told c.plan.new.outside) q (image_records held)
+    (λ answered mid. looked_stays c.args.self.now c.plan.new.self (g.G.Ground.told c.args.outside.now) (g.G.Ground.told c.plan.new.outside) (c.plan.ensures.looks told) r q held mid) has now
 
 pub returns-in-Err-clause-clear : goal.returns-in-Err-clause-clear
-returns-in-Err-clause-clear g c told has r v at = noted_clear c.args.self.now c.args.self.now c.noted.new.self _ (g.G.Ground.told c.args.outside.now) (g.G.Ground.told c.args.outside.now) c.noted.ensures.met (λ clear. clear)
-
-pub returns-in-Err-entered-clause-clear : goal.returns-in-Err-entered-clause-clear
-returns-in-Err-entered-clause-clear g c told has r v at =
-    let same = c.in-Err-entered.ensures.err in
-    noted_clear c.args.self.now c.enter-entered.new.self c.noted-in-Err-entered.new.self _ (g.G.Ground.told c.args.outside.now) (g.G.Ground.told c.args.outside.now) c.noted-in-Err-entered.ensures.met
-    (looked_clear c.args.self.now c.enter-entered.new.self (g.G.Ground.told c.args.outside.now) (g.G.Ground.told c.args.outside.now) same.slot same.unswept (changes_nothing (g.G.Ground.told c.args.outside.now)))
-
-pub returns-in_err-durable_step-clause-clear : goal.returns-in_err-durable_step-clause-clear
-returns-in_err-durable_step-clause-clear g c told has = (let is : c.from_residual.result ≡ Err StoreFault.Ground = search rules in absurd (subst HasAnswer is has))
-
-pub returns-clause-clear : goal.returns-clause-clear
-returns-clause-clear g c told has r v at =
-    changed_clear c.args.self.now r (g.G.Ground.told c.args.outside.now) (g.G.Ground.told c.durable_step.new.outside) at.holds _ _ (next_carries c.args.self.now _ 1 _ (returns-clause-appends g c told r v at).slot) c.enter-entered.ensures.rest.4
-    (returns-clause-any_moment g c told r v at).only
-
--- ---- the core
+returns-in-Err-clause-clear g c told has r v at =
+    noted_clear c.args.self.now c.plan.new.self c.noted.new.self _ (g.G.Ground.told c.args.outside.now) (g.G.Ground.told c.plan.new.outside) c.noted.ensures.met
+    (looked_clear c.args.self.now c.plan.new.self (g.G.Ground.told c.args.outside.now) (g.G.Ground.told c.plan.new.outside) c.plan.ensures.same.slot c.plan.ensures.same.unswept (c.plan.ensures.looks told).reads.only)
 
 pub returns-in-Err-clause-tied : goal.returns-in-Err-clause-tied
-returns-in-Err-clause-tied g c told r q held now = noted_fault (λ name. true) c.args.self.now c.noted.new.self c.in-Err.fault c.noted.result c.noted.ensures.answer c.noted.ensures.met (g.G.Ground.told c.args.outside.now) r q held now
-
-pub returns-in-Err-entered-clause-tied : goal.returns-in-Err-entered-clause-tied
-returns-in-Err-entered-clause-tied g c told r q held now =
-    noted_tied (λ name. true) c.args.self.now c.enter-entered.new.self c.noted-in-Err-entered.new.self (Err StoreFault.Memory) c.noted-in-Err-entered.result c.noted-in-Err-entered.ensures.answer c.noted-in-Err-entered.ensures.met (g.G.Ground.told c.args.outside.now) q held.stands.standing.records
-    (λ mid. still_fault c.args.self.now c.enter-entered.new.self held.stands.standing.records mid.stands.standing.records (sees_same c.args.self.now c.enter-entered.new.self c.in-Err-entered.ensures.err (g.G.Ground.told c.args.outside.now) r q held mid) StoreFault.Memory) now
-
-pub returns-in_err-durable_step-clause-tied : goal.returns-in_err-durable_step-clause-tied
-returns-in_err-durable_step-clause-tied g c told r q held now =
-    let is : c.from_residual.result ≡ Err StoreFault.Ground = search rules in
-    let store : Store = record { index = c.enter-entered.new.self.index; slot = c.enter-entered.new.self.slot; names = c.enter-entered.new.self.names; branches = c.enter-entered.new.self.branches; history = c.enter-entered.new.self.history; places = c.enter-entered.new.self.places; space = c.enter-entered.new.self.space; collection = c.enter-entered.new.self.collection; unswept = c.enter-entered.new.self.unswept; met = c.nothing_met-self.result } in
-    subst (λ res. IsTiedAnswer {A = Hash} (λ name. true) res c.args.self.now held.stands.standing.records store now.stands.standing.records) (sym is) tt
-
-pub returns-clause-tied : goal.returns-clause-tied
-returns-clause-tied g c told r q held now =
-    let plan = c.in-Ok.plan in
-    let of = held.tables in
-    let is = c.in-Ok.ensures.coming r of in
-    let can = same_can_step c.enter-entered.new.self.slot.end c.args.self.now.slot.end c.enter-entered.new.self.index c.args.self.now.index plan.slot plan.slot (g.G.Ground.told c.args.outside.now)
-    (ap (λ (s : Slot). s.end) c.enter-entered.ensures.rest.1) c.enter-entered.ensures.rest.0 refl (can_step r c.args.branch.now c.args.self.now plan of is (g.G.Ground.told c.args.outside.now) held) in
-    let step = same_step c.enter-entered.new.self.slot.end c.args.self.now.slot.end c.enter-entered.new.self.index c.args.self.now.index c.bytes.result.now plan.batch.bytes.items plan.slot plan.slot _ (g.G.Ground.told c.args.outside.now) (g.G.Ground.told c.durable_step.new.outside)
-    (ap (λ (s : Slot). s.end) c.enter-entered.ensures.rest.1) c.enter-entered.ensures.rest.0 c.bytes.ensures refl (c.in_ok-durable_step.ensures.does told can) in
-    let list = more_committed r c.args.branch.now c.args.self.now plan of is (g.G.Ground.told c.args.outside.now) held (g.G.Ground.told c.durable_step.new.outside) step _ q now in
-    is_appended c.args.self.now _ (g.G.Ground.told c.args.outside.now) (g.G.Ground.told c.durable_step.new.outside) r q held now c.enter-entered.ensures.rest.3 (ap (λ (s : Slot). s.horizon) is.slot) list.0 list.1
-    (subst (λ (n : ℕ). AreEndToEnd c.args.self.now.slot.end list.0 n) (sym (ap (λ (s : Slot). s.end) is.slot)) list.2)
-
--- ---- what a crash leaves
+returns-in-Err-clause-tied g c told r q held now =
+    let fault = c.in-Err.fault in
+    noted_tied (λ name. true) c.args.self.now c.plan.new.self c.noted.new.self (Err fault) c.noted.result c.noted.ensures.answer c.noted.ensures.met (g.G.Ground.told c.plan.new.outside) q held.stands.standing.records
+    (λ mid. still_fault c.args.self.now c.plan.new.self held.stands.standing.records mid.stands.standing.records (sees_still c.args.self.now c.plan.new.self c.plan.ensures.same (g.G.Ground.told c.args.outside.now) (g.G.Ground.told c.plan.new.outside) (c.plan.ensures.looks told).reads.only r q held mid) fault) now
 
 pub returns-in-Err-clause-fronts : goal.returns-in-Err-clause-fronts
-returns-in-Err-clause-fronts g c told r v at pending = leaves_none c.args.self.now at.holds.stands.standing.records (appending (records_of r c.args.work.now v c.args.branch.now c.args.info c.args.self.now)) (g.G.Ground.told c.args.outside.now)
+returns-in-Err-clause-fronts g c told r v at pending =
+    leaves_looked c.args.self.now r (g.G.Ground.told c.args.outside.now) at.holds (g.G.Ground.told c.plan.new.outside) (c.plan.ensures.looks told).reads.only pending (appending (records_of r c.args.work.now v (first_parent at) c.args.branch.now c.args.info c.args.self.now))
 
-pub returns-in-Err-entered-clause-fronts : goal.returns-in-Err-entered-clause-fronts
-returns-in-Err-entered-clause-fronts g c told r v at pending = leaves_none c.args.self.now at.holds.stands.standing.records (appending (records_of r c.args.work.now v c.args.branch.now c.args.info c.args.self.now)) (g.G.Ground.told c.args.outside.now)
+pub returns-in-Err-clause-undamaged : goal.returns-in-Err-clause-undamaged
+returns-in-Err-clause-undamaged g c told r v at =
+    subst IsUndamaged (sym c.noted.ensures.answer) (undamaged_as Plan Hash c.in-Err.fault (c.in-Err.ensures.undamaged told r v at))
 
-pub returns-in_err-durable_step-clause-fronts : goal.returns-in_err-durable_step-clause-fronts
-returns-in_err-durable_step-clause-fronts g c told r v at pending =
-    let plan = c.in-Ok.plan in
-    let of = at.holds.tables in
-    let is = c.in-Ok.ensures.coming r of in
-    let can = same_can_step c.enter-entered.new.self.slot.end c.args.self.now.slot.end c.enter-entered.new.self.index c.args.self.now.index plan.slot plan.slot (g.G.Ground.told c.args.outside.now)
-    (ap (λ (s : Slot). s.end) c.enter-entered.ensures.rest.1) c.enter-entered.ensures.rest.0 refl (can_step r c.args.branch.now c.args.self.now plan of is (g.G.Ground.told c.args.outside.now) at.holds) in
-    let step = same_step c.enter-entered.new.self.slot.end c.args.self.now.slot.end c.enter-entered.new.self.index c.args.self.now.index c.bytes.result.now plan.batch.bytes.items plan.slot plan.slot _ (g.G.Ground.told c.args.outside.now) (g.G.Ground.told c.durable_step.new.outside)
-    (ap (λ (s : Slot). s.end) c.enter-entered.ensures.rest.1) c.enter-entered.ensures.rest.0 c.bytes.ensures refl (c.durable_step.ensures.does told can) in
-    commit_front r c.args.work.now v c.args.branch.now c.args.info c.args.self.now plan is (c.in-Ok.ensures.planned _ r v of at.lawful) (g.G.Ground.told c.args.outside.now) at (g.G.Ground.told c.durable_step.new.outside) _ step pending
+-- ---- why not
 
-pub returns-clause-fronts : goal.returns-clause-fronts
-returns-clause-fronts g c told r v at pending =
-    let plan = c.in-Ok.plan in
-    let of = at.holds.tables in
-    let is = c.in-Ok.ensures.coming r of in
-    let can = same_can_step c.enter-entered.new.self.slot.end c.args.self.now.slot.end c.enter-entered.new.self.index c.args.self.now.index plan.slot plan.slot (g.G.Ground.told c.args.outside.now)
-    (ap (λ (s : Slot). s.end) c.enter-entered.ensures.rest.1) c.enter-entered.ensures.rest.0 refl (can_step r c.args.branch.now c.args.self.now plan of is (g.G.Ground.told c.args.outside.now) at.holds) in
-    let step = same_step c.enter-entered.new.self.slot.end c.args.self.now.slot.end c.enter-entered.new.self.index c.args.self.now.index c.bytes.result.now plan.batch.bytes.items plan.slot plan.slot _ (g.G.Ground.told c.args.outside.now) (g.G.Ground.told c.durable_step.new.outside)
-    (ap (λ (s : Slot). s.end) c.enter-entered.ensures.rest.1) c.enter-entered.ensures.rest.0 c.bytes.ensures refl (c.in_ok-durable_step.ensures.does told can) in
-    commit_front r c.args.work.now v c.args.branch.now c.args.info c.args.self.now plan is (c.in-Ok.ensures.planned _ r v of at.lawful) (g.G.Ground.told c.args.outside.now) at (g.G.Ground.told c.durable_step.new.outside) _ step pending
+pub returns-in-Ok-clause-causes : goal.returns-in-Ok-clause-causes
+returns-in-Ok-clause-causes g c = cut_cause g.G.Ground.tells (g.G.Ground.told c.args.outside.now) c.args.self.now.space c.carry_out.result c.carry_out.ensures.faults
+
+pub returns-in-Err-clause-causes : goal.returns-in-Err-clause-causes
+returns-in-Err-clause-causes g c = cause_of g.G.Ground.tells (g.G.Ground.told c.args.outside.now) c.args.self.now.space c.noted.result c.in-Err.fault c.noted.ensures.answer c.in-Err.ensures.causes
+
+-- ---- without parents
+
+pub returns-in-Ok-clause-alone : goal.returns-in-Ok-clause-alone
+returns-in-Ok-clause-alone g c none = cut_undamaged c.carry_out.result c.carry_out.ensures.faults
+
+pub returns-in-Err-clause-alone : goal.returns-in-Err-clause-alone
+returns-in-Err-clause-alone g c none = subst IsUndamaged (sym c.noted.ensures.answer) (undamaged_as Plan Hash c.in-Err.fault (c.in-Err.ensures.alone none).1)

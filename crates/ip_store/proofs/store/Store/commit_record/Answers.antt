@@ -2,6 +2,7 @@ use Rattle.std.proofs.Common.{◌∙◌, rules}
 use Rattle.ip_spec.specs.declared.record.Record.TheVariants as Record
 use Rattle.ip_space.specs.SpaceView.{records_of}
 use Rattle.ip_store.specs.Store.{image_records}
+use Rattle.ip_store.proofs.Causing.{commit_cause}
 use Rattle.ip_store.proofs.Listed.{readable_of, records_held}
 use Rattle.ip_store.proofs.Showing.{there_is, commit_is, name_is, commit_here, meets_commit, is_fetched, fetched_commit, damages_commit}
 use Rattle.ip_store.proofs.Stepping.{still_holds}
@@ -28,3 +29,7 @@ returns-clause-damages g c told readable =
 
 pub returns-clause-holds : goal.returns-clause-holds
 returns-clause-holds g c told r held = still_holds c.args.self.now _ (search rules) r (g.G.Ground.told c.args.outside.now) (g.G.Ground.told c.fetch.new.outside) (c.fetch.ensures.reads told) held
+
+pub returns-clause-causes : goal.returns-clause-causes
+returns-clause-causes g c =
+    commit_cause g.G.Ground.tells (g.G.Ground.told c.args.outside.now) c.args.self.now.space c.reference_to-reference.result c.fetch.result c.fetch.ensures.blames c.fetch.ensures.found c.commit_in.result c.commit_in.ensures

@@ -1,12 +1,14 @@
-use Rattle.std.proofs.Common.{inl, inr, refl, sym, ◌∙◌, ap, subst}
+use Rattle.std.proofs.Common.{◌-◌, ◌^◌, refl, sym, ◌∙◌, ap, subst}
 use Rattle.std.specs.Prelude.{Result}
 use Rattle.ip_spec.specs.declared.command.Command.TheVariants as Command
+use Rattle.ip_spec.specs.declared.met.Child.{Child}
 use Rattle.ip_spec.specs.declared.met.Met.{Met}
 use Rattle.ip_store.specs.declared.finishing.FinishFault.{FinishFault}
 use Rattle.ip_store.specs.declared.finishing.Looked.{Looked}
-use Rattle.ip_store.specs.Finishing.{Concludes, CountsFinish, FinishesBy, HasAnswer, IsKept, IsOver, IsQuiet, IsUndamaged, LimitsFinish, LookReplies, SlotBy, as_look, conditions_by, met_by_finish, unswept_by, IsSweptBehind}
+use Rattle.ip_store.specs.Ending.{Goes}
+use Rattle.ip_store.specs.Finishing.{Concludes, CountsFinish, FinishesBy, HasAnswer, IsQuiet, IsUndamaged, LookReplies, as_look, conditions_by, IsSweptBehind}
 use Rattle.ip_store.proofs.Clearing.{finish_clear}
-use Rattle.ip_store.proofs.FinishCalls.{fault_looked, finish_replies}
+use Rattle.ip_store.proofs.FinishCalls.{finish_replies}
 use Rattle.ip_store.specs.Tie.{IsTied, finish_events}
 use Rattle.ip_store.proofs.EndTied.{finish_tied, finishes_leaves, quiet_list}
 use Rattle.ip_store.proofs.EndFronts.{finish_fronts}
@@ -33,44 +35,25 @@ returns-clause-answered g c r of =
     finish_replies c.whole.result _ (subst (λ (x : Result Looked FinishFault). LookReplies x (Concludes r c.args.self.now.collection Command.Finish (conditions_by c.goes.new.self.met x) c.goes.new.self)) (sym c.whole.ensures)
     (c.goes.ensures.goes.answered r of Command.Finish (c.goes.ensures.goes.running c.awaited-child.ensures.ended, c.goes.ensures.goes.whole refl)))
 
-pub returns-clause-met : goal.returns-clause-met
-returns-clause-met g c = (c.awaited-child.result, c.goes.ensures.goes.left, c.goes.ensures.goes.met ∙ ap (λ (x : Result Looked FinishFault). met_by_finish c.awaited-child.result x c.goes.ensures.goes.left) (sym c.whole.ensures))
+pub returns-clause-goes : goal.returns-clause-goes
+returns-clause-goes g c =
+    subst (λ (x : Result Looked FinishFault). Goes c.goes.new.self.met.child (2 ^ 64 - 1) x c.args.self.now c.goes.new.self) (sym c.whole.ensures)
+    (subst (λ (k : Child). Goes k (2 ^ 64 - 1) c.goes.result c.args.self.now c.goes.new.self) (sym (ap (λ (m : Met). m.child) c.goes.ensures.goes.met)) c.goes.ensures.goes)
 
 pub returns-clause-child : goal.returns-clause-child
 returns-clause-child g c = c.awaited-child.ensures.child ∙ sym c.goes.ensures.goes.held
-
-pub returns-clause-runs : goal.returns-clause-runs
-returns-clause-runs g c = (λ none. fault_looked c.whole.result FinishFault.Idle (c.whole.ensures ∙ c.goes.ensures.goes.runs.0 none), λ is. c.goes.ensures.goes.runs.1 (sym c.whole.ensures ∙ ap as_look is))
 
 pub returns-clause-idle : goal.returns-clause-idle
 returns-clause-idle g c is = c.awaited-child.ensures.idle (c.goes.ensures.goes.runs.1 (sym c.whole.ensures ∙ ap as_look is))
 
 pub returns-clause-quiet : goal.returns-clause-quiet
-returns-clause-quiet g c quiet = (let it = subst IsQuiet c.whole.ensures quiet in (c.goes.ensures.quiet it, c.goes.ensures.goes.quiet it))
+returns-clause-quiet g c quiet = c.goes.ensures.quiet (subst IsQuiet c.whole.ensures quiet)
 
 pub returns-clause-kept : goal.returns-clause-kept
 returns-clause-kept g c x reaped runs exit = (let kept = c.awaited-child.ensures.kept x reaped runs exit in (kept.0, ap (λ (m : Met). m.child) c.goes.ensures.goes.met ∙ kept.1))
 
 pub returns-clause-asked : goal.returns-clause-asked
 returns-clause-asked g c x runs none = (let it = c.awaited-child.ensures.asked x runs none in (it.0, ap (λ (m : Met). m.child) c.goes.ensures.goes.met ∙ it.1, it.2, it.3, it.4))
-
-pub returns-clause-ended : goal.returns-clause-ended
-returns-clause-ended g c = elim c.goes.ensures.goes.ended [ inl quiet ↦ inl (subst IsQuiet (sym c.whole.ensures) quiet) | inr it ↦ inr (it.0, ap (λ (m : Met). m.child) c.goes.ensures.goes.met ∙ it.1) ]
-
-pub returns-clause-goes_on : goal.returns-clause-goes_on
-returns-clause-goes_on g c is x reaped runs heard = c.goes.ensures.goes.goes_on (subst IsKept c.whole.ensures is) x reaped runs (sym (ap (λ (m : Met). m.child) c.goes.ensures.goes.met) ∙ heard)
-
-pub returns-clause-over : goal.returns-clause-over
-returns-clause-over g c is = c.goes.ensures.goes.over (subst IsOver c.whole.ensures is)
-
-pub returns-clause-limits : goal.returns-clause-limits
-returns-clause-limits g c = subst (λ (x : Result Looked FinishFault). LimitsFinish x c.args.self.now) (sym c.whole.ensures) c.goes.ensures.goes.limits
-
-pub returns-clause-slot : goal.returns-clause-slot
-returns-clause-slot g c x runs = subst (λ (y : Result Looked FinishFault). SlotBy y x c.args.self.now c.goes.new.self.slot) (sym c.whole.ensures) (c.goes.ensures.goes.slot x runs)
-
-pub returns-clause-unswept : goal.returns-clause-unswept
-returns-clause-unswept g c = c.goes.ensures.goes.unswept ∙ ap (λ (x : Result Looked FinishFault). unswept_by x c.goes.new.self.met.left c.goes.new.self.slot c.args.self.now.unswept) (sym c.whole.ensures)
 
 pub returns-clause-any_moment : goal.returns-clause-any_moment
 returns-clause-any_moment g c told r held x reaped runs heard =

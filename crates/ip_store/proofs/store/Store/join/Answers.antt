@@ -1,15 +1,18 @@
 use Rattle.std.proofs.Common.{◌≡◌, ℕ, Option, Some, true, false, refl, sym, ap, subst, []}
 use Rattle.std.specs.Prelude.{Ok, Err, min}
+use Rattle.ip_spec.specs.Record.{Hash}
 use Rattle.ip_spec.specs.declared.reply.Reply.TheVariants as Reply
 use Rattle.ip_store.specs.declared.committing.StoreFault.TheVariants as StoreFault
 use Rattle.ip_store.specs.declared.merging.Merge.{Merge}
 use Rattle.ip_store.specs.declared.work.Work.{Work}
 use Rattle.ip_store.specs.Changes.{IsUndamaged}
 use Rattle.ip_store.specs.Collecting.{phase_of}
-use Rattle.ip_store.specs.Commits.{records_of}
+use Rattle.ip_store.specs.Commits.{first_parent, records_of}
 use Rattle.ip_store.specs.Merging.{IsJoined, IsJoinedTree}
 use Rattle.ip_store.specs.Store.{image_records}
 use Rattle.ip_store.specs.Work.{AreParents}
+use Rattle.ip_store.proofs.BehindPlan.{undamaged_as}
+use Rattle.ip_store.proofs.Causing.{cause_of, store_cause_on, store_looks}
 use Rattle.ip_store.proofs.Clearing.{looked_clear, noted_clear}
 use Rattle.ip_store.proofs.JoinDone.{looked_stays, join_limits, done_tables, done_answers, done_moments, done_limits, done_appends, is_at}
 use Rattle.ip_store.proofs.JoinedTrees.{join_parents}
@@ -138,7 +141,7 @@ returns-in-Ok-commit-clause-appends g c told decides r held is =
     let work : Work = record { tree = c.in-Ok-Tree.tree; parents = c.in-Ok.parents; least = Some c.lesser.result } in
     let low : Some c.lesser.result ≡ Some (min c.args.sides.now.head c.args.sides.now.number) = ap Some c.lesser.ensures in
     let at = is_at (g.D.Decides.rule c.args.rules.now) r c.args.branch.now c.args.info c.args.sides.now c.args.self.now c.joined.new.self is (g.G.Ground.told c.args.outside.now) (g.G.Ground.told c.joined.new.outside) (c.joined.ensures.looks told) c.joined.ensures.same held c.in-Ok-Tree.tree J work refl c.in-Ok.ensures low in
-    done_appends (g.D.Decides.rule c.args.rules.now) r c.args.branch.now c.args.info c.args.sides.now c.args.self.now c.joined.new.self is (g.G.Ground.told c.args.outside.now) (g.G.Ground.told c.joined.new.outside) (c.joined.ensures.looks told) c.joined.ensures.same held c.in-Ok-Tree.tree J work refl c.in-Ok.ensures low (Ok c.in-Ok-commit.name) c.commit.new.self c.commit.new.work (g.G.Ground.told c.commit.new.outside) (c.in-Ok-commit.ensures.limits told r J.view at) (c.in-Ok-commit.ensures.appends told r J.view at) (c.in-Ok-commit.ensures.any_moment told r J.view at)
+    done_appends (g.D.Decides.rule c.args.rules.now) r c.args.branch.now c.args.info c.args.sides.now c.args.self.now c.joined.new.self is (g.G.Ground.told c.args.outside.now) (g.G.Ground.told c.joined.new.outside) (c.joined.ensures.looks told) c.joined.ensures.same held c.in-Ok-Tree.tree J work refl c.in-Ok.ensures low (Ok c.in-Ok-commit.name) c.commit.new.self c.commit.new.work (g.G.Ground.told c.commit.new.outside) at (c.in-Ok-commit.ensures.limits told r J.view at) (c.in-Ok-commit.ensures.appends told r J.view at) (c.in-Ok-commit.ensures.any_moment told r J.view at)
 
 pub returns-in-Ok-commit-clause-any_moment : goal.returns-in-Ok-commit-clause-any_moment
 returns-in-Ok-commit-clause-any_moment g c told decides r held is =
@@ -172,7 +175,7 @@ returns-clause-appends g c told decides r held is =
     let work : Work = record { tree = c.in-Ok-Tree.tree; parents = c.in-Ok.parents; least = Some c.lesser.result } in
     let low : Some c.lesser.result ≡ Some (min c.args.sides.now.head c.args.sides.now.number) = ap Some c.lesser.ensures in
     let at = is_at (g.D.Decides.rule c.args.rules.now) r c.args.branch.now c.args.info c.args.sides.now c.args.self.now c.joined.new.self is (g.G.Ground.told c.args.outside.now) (g.G.Ground.told c.joined.new.outside) (c.joined.ensures.looks told) c.joined.ensures.same held c.in-Ok-Tree.tree J work refl c.in-Ok.ensures low in
-    done_appends (g.D.Decides.rule c.args.rules.now) r c.args.branch.now c.args.info c.args.sides.now c.args.self.now c.joined.new.self is (g.G.Ground.told c.args.outside.now) (g.G.Ground.told c.joined.new.outside) (c.joined.ensures.looks told) c.joined.ensures.same held c.in-Ok-Tree.tree J work refl c.in-Ok.ensures low (Err c.in-Err-commit.fault) c.commit.new.self c.commit.new.work (g.G.Ground.told c.commit.new.outside) (c.in-Err-commit.ensures.limits told r J.view at) (c.in-Err-commit.ensures.appends told r J.view at) (c.in-Err-commit.ensures.any_moment told r J.view at)
+    done_appends (g.D.Decides.rule c.args.rules.now) r c.args.branch.now c.args.info c.args.sides.now c.args.self.now c.joined.new.self is (g.G.Ground.told c.args.outside.now) (g.G.Ground.told c.joined.new.outside) (c.joined.ensures.looks told) c.joined.ensures.same held c.in-Ok-Tree.tree J work refl c.in-Ok.ensures low (Err c.in-Err-commit.fault) c.commit.new.self c.commit.new.work (g.G.Ground.told c.commit.new.outside) at (c.in-Err-commit.ensures.limits told r J.view at) (c.in-Err-commit.ensures.appends told r J.view at) (c.in-Err-commit.ensures.any_moment told r J.view at)
 
 pub returns-clause-limits : goal.returns-clause-limits
 returns-clause-limits g c told decides r held is =
@@ -180,7 +183,7 @@ returns-clause-limits g c told decides r held is =
     let work : Work = record { tree = c.in-Ok-Tree.tree; parents = c.in-Ok.parents; least = Some c.lesser.result } in
     let low : Some c.lesser.result ≡ Some (min c.args.sides.now.head c.args.sides.now.number) = ap Some c.lesser.ensures in
     let at = is_at (g.D.Decides.rule c.args.rules.now) r c.args.branch.now c.args.info c.args.sides.now c.args.self.now c.joined.new.self is (g.G.Ground.told c.args.outside.now) (g.G.Ground.told c.joined.new.outside) (c.joined.ensures.looks told) c.joined.ensures.same held c.in-Ok-Tree.tree J work refl c.in-Ok.ensures low in
-    done_limits (g.D.Decides.rule c.args.rules.now) r c.args.branch.now c.args.info c.args.sides.now c.args.self.now c.joined.new.self is (g.G.Ground.told c.args.outside.now) (g.G.Ground.told c.joined.new.outside) (c.joined.ensures.looks told) c.joined.ensures.same held c.in-Ok-Tree.tree J work refl c.in-Ok.ensures low (Err c.in-Err-commit.fault) c.commit.new.self c.commit.new.work (g.G.Ground.told c.commit.new.outside) (c.in-Err-commit.ensures.limits told r J.view at)
+    done_limits (g.D.Decides.rule c.args.rules.now) r c.args.branch.now c.args.info c.args.sides.now c.args.self.now c.joined.new.self is (g.G.Ground.told c.args.outside.now) (g.G.Ground.told c.joined.new.outside) (c.joined.ensures.looks told) c.joined.ensures.same held c.in-Ok-Tree.tree J work refl c.in-Ok.ensures low (Err c.in-Err-commit.fault) c.commit.new.self c.commit.new.work (g.G.Ground.told c.commit.new.outside) at (c.in-Err-commit.ensures.limits told r J.view at)
 
 pub returns-clause-any_moment : goal.returns-clause-any_moment
 returns-clause-any_moment g c told decides r held is =
@@ -189,6 +192,14 @@ returns-clause-any_moment g c told decides r held is =
     let low : Some c.lesser.result ≡ Some (min c.args.sides.now.head c.args.sides.now.number) = ap Some c.lesser.ensures in
     let at = is_at (g.D.Decides.rule c.args.rules.now) r c.args.branch.now c.args.info c.args.sides.now c.args.self.now c.joined.new.self is (g.G.Ground.told c.args.outside.now) (g.G.Ground.told c.joined.new.outside) (c.joined.ensures.looks told) c.joined.ensures.same held c.in-Ok-Tree.tree J work refl c.in-Ok.ensures low in
     done_moments (g.D.Decides.rule c.args.rules.now) r c.args.branch.now c.args.info c.args.sides.now c.args.self.now c.joined.new.self is (g.G.Ground.told c.args.outside.now) (g.G.Ground.told c.joined.new.outside) (c.joined.ensures.looks told) c.joined.ensures.same held c.in-Ok-Tree.tree J work refl c.in-Ok.ensures low (Err c.in-Err-commit.fault) c.commit.new.self c.commit.new.work (g.G.Ground.told c.commit.new.outside) (c.in-Err-commit.ensures.answered told r J.view at) (c.in-Err-commit.ensures.any_moment told r J.view at)
+
+pub returns-clause-undamaged : goal.returns-clause-undamaged
+returns-clause-undamaged g c told decides r held is =
+    let J : IsJoinedTree (g.D.Decides.rule c.args.rules.now) (image_records held) r c.args.sides.now c.in-Ok-Tree.tree = subst (λ x. IsJoined (g.D.Decides.rule c.args.rules.now) (image_records held) r c.args.sides.now (Ok x)) c.in-Ok-Tree.field-0-is (c.in-Ok-Tree.ensures.joins told decides r c.args.branch.now held is) in
+    let work : Work = record { tree = c.in-Ok-Tree.tree; parents = c.in-Ok.parents; least = Some c.lesser.result } in
+    let low : Some c.lesser.result ≡ Some (min c.args.sides.now.head c.args.sides.now.number) = ap Some c.lesser.ensures in
+    let at = is_at (g.D.Decides.rule c.args.rules.now) r c.args.branch.now c.args.info c.args.sides.now c.args.self.now c.joined.new.self is (g.G.Ground.told c.args.outside.now) (g.G.Ground.told c.joined.new.outside) (c.joined.ensures.looks told) c.joined.ensures.same held c.in-Ok-Tree.tree J work refl c.in-Ok.ensures low in
+    undamaged_as Hash Merge c.in-Err-commit.fault (c.in-Err-commit.ensures.undamaged told r J.view at)
 
 pub returns-clause-records_stay : goal.returns-clause-records_stay
 returns-clause-records_stay g c told has r q held now =
@@ -280,7 +291,7 @@ returns-in-Ok-commit-clause-fronts g c told decides r held is pending =
     let low : Some c.lesser.result ≡ Some (min c.args.sides.now.head c.args.sides.now.number) = ap Some c.lesser.ensures in
     let at = is_at (g.D.Decides.rule c.args.rules.now) r c.args.branch.now c.args.info c.args.sides.now c.args.self.now c.joined.new.self is (g.G.Ground.told c.args.outside.now) (g.G.Ground.told c.joined.new.outside) (c.joined.ensures.looks told) c.joined.ensures.same held c.in-Ok-Tree.tree J work refl c.in-Ok.ensures low in
     let only = (c.joined.ensures.looks told).reads.only in
-    let more = records_of r work J.view c.args.branch.now c.args.info c.joined.new.self in (
+    let more = records_of r work J.view (first_parent at) c.args.branch.now c.args.info c.joined.new.self in (
       more,
       leaves_behind c.args.self.now r (g.G.Ground.told c.args.outside.now) held (g.G.Ground.told c.joined.new.outside) only pending (appending more) c.joined.new.self c.joined.ensures.same at.holds (g.G.Ground.told c.commit.new.outside)
           (c.in-Ok-commit.ensures.any_moment told r J.view at).only.goes
@@ -294,9 +305,18 @@ returns-clause-fronts g c told decides r held is pending =
     let low : Some c.lesser.result ≡ Some (min c.args.sides.now.head c.args.sides.now.number) = ap Some c.lesser.ensures in
     let at = is_at (g.D.Decides.rule c.args.rules.now) r c.args.branch.now c.args.info c.args.sides.now c.args.self.now c.joined.new.self is (g.G.Ground.told c.args.outside.now) (g.G.Ground.told c.joined.new.outside) (c.joined.ensures.looks told) c.joined.ensures.same held c.in-Ok-Tree.tree J work refl c.in-Ok.ensures low in
     let only = (c.joined.ensures.looks told).reads.only in
-    let more = records_of r work J.view c.args.branch.now c.args.info c.joined.new.self in (
+    let more = records_of r work J.view (first_parent at) c.args.branch.now c.args.info c.joined.new.self in (
       more,
       leaves_behind c.args.self.now r (g.G.Ground.told c.args.outside.now) held (g.G.Ground.told c.joined.new.outside) only pending (appending more) c.joined.new.self c.joined.ensures.same at.holds (g.G.Ground.told c.commit.new.outside)
           (c.in-Err-commit.ensures.any_moment told r J.view at).only.goes
           (c.in-Err-commit.ensures.fronts told r J.view at (pending_on r c.args.self.now (g.G.Ground.told c.args.outside.now) held (g.G.Ground.told c.joined.new.outside) only pending)),
     )
+
+-- ---- why not
+
+pub returns-in-Err-clause-causes : goal.returns-in-Err-clause-causes
+returns-in-Err-clause-causes g c = cause_of g.G.Ground.tells (g.G.Ground.told c.args.outside.now) c.args.self.now.space c.noted-in-Err.result c.in-Err.fault c.noted-in-Err.ensures.answer c.in-Err.ensures.causes
+
+pub returns-clause-causes : goal.returns-clause-causes
+returns-clause-causes g c =
+    store_cause_on g.G.Ground.tells (g.G.Ground.told c.args.outside.now) (g.G.Ground.told c.joined.new.outside) c.args.self.now.space c.joined.new.self.space (store_looks g.G.Ground.tells (g.G.Ground.told c.args.outside.now) (g.G.Ground.told c.joined.new.outside) c.args.self.now c.joined.new.self c.joined.ensures.same c.joined.ensures.looks) c.in-Err-commit.fault c.in-Err-commit.ensures.causes

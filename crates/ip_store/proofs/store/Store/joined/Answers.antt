@@ -1,12 +1,14 @@
 use Rattle.std.proofs.Common.{◌≡◌, rules, sym, ◌∙◌, subst}
-use Rattle.std.specs.Prelude.{Ok, Err}
+use Rattle.std.specs.Prelude.{Err, IfErr, Ok}
 use Rattle.ip_ground.specs.Counts.{Counts, CountsIf, FileFault}
 use Rattle.ip_three.specs.Answered.{ground_three}
 use Rattle.ip_store.specs.declared.store.Store.{Store}
+use Rattle.ip_store.specs.Causes.{IsStoreCause}
 use Rattle.ip_store.specs.Faults.{ground_store}
-use Rattle.ip_store.specs.Merging.{IsBaseTree, IsJoined}
+use Rattle.ip_store.specs.Merging.{IsBaseTree, IsJoined, stopped_by}
 use Rattle.ip_store.specs.Store.{SameTables, image_records}
 use Rattle.ip_store.specs.Trees.{IsTreeOf}
+use Rattle.ip_store.proofs.Causing.{cause_of, stopped_cause, store_cause_on, store_causes_on, store_looks}
 use Rattle.ip_store.proofs.JoinedCalls.{looks_on, same_on, fetched_joined, calls_joined}
 use Rattle.ip_store.proofs.JoinedTrees.{counts_stopped}
 use Rattle.ip_store.proofs.Stepping.{looks, same_tables}
@@ -88,3 +90,34 @@ returns-clause-counts g c =
     let same : g.G.Ground.counts_of c.tree_of-2.new.outside ≡ before = c.in_ok-right.ensures.counts ∙ c.in_ok-left.ensures.counts ∙ c.in_ok-base.ensures.counts in
     subst (λ res. Counts ground_store res before after) (sym c.stopped_by.ensures)
     (counts_stopped fault before after (subst (λ n. CountsIf FileFault (ground_three fault) n after) same c.in-Err.ensures.counts))
+
+-- ---- why not
+
+pub returns-in_err-base-clause-causes : goal.returns-in_err-base-clause-causes
+returns-in_err-base-clause-causes g c =
+    let fault = c.in_err-base.field-0.0 in
+    let same : c.from_residual.result ≡ Err fault = search rules in
+    cause_of g.G.Ground.tells (g.G.Ground.told c.args.outside.now) c.args.self.now.space c.from_residual.result fault same c.in_err-base.ensures.causes
+
+pub returns-in_err-left-clause-causes : goal.returns-in_err-left-clause-causes
+returns-in_err-left-clause-causes g c =
+    let fault = c.in_err-left.field-0.0 in
+    let same : c.from_residual-in_err-left.result ≡ Err fault = search rules in
+    cause_of g.G.Ground.tells (g.G.Ground.told c.args.outside.now) c.args.self.now.space c.from_residual-in_err-left.result fault same
+    (store_cause_on g.G.Ground.tells (g.G.Ground.told c.args.outside.now) (g.G.Ground.told c.base_tree.new.outside) c.args.self.now.space c.base_tree.new.self.space (store_looks g.G.Ground.tells (g.G.Ground.told c.args.outside.now) (g.G.Ground.told c.base_tree.new.outside) c.args.self.now c.base_tree.new.self c.base_tree.ensures.same c.base_tree.ensures.looks) fault c.in_err-left.ensures.causes)
+
+pub returns-in_err-right-clause-causes : goal.returns-in_err-right-clause-causes
+returns-in_err-right-clause-causes g c =
+    let fault = c.in_err-right.field-0.0 in
+    let same : c.from_residual-in_err-right.result ≡ Err fault = search rules in
+    cause_of g.G.Ground.tells (g.G.Ground.told c.args.outside.now) c.args.self.now.space c.from_residual-in_err-right.result fault same
+    (store_cause_on g.G.Ground.tells (g.G.Ground.told c.args.outside.now) (g.G.Ground.told c.base_tree.new.outside) c.args.self.now.space c.base_tree.new.self.space (store_looks g.G.Ground.tells (g.G.Ground.told c.args.outside.now) (g.G.Ground.told c.base_tree.new.outside) c.args.self.now c.base_tree.new.self c.base_tree.ensures.same c.base_tree.ensures.looks) fault
+    (store_cause_on g.G.Ground.tells (g.G.Ground.told c.base_tree.new.outside) (g.G.Ground.told c.tree_of.new.outside) c.base_tree.new.self.space c.tree_of.new.self.space (store_looks g.G.Ground.tells (g.G.Ground.told c.base_tree.new.outside) (g.G.Ground.told c.tree_of.new.outside) c.base_tree.new.self c.tree_of.new.self c.tree_of.ensures.same c.tree_of.ensures.looks) fault c.in_err-right.ensures.causes))
+
+pub returns-clause-causes : goal.returns-clause-causes
+returns-clause-causes g c =
+    subst (λ res. IfErr res (IsStoreCause g.G.Ground.tells (g.G.Ground.told c.args.outside.now) c.args.self.now.space)) (sym c.stopped_by.ensures)
+    (store_causes_on g.G.Ground.tells (g.G.Ground.told c.args.outside.now) (g.G.Ground.told c.base_tree.new.outside) c.args.self.now.space c.base_tree.new.self.space (store_looks g.G.Ground.tells (g.G.Ground.told c.args.outside.now) (g.G.Ground.told c.base_tree.new.outside) c.args.self.now c.base_tree.new.self c.base_tree.ensures.same c.base_tree.ensures.looks) (stopped_by c.in-Err.fault)
+    (store_causes_on g.G.Ground.tells (g.G.Ground.told c.base_tree.new.outside) (g.G.Ground.told c.tree_of.new.outside) c.base_tree.new.self.space c.tree_of.new.self.space (store_looks g.G.Ground.tells (g.G.Ground.told c.base_tree.new.outside) (g.G.Ground.told c.tree_of.new.outside) c.base_tree.new.self c.tree_of.new.self c.tree_of.ensures.same c.tree_of.ensures.looks) (stopped_by c.in-Err.fault)
+    (store_causes_on g.G.Ground.tells (g.G.Ground.told c.tree_of.new.outside) (g.G.Ground.told c.tree_of-2.new.outside) c.tree_of.new.self.space c.tree_of-2.new.self.space (store_looks g.G.Ground.tells (g.G.Ground.told c.tree_of.new.outside) (g.G.Ground.told c.tree_of-2.new.outside) c.tree_of.new.self c.tree_of-2.new.self c.tree_of-2.ensures.same c.tree_of-2.ensures.looks) (stopped_by c.in-Err.fault)
+    (stopped_cause g.G.Ground.tells (g.G.Ground.told c.tree_of-2.new.outside) c.tree_of-2.new.self.space c.in-Err.fault c.in-Err.ensures.causes))))

@@ -1,6 +1,8 @@
-use Rattle.std.proofs.Common.{inl, inr, sym, ◌∙◌, ap}
+use Rattle.std.proofs.Common.{sym, ◌∙◌, ap, subst}
 use Rattle.ip_spec.specs.declared.command.Command.TheVariants as Command
+use Rattle.ip_spec.specs.declared.met.Child.{Child}
 use Rattle.ip_spec.specs.declared.met.Met.{Met}
+use Rattle.ip_store.specs.Ending.{Goes}
 use Rattle.ip_store.proofs.Clearing.{finish_clear}
 use Rattle.ip_store.proofs.EndTied.{finish_tied, finishes_leaves, quiet_list}
 use Rattle.ip_store.proofs.EndFronts.{finish_fronts}
@@ -18,47 +20,23 @@ goes-requires-clause-heard g c = c.seen-child.ensures.heard
 pub returns-clause-answered : goal.returns-clause-answered
 returns-clause-answered g c r of = c.goes.ensures.goes.answered r of Command.Look tt
 
-pub returns-clause-met : goal.returns-clause-met
-returns-clause-met g c = (c.seen-child.result, c.goes.ensures.goes.left, c.goes.ensures.goes.met)
+pub returns-clause-goes : goal.returns-clause-goes
+returns-clause-goes g c = subst (λ (k : Child). Goes k 1024 c.goes.result c.args.self.now c.goes.new.self) (sym (ap (λ (m : Met). m.child) c.goes.ensures.goes.met)) c.goes.ensures.goes
 
 pub returns-clause-child : goal.returns-clause-child
 returns-clause-child g c = c.seen-child.ensures.child ∙ sym c.goes.ensures.goes.held
-
-pub returns-clause-runs : goal.returns-clause-runs
-returns-clause-runs g c = c.goes.ensures.goes.runs
 
 pub returns-clause-idle : goal.returns-clause-idle
 returns-clause-idle g c is = c.seen-child.ensures.idle (c.goes.ensures.goes.runs.1 is)
 
 pub returns-clause-quiet : goal.returns-clause-quiet
-returns-clause-quiet g c quiet = (c.goes.ensures.quiet quiet, c.goes.ensures.goes.quiet quiet)
+returns-clause-quiet g c = c.goes.ensures.quiet
 
 pub returns-clause-kept : goal.returns-clause-kept
 returns-clause-kept g c x reaped runs exit = (let kept = c.seen-child.ensures.kept x reaped runs exit in (kept.0, ap (λ (m : Met). m.child) c.goes.ensures.goes.met ∙ kept.1))
 
 pub returns-clause-asked : goal.returns-clause-asked
 returns-clause-asked g c x runs none = (let it = c.seen-child.ensures.asked x runs none in (it.0, ap (λ (m : Met). m.child) c.goes.ensures.goes.met ∙ it.1, it.2, it.3, it.4))
-
-pub returns-clause-ended : goal.returns-clause-ended
-returns-clause-ended g c = elim c.goes.ensures.goes.ended [ inl quiet ↦ inl quiet | inr it ↦ inr (it.0, ap (λ (m : Met). m.child) c.goes.ensures.goes.met ∙ it.1) ]
-
-pub returns-clause-goes_on : goal.returns-clause-goes_on
-returns-clause-goes_on g c is x reaped runs heard = c.goes.ensures.goes.goes_on is x reaped runs (sym (ap (λ (m : Met). m.child) c.goes.ensures.goes.met) ∙ heard)
-
-pub returns-clause-sliced : goal.returns-clause-sliced
-returns-clause-sliced g c = c.goes.ensures.goes.sliced
-
-pub returns-clause-over : goal.returns-clause-over
-returns-clause-over g c = c.goes.ensures.goes.over
-
-pub returns-clause-limits : goal.returns-clause-limits
-returns-clause-limits g c = c.goes.ensures.goes.limits
-
-pub returns-clause-slot : goal.returns-clause-slot
-returns-clause-slot g c = c.goes.ensures.goes.slot
-
-pub returns-clause-unswept : goal.returns-clause-unswept
-returns-clause-unswept g c = c.goes.ensures.goes.unswept
 
 pub returns-clause-any_moment : goal.returns-clause-any_moment
 returns-clause-any_moment g c told r held x reaped runs heard = c.goes.ensures.any_moment told r held x reaped runs (sym (ap (λ (m : Met). m.child) c.goes.ensures.goes.met) ∙ heard) Command.Look tt

@@ -10,6 +10,7 @@ use Rattle.ip_store.specs.Changes.{HasAnswer, IsUndamaged}
 use Rattle.ip_store.specs.Collecting.{phase_of}
 use Rattle.ip_store.specs.Merging.{IsCourse}
 use Rattle.ip_store.specs.Store.{image_records}
+use Rattle.ip_store.proofs.Causing.{undamaged_causes}
 use Rattle.ip_store.proofs.Clearing.{noted_clear}
 use Rattle.ip_store.proofs.Forwarding.{forward_undamaged}
 use Rattle.ip_store.proofs.JoinedTrees.{at_head, forward_from, join_from}
@@ -343,3 +344,9 @@ returns-in-Join-clause-fronts g c told decides r held retained pending =
     let course = subst (IsCourse r (phase_of c.args.self.now.collection) c.in-Some.head c.args.number) c.in-Join.is (c.in-Ok.ensures r held.tables at.1 retained) in
     let join = join_from r (phase_of c.args.self.now.collection) c.args.branch.now c.in-Some.head c.args.number c.in-Join.base at.0 at.1 retained course in
     c.join.ensures.fronts told decides r held join pending
+
+-- ---- why not
+
+pub returns-in-Forward-clause-causes : goal.returns-in-Forward-clause-causes
+returns-in-Forward-clause-causes g c =
+    undamaged_causes g.G.Ground.tells (g.G.Ground.told c.args.outside.now) c.args.self.now.space c.noted-in-Forward.result (subst IsUndamaged (sym c.noted-in-Forward.ensures.answer) c.forward-answer.ensures.undamaged)

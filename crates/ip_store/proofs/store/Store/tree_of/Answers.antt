@@ -22,6 +22,7 @@ returns-in-Ok-clause-tree g c told r held retained =
     let root : IsRootOf records r c.args.number c.in-Ok.root = c.in-Ok.ensures.root told r held retained in
     record {
       at = at;
+      root = record { commit = root.commit; place = root.place; here = root.here; numbered = root.number; is = root.at };
       spelled = root.tree;
       view = c.of.ensures records map root.tree.0 (record { part = root.tree.1; kind = root.kind; name = root.name })
           (lawful_tree records good parts at map root.tree) (narrow_tree records good parts at map root.tree);

@@ -1,8 +1,10 @@
-use Rattle.std.proofs.Common.{rules, ◌≡◌, ℕ, ◌<◌, ◌≤◌, [], ◌∷◌, Some, sym, subst, arith}
+use Rattle.std.proofs.Common.{◌≡◌, ℕ, ◌<◌, ◌≤◌, List, [], ◌∷◌, Some, sym, subst, ap, ◌∙◌, arith}
+use Rattle.std.specs.Prelude.{◌++◌}
 use Rattle.std.proofs.lemmas.List.Elements.{All-from_recursion}
+use Rattle.ip_spec.specs.Machine as Machine
 use Rattle.ip_spec.specs.Repository.{Repository, next}
 use Rattle.ip_store.specs.Work.{AreParents}
-use Rattle.ip_store.proofs.phase_tests.work.Goals as goal
+use Rattle.ip_collect_tests.proofs.phase_tests.work.Goals as goal
 
 one_parent : (r : Repository) (least parent : ℕ) → parent < next r → least ≤ parent → AreParents r (Some least) (parent ∷ [])
 one_parent r least parent below from = record {
@@ -13,6 +15,8 @@ one_parent r least parent below from = record {
 }
 
 pub returns : goal.returns
+unfolding Machine.empty_work
 returns c r below =
-    let is : c.push.new.self ≡ c.args.parent ∷ [] = search rules in
+    let none : c.empty-work.result.parents ≡ [] = ap (λ (w : Machine.Work). w.parents) c.empty-work.ensures.begins in
+    let is : c.push.new.self ≡ c.args.parent ∷ [] = c.in_ok-push.ensures.ok ∙ ap (λ (parents : List ℕ). parents ++ c.args.parent ∷ []) none in
     subst (AreParents r (Some c.args.least)) (sym is) (one_parent r c.args.least c.args.parent below c.requires)
