@@ -3,7 +3,7 @@ use Rattle.std.proofs.Common.{◌≡◌, ℕ, zero, suc, ◌+◌, ◌-◌, ◌<�
 use Rattle.std.specs.List.{join_with_byte}
 use Rattle.ip_base.specs.PathText.{path_text}
 use Rattle.std.proofs.lemmas.List.Folds.{length-flat_map-take}
-use Rattle.std.proofs.lemmas.List.{take_rest}
+use Rattle.std.proofs.lemmas.List.{take_rest, take_at, drop_at, drop_all}
 
 pub put_one_more : {X : Type 0} (f : X → List ℕ) (xs : List X) (k : ℕ) (d : X) → k < length xs → flat_map f (take (suc k) xs) ≡ flat_map f (take k xs) ++ f (get_or xs k d)
 put_one_more f [] k d l = absurd (omega (arith, l))
@@ -61,6 +61,16 @@ pub path_parts : (first : List ℕ) (steps : List (List ℕ)) → 0 < length ste
 path_parts first [] some is = absurd (omega (arith, some))
 path_parts first (s ∷ steps) some is =
     ap (λ (t : List (List ℕ)). first ++ flat_map (λ (s : List ℕ). 47 ∷ s) t) (take_rest (s ∷ steps) 1) ∙ (ap (λ (t : List ℕ). t ++ flat_map (λ (s : List ℕ). 47 ∷ s) steps) is ∙ path_joined s steps)
+
+-- a text was made longer, and a piece as long was put there
+pub put_over : (old more lent piece rest : List ℕ) (start n : ℕ) → lent ≡ old ++ more → start ≡ length old → n ≡ length lent → length piece ≡ length more
+    → take n ((take start lent ++ (piece ++ drop (length lent - start) (drop start lent))) ++ drop (length (take start lent ++ (piece ++ drop (length lent - start) (drop start lent)))) rest) ≡ old ++ piece
+put_over old more lent piece rest start n is at all long =
+    let total : length lent ≡ length old + length more = ap length is ∙ length-append old more in
+    let front : take start lent ≡ old = ap (take start) is ∙ take_at old more start (sym at) in
+    let none : drop (length lent - start) (drop start lent) ≡ [] = ap (λ t. drop (length lent - start) t) (ap (drop start) is ∙ drop_at old more start (sym at)) ∙ drop_all (length lent - start) more (omega (arith, total, at)) in
+    let whole : take start lent ++ (piece ++ drop (length lent - start) (drop start lent)) ≡ old ++ piece = (λ i. front i ++ (piece ++ none i)) ∙ ap (λ t. old ++ t) (append-nil piece) in
+    ap (λ t. take n (t ++ drop (length t) rest)) whole ∙ take_at (old ++ piece) (drop (length (old ++ piece)) rest) n (omega (arith, length-append old piece, total, all, long))
 
 -- a text that is written in two pieces
 pub behind : (first second text old mid new : List ℕ) → first ++ second ≡ text → mid ≡ old ++ first → new ≡ mid ++ second → new ≡ old ++ text

@@ -13,5 +13,5 @@ pub use ip_spec::command::{Command, LineFault, Target};
 pub use ip_spec::reply::Reply;
 pub use line::{grammar, read_line};
 pub use load::{LOAD_LINE_MAX, load_line};
-pub use reply::{put_number, reply_text};
+pub use reply::{put_hex, put_number, reply_text};
 pub use source::{Bytes, Source, SourceCounts, SourceFault};

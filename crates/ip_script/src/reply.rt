@@ -1,10 +1,10 @@
 // The texts of replies. Each function writes at the end, and takes no memory where its text fits into what is spare.
-ghost use Rattle.std.specs.Prelude.{◌≡◌, ◌+◌, ◌<◌, ◌≤◌, ◌++◌, ◌∷◌, ◌/◌, ◌%◌, [], length, flat_map, vec_len, OnOk, OnErr, IsFalse};
+ghost use Rattle.std.specs.Prelude.{◌≡◌, ◌+◌, ◌<◌, ◌≤◌, ◌++◌, ◌∷◌, [], length, flat_map, vec_len, OnOk, OnErr, IsFalse};
 ghost use Rattle.std.specs.Vec.{vec_capacity};
 ghost use Rattle.std.specs.Fmt.{decimal};
 ghost use Rattle.std.specs.List.{join_with_byte};
 ghost use Rattle.ip_base.specs.PathText.{space, slash, path_text};
-ghost use Rattle.ip_spec.specs.Text.{digit, hex_text, reply_text, words_of, limit_text, exit_text, seen_text, kind_text, counted, phase_words, left_words, produced_text};
+ghost use Rattle.ip_spec.specs.Text.{hex_text, reply_text, words_of, limit_text, exit_text, seen_text, kind_text, counted, phase_words, left_words, produced_text};
 ghost use Rattle.ip_spec.specs.declared.reply.Reply.TheVariants as Reply;
 ghost use Rattle.ip_script.specs.Brief.{is_brief};
 
@@ -14,27 +14,15 @@ use ip_spec::reply::{Difference, Head, Produced, Reply, Seen};
 use ip_spec::tree::Item;
 use itoa::Buffer;
 
-#[tactic(auto, using(crate::proofs::HexDigits::pair_of, crate::proofs::HexDigits::ok_part))]
-fn put_byte(byte: u8, out: &mut Vec<u8>) -> Result<(), Memory>
-    ensures ok { OnOk result (out.new.items ≡ out.old.items ++ digit (byte / 16) ∷ digit (byte % 16) ∷ []) }
-    ensures room { OnErr result (vec_capacity out.old < vec_len out.old + 2) }
-    ensures capacity { vec_capacity out.old ≤ vec_capacity out.new }
-{
-    let mut pair = [0; 2];
-    hex::encode_to_slice([byte], &mut pair).unwrap();
-    Ok(out.extend_from_slice(&pair)?)
-}
-
 /// Writes bytes as lower-case hex digits at the end of a text. It takes no memory where they fit into what is spare.
-#[tactic(auto, using(crate::proofs::PutLemmas::put_more, crate::proofs::PutLemmas::put_none, crate::proofs::PutLemmas::put_long))]
 pub fn put_hex(bytes: &[u8], out: &mut Vec<u8>) -> Result<(), Memory>
     ensures ok { OnOk result (out.new.items ≡ out.old.items ++ hex_text bytes.now) }
     ensures room { OnErr result (vec_capacity out.old < vec_len out.old + length (hex_text bytes.now)) }
     ensures capacity { vec_capacity out.old ≤ vec_capacity out.new }
 {
-    for byte in bytes {
-        put_byte(*byte, out)?;
-    }
+    let start = out.len();
+    out.resize(start.saturating_add(2 * bytes.len()), 0)?;
+    hex::encode_to_slice(bytes, &mut out[start..]).unwrap();
     Ok(())
 }
 
