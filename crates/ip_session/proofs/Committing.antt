@@ -1,7 +1,8 @@
 -- What a session does that ran a commit.
 --     commit_goes      the store answered it.      commit_cut      a fault of the ground cut it short
+--     IsPast reply      it was done, or met a limit, so that (commit_there) its work was not given up
 --     has_answer      what has a reply is an answer
-use Rattle.std.proofs.Common.{◌≡◌, Bool, true, false, length, refl, sym, ap, subst, ◌∙◌, arith, Option, Some, Ok, Err, length-append, ◌++◌, ◌∷◌, []}
+use Rattle.std.proofs.Common.{◌≡◌, ℕ, Bool, true, false, length, refl, sym, ap, subst, ◌∙◌, arith, Option, Some, None, Ok, Err, length-append, ◌++◌, ◌∷◌, []}
 use Rattle.std.specs.Prelude.{Result, IfSome, IfOk, codes}
 use Rattle.std.proofs.lemmas.Option.{IfSome_then}
 use Rattle.ip_base.specs.declared.info.Info.{Info}
@@ -14,7 +15,7 @@ use Rattle.ip_spec.specs.Record.{Hash}
 use Rattle.ip_spec.specs.Repository.{Repository, next}
 use Rattle.ip_spec.specs.Machine.{Phase, State, Limit}
 use Rattle.ip_spec.specs.Machine.{Work as MachineWork}
-use Rattle.ip_spec.specs.Step.{Refused, ◌>>◌, refuse_if, or_refused, Turned, not_given_up, head_among_parents, not_leaving, room_for_branch, not_existing, new_commit, with_commit, is_short, outcome, answer, turned}
+use Rattle.ip_spec.specs.Step.{Refused, ◌>>◌, refuse_if, or_refused, Turned, below, unless_some, not_given_up, head_among_parents, not_leaving, room_for_branch, not_existing, new_commit, with_commit, is_short, outcome, answer, turned}
 use Rattle.ip_spec.specs.View.{View}
 use Rattle.ip_spec.specs.Text.{reply_text, hex_text}
 use Rattle.ip_store.specs.declared.store.Store.{Store}
@@ -24,11 +25,12 @@ use Rattle.ip_store.specs.Changes.{HasAnswer}
 use Rattle.ip_store.specs.Collecting.{phase_of}
 use Rattle.ip_store.specs.Commits.{fault_reply, met_nothing, reply_to, Answers, Turns, repository_after, Commits}
 use Rattle.ip_store.specs.declared.collection.Collection.{Collection}
-use Rattle.ip_store.specs.Work.{work_at, session}
+use Rattle.ip_store.specs.Work.{IsThere, work_at, session}
+use Rattle.ip_store.proofs.Phases.{there_none}
 use Rattle.ip_session.specs.declared.session.Session.{Session}
 use Rattle.ip_session.specs.Session.{unasked, IsWorking, met_only, conditions_of, IsLong, IsDurable, GoesBy, CutBy}
-use Rattle.ip_session.proofs.SessionLemmas.{at, commit_refused, hex_long}
-use Rattle.ip_session.proofs.DurableGoes.{IsWhole, IsTurn, turned_by, fault_so, done_so, reply_so, cut_so, Went, answered}
+use Rattle.ip_session.proofs.SessionLemmas.{at, heard_none, commit_refused, hex_long}
+use Rattle.ip_session.proofs.DurableGoes.{IsWhole, IsTurn, turned_by, unless_refused, fault_so, done_so, reply_so, cut_so, Went, answered}
 
 abbrev IsCommitted : Reply → Type 0
 IsCommitted (Reply.Committed name) = Unit {0}
@@ -61,6 +63,16 @@ alike_chain s (Ok u1) (Ok u2) (Ok u3) (Ok u4) (Err e) short_space short_sequence
 alike_chain s (Ok u1) (Ok u2) (Ok u3) (Ok u4) (Ok u5) true short_sequence t is = absurd is
 alike_chain s (Ok u1) (Ok u2) (Ok u3) (Ok u4) (Ok u5) false true t is = absurd is
 alike_chain s (Ok u1) (Ok u2) (Ok u3) (Ok u4) (Ok u5) false false t is = refl
+
+-- it was done, or a limit was met
+abbrev pub IsPast : Reply → Type 0
+IsPast (Reply.Committed name) = Unit {0}
+IsPast (Reply.Limit limit) = Unit {0}
+IsPast reply = ⊥
+
+past_chain : (s : State) (o : Option ℕ) (g2 g3 g4 g5 : Refused (Unit {0})) (short_space short_sequence : Bool) (t : Turned) → IsPast (or_refused s (chain (unless_some o Reply.GivenUp) g2 g3 g4 g5 short_space short_sequence t)).0 → o ≡ None
+past_chain s None g2 g3 g4 g5 short_space short_sequence t past = refl
+past_chain s (Some n) g2 g3 g4 g5 short_space short_sequence t past = absurd past
 
 durable_commit : (branch : Bytes) (info : Info) (reply : Reply) → IsCommitted reply → IsDurable reply (Command.Commit branch info)
 durable_commit branch info (Reply.Committed name) is = is
@@ -101,6 +113,14 @@ module _ (r : Repository) (phase : Phase) (w : MachineWork) (branch : Bytes) (in
 
   pub whole : IsWhole r phase w command after
   whole = record { quiet = quiet_commit; done = λ met is. after_is met (alike_commit met is); plain = λ met t e. e; refusable = commit_refused branch info; durable = refl }
+
+  past_commit : (met : Met) → IsPast (answer s command (conditions_of met)).0 → below r.floor w.least ≡ None
+  unfolding outcome
+  past_commit met past = past_chain s (below r.floor w.least) (head_among_parents s branch) (not_leaving s w.least) (room_for_branch r branch) (not_existing r named) (is_short Limit.Space met.short) (is_short Limit.Sequence met.short) done past
+
+  pub commit_there : (met : Met) (reply : Reply) (s' : State) → Turns s command met reply s' → IsPast reply → IsThere r w.least
+  commit_there met reply s' turns past = there_none r w.least
+      (unless_refused r phase w command after whole met (heard_none phase command tt met.child turns.0.child) reply s' turns.1 (λ x t. IsPast x → below r.floor w.least ≡ None) (λ no. absurd no) (past_commit met) past)
 
 -- ---- the text of a commit's name
 

@@ -6,8 +6,11 @@
 --     reply_so      of an answer that there is
 --     floor_stays      an answered call gives no commits up
 --     answered, unanswered      a fault that has a reply, and one that has none
+--     fault_ends, fault_counts, answer_counts      why the session ends by one that has none, and which faults were counted
 use Rattle.std.proofs.Common.{◌≡◌, inl, Bool, true, false, refl, sym, ap, ◌∙◌, subst, arith, Option, Some, None, Ok, Err}
 use Rattle.std.specs.Prelude.{Result, IfSome, MatchBool, if◌then◌else◌}
+use Rattle.ip_ground.specs.declared.names.GroundCounts.{GroundCounts}
+use Rattle.ip_ground.specs.Counts.{FileFault, CountsIf, Counts}
 use Rattle.ip_ground.specs.Told.{Told, NoFile, ChangesOnly}
 use Rattle.ip_ground.proofs.Spans.{only_more}
 use Rattle.ip_image.specs.Pending.{NothingPending}
@@ -27,6 +30,7 @@ use Rattle.ip_store.specs.declared.committing.StoreFault.{StoreFault}
 use Rattle.ip_store.specs.Changes.{HasAnswer, IsUndamaged, Changes}
 use Rattle.ip_store.specs.Collecting.{phase_of}
 use Rattle.ip_store.specs.Commits.{fault_reply}
+use Rattle.ip_store.specs.Faults.{ground_store}
 use Rattle.ip_store.specs.Commits as commits
 use Rattle.ip_store.specs.Store.{IsOf, Holds}
 use Rattle.ip_store.specs.Views.{IsViewAfter}
@@ -37,7 +41,8 @@ use Rattle.ip_store.proofs.KeptFiles.{keeps_store}
 use Rattle.ip_store.proofs.Recovering.{recovers_since}
 use Rattle.ip_store.proofs.Stepping.{of_store}
 use Rattle.ip_session.specs.declared.session.Session.{Session}
-use Rattle.ip_session.specs.Session.{unasked, attempt_of, hears, IsWorking, state_in, met_only, conditions_of, IsLong, is_durable, IsDurable, ChangedBy, TouchedBy, GoesBy, CutBy}
+use Rattle.ip_session.specs.declared.session.SessionEnd.{SessionEnd}
+use Rattle.ip_session.specs.Session.{unasked, attempt_of, hears, IsWorking, state_in, met_only, conditions_of, IsLong, is_durable, IsDurable, ChangedBy, TouchedBy, GoesBy, CutBy, EndsBy, EndsBecause, ground_end}
 use Rattle.ip_session.proofs.Changing.{changed_by, nothing_by, nothing_space, changed_so, touched_so, keeps_nothing}
 use Rattle.ip_session.proofs.SessionLemmas.{at, heard_none, unjudged, unsettled, nothing_kept, plainly, Refusable}
 
@@ -70,7 +75,7 @@ module _ (r : Repository) (phase : Phase) (w : MachineWork) (command : Command) 
 
   module _ (after : Repository) (whole : IsWhole after) (met : Met) (heard : met.child ≡ Child.NotAsked) (reply : Reply) (s' : State) (e : turned s command (conditions_of met) ≡ (reply, s')) where
     -- memory was refused, or this is the machine's answer
-    unless_refused : (P : Reply → State → Type 0) → P Reply.Memory s → P (answer s command (conditions_of met)).0 (answer s command (conditions_of met)).1 → P reply s'
+    pub unless_refused : (P : Reply → State → Type 0) → P Reply.Memory s → P (answer s command (conditions_of met)).0 (answer s command (conditions_of met)).1 → P reply s'
     unless_refused P refused answered = by met.refused refl
       where
         by : (b : Bool) → met.refused ≡ b → P reply s'
@@ -224,3 +229,22 @@ unanswered A (StoreFault.Limit limit) u e = absurd (cc e)
 unanswered A StoreFault.Memory u e = absurd (cc e)
 unanswered A StoreFault.Ground u e = refl
 unanswered A (StoreFault.Damaged at names) u e = absurd u
+
+-- files that others changed are never met where it is known what the store holds
+pub fault_ends : (A : Type 0) (made : Result A StoreFault) (end : SessionEnd) (held : Type 0) → EndsBecause made end → (held → IsUndamaged made) → EndsBy held end
+fault_ends A (Ok x) end held is sound = absurd is
+fault_ends A (Err StoreFault.Ground) end held is sound = subst (EndsBy held) (sym is) tt
+fault_ends A (Err (StoreFault.Damaged at_ names)) end held is sound = subst (EndsBy held) (sym is) sound
+fault_ends A (Err _) end held is sound = absurd is
+
+pub fault_counts : (A : Type 0) (made : Result A StoreFault) (end : SessionEnd) (old new : GroundCounts) → EndsBecause made end → Counts ground_store made old new → CountsIf FileFault (ground_end end) old new
+fault_counts A (Ok x) end old new is counts = absurd is
+fault_counts A (Err StoreFault.Ground) end old new is counts = subst (λ (e : SessionEnd). CountsIf FileFault (ground_end e) old new) (sym is) counts
+fault_counts A (Err (StoreFault.Damaged at_ names)) end old new is counts = subst (λ (e : SessionEnd). CountsIf FileFault (ground_end e) old new) (sym is) counts
+fault_counts A (Err _) end old new is counts = absurd is
+
+pub answer_counts : (A : Type 0) (made : Result A StoreFault) (old new : GroundCounts) → HasAnswer made → Counts ground_store made old new → new ≡ old
+answer_counts A (Ok x) old new has counts = counts
+answer_counts A (Err StoreFault.Ground) old new has counts = absurd has
+answer_counts A (Err (StoreFault.Damaged at_ names)) old new has counts = absurd has
+answer_counts A (Err _) old new has counts = counts

@@ -1,9 +1,9 @@
 -- What a look and a finish ask of the spawner, and what is counted meanwhile.
 --     Sees child end ran failed      what was answered of a child: how it ended, whether it runs, and whether the call failed.      seen_so, reaped_so      so by a look and by a wait
 --     Answered c      the child of a collection was asked.      finish_asked      what the command asks
---     as_answered, as_idle      the answer of a finish, as that of a look
+--     as_answered      the answer of a finish, as that of a look
 --     finish_counts, finish_quiet      what was counted.      finish_ends      how the session may end
-use Rattle.std.proofs.Common.{◌≡◌, ◌≢◌, ◌↔◌, ◌⊎◌, inl, inr, ℕ, zero, suc, ◌-◌, ◌^◌, ◌<◌, ◌≤◌, ◌++◌, Bool, true, false, List, [], ◌∷◌, refl, sym, ap, ◌∙◌, subst, arith, Option, Some, None, Ok, Err, IsTrue, append-nil}
+use Rattle.std.proofs.Common.{◌≡◌, ◌≢◌, ◌⊎◌, inl, inr, ℕ, zero, suc, ◌-◌, ◌^◌, ◌<◌, ◌≤◌, ◌++◌, Bool, true, false, List, [], ◌∷◌, refl, sym, ap, ◌∙◌, subst, arith, Option, Some, None, Ok, Err, IsTrue, append-nil}
 use Rattle.std.specs.Prelude.{Result, IfOk, IfErr, IfSome, IsSomeAnd, is_some, is_ok, is_err}
 use Rattle.ip_ground.specs.declared.names.GroundCounts.{GroundCounts}
 use Rattle.ip_ground.specs.declared.names.Reaped.{Reaped}
@@ -71,9 +71,6 @@ as_answered P (Err fault) says = says
 pub idle_back : (done : Result Collected FinishFault) → as_look done ≡ Err FinishFault.Idle → done ≡ Err FinishFault.Idle
 idle_back (Ok collected) is = absurd (cc is)
 idle_back (Err fault) is = (let same : fault ≡ FinishFault.Idle = cc is in ap Err same)
-
-pub as_idle : (P : Type 0) (done : Result Collected FinishFault) → P ↔ (done ≡ Err FinishFault.Idle) → P ↔ (as_look done ≡ Err FinishFault.Idle)
-as_idle P done either = (λ p. ap as_look (either.0 p), λ is. either.1 (idle_back done is))
 
 -- ---- what is asked
 

@@ -2,13 +2,11 @@
 --     merge_goes      the store answered it.      merge_cut      a fault of the ground or of its files cut it short
 --     unmerged_goes      no commit has the name that was given.      merge_serves      the session goes on serving, whatever is told
 --     merge_placed, unmerged_placed      where its records lie
---     has_reply      what has a reply is an answer.      merge_ends, merge_counts, answer_counts      what comes of one that has none, and which faults were counted
+--     has_reply      what has a reply is an answer
 use Rattle.std.proofs.Common.{◌≡◌, ◌≢◌, ℕ, false, [], ◌∷◌, ◌++◌, length, refl, sym, ap, subst, arith, Option, Some, None, Ok, Err, length-append}
 use Rattle.std.specs.Prelude.{Result, MatchResult, IfSome, codes}
 use Rattle.ip_base.specs.declared.info.Info.{Info}
 use Rattle.ip_base.specs.declared.limit.Limit.TheVariants as Limit
-use Rattle.ip_ground.specs.declared.names.GroundCounts.{GroundCounts}
-use Rattle.ip_ground.specs.Counts.{FileFault, CountsIf, Counts}
 use Rattle.ip_ground.specs.Told.{Told, NoFile, ChangesOnly}
 use Rattle.ip_ground.proofs.Spans.{only_more, only_nowhere}
 use Rattle.ip_image.specs.Headline.{IsAtomic}
@@ -31,8 +29,7 @@ use Rattle.ip_store.specs.declared.collection.Unswept.{Unswept}
 use Rattle.ip_store.specs.declared.committing.StoreFault.{StoreFault}
 use Rattle.ip_store.specs.declared.merging.Merge.{Merge}
 use Rattle.ip_store.specs.declared.store.Store.{Store}
-use Rattle.ip_store.specs.Changes.{HasAnswer, IsUndamaged, Changes}
-use Rattle.ip_store.specs.Faults.{ground_store}
+use Rattle.ip_store.specs.Changes.{HasAnswer, Changes}
 use Rattle.ip_store.specs.Merging.{merge_reply, GoesOnFrom, AnswersMerge, MergesAtMoments, AppendsMerge, LimitsMerge}
 use Rattle.ip_store.specs.Publishing.{MayChange}
 use Rattle.ip_store.specs.Store.{Holds, image_records}
@@ -45,9 +42,8 @@ use Rattle.ip_store.proofs.Stepping.{holds_still, of_store}
 use Rattle.ip_store.proofs.KeptFiles.{keeps_store}
 use Rattle.ip_store.proofs.Works.{works_stay}
 use Rattle.ip_session.specs.declared.session.Session.{Session}
-use Rattle.ip_session.specs.declared.session.SessionEnd.{SessionEnd}
 use Rattle.ip_session.specs.Placing.{HasCollected, PlacedBy}
-use Rattle.ip_session.specs.Session.{ground_end, IsServing, IsWorking, state_in, met_only, conditions_of, IsLong, IsDurable, attempt_of, hears, ChangedBy, TouchedBy, OnlyBy, GoesBy, CutBy, EndsBy, EndsBecause, IsNamed}
+use Rattle.ip_session.specs.Session.{IsServing, IsWorking, state_in, met_only, conditions_of, IsLong, IsDurable, attempt_of, hears, ChangedBy, TouchedBy, OnlyBy, GoesBy, CutBy, IsNamed}
 use Rattle.ip_session.proofs.SessionLemmas.{at, plainly, heard_none, unjudged, unsettled, hex_long, merge_refused}
 use Rattle.ip_session.proofs.Referring.{IsUnnamed, NamesNone, names_none}
 use Rattle.ip_session.proofs.Changing.{nothing_by, nothing_space, keeps_nothing}
@@ -72,25 +68,6 @@ merged_is_short name long_name long =
 pub has_reply : (branch : Bytes) (made : Result Merge StoreFault) (reply : Reply) → merge_reply branch made ≡ Some reply → HasAnswer made
 has_reply branch (Ok merge) reply e = tt
 has_reply branch (Err fault) reply e = answered Merge fault reply e
-
--- files that others changed are never met where it is known what the store holds
-pub merge_ends : (made : Result Merge StoreFault) (end : SessionEnd) (held : Type 0) → EndsBecause made end → (held → IsUndamaged made) → EndsBy held end
-merge_ends (Ok merge) end held is sound = absurd is
-merge_ends (Err StoreFault.Ground) end held is sound = subst (EndsBy held) (sym is) tt
-merge_ends (Err (StoreFault.Damaged at_ names)) end held is sound = subst (EndsBy held) (sym is) sound
-merge_ends (Err _) end held is sound = absurd is
-
-pub merge_counts : (made : Result Merge StoreFault) (end : SessionEnd) (old new : GroundCounts) → EndsBecause made end → Counts ground_store made old new → CountsIf FileFault (ground_end end) old new
-merge_counts (Ok merge) end old new is counts = absurd is
-merge_counts (Err StoreFault.Ground) end old new is counts = subst (λ (e : SessionEnd). CountsIf FileFault (ground_end e) old new) (sym is) counts
-merge_counts (Err (StoreFault.Damaged at_ names)) end old new is counts = subst (λ (e : SessionEnd). CountsIf FileFault (ground_end e) old new) (sym is) counts
-merge_counts (Err _) end old new is counts = absurd is
-
-pub answer_counts : (branch : Bytes) (made : Result Merge StoreFault) (reply : Reply) (old new : GroundCounts) → merge_reply branch made ≡ Some reply → Counts ground_store made old new → new ≡ old
-answer_counts branch (Ok merge) reply old new e counts = counts
-answer_counts branch (Err StoreFault.Ground) reply old new e counts = absurd (cc e)
-answer_counts branch (Err (StoreFault.Damaged at_ names)) reply old new e counts = absurd (cc e)
-answer_counts branch (Err _) reply old new e counts = counts
 
 pub merge_serves : (r : Repository) (s : Session) (store : Store) (met : Met) → AreParents r s.work.least s.work.parents → (after : Repository) × GoesOnFrom r store after → IsServing (record s { store = store; met = met })
 merge_serves r s store met parents (after, on) = (after, (on.tables, on.parents s.work.least s.work.parents parents))

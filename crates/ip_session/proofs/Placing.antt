@@ -4,7 +4,7 @@
 --     read_placed      a command that may only read
 --     lined_placed      the line that spells a command.      quiet_placed      a line with a reply of none
 use Rattle.std.proofs.Common.{◌≡◌, ◌≢◌, ℕ, ◌+◌, ◌^◌, ◌<◌, ◌≤◌, Bool, true, false, [], ◌∷◌, refl, sym, ap, ◌∙◌, subst, arith, length, length-append, Ok, Err, Some, IsTrue}
-use Rattle.std.specs.Prelude.{Result, OnOk, IfOk}
+use Rattle.std.specs.Prelude.{List, Option, Result, All, OnOk, IfOk, IfSome}
 use Rattle.ip_base.specs.declared.info.Info.{Info}
 use Rattle.ip_ground.specs.declared.names.FileName.TheVariants.{Control}
 use Rattle.ip_ground.specs.Told.{Told, NoFile, ChangesOnly}
@@ -12,12 +12,12 @@ use Rattle.ip_spec.specs.declared.command.Command.{Command}
 use Rattle.ip_spec.specs.declared.command.Target.{Target}
 use Rattle.ip_spec.specs.declared.record.Record.TheVariants as Record
 use Rattle.ip_spec.specs.declared.reply.Reply.{Reply}
-use Rattle.ip_spec.specs.Batch.{AreEndToEnd, sources}
+use Rattle.ip_spec.specs.Batch.{AreEndToEnd, reusing_sources}
 use Rattle.ip_spec.specs.Machine.{State, Limit}
 use Rattle.ip_spec.specs.Merge.{Rule}
 use Rattle.ip_spec.specs.Path.{Bytes}
 use Rattle.ip_spec.specs.Record.{Hash, spelling, spelling_of}
-use Rattle.ip_spec.specs.Repository.{Repository}
+use Rattle.ip_spec.specs.Repository.{Repository, is_retained}
 use Rattle.ip_spec.specs.Step.{resolve, with_branch}
 use Rattle.ip_spec.specs.TreeAt.{Records}
 use Rattle.ip_spec.specs.View.{View}
@@ -30,18 +30,23 @@ use Rattle.ip_image.proofs.Renaming.{spelled_is}
 use Rattle.ip_store.specs.declared.collection.Unswept.{Unswept}
 use Rattle.ip_store.specs.declared.committing.StoreFault.{StoreFault}
 use Rattle.ip_store.specs.declared.store.Store.{Store}
+use Rattle.ip_store.specs.declared.work.Work.{Work}
 use Rattle.ip_store.specs.Changes.{Changes, LimitsSpace, Appends, next_slot}
 use Rattle.ip_store.specs.Collecting.{phase_of, carrying, carried}
-use Rattle.ip_store.specs.Commits.{fault_reply, reply_to, records_of, end_of, Commits}
+use Rattle.ip_store.specs.Commits.{fault_reply, reply_to, first_parent, first_view, records_of, end_of, Answers, Commits}
 use Rattle.ip_store.specs.Naming.{branch_reply, removed_reply, without_branch}
-use Rattle.ip_store.specs.Store.{Holds}
+use Rattle.ip_store.specs.Store.{Holds, image_records}
+use Rattle.ip_store.specs.Work.{session, work_at}
+use Rattle.ip_store.proofs.FirstTree.{first_stored}
+use Rattle.ip_store.proofs.Phases.{retained_parents}
 use Rattle.ip_store.proofs.Recovering.{held_has}
 use Rattle.ip_session.specs.declared.session.Session.{Session}
 use Rattle.ip_session.specs.declared.session.SessionEnd.{SessionEnd}
 use Rattle.ip_session.specs.Asking.{MayReap}
 use Rattle.ip_session.specs.Session.{unasked, IsWorking, state_in, is_durable, IsDurable, HasRead}
-use Rattle.ip_session.specs.Placing.{HasCollected, named_record, appended, commits_in, slot_behind, AttemptsLeft, IsAppended, OfRecords, PlacedBy, PlacedIn}
+use Rattle.ip_session.specs.Placing.{HasCollected, IsFirst, named_record, appended, slot_behind, AttemptsLeft, IsAppended, OfRecords, PlacedBy, PlacedIn}
 use Rattle.ip_session.proofs.Referring.{IsUnnamed, NamesNone, names_none}
+use Rattle.ip_session.proofs.Committing.{IsPast, commit_there}
 use Rattle.ip_session.proofs.DurableGoes.{answered}
 use Rattle.ip_session.proofs.Changing.{none_durable}
 
@@ -62,15 +67,11 @@ lie_long from (x ∷ xs) to (at, lies) =
     let rest = lie_long (from + length (spelling x.1)) xs to lies in
     omega (arith, rest, length-append (spelling x.1) (bytes_of_records xs))
 
-abbrev length_of : Slot → State → View → Command → ℕ
-length_of slot s v command = length (bytes_of_records (appended slot s v command))
+abbrev length_of : Slot → State → Command → ℕ
+length_of slot s command = length (bytes_of_records (appended slot s command))
 
--- it is no merge, so its records are these
-abbrev IsPlain : Slot → State → View → Command → Type 0
-IsPlain slot s v command = IsAppended unasked slot s v command (appended slot s v command) (commits_in command)
-
-of_these : (slot : Slot) (s : State) (v : View) (command : Command) (Says : (length commits : ℕ) → Type 0) → IsPlain slot s v command → Says (length_of slot s v command) (commits_in command) → OfRecords (IsAppended unasked slot s v command) Says
-of_these slot s v command Says plain so = record { more = appended slot s v command; commits = commits_in command; are = plain; so = so }
+of_these : (slot : Slot) (s : State) (v : View) (command : Command) (more : Records) (commits : ℕ) (Says : (length commits : ℕ) → Type 0) → IsAppended unasked slot s v command more commits → Says (length (bytes_of_records more)) commits → OfRecords (IsAppended unasked slot s v command) Says
+of_these slot s v command more commits Says are so = record { more = more; commits = commits; are = are; so = so }
 
 -- a command that may reap a child appends no records
 never_reaps : (command : Command) (reply : Reply) → MayReap command → ¬ IsDurable reply command
@@ -80,11 +81,11 @@ never_reaps Command.Cancel reply may done = none_durable reply Command.Cancel re
 never_reaps _ reply may done = absurd may
 
 module _ (slot : Slot) (u : Unswept) (slot' : Slot) (s : State) (v : View) (command : Command) (reply : Reply) where
-  -- the store did it
-  did : IsPlain slot s v command → IsDurable reply command → ((l : Limit) → reply ≢ Reply.Limit l) → ((target : Target) → command ≢ Command.Collect target) → slot' ≡ slot_behind command (carrying slot u) (length_of slot s v command) (commits_in command)
-      → (slot.end + length_of slot s v command ≤ 2 ^ 62) × (slot.sequence < 2 ^ 62) → PlacedBy unasked slot u slot' s v command reply
-  did plain done none other slot_is enough = record {
-    done = λ _. of_these slot s v command _ plain (slot_is, enough.0, enough.1);
+  -- the store did it, by these records
+  did : (more : Records) (commits : ℕ) → IsAppended unasked slot s v command more commits → IsDurable reply command → ((l : Limit) → reply ≢ Reply.Limit l) → ((target : Target) → command ≢ Command.Collect target)
+      → slot' ≡ slot_behind command (carrying slot u) (length (bytes_of_records more)) commits → (slot.end + length (bytes_of_records more) ≤ 2 ^ 62) × (slot.sequence < 2 ^ 62) → PlacedBy unasked slot u slot' s v command reply
+  did more commits are done none other slot_is enough = record {
+    done = λ _. of_these slot s v command more commits _ are (slot_is, enough.0, enough.1);
     quiet = λ quiet _. absurd (quiet done);
     collected = λ floor left may is. absurd (never_reaps command reply may done);
     ended = λ may limit. absurd (none Limit.Sequence limit);
@@ -105,50 +106,70 @@ module _ (slot : Slot) (u : Unswept) (slot' : Slot) (s : State) (v : View) (comm
     attempt = left;
   }
 
--- the store refused it
-refused : {A : Type 0} (slot : Slot) (u : Unswept) (slot' : Slot) (s : State) (v : View) (command : Command) (fault : StoreFault) (reply : Reply) (store : Store) → IsPlain slot s v command → ((target : Target) → command ≢ Command.Collect target) → ¬ MayReap command → fault_reply fault ≡ Some reply → store.slot ≡ slot
-    → LimitsSpace {A = A} (slot.end + length_of slot s v command) (Err fault) store → slot' ≡ slot → PlacedBy unasked slot u slot' s v command reply
-refused slot u slot' s v command (StoreFault.GivenUp number) reply store plain other reaps e at limits same = let is : Reply.GivenUp number ≡ reply = cc e in subst (PlacedBy unasked slot u slot' s v command) is (unmoved slot u slot' s v command (Reply.GivenUp number) unasked (λ h. h) (λ h. h) (λ l is. absurd (cc is)) (λ target is. absurd (other target is)) same)
-refused slot u slot' s v command (StoreFault.Leaving number) reply store plain other reaps e at limits same = let is : Reply.Leaving number ≡ reply = cc e in subst (PlacedBy unasked slot u slot' s v command) is (unmoved slot u slot' s v command (Reply.Leaving number) unasked (λ h. h) (λ h. h) (λ l is. absurd (cc is)) (λ target is. absurd (other target is)) same)
-refused slot u slot' s v command (StoreFault.HeadMoved name) reply store plain other reaps e at limits same = let is : Reply.HeadMoved name ≡ reply = cc e in subst (PlacedBy unasked slot u slot' s v command) is (unmoved slot u slot' s v command (Reply.HeadMoved name) unasked (λ h. h) (λ h. h) (λ l is. absurd (cc is)) (λ target is. absurd (other target is)) same)
-refused slot u slot' s v command (StoreFault.Existing name) reply store plain other reaps e at limits same = let is : Reply.Existing name ≡ reply = cc e in subst (PlacedBy unasked slot u slot' s v command) is (unmoved slot u slot' s v command (Reply.Existing name) unasked (λ h. h) (λ h. h) (λ l is. absurd (cc is)) (λ target is. absurd (other target is)) same)
-refused slot u slot' s v command (StoreFault.Limit limit) reply store plain other reaps e at limits same =
+-- the store refused it, by these records where a limit is met
+refused : {A : Type 0} (slot : Slot) (u : Unswept) (slot' : Slot) (s : State) (v : View) (command : Command) (more : Records) (commits : ℕ) (fault : StoreFault) (reply : Reply) (store : Store) → ((l : Limit) → reply ≡ Reply.Limit l → IsAppended unasked slot s v command more commits)
+    → ((target : Target) → command ≢ Command.Collect target) → ¬ MayReap command → fault_reply fault ≡ Some reply → store.slot ≡ slot → LimitsSpace {A = A} (slot.end + length (bytes_of_records more)) (Err fault) store → slot' ≡ slot → PlacedBy unasked slot u slot' s v command reply
+refused slot u slot' s v command more commits (StoreFault.GivenUp number) reply store are other reaps e at limits same = let is : Reply.GivenUp number ≡ reply = cc e in subst (PlacedBy unasked slot u slot' s v command) is (unmoved slot u slot' s v command (Reply.GivenUp number) unasked (λ h. h) (λ h. h) (λ l is. absurd (cc is)) (λ target is. absurd (other target is)) same)
+refused slot u slot' s v command more commits (StoreFault.Leaving number) reply store are other reaps e at limits same = let is : Reply.Leaving number ≡ reply = cc e in subst (PlacedBy unasked slot u slot' s v command) is (unmoved slot u slot' s v command (Reply.Leaving number) unasked (λ h. h) (λ h. h) (λ l is. absurd (cc is)) (λ target is. absurd (other target is)) same)
+refused slot u slot' s v command more commits (StoreFault.HeadMoved name) reply store are other reaps e at limits same = let is : Reply.HeadMoved name ≡ reply = cc e in subst (PlacedBy unasked slot u slot' s v command) is (unmoved slot u slot' s v command (Reply.HeadMoved name) unasked (λ h. h) (λ h. h) (λ l is. absurd (cc is)) (λ target is. absurd (other target is)) same)
+refused slot u slot' s v command more commits (StoreFault.Existing name) reply store are other reaps e at limits same = let is : Reply.Existing name ≡ reply = cc e in subst (PlacedBy unasked slot u slot' s v command) is (unmoved slot u slot' s v command (Reply.Existing name) unasked (λ h. h) (λ h. h) (λ l is. absurd (cc is)) (λ target is. absurd (other target is)) same)
+refused slot u slot' s v command more commits (StoreFault.Limit limit) reply store are other reaps e at limits same =
     let is : Reply.Limit limit ≡ reply = cc e in
     subst (PlacedBy unasked slot u slot' s v command) is (record {
       done = λ done. absurd done;
       quiet = λ quiet _. same;
       collected = λ floor left may is. absurd (cc is);
       ended = λ may is. absurd (reaps may);
-      space = λ _ is. of_these slot s v command _ plain (limits.space (cc is));
-      sequence = λ _ is. let both = limits.sequence (cc is) in of_these slot s v command _ plain (both.0, ap (λ (t : Slot). t.sequence) (sym at) ∙ both.1);
+      space = λ _ limit. of_these slot s v command more commits _ (are Limit.Space (sym is ∙ limit)) (limits.space (cc limit));
+      sequence = λ _ limit. let both = limits.sequence (cc limit) in of_these slot s v command more commits _ (are Limit.Sequence (sym is ∙ limit)) (both.0, ap (λ (t : Slot). t.sequence) (sym at) ∙ both.1);
       attempt = λ target is. absurd (other target is);
     })
-refused slot u slot' s v command StoreFault.Memory reply store plain other reaps e at limits same = let is : Reply.Memory ≡ reply = cc e in subst (PlacedBy unasked slot u slot' s v command) is (unmoved slot u slot' s v command Reply.Memory unasked (λ h. h) (λ h. h) (λ l is. absurd (cc is)) (λ target is. absurd (other target is)) same)
-refused slot u slot' s v command StoreFault.Ground reply store plain other reaps e at limits same = absurd (cc e)
-refused slot u slot' s v command (StoreFault.Damaged at_ names) reply store plain other reaps e at limits same = absurd (cc e)
+refused slot u slot' s v command more commits StoreFault.Memory reply store are other reaps e at limits same = let is : Reply.Memory ≡ reply = cc e in subst (PlacedBy unasked slot u slot' s v command) is (unmoved slot u slot' s v command Reply.Memory unasked (λ h. h) (λ h. h) (λ l is. absurd (cc is)) (λ target is. absurd (other target is)) same)
+refused slot u slot' s v command more commits StoreFault.Ground reply store are other reaps e at limits same = absurd (cc e)
+refused slot u slot' s v command more commits (StoreFault.Damaged at_ names) reply store are other reaps e at limits same = absurd (cc e)
 
 -- ---- the durable commands
+
+-- the tree of the first parent, as its commit's record refers to it
+first_is : (store : Store) (told : Told) (r : Repository) (held : Holds store told r) (parents : List ℕ) → All (λ n. IsTrue (is_retained r n)) parents → IsFirst r parents (first_view (image_records held) store r parents)
+first_is store told r held [] all = refl
+first_is store told r held (n ∷ parents) all = first_stored store told r held n parents all
 
 module _ (a b : Told) (s : Session) (store : Store) (r : Repository) (v : View) (here : IsWorking a s r v) where
   abbrev At : Command → Reply → Type 0
   At command reply = PlacedBy unasked s.store.slot s.store.unswept store.slot (state_in s r v) v command reply
 
-  module _ (branch : Bytes) (info : Info) where
+  module _ (branch : Bytes) (info : Info) (work : Work) where
     abbrev committing : Command
     committing = Command.Commit branch info
 
-    length_is : end_of r s.work v branch info s.store ≡ s.store.slot.end + length_of s.store.slot (state_in s r v) v committing
-    length_is = lie_long s.store.slot.end (records_of r s.work v branch info s.store) (end_of r s.work v branch info s.store) (batch_lies v (sources v) (fields_of r s.work.parents info branch) s.store.slot.end)
+    abbrev Machine : Reply → Type 0
+    Machine reply = Answers b (session r (phase_of s.store.collection) s.work v) v committing store.met reply store work
 
-    pub commit_placed : (made : Result Hash StoreFault) (reply : Reply) → reply_to made ≡ Some reply → Commits r (phase_of s.store.collection) s.work v branch info made store a b → LimitsSpace (end_of r s.work v branch info s.store) made s.store
-        → OnOk made (Appends (records_of r s.work v branch info s.store) 1 s.store store a b) → At committing reply
-    commit_placed (Ok name) reply e does limits appends =
+    abbrev put : Records
+    put = records_of r s.work v (first_parent here) branch info s.store
+
+    abbrev put_end : ℕ
+    put_end = end_of r s.work v (first_parent here) branch info s.store
+
+    length_is : put_end ≡ s.store.slot.end + length (bytes_of_records put)
+    length_is = lie_long s.store.slot.end put put_end (batch_lies v (reusing_sources v (first_parent here)) (fields_of r s.work.parents info branch) s.store.slot.end)
+
+    -- its parents are there, so the store has the first one's tree
+    are_put : (reply : Reply) → Machine reply → IsPast reply → IsAppended unasked s.store.slot (state_in s r v) v committing put 1
+    are_put reply A past =
+        let there = commit_there r (phase_of s.store.collection) (work_at s.work v) branch info store.met reply (session A.after (phase_of s.store.collection) work A.view) A.turns past in
+        (first_parent here, first_is s.store a r here.holds s.work.parents (retained_parents r s.work.least s.work.parents here.lawful.parents there), refl, refl)
+
+    pub commit_placed : (made : Result Hash StoreFault) (reply : Reply) → reply_to made ≡ Some reply → IfSome (reply_to made) Machine → Commits r (phase_of s.store.collection) s.work v branch info made store a b → LimitsSpace put_end made s.store
+        → OnOk made (Appends put 1 s.store store a b) → At committing reply
+    commit_placed (Ok name) reply e A does limits appends =
         let is : Reply.Committed name ≡ reply = cc e in
-        subst (At committing) is (did s.store.slot s.store.unswept store.slot (state_in s r v) v committing (Reply.Committed name) (refl, refl) tt (λ l is. absurd (cc is)) (λ t is. absurd (cc is)) appends.slot
+        subst (At committing) is (did s.store.slot s.store.unswept store.slot (state_in s r v) v committing (Reply.Committed name) put 1 (are_put (Reply.Committed name) A tt) tt (λ l is. absurd (cc is)) (λ t is. absurd (cc is)) appends.slot
         (subst (λ (n : ℕ). n ≤ 2 ^ 62) length_is limits.enough.0, limits.enough.1))
-    commit_placed (Err fault) reply e does limits appends =
+    commit_placed (Err fault) reply e A does limits appends =
         let still = does.refused (refl, answered Hash fault reply e) in
-        refused {A = Hash} s.store.slot s.store.unswept store.slot (state_in s r v) v committing fault reply s.store (refl, refl) (λ t is. absurd (cc is)) (λ may. may) e refl
+        refused {A = Hash} s.store.slot s.store.unswept store.slot (state_in s r v) v committing put 1 fault reply s.store (λ l limit. are_put reply (subst (λ (o : Option Reply). IfSome o Machine) e A) (subst IsPast (sym limit) tt)) (λ t is. absurd (cc is)) (λ may. may) e refl
         (subst (λ (n : ℕ). LimitsSpace {A = Hash} n (Err fault) s.store) length_is limits)
         (still_slot s.store store r r a b here.holds still.1 still.0)
 
@@ -156,22 +177,22 @@ module _ (a b : Told) (s : Session) (store : Store) (r : Repository) (v : View) 
     abbrev setting : Command
     setting = Command.Branch name target
 
-    set_length : length (spelling (Record.BranchSet n name)) ≡ length_of s.store.slot (state_in s r v) v setting
+    set_length : length (spelling (Record.BranchSet n name)) ≡ length_of s.store.slot (state_in s r v) setting
     set_length = ap length (spelled_is s.store.slot.end (Record.BranchSet n name)) ∙ ap (λ (x : Result ℕ Reply). length (bytes_of_records (named_record s.store.slot.end name x))) (sym named)
 
-    set_end : s.store.slot.end + length (spelling (Record.BranchSet n name)) ≡ s.store.slot.end + length_of s.store.slot (state_in s r v) v setting
+    set_end : s.store.slot.end + length (spelling (Record.BranchSet n name)) ≡ s.store.slot.end + length_of s.store.slot (state_in s r v) setting
     set_end = ap (λ (k : ℕ). s.store.slot.end + k) set_length
 
     pub set_placed : (made : Result (Unit {0}) StoreFault) (reply : Reply) → branch_reply made ≡ Some reply → Changes r (with_branch r name n) made store a b → LimitsSpace (s.store.slot.end + length (spelling (Record.BranchSet n name))) made s.store
         → OnOk made (Appends ((s.store.slot.end, Record.BranchSet n name) ∷ []) 0 s.store store a b) → At setting reply
     set_placed (Ok u) reply e does limits appends =
         let is : Reply.Accepted ≡ reply = cc e in
-        subst (At setting) is (did s.store.slot s.store.unswept store.slot (state_in s r v) v setting Reply.Accepted (refl, refl) tt (λ l is. absurd (cc is)) (λ t is. absurd (cc is))
+        subst (At setting) is (did s.store.slot s.store.unswept store.slot (state_in s r v) v setting Reply.Accepted (appended s.store.slot (state_in s r v) setting) 0 (refl, refl) tt (λ l is. absurd (cc is)) (λ t is. absurd (cc is))
         (appends.slot ∙ ap (λ (k : ℕ). next_slot (carried s.store) k 0) (sym (ap length (spelled_is s.store.slot.end (Record.BranchSet n name))) ∙ set_length))
         (subst (λ (k : ℕ). k ≤ 2 ^ 62) set_end limits.enough.0, limits.enough.1))
     set_placed (Err fault) reply e does limits appends =
         let still = does.refused (refl, answered (Unit {0}) fault reply e) in
-        refused {A = Unit {0}} s.store.slot s.store.unswept store.slot (state_in s r v) v setting fault reply s.store (refl, refl) (λ t is. absurd (cc is)) (λ may. may) e refl
+        refused {A = Unit {0}} s.store.slot s.store.unswept store.slot (state_in s r v) v setting (appended s.store.slot (state_in s r v) setting) 0 fault reply s.store (λ l limit. (refl, refl)) (λ t is. absurd (cc is)) (λ may. may) e refl
         (subst (λ (k : ℕ). LimitsSpace {A = Unit {0}} k (Err fault) s.store) set_end limits)
         (still_slot s.store store r r a b here.holds still.1 still.0)
 
@@ -179,10 +200,10 @@ module _ (a b : Told) (s : Session) (store : Store) (r : Repository) (v : View) 
     abbrev removing : Command
     removing = Command.BranchRm name
 
-    remove_length : length (spelling (Record.BranchRemove name)) ≡ length_of s.store.slot (state_in s r v) v removing
+    remove_length : length (spelling (Record.BranchRemove name)) ≡ length_of s.store.slot (state_in s r v) removing
     remove_length = ap length (spelled_is s.store.slot.end (Record.BranchRemove name))
 
-    remove_end : s.store.slot.end + length (spelling (Record.BranchRemove name)) ≡ s.store.slot.end + length_of s.store.slot (state_in s r v) v removing
+    remove_end : s.store.slot.end + length (spelling (Record.BranchRemove name)) ≡ s.store.slot.end + length_of s.store.slot (state_in s r v) removing
     remove_end = ap (λ (k : ℕ). s.store.slot.end + k) remove_length
 
     pub remove_placed : (made : Result Bool StoreFault) (reply : Reply) → removed_reply name made ≡ Some reply → Changes r (without_branch r name) made store a b
@@ -191,7 +212,7 @@ module _ (a b : Told) (s : Session) (store : Store) (r : Repository) (v : View) 
     remove_placed (Ok true) reply e does limits absent appends =
         let limits = limits (λ is. absurd (cc is)) in
         let is : Reply.Accepted ≡ reply = cc e in
-        subst (At removing) is (did s.store.slot s.store.unswept store.slot (state_in s r v) v removing Reply.Accepted (refl, refl) tt (λ l is. absurd (cc is)) (λ t is. absurd (cc is)) (appends refl).slot
+        subst (At removing) is (did s.store.slot s.store.unswept store.slot (state_in s r v) v removing Reply.Accepted (appended s.store.slot (state_in s r v) removing) 0 (refl, refl) tt (λ l is. absurd (cc is)) (λ t is. absurd (cc is)) (appends refl).slot
         (subst (λ (k : ℕ). k ≤ 2 ^ 62) remove_end limits.enough.0, limits.enough.1))
     remove_placed (Ok false) reply e does limits absent appends =
         let is : Reply.NoBranch name ≡ reply = cc e in
@@ -199,7 +220,7 @@ module _ (a b : Told) (s : Session) (store : Store) (r : Repository) (v : View) 
         (same_slot s.store store r (without_branch r name) a b here.holds does.ok (ap (λ (told : Told). told.held Control) (absent refl))))
     remove_placed (Err fault) reply e does limits absent appends =
         let still = does.refused (refl, answered Bool fault reply e) in
-        refused {A = Bool} s.store.slot s.store.unswept store.slot (state_in s r v) v removing fault reply s.store (refl, refl) (λ t is. absurd (cc is)) (λ may. may) e refl
+        refused {A = Bool} s.store.slot s.store.unswept store.slot (state_in s r v) v removing (appended s.store.slot (state_in s r v) removing) 0 fault reply s.store (λ l limit. (refl, refl)) (λ t is. absurd (cc is)) (λ may. may) e refl
         (subst (λ (k : ℕ). LimitsSpace {A = Bool} k (Err fault) s.store) remove_end (limits (λ is. absurd (cc is))))
         (still_slot s.store store r r a b here.holds still.1 still.0)
 

@@ -45,6 +45,7 @@ use Rattle.ip_store.specs.Collecting.{IsPhaseOf, phase_of}
 use Rattle.ip_store.proofs.Machine.{AsksNone, asks_none, unkept}
 use Rattle.ip_store.proofs.Phases.{retained_is}
 use Rattle.ip_session.specs.declared.session.Session.{Session}
+use Rattle.ip_session.specs.declared.session.TheConstants.{REPLY_ROOM}
 use Rattle.ip_session.specs.Session.{unasked, met_only, conditions_of, IsLong, IsJudgedIn, IsSettledIn}
 
 abbrev pub at : Repository → Phase → Work → State
@@ -361,7 +362,7 @@ collected_is_short floor left low small long = by (nat_lt 0 left) long
     words : Bytes
     words = decimal floor ++ space ∷ last
 
-    by : (b : Bool) → 4096 < length (join_with_byte space (codes "collected" ∷ decimal floor ∷ (if b then codes "left" ∷ decimal left ∷ [] else [])) ++ line_feed ∷ []) → ⊥
+    by : (b : Bool) → REPLY_ROOM < length (join_with_byte space (codes "collected" ∷ decimal floor ∷ (if b then codes "left" ∷ decimal left ∷ [] else [])) ++ line_feed ∷ []) → ⊥
     by true long = omega (arith, long, digits, more, length-append (decimal floor) (space ∷ last), length-append words (10 ∷ []))
     by false long = omega (arith, long, digits, length-append (decimal floor) (10 ∷ []))
 
@@ -392,7 +393,7 @@ rejected_is_short d small long =
     let words : Bytes = produced_text d.file ++ space ∷ places in
     omega (arith, long, digits, produced_short d.file, seen_short d.want, seen_short d.got, length-append (seen_text d.want) (space ∷ seen_text d.got), length-append (decimal d.at) (space ∷ last), length-append (produced_text d.file) (space ∷ places), length-append words (10 ∷ []))
 
-pub memory_is_short : length (reply_text Reply.Memory) ≤ 4096
+pub memory_is_short : length (reply_text Reply.Memory) ≤ REPLY_ROOM
 unfolding reply_text
 memory_is_short = omega arith
 

@@ -1,15 +1,16 @@
 -- Where the records of a command come to lie, and which limit is met.
---     appended slot s v command      the records that it appends where nothing refuses it, in a state whose tree has this view.      commits_in command      how many commits are among them
+--     appended slot s command      the records that it appends where nothing refuses it, but for a commit's and a merge's.
+--     IsFirst r parents first      the view of the tree of a work's first parent, if there is one
 --     slot_behind command slot length commits      the slot behind them.      AttemptsLeft slot reply      there was an attempt left, or none
 --     IsAppended rule slot s v command more commits      these are its records, and so many commits among them
 --     OfRecords Appended Says      of some that it appends this is so, by how many bytes and how many commits they are
 --     IsSwappedAt slot u commit slot'      the slot behind a swap to the pair of a collection at this commit.      HasCollected reply command      one was accepted
 --     Placed slot u slot' Appended command reply      the slot before and after a command with this reply, by which records it appends, of a store in which this was unswept
 --     PlacedBy rule slot u slot' s v command reply, PlacedIn rule slot u slot' s v line reply      so of a command, and of a line
-use Rattle.std.specs.Prelude.{◌≡◌, ℕ, Option, ◌+◌, ◌<◌, ◌≤◌, true, length, [], ◌∷◌, Result, Ok, Err}
+use Rattle.std.specs.Prelude.{◌≡◌, ℕ, List, Option, None, IsSomeAnd, ◌+◌, ◌<◌, ◌≤◌, true, length, [], ◌∷◌, Result, Ok, Err}
 use Rattle.ip_base.specs.declared.limit.TheConstants.{OFFSET_MAX}
 use Rattle.ip_base.specs.declared.limit.Limit.{Limit}
-use Rattle.ip_spec.specs.Batch.{batch, sources}
+use Rattle.ip_spec.specs.Batch.{batch, reusing_sources}
 use Rattle.ip_spec.specs.declared.command.Command.{Command}
 use Rattle.ip_spec.specs.declared.command.Target.{Target}
 use Rattle.ip_spec.specs.declared.record.Record.{Record}
@@ -18,6 +19,7 @@ use Rattle.ip_spec.specs.declared.reply.Reply.{Reply}
 use Rattle.ip_spec.specs.Machine.{State}
 use Rattle.ip_spec.specs.Merge.{Rule}
 use Rattle.ip_spec.specs.Path.{Bytes}
+use Rattle.ip_spec.specs.Repository.{Repository, tree_at}
 use Rattle.ip_spec.specs.Step.{resolve}
 use Rattle.ip_spec.specs.TreeAt.{Records}
 use Rattle.ip_spec.specs.View.{View}
@@ -29,6 +31,7 @@ use Rattle.ip_store.specs.Changes.{next_slot}
 use Rattle.ip_store.specs.Collecting.{carrying}
 use Rattle.ip_store.specs.Merging.{MergeAppends}
 use Rattle.ip_store.specs.Starting.{table_of, begun_slot}
+use Rattle.ip_store.specs.Views.{IsStored}
 use Rattle.ip_session.specs.Asking.{MayReap}
 use Rattle.ip_session.specs.Session.{is_durable, IsDurable}
 
@@ -36,27 +39,29 @@ abbrev pub named_record : ℕ → Bytes → Result ℕ Reply → Records
 named_record end name (Ok number) = (end, record_of.BranchSet number name) ∷ []
 named_record end name (Err reply) = []
 
--- a commit's are those of its tree that no record is known of, its own and its branch's
-abbrev pub appended : Slot → State → View → Command → Records
-appended slot s v (Command.Commit branch info) = batch v (sources v) (fields_of s.repository s.work.parents info branch) slot.end
-appended slot s v (Command.Branch name target) = named_record slot.end name (resolve s.repository target)
-appended slot s v (Command.BranchRm name) = (slot.end, record_of.BranchRemove name) ∷ []
-appended slot s v (Command.Collect target) = (slot.end, table_of s.repository) ∷ []
-appended slot s v command = []
-
-abbrev pub commits_in : Command → ℕ
-commits_in (Command.Commit branch info) = 1
-commits_in command = 0
+abbrev pub appended : Slot → State → Command → Records
+appended slot s (Command.Branch name target) = named_record slot.end name (resolve s.repository target)
+appended slot s (Command.BranchRm name) = (slot.end, record_of.BranchRemove name) ∷ []
+appended slot s (Command.Collect target) = (slot.end, table_of s.repository) ∷ []
+appended slot s command = []
 
 -- a collection draws an attempt besides
 abbrev pub slot_behind : Command → Slot → (length commits : ℕ) → Slot
 slot_behind (Command.Collect target) slot length commits = begun_slot slot length
 slot_behind command slot length commits = next_slot slot length commits
 
--- those of a merge depend on which parts the trees have in one record, by whatever records spell them
+-- the tree of a work's first parent, by whatever records spell it
+abbrev pub IsFirst : Repository → List ℕ → Option View → Type 0
+IsFirst r [] first = first ≡ None
+IsFirst r (n ∷ parents) first = IsSomeAnd first (IsStored n (tree_at r n))
+
+-- Those of a commit are those of its tree that no record is known of, but for contents that the first parent's tree or an earlier path has, its own and its branch's.
+-- Those of a merge depend on which parts the trees have in one record, by whatever records spell them.
 abbrev pub IsAppended : Rule → Slot → State → View → Command → Records → ℕ → Type 0
 IsAppended rule slot s v (Command.Merge target branch info) more commits = (number : ℕ) × (resolve s.repository target ≡ Ok number) × (records : ℕ → Option Record) × MergeAppends rule records s.repository number branch info slot.end more commits
-IsAppended rule slot s v command more commits = (more ≡ appended slot s v command) × (commits ≡ commits_in command)
+IsAppended rule slot s v (Command.Commit branch info) more commits =
+    (first : Option View) × IsFirst s.repository s.work.parents first × (more ≡ batch v (reusing_sources v first) (fields_of s.repository s.work.parents info branch) slot.end) × (commits ≡ 1)
+IsAppended rule slot s v command more commits = (more ≡ appended slot s command) × (commits ≡ 0)
 
 -- where that many are drawn there is none left
 abbrev pub AttemptsLeft : Slot → Reply → Type 0

@@ -70,6 +70,7 @@ use Rattle.ip_store.specs.Work.{AreParents, IsLawful, IsAt, session}
 use Rattle.ip_tree.specs.declared.tree.TreeFault.{TreeFault}
 use Rattle.ip_session.specs.declared.session.Session.{Session}
 use Rattle.ip_session.specs.declared.session.SessionEnd.{SessionEnd}
+use Rattle.ip_session.specs.declared.session.TheConstants.{REPLY_ROOM}
 
 abbrev pub IsIn : Session → Repository → Type 0
 IsIn s r = IsOf s.store r × AreParents r s.work.least s.work.parents
@@ -102,7 +103,7 @@ HasWords command = Unit {0}
 
 -- a text of up to this length takes no memory: there is room for it
 abbrev pub IsLong : Reply → Type 0
-IsLong reply = 4096 < length (reply_text reply)
+IsLong reply = REPLY_ROOM < length (reply_text reply)
 
 -- the text is the reply's, or it is long and memory was refused
 abbrev pub Writes : Reply → Met → Met → Bytes → Type 0

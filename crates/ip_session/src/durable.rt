@@ -9,7 +9,7 @@ ghost use Rattle.ip_session.specs.Asking.{MeetsNone, TellsNone};
 ghost use Rattle.ip_session.specs.Running.{Runs};
 ghost use Rattle.ip_session.specs.Session.{ground_end, met_only, unasked, IsHeld, EndsBy};
 
-use crate::replies::{branch_reply, merge_answer, removed_reply, reply_to};
+use crate::replies::{branch_reply, commit_answer, merge_answer, removed_reply};
 use crate::session::{Session, SessionEnd, resolve};
 use ip_base::{Blob, Info};
 use ip_ground::Ground;
@@ -40,12 +40,12 @@ impl Session {
         let made = self
             .store
             .commit(self.alloc, ground, &mut self.work, branch, info);
-        match reply_to(&made) {
-            Some(reply) => {
+        match commit_answer(made) {
+            Ok(reply) => {
                 self.met = self.store.met();
                 Ok(reply)
             }
-            None => Err(SessionEnd::Ground),
+            Err(end) => Err(end),
         }
     }
 

@@ -7,4 +7,4 @@ mod replies;
 mod session;
 mod trees;
 
-pub use session::{Session, SessionEnd};
+pub use session::{REPLY_ROOM, Session, SessionEnd};

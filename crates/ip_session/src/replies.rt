@@ -7,6 +7,7 @@ ghost use Rattle.ip_store.specs.Commits.{fault_reply, reply_to};
 ghost use Rattle.ip_store.specs.Merging.{merge_reply};
 ghost use Rattle.ip_store.specs.Naming.{branch_reply, removed_reply};
 ghost use Rattle.ip_session.specs.Asking.{MeetsNone, TellsNone};
+ghost use Rattle.ip_session.specs.declared.session.TheConstants.{REPLY_ROOM};
 ghost use Rattle.ip_session.specs.Session.{met_only, Writes, Fails, fault_answer, tree_fault, IsEndOf, EndsBecause, IsNamed};
 
 use crate::session::SessionEnd;
@@ -83,19 +84,20 @@ pub(crate) fn fault_reply(fault: &StoreFault) -> Option<Reply>
     }
 }
 
-// What a commit is answered with.
-pub(crate) fn reply_to(made: &Result<Hash, StoreFault>) -> Option<Reply>
-    ensures reply { result ≡ reply_to made.now }
-    ensures long { IfOk made.now (λ name. length name ≡ 32) }
-    ensures tells_none { IfSome result TellsNone }
+// What a commit is answered with, or why the session ends.
+pub(crate) fn commit_answer(made: Result<Hash, StoreFault>) -> Result<Reply, SessionEnd>
+    ensures reply { IfOk result (λ reply. reply_to made ≡ Some reply) }
+    ensures end { IfErr result (EndsBecause made) }
+    ensures long { IfOk made (λ name. length name ≡ 32) }
+    ensures tells_none { IfOk result TellsNone }
 {
     match made {
         Ok(name) => {
             // It says how long a name is.
             name.as_slice();
-            Some(Reply::Committed(*name))
+            Ok(Reply::Committed(name))
         }
-        Err(fault) => fault_reply(fault),
+        Err(refusal) => fault_answer(refusal),
     }
 }
 
@@ -246,11 +248,11 @@ pub(crate) fn shown_reply(shown: Shown) -> Reply
     }
 }
 
-// Writes a reply's text into an empty one. There is room for 4096 bytes; a longer text may be refused memory, and then that
+// Writes a reply's text into an empty one. There is room for `REPLY_ROOM` bytes; a longer text may be refused memory, and then that
 // is met and written instead.
 pub(crate) fn put_reply(reply: &Reply, met: &mut Met, text: &mut Vec<u8>)
     requires empty { text.old.items ≡ [] }
-    requires room { 4096 ≤ vec_capacity text.old }
+    requires room { REPLY_ROOM ≤ vec_capacity text.old }
     ensures room { vec_capacity text.old ≤ vec_capacity text.new }
     ensures written { Writes reply.now met.old met.new text.new.items }
 {

@@ -24,6 +24,7 @@ ghost use Rattle.ip_session.specs.Clearing.{ClearIn};
 ghost use Rattle.ip_session.specs.Asking.{Asked, HandlesNone, QuietIfLong, MeetsNone, Spawns, TellsNone};
 ghost use Rattle.ip_session.specs.Placing.{PlacedIn};
 ghost use Rattle.ip_session.specs.Running.{Runs};
+ghost use Rattle.ip_session.specs.declared.session.TheConstants.{REPLY_ROOM};
 ghost use Rattle.ip_session.specs.Session.{ground_end, met_only, CountsBy, CountsIn, IsHeld, EndsBy};
 
 use crate::replies::{met_only, put_reply, refuse};
@@ -37,6 +38,9 @@ use ip_spec::met::{Met, Phase};
 use ip_store::{Store, Work};
 use sha2::{Digest, Sha256};
 use std::alloc::Global;
+
+/// So many bytes of a reply's text take no memory: whoever asks for an answer has room for them.
+pub const REPLY_ROOM: usize = 4096;
 
 /// Why a session has ended. The store is to be opened anew.
 #[derive(Clone, Copy, Debug, PartialEq, Eq)]
@@ -356,7 +360,7 @@ impl Session {
         }
     }
 
-    /// Runs a line's command, a merge by these rules, and writes its reply's text into an empty one. There is room for 4096 bytes; a longer text
+    /// Runs a line's command, a merge by these rules, and writes its reply's text into an empty one. There is room for `REPLY_ROOM` bytes; a longer text
     /// may be refused memory, and then the reply is that. At `Err` a fault of the ground or of its files cut the command
     /// short: it has no text, and the session has ended.
     pub fn answer<G: Ground, P: Spawner, D: Decides>(
@@ -369,7 +373,7 @@ impl Session {
         text: &mut Vec<u8>,
     ) -> Result<(), SessionEnd>
         requires empty { text.old.items ≡ [] }
-        requires room { 4096 ≤ vec_capacity text.old }
+        requires room { REPLY_ROOM ≤ vec_capacity text.old }
         requires tables { IsServing self.old }
         requires child { P.held spawner.old ≡ child_of self.old.store.collection }
         ensures child { P.held spawner.new ≡ child_of self.new.store.collection }

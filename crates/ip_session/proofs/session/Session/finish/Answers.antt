@@ -13,7 +13,7 @@ use Rattle.ip_session.specs.Placing.{PlacedBy}
 use Rattle.ip_session.specs.Session.{unasked, IsServing, IsHeld, IsLong, state_in, CountsBy, CutBy, EndsBy, GoesBy}
 use Rattle.ip_session.proofs.Asking.{AskedSo}
 use Rattle.ip_session.proofs.ClearGoes.{finish_clear}
-use Rattle.ip_session.proofs.FinishAsked.{Sees, reaped_so, reaps_so, as_answered, as_idle, idle_back, finish_asked, finish_counts, finish_quiet, finish_ends}
+use Rattle.ip_session.proofs.FinishAsked.{Sees, reaped_so, reaps_so, as_answered, idle_back, finish_asked, finish_counts, finish_quiet, finish_ends}
 use Rattle.ip_session.proofs.FinishGoes.{Says, finish_serves, finish_goes, finish_cuts, finish_placed}
 use Rattle.ip_session.proofs.session.Session.finish.Goals as goal
 
@@ -27,11 +27,11 @@ returns-clause-runs g c =
     let b = g.G.Ground.told call.new.outside in
     let answer = c.finish_answer.ensures.answer in
     let short = subst (λ (x : Result Reply SessionEnd). IfOk x (λ reply. ¬ IsLong reply)) answer c.finish_answer.ensures.short in
-    let says : Says c.args.self.now c.finish-done.new.self Command.Finish (as_look c.finish-done.result) = record { met = call.ensures.met; runs = as_idle (c.args.self.now.store.collection ≡ None) call.result call.ensures.runs; quiet = λ quiet. (call.ensures.quiet quiet).1; ended = call.ensures.ended; kept = λ x reaped runs exit. (call.ensures.kept x reaped runs exit).1; slot = call.ensures.slot; limits = call.ensures.limits; goes_on = call.ensures.goes_on; over = call.ensures.over; answered = λ r is. as_answered _ call.result (call.ensures.answered r is) } in
+    let says : Says c.args.self.now c.finish-done.new.self Command.Finish (as_look c.finish-done.result) = record { met = (call.new.self.met.child, call.ensures.goes.left, call.ensures.goes.met); runs = call.ensures.goes.runs; quiet = call.ensures.goes.quiet; ended = call.ensures.goes.ended; kept = λ x reaped runs exit. (call.ensures.kept x reaped runs exit).1; slot = call.ensures.goes.slot; limits = call.ensures.goes.limits; goes_on = call.ensures.goes.goes_on; over = call.ensures.goes.over; answered = λ r is. as_answered _ call.result (call.ensures.answered r is) } in
     record {
       serving = let (r, is) = c.requires.tables in subst (λ (x : Result Reply SessionEnd). IfOk x (λ reply. IsServing (record s { store = store; met = met }))) (sym answer) (finish_serves s store met Command.Finish tt (as_look call.result) c.met-self.ensures says r is.0 is.1);
       goes = λ tells r v here. subst (λ (x : Result Reply SessionEnd). IfOk x (GoesBy unasked a b s (record s { store = store; met = met }) r v Command.Finish)) (sym answer)
-          (finish_goes s store met Command.Finish tt (as_look call.result) c.met-self.ensures says a b r v here (λ x reaped runs heard. call.ensures.any_moment tells r here.holds x reaped runs heard) (λ has q now. call.ensures.works_stay tells has r q here.holds now) (λ quiet. ap g.G.Ground.told (call.ensures.quiet quiet).0) short);
+          (finish_goes s store met Command.Finish tt (as_look call.result) c.met-self.ensures says a b r v here (λ x reaped runs heard. call.ensures.any_moment tells r here.holds x reaped runs heard) (λ has q now. call.ensures.works_stay tells has r q here.holds now) (λ quiet. ap g.G.Ground.told (call.ensures.quiet quiet)) short);
       placed = λ tells r v here. subst (λ (x : Result Reply SessionEnd). IfOk x (PlacedBy unasked s.store.slot s.store.unswept store.slot (state_in s r v) v Command.Finish)) (sym answer)
           (finish_placed s store met Command.Finish tt (as_look call.result) c.met-self.ensures says r here.holds.tables v);
       clear = λ tells r v here. subst (λ (x : Result Reply SessionEnd). IfOk x (λ reply. ClearBy (SweepsBehind Command.Finish reply) a b s (record s { store = store; met = met }))) (sym answer)
@@ -49,7 +49,7 @@ returns-clause-asked g c =
     let call = c.finish-done in
     let store = call.new.self in
     let (r, is) = c.requires.tables in
-    let says : Says c.args.self.now c.finish-done.new.self Command.Finish (as_look c.finish-done.result) = record { met = call.ensures.met; runs = as_idle (c.args.self.now.store.collection ≡ None) call.result call.ensures.runs; quiet = λ quiet. (call.ensures.quiet quiet).1; ended = call.ensures.ended; kept = λ x reaped runs exit. (call.ensures.kept x reaped runs exit).1; slot = call.ensures.slot; limits = call.ensures.limits; goes_on = call.ensures.goes_on; over = call.ensures.over; answered = λ r is. as_answered _ call.result (call.ensures.answered r is) } in
+    let says : Says c.args.self.now c.finish-done.new.self Command.Finish (as_look c.finish-done.result) = record { met = (call.new.self.met.child, call.ensures.goes.left, call.ensures.goes.met); runs = call.ensures.goes.runs; quiet = call.ensures.goes.quiet; ended = call.ensures.goes.ended; kept = λ x reaped runs exit. (call.ensures.kept x reaped runs exit).1; slot = call.ensures.goes.slot; limits = call.ensures.goes.limits; goes_on = call.ensures.goes.goes_on; over = call.ensures.goes.over; answered = λ r is. as_answered _ call.result (call.ensures.answered r is) } in
     let reaps : c.counts.result.reaps ≤ 2 ^ 64 - 1 = search rules in
     let waits : c.counts.result.waits ≤ 2 ^ 64 - 1 = search rules in
     subst (λ (x : Result Reply SessionEnd). AskedSo g.P.Spawner.tells (g.P.Spawner.told c.args.spawner.now) (g.P.Spawner.told call.new.spawner) s (record s { store = store; met = c.met-self.result }) Command.Finish x (g.P.Spawner.counts_of c.args.spawner.now) (g.P.Spawner.counts_of call.new.spawner)) (sym c.finish_answer.ensures.answer)
@@ -72,7 +72,7 @@ pub returns-clause-counts : goal.returns-clause-counts
 returns-clause-counts g c =
     let call = c.finish-done in
     let (r, is) = c.requires.tables in
-    let says : Says c.args.self.now c.finish-done.new.self Command.Finish (as_look c.finish-done.result) = record { met = call.ensures.met; runs = as_idle (c.args.self.now.store.collection ≡ None) call.result call.ensures.runs; quiet = λ quiet. (call.ensures.quiet quiet).1; ended = call.ensures.ended; kept = λ x reaped runs exit. (call.ensures.kept x reaped runs exit).1; slot = call.ensures.slot; limits = call.ensures.limits; goes_on = call.ensures.goes_on; over = call.ensures.over; answered = λ r is. as_answered _ call.result (call.ensures.answered r is) } in
+    let says : Says c.args.self.now c.finish-done.new.self Command.Finish (as_look c.finish-done.result) = record { met = (call.new.self.met.child, call.ensures.goes.left, call.ensures.goes.met); runs = call.ensures.goes.runs; quiet = call.ensures.goes.quiet; ended = call.ensures.goes.ended; kept = λ x reaped runs exit. (call.ensures.kept x reaped runs exit).1; slot = call.ensures.goes.slot; limits = call.ensures.goes.limits; goes_on = call.ensures.goes.goes_on; over = call.ensures.goes.over; answered = λ r is. as_answered _ call.result (call.ensures.answered r is) } in
     subst (λ (x : Result Reply SessionEnd). CountsBy x Command.Finish c.met-self.result (g.G.Ground.counts_of c.args.ground.now) (g.G.Ground.counts_of call.new.outside)) (sym c.finish_answer.ensures.answer)
     (finish_counts c.args.self.now call.new.self c.met-self.result Command.Finish tt (as_look call.result) c.met-self.ensures says r is.0 _ _ call.ensures.counts)
 

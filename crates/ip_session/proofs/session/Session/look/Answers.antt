@@ -25,11 +25,11 @@ returns-clause-runs g c =
     let b = g.G.Ground.told call.new.outside in
     let answer = c.look_answer.ensures.answer in
     let short = subst (λ (x : Result Reply SessionEnd). IfOk x (λ reply. ¬ IsLong reply)) answer c.look_answer.ensures.short in
-    let says : Says c.args.self.now c.look-looked.new.self Command.Look c.look-looked.result = record { met = call.ensures.met; runs = call.ensures.runs; quiet = λ quiet. (call.ensures.quiet quiet).1; ended = call.ensures.ended; kept = λ x reaped runs exit. (call.ensures.kept x reaped runs exit).1; slot = call.ensures.slot; limits = call.ensures.limits; goes_on = call.ensures.goes_on; over = call.ensures.over; answered = call.ensures.answered } in
+    let says : Says c.args.self.now c.look-looked.new.self Command.Look c.look-looked.result = record { met = (call.new.self.met.child, call.ensures.goes.left, call.ensures.goes.met); runs = call.ensures.goes.runs; quiet = call.ensures.goes.quiet; ended = call.ensures.goes.ended; kept = λ x reaped runs exit. (call.ensures.kept x reaped runs exit).1; slot = call.ensures.goes.slot; limits = call.ensures.goes.limits; goes_on = call.ensures.goes.goes_on; over = call.ensures.goes.over; answered = call.ensures.answered } in
     record {
       serving = let (r, is) = c.requires.tables in subst (λ (x : Result Reply SessionEnd). IfOk x (λ reply. IsServing (record s { store = store; met = met }))) (sym answer) (finish_serves s store met Command.Look tt call.result c.met-self.ensures says r is.0 is.1);
       goes = λ tells r v here. subst (λ (x : Result Reply SessionEnd). IfOk x (GoesBy unasked a b s (record s { store = store; met = met }) r v Command.Look)) (sym answer)
-          (finish_goes s store met Command.Look tt call.result c.met-self.ensures says a b r v here (λ x reaped runs heard. call.ensures.any_moment tells r here.holds x reaped runs heard) (λ has q now. call.ensures.works_stay tells has r q here.holds now) (λ quiet. ap g.G.Ground.told (call.ensures.quiet quiet).0) short);
+          (finish_goes s store met Command.Look tt call.result c.met-self.ensures says a b r v here (λ x reaped runs heard. call.ensures.any_moment tells r here.holds x reaped runs heard) (λ has q now. call.ensures.works_stay tells has r q here.holds now) (λ quiet. ap g.G.Ground.told (call.ensures.quiet quiet)) short);
       placed = λ tells r v here. subst (λ (x : Result Reply SessionEnd). IfOk x (PlacedBy unasked s.store.slot s.store.unswept store.slot (state_in s r v) v Command.Look)) (sym answer)
           (finish_placed s store met Command.Look tt call.result c.met-self.ensures says r here.holds.tables v);
       clear = λ tells r v here. subst (λ (x : Result Reply SessionEnd). IfOk x (λ reply. ClearBy (SweepsBehind Command.Look reply) a b s (record s { store = store; met = met }))) (sym answer)
@@ -47,7 +47,7 @@ returns-clause-asked g c =
     let call = c.look-looked in
     let store = call.new.self in
     let (r, is) = c.requires.tables in
-    let says : Says c.args.self.now c.look-looked.new.self Command.Look c.look-looked.result = record { met = call.ensures.met; runs = call.ensures.runs; quiet = λ quiet. (call.ensures.quiet quiet).1; ended = call.ensures.ended; kept = λ x reaped runs exit. (call.ensures.kept x reaped runs exit).1; slot = call.ensures.slot; limits = call.ensures.limits; goes_on = call.ensures.goes_on; over = call.ensures.over; answered = call.ensures.answered } in
+    let says : Says c.args.self.now c.look-looked.new.self Command.Look c.look-looked.result = record { met = (call.new.self.met.child, call.ensures.goes.left, call.ensures.goes.met); runs = call.ensures.goes.runs; quiet = call.ensures.goes.quiet; ended = call.ensures.goes.ended; kept = λ x reaped runs exit. (call.ensures.kept x reaped runs exit).1; slot = call.ensures.goes.slot; limits = call.ensures.goes.limits; goes_on = call.ensures.goes.goes_on; over = call.ensures.goes.over; answered = call.ensures.answered } in
     let reaps : c.counts.result.reaps ≤ 2 ^ 64 - 1 = search rules in
     let waits : c.counts.result.waits ≤ 2 ^ 64 - 1 = search rules in
     subst (λ (x : Result Reply SessionEnd). AskedSo g.P.Spawner.tells (g.P.Spawner.told c.args.spawner.now) (g.P.Spawner.told call.new.spawner) s (record s { store = store; met = c.met-self.result }) Command.Look x (g.P.Spawner.counts_of c.args.spawner.now) (g.P.Spawner.counts_of call.new.spawner)) (sym c.look_answer.ensures.answer)
@@ -70,7 +70,7 @@ pub returns-clause-counts : goal.returns-clause-counts
 returns-clause-counts g c =
     let call = c.look-looked in
     let (r, is) = c.requires.tables in
-    let says : Says c.args.self.now c.look-looked.new.self Command.Look c.look-looked.result = record { met = call.ensures.met; runs = call.ensures.runs; quiet = λ quiet. (call.ensures.quiet quiet).1; ended = call.ensures.ended; kept = λ x reaped runs exit. (call.ensures.kept x reaped runs exit).1; slot = call.ensures.slot; limits = call.ensures.limits; goes_on = call.ensures.goes_on; over = call.ensures.over; answered = call.ensures.answered } in
+    let says : Says c.args.self.now c.look-looked.new.self Command.Look c.look-looked.result = record { met = (call.new.self.met.child, call.ensures.goes.left, call.ensures.goes.met); runs = call.ensures.goes.runs; quiet = call.ensures.goes.quiet; ended = call.ensures.goes.ended; kept = λ x reaped runs exit. (call.ensures.kept x reaped runs exit).1; slot = call.ensures.goes.slot; limits = call.ensures.goes.limits; goes_on = call.ensures.goes.goes_on; over = call.ensures.goes.over; answered = call.ensures.answered } in
     subst (λ (x : Result Reply SessionEnd). CountsBy x Command.Look c.met-self.result (g.G.Ground.counts_of c.args.ground.now) (g.G.Ground.counts_of call.new.outside)) (sym c.look_answer.ensures.answer)
     (finish_counts c.args.self.now call.new.self c.met-self.result Command.Look tt call.result c.met-self.ensures says r is.0 _ _ call.ensures.counts)
 

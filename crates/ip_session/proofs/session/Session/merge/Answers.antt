@@ -5,11 +5,13 @@ use Rattle.ip_spec.specs.Path.{Bytes}
 use Rattle.ip_store.specs.Collecting.{phase_of}
 use Rattle.ip_store.specs.Merging.{merge_reply, AnswersMerge, MergesAtMoments, AppendsMerge, LimitsMerge}
 use Rattle.ip_store.specs.Store.{image_records}
+use Rattle.ip_store.specs.declared.merging.Merge.{Merge}
 use Rattle.ip_session.specs.Asking.{MeetsNone}
 use Rattle.ip_session.specs.Session.{state_in}
 use Rattle.ip_session.proofs.Asking.{faulted}
 use Rattle.ip_session.proofs.ClearGoes.{keeps_by}
-use Rattle.ip_session.proofs.MergeGoes.{has_reply, merge_ends, merge_counts, answer_counts, merge_serves, unmerged_goes, unmerged_placed, merge_goes, merge_cut, merge_placed}
+use Rattle.ip_session.proofs.DurableGoes.{fault_ends, fault_counts, answer_counts}
+use Rattle.ip_session.proofs.MergeGoes.{has_reply, merge_serves, unmerged_goes, unmerged_placed, merge_goes, merge_cut, merge_placed}
 use Rattle.ip_session.proofs.session.Session.merge.Goals as goal
 
 pub returns-in-Err-clause-runs : goal.returns-in-Err-clause-runs
@@ -60,7 +62,7 @@ returns-in-Ok-merge_answer-clause-runs g c =
     }
 
 pub returns-in-Ok-merge_answer-clause-counts : goal.returns-in-Ok-merge_answer-clause-counts
-returns-in-Ok-merge_answer-clause-counts g c = answer_counts c.args.branch c.merge_into-made.result c.in-Ok-merge_answer.reply _ _ c.in-Ok-merge_answer.ensures.reply c.merge_into-made.ensures.counts
+returns-in-Ok-merge_answer-clause-counts g c = answer_counts Merge c.merge_into-made.result _ _ (has_reply c.args.branch c.merge_into-made.result c.in-Ok-merge_answer.reply c.in-Ok-merge_answer.ensures.reply) c.merge_into-made.ensures.counts
 
 pub returns-in-Err-merge_answer-clause-runs : goal.returns-in-Err-merge_answer-clause-runs
 returns-in-Err-merge_answer-clause-runs g c =
@@ -81,10 +83,10 @@ returns-in-Err-merge_answer-clause-runs g c =
     }
 
 pub returns-in-Err-merge_answer-clause-counts : goal.returns-in-Err-merge_answer-clause-counts
-returns-in-Err-merge_answer-clause-counts g c = merge_counts c.merge_into-made.result c.in-Err-merge_answer.end _ _ c.in-Err-merge_answer.ensures.end c.merge_into-made.ensures.counts
+returns-in-Err-merge_answer-clause-counts g c = fault_counts Merge c.merge_into-made.result c.in-Err-merge_answer.end _ _ c.in-Err-merge_answer.ensures.end c.merge_into-made.ensures.counts
 
 pub returns-in-Err-merge_answer-clause-cause : goal.returns-in-Err-merge_answer-clause-cause
-returns-in-Err-merge_answer-clause-cause g c decisive = merge_ends c.merge_into-made.result c.in-Err-merge_answer.end _ c.in-Err-merge_answer.ensures.end
+returns-in-Err-merge_answer-clause-cause g c decisive = fault_ends Merge c.merge_into-made.result c.in-Err-merge_answer.end _ c.in-Err-merge_answer.ensures.end
     (λ (told, (r, v, here)). c.merge_into-made.ensures.undamaged told decisive r here.holds (c.in-Ok.ensures.retained r here.holds.tables))
 
 pub returns-in-Ok-merge_answer-clause-meets_none : goal.returns-in-Ok-merge_answer-clause-meets_none
