@@ -2,15 +2,16 @@
 --     longest_line, most_taken      bytes of a line before its line feed, and bytes of a source, that are taken at most
 --     HasNoLineFeed bytes      no line feed stands in them
 --     last_piece bytes      what stands behind the last line feed, all where there is none
-use Rattle.std.specs.Prelude.{ℕ, ◌^◌, ◌≡◌, ◌==◌, Bool, false, if◌then◌else◌, [], ◌∷◌}
+use Rattle.std.specs.Prelude.{ℕ, ◌≡◌, ◌==◌, Bool, false, if◌then◌else◌, [], ◌∷◌}
 use Rattle.std.specs.List.{list_any}
 use Rattle.ip_spec.specs.Path.{Bytes, line_feed}
+use Rattle.ip_app.specs.declared.lines.TheConstants.{LONGEST_LINE, MOST_TAKEN}
 
 abbrev pub longest_line : ℕ
-longest_line = 4194304
+longest_line = LONGEST_LINE
 
 abbrev pub most_taken : ℕ
-most_taken = 2 ^ 62
+most_taken = MOST_TAKEN
 
 abbrev pub is_line_feed : ℕ → Bool
 is_line_feed b = b == line_feed

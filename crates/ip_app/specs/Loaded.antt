@@ -19,7 +19,9 @@ use Rattle.ip_spec.specs.Repository.{Repository}
 use Rattle.ip_spec.specs.Script.{Answered, state_after}
 use Rattle.ip_spec.specs.Text.{reply_text}
 use Rattle.ip_spec.specs.View.{View}
+use Rattle.ip_script.specs.declared.load.TheConstants.{LOAD_LINE_MAX}
 use Rattle.ip_session.specs.declared.session.Session.{Session}
+use Rattle.ip_session.specs.declared.session.TheConstants.{REPLY_ROOM}
 use Rattle.ip_session.specs.Session.{state_in}
 use Rattle.ip_summary.specs.declared.summary.Summary.{Summary}
 use Rattle.ip_summary.specs.Tally.{Tallies}
@@ -33,8 +35,8 @@ use Rattle.ip_app.specs.Outside.{Outside}
 use Rattle.ip_app.specs.Serving.{SaysPart}
 
 pub record IsLoadRoom (room : LoadRoom) : Type 0 where
-  pub line : 46 ≤ vec_capacity room.line
-  pub text : 4096 ≤ vec_capacity room.text
+  pub line : LOAD_LINE_MAX ≤ vec_capacity room.line
+  pub text : REPLY_ROOM ≤ vec_capacity room.text
 
 pub record QuietSince (old new : Told) (first : State) (steps : List Answered) (t : ℕ) : Type 0 where
   pub said : new.said_at t ≡ said old

@@ -3,9 +3,9 @@
 use Rattle.std.specs.Prelude.{ℕ, [], ◌∷◌, ◌++◌, Option, Some, None, codes}
 use Rattle.std.specs.Fmt.{decimal}
 use Rattle.ip_host.specs.Names.{file_text}
-use Rattle.hex.specs.Hex.{encode_lower}
 use Rattle.ip_spec.specs.Path.{Bytes, space, line_feed}
 use Rattle.ip_spec.specs.Record.{Hash}
+use Rattle.ip_spec.specs.Text.{hex_text}
 use Rattle.ip_app.specs.declared.statuses.Status.{Status}
 use Rattle.ip_app.specs.declared.statuses.Bound.TheVariants as Bound
 
@@ -27,7 +27,7 @@ code_of Status.Exists = 11
 
 -- two names, as lower-case digits
 abbrev pub names_text : Hash → Hash → Bytes
-names_text want got = encode_lower want ++ space ∷ encode_lower got
+names_text want got = hex_text want ++ space ∷ hex_text got
 
 -- what the line says, if there is one
 abbrev pub status_text : Status → Option Bytes

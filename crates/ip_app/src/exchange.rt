@@ -5,6 +5,7 @@ ghost use Rattle.ip_spec.specs.Path.{Bytes};
 ghost use Rattle.ip_spec.specs.Repository.{Repository};
 ghost use Rattle.ip_spec.specs.View.{View};
 ghost use Rattle.ip_store.specs.Collecting.{child_of};
+ghost use Rattle.ip_session.specs.declared.session.TheConstants.{REPLY_ROOM};
 ghost use Rattle.ip_session.specs.Session.{IsServing, state_in};
 ghost use Rattle.ip_app.specs.Exchanging.{ended_status, Works, Replied, CutsShort};
 ghost use Rattle.ip_app.specs.Outside.{outside_of};
@@ -45,7 +46,7 @@ pub fn exchange<G: Ground, P: Spawner, D: Decides, L: Log>(
     text: &mut Vec<u8>,
 ) -> Result<(), Status>
     requires empty { text.old.items ≡ [] }
-    requires room { 4096 ≤ vec_capacity text.old }
+    requires room { REPLY_ROOM ≤ vec_capacity text.old }
     requires counted { counts.old ≡ turn_counts (G.counts_of ground.old) (P.counts_of spawner.old) }
     requires small { counts.old.file_faults ≤ 2 ^ 64 - 1 }
     requires removals { counts.old.remove_faults ≤ 2 ^ 64 - 1 }

@@ -1,7 +1,7 @@
 // The lines of a source.
 ghost use Rattle.std.specs.Prelude.{◌≡◌, ◌+◌, ◌^◌, ◌<◌, ◌≤◌, ◌++◌, [], ◌∷◌, List, ℕ, Bool, true, false, length, vec_len, IsTrue, IfOk, IfErr, OnOk, OnErr};
 ghost use Rattle.std.specs.Vec.{vec_capacity};
-ghost use Rattle.ip_app.specs.Lines.{HasNoLineFeed};
+ghost use Rattle.ip_app.specs.Lines.{HasNoLineFeed, longest_line};
 ghost use Rattle.ip_app.specs.Reading.{FindsLineFeed, FindsNone, Refills, GetsLine, EndsAt};
 
 use crate::statuses::{Bound, Status};
@@ -15,12 +15,13 @@ const MOST_TAKEN: u64 = 1 << 62;
 
 const LINE_FEED: u8 = b'\n';
 
+// So many bytes are asked of a source at once: a page.
 const CHUNK: usize = 4096;
 
 /// Cuts what a source gives into lines.
 #[derive(Drop)]
 pub struct Lines {
-    chunk: [u8; 4096],
+    chunk: [u8; CHUNK],
     at: usize,
     end: usize,
     taken: u64,
@@ -36,7 +37,7 @@ impl Lines {
         ensures ready { IsReady result }
     {
         Lines {
-            chunk: [0; 4096],
+            chunk: [0; CHUNK],
             at: 0,
             end: 0,
             taken: 0,
@@ -72,7 +73,7 @@ impl Lines {
     fn refill<S: Source>(&mut self, source: &mut S, length: usize) -> Result<(), Status>
         requires ready { IsReady self.old }
         requires pending { pending self.old ≡ [] }
-        requires length { length ≤ 4194305 }
+        requires length { length ≤ longest_line + 1 }
         ensures ready { IsReady self.new }
         ensures ok { OnOk result (Refills length S.tells (S.left source.old) (S.left source.new) self.old.taken self.new.taken (pending self.new)) }
         ensures err { IfErr result (λ status. EndsAt status length S.tells (S.left source.old) (S.left source.new) (S.read_faults source.old) (S.read_faults source.new) self.old.taken self.new.taken (pending self.new)) }
@@ -110,7 +111,7 @@ impl Lines {
     pub fn next_line<S: Source>(&mut self, source: &mut S, line: &mut Vec<u8>) -> Result<(), Status>
         requires ready { IsReady self.old }
         requires empty { line.old.items ≡ [] }
-        requires room { 4194305 ≤ vec_capacity line.old }
+        requires room { longest_line + 1 ≤ vec_capacity line.old }
         ensures ready { IsReady self.new }
         ensures ok { OnOk result (GetsLine line.new.items S.tells (pending self.old ++ S.left source.old) (pending self.new ++ S.left source.new)) }
         ensures count { OnOk result (self.new.taken + length (pending self.old) ≡ self.old.taken + (length line.new.items + 1) + length (pending self.new)) }

@@ -28,13 +28,10 @@ use ip_ground::{Ground, GroundFault};
 use ip_image::counts::TurnCounts;
 use ip_merge::Decides;
 use ip_script::{LOAD_LINE_MAX, load_line};
-use ip_session::Session;
+use ip_session::{REPLY_ROOM, Session};
 use ip_spawn::Spawner;
 use ip_summary::Summary;
 use std::alloc::Global;
-
-// So many bytes of a reply take no memory.
-const REPLY_ROOM: usize = 4096;
 
 // All that a load takes memory for beside its commands.
 #[derive(Drop)]

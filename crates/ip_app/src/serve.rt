@@ -22,13 +22,10 @@ use ip_ground::Ground;
 use ip_image::counts::TurnCounts;
 use ip_merge::Decides;
 use ip_script::Source;
-use ip_session::Session;
+use ip_session::{REPLY_ROOM, Session};
 use ip_spawn::Spawner;
 use ip_store::{OpenFault, Store};
 use std::alloc::Global;
-
-/// So many bytes of a reply take no memory.
-const REPLY_ROOM: usize = 4096;
 
 /// The room for a line and its reply.
 #[derive(Drop)]

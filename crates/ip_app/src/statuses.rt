@@ -1,19 +1,18 @@
 // How a call of the program ends.
 ghost use Rattle.std.specs.Prelude.{◌≡◌, ◌++◌, ◌∷◌, OnOk, OnErr};
 ghost use Rattle.ip_spec.specs.Path.{space};
-ghost use Rattle.hex.specs.Hex.{encode_lower};
 ghost use Rattle.ip_host.specs.Names.{file_text};
 ghost use Rattle.ip_app.specs.Statuses.{code_of, names_text, status_line};
 
 use ip_base::{Hash, Memory};
 use ip_ground::FileName;
 use ip_host::file_name;
-use ip_script::put_number;
+use ip_script::{put_hex, put_number};
 
 /// What a source has too much of.
 #[derive(Clone, Copy, Debug, PartialEq, Eq)]
 pub enum Bound {
-    /// Bytes of a line before its line feed: more than 4194304.
+    /// Bytes of a line before its line feed: more than `LONGEST_LINE`.
     Line,
     /// Bytes in all: 2^62.
     Input,
@@ -127,21 +126,12 @@ fn put_damaged_record(at: u64, out: &mut Vec<u8>) -> Result<(), Memory>
     Ok(out.push(b'\n')?)
 }
 
-// A name's 64 digits.
-fn put_name(name: &Hash, out: &mut Vec<u8>) -> Result<(), Memory>
-    ensures { OnOk result (out.new.items ≡ out.old.items ++ encode_lower name.now) }
-{
-    let mut digits = [0; 64];
-    hex::encode_to_slice(name.as_slice(), &mut digits).unwrap();
-    Ok(out.extend_from_slice(&digits)?)
-}
-
 fn put_names(want: &Hash, got: &Hash, out: &mut Vec<u8>) -> Result<(), Memory>
     ensures { OnOk result (out.new.items ≡ out.old.items ++ names_text want.now got.now) }
 {
-    put_name(want, out)?;
+    put_hex(want.as_slice(), out)?;
     out.push(b' ')?;
-    put_name(got, out)
+    put_hex(got.as_slice(), out)
 }
 
 fn put_damaged_name(at: u64, want: &Hash, got: &Hash, out: &mut Vec<u8>) -> Result<(), Memory>
