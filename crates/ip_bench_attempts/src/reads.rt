@@ -225,12 +225,13 @@ fn the_worker_reads_no_record_often(rt: HostRuntime) -> Result<(), Fail> {
     Ok(())
 }
 
-// A commit of 30 contents in one directory, which lie end to end.
+// A commit of 30 contents in one directory, which differ and lie end to end.
 fn long_run(alloc: Global) -> Result<Store, Fail> {
     let mut script = Vec::new(alloc);
     for step in 0..30u8 {
         script.extend_from_slice(&[b's', b'e', b't', b' ', b'A'.saturating_add(step), b' '])?;
-        put_value(&mut script, 100)?;
+        script.extend_from_slice(&[b'0' + step / 10, b'0' + step % 10])?;
+        put_value(&mut script, 99)?;
         script.push(b'\n')?;
     }
     script.extend_from_slice(b"commit main 0 a m\n")?;

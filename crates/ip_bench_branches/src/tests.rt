@@ -416,8 +416,8 @@ fn branches_are_stopped_at_each_call(rt: HostRuntime) -> Result<(), Fail> {
         }
     }
     // Opening makes calls 2 to 5; three lines make one call for their replies, and one of them reads the root of the work's tree by one call; the first
-    // commit makes seven more, and the six other commands nine more.
-    assert_eq!(rt; last, 5 + 3 + 1 + 8 + 6 * 10);
+    // commit makes seven more, and the six other commands nine more. The second commit reads the record of its parent besides.
+    assert_eq!(rt; last, 5 + 3 + 1 + 8 + 6 * 10 + 1);
     Ok(())
 }
 

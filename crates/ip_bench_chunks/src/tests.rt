@@ -114,21 +114,21 @@ fn first_behind(alloc: Global, script: &[u8], count: usize) -> Result<u64, Fail>
     Err("no such call")?
 }
 
-// Behind the first three replies, of 81 bytes, the second commit makes thirteen calls: three writes and three syncs of its chunks, then those of the
-// control file, of which the last syncs the gate. Wherever it is stopped the first commit stands; the second one does behind that last call, and at it
-// where the gate's write is kept.
+// Behind the first three replies, of 81 bytes, the second commit makes fourteen calls: the read of its parent's record, three writes and three syncs of
+// its chunks, then those of the control file, of which the last syncs the gate. Wherever it is stopped the first commit stands; the second one does behind
+// that last call, and at it where the gate's write is kept.
 #[test]
 fn a_batch_over_three_chunks_is_stopped_at_each_of_its_calls(rt: HostRuntime) -> Result<(), Fail> {
     let alloc = rt.alloc();
     let script = two_commits(alloc)?;
     let first = first_behind(alloc, &script, 81)?;
-    for call in 0..14 {
+    for call in 0..15 {
         let (said, kept, synced) = stopped_at(alloc, &script, first.saturating_add(call))?;
         assert_eq!(&rt; said, 81);
-        assert_eq!(&rt; kept, Some(if call < 12 { 1 } else { 2 }), "{call}");
-        assert_eq!(&rt; synced, Some(if call < 13 { 1 } else { 2 }), "{call}");
+        assert_eq!(&rt; kept, Some(if call < 13 { 1 } else { 2 }), "{call}");
+        assert_eq!(&rt; synced, Some(if call < 14 { 1 } else { 2 }), "{call}");
     }
-    let all = stopped_at(alloc, &script, first.saturating_add(14))?;
+    let all = stopped_at(alloc, &script, first.saturating_add(15))?;
     assert_eq!(&rt; all, (156, Some(2), Some(2)));
     Ok(())
 }

@@ -13,3 +13,5 @@ mod rejected;
 mod slices;
 #[cfg(test)]
 mod tests;
+#[cfg(test)]
+mod used_again;

@@ -22,8 +22,9 @@ fn long_script(alloc: Global, behind: &[u8]) -> Result<Vec<u8>, Fail> {
     Ok(script)
 }
 
-// Making the store and serving the script up to there takes so many calls of the ground. The child puts its files there before the next one.
-const CALLS: u64 = 6062;
+// Making the store and serving the script up to there takes so many calls of the ground: of these 600 read the record of a commit's parent, and 15 the
+// rest of one that goes on in the next chunk. The child puts its files there before the next one.
+const CALLS: u64 = 6677;
 
 fn put_act(acts: &mut Acts, file: FileName, bytes: Option<Vec<u8>>) -> Result<(), Fail> {
     Ok(acts.push(Act {

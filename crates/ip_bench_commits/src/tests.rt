@@ -227,7 +227,7 @@ fn twenty_commits_are_stopped_at_each_call(rt: HostRuntime) -> Result<(), Fail> 
         }
     }
     // Opening makes calls 2 to 5, then come twenty lines with a reply, of which nineteen read the root of the work's tree by one call, the first
-    // commit with seven calls and its reply, and nineteen with nine.
-    assert_eq!(rt; last, 5 + 20 + 19 + 8 + 19 * 10);
+    // commit with seven calls and its reply, and nineteen with nine, behind one that reads the record of their parent.
+    assert_eq!(rt; last, 5 + 20 + 19 + 8 + 19 * 11);
     Ok(())
 }

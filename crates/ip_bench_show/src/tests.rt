@@ -3,7 +3,9 @@ ghost use Rattle.std.specs.Prelude.{false};
 ghost use Rattle.ip_ground.specs.ReplayLaws.{possible_by};
 
 use ip_app::Status;
-use ip_bench::{answers, answers_on, bench, count_lines, init, play, replies_of, script_of};
+use ip_bench::{
+    answers, answers_on, bench, bytes_of, count_lines, init, play, replies_of, script_of,
+};
 use ip_ground::{Bench, FileName, Ground, GroundCounts, GroundFault, Reaped};
 use std::alloc::Global;
 use std::test::Fail;
@@ -125,8 +127,8 @@ impl Ground for Changed {
         read
     }
 
-    fn write(&mut self, _file: FileName, _at: u64, _bytes: &[u8]) -> Result<(), GroundFault> {
-        Ok(())
+    fn write(&mut self, file: FileName, at: u64, bytes: &[u8]) -> Result<(), GroundFault> {
+        self.bench.write(file, at, bytes)
     }
 
     fn sync(&mut self, file: FileName) -> Result<(), GroundFault> {
@@ -154,8 +156,37 @@ impl Ground for Changed {
     }
 }
 
-// A script is served over the store that another one made, of which others change this byte while it is open, behind so many reads of it: the status
-// and its line, and what was said.
+// The store that a script made, of which others change this byte while it is open, behind so many reads of it.
+fn changed_store(
+    alloc: Global,
+    made: &[u8],
+    place: u64,
+    byte: u8,
+    spared: u64,
+) -> Result<Changed, Fail> {
+    let mut store = bench(alloc, &[])?;
+    let _ = init(alloc, &mut store)?;
+    let _ = answers_on(alloc, &mut store, made)?;
+    Ok(Changed {
+        bench: store.after_stop(true)?,
+        place,
+        byte,
+        spared,
+    })
+}
+
+// How serving a script ended: the status and its line, and what was said.
+type Served = (u8, Vec<u8>, Vec<u8>);
+
+fn served(alloc: Global, changed: &mut Changed, asked: &[u8]) -> Result<Served, Fail> {
+    let status = answers_on(alloc, changed, asked)?;
+    let mut line = Vec::new(alloc);
+    status.put_line(&mut line).ok().ok_or("memory")?;
+    let said = changed.bench.said(alloc)?;
+    Ok((status.code(), line, said))
+}
+
+// A script is served over the store that another one made, and that is changed so.
 fn served_over(
     alloc: Global,
     made: &[u8],
@@ -163,21 +194,9 @@ fn served_over(
     place: u64,
     byte: u8,
     spared: u64,
-) -> Result<(u8, Vec<u8>, Vec<u8>), Fail> {
-    let mut store = bench(alloc, &[])?;
-    let _ = init(alloc, &mut store)?;
-    let _ = answers_on(alloc, &mut store, made)?;
-    let mut changed = Changed {
-        bench: store.after_stop(true)?,
-        place,
-        byte,
-        spared,
-    };
-    let status = answers_on(alloc, &mut changed, asked)?;
-    let mut line = Vec::new(alloc);
-    status.put_line(&mut line).ok().ok_or("memory")?;
-    let said = changed.bench.said(alloc)?;
-    Ok((status.code(), line, said))
+) -> Result<Served, Fail> {
+    let mut changed = changed_store(alloc, made, place, byte, spared)?;
+    served(alloc, &mut changed, asked)
 }
 
 const EMPTY_MADE: &[u8] = b"empty\ncommit main 0 a m\n";
@@ -263,5 +282,92 @@ fn a_record_that_was_changed_later_is_not_read_again(rt: HostRuntime) -> Result<
     assert_eq!(rt; ended, 0);
     assert!(rt; printed.is_empty());
     assert_eq!(rt; said.as_slice(), ONCE_READ);
+    Ok(())
+}
+
+// Contents at 0 and at 6, the root at 12, the commit at 109.
+const TWO_MADE: &[u8] = b"set a 05\nset k 01\ncommit main 0 a m\n";
+
+// The commit's first parent has the same contents at `k`.
+const K_AGAIN: &[u8] = b"set k 01\nparent main\ncommit main 1 a m\n";
+
+// A commit reads the record of its first parent, and of that tree what is on the way to contents of its own. These are the kind of each record, and a byte of what makes
+// its name: of the author, of the step `k`, and of the contents.
+const MET: [(u64, u8, &[u8]); 6] = [
+    (109, 1, b"ipstore: damaged record 109\n"),
+    (
+        172,
+        b'b',
+        b"ipstore: damaged name 109 2ab22d407acb3cd5d3341537e90b3aaa24a27363a5fea759a26ba6eb3466f8fe e60ed349d72918a7b0c64176392e6312724f13bdb9e636cabbdda66554717409\n",
+    ),
+    (12, 1, b"ipstore: damaged record 12\n"),
+    (
+        66,
+        b'l',
+        b"ipstore: damaged name 12 a09d4b7483c98c3a6262ba83b9e407b3f30644db38c959192a87e95bfe9d4bfd 93d827bd334d2f0be02ae9d899d32c1aebd19b766e892af22d4499d6f640b26e\n",
+    ),
+    (6, 2, b"ipstore: damaged record 6\n"),
+    (
+        11,
+        2,
+        b"ipstore: damaged name 6 4bf5122f344554c53bde2ebb8cd2b7e3d1600ad631c385a5d7cce23c7785459a dbc1b4c900ffe48d575b5da5c638040125f65db0fe3e24494b76ea986457d986\n",
+    ),
+];
+
+// The bytes of the control file and of the chunk.
+fn files(alloc: Global, changed: &mut Changed) -> Result<(Vec<u8>, Vec<u8>), Fail> {
+    let control = bytes_of(alloc, &mut changed.bench, FileName::Control)?;
+    let chunk = bytes_of(alloc, &mut changed.bench, FileName::Chunk(0))?;
+    Ok((control, chunk))
+}
+
+// The commit has no reply, and the files stay as they were.
+#[test]
+fn what_was_changed_of_the_first_parent_is_met_by_a_commit(rt: HostRuntime) -> Result<(), Fail> {
+    let alloc = rt.alloc();
+    for (place, byte, line) in MET {
+        let mut changed = changed_store(alloc, TWO_MADE, place, byte, 0)?;
+        let before = files(alloc, &mut changed)?;
+        let (ended, printed, said) = served(alloc, &mut changed, K_AGAIN)?;
+        assert_eq!(rt; ended, 4);
+        assert_eq!(rt; printed.as_slice(), line);
+        assert_eq!(rt; said.as_slice(), b"ok\nok\n".as_slice());
+        let after = files(alloc, &mut changed)?;
+        assert_eq!(rt; after.0, before.0);
+        assert_eq!(rt; after.1, before.1);
+    }
+    Ok(())
+}
+
+// What a commit does not read it does not meet: contents of another name, and a tree at whose paths it has none of its own.
+#[test]
+fn what_is_not_read_is_not_met_by_a_commit(rt: HostRuntime) -> Result<(), Fail> {
+    let alloc = rt.alloc();
+    let rows: [(u64, u8, &[u8], &[u8]); 3] = [
+        (
+            11,
+            2,
+            b"set k 02\nparent main\ncommit main 1 a m\n",
+            b"ok\nok\ncommitted f55009df6d6faf3cb164d8373b965d87a2c7de4829a3f54b28c118132764959e\n",
+        ),
+        (
+            6,
+            2,
+            b"set k 02\nparent main\ncommit main 1 a m\n",
+            b"ok\nok\ncommitted f55009df6d6faf3cb164d8373b965d87a2c7de4829a3f54b28c118132764959e\n",
+        ),
+        (
+            12,
+            1,
+            b"empty\nparent main\ncommit main 1 a m\n",
+            b"ok\nok\ncommitted 8bbc8ee992e3046d4694d081d11b581e88c43f1166b7ca436948efab2729fe39\n",
+        ),
+    ];
+    for (place, byte, asked, replies) in rows {
+        let (ended, printed, said) = served_over(alloc, TWO_MADE, asked, place, byte, 0)?;
+        assert_eq!(rt; ended, 0);
+        assert!(rt; printed.is_empty());
+        assert_eq!(rt; said.as_slice(), replies);
+    }
     Ok(())
 }

@@ -348,6 +348,33 @@ fn what_a_line_touches_is_read(rt: HostRuntime) -> Result<(), Fail> {
     Ok(())
 }
 
+// A commit reads the record of its first parent, and of that tree what is on the way to contents of its own, and those that are equal.
+#[test]
+fn what_a_commit_looks_at_is_read(rt: HostRuntime) -> Result<(), Fail> {
+    let alloc = rt.alloc();
+    let commit: &[u8] = b"commit main 1 a m\n";
+    let rows: [(&[u8], &[u8], u64); 8] = [
+        (b"set z 04\n", b"commit dev 1 a m\n", 0),
+        (b"parent main\n", commit, 1),
+        (b"set z 04\nparent main\n", commit, 2),
+        (b"set z 03\nparent main\n", commit, 3),
+        (b"set q/b 03\nparent main\n", commit, 2),
+        // The root and four directories, and then the contents.
+        (b"set a/b/c/d/e 02\nparent main\n", commit, 6),
+        (b"set a/b/c/d/e 01\nset a/b/x 02\nparent main\n", commit, 8),
+        // What was committed was not fetched.
+        (
+            b"checkout main\nset z 04\ncommit main 1 a m\nset z 05\n",
+            b"commit main 2 a m\n",
+            1,
+        ),
+    ];
+    for (first, then, reads) in rows {
+        assert_eq!(rt; reads_of(alloc, first, then)?, reads);
+    }
+    Ok(())
+}
+
 // What was fetched is kept, whatever line asks for it next.
 #[test]
 fn what_was_read_is_not_read_again(rt: HostRuntime) -> Result<(), Fail> {
