@@ -510,3 +510,23 @@ def records_that_change_under_a_session(bed):
         need(not serve.hear(), f"the line is answered by {serve.lines}")
         same(serve.waited(), (DAMAGED, f"ipstore: damaged {line}\n"), "the end")
     return "a read of a record that others changed: status 4 with its place and names, and the line has no reply"
+
+
+@check
+def records_that_change_under_a_commit(bed):
+    want, got = sha(b"\x01").hex(), sha(b"\x02").hex()
+    # Contents are at 0 and at 6, their leaf at 12, their commit at 109. The next commit goes on from that one, and has the same contents at `k`.
+    for at, byte, line in ((109, 1, "record 109"), (12, 1, "record 12"), (11, 2, f"name 6 {want} {got}")):
+        folder = bed.store("set a 05", "set k 01", "commit main 0 a m")
+        serve = bed.start(folder)
+        for its in ("set k 01", "parent main"):
+            same(serve.ask(its), "ok", its)
+        with open(os.path.join(folder, "chunk.0"), "r+b") as file:
+            file.seek(at)
+            file.write(bytes([byte]))
+        before = [content(folder, name) for name in ("control", "chunk.0")]
+        serve.send(script("commit main 1 a m"))
+        need(not serve.hear(), f"the line is answered by {serve.lines}")
+        same(serve.waited(), (DAMAGED, f"ipstore: damaged {line}\n"), "the end")
+        same([content(folder, name) for name in ("control", "chunk.0")], before, "the files")
+    return "a commit that meets what others changed of its first parent: status 4 with its place and names, no reply, and nothing is written"

@@ -83,7 +83,7 @@ def one(given, count):
         check("the root's name", said[-1].split()[3].decode(), shape.name(sorted(shape.digests)).hex())
         before = common.live_slot(folder).end
         step = step_of(count // 2)
-        said, editing = serve(given.program, folder, b"checkout main\nset %s 01\ncommit main 1 a m\n" % step)
+        said, editing = serve(given.program, folder, b"checkout main\nset %s 02\ncommit main 1 a m\n" % step)
         parts, number = shape.written(step)
         # contents, the parts, the commit with one parent, and its branch
         check("bytes that a commit appends", common.live_slot(folder).end - before, 6 + parts + 107 + 18)
