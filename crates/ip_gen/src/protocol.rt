@@ -14,9 +14,6 @@ use std::alloc::Global;
 use std::collections::BTreeSet;
 use std::marker::Model;
 
-#[cfg(test)]
-mod tests;
-
 /// The records of a store with what they refer to, the horizon, and the collection that goes on.
 #[derive(Drop)]
 pub struct Core {

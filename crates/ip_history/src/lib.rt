@@ -8,8 +8,6 @@ ghost use Rattle.ip_history.specs.History.{History, HasParentsFirst, Shows, hist
 
 mod frontier;
 mod table;
-#[cfg(test)]
-mod tests;
 
 pub use table::Table;
 

@@ -3,7 +3,7 @@ use Rattle.std.proofs.Common.{◌≡◌, [], ◌∷◌, refl, Some, None, pos, n
 use Rattle.std.specs.Prelude.{codes}
 use Rattle.sha2.specs.Sha256.{sha256}
 use Rattle.ip_spec.specs.declared.record.Record.{Record}
-use Rattle.ip_ground.specs.declared.names.Exit.{Exit}
+use Rattle.ip_base.specs.declared.exit.Exit.{Exit}
 use Rattle.ip_spec.specs.declared.reply.Produced.{Produced}
 use Rattle.ip_spec.specs.declared.reply.Seen.{Seen}
 use Rattle.ip_spec.specs.TreeAt.{Records}

@@ -8,8 +8,7 @@ ghost use Rattle.ip_spec.specs.Text.{hex_text, reply_text, words_of, limit_text,
 ghost use Rattle.ip_spec.specs.declared.reply.Reply.TheVariants as Reply;
 ghost use Rattle.ip_script.specs.Brief.{is_brief};
 
-use ip_base::{Hash, Info, Limit, Memory, Number, Step};
-use ip_ground::Exit;
+use ip_base::{Exit, Hash, Info, Limit, Memory, Number, Step};
 use ip_spec::reply::{Difference, Head, Produced, Reply, Seen};
 use ip_spec::tree::Item;
 use itoa::Buffer;

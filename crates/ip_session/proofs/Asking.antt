@@ -9,7 +9,7 @@
 use Rattle.std.proofs.Common.{◌≡◌, ◌≢◌, ◌↔◌, ◌⊎◌, inl, inr, ℕ, ◌-◌, ◌^◌, ◌≤◌, ◌++◌, Bool, true, false, List, [], ◌∷◌, refl, sym, ap, ◌∙◌, subst, arith, Option, Some, None, Ok, Err, IsTrue, length, append-nil}
 use Rattle.std.specs.Prelude.{Result, IfOk, OnOk, IfErr, IsErr, IsErrOf, IsSome, IsSomeAnd, is_err, is_some, not}
 use Rattle.ip_ground.specs.declared.names.GroundCounts.{GroundCounts}
-use Rattle.ip_ground.specs.declared.names.Reaped.{Reaped}
+use Rattle.ip_base.specs.declared.exit.Reaped.{Reaped}
 use Rattle.ip_ground.specs.Counts.{Counts, CountsLeft, Rose}
 use Rattle.ip_spawn.proofs.Rising.{rose_counted}
 use Rattle.ip_spawn.specs.Children.{told_after}

@@ -1,6 +1,6 @@
 // The commands of a collection.
 ghost use Rattle.std.specs.Prelude.{◌≡◌, ◌≤◌, ◌++◌, List, length, false, None, IsTrue, IfOk, IfErr, IsSome, IsSomeAnd};
-ghost use Rattle.ip_ground.specs.declared.names.Reaped.{Reaped};
+ghost use Rattle.ip_base.specs.declared.exit.Reaped.{Reaped};
 ghost use Rattle.ip_spawn.specs.declared.job.Job.{Job};
 ghost use Rattle.ip_spec.specs.declared.command.Command.TheVariants as Command;
 ghost use Rattle.ip_spec.specs.declared.reply.Reply.TheVariants as Reply;

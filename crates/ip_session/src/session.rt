@@ -2,7 +2,7 @@
 ghost use Rattle.std.specs.Prelude.{◌≡◌, ◌≤◌, [], ◌++◌, List, false, ℕ, Option, IsTrue, IfOk, IfErr, OnOk, OnErr, None, Ok};
 ghost use Rattle.std.specs.Vec.{vec_capacity};
 ghost use Rattle.ip_ground.specs.Counts.{Counts, CountsIf, FileFault};
-ghost use Rattle.ip_ground.specs.declared.names.Reaped.{Reaped};
+ghost use Rattle.ip_base.specs.declared.exit.Reaped.{Reaped};
 ghost use Rattle.ip_spawn.specs.declared.job.Job.{Job};
 ghost use Rattle.ip_spec.specs.Map.{len};
 ghost use Rattle.ip_spec.specs.View.{View, no_view};

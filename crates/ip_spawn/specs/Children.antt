@@ -1,6 +1,6 @@
 -- What a spawner tells of its children, and how each call goes on with it.
 use Rattle.std.specs.Prelude.{◌≡◌, ℕ, Bool, true, false, List, [], ◌∷◌, ◌++◌, Option, Some, None, Result, Ok, Err}
-use Rattle.ip_ground.specs.declared.names.Reaped.{Reaped}
+use Rattle.ip_base.specs.declared.exit.Reaped.{Reaped}
 use Rattle.ip_spawn.specs.declared.job.Job.{Job}
 use Rattle.ip_spawn.specs.declared.spawner.Look.{Look}
 use Rattle.ip_spawn.specs.declared.spawner.Look.TheVariants.{Running, Ended}

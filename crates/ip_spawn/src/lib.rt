@@ -6,8 +6,6 @@
 mod job;
 mod scripted;
 mod spawner;
-#[cfg(test)]
-mod tests;
 
 pub use job::{Job, chunk_allowed};
 pub use scripted::{Plan, Plans, Scripted};

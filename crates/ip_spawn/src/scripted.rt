@@ -2,7 +2,8 @@
 ghost use Rattle.std.specs.Prelude.{◌≡◌};
 
 use crate::{Job, Look, SpawnCounts, SpawnFault, Spawner};
-use ip_ground::{Calls, Exit, Reaped};
+use ip_base::{Exit, Reaped};
+use ip_ground::Calls;
 use std::alloc::Global;
 
 /// How a child goes: it runs for so many looks, and then it has ended so.

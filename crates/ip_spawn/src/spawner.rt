@@ -5,7 +5,7 @@ ghost use Rattle.ip_spawn.specs.Counts.{Counts};
 ghost use Rattle.ip_spawn.specs.Children.{Told, held_after_start, told_after_start, end_seen, end_reaped, is_running, held_after, told_after};
 
 use crate::Job;
-use ip_ground::Reaped;
+use ip_base::Reaped;
 
 /// What a look at the child gave.
 #[derive(Clone, Copy, Debug, PartialEq, Eq)]

@@ -22,9 +22,9 @@ pub use Rattle.ip_spec.specs.declared.reply.Reply.{Reply}
 pub use Rattle.ip_spec.specs.declared.reply.Reply.TheVariants as Reply
 pub use Rattle.ip_base.specs.declared.limit.Limit.{Limit}
 pub use Rattle.ip_base.specs.declared.limit.Limit.TheVariants as Limit
-pub use Rattle.ip_ground.specs.declared.names.Exit.{Exit}
-pub use Rattle.ip_ground.specs.declared.names.Exit.TheVariants as Exit
-pub use Rattle.ip_ground.specs.declared.names.Reaped.{Reaped}
+pub use Rattle.ip_base.specs.declared.exit.Exit.{Exit}
+pub use Rattle.ip_base.specs.declared.exit.Exit.TheVariants as Exit
+pub use Rattle.ip_base.specs.declared.exit.Reaped.{Reaped}
 use Rattle.ip_spec.specs.Tree.{Tree, no_tree}
 use Rattle.ip_spec.specs.Repository.{Repository}
 

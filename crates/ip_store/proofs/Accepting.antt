@@ -13,7 +13,7 @@ use Rattle.ip_ground.specs.declared.names.FileName.{FileName}
 use Rattle.ip_ground.specs.declared.names.FileName.TheVariants.{Control, Chunk, Prefix, Mapping}
 use Rattle.ip_ground.specs.declared.names.GroundCounts.{GroundCounts}
 use Rattle.ip_ground.specs.declared.names.GroundFault.{GroundFault}
-use Rattle.ip_ground.specs.declared.names.Reaped.{Reaped}
+use Rattle.ip_base.specs.declared.exit.Reaped.{Reaped}
 use Rattle.ip_ground.specs.Counts.{CountsIf, FileFault}
 use Rattle.ip_ground.specs.Contents.{Content, Image}
 use Rattle.ip_ground.specs.Told.{Told, IsForeign, IsLoose, IsSynced, IsPossibleNow, IsSettledAs, KeepsFile, NoFile, Only}

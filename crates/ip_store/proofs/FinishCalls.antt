@@ -8,12 +8,12 @@
 --     goes_on, on_finishes, on_works, on_counts      it was, whether it was heard now or before
 use Rattle.std.proofs.Common.{◌≡◌, ◌≢◌, ◌≤◌, ◌⊎◌, inl, inr, ℕ, true, false, Some, None, Option, refl, sym, ◌∙◌, ap, subst}
 use Rattle.std.specs.Prelude.{Result, Ok, Err, OnErr, IfSome, is_some}
-use Rattle.ip_ground.specs.declared.names.Exit.{Exit}
+use Rattle.ip_base.specs.declared.exit.Exit.{Exit}
 use Rattle.ip_ground.specs.declared.names.FileName.{FileName}
 use Rattle.ip_ground.specs.declared.names.FileName.TheVariants.{Control}
 use Rattle.ip_ground.specs.declared.names.GroundCounts.{GroundCounts}
 use Rattle.ip_ground.specs.declared.names.GroundFault.{GroundFault}
-use Rattle.ip_ground.specs.declared.names.Reaped.{Reaped}
+use Rattle.ip_base.specs.declared.exit.Reaped.{Reaped}
 use Rattle.ip_ground.specs.Custody.{lent}
 use Rattle.ip_ground.specs.Told.{Told, lending, NoFile, ChangesOnly}
 use Rattle.ip_ground.proofs.Spans.{lending_now, only_more}

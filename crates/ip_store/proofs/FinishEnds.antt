@@ -8,7 +8,7 @@ use Rattle.std.specs.Prelude.{IsSome, Result, Ok, Err, if◌then◌else◌, ◌=
 use Rattle.ip_base.specs.declared.limit.TheConstants.{OFFSET_MAX}
 use Rattle.ip_base.specs.declared.limit.Limit.{Limit}
 use Rattle.ip_ground.specs.declared.names.GroundCounts.{GroundCounts}
-use Rattle.ip_ground.specs.declared.names.Reaped.{Reaped}
+use Rattle.ip_base.specs.declared.exit.Reaped.{Reaped}
 use Rattle.ip_ground.specs.Counts.{Counts, CountsLeft}
 use Rattle.ip_ground.specs.Told.{Told}
 use Rattle.ip_spec.specs.Repository.{Repository}

@@ -12,10 +12,10 @@ use Rattle.std.specs.Prelude.{Result, Ok, Err, IsSome, IfSome, IfOk, OnOk, is_so
 use Rattle.ip_base.specs.declared.memory.Memory.{Memory}
 use Rattle.ip_ground.specs.declared.names.FileName.{FileName}
 use Rattle.ip_ground.specs.declared.names.FileName.TheVariants.{Mapping, Prefix}
-use Rattle.ip_ground.specs.declared.names.Exit.TheVariants as Exit
+use Rattle.ip_base.specs.declared.exit.Exit.TheVariants as Exit
 use Rattle.ip_ground.specs.declared.names.GroundCounts.{GroundCounts}
 use Rattle.ip_ground.specs.declared.names.GroundFault.{GroundFault}
-use Rattle.ip_ground.specs.declared.names.Reaped.{Reaped}
+use Rattle.ip_base.specs.declared.exit.Reaped.{Reaped}
 use Rattle.ip_ground.specs.Calls.{Settles}
 use Rattle.ip_ground.specs.Counts.{Counts}
 use Rattle.ip_ground.specs.Contents.{Image}

@@ -7,7 +7,7 @@
 use Rattle.std.specs.Prelude.{◌≡◌, ◌↔◌, ◌==◌, if◌then◌else◌, ℕ, ◌<◌, ◌≤◌, true, Option, None, Result, Ok, Err, IsOk, IfSome}
 use Rattle.ip_ground.specs.declared.names.FileName.{FileName}
 use Rattle.ip_ground.specs.declared.names.GroundCounts.{GroundCounts}
-use Rattle.ip_ground.specs.declared.names.Reaped.{Reaped}
+use Rattle.ip_base.specs.declared.exit.Reaped.{Reaped}
 use Rattle.ip_ground.specs.Counts.{CountsLeft, FileFault}
 use Rattle.ip_ground.specs.Custody.{lent}
 use Rattle.ip_ground.specs.Contents.{Image}

@@ -11,7 +11,7 @@
 --     IsAbove collection x      the record puts no branch below the commit of the collection
 use Rattle.std.specs.Prelude.{◌≡◌, ◌≢◌, ◌⊎◌, ℕ, ◌+◌, ◌-◌, ◌/◌, ◌≤◌, List, filter, Option, Some, None, is_some, IsTrue, IsSome, IfSome, Ok, nat_lt, slice_get}
 use Rattle.ip_ground.specs.declared.names.FileName.TheVariants.{Prefix, Mapping}
-use Rattle.ip_ground.specs.declared.names.Reaped.{Reaped}
+use Rattle.ip_base.specs.declared.exit.Reaped.{Reaped}
 use Rattle.ip_ground.specs.Contents.{Image}
 use Rattle.ip_ground.specs.Custody.{lent}
 use Rattle.ip_ground.specs.Told.{Told, lending, IsSettledAs}

@@ -8,8 +8,8 @@
 --     Goes child most result store now      and what the whole call does, whatever was heard
 use Rattle.std.specs.Prelude.{◌≡◌, ◌≢◌, ◌⊎◌, ◌↔◌, ℕ, ◌-◌, ◌≤◌, ◌^◌, Bool, true, false, Option, Some, None, Result, Ok, Err, IfSome, IsErrOf, IsTrue, is_err, is_ok, is_some}
 use Rattle.ip_base.specs.declared.limit.Limit.{Limit}
-use Rattle.ip_ground.specs.declared.names.Exit.{Exit}
-use Rattle.ip_ground.specs.declared.names.Reaped.{Reaped}
+use Rattle.ip_base.specs.declared.exit.Exit.{Exit}
+use Rattle.ip_base.specs.declared.exit.Reaped.{Reaped}
 use Rattle.ip_ground.specs.Contents.{Image}
 use Rattle.ip_ground.specs.Told.{Told, IsSettledAs, NoFile}
 use Rattle.ip_spawn.specs.declared.spawner.Look.{Look}

@@ -8,8 +8,8 @@
 --     verdict_by outcome left      what an answer of the check says
 --     IsCheckOf c over k      a check of a collection's files, over a store's space.      IsNextCheck c over k      the one that goes on
 use Rattle.std.specs.Prelude.{◌≡◌, ℕ, pos, Option, Some, None, Result, Ok, Err, IsSomeAnd, IfSome}
-use Rattle.ip_ground.specs.declared.names.Exit.{Exit}
-use Rattle.ip_ground.specs.declared.names.Exit.TheVariants as Exit
+use Rattle.ip_base.specs.declared.exit.Exit.{Exit}
+use Rattle.ip_base.specs.declared.exit.Exit.TheVariants as Exit
 use Rattle.ip_ground.specs.Contents.{Image}
 use Rattle.ip_ground.specs.Told.{Told}
 use Rattle.ip_spec.specs.TreeAt.{Records}

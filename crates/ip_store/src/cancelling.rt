@@ -1,6 +1,6 @@
 // Cancelling a collection: its child is killed, unless it was reaped before, and what it left is swept away.
 ghost use Rattle.std.specs.Prelude.{◌≡◌, ◌↔◌, ℕ, [], ◌∷◌, true, false, Option, Some, None, Ok, IsTrue, IsSome, IsOk, IsErrOf, is_some, not};
-ghost use Rattle.ip_ground.specs.declared.names.Reaped.{Reaped};
+ghost use Rattle.ip_base.specs.declared.exit.Reaped.{Reaped};
 ghost use Rattle.ip_spawn.specs.Children.{told_after};
 ghost use Rattle.ip_spawn.specs.Counts as spawn;
 ghost use Rattle.ip_spec.specs.declared.command.Command.TheVariants as Command;

@@ -2,7 +2,7 @@
 ghost use Rattle.std.specs.Prelude.{◌≡◌, ◌-◌, ◌≤◌, ◌^◌, pos, Option, Some, None, IsTrue, IsSome, IfSome, IfOk, IsErr};
 ghost use Rattle.ip_ground.specs.Counts.{Counts};
 ghost use Rattle.ip_ground.specs.Told.{NoFile, ChangesOnly};
-ghost use Rattle.ip_ground.specs.declared.names.Exit.TheVariants as Exit;
+ghost use Rattle.ip_base.specs.declared.exit.Exit.TheVariants as Exit;
 ghost use Rattle.ip_spawn.specs.Jobs.{IsValid as IsValidJob};
 ghost use Rattle.ip_check.specs.CheckView.{CheckView};
 ghost use Rattle.ip_check.specs.Checking.{IsSpaceOf};
@@ -15,9 +15,9 @@ ghost use Rattle.ip_store.specs.declared.collection.Collection.{Collection as Co
 
 use crate::finishing::{FinishFault, Rejection, fault_of};
 use crate::{Collection, Store};
-use ip_base::Memory;
+use ip_base::{Exit, Memory};
 use ip_check::{Check, CheckFault, Outcome};
-use ip_ground::{Exit, Ground};
+use ip_ground::Ground;
 use ip_space::Space;
 use std::alloc::Global;
 

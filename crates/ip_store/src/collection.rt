@@ -1,7 +1,6 @@
 // What a store keeps of a collection, and of what was not swept away so far.
-use ip_base::Number;
+use ip_base::{Number, Reaped};
 use ip_check::Check;
-use ip_ground::Reaped;
 use ip_spawn::Job;
 
 /// A collection that goes on: at which commit, what its child was told, how that ended where it was reaped, and how far the check is of what it wrote.
