@@ -14,6 +14,7 @@ use Rattle.ip_spec.specs.Record.{spelling}
 use Rattle.ip_spec.specs.TreeAt.{Records, present}
 use Rattle.ip_image.specs.declared.run.Run.{Run}
 use Rattle.ip_image.specs.Standing.{RunByRun}
+use Rattle.ip_image.specs.Virtual.{Stands}
 use Rattle.ip_image.proofs.StayingRecords.{in_from, in_contains}
 use Rattle.ip_space.specs.SpaceView.{SpaceView, IsReadable, byte_at, records_of, stretches_of}
 use Rattle.ip_space.proofs.Stayed.{byte_stays, readable_stays}
@@ -24,10 +25,12 @@ use Rattle.ip_keep.specs.Entering.{are_below, refs_of, Gains, GainsSome}
 use Rattle.ip_keep.specs.Going.{Goes, Blameless}
 use Rattle.ip_keep.specs.KeepView.{KeepView}
 use Rattle.ip_keep.specs.Keeping.{IsKeep, IsKeeping, SameWork, lowest}
+use Rattle.ip_keep.specs.Runs.{AreHeld}
 use Rattle.ip_keep.specs.Whole.{AreRecords}
 use Rattle.ip_keep.proofs.Ascending.{up, increasing, up_front, last_is}
 use Rattle.ip_keep.proofs.Looked.{waits, behind_next, with_kept, waits_below, stays_keep, horizon_low, passed_keep, kept_keep, entered, above_sound, below_sound, next_there, passed, waits_there, inside_lowest, refers_under, refers_below, kept_one}
 use Rattle.ip_keep.proofs.WholeRecords.{in_space}
+use Rattle.ip_keep.proofs.Held.{held_stood, held_later}
 
 pub later_whole : (a b : Told) (space : SpaceView) (h : ℕ) (records : Records) → ChangesOnly NoFile a b → IsReadable a space → AreRecords a.held space h records → AreRecords b.held space h records
 later_whole a b space h records only readable whole = record {
@@ -49,7 +52,7 @@ same_work k = record { space = refl; horizon = refl }
 
 module _ (tells : Bool) where
   pub goes_nowhere : (a : Told) (k : KeepView) → IsKeep k → Goes tells a a k k
-  goes_nowhere a k keep = record { keep = keep; work = same_work k; only = λ t. only_nowhere a NoFile; keeping = λ t readable records whole keeping. keeping }
+  goes_nowhere a k keep = record { keep = keep; work = same_work k; only = λ t. only_nowhere a NoFile; keeping = λ t readable records whole keeping. keeping; held = λ t readable held. held }
 
   pub goes_on : (a b c : Told) (k m n : KeepView) → Goes tells a b k m → Goes tells b c m n → Goes tells a c k n
   goes_on a b c k m n one two = record {
@@ -59,6 +62,10 @@ module _ (tells : Bool) where
     keeping = λ t readable records whole keeping.
         two.keeping t (subst (IsReadable b) (sym one.work.space) (readable_stays a b (one.only t) k.space readable)) records
         (other_whole b k m records one.work (later_whole a b k.space k.horizon records (one.only t) readable whole)) (one.keeping t readable records whole keeping);
+    held = λ t readable held.
+        subst (λ (s : SpaceView). AreHeld (byte_at c s) n.kept) one.work.space
+        (two.held t (subst (IsReadable b) (sym one.work.space) (readable_stays a b (one.only t) k.space readable))
+        (subst (λ (s : SpaceView). AreHeld (byte_at b s) m.kept) (sym one.work.space) (one.held t readable held)));
   }
 
   pub blames_later : {A : Type 0} (a b : Told) (k m : KeepView) (result : Result A KeepFault) → Goes tells a b k m → Blameless tells b m result → Blameless tells a k result
@@ -69,8 +76,11 @@ module _ (tells : Bool) where
   -- ---- a record is read
 
   module _ (a b : Told) (k : KeepView) (keep : IsKeep k) (only : IsTrue tells → ChangesOnly NoFile a b) where
+    still_held : IsTrue tells → IsReadable a k.space → AreHeld (byte_at a k.space) k.kept → AreHeld (byte_at b k.space) k.kept
+    still_held t readable held = held_later a b k.space (only t) readable k.kept held
+
     pub goes_read : Goes tells a b k k
-    goes_read = record { keep = keep; work = same_work k; only = only; keeping = λ t readable records whole keeping. keeping }
+    goes_read = record { keep = keep; work = same_work k; only = only; keeping = λ t readable records whole keeping. keeping; held = still_held }
 
     -- the one that stands there is the one that was read
     is_there : (records : Records) → AreRecords a.held k.space k.horizon records → (at : ℕ) (r : Record) → records_of a k.space at ≡ Some r → (s : Record) × (present records at ≡ Some s) → present records at ≡ Some r
@@ -92,6 +102,7 @@ module _ (tells : Bool) where
         work = record { space = refl; horizon = refl };
         only = only;
         keeping = some_entered gains;
+        held = still_held;
       }
 
       pub goes_behind : Gains k.waiting w (refs_of r) k.horizon → k.next + length (spelling r) ≤ k.space.layout.end → Goes tells a b k (behind_next (waits k w) r)
@@ -101,6 +112,7 @@ module _ (tells : Bool) where
         only = only;
         keeping = λ t readable records whole keeping.
             passed a.held records (waits k w) whole (some_entered gains.some t readable records whole keeping) r kept more (here t readable records whole keeping) (λ at c under. inl (gains.all at c under));
+        held = still_held;
       }
         where
           kept : IsKeep (waits k w)
@@ -125,6 +137,7 @@ module _ (tells : Bool) where
         work = record { space = refl; horizon = refl };
         only = only;
         keeping = below_entered gains;
+        held = still_held;
       }
 
       -- it is the last one still
@@ -136,8 +149,8 @@ module _ (tells : Bool) where
           by n (inr (c, less)) = omega (arith, less)
 
       pub goes_kept : (rest : List ℕ) (size : ℕ) → Gains k.waiting w (refs_of r) at → k.next ≡ k.space.layout.end → w ≡ rest ++ at ∷ [] → size ≡ length (spelling r) → at + size ≤ lowest k
-          → Goes tells a b k (with_kept (waits k w) rest (record { at = at; length = size }))
-      goes_kept rest size gains through is long inside = record {
+          → (IsTrue tells → IsReadable a k.space → Stands (byte_at b k.space) at (spelling r)) → Goes tells a b k (with_kept (waits k w) rest (record { at = at; length = size }))
+      goes_kept rest size gains through is long inside stands_read = record {
         keep = kept_keep (waits k w) rest run (stays_keep k w (refs_of r) at keep at_low gains.some) through is (let some = some_bytes r in omega (arith, some, long)) inside
             (increasing rest (up_front rest at (up (rest ++ at ∷ []) (subst IsStrictlyIncreasing is (gains.some.rises keep.waits)))));
         work = record { space = refl; horizon = refl };
@@ -145,6 +158,7 @@ module _ (tells : Bool) where
         keeping = λ t readable records whole keeping.
             kept_one a.held records (waits k w) whole (below_entered gains.some t readable records whole keeping) rest run r is (stands t readable records whole keeping) long
             (λ n c. inl (gains.all n c (refers_under a.held records k whole keeping r at (stands t readable records whole keeping) n c)));
+        held = λ t readable held. (held_stood (byte_at b k.space) at size (spelling r) (stands_read t readable) (sym long), still_held t readable held);
       }
         where
           run : Run

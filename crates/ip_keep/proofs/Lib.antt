@@ -10,3 +10,4 @@ pub mod Bounds
 pub mod Looks
 pub mod Begins
 pub mod Standings
+pub mod Held

@@ -5,7 +5,8 @@ use Rattle.std.specs.Prelude.{Contains, Some, IsTrue, Result, IsErrOf}
 use Rattle.ip_ground.specs.Told.{Told, NoFile, ChangesOnly}
 use Rattle.ip_spec.specs.declared.record.Record.{Record}
 use Rattle.ip_spec.specs.Record.{spelling}
-use Rattle.ip_space.specs.SpaceView.{SpaceView, IsReadable, records_of}
+use Rattle.ip_image.specs.Virtual.{Stands}
+use Rattle.ip_space.specs.SpaceView.{SpaceView, IsReadable, byte_at, records_of}
 use Rattle.ip_space.specs.ScanView.{ScanView}
 use Rattle.ip_space.specs.Scanning.{IsCurrent}
 use Rattle.ip_keep.specs.declared.fault.KeepFault.{KeepFault}
@@ -79,11 +80,11 @@ module _ (tells : Bool) (a : Told) (at : ℕ) (k o : KeepView) (is : k ≡ o) (a
       down_last gains = still_last tells a b k set.keep only r w at set.there found gains set.most
 
       pub down_kept : (rest : List ℕ) (size below : ℕ) → Gains k.waiting w (refs_of r) at → w ≡ rest ++ at ∷ [] → size ≡ length (spelling r) → at + size ≤ below → below ≡ lowest o
-          → Goes tells a b o (record k { space = space; waiting = rest; kept = record { at = at; length = size } ∷ k.kept })
-      down_kept rest size below gains last long inside low =
+          → (IsTrue tells → IsReadable a k.space → Stands (byte_at b k.space) at (spelling r)) → Goes tells a b o (record k { space = space; waiting = rest; kept = record { at = at; length = size } ∷ k.kept })
+      down_kept rest size below gains last long inside low stands =
           let low_k : below ≡ lowest k = low ∙ ap lowest (sym is) in
           moved (with_kept (waits k w) rest (record { at = at; length = size })) space same
-          (goes_kept tells a b k set.keep only r w at set.there found rest size gains set.up last long (omega (arith, inside, low_k)))
+          (goes_kept tells a b k set.keep only r w at set.there found rest size gains set.up last long (omega (arith, inside, low_k)) stands)
 
   pub down_blameless : {A : Type 0} (result : Result A KeepFault) (below : ℕ) → below ≡ lowest o
       → (IsTrue tells → IsReadable a k.space → (place : ℕ) → IsErrOf result (KeepFault.Damaged place) → (r : Record) → records_of a k.space at ≡ Some r → are_below at (refs_of r) ≡ true → below < at + length (spelling r)) → Blameless tells a o result

@@ -6,12 +6,13 @@
 use Rattle.std.specs.Prelude.{◌≡◌, ℕ, ◌+◌, ◌<◌, ◌≤◌, Bool, IsTrue, Result, Ok, Err}
 use Rattle.ip_ground.specs.Told.{Told, NoFile, ChangesOnly}
 use Rattle.ip_spec.specs.TreeAt.{Records}
-use Rattle.ip_space.specs.SpaceView.{IsReadable}
+use Rattle.ip_space.specs.SpaceView.{IsReadable, byte_at}
 use Rattle.ip_space.specs.ScanView.{ScanView}
 use Rattle.ip_keep.specs.declared.fault.KeepFault.{KeepFault}
 use Rattle.ip_keep.specs.Faults.{IsUndamaged}
 use Rattle.ip_keep.specs.KeepView.{KeepView}
 use Rattle.ip_keep.specs.Keeping.{IsKeep, IsKeeping, SameWork, looked_in}
+use Rattle.ip_keep.specs.Runs.{AreHeld}
 use Rattle.ip_keep.specs.Whole.{AreRecords}
 
 pub record Goes (tells : Bool) (before after : Told) (old new : KeepView) : Type 0 where
@@ -19,6 +20,8 @@ pub record Goes (tells : Bool) (before after : Told) (old new : KeepView) : Type
   pub work : SameWork old new
   pub only : IsTrue tells → ChangesOnly NoFile before after
   pub keeping : IsTrue tells → IsReadable before old.space → (records : Records) → AreRecords before.held old.space old.horizon records → IsKeeping records old → IsKeeping records new
+  -- over any files, what is kept was read whole
+  pub held : IsTrue tells → IsReadable before old.space → AreHeld (byte_at before old.space) old.kept → AreHeld (byte_at after old.space) new.kept
 
 abbrev pub Blameless : {A : Type 0} → Bool → Told → KeepView → Result A KeepFault → Type 0
 Blameless tells before old result = IsTrue tells → IsReadable before old.space → (records : Records) → AreRecords before.held old.space old.horizon records → IsKeeping records old → IsUndamaged result

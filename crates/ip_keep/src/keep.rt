@@ -6,12 +6,12 @@ ghost use Rattle.ip_ground.specs.Counts.{Counts};
 ghost use Rattle.ip_ground.specs.Told.{NoFile, ChangesOnly};
 ghost use Rattle.ip_spec.specs.TreeAt.{Records};
 ghost use Rattle.ip_image.specs.Virtual.{RowsFit, placed, total};
-ghost use Rattle.ip_space.specs.SpaceView.{AreBelow, IsReadable};
+ghost use Rattle.ip_space.specs.SpaceView.{AreBelow, IsReadable, byte_at};
 ghost use Rattle.ip_space.specs.Scanning.{IsCurrent};
 ghost use Rattle.ip_keep.specs.Faults.{ground_keep, IsUndamaged};
 ghost use Rattle.ip_keep.specs.Going.{Goes, Blameless, IsAlong, LooksOne, LooksOn};
 ghost use Rattle.ip_keep.specs.Keeping.{IsKeep, IsThrough, IsKeeping, LooksUpTo, SameWork, looked_in, lowest};
-ghost use Rattle.ip_keep.specs.Runs.{FitRuns, joined, left_of};
+ghost use Rattle.ip_keep.specs.Runs.{AreHeld, FitRuns, joined, left_of};
 ghost use Rattle.ip_keep.specs.Whole.{AreRecords};
 
 use crate::enter::enter;
@@ -133,6 +133,9 @@ impl Keep {
         ensures readable { IsTrue G.tells → IsReadable (G.told outside.old) self.old.space → IsReadable (G.told outside.new) self.old.space }
         ensures keeping { IsTrue G.tells → IsReadable (G.told outside.old) self.old.space → (records : Records) → AreRecords (G.told outside.old).held self.old.space self.old.horizon records →
             IsKeeping records self.old → IsKeeping records self.new }
+        // Over any files: no byte of what is kept is missing.
+        ensures held { IsTrue G.tells → IsReadable (G.told outside.old) self.old.space → AreHeld (byte_at (G.told outside.old) self.old.space) self.old.kept →
+            AreHeld (byte_at (G.told outside.new) self.old.space) self.new.kept }
         ensures undamaged { IsTrue G.tells → IsReadable (G.told outside.old) self.old.space → (records : Records) → AreRecords (G.told outside.old).held self.old.space self.old.horizon records →
             IsKeeping records self.old → IsUndamaged result }
         ensures only { IsTrue G.tells → ChangesOnly NoFile (G.told outside.old) (G.told outside.new) }

@@ -5,7 +5,8 @@ ghost use Rattle.ip_base.specs.declared.limit.TheConstants.{OFFSET_MAX};
 ghost use Rattle.ip_ground.specs.Counts.{Counts};
 ghost use Rattle.ip_ground.specs.Told.{NoFile, ChangesOnly};
 ghost use Rattle.ip_spec.specs.Record.{spelling};
-ghost use Rattle.ip_space.specs.SpaceView.{IsReadable, records_of};
+ghost use Rattle.ip_image.specs.Virtual.{Stands};
+ghost use Rattle.ip_space.specs.SpaceView.{IsReadable, byte_at, records_of};
 ghost use Rattle.ip_space.specs.Scanning.{IsCurrent};
 ghost use Rattle.ip_keep.specs.declared.fault.KeepFault.TheVariants as KeepFault;
 ghost use Rattle.ip_spec.specs.declared.record.InodeChild.{InodeChild as InodeChildValue};
@@ -96,6 +97,7 @@ pub(crate) fn record_below<G: Ground>(
     ensures same { space.new ≡ space.old }
     ensures only { IsTrue G.tells → ChangesOnly NoFile (G.told outside.old) (G.told outside.new) }
     ensures found { IsTrue G.tells → IsReadable (G.told outside.old) space.old → IfOk result (λ found. records_of (G.told outside.old) space.old at ≡ Some found.0) }
+    ensures stands { IsTrue G.tells → IsReadable (G.told outside.old) space.old → IfOk result (λ found. Stands (byte_at (G.told outside.new) space.old) at (spelling found.0)) }
     ensures damaged { IsTrue G.tells → IsReadable (G.told outside.old) space.old → (place : ℕ) → IsErrOf result (KeepFault.Damaged place) →
         (rec : Record) → records_of (G.told outside.old) space.old at ≡ Some rec → are_below at (refs_of rec) ≡ true → below < at + length (spelling rec) }
     ensures length { IfOk result (λ found. found.1 ≡ length (spelling found.0)) }

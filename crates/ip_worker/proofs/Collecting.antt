@@ -25,11 +25,11 @@ use Rattle.ip_image.proofs.KeptRuns.{runs_filled, rows_total}
 use Rattle.ip_image.proofs.StoredLaws.{runs_stand}
 use Rattle.ip_space.specs.SpaceView.{byte_at, stretches_of}
 use Rattle.ip_keep.specs.KeepView.{KeepView}
-use Rattle.ip_keep.specs.Runs.{joined}
+use Rattle.ip_keep.specs.Runs.{AreHeld, joined}
 use Rattle.ip_keep.specs.Whole.{run_at}
 use Rattle.ip_keep.proofs.LeastSet.{keeps_all}
 use Rattle.ip_worker.specs.declared.worker.Counts.{Counts}
-use Rattle.ip_worker.specs.Steps.{IsFree, IsPairFile, IsFor, IsFound, AreHeld, gathered, IsCounted, IsWritten, Clears, SyncsPair, Ends}
+use Rattle.ip_worker.specs.Steps.{IsFree, IsPairFile, IsFor, IsFound, gathered, IsCounted, IsWritten, Clears, SyncsPair, Ends}
 use Rattle.ip_worker.specs.Working.{DoneLast, IsLeft}
 use Rattle.ip_worker.proofs.Gathered.{kept_gathered, kept_held}
 use Rattle.ip_worker.proofs.Copying.{not_foreign, not_loose, free_on, of_none}

@@ -25,7 +25,8 @@ use Rattle.ip_space.specs.SpaceView.{SpaceView, IsReadable, byte_at}
 use Rattle.ip_space.specs.Ahead.{ReadsBytes}
 use Rattle.ip_space.proofs.Stayed.{byte_beside, readable_beside}
 use Rattle.ip_space.proofs.StoodBytes.{alike}
-use Rattle.ip_worker.specs.Steps.{IsFree, IsReady, IsHeld, AreHeld, IsCopied, CopiesRuns, gathered}
+use Rattle.ip_keep.specs.Runs.{IsHeld, AreHeld}
+use Rattle.ip_worker.specs.Steps.{IsFree, IsReady, IsCopied, CopiesRuns, gathered}
 use Rattle.ip_worker.specs.declared.fault.WorkFault.{WorkFault}
 use Rattle.ip_worker.proofs.Gathered.{from_stood, from_more, more_size, held_part, held_at, gathered_next}
 

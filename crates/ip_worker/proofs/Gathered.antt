@@ -1,9 +1,9 @@
 -- Bytes that stand, as a list.
 --     from_more, more_size      more bytes behind those that are there.      from_stood      bytes that stand are there
---     held_part, held_stood, held_at      a part, bytes that stand, and a run of several
+--     held_part, held_at      a part, and a run of several
 --     gathered_next      one run more.      kept_gathered, kept_held      the runs of records that stand
-use Rattle.std.proofs.Common.{◌≡◌, ◌≢◌, inl, ℕ, zero, suc, ◌+◌, ◌<◌, ◌≤◌, List, [], ◌∷◌, ◌++◌, length, take, get_or, refl, sym, ◌∙◌, ap, subst, arith, length-append, append_assoc, append-nil}
-use Rattle.std.specs.Prelude.{Option, Some, None, slice_get}
+use Rattle.std.proofs.Common.{◌≡◌, inl, ℕ, zero, suc, ◌+◌, ◌<◌, ◌≤◌, List, [], ◌∷◌, ◌++◌, length, take, get_or, refl, sym, ◌∙◌, ap, subst, arith, length-append, append_assoc, append-nil}
+use Rattle.std.specs.Prelude.{Option, Some, None}
 use Rattle.ip_spec.specs.Path.{Bytes}
 use Rattle.ip_spec.specs.Record.{spelling}
 use Rattle.ip_spec.specs.TreeAt.{Records}
@@ -13,7 +13,9 @@ use Rattle.ip_image.specs.Standing.{EndToEnd, RunByRun}
 use Rattle.ip_image.specs.Collection.{kept_bytes}
 use Rattle.ip_image.specs.Stored.{bytes_from}
 use Rattle.ip_space.proofs.StoodBytes.{all_from, stands_both}
-use Rattle.ip_worker.specs.Steps.{IsHeld, AreHeld, gathered}
+use Rattle.ip_keep.proofs.Held.{held_stood}
+use Rattle.ip_keep.specs.Runs.{IsHeld, AreHeld}
+use Rattle.ip_worker.specs.Steps.{gathered}
 
 module _ (f : ℕ → Option ℕ) where
   from_step : (at n : ℕ) (o : Option ℕ) → f at ≡ o → bytes_from f at (suc n) ≡ elim o [ None ↦ [] | Some b ↦ b ∷ bytes_from f (suc at) n ]
@@ -49,14 +51,6 @@ module _ (f : ℕ → Option ℕ) where
   held_part at n m k le held i below gap =
       let place : at + (m + i) ≡ at + m + i = omega arith in
       held (m + i) (omega (arith, le, below)) (ap f place ∙ gap)
-
-  pub held_stood : (at n : ℕ) (bytes : Bytes) → Stands f at bytes → length bytes ≡ n → IsHeld f at n
-  held_stood at n bytes stands size k below gap = some bytes k (omega (arith, size, below)) (sym (stands k (omega (arith, size, below))) ∙ gap)
-    where
-      some : (bytes : Bytes) (k : ℕ) → k < length bytes → slice_get bytes k ≢ None
-      some [] k below none = absurd (omega (arith, below))
-      some (b ∷ bytes) zero below none = absurd (cc none)
-      some (b ∷ bytes) (suc k) below none = some bytes k (omega (arith, below)) none
 
   -- one of the runs
   pub held_at : (runs : List Run) (i : ℕ) (d : Run) → i < length runs → AreHeld f runs → IsHeld f (get_or runs i d).at (get_or runs i d).length
@@ -102,4 +96,4 @@ module _ (f : ℕ → Option ℕ) where
   kept_held [] kept none = tt
   kept_held (run ∷ runs) kept (here, later, is, ends, rest) =
       let stands = along run.at (run.at + run.length) here ends in
-      (held_stood run.at run.length (kept_bytes here) stands.0 (run_size run here ends), kept_held runs later rest)
+      (held_stood f run.at run.length (kept_bytes here) stands.0 (run_size run here ends), kept_held runs later rest)

@@ -6,3 +6,4 @@ mod RowSums
 mod Finding
 mod Collecting
 mod Stages
+pub mod Serving

@@ -4,11 +4,10 @@
 --     NoneDone attempt told      a crash leaves no done file
 --     Clears, SyncsPair, Ends      what was there goes, the pair is synced, the done file is written and synced
 --     IsFor job k      the search is the job's.      IsFound records image k      all that is kept was found.      Opens, Finds      its space, and the search
---     IsHeld bytes_at at n      no byte is missing.      AreHeld bytes_at runs      nor of the runs.      gathered bytes_at runs      their bytes, one run behind another
+--     gathered bytes_at runs      the bytes of the runs, one run behind another
 --     IsCopied, Copies, CopiesRuns      bytes are copied to the end of the prefix, and runs are
 --     IsCounted kept counts      the counts are those of what was kept.      IsWritten, WritesPair      the pair is written, and synced
-use Rattle.std.specs.Prelude.{◌≡◌, ◌≢◌, ℕ, ◌+◌, ◌<◌, List, ◌++◌, flat_map, length, codes, Option, Some, None, Result, IfOk, OnOk, IsErrOf}
-use Rattle.std.specs.List.{AllByRecursion}
+use Rattle.std.specs.Prelude.{◌≡◌, ◌≢◌, ℕ, List, ◌++◌, flat_map, length, codes, Option, Some, None, Result, IfOk, OnOk, IsErrOf}
 use Rattle.ip_ground.specs.declared.names.FileName.{FileName}
 use Rattle.ip_ground.specs.declared.names.FileName.TheVariants.{Control, Chunk, Mapping, Prefix, Done}
 use Rattle.ip_ground.specs.declared.names.GroundFault.{GroundFault}
@@ -26,7 +25,7 @@ use Rattle.ip_image.specs.Stored.{bytes_from}
 use Rattle.ip_space.specs.SpaceView.{SpaceView, IsReadable}
 use Rattle.ip_keep.specs.KeepView.{KeepView}
 use Rattle.ip_keep.specs.Keeping.{IsKeep, IsThrough, IsKeeping}
-use Rattle.ip_keep.specs.Runs.{joined}
+use Rattle.ip_keep.specs.Runs.{IsHeld, AreHeld, joined}
 use Rattle.ip_keep.specs.Whole.{AreRecords}
 use Rattle.ip_worker.specs.declared.fault.WorkFault.{WorkFault}
 use Rattle.ip_worker.specs.declared.worker.Counts.{Counts}
@@ -84,12 +83,6 @@ pub record Opens (job : Job) (rows : List Row) (result : Result SpaceView WorkFa
 pub record Finds (records : Records) (image : Image) (result : Result KeepView WorkFault) : Type 0 where
   pub ok : IfOk result (λ k. IsFound records image k)
   pub whole : IsErrOf result WorkFault.Damaged → ⊥
-
-abbrev pub IsHeld : (ℕ → Option ℕ) → ℕ → ℕ → Type 0
-IsHeld bytes_at at n = (k : ℕ) → k < n → bytes_at (at + k) ≢ None
-
-abbrev pub AreHeld : (ℕ → Option ℕ) → List Run → Type 0
-AreHeld bytes_at runs = AllByRecursion (λ run. IsHeld bytes_at run.at run.length) runs
 
 abbrev pub gathered : (ℕ → Option ℕ) → List Run → Bytes
 gathered bytes_at runs = flat_map (λ (run : Run). bytes_from bytes_at run.at run.length) runs

@@ -1,22 +1,32 @@
 -- What collecting does.
 --     NothingLent told      no attempt was ever lent
+--     IsServed image attempt      the control file names the attempt as the live one
 --     WritesAttempt job old new      no file changes but the attempt's
 --     IsLeft records job counts new      the valid pair stands in the attempt's files, synced, and is counted
 --     DoneLast records job old new      at no moment may a crash leave the done file without the pair
 --     Works records job result old new      over files that are whole
-use Rattle.std.specs.Prelude.{◌≡◌, ◌≢◌, ℕ, ◌<◌, ◌≤◌, length, codes, Some, None, Result, IfOk, IsErrOf}
+--     Refuses result old new      it is not done, and no file changes
+use Rattle.std.specs.Prelude.{◌≡◌, ◌≢◌, ℕ, ◌<◌, ◌≤◌, length, codes, Some, None, Result, IfOk, IsOk, IsErrOf}
 use Rattle.ip_ground.specs.declared.names.FileName.TheVariants.{Mapping, Prefix, Done}
-use Rattle.ip_ground.specs.Contents.{Content}
+use Rattle.ip_ground.specs.Contents.{Content, Image}
 use Rattle.ip_ground.specs.Custody.{own, IsOfAttempt}
-use Rattle.ip_ground.specs.Told.{Told, ChangesOnly, IsSynced, lending}
+use Rattle.ip_ground.specs.Told.{Told, NoFile, ChangesOnly, IsSynced, lending}
 use Rattle.ip_spec.specs.TreeAt.{Records}
 use Rattle.ip_spawn.specs.declared.job.Job.{Job}
+use Rattle.ip_image.specs.declared.slot.Slot.{Slot}
+use Rattle.ip_image.specs.Pending.{HasLive}
 use Rattle.ip_image.specs.Collection.{Pair, IsValid, runs_of}
 use Rattle.ip_worker.specs.declared.fault.WorkFault.{WorkFault}
 use Rattle.ip_worker.specs.declared.worker.Counts.{Counts}
 
 abbrev pub NothingLent : Told → Type 0
 NothingLent told = (attempt : ℕ) → lending told attempt ≡ own
+
+-- no store asks for such an attempt: it draws each above the live one
+pub record IsServed (image : Image) (attempt : ℕ) : Type 0 where
+  pub slot : Slot
+  pub live : HasLive slot image
+  pub named : slot.live ≡ attempt
 
 abbrev pub WritesAttempt : Job → Told → Told → Type 0
 WritesAttempt job old new = ChangesOnly (IsOfAttempt job.attempt) old new
@@ -44,3 +54,7 @@ pub record Works (records : Records) (job : Job) (result : Result Counts WorkFau
   pub ok : IfOk result (λ counts. IsLeft records job counts new)
   pub whole : IsErrOf result WorkFault.Damaged → ⊥
   pub last : DoneLast records job old new
+
+pub record Refuses (result : Result Counts WorkFault) (old new : Told) : Type 0 where
+  pub undone : IsOk result → ⊥
+  pub only : ChangesOnly NoFile old new

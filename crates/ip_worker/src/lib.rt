@@ -5,6 +5,7 @@ mod attempt;
 mod fault;
 mod pair;
 mod search;
+mod served;
 mod worker;
 
 pub use fault::WorkFault;

@@ -7,9 +7,9 @@ ghost use Rattle.ip_spawn.specs.Jobs.{IsValid as IsValidJob};
 ghost use Rattle.ip_image.specs.declared.run.Row.{Row};
 ghost use Rattle.ip_image.specs.Standing.{Generation};
 ghost use Rattle.ip_image.specs.Virtual.{RowsFit, placed};
-ghost use Rattle.ip_space.specs.SpaceView.{IsReadable};
+ghost use Rattle.ip_space.specs.SpaceView.{IsReadable, byte_at};
 ghost use Rattle.ip_keep.specs.Keeping.{IsKeep};
-ghost use Rattle.ip_keep.specs.Runs.{joined};
+ghost use Rattle.ip_keep.specs.Runs.{AreHeld, joined};
 ghost use Rattle.ip_worker.specs.Faults.{ground_work};
 ghost use Rattle.ip_worker.specs.Steps.{IsFor, Opens, Finds};
 ghost use Rattle.ip_worker.specs.Whole.{AreWhole, layout_of_job};
@@ -30,6 +30,8 @@ pub fn find<G: Ground>(alloc: Global, job: &Job, outside: &mut G) -> Result<Keep
     ensures finds { IsTrue G.tells → NothingLent (G.told outside.old) → (records : Records) → AreWhole (G.told outside.old).held job.now records →
         Finds records (G.told outside.new).held result }
     ensures readable { IsTrue G.tells → NothingLent (G.told outside.old) → IfOk result (λ keep. IsReadable (G.told outside.new) keep.space) }
+    // Over any files: no byte of what is kept is missing.
+    ensures held { IsTrue G.tells → NothingLent (G.told outside.old) → IfOk result (λ keep. AreHeld (byte_at (G.told outside.new) keep.space) keep.kept) }
     ensures only { IsTrue G.tells → ChangesOnly NoFile (G.told outside.old) (G.told outside.new) }
     ensures counts { Counts ground_work result (G.counts_of outside.old) (G.counts_of outside.new) }
 {

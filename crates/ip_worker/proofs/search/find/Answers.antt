@@ -1,8 +1,9 @@
-use Rattle.std.proofs.Common.{◌≡◌, ap, Err, sym, subst, arith}
-use Rattle.ip_space.specs.SpaceView.{IsReadable}
+use Rattle.std.proofs.Common.{◌≡◌, [], ap, Err, sym, subst, arith}
+use Rattle.ip_space.specs.SpaceView.{SpaceView, IsReadable, byte_at}
 use Rattle.ip_ground.specs.Told.{NoFile}
 use Rattle.ip_ground.proofs.Spans.{only_on}
 use Rattle.ip_keep.specs.KeepView.{KeepView}
+use Rattle.ip_keep.specs.Runs.{AreHeld}
 use Rattle.ip_worker.proofs.Finding.{for_job, lie_space, lie_before, readable_before, found}
 use Rattle.ip_worker.proofs.search.find.Goals as goal
 
@@ -35,6 +36,17 @@ returns-in-Ok-advance-clause-readable g c told nothing =
     let readable = c.in-Ok.ensures.readable told nothing in
     let same : c.new-keep.result.space ≡ c.in-Ok.space = ap (λ (k : KeepView). k.space) c.new-keep.ensures.view in
     subst (IsReadable e) (sym c.advance.ensures.work.space) (c.advance.ensures.readable told (subst (IsReadable b) (sym same) readable))
+
+pub returns-in-Ok-advance-clause-held : goal.returns-in-Ok-advance-clause-held
+returns-in-Ok-advance-clause-held g c told nothing =
+    let b = g.G.Ground.told c.open.new.outside in
+    let e = g.G.Ground.told c.advance.new.outside in
+    let old = c.new-keep.result in
+    let same : old.space ≡ c.in-Ok.space = ap (λ (k : KeepView). k.space) c.new-keep.ensures.view in
+    let none : old.kept ≡ [] = ap (λ (k : KeepView). k.kept) c.new-keep.ensures.view in
+    let readable = subst (IsReadable b) (sym same) (c.in-Ok.ensures.readable told nothing) in
+    subst (λ (s : SpaceView). AreHeld (byte_at e s) c.advance.new.self.kept) (sym c.advance.ensures.work.space)
+    (c.advance.ensures.held told readable (subst (AreHeld (byte_at b old.space)) (sym none) tt))
 
 pub returns-in-Err-Damaged-clause-finds : goal.returns-in-Err-Damaged-clause-finds
 returns-in-Err-Damaged-clause-finds g c told nothing records whole =

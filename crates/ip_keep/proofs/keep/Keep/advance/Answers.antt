@@ -16,3 +16,9 @@ returns-in-Err-clause-readable g c told = readable_stays _ _ (c.in-Err.ensures.g
 
 pub returns-clause-readable : goal.returns-clause-readable
 returns-clause-readable g c told = readable_stays _ _ ((goes_on g.G.Ground.tells _ _ _ c.args.self.now c.go_up.new.self c.go_down.new.self c.in-Ok.ensures.goes c.go_down.ensures.goes).only told) c.args.self.now.space
+
+pub returns-clause-held : goal.returns-clause-held
+returns-clause-held g c = (goes_on g.G.Ground.tells _ _ _ c.args.self.now c.go_up.new.self c.go_down.new.self c.in-Ok.ensures.goes c.go_down.ensures.goes).held
+
+pub returns-in-Err-clause-held : goal.returns-in-Err-clause-held
+returns-in-Err-clause-held g c = c.in-Err.ensures.goes.held
