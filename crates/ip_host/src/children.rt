@@ -1,13 +1,16 @@
 // Real children.
 ghost use Rattle.std.specs.Prelude.{◌≡◌, ◌++◌, ◌∷◌, None, Some, IfOk, string_bytes};
 ghost use Rattle.std.specs.Process.{command_program, command_args, command_dir, exit_code};
-ghost use Rattle.ip_host.specs.Children.{child_words, exit_by, exit_told};
+ghost use Rattle.ip_host.specs.Children.{child_words, folder_word, exit_by, exit_told};
 
+use crate::causes::{Cause, Subject};
 use crate::names::path_of;
-use ip_ground::{Exit, FileName, Reaped};
+use crate::plain::{is_alone, looked_at};
+use ip_base::{Exit, Reaped};
+use ip_ground::FileName;
 use ip_spawn::{Job, Look, SpawnCounts, SpawnFault, Spawner};
 use std::alloc::{AllocError, Global};
-use std::fs::{Files, exists};
+use std::fs::Files;
 use std::io;
 use std::process::{Child, Command, ExitStatus, Processes, Stdio, SystemProcess};
 
@@ -50,8 +53,8 @@ impl Held {
 /// numbers in decimal, in the order of its fields. Its input is empty, and what it writes to its outputs is dropped. It
 /// runs where this process runs, with the same environment, and has no file of this process.
 ///
-/// A look says that the child runs while the done file of its attempt is absent, and waits for it otherwise. So one that
-/// ended without that file is met by a wait or a kill. A child that is ended is ended by a signal that it cannot catch.
+/// A look says that the child runs while no plain file with one name stands under the name of its attempt's done file,
+/// and waits for it otherwise. So one that ended without that file is met by a wait or a kill. A child that is ended is ended by a signal that it cannot catch.
 /// A fault is a call of the system that failed, or want of memory, which a start alone takes. Where others wait for the
 /// child (the system does, in a process that ignores SIGCHLD) no call can say how it ended, and each is a fault. A drop
 /// neither waits for the child that is held nor ends it.
@@ -62,6 +65,8 @@ pub struct Children<R: Processes<Started = SystemProcess> + Files + Drop> {
     program: String,
     held: Option<Held>,
     counts: SpawnCounts,
+    // of the first child that could not be started
+    cause: Option<Cause>,
 }
 
 impl<R: Processes<Started = SystemProcess> + Files + Drop> Children<R> {
@@ -88,6 +93,21 @@ impl<R: Processes<Started = SystemProcess> + Files + Drop> Children<R> {
                 reaps: 0,
                 spawn_faults: 0,
             },
+            cause: None,
+        }
+    }
+
+    /// Why a child could not be started, of the first such one.
+    pub fn cause(&self) -> Option<Cause> {
+        self.cause
+    }
+
+    // Keeps the first cause.
+    fn keep(&mut self, error: &io::Error)
+        ensures { self.new ≡ record self.old { cause = self.new.cause } }
+    {
+        if self.cause.is_none() {
+            self.cause = Some(Cause::of("start", Subject::Child, error));
         }
     }
 
@@ -152,7 +172,10 @@ impl<R: Processes<Started = SystemProcess> + Files + Drop> Spawner for Children<
                 self.held = Some(held);
                 Ok(())
             }
-            Err(_) => Err(self.fault()),
+            Err(error) => {
+                self.keep(&error);
+                Err(self.fault())
+            }
         }
     }
 
@@ -160,9 +183,9 @@ impl<R: Processes<Started = SystemProcess> + Files + Drop> Spawner for Children<
         let Some(held) = &self.held else {
             unreachable!()
         };
-        match exists(&self.rt, held.done.as_str()) {
-            Ok(true) => self.reap().map(Look::Ended),
-            Ok(false) => {
+        match looked_at(&self.rt, held.done.as_str()) {
+            Ok(Some(found)) if is_alone(&found) => self.reap().map(Look::Ended),
+            Ok(_) => {
                 self.counts.running = self.counts.running.saturating_add(1);
                 Ok(Look::Running)
             }
@@ -198,7 +221,8 @@ fn command_of(alloc: Global, program: &str, dir: &str, job: &Job) -> Result<Comm
     ensures place { IfOk result (λ command. command_dir command ≡ None) }
 {
     let mut command = Command::new(alloc, program)?;
-    command.arg("worker")?.arg(dir)?;
+    let folder = folder_word(alloc, dir)?;
+    command.arg("worker")?.arg(folder.as_str())?;
     for number in job.numbers() {
         let word = format!(in alloc; "{number}")?;
         command.arg(word.as_str())?;
@@ -208,6 +232,16 @@ fn command_of(alloc: Global, program: &str, dir: &str, job: &Job) -> Result<Comm
         .stdout(Stdio::null())
         .stderr(Stdio::null());
     Ok(command)
+}
+
+// The folder as a word of the child. One that begins with a dash would be read as an option.
+fn folder_word(alloc: Global, dir: &str) -> Result<String, AllocError>
+    ensures { IfOk result (λ word. string_bytes word ≡ folder_word dir.now) }
+{
+    match dir.as_bytes() {
+        [b'-', ..] => format!(in alloc; "./{dir}"),
+        _ => String::from_str(alloc, dir),
+    }
 }
 
 // How a child ended, by its status.

@@ -5,9 +5,10 @@ ghost use Rattle.std.specs.Prelude.{◌≤◌, ◌<◌, IfOk, IfSome, length, ve
 ghost use Rattle.ip_host.specs.declared.files.TheConstants.{KEPT};
 
 use crate::names::path_of;
+use crate::plain::{Identity, Stands, another, opened, still_stands};
 use ip_ground::FileName;
 use std::alloc::Global;
-use std::fs::{File, Files, OpenOptions, remove_file};
+use std::fs::{File, Files, metadata, remove_dir, remove_file};
 use std::io;
 use std::io::ErrorKind;
 use std::os::fd::AsRawFd;
@@ -49,18 +50,38 @@ impl Opened {
     }
 }
 
+// The pair that a child left, of plain files both.
+#[derive(Clone, Copy)]
+struct Pair {
+    attempt: u64,
+    prefix: Identity,
+    mapping: Identity,
+}
+
+// What was found under a name of an attempt that is settled.
+#[derive(Clone, Copy)]
+enum Found {
+    Absent,
+    Plain(Identity),
+    Other,
+}
+
 /// The files of a folder. Those that were opened last stay open.
 #[derive(Drop)]
 pub struct FolderFiles {
     alloc: Global,
     dir: String,
     folder: File,
-    // the folder's lock is held, which ends when the folder is closed
+    // the folder's lock is held, which ends when the folder is closed, or is not asked for
     is_locked: bool,
     // a name may have come or gone since the folder was synced
     is_changed: bool,
     // in the order in which they were opened
     kept: Vec<Opened>,
+    // the attempt whose files a child may have left: what is no plain file there counts as absent
+    left: Option<u64>,
+    // the pair that was settled last: its files stay the ones that they were, until others are lent
+    pair: Option<Pair>,
     // what stands in the place of standard streams that were closed
     streams: Vec<File>,
     ghost few: { vec_len kept ≤ KEPT },
@@ -77,10 +98,11 @@ impl FolderFiles {
         ensures changed { IfOk result (λ files. IsTrue files.is_changed) }
     {
         let streams = closed_streams(alloc, rt)?;
-        let folder = File::open(rt, dir)?;
-        if !folder.metadata()?.is_dir() {
+        // An open of a fifo would wait.
+        if !metadata(rt, dir)?.is_dir() {
             return Err(io::Error::from(ErrorKind::NotADirectory));
         }
+        let folder = File::open(rt, dir)?;
         Ok(FolderFiles {
             alloc,
             dir: String::from_str(alloc, dir)?,
@@ -88,12 +110,22 @@ impl FolderFiles {
             is_locked: false,
             is_changed: true,
             kept: Vec::with_capacity(alloc, KEPT)?,
+            left: None,
+            pair: None,
             streams,
         })
     }
 
-    // Whoever reads or writes the control file is the store's one process, and locks the folder against any other. A
-    // child that collects never asks for it, so it can work beside that process.
+    /// The same beside the store's process: the lock is not asked for.
+    pub fn unlocked(mut self) -> FolderFiles
+        ensures { IsTrue result.is_locked }
+    {
+        self.is_locked = true;
+        self
+    }
+
+    // Whoever reads or writes the control file is the store's one process, and locks the folder against any other, unless
+    // it is a child that collects, which works beside that process.
     fn claim(&mut self, name: FileName) -> io::Result<()>
         ensures locked { OnOk result (name ≡ Control → IsTrue self.new.is_locked) }
         ensures flag { self.new.is_changed ≡ self.old.is_changed }
@@ -144,24 +176,13 @@ impl FolderFiles {
         Ok(())
     }
 
-    // Opens the file by these options, and keeps it open; nothing where it is absent.
-    fn open<R: Files<File = File>>(
-        &mut self,
-        rt: &R,
-        name: FileName,
-        how: &OpenOptions,
-    ) -> io::Result<Option<usize>>
-        ensures within { IfOk result (λ found. IfSome found (λ place. place < vec_len self.new.kept)) }
-        ensures named { IfOk result (λ found. IfSome found (λ place. name_at self.new.kept.items place ≡ Some name)) }
+    // Keeps a file open that was opened: where it stands then.
+    fn keep(&mut self, name: FileName, file: File) -> io::Result<usize>
+        ensures within { IfOk result (λ place. place < vec_len self.new.kept) }
+        ensures named { IfOk result (λ place. name_at self.new.kept.items place ≡ Some name) }
         ensures lock { self.new.is_locked ≡ self.old.is_locked }
         ensures flag { self.new.is_changed ≡ self.old.is_changed }
     {
-        let path = path_of(self.alloc, self.dir.as_str(), name)?;
-        let file = match how.open(rt, path.as_str()) {
-            Ok(file) => file,
-            Err(e) if e.kind() == ErrorKind::NotFound => return Ok(None),
-            Err(e) => return Err(e),
-        };
         if self.kept.len() >= KEPT {
             self.close_oldest()?;
         }
@@ -170,7 +191,46 @@ impl FolderFiles {
             file,
             is_written: false,
         })?;
-        Ok(Some(self.kept.len() - 1))
+        Ok(self.kept.len() - 1)
+    }
+
+    // Whether a child may have left what stands under this name.
+    fn is_left(&self, name: FileName) -> bool {
+        match name {
+            FileName::Prefix(attempt) | FileName::Mapping(attempt) | FileName::Done(attempt) => {
+                self.left == Some(attempt)
+            }
+            _ => false,
+        }
+    }
+
+    // Opens the file, and keeps it open. Nothing where it is absent, and where a child left what is no plain file with
+    // one name, or none that may be opened.
+    fn open<R: Files<File = File>>(&mut self, rt: &R, name: FileName) -> io::Result<Option<usize>>
+        ensures within { IfOk result (λ found. IfSome found (λ place. place < vec_len self.new.kept)) }
+        ensures named { IfOk result (λ found. IfSome found (λ place. name_at self.new.kept.items place ≡ Some name)) }
+        ensures lock { self.new.is_locked ≡ self.old.is_locked }
+        ensures flag { self.new.is_changed ≡ self.old.is_changed }
+    {
+        let path = path_of(self.alloc, self.dir.as_str(), name)?;
+        let (is_left, settled) = (self.is_left(name), self.settled(name));
+        match opened(rt, path.as_str(), is_left || settled.is_some())? {
+            Stands::Absent => Ok(None),
+            Stands::Plain(_, found) if settled.is_some() && found != settled => Err(another()),
+            Stands::Plain(file, _) => Ok(Some(self.keep(name, file)?)),
+            Stands::Other(_) if is_left => Ok(None),
+            Stands::Other(e) => Err(e),
+        }
+    }
+
+    // Which file of a settled pair has this name.
+    fn settled(&self, name: FileName) -> Option<Identity> {
+        let pair = self.pair?;
+        match name {
+            FileName::Prefix(attempt) if attempt == pair.attempt => Some(pair.prefix),
+            FileName::Mapping(attempt) if attempt == pair.attempt => Some(pair.mapping),
+            _ => None,
+        }
     }
 
     // Where the file stands among those that are open; it is opened for that. Nothing where it is absent.
@@ -183,11 +243,11 @@ impl FolderFiles {
         self.claim(name)?;
         match self.place_of(name) {
             Some(place) => Ok(Some(place)),
-            None => self.open(rt, name, File::options().read(true).write(true)),
+            None => self.open(rt, name),
         }
     }
 
-    // The same, and it is made where it is absent.
+    // The same, and it is made where it is absent: anew, so that nothing is followed that is put there meanwhile.
     fn find_or_make<R: Files<File = File>>(&mut self, rt: &R, name: FileName) -> io::Result<usize>
         ensures within { IfOk result (λ place. place < vec_len self.new.kept) }
         ensures named { IfOk result (λ place. name_at self.new.kept.items place ≡ Some name) }
@@ -198,11 +258,9 @@ impl FolderFiles {
             return Ok(place);
         }
         self.is_changed = true;
-        let mut how = File::options();
-        match self.open(rt, name, how.read(true).write(true).create(true))? {
-            Some(place) => Ok(place),
-            None => Err(io::Error::from(ErrorKind::NotFound)),
-        }
+        let path = path_of(self.alloc, self.dir.as_str(), name)?;
+        let file = File::create_new(rt, path.as_str())?;
+        self.keep(name, file)
     }
 
     /// How many bytes the file has, or nothing where it is absent.
@@ -254,13 +312,18 @@ impl FolderFiles {
     }
 
     /// Syncs the file, if it is there, and the folder if a name may have come or gone: a crash keeps the file's name,
-    /// or that it is absent.
+    /// or that it is absent. A file of a settled pair has to stand under its name still: what a process behind the child
+    /// puts there is not what was compared.
     pub fn sync<R: Files<File = File>>(&mut self, rt: &R, name: FileName) -> io::Result<()>
         ensures locked { OnOk result (name ≡ Control → IsTrue self.new.is_locked) }
         ensures synced { OnOk result (IsFalse self.new.is_changed) }
         ensures flag { OnErr result (self.new.is_changed ≡ self.old.is_changed) }
     {
         if let Some(place) = self.find(rt, name)? {
+            if let Some(identity) = self.settled(name) {
+                let path = path_of(self.alloc, self.dir.as_str(), name)?;
+                still_stands(rt, path.as_str(), identity)?;
+            }
             self.kept[place].sync()?;
         }
         if self.is_changed {
@@ -270,7 +333,7 @@ impl FolderFiles {
         Ok(())
     }
 
-    /// Removes the file, if it is there.
+    /// Removes the file, if it is there. What else stands there goes too, but a folder only where it is empty.
     pub fn remove<R: Files<File = File>>(&mut self, rt: &R, name: FileName) -> io::Result<()>
         ensures locked { OnOk result (name ≡ Control → IsTrue self.new.is_locked) }
         ensures changed { OnOk result (IsTrue self.new.is_changed) }
@@ -280,14 +343,11 @@ impl FolderFiles {
         let path = path_of(self.alloc, self.dir.as_str(), name)?;
         self.close(name);
         self.is_changed = true;
-        match remove_file(rt, path.as_str()) {
-            Err(e) if e.kind() == ErrorKind::NotFound => Ok(()),
-            other => other,
-        }
+        remove_name(rt, path.as_str())
     }
 
     /// The files of this attempt change hands: the child may make other files in their place, so none stays open, and
-    /// the next sync is of the folder too.
+    /// the next sync is of the folder too. From now on what is no plain file there counts as absent.
     pub fn hand_over(&mut self, attempt: u64)
         ensures lock { self.new.is_locked ≡ self.old.is_locked }
         ensures changed { IsTrue self.new.is_changed }
@@ -296,6 +356,62 @@ impl FolderFiles {
         self.close(FileName::Mapping(attempt));
         self.close(FileName::Done(attempt));
         self.is_changed = true;
+        self.left = Some(attempt);
+        self.pair = None;
+    }
+
+    /// The child of this attempt was reaped, and changes nothing any more; none of its files is open. A plain pair is
+    /// opened and stays so, and is the store's own from now on; what is none goes, or counts as absent where it can't go,
+    /// as a folder with something in it. Both names are looked at before one goes: they may be names of one file.
+    pub fn settle<R: Files<File = File>>(&mut self, rt: &R, attempt: u64) -> io::Result<()>
+        ensures lock { self.new.is_locked ≡ self.old.is_locked }
+        ensures flag { self.new.is_changed ≡ self.old.is_changed }
+    {
+        let (prefix, mapping) = (FileName::Prefix(attempt), FileName::Mapping(attempt));
+        let found = (self.take(rt, prefix)?, self.take(rt, mapping)?);
+        if let (Found::Plain(prefix), Found::Plain(mapping)) = found {
+            self.left = None;
+            self.pair = Some(Pair {
+                attempt,
+                prefix,
+                mapping,
+            });
+        }
+        for (name, found) in [(prefix, found.0), (mapping, found.1)] {
+            if let Found::Other = found {
+                let path = path_of(self.alloc, self.dir.as_str(), name)?;
+                let _ = remove_name(rt, path.as_str());
+            }
+        }
+        Ok(())
+    }
+
+    // Opens a file that a child left, and keeps it open.
+    fn take<R: Files<File = File>>(&mut self, rt: &R, name: FileName) -> io::Result<Found>
+        ensures lock { self.new.is_locked ≡ self.old.is_locked }
+        ensures flag { self.new.is_changed ≡ self.old.is_changed }
+    {
+        let path = path_of(self.alloc, self.dir.as_str(), name)?;
+        match opened(rt, path.as_str(), true)? {
+            Stands::Absent => Ok(Found::Absent),
+            Stands::Plain(file, Some(identity)) => {
+                self.keep(name, file)?;
+                Ok(Found::Plain(identity))
+            }
+            _ => Ok(Found::Other),
+        }
+    }
+}
+
+// Removes what stands under this path, if anything does: a file of whatever kind, or an empty folder.
+fn remove_name<R: Files>(rt: &R, path: &str) -> io::Result<()> {
+    let removed = match remove_file(rt, path) {
+        Err(e) if e.kind() == ErrorKind::IsADirectory => remove_dir(rt, path),
+        other => other,
+    };
+    match removed {
+        Err(e) if e.kind() == ErrorKind::NotFound => Ok(()),
+        other => other,
     }
 }
 

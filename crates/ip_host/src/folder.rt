@@ -2,8 +2,11 @@
 ghost use Rattle.std.specs.Prelude.{◌≡◌};
 ghost use Rattle.ip_ground.specs.Counts.{FileFault, RemoveFault, SayFault};
 
+use crate::causes::{Cause, Subject};
 use crate::files::FolderFiles;
-use ip_ground::{FileName, Ground, GroundCounts, GroundFault, Reaped};
+use ip_base::{Exit, Reaped};
+use ip_ground::{FileName, Ground, GroundCounts, GroundFault};
+use libc::types::rlimit;
 use std::alloc::Global;
 use std::fs::{File, Files};
 use std::io;
@@ -12,18 +15,30 @@ use std::io::ErrorKind;
 /// A folder of the system, and standard output. Places and lengths are bytes, counted from 0.
 ///
 /// Until a folder is attached each file call is a fault. Later a fault is a call of the system that failed, for
-/// whatever cause: no permission to read and to write, no room on the disk, a folder in the place of a file, a place
-/// that the system cannot take, want of memory for a file's path. The folder must not be moved while it is attached.
+/// whatever cause: no permission to read and to write, no room on the disk, something else than a plain file in the place
+/// of one, a place that the system cannot take, want of memory for a file's path. The folder must not be moved while it is
+/// attached. Of the attempt that was lent last, what is no plain file with one name, or may not be read and written,
+/// counts as absent; settling it removes that where it can, and is a fault only by want of memory or of the disk.
 ///
 /// One process writes a store: the first call on the control file locks the folder, until this value is dropped or
-/// attached anew, and is a fault where another process has locked it (or another `Folder`). A process that never asks
-/// for the control file, as a child that collects, may work beside it.
+/// attached anew, and is a fault where another process has locked it (or another `Folder`). One that is made by
+/// `beside`, as for a child that collects, never locks it.
+///
+/// A write past the limit that the process has for a file's size when the folder is attached is a fault, and is not
+/// made: the system would end the process by a signal. Of output no such limit is known.
 #[derive(Drop)]
 pub struct Folder<R: Files<File = File> + Print + Drop> {
     rt: R,
     alloc: Global,
     files: Option<FolderFiles>,
+    // another process is the store's
+    is_beside: bool,
+    // how many bytes a file may have
+    size_max: u64,
     counts: GroundCounts,
+    // the first fault of a file call or of output, and the first of a removal
+    cause: Option<Cause>,
+    removal: Option<Cause>,
 }
 
 impl<R: Files<File = File> + Print + Drop> Folder<R> {
@@ -33,40 +48,80 @@ impl<R: Files<File = File> + Print + Drop> Folder<R> {
     pub fn new(rt: R, alloc: Global) -> Folder<R>
         ensures { ⟦<Folder<R> as Ground>⟧.counts_of result ≡ record { file_faults = 0; remove_faults = 0; say_faults = 0 } }
     {
+        Folder::made(rt, alloc, false)
+    }
+
+    /// The same for a process beside the one that the store is of: no call locks the folder. It must not write the
+    /// control file, nor what that one writes.
+    pub fn beside(rt: R, alloc: Global) -> Folder<R>
+        ensures { ⟦<Folder<R> as Ground>⟧.counts_of result ≡ record { file_faults = 0; remove_faults = 0; say_faults = 0 } }
+    {
+        Folder::made(rt, alloc, true)
+    }
+
+    fn made(rt: R, alloc: Global, is_beside: bool) -> Folder<R>
+        ensures { result.counts ≡ record { file_faults = 0; remove_faults = 0; say_faults = 0 } }
+    {
         Folder {
             rt,
             alloc,
             files: None,
+            is_beside,
+            size_max: u64::MAX,
             counts: GroundCounts {
                 file_faults: 0,
                 remove_faults: 0,
                 say_faults: 0,
             },
+            cause: None,
+            removal: None,
+        }
+    }
+
+    /// The first fault that was counted of a file call or of output, or else of a removal.
+    pub fn cause(&self) -> Option<Cause> {
+        match self.cause {
+            Some(cause) => Some(cause),
+            None => self.removal,
         }
     }
 
     // Counts a fault of a file call.
-    fn file_fault(&mut self) -> GroundFault
+    fn file_fault(&mut self, call: &'static str, subject: Subject, error: &io::Error) -> GroundFault
         ensures { FileFault self.old.counts self.new.counts }
     {
+        self.keep(Cause::of(call, subject, error));
         self.counts.file_faults = self.counts.file_faults.saturating_add(1);
         GroundFault
     }
 
     // Counts a fault of a removal.
-    fn remove_fault(&mut self) -> GroundFault
+    fn remove_fault(&mut self, file: FileName, error: &io::Error) -> GroundFault
         ensures { RemoveFault self.old.counts self.new.counts }
     {
+        if self.removal.is_none() {
+            self.removal = Some(Cause::of("remove", Subject::File(file), error));
+        }
         self.counts.remove_faults = self.counts.remove_faults.saturating_add(1);
         GroundFault
     }
 
     // Counts a fault of output.
-    fn say_fault(&mut self) -> GroundFault
+    fn say_fault(&mut self, error: &io::Error) -> GroundFault
         ensures { SayFault self.old.counts self.new.counts }
     {
+        self.keep(Cause::of("write", Subject::Output, error));
         self.counts.say_faults = self.counts.say_faults.saturating_add(1);
         GroundFault
+    }
+
+    // Keeps the first cause.
+    fn keep(&mut self, cause: Cause)
+        ensures { self.new.counts ≡ self.old.counts }
+    {
+        if self.cause.is_none() {
+            self.cause = Some(cause);
+        }
     }
 
     // A child may make, change and remove the files of this attempt, or has done so.
@@ -97,10 +152,15 @@ impl<R: Files<File = File> + Print + Drop> Ground for Folder<R> {
         self.files = None;
         match FolderFiles::of(self.alloc, &self.rt, dir) {
             Ok(files) => {
-                self.files = Some(files);
+                self.files = Some(if self.is_beside {
+                    files.unlocked()
+                } else {
+                    files
+                });
+                self.size_max = size_limit();
                 Ok(())
             }
-            Err(_) => Err(self.file_fault()),
+            Err(error) => Err(self.file_fault("open", Subject::Folder, &error)),
         }
     }
 
@@ -111,7 +171,7 @@ impl<R: Files<File = File> + Print + Drop> Ground for Folder<R> {
         };
         match length {
             Ok(size) => Ok(size),
-            Err(_) => Err(self.file_fault()),
+            Err(error) => Err(self.file_fault("length", Subject::File(file), &error)),
         }
     }
 
@@ -122,18 +182,20 @@ impl<R: Files<File = File> + Print + Drop> Ground for Folder<R> {
         };
         match read {
             Ok(n) => Ok(n),
-            Err(_) => Err(self.file_fault()),
+            Err(error) => Err(self.file_fault("read", Subject::File(file), &error)),
         }
     }
 
     fn write(&mut self, file: FileName, at: u64, bytes: &[u8]) -> Result<(), GroundFault> {
+        let fits = at.saturating_add(bytes.len() as u64) <= self.size_max;
         let written = match &mut self.files {
+            Some(_) if !fits => Err(io::Error::from(ErrorKind::FileTooLarge)),
             Some(files) => files.write(&self.rt, file, at, bytes),
             None => Err(unattached()),
         };
         match written {
             Ok(()) => Ok(()),
-            Err(_) => Err(self.file_fault()),
+            Err(error) => Err(self.file_fault("write", Subject::File(file), &error)),
         }
     }
 
@@ -144,7 +206,7 @@ impl<R: Files<File = File> + Print + Drop> Ground for Folder<R> {
         };
         match synced {
             Ok(()) => Ok(()),
-            Err(_) => Err(self.file_fault()),
+            Err(error) => Err(self.file_fault("sync", Subject::File(file), &error)),
         }
     }
 
@@ -155,7 +217,7 @@ impl<R: Files<File = File> + Print + Drop> Ground for Folder<R> {
         };
         match removed {
             Ok(()) => Ok(()),
-            Err(_) => Err(self.remove_fault()),
+            Err(error) => Err(self.remove_fault(file, &error)),
         }
     }
 
@@ -164,15 +226,29 @@ impl<R: Files<File = File> + Print + Drop> Ground for Folder<R> {
         Ok(())
     }
 
-    fn settle(&mut self, attempt: u64, _reaped: &Reaped) -> Result<(), GroundFault> {
+    // Of a child that failed no file is looked at: a sweep follows, and until then what is no plain file counts as absent.
+    fn settle(&mut self, attempt: u64, reaped: &Reaped) -> Result<(), GroundFault> {
         self.hand_over(attempt);
-        Ok(())
+        if reaped.exit != Exit::Code(0) {
+            return Ok(());
+        }
+        let settled = match &mut self.files {
+            Some(files) => files.settle(&self.rt, attempt),
+            None => Ok(()),
+        };
+        match settled {
+            Ok(()) => Ok(()),
+            Err(error) => {
+                let file = Subject::File(FileName::Prefix(attempt));
+                Err(self.file_fault("settle", file, &error))
+            }
+        }
     }
 
     fn say(&mut self, bytes: &[u8]) -> Result<(), GroundFault> {
         match self.rt.write_all(bytes) {
             Ok(()) => Ok(()),
-            Err(_) => Err(self.say_fault()),
+            Err(error) => Err(self.say_fault(&error)),
         }
     }
 
@@ -185,3 +261,18 @@ impl<R: Files<File = File> + Print + Drop> Ground for Folder<R> {
 fn unattached() -> io::Error {
     io::Error::from(ErrorKind::NotFound)
 }
+
+// How many bytes a file may have that this process writes, as far as the system says so.
+fn size_limit() -> u64 {
+    let mut limit = rlimit {
+        rlim_cur: u64::MAX,
+        rlim_max: u64::MAX,
+    };
+    if libc::getrlimit(FILE_SIZE, &mut limit) < 0 {
+        return u64::MAX;
+    }
+    limit.rlim_cur
+}
+
+// The limit on a file's size, by its number on Linux.
+const FILE_SIZE: i32 = 1;

@@ -5,14 +5,15 @@
 //! system keeps what is written, syncs what is synced, and starts and ends what it is told to, is not proved.
 #![tactic(auto)]
 
+mod causes;
 mod children;
 mod files;
 mod folder;
 mod names;
+mod plain;
 mod stdin;
-#[cfg(test)]
-mod tests;
 
+pub use causes::{Cause, Subject};
 pub use children::Children;
 pub use folder::Folder;
 pub use names::file_name;

@@ -1,6 +1,7 @@
 // Standard input.
 ghost use Rattle.std.specs.Prelude.{◌≡◌, ◌≤◌, IfOk, length};
 
+use crate::causes::{Cause, Subject};
 use ip_script::{Source, SourceCounts, SourceFault};
 use std::io;
 use std::io::{ErrorKind, Read};
@@ -12,6 +13,8 @@ use std::io::{ErrorKind, Read};
 pub struct Stdin<R: Read + Drop> {
     reader: R,
     faults: u64,
+    // of the first fault
+    cause: Option<Cause>,
 }
 
 impl<R: Read + Drop> Stdin<R> {
@@ -19,7 +22,25 @@ impl<R: Read + Drop> Stdin<R> {
     pub fn new(reader: R) -> Stdin<R>
         ensures { ⟦<Stdin<R> as Source>⟧.read_faults result ≡ 0 }
     {
-        Stdin { reader, faults: 0 }
+        Stdin {
+            reader,
+            faults: 0,
+            cause: None,
+        }
+    }
+
+    /// The first fault that was counted.
+    pub fn cause(&self) -> Option<Cause> {
+        self.cause
+    }
+
+    // Keeps the first cause.
+    fn keep(&mut self, error: &io::Error)
+        ensures { self.new.faults ≡ self.old.faults }
+    {
+        if self.cause.is_none() {
+            self.cause = Some(Cause::of("read", Subject::Input, error));
+        }
     }
 }
 
@@ -35,7 +56,8 @@ impl<R: Read + Drop> Source for Stdin<R> {
     fn next(&mut self, out: &mut [u8]) -> Result<usize, SourceFault> {
         match read_once(&mut self.reader, out) {
             Ok(n) => Ok(n),
-            Err(_) => {
+            Err(error) => {
+                self.keep(&error);
                 self.faults = self.faults.saturating_add(1);
                 Err(SourceFault)
             }

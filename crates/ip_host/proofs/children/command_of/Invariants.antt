@@ -1,11 +1,12 @@
 use Rattle.std.proofs.Common.{◌≡◌, ◌∷◌, None, map, take, codes}
 use Rattle.std.specs.Fmt.{decimal}
 use Rattle.std.specs.Process.{command_program, command_args, command_dir}
+use Rattle.ip_host.specs.Children.{folder_word}
 use Rattle.ip_host.proofs.children.command_of.Given as goal
 
 abbrev pub invariant-loop-number : goal.invariant-loop-number
 invariant-loop-number l = record {
   program : command_program l.command ≡ l.program;
-  words : command_args l.command ≡ codes "worker" ∷ l.dir ∷ map decimal (take l.number-index l.number-items);
+  words : command_args l.command ≡ codes "worker" ∷ folder_word l.dir ∷ map decimal (take l.number-index l.number-items);
   place : command_dir l.command ≡ None;
 }
