@@ -3,7 +3,7 @@
 --     concluded_step      so of each step of the machine.      concluded_line      and of each line.      unheld      so no child is held behind it
 use Rattle.std.proofs.Common.{◌≡◌, inl, inr, ℕ, Bool, true, false, refl, sym, ap, subst, Option, None, Some}
 use Rattle.std.specs.Prelude.{MatchBool, if◌then◌else◌}
-use Rattle.ip_ground.specs.declared.names.Reaped.{Reaped}
+use Rattle.ip_base.specs.declared.exit.Reaped.{Reaped}
 use Rattle.ip_spec.specs.declared.command.Command.{Command}
 use Rattle.ip_spec.specs.declared.met.Child.{Child}
 use Rattle.ip_spec.specs.declared.met.Met.{Met}

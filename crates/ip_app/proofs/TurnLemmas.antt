@@ -6,7 +6,7 @@
 use Rattle.std.proofs.Common.{◌≡◌, ℕ, ◌+◌, ◌++◌, arith, List, [], ◌∷◌, refl, sym, ◌∙◌, subst, Bool, true, false, Option, None, Some, OnOk, Result, IsTrue}
 use Rattle.ip_ground.specs.declared.names.GroundCounts.{GroundCounts}
 use Rattle.ip_ground.specs.declared.names.GroundFault.{GroundFault}
-use Rattle.ip_ground.specs.declared.names.Reaped.{Reaped}
+use Rattle.ip_base.specs.declared.exit.Reaped.{Reaped}
 use Rattle.ip_spawn.specs.declared.job.Job.{Job}
 use Rattle.ip_ground.specs.Counts.{NoneFalls}
 use Rattle.ip_ground.specs.declared.names.FileName.{FileName}

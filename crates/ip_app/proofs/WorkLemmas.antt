@@ -2,7 +2,7 @@
 --     works_as      what the collector answered, over what was told when the folder was bound.      works_refused      the folder could not be bound
 --     writes_on      the files that change.      counts_work, work_falls      what is counted
 --     collects_of, collects_none      the whole of the call, and where nothing was done
-use Rattle.std.specs.Prelude.{◌⊎◌}
+use Rattle.std.specs.Prelude.{◌⊎◌, IsErrOf}
 use Rattle.std.proofs.Common.{◌≡◌, inl, inr, ℕ, ◌-◌, ◌^◌, ◌<◌, ◌≤◌, Bool, refl, sym, ◌∙◌, subst, arith, IsTrue, None, Result, Ok, Err}
 use Rattle.std.proofs.Math.Nat.{le_refl}
 use Rattle.std.proofs.lemmas.Bool.{cases_lt}
@@ -21,7 +21,8 @@ use Rattle.ip_spawn.specs.declared.job.Job.{Job}
 use Rattle.ip_worker.specs.Faults.{CountsWork}
 use Rattle.ip_worker.specs.Steps.{IsFree}
 use Rattle.ip_worker.specs.Whole.{AreWhole}
-use Rattle.ip_worker.specs.Working.{NothingLent, WritesAttempt, Works}
+use Rattle.ip_worker.specs.Working.{NothingLent, IsServed, WritesAttempt, Works, Refuses}
+use Rattle.ip_worker.proofs.Serving.{served_on, served_back}
 use Rattle.ip_worker.specs.declared.fault.WorkFault.{WorkFault}
 use Rattle.ip_worker.specs.declared.worker.Counts.{Counts}
 use Rattle.ip_app.specs.declared.statuses.Status.{Status}
@@ -73,11 +74,17 @@ module _ (job : Job) (old mid : Told) (passes : ChangesOnly NoFile old mid) wher
     last = λ none pair valid t done mapping prefix after le left some in_mapping in_prefix. absurd (some (early nothing none t done after le left));
   }
 
-  works_then : (new : Told) (records : Records) (worked : Result Counts WorkFault) → NothingLent old → AreWhole old.held job records → (IsFree mid job.attempt → WritesAttempt job mid new) → ((records : Records) → AreWhole mid.held job records → NothingLent mid → Works records job worked mid new) → Works records job worked old new
-  works_then new records worked nothing whole writes works =
+  refuses_then : (new : Told) (worked : Result Counts WorkFault) → IsServed old.held job.attempt → (IsServed mid.held job.attempt → Refuses worked mid new) → Refuses worked old new
+  refuses_then new worked is refuses =
+      let then = refuses (served_on old mid passes job.attempt is) in
+      record { undone = then.undone; only = only_on old mid new NoFile passes then.only }
+
+  works_then : (new : Told) (records : Records) (worked : Result Counts WorkFault) → NothingLent old → AreWhole old.held job records → ¬ IsServed old.held job.attempt → (IsFree mid job.attempt → WritesAttempt job mid new)
+      → ((records : Records) → AreWhole mid.held job records → NothingLent mid → ¬ IsServed mid.held job.attempt → Works records job worked mid new) → Works records job worked old new
+  works_then new records worked nothing whole other writes works =
       let then_nothing : NothingLent mid = λ attempt. free_then attempt (nothing attempt) in
       let same : mid.held ≡ old.held = λ i file. (passes.others file (λ h. h)).held (none_foreign old nothing file) i in
-      let w = works records (subst (λ (image : Image). AreWhole image job records) (sym same) whole) then_nothing in
+      let w = works records (subst (λ (image : Image). AreWhole image job records) (sym same) whole) then_nothing (λ is. other (served_back old mid passes job.attempt is)) in
       let goes : KeepsPast mid new = (writes (then_nothing job.attempt)).goes in
       record {
         ok = w.ok;
@@ -89,11 +96,18 @@ module _ (job : Job) (old mid : Told) (passes : ChangesOnly NoFile old mid) wher
       }
 
 pub works_refused : (tells : Bool) (job : Job) (old mid : Told) → (IsTrue tells → ChangesOnly NoFile old mid) → WorksAs tells job old mid status.GroundFault
-works_refused tells job old mid passes = record { worked = Err WorkFault.Ground; status_is = refl; works = λ told records whole nothing. works_first job old mid (passes told) records nothing }
+works_refused tells job old mid passes = record { worked = Err WorkFault.Ground; status_is = refl; works = λ told records whole nothing other. works_first job old mid (passes told) records nothing; served = λ told is. record { undone = λ done. absurd (cc done); only = passes told }; spared = λ told nothing is. passes told }
 
 pub works_as : (tells : Bool) (job : Job) (old mid new : Told) (s : Status) (worked : Result Counts WorkFault) → s ≡ worked_status worked → (IsTrue tells → ChangesOnly NoFile old mid) → (IsTrue tells → IsFree mid job.attempt → WritesAttempt job mid new)
-    → (IsTrue tells → (records : Records) → AreWhole mid.held job records → NothingLent mid → Works records job worked mid new) → WorksAs tells job old new s
-works_as tells job old mid new s worked e passes writes works = record { worked = worked; status_is = e; works = λ told records whole nothing. works_then job old mid (passes told) new records worked nothing whole (writes told) (works told) }
+    → (IsTrue tells → (records : Records) → AreWhole mid.held job records → NothingLent mid → ¬ IsServed mid.held job.attempt → Works records job worked mid new) → (IsTrue tells → IsServed mid.held job.attempt → Refuses worked mid new)
+    → (IsTrue tells → NothingLent mid → IsErrOf worked WorkFault.Damaged → ChangesOnly NoFile mid new) → WorksAs tells job old new s
+works_as tells job old mid new s worked e passes writes works refuses spares = record {
+  worked = worked;
+  status_is = e;
+  works = λ told records whole nothing other. works_then job old mid (passes told) new records worked nothing whole other (writes told) (works told);
+  served = λ told is. refuses_then job old mid (passes told) new worked is (refuses told);
+  spared = λ told nothing is. only_on old mid new NoFile (passes told) (spares told (λ attempt. free_then job old mid (passes told) attempt (nothing attempt)) is);
+}
 
 -- ---- what is counted
 
@@ -148,7 +162,7 @@ collects_of job old new s goes left reads turns unasked only works counted = rec
   only = only;
   works = works;
   counted = counted;
-  complete = λ tells records whole nothing files removals. ends_well works.worked s old.counts new.counts records job old.told new.told works.status_is (works.works tells records whole nothing) counted files removals;
+  complete = λ tells records whole nothing other files removals. ends_well works.worked s old.counts new.counts records job old.told new.told works.status_is (works.works tells records whole nothing other) counted files removals;
 }
 
 -- memory was wanting at once
@@ -156,4 +170,10 @@ pub collects_none : (job : Job) (old : Outside) → RunsJob job old old status.M
 collects_none job old = collects_of job old old status.Memory
     (record { source_tells = refl; ground_tells = refl; spawner_tells = refl; log_tells = λ t. t; read_faults = le_refl old.read_faults; counts = falls_itself old.counts; spawns = spawns_itself old.spawns })
     refl refl refl (record { spawned = refl; held = refl; spawns = refl }) (λ tells free. only_nowhere old.told (IsOfAttempt job.attempt))
-    (record { worked = Err WorkFault.Memory; status_is = refl; works = λ told records whole nothing. record { ok = tt; whole = λ is. absurd (cc is); last = λ none pair valid t done mapping prefix after le left some in_mapping in_prefix. absurd (omega (arith, after, le)) } }) refl
+    (record {
+      worked = Err WorkFault.Memory;
+      status_is = refl;
+      works = λ told records whole nothing other. record { ok = tt; whole = λ is. absurd (cc is); last = λ none pair valid t done mapping prefix after le left some in_mapping in_prefix. absurd (omega (arith, after, le)) };
+      served = λ told is. record { undone = λ done. absurd (cc done); only = only_nowhere old.told NoFile };
+      spared = λ told nothing is. only_nowhere old.told NoFile;
+    }) refl

@@ -2,7 +2,7 @@
 --     Run rule first exchanges      each is a step of the machine, from the state of the one before it
 --     lines_in, turns_in, texts_in      their lines, their turns in the log, and the texts of their replies
 use Rattle.std.specs.Prelude.{List, [], ◌∷◌, map, Option}
-use Rattle.ip_ground.specs.declared.names.Reaped.{Reaped}
+use Rattle.ip_base.specs.declared.exit.Reaped.{Reaped}
 use Rattle.ip_spawn.specs.declared.job.Job.{Job}
 use Rattle.ip_spec.specs.Path.{Bytes}
 use Rattle.ip_spec.specs.Merge.{Rule}

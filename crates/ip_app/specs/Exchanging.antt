@@ -9,7 +9,7 @@
 use Rattle.std.specs.Prelude.{◌≤◌, ◌≡◌, ◌≢◌, Bool, true, false, IsTrue, List, [], ◌∷◌, ◌++◌, Some, None}
 use Rattle.ip_ground.specs.declared.names.GroundCounts.{GroundCounts}
 use Rattle.ip_ground.specs.Counts.{Rose}
-use Rattle.ip_ground.specs.declared.names.Reaped.{Reaped}
+use Rattle.ip_base.specs.declared.exit.Reaped.{Reaped}
 use Rattle.ip_ground.specs.Told.{Told, KeepsSaid, IsPossibleNow}
 use Rattle.ip_image.specs.declared.counts.TurnCounts.{TurnCounts}
 use Rattle.ip_image.specs.declared.slot.Slot.{Slot}

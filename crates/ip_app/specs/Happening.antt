@@ -6,7 +6,7 @@
 --     jobs_in, ends_in      the children that were started in them, and how those ended that were reaped
 use Rattle.std.specs.Prelude.{◌≡◌, ◌≢◌, ◌⊎◌, ◌≤◌, Bool, false, List, [], ◌∷◌, ◌++◌, length, flat_map, Some, None, IsTrue, IsSome, Ok}
 use Rattle.ip_ground.specs.Counts.{Rose, RoseBy}
-use Rattle.ip_ground.specs.declared.names.Reaped.{Reaped}
+use Rattle.ip_base.specs.declared.exit.Reaped.{Reaped}
 use Rattle.ip_spawn.specs.declared.job.Job.{Job}
 use Rattle.ip_spec.specs.declared.command.Command.{Command}
 use Rattle.ip_spec.specs.declared.command.Command.TheVariants as Command

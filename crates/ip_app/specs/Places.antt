@@ -3,7 +3,7 @@
 --     Places rule slot s v exchanges slot' v'      from this slot, state and view on, over exchanges that were answered whole, up to this slot and view
 --     PlacesIn rule is_cut_off slot first exchanges      so of the exchanges of a run: of all, or of all but the last one
 use Rattle.std.specs.Prelude.{◌≡◌, ◌+◌, ◌≤◌, Bool, false, List, [], ◌∷◌, ◌++◌, length, Ok}
-use Rattle.ip_ground.specs.declared.names.Reaped.{Reaped}
+use Rattle.ip_base.specs.declared.exit.Reaped.{Reaped}
 use Rattle.ip_spawn.specs.declared.job.Job.{Job}
 use Rattle.ip_spec.specs.declared.met.Child.TheVariants as Child
 use Rattle.ip_spec.specs.Machine.{State}

@@ -2,17 +2,17 @@
 --     worked_status worked      the status of what the collector answered.      WorksAs      it is that, over what was told
 --     CountsWorking status old new      the faults that are counted then
 --     RunsJob job old new status      from what is told when it begins to what is told when it returns
-use Rattle.std.specs.Prelude.{◌≡◌, ◌⊎◌, Bool, IsTrue, Result, Ok, Err}
+use Rattle.std.specs.Prelude.{◌≡◌, ◌⊎◌, Bool, IsTrue, Result, Ok, Err, IsErrOf}
 use Rattle.ip_ground.specs.declared.names.GroundCounts.{GroundCounts}
 use Rattle.ip_ground.specs.Counts.{Rose, FileFault, RemoveFault}
-use Rattle.ip_ground.specs.Told.{Told}
+use Rattle.ip_ground.specs.Told.{Told, NoFile, ChangesOnly}
 use Rattle.ip_spec.specs.TreeAt.{Records}
 use Rattle.ip_spawn.specs.declared.job.Job.{Job}
 use Rattle.ip_worker.specs.declared.fault.WorkFault.{WorkFault}
 use Rattle.ip_worker.specs.declared.worker.Counts.{Counts}
 use Rattle.ip_worker.specs.Steps.{IsFree}
 use Rattle.ip_worker.specs.Whole.{AreWhole}
-use Rattle.ip_worker.specs.Working.{NothingLent, WritesAttempt, Works}
+use Rattle.ip_worker.specs.Working.{NothingLent, IsServed, WritesAttempt, Works, Refuses}
 use Rattle.ip_app.specs.declared.statuses.Status.{Status}
 use Rattle.ip_app.specs.Outside.{Outside, GoesOn, IsUnasked}
 
@@ -22,11 +22,16 @@ worked_status (Err WorkFault.Ground) = Status.GroundFault
 worked_status (Err WorkFault.Damaged) = Status.DamagedJob
 worked_status (Err WorkFault.Memory) = Status.Memory
 
--- Where the job's files are whole, and nothing is lent: the valid pair is left where it is done, and they are not told damaged.
+-- Where the job's files are whole, nothing is lent and the control file does not name the attempt as live: the valid pair is left where it is done,
+-- and they are not told damaged.
 pub record WorksAs (tells : Bool) (job : Job) (old new : Told) (status : Status) : Type 0 where
   pub worked : Result Counts WorkFault
   pub status_is : status ≡ worked_status worked
-  pub works : IsTrue tells → (records : Records) → AreWhole old.held job records → NothingLent old → Works records job worked old new
+  pub works : IsTrue tells → (records : Records) → AreWhole old.held job records → NothingLent old → ¬ IsServed old.held job.attempt → Works records job worked old new
+  -- where it is named, it is not done, and no file changes
+  pub served : IsTrue tells → IsServed old.held job.attempt → Refuses worked old new
+  -- where nothing is lent and the job is found damaged, no file has changed
+  pub spared : IsTrue tells → NothingLent old → IsErrOf worked WorkFault.Damaged → ChangesOnly NoFile old new
 
 abbrev pub CountsWorking : Status → GroundCounts → GroundCounts → Type 0
 CountsWorking Status.GroundFault old new = FileFault old new ⊎ RemoveFault old new
@@ -43,6 +48,6 @@ pub record RunsJob (job : Job) (old new : Outside) (status : Status) : Type 0 wh
   pub works : WorksAs old.ground_tells job old.told new.told status
   -- a fault of a file or of a removal was counted, where the status says so, and of no other kind
   pub counted : CountsWorking status old.counts new.counts
-  -- where no fault is counted and the job's files are whole, it is done, or memory was wanting
-  pub complete : IsTrue old.ground_tells → (records : Records) → AreWhole old.told.held job records → NothingLent old.told
+  -- where no fault is counted, the job's files are whole and its attempt is not the live one, it is done, or memory was wanting
+  pub complete : IsTrue old.ground_tells → (records : Records) → AreWhole old.told.held job records → NothingLent old.told → ¬ IsServed old.told.held job.attempt
       → ¬ Rose old.counts.file_faults new.counts.file_faults → ¬ Rose old.counts.remove_faults new.counts.remove_faults → (status ≡ Status.Done) ⊎ (status ≡ Status.Memory)

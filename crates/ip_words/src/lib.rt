@@ -22,6 +22,16 @@ use std::alloc::{AllocError, Global};
 /// The most lines of a load: their replies are counted, and a million are run in minutes.
 pub const LOAD_MAX: u64 = 1000000;
 
+/// The words of the calls, for who gave others: a line for each call.
+pub const USAGE: &str = "\
+usage: ipstore init DIR [--chunk N]
+       ipstore serve DIR
+       ipstore load DIR SEED COUNT
+       ipstore worker DIR ATTEMPT HORIZON END CHUNK LIVE OLD-HORIZON PREFIX ROWS
+       ipstore --help
+       ipstore --version
+";
+
 /// What a call of the program is for.
 #[derive(Clone, Copy, Debug, PartialEq, Eq)]
 pub enum Call<'a> {

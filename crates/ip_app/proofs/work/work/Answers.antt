@@ -14,7 +14,7 @@ pub returns-then-is_err-clause-works : goal.returns-then-is_err-clause-works
 returns-then-is_err-clause-works g c = works_refused g.G.Ground.tells c.args.job.now _ _ (λ told. (c.attach.ensures.does told).only)
 
 pub returns-clause-works : goal.returns-clause-works
-returns-clause-works g c = works_as g.G.Ground.tells c.args.job.now _ _ _ _ c.collect.result c.worked_status.ensures (λ told. (c.attach.ensures.does told).only) c.collect.ensures.only c.collect.ensures.works
+returns-clause-works g c = works_as g.G.Ground.tells c.args.job.now _ _ _ _ c.collect.result c.worked_status.ensures (λ told. (c.attach.ensures.does told).only) c.collect.ensures.only c.collect.ensures.works c.collect.ensures.served c.collect.ensures.spared
 
 pub returns-then-is_err-clause-counted : goal.returns-then-is_err-clause-counted
 returns-then-is_err-clause-counted g c = inl (attach_counts c.attach.result _ _ (sym c.is_err.ensures.value ∙ c.if-is_err.true) c.attach.ensures.counts)
