@@ -1,13 +1,18 @@
-//! Calls of the program over a ground in memory, as tests make them, and transcripts of lines and their replies.
+//! Plays tests that are texts, in memory: scenes of a store, calls of the program with their replies, and what has to be so
+//! then (docs/TEXTS.md).
 #![tactic(auto)]
 
 mod calls;
-mod files;
-mod transcript;
+mod checks;
+mod contents;
+mod leaves;
+mod pieces;
+mod player;
+mod program;
+mod rules;
+mod stage;
+mod trials;
+mod watch;
 
-pub use calls::{
-    answers, answers_on, bench, childless, init, init_with, serve, serve_by, serve_with, source,
-    store_after, told_after, words,
-};
-pub use files::{bytes_of, count_lines, fresh_control, put_value, slot_after_one_commit};
-pub use transcript::{play, play_by, play_on, play_with, replies_of, script_of};
+pub use player::play_text;
+pub use program::play_texts;
