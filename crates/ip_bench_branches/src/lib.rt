@@ -1,5 +1,0 @@
-//! Tests of branches and of what is told of history.
-#![tactic(auto)]
-
-#[cfg(test)]
-mod tests;

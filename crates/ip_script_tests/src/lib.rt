@@ -1,5 +1,0 @@
-//! Tests of lines and replies.
-#![tactic(auto)]
-
-#[cfg(test)]
-mod tests;
