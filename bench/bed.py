@@ -97,17 +97,24 @@ class Bed:
 
 
 class Call:
-    """How a call ended: its status, and what it said."""
+    """How a call ended: its status, what it said, its line on standard error and what else stands there."""
 
     def __init__(self, words, status, out, error):
-        self.words, self.status, self.out, self.error = words, status, out, error.decode("latin-1")
-        need(status in STATUSES, f"{words}: status {status}, which the program has not ({self.error!r})")
+        self.words, self.status, self.out, self.all_error = words, status, out, error.decode("latin-1")
+        self.error, self.causes = common.status_line(status, self.all_error)
+        need(status in STATUSES, f"{words}: status {status}, which the program has not ({self.all_error!r})")
 
     def must(self, status, out=b"", error=None):
         """It ended with this status, these replies (None: any) and the status line of docs/SCRIPT.md."""
         error = LINES[status] if error is None else error
         seen = (self.status, self.out if out is not None else None, self.error)
         need(seen == (status, out, error), f"{self.words!r:.200}: {seen!r:.300}, and not {(status, out, error)!r:.300}")
+        return self
+
+    def because(self, *causes):
+        """These lines stand behind that of the status, or in front of it where the words were wrong."""
+        wanted = [f"{cause}\n" for cause in causes]
+        need(self.causes == wanted, f"{self.words!r:.200}: {self.causes!r:.300}, and not {wanted!r:.300}")
         return self
 
 

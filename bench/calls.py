@@ -42,10 +42,10 @@ LINES = [
 CHILD_LINES = [f"set a {'ab' * 5000}", "set d/e 00", "commit main 0 a m", "set d/e 01", "commit main 1 a m"]
 
 # The calls that are tried of the program, with the exit status where one fails: 0 where the run goes on.
-PROGRAM_CALLS = {"pwrite64": 7, "fsync": 7, "openat": 7, "pread64": 7, "unlink": 0, "write": 6, "clone3": 0, "wait4": 0, "flock": 7}
+PROGRAM_CALLS = {"pwrite64": 7, "fsync": 7, "openat": 7, "pread64": 7, "unlink": 0, "write": 6, "clone3": 0, "wait4": 0, "flock": 7, "statx": 7}
 
 # Those of the child.
-CHILD_CALLS = ("pwrite64", "fsync", "openat", "pread64", "unlink")
+CHILD_CALLS = ("pwrite64", "fsync", "openat", "pread64", "unlink", "statx")
 
 # The lines that may want memory.
 MAY_WANT = ("set", "commit", "collect", "finish", "branch", "branch-rm")

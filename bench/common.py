@@ -112,6 +112,19 @@ class Ended(Exception):
         self.status, self.error = status, error
 
 
+USAGE = 2
+
+
+def status_line(status, error):
+    """Of what stands on standard error the line of the status: the last one where the words were wrong, and else the first, but for a
+    cause. What is left are the words that there are, or causes."""
+    lines = error.splitlines(keepends=True)
+    at = len(lines) - 1 if status == USAGE else 0
+    if not lines or lines[at].startswith("ipstore: start child: "):
+        return "", lines
+    return lines[at], lines[:at] + lines[at + 1:]
+
+
 class Serve:
     """A running `ipstore serve`: it is given lines, and its replies are read. Lines and replies are text, of which each
     character stands for one byte."""
@@ -129,6 +142,7 @@ class Serve:
         self.output = self.process.stdout.fileno()
         self.lines = collections.deque()
         self.piece = b""
+        self.causes = None
 
     def send(self, data):
         """Writes all the bytes."""
@@ -159,7 +173,7 @@ class Serve:
         return self.reply()
 
     def end(self):
-        """Ends the input, drops what is still said, and waits: the exit status and what stands on standard error."""
+        """Ends the input, drops what is still said, and waits: the exit status and its line on standard error."""
         with contextlib.suppress(OSError):
             self.process.stdin.close()
         while self.hear():
@@ -173,9 +187,10 @@ class Serve:
             pass
 
     def waited(self):
-        """Waits for its end: the exit status and what stands on standard error. A signal N is the status -N."""
+        """Waits for its end: the exit status and its line on standard error. A signal N is the status -N."""
         error = self.process.stderr.read().decode("latin-1")
         status = self.process.wait(PATIENCE)
+        error, self.causes = status_line(status, error)
         for stream in (self.process.stdin, self.process.stdout, self.process.stderr):
             with contextlib.suppress(OSError):
                 stream.close()

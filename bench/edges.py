@@ -19,6 +19,9 @@ from bed import CHECKS, LONG, Bed, Skip, Wrong
 import edges_streams
 import edges_stores
 import edges_collections
+import edges_causes
+import edges_names
+import edges_workers
 
 
 def run_one(act, given):

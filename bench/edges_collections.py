@@ -284,32 +284,6 @@ def collection_where_children_are_not_kept(bed):
 
 
 @check
-def files_of_a_child(bed):
-    folder = bed.folder()
-    large_tree(bed, folder, 4096)
-    serve = bed.start(folder)
-    need(serve.ask("collect main").startswith("started "), "no child was started")
-    child = killing.child_of(serve.process.pid)
-    os.kill(child, signal.SIGSTOP)
-    with open(f"/proc/{child}/cmdline", "rb") as file:
-        words = file.read().decode().split("\0")[:-1]
-    same(words[:4], [bed.program, "worker", folder, "1"], "the words of the child")
-    held = {}
-    for number in os.listdir(f"/proc/{child}/fd"):
-        try:
-            held[int(number)] = os.readlink(f"/proc/{child}/fd/{number}")
-        except FileNotFoundError:
-            pass
-    own = re.compile(re.escape(folder) + r"(/(chunk|prefix|mapping|done)\.[0-9]+)?( \(deleted\))?")
-    for number, name in held.items():
-        need(name == os.devnull or number > 2 and (own.fullmatch(name) or not name.startswith((folder, "pipe:", "socket:"))), f"it has {held}")
-    os.kill(child, signal.SIGCONT)
-    same(serve.ask("finish"), "collected 1", "the collection")
-    same(serve.end(), (DONE, ""), "the end")
-    return f"it is called as {words[0].rpartition('/')[2]} worker DIR and eight numbers, and has no pipe and no control file of the program"
-
-
-@check
 def little_memory_in_a_collection(bed):
     folder = bed.folder()
     large_tree(bed, folder, 4096)
@@ -391,19 +365,20 @@ def children_that_are_wrong(bed):
 
 
 @check
-def child_that_leaves_a_folder(bed):
-    program = bed.program
-    with_child(bed, program, WORK + "rm $d/prefix.$n; mkdir $d/prefix.$n; exit 0")
-    folder = bed.store(*FIRST)
+def files_of_a_child(bed):
+    program, told = bed.program, bed.path("told")
+    # What it was given is told before it does anything: the shell's own script is the one file besides.
+    with_child(bed, program, f"stat -c %N /proc/$$/fd/* > '{told}'\nprintf '%s\\n' \"$@\" > '{told}.words'\nexec \"$program\" \"$@\"")
+    folder = bed.store(*FIRST, chunk=4096)
     serve = bed.start(folder)
     need(serve.ask("collect main").startswith("started "), "no child was started")
-    serve.send(script("finish"))
-    need(not serve.hear(), f"finish is answered by {serve.lines}")
-    same(serve.waited(), (DISK, LINES[DISK]), "the end")
-    bed.program = program
-    bed.serve(folder, script("stat", "cat main a")).must(DONE, b"stat 0 1 1 idle\nvalue 01\n")
-    ended = bed.serve(folder, script("collect main", "finish", "stat")).must(DONE, None)
-    return f"in the place of a prefix: status 7, and all is there; then `{ended.out.decode().splitlines()[1]}`"
+    same(serve.ask("finish"), "collected 0", "the collection")
+    same(serve.end(), (DONE, ""), "the end")
+    same(content(bed.base, "told.words").decode().split(), ["worker", folder, "1", "59", "164", "4096", "0", "0", "0", "0"], "its words")
+    held = dict(re.findall(r"/fd/(\d+)' -> '(.*)'", content(bed.base, "told").decode()))
+    same([held.pop(number, None) for number in "012"], [os.devnull] * 3, "its streams")
+    same([name for name in held.values() if name != bed.program], [], "what else it has open")
+    return "it is called by worker DIR and eight numbers; its streams are the null device, and it has no file of the program"
 
 
 @check

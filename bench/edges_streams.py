@@ -77,7 +77,7 @@ def words_that_are_no_command(bed):
         bed.call(*words, input=script("stat")).must(USAGE)
         seen += 1
     same(os.listdir(folder), [], "the folder")
-    return f"{seen} calls: status 2, one line on standard error, nothing said, nothing made"
+    return f"{seen} calls: status 2, the line of that last on standard error, nothing said, nothing made"
 
 
 @check
