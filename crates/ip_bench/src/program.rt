@@ -15,13 +15,14 @@ fn play(rt: &HostRuntime, name: &str, at: &mut u64) -> Result<(), Fail> {
 fn is_well(rt: &HostRuntime, name: &str) -> bool {
     let mut at = 0;
     let played = play(rt, name, &mut at);
+    if played.is_ok() {
+        let _ = println!(rt; "{name}");
+    } else {
+        let _ = println!(rt; "{name}: line {at}");
+        let _ = eprint!(rt; "{name}: line {at}: ");
+    }
     let well = played.is_ok();
     let _ = played.report(rt);
-    let _ = if well {
-        println!(rt; "{name}")
-    } else {
-        println!(rt; "{name}: line {at}")
-    };
     well
 }
 
@@ -47,7 +48,7 @@ fn named(rt: &HostRuntime) -> io::Result<Vec<String>> {
 }
 
 /// Plays each text that a word of the call names, or each whose name stands on standard input, a line each, where there is no word. It says a text's name
-/// where all went as the text says, and else besides at which line it did not. Why stands on standard error, and the exit status is 1 then.
+/// where all went as the text says, and else besides at which line it did not. Name, line and why stand on standard error, and the exit status is 1 then.
 pub fn play_texts(rt: &HostRuntime) -> ExitCode {
     let Ok(names) = named(rt) else {
         return ExitCode::from(2);
