@@ -2,7 +2,7 @@
 --     lost_later      what failed behind a call that only looked
 --     first_there, entry_there, directory_there      the other tree's root, and what an entry refers to, lie in the records
 --     held_lost      a record of the other tree was not read
---     held_later, lost_result, directory_later      behind a look-up.      one_found, none_found      one more, and none
+--     held_later, lost_result, directory_later      behind a look-up.      one_found, none_found      one more, and none.      empty      a list of none
 --     SoFar, none_yet, one_more, failed, all_found      a directory's entries, one after the other
 use Rattle.std.proofs.Common.{◌≡◌, ℕ, ◌+◌, ◌≤◌, arith, List, [], ◌∷◌, ◌++◌, append_assoc, length, refl, sym, ap, subst, ◌∙◌, Option, Some, None, Bool, true, false}
 use Rattle.std.specs.Prelude.{Result, Ok, Err, IfOk, IfErr, IsTrue, MatchResult, ◌==◌, if◌then◌else◌}
@@ -175,7 +175,7 @@ mutual
       let rest = among_many records ns dir in
       omega (arith, one, rest, long_append (again records n (entry_at records s dir)) (again_among records ns dir), long_append (fresh n) (fresh_among ns))
 
-empty : {A : Type 0} (xs : List A) → length xs ≡ 0 → xs ≡ []
+pub empty : {A : Type 0} (xs : List A) → length xs ≡ 0 → xs ≡ []
 empty [] e = refl
 empty (x ∷ xs) e = absurd (omega (arith, e))
 

@@ -2,6 +2,7 @@ mod Bounds
 mod Rising
 mod Indexes
 mod Rests
+mod Tallies
 mod Laying
 mod Rows
 mod Smaller

@@ -1,7 +1,7 @@
 -- What refers to new contents, by a table of starts.
 --     StartsOn rest all at refs starts      what completes the table of the rest completes that of all.      starts_more      one more of them
 --     ascending      the steps of a map ascend
---     at_start      what the table has at a step.      searched      a search finds the step, if it is there
+--     at_start, at_ahead      what the table has at a step.      searched      a search finds the step, if it is there
 use Rattle.std.proofs.Common.{◌≡◌, ℕ, zero, suc, ◌<◌, ◌≤◌, List, [], ◌∷◌, ◌++◌, length, map, get_or, refl, sym, ap, subst, ◌∙◌, arith, add-one, append_assoc, Bool, true, false, cond, T, ◌⊎◌, inl, inr}
 use Rattle.std.specs.Prelude.{◌||◌, Result, Ok, Err, MatchResult}
 use Rattle.std.specs.List.{AllByRecursion}
@@ -23,7 +23,7 @@ use Rattle.ip_tree.specs.Shown.{shown}
 use Rattle.ip_tree.specs.declared.node.Node as declared
 use Rattle.ip_tree.specs.declared.node.Stored.{Stored}
 use Rattle.ip_save.specs.declared.starts.Start.{Start}
-use Rattle.ip_save.specs.Laid.{AreStarts, behind_refs, start_in}
+use Rattle.ip_save.specs.Laid.{AreStarts, BeginsWith, behind_refs, start_in, tallies, tallies_in}
 use Rattle.ip_save.proofs.Rests.{rest_of}
 
 -- ---- the table is made
@@ -32,11 +32,11 @@ pub record StartsOn (rest all : Nodes) (at refs : List Stored) (starts : List St
   pub made : (tail : List Start) → AreStarts rest at tail → AreStarts all refs (starts ++ tail)
 
 pub starts_more : (s : Step) (n : declared.Node) (es : List (Step × declared.Node)) (all : Nodes) (at refs next : List Stored) (starts longer : List Start) (x : Start) → StartsOn (rest_of ((s, n) ∷ es)) all at refs starts
-    → x.step.now ≡ s → x.refs.now ≡ at → longer ≡ starts ++ x ∷ [] → next ≡ behind_refs (shown n) at → StartsOn (rest_of es) all next refs longer
-starts_more s n es all at refs next starts longer x now step here pushed moved = record {
+    → x.step.now ≡ s → x.refs.now ≡ at → BeginsWith (tallies (shown n)) x.ahead.now → longer ≡ starts ++ x ∷ [] → next ≡ behind_refs (shown n) at → StartsOn (rest_of es) all next refs longer
+starts_more s n es all at refs next starts longer x now step here ahead pushed moved = record {
   made = λ tail are.
       subst (AreStarts all refs) (sym (ap (λ (l : List Start). l ++ tail) pushed ∙ append_assoc starts (x ∷ []) tail))
-      (now.made (x ∷ tail) (step, here, subst (λ (m : List Stored). AreStarts (rest_of es) m tail) moved are));
+      (now.made (x ∷ tail) (step, here, ahead, subst (λ (m : List Stored). AreStarts (rest_of es) m tail) moved are));
 }
 
 pub starts_last : (es : List (Step × declared.Node)) → es ≡ [] → (all : Nodes) (at refs : List Stored) (starts : List Start) → StartsOn (rest_of es) all at refs starts → AreStarts all refs starts
@@ -66,7 +66,7 @@ starts_steps : (ns : Nodes) (refs : List Stored) (xs : List Start) → AreStarts
 starts_steps none refs [] are = refl
 starts_steps none refs (x ∷ xs) are = absurd are
 starts_steps (first t n ns) refs [] are = absurd are
-starts_steps (first t n ns) refs (x ∷ xs) are = ap (λ (k : Step). k ∷ map step_at xs) are.0 ∙ ap (λ (l : List Step). t ∷ l) (starts_steps ns (behind_refs n refs) xs are.2)
+starts_steps (first t n ns) refs (x ∷ xs) are = ap (λ (k : Step). k ∷ map step_at xs) are.0 ∙ ap (λ (l : List Step). t ∷ l) (starts_steps ns (behind_refs n refs) xs are.3)
 
 itself : (s : Step) → same_bytes s s ≡ true
 itself s = ap is_eq (tied_itself nat_list_cmp_total s)
@@ -80,7 +80,7 @@ has_at none refs [] i s are lt is = absurd (omega (arith, lt))
 has_at none refs (x ∷ xs) i s are lt is = absurd are
 has_at (first t n ns) refs [] i s are lt is = absurd are
 has_at (first t n ns) refs (x ∷ xs) zero s are lt is = ap (λ (k : Step). same_bytes s k || has s (steps_in ns)) (sym are.0 ∙ is x) ∙ ap (λ b. b || has s (steps_in ns)) (itself s)
-has_at (first t n ns) refs (x ∷ xs) (suc i) s are lt is = or_true (same_bytes s t) (has s (steps_in ns)) (has_at ns (behind_refs n refs) xs i s are.2 (omega (arith, lt)) is)
+has_at (first t n ns) refs (x ∷ xs) (suc i) s are lt is = or_true (same_bytes s t) (has s (steps_in ns)) (has_at ns (behind_refs n refs) xs i s are.3 (omega (arith, lt)) is)
 
 apart : (s t : Step) (ss : List Step) → T (is_below_all t ss) → has s ss ≡ true → same_bytes s t ≡ false
 apart s t ss below there = by (same_bytes s t) refl
@@ -96,9 +96,23 @@ at_start (first t n ns) refs [] i s up are lt is d = absurd are
 at_start (first t n ns) refs (x ∷ xs) zero s up are lt is d =
     are.1 ∙ sym (ap (λ b. cond b refs (start_in ns (behind_refs n refs) s)) (ap (λ (k : Step). same_bytes s k) (sym are.0 ∙ is x) ∙ itself s))
 at_start (first t n ns) refs (x ∷ xs) (suc i) s up are lt is d =
-    let there = has_at ns (behind_refs n refs) xs i s are.2 (omega (arith, lt)) is in
-    at_start ns (behind_refs n refs) xs i s (tail_of (is_below_all t (steps_in ns)) (ascend (steps_in ns)) up) are.2 (omega (arith, lt)) is d
+    let there = has_at ns (behind_refs n refs) xs i s are.3 (omega (arith, lt)) is in
+    at_start ns (behind_refs n refs) xs i s (tail_of (is_below_all t (steps_in ns)) (ascend (steps_in ns)) up) are.3 (omega (arith, lt)) is d
     ∙ sym (ap (λ b. cond b refs (start_in ns (behind_refs n refs) s)) (apart s t (steps_in ns) (head_of (is_below_all t (steps_in ns)) (ascend (steps_in ns)) up) there))
+
+pub at_ahead : (ns : Nodes) (refs : List Stored) (xs : List Start) (i : ℕ) (s : Step) → AreSteps (steps_in ns) → AreStarts ns refs xs → i < length xs → ((d : Start) → (get_or xs i d).step.now ≡ s) → (d : Start)
+    → BeginsWith (tallies_in ns s) (get_or xs i d).ahead.now
+at_ahead none refs [] i s up are lt is d = absurd (omega (arith, lt))
+at_ahead none refs (x ∷ xs) i s up are lt is d = absurd are
+at_ahead (first t n ns) refs [] i s up are lt is d = absurd are
+at_ahead (first t n ns) refs (x ∷ xs) zero s up are lt is d =
+    let same : same_bytes s t ≡ true = ap (λ (k : Step). same_bytes s k) (sym are.0 ∙ is x) ∙ itself s in
+    subst (λ b. BeginsWith (cond b (tallies n) (tallies_in ns s)) x.ahead.now) (sym same) are.2
+at_ahead (first t n ns) refs (x ∷ xs) (suc i) s up are lt is d =
+    let there = has_at ns (behind_refs n refs) xs i s are.3 (omega (arith, lt)) is in
+    let other : same_bytes s t ≡ false = apart s t (steps_in ns) (head_of (is_below_all t (steps_in ns)) (ascend (steps_in ns)) up) there in
+    subst (λ b. BeginsWith (cond b (tallies n) (tallies_in ns s)) (get_or xs i d).ahead.now) (sym other)
+    (at_ahead ns (behind_refs n refs) xs i s (tail_of (is_below_all t (steps_in ns)) (ascend (steps_in ns)) up) are.3 (omega (arith, lt)) is d)
 
 adjacent : (xs : List Start) (k : ℕ) (d : Start) → AreSteps (map step_at xs) → suc k < length xs → bytes_cmp (get_or xs k d).step.now (get_or xs (suc k) d).step.now ≡ Less
 adjacent [] k d up lt = absurd (omega (arith, lt))

@@ -1,5 +1,7 @@
 -- What the walks over a lazy tree write and answer, by its nodes alone.
 --     fresh n      the new contents, in the order of their paths.      contents_bytes bs      the bytes of their records.      size_of bs      how many these are
+--     tallies n      what lies below each directory that was loaded, the first one's own tally first.      tallies_in ns s      of the node at a step
+--     new_in ts, behind_first ts      how many new contents the first tally tells, and the tallies behind those of its directory.      BeginsWith front all      these are the first of all
 --     longest n      the greatest length of the new contents.      breadth n      the most entries of a directory that was loaded
 --     count_of part      how many entries a part has.      record_of part      the record that spells it, where one is known
 --     ref_at refs      the first of these references.      behind_refs n refs      those that are left behind a node
@@ -37,6 +39,7 @@ use Rattle.ip_tree.specs.declared.node.Stored.{Stored}
 use Rattle.ip_save.specs.declared.batch.SaveFault.{SaveFault}
 use Rattle.ip_save.specs.declared.batch.SaveFault.TheVariants.{Limit, Space, Fetch, Memory}
 use Rattle.ip_save.specs.declared.starts.Start.{Start}
+use Rattle.ip_save.specs.declared.tally.Tally.{Tally}
 
 -- ---- new contents
 
@@ -49,6 +52,40 @@ abbrev mutual
   pub fresh_among : Nodes → List Bytes
   fresh_among none = []
   fresh_among (first s n ns) = fresh n ++ fresh_among ns
+
+-- ---- tallies
+
+abbrev mutual
+  pub tallies : Node → List Tally
+  tallies (stored x) = []
+  tallies (contents bytes) = []
+  tallies (directory root ns) = record { new = length (fresh_among ns); directories = length (tallies_among ns) } ∷ tallies_among ns
+
+  pub tallies_among : Nodes → List Tally
+  tallies_among none = []
+  tallies_among (first s n ns) = tallies n ++ tallies_among ns
+
+abbrev pub tallies_root : Root → List Tally
+tallies_root (unread r) = []
+tallies_root (loaded root ns) = tallies (directory root ns)
+
+abbrev pub tallies_in : Nodes → Step → List Tally
+tallies_in none s = []
+tallies_in (first t n ns) s = cond (same_bytes s t) (tallies n) (tallies_in ns s)
+
+abbrev pub new_in : List Tally → ℕ
+new_in [] = 0
+new_in (t ∷ ts) = t.new
+
+abbrev pub behind_first : List Tally → List Tally
+behind_first [] = []
+behind_first (t ∷ ts) = drop t.directories ts
+
+pub record BeginsWith (front all : List Tally) : Type 0 where
+  pub tail : List Tally
+  pub is : all ≡ front ++ tail
+
+-- ---- the bytes of new contents
 
 abbrev pub size : Bytes → ℕ
 size bytes = length (spelling (Record.Contents bytes))
@@ -229,7 +266,7 @@ abbrev pub AreStarts : Nodes → List Stored → List Start → Type 0
 AreStarts none refs [] = Unit {0}
 AreStarts none refs (x ∷ xs) = ⊥
 AreStarts (first s n ns) refs [] = ⊥
-AreStarts (first s n ns) refs (x ∷ xs) = (x.step.now ≡ s) × (x.refs.now ≡ refs) × AreStarts ns (behind_refs n refs) xs
+AreStarts (first s n ns) refs (x ∷ xs) = (x.step.now ≡ s) × (x.refs.now ≡ refs) × BeginsWith (tallies n) x.ahead.now × AreStarts ns (behind_refs n refs) xs
 
 -- what stands in a directory at the steps whose parts were read
 abbrev pub nodes_in : Dir code.Node Stored → Nodes

@@ -14,6 +14,7 @@ use crate::lay::put_root;
 use crate::measure::room_for;
 use crate::places::{place_fresh, put_each};
 use crate::records::{put_branch, put_commit};
+use crate::tally::tally_root;
 use ip_base::limit::OFFSET_MAX;
 use ip_base::{Blob, Hash, Info, Limit, Memory, Number};
 use ip_ground::Ground;
@@ -102,7 +103,8 @@ impl Batch {
         // without another tree the ground is not asked
         ensures alone { first ≡ None → (outside.new ≡ outside.old) × (space.new ≡ space.old) × IfErr result IsUnfetched }
     {
-        let fresh = match find_fresh(alloc, outside, space, &tree.root, first) {
+        let ahead = tally_root(alloc, &tree.root)?;
+        let fresh = match find_fresh(alloc, outside, space, &tree.root, &ahead, first) {
             Ok(fresh) => fresh,
             Err(fault) => return Err(fault),
         };
@@ -110,10 +112,10 @@ impl Batch {
             Ok(placing) => placing,
             Err(Memory) => return Err(SaveFault::Memory),
         };
-        let room = room_for(&tree.root, &placing.put, fields);
+        let room = room_for(&placing.put, fields);
         let mut bytes = Vec::with_capacity(alloc, room)?;
         put_each(&placing.put, &mut bytes)?;
-        let root = put_root(alloc, &tree.root, &placing.refs, end, &mut bytes)?;
+        let root = put_root(alloc, &tree.root, &placing.refs, &ahead, end, &mut bytes)?;
         let commit_at = end + bytes.len() as u64;
         let name = put_commit(fields, &root, &mut bytes)?;
         put_branch(fields, &mut bytes)?;

@@ -1,9 +1,9 @@
 // The contents of a tree that no record is known to hold, and those of them that another tree has at the same path.
-ghost use Rattle.std.specs.Prelude.{◌≡◌, ◌∷◌, [], ◌&&◌, ◌==◌, ℕ, length, Option, Some, None, Ok, IsTrue, IsFalse, IfOk, IfErr, MatchResult};
+ghost use Rattle.std.specs.Prelude.{◌≡◌, ◌∷◌, [], ◌&&◌, ◌==◌, ℕ, length, Option, Some, None, Ok, IsTrue, IfOk, IfErr, MatchResult};
 ghost use Rattle.std.specs.List.{AllByRecursion};
 ghost use Rattle.ip_ground.specs.Counts.{Counts};
 ghost use Rattle.ip_save.specs.Batches.{IsFirst};
-ghost use Rattle.ip_save.specs.Laid.{IsShort, fresh, fresh_root, longest, longest_root, nodes_in};
+ghost use Rattle.ip_save.specs.Laid.{BeginsWith, IsShort, fresh, fresh_root, longest, longest_root, nodes_in, tallies, tallies_among, tallies_root};
 ghost use Rattle.ip_save.specs.Reused.{AreHashed, IsDirectoryThere, IsFound, IsFreeSave, IsFreshFault, IsLost, IsSaveCause, IsThere, IsUnfetched};
 ghost use Rattle.ip_save.specs.Reused.{again, again_among, again_root, as_directory, bytes_in, entry_at, found_in, ground_save, held_by, look_fault, reference_in, same_contents};
 ghost use Rattle.ip_space.specs.SpaceView.{IsReadable, records_of};
@@ -16,6 +16,7 @@ ghost use Rattle.sha2.specs.Sha256.{sha256};
 ghost use Rattle.ip_spec.specs.Path.{same_bytes};
 
 use crate::SaveFault;
+use crate::tally::{Tally, behind, inside, new_in};
 use ip_base::limit::CONTENTS_MAX;
 use ip_base::{Hash, Limit, Step};
 use ip_ground::Ground;
@@ -44,8 +45,10 @@ pub fn find_fresh<'a, G: Ground>(
     outside: &mut G,
     space: &mut Space,
     root: &'a Root,
+    ahead: &[Tally],
     first: Option<Ref>,
 ) -> Result<Vec<Fresh<'a>>, SaveFault>
+    requires tallied { ahead.now ≡ tallies_root (shown_root root.now) }
     ensures bytes { IfOk result (λ fresh. bytes_in fresh.items ≡ fresh_root (shown_root root.now)) }
     ensures hashed { IfOk result (λ fresh. AreHashed fresh.items) }
     ensures short { IfOk result (λ fresh. AllByRecursion IsShort (bytes_in fresh.items)) }
@@ -63,48 +66,53 @@ pub fn find_fresh<'a, G: Ground>(
     let mut fresh = Vec::new(alloc);
     match root {
         Root::Stored(_) => Ok(fresh),
-        Root::Loaded(dir) => match find_in(outside, space, dir, &first, &mut fresh) {
+        Root::Loaded(dir) => match find_in(outside, space, dir, inside(ahead), &first, &mut fresh) {
             Ok(()) => Ok(fresh),
             Err(fault) => Err(fault),
         },
     }
 }
 
-// Puts the new contents below a directory behind those that there are. The other tree has a directory at its path, if there is a reference.
+// Puts the new contents below a directory behind those that there are. The other tree has a directory at its path, if there is a reference. The first
+// tallies are those of the directories below it.
 #[cycle(fresh)]
 fn find_in<'a, G: Ground>(
     outside: &mut G,
     space: &mut Space,
     dir: &'a Directory,
+    ahead: &[Tally],
     other: &Option<Ref>,
     out: &mut Vec<Fresh<'a>>,
 ) -> Result<(), SaveFault>
-    ensures found { MatchResult result (λ _. IsFound G.tells (G.told outside.old) space.old (fresh (shown_directory dir.now)) (λ records. again_among records (nodes_in dir.now) other.now) out.old.items out.new.items)
+    ensures found { BeginsWith (tallies_among (nodes_in dir.now)) ahead.now → MatchResult result (λ _. IsFound G.tells (G.told outside.old) space.old (fresh (shown_directory dir.now)) (λ records. again_among records (nodes_in dir.now) other.now) out.old.items out.new.items)
         (IsLost G.tells (G.told outside.old) space.old (longest (shown_directory dir.now)) (λ records. IsDirectoryThere records other.now)) }
     ensures looks { Looks G.tells (G.told outside.old) (G.told outside.new) space.old space.new }
     ensures counts { Counts ground_save result (G.counts_of outside.old) (G.counts_of outside.new) }
     ensures alone { other.now ≡ None → (outside.new ≡ outside.old) × (space.new ≡ space.old) × IfErr result IsUnfetched }
 {
+    let mut left = ahead;
     for (step, node) in dir.entries() {
-        match find_at(outside, space, step, node, other, out) {
+        match find_at(outside, space, step, node, left, other, out) {
             Ok(()) => {}
             Err(fault) => return Err(fault),
         }
+        left = behind(node, left);
     }
     Ok(())
 }
 
-// The same of the new contents at a step of a directory. Nothing is looked up where there are none.
+// The same of the new contents at a step of a directory, where the first tallies are the node's. Nothing is looked up where there are none.
 #[cycle(fresh)]
 fn find_at<'a, G: Ground>(
     outside: &mut G,
     space: &mut Space,
     step: &Step,
     node: &'a Node,
+    ahead: &[Tally],
     other: &Option<Ref>,
     out: &mut Vec<Fresh<'a>>,
 ) -> Result<(), SaveFault>
-    ensures found { MatchResult result (λ _. IsFound G.tells (G.told outside.old) space.old (fresh (shown node.now)) (λ records. again records (shown node.now) (entry_at records step.now other.now)) out.old.items out.new.items)
+    ensures found { BeginsWith (tallies (shown node.now)) ahead.now → MatchResult result (λ _. IsFound G.tells (G.told outside.old) space.old (fresh (shown node.now)) (λ records. again records (shown node.now) (entry_at records step.now other.now)) out.old.items out.new.items)
         (IsLost G.tells (G.told outside.old) space.old (longest (shown node.now)) (λ records. IsDirectoryThere records other.now)) }
     ensures looks { Looks G.tells (G.told outside.old) (G.told outside.new) space.old space.new }
     ensures counts { Counts ground_save result (G.counts_of outside.old) (G.counts_of outside.new) }
@@ -114,40 +122,16 @@ fn find_at<'a, G: Ground>(
         Node::Stored(_) => Ok(()),
         Node::Contents(bytes) => find_one(outside, space, step, bytes.as_slice(), other, out),
         Node::Directory(dir) => {
-            if !has_new(dir) {
+            let new = new_in(ahead);
+            if new == 0 {
                 return Ok(());
             }
             let below = match directory_at(outside, space, step, other) {
                 Ok(below) => below,
                 Err(fault) => return Err(fault),
             };
-            find_in(outside, space, dir, &below, out)
+            find_in(outside, space, dir, inside(ahead), &below, out)
         }
-    }
-}
-
-// Whether there are new contents below a directory.
-#[cycle(new)]
-fn has_new(dir: &Directory) -> bool
-    ensures { IsFalse result → fresh (shown_directory dir.now) ≡ [] }
-{
-    for (_, node) in dir.entries() {
-        if is_new(node) {
-            return true;
-        }
-    }
-    false
-}
-
-// Whether there are new contents at a node.
-#[cycle(new)]
-fn is_new(node: &Node) -> bool
-    ensures { IsFalse result → fresh (shown node.now) ≡ [] }
-{
-    match node {
-        Node::Stored(_) => false,
-        Node::Contents(_) => true,
-        Node::Directory(dir) => has_new(dir),
     }
 }
 

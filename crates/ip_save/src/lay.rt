@@ -1,8 +1,8 @@
 // The records of directories that no record is known to spell.
 ghost use Rattle.std.specs.Prelude.{◌≡◌, ◌≢◌, ◌+◌, ◌-◌, ◌++◌, ◌≤◌, ◌<◌, ℕ, List, length, Option, Some, None, IfErr, IfOk, OnOk, MatchResult, IsOkAnd, IsSomeAnd};
 ghost use Rattle.ip_base.specs.declared.limit.TheConstants.{OFFSET_MAX};
-ghost use Rattle.ip_save.specs.Laid.{IsHighFault, IsLaid, IsLaidRoot, IsLayFault, IsReady, IsRootFault, IsRow, IsRowFault};
-ghost use Rattle.ip_save.specs.Laid.{breadth, breadth_among, count_of, fresh, fresh_root, lay, lay_at, lay_children, lay_part, lay_steps, new_inode, new_leaf, nodes_in, record_of, ref_at};
+ghost use Rattle.ip_save.specs.Laid.{BeginsWith, IsHighFault, IsLaid, IsLaidRoot, IsLayFault, IsReady, IsRootFault, IsRow, IsRowFault};
+ghost use Rattle.ip_save.specs.Laid.{breadth, breadth_among, count_of, fresh, fresh_root, lay, lay_at, lay_children, lay_part, lay_steps, new_inode, new_leaf, nodes_in, record_of, ref_at, tallies, tallies_root};
 ghost use Rattle.ip_save.specs.declared.batch.SaveFault.TheVariants as SaveFault;
 ghost use Rattle.ip_shape.specs.Heights.{inode_height, leaf_height};
 ghost use Rattle.ip_spec.specs.Record.{Fits, spelling};
@@ -17,6 +17,7 @@ use crate::leaf::leaf_entry;
 use crate::measure::record_of;
 use crate::records::{put_inode, put_leaf};
 use crate::starts::{Start, start_at, starts_of};
+use crate::tally::{Tally, inside};
 use ip_base::limit::ENTRIES_MAX;
 use ip_base::{Items, Limit, Step};
 use ip_shape::dir::find;
@@ -29,44 +30,47 @@ use ip_tree::{Directory, Node, Root, Stored};
 use std::alloc::Global;
 
 /// Puts the records of the directories of a tree behind what is there, whose first byte lies at the offset `end`, and answers the root. Of each of
-/// the tree's new contents, ascending by path, `refs` has what refers to it.
+/// the tree's new contents, ascending by path, `refs` has what refers to it, and `ahead` are its tallies.
 pub fn put_root(
     alloc: Global,
     root: &Root,
     refs: &[Stored],
+    ahead: &[Tally],
     end: u64,
     out: &mut Vec<u8>,
 ) -> Result<Ref, SaveFault>
     requires end { end ≤ OFFSET_MAX }
+    requires tallied { ahead.now ≡ tallies_root (shown_root root.now) }
     requires all { length refs.now ≡ length (fresh_root (shown_root root.now)) }
     ensures laid { MatchResult result (IsLaidRoot end refs.now (shown_root root.now) out.old.items out.new.items) (IsRootFault end refs.now (shown_root root.now) out.old.items) }
 {
     match root {
         Root::Stored(reference) => Ok(*reference),
-        Root::Loaded(dir) => match put_directory(alloc, dir, refs, end, out) {
+        Root::Loaded(dir) => match put_directory(alloc, dir, refs, ahead, end, out) {
             Ok(stored) => Ok(stored.reference),
             Err(fault) => Err(fault),
         },
     }
 }
 
-// Puts the records of what stands at a node, where there are such, and answers what refers to it. The first of `refs` refer to its new contents, and
-// the first byte lies at `end`.
+// Puts the records of what stands at a node, where there are such, and answers what refers to it. The first of `refs` refer to its new contents, the
+// first tallies are its own, and the first byte lies at `end`.
 #[cycle(lay)]
 fn put_node(
     alloc: Global,
     node: &Node,
     refs: &[Stored],
+    ahead: &[Tally],
     end: u64,
     out: &mut Vec<u8>,
 ) -> Result<Stored, SaveFault>
-    ensures laid { end ≤ OFFSET_MAX → length (fresh (shown node.now)) ≤ length refs.now
+    ensures laid { end ≤ OFFSET_MAX → length (fresh (shown node.now)) ≤ length refs.now → BeginsWith (tallies (shown node.now)) ahead.now
         → MatchResult result (IsLaid end (lay (shown node.now) refs.now) out.old.items out.new.items) (IsLayFault (breadth (shown node.now)) end (lay (shown node.now) refs.now) out.old.items) }
 {
     match node {
         Node::Stored(stored) => Ok(*stored),
         Node::Contents(_) => first_of(refs),
-        Node::Directory(dir) => put_directory(alloc, dir, refs, end, out),
+        Node::Directory(dir) => put_directory(alloc, dir, refs, ahead, end, out),
     }
 }
 
@@ -87,10 +91,11 @@ fn put_directory(
     alloc: Global,
     dir: &Directory,
     refs: &[Stored],
+    ahead: &[Tally],
     end: u64,
     out: &mut Vec<u8>,
 ) -> Result<Stored, SaveFault>
-    ensures laid { end ≤ OFFSET_MAX → length (fresh (shown_directory dir.now)) ≤ length refs.now
+    ensures laid { end ≤ OFFSET_MAX → length (fresh (shown_directory dir.now)) ≤ length refs.now → BeginsWith (tallies (shown_directory dir.now)) ahead.now
         → MatchResult result (IsLaid end (lay (shown_directory dir.now) refs.now) out.old.items out.new.items) (IsLayFault (breadth (shown_directory dir.now)) end (lay (shown_directory dir.now) refs.now) out.old.items) }
 {
     let root = dir.root();
@@ -100,7 +105,7 @@ fn put_directory(
     if root.count() > ENTRIES_MAX {
         return Err(SaveFault::Limit(Limit::Entries));
     }
-    let starts = starts_of(alloc, dir, refs)?;
+    let starts = starts_of(alloc, dir, refs, inside(ahead))?;
     put_new_part(alloc, dir, &starts, root, 0, end, out)
 }
 
@@ -196,11 +201,14 @@ fn put_at(
         → MatchResult result (IsLaid end (lay_at (nodes_in dir.now) refs step.now) out.old.items out.new.items)
         (IsLayFault (breadth_among (nodes_in dir.now)) end (lay_at (nodes_in dir.now) refs step.now) out.old.items) }
 {
-    // Each step of a part that was read has its entry.
+    // Each step of a part that was read has its entry, and each entry its start.
     let Some(node) = find(dir, step) else {
         return Err(SaveFault::Memory);
     };
-    put_node(alloc, node, start_at(starts, step), end, out)
+    let Some(start) = start_at(starts, step) else {
+        return Err(SaveFault::Memory);
+    };
+    put_node(alloc, node, start.refs, start.ahead, end, out)
 }
 
 // Puts the records of the children of an inode at a depth, in the order of their indexes, and answers what it tells of them.

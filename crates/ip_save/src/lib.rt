@@ -20,6 +20,7 @@ mod measure;
 mod places;
 mod records;
 mod starts;
+mod tally;
 
 pub use batch::{Batch, CommitFields, SaveFault};
 use ip_spec::batch_stands;

@@ -1,4 +1,4 @@
-use Rattle.std.proofs.Common.{◌≡◌, ◌+◌, ◌-◌, ◌≤◌, ◌++◌, ◌∷◌, [], List, length, refl, sym, ap, ◌∙◌, arith}
+use Rattle.std.proofs.Common.{◌≡◌, ◌+◌, ◌-◌, ◌≤◌, ◌++◌, ◌∷◌, [], List, length, refl, sym, ap, subst, ◌∙◌, arith}
 use Rattle.std.specs.Prelude.{Some}
 use Rattle.std.specs.FinMap.Entries.{find}
 use Rattle.ip_spec.specs.Path.{Step, bytes_cmp}
@@ -11,12 +11,14 @@ use Rattle.ip_tree.specs.Shown.{shown, shown_directory}
 use Rattle.ip_tree.specs.declared.node.Node.{size-Node}
 use Rattle.ip_tree.proofs.Nodes.{stored_shown, contents_shown}
 use Rattle.ip_tree.specs.declared.node.Stored.{Stored}
-use Rattle.ip_save.specs.Laid.{IsLaid, IsLayFault, behind_inode, behind_leaf, child_for, lay_children, lay_steps, new_inode, new_leaf, breadth, breadth_among, fresh, lay, lay_at, lay_part, nodes_in, record_of, ref_at, there}
+use Rattle.ip_save.specs.Laid.{BeginsWith, IsLaid, IsLayFault, behind_inode, behind_leaf, child_for, lay_children, lay_steps, new_inode, new_leaf, breadth, breadth_among, fresh, lay, lay_at, lay_part, nodes_in, record_of, ref_at, start_in, there}
 use Rattle.ip_shape.specs.Heights.{inode_height, leaf_height}
 use Rattle.ip_save.proofs.Found.{found_broad, found_has, found_laid, found_enough}
 use Rattle.ip_save.proofs.Laying.{behind_result, ends_at, ends_children, ends_part, ends_steps, known_laid, nothing_laid, there_result}
 use Rattle.ip_save.proofs.Rows.{child_failed, child_more, children_end, fault_up, inode_laid, leaf_laid, passed_on, step_cause, step_more, steps_end, walk_same, walk_up}
 use Rattle.ip_save.proofs.Smaller.{found_most}
+use Rattle.ip_save.proofs.Tallies.{found_tallies}
+use Rattle.ip_save.specs.declared.tally.Tally.{Tally}
 use Rattle.ip_save.proofs.lay.+lay.Goals as goal
 
 pub put_at-put_node-requires : goal.put_at-put_node-requires
@@ -32,15 +34,18 @@ put_at-returns t c = record {
       let s = c.args.step.now in
       let n = c.in-Some.node.now in
       let found : find bytes_cmp s es ≡ Some n = sym c.in-Some.ensures.held in
-      let start = c.start_at.ensures (nodes_in d) refs ready.ascend ready.starts (found_has es s n found) in
-      let enough : length (fresh (shown n)) ≤ length c.start_at.result.now = (let all = found_enough es s n refs found ready.enough in let e = ap length start in omega (arith, e, all)) in
-      walk_up c.args.end (breadth (shown n)) (breadth_among (nodes_in d)) (lay (shown n) c.start_at.result.now) (lay_at (nodes_in d) refs s)
-      (λ at. ap (λ (k : List Stored). lay (shown n) k at) start ∙ sym (found_laid es s n refs at found)) (found_broad es s n found) c.args.out.now.items c.put_node.new.out.items c.put_node.result (c.put_node.ensures.laid ready.low enough);
+      let x = c.in-Some-start_at.start in
+      let at = c.in-Some-start_at.ensures (nodes_in d) refs ready.ascend ready.starts (found_has es s n found) in
+      let start : x.refs.now ≡ start_in (nodes_in d) refs s = at.0 in
+      let ahead = subst (λ (l : List Tally). BeginsWith l x.ahead.now) (found_tallies es s n found) at.1 in
+      let enough : length (fresh (shown n)) ≤ length x.refs.now = (let all = found_enough es s n refs found ready.enough in let e = ap length start in omega (arith, e, all)) in
+      walk_up c.args.end (breadth (shown n)) (breadth_among (nodes_in d)) (lay (shown n) x.refs.now) (lay_at (nodes_in d) refs s)
+      (λ at. ap (λ (k : List Stored). lay (shown n) k at) start ∙ sym (found_laid es s n refs at found)) (found_broad es s n found) c.args.out.now.items c.put_node.new.out.items c.put_node.result (c.put_node.ensures.laid ready.low enough ahead);
 }
 
 pub put_directory-returns-in-Some : goal.put_directory-returns-in-Some
 put_directory-returns-in-Some t c = record {
-  laid = λ low enough.
+  laid = λ low enough begins.
       let d = c.args.dir.now in
       let refs = c.args.refs.now in
       let x = c.in-Some.stored in
@@ -50,7 +55,7 @@ put_directory-returns-in-Some t c = record {
 
 pub put_node-returns-in-Stored : goal.put_node-returns-in-Stored
 put_node-returns-in-Stored t c = record {
-  laid = λ low enough.
+  laid = λ low enough begins.
       let x = c.in-Stored.stored in
       let shows : shown c.args.node.now ≡ stored x = ap shown c.in-Stored.is ∙ stored_shown x in
       walk_same c.args.end (there x) (lay (shown c.args.node.now) c.args.refs.now) (λ at. ap (λ (n : Node). lay n c.args.refs.now at) (sym shows)) c.args.out.now.items c.args.out.now.items x (nothing_laid c.args.end x c.args.out.now.items);
@@ -58,7 +63,7 @@ put_node-returns-in-Stored t c = record {
 
 pub put_node-returns-in-Contents : goal.put_node-returns-in-Contents
 put_node-returns-in-Contents t c = record {
-  laid = λ low enough.
+  laid = λ low enough begins.
       let b = c.in-Contents.field-0 in
       let refs = c.args.refs.now in
       let before = c.args.out.now.items in
