@@ -1,0 +1,65 @@
+-- A durable step on the chunks and the control file.
+--     front_in fields end image      the bytes of the records before it
+--     StandsAs size from live bytes image      this slot is live, and these bytes stand in the chunks
+--     CanStep end slot fields told      what a step begins with
+--     MakesStep end bytes slot fields result old new      what it does.      IsWritten size end file      which files it may change
+--     TurnsGate slot fields result old new      what making a slot live does that names no more bytes
+--     MayChange image file      those that a call may change which keeps the image's store.      IsOfStore file      and any such call
+use Rattle.std.specs.Prelude.{◌≡◌, ◌⊎◌, ℕ, ◌-◌, ◌≤◌, List, ◌++◌, Result, OnOk}
+use Rattle.ip_ground.specs.declared.names.FileName.{FileName}
+use Rattle.ip_ground.specs.declared.names.FileName.TheVariants.{Control}
+use Rattle.ip_ground.specs.declared.names.GroundFault.{GroundFault}
+use Rattle.ip_ground.specs.Contents.{Image}
+use Rattle.ip_ground.specs.Told.{Told, EachImage, EachSince, Only, ChangesOnly, IsSynced}
+use Rattle.ip_image.specs.declared.slot.Slot.{Slot}
+use Rattle.ip_image.specs.Slot.{slot_bytes}
+use Rattle.ip_image.specs.Pending.{HasLive}
+use Rattle.ip_chunks.specs.Places.{chunk_start, NoGap, IsChunk, IsChunkFrom}
+use Rattle.ip_chunks.specs.Fronts.{Holds, Leaves, bytes_from}
+use Rattle.ip_control.specs.Live.{Live, live_slot, live_of, IsNewer}
+use Rattle.ip_control.specs.Changes.{control, IsReady}
+
+-- from the slot's horizon up to the end
+abbrev pub front_in : Slot → ℕ → Image → List ℕ
+front_in fields end image = bytes_from fields.chunk image fields.horizon (end - fields.horizon)
+
+abbrev pub StandsAs : ℕ → ℕ → Live → List ℕ → Image → Type 0
+StandsAs size from live bytes image = (live_of (image Control) ≡ live) × Holds size from bytes image
+
+pub record CanStep (end slot : ℕ) (fields : Slot) (told : Told) : Type 0 where
+  pub above : fields.horizon ≤ end
+  -- from the horizon, and from the start of the chunk, up to the end there is no gap
+  pub filled : NoGap fields.chunk told.held fields.horizon end
+  pub reaches : NoGap fields.chunk told.held (chunk_start fields.chunk end) end
+  pub ready : IsReady slot told
+  pub newer : IsNewer fields.sequence (live_of (control told))
+
+-- the control file, or a chunk that holds a place from the end on
+abbrev pub IsWritten : ℕ → ℕ → FileName → Type 0
+IsWritten size end file = (file ≡ Control) ⊎ IsChunkFrom size end file
+
+-- the control file, or a chunk that holds a place behind the records of the live slot
+abbrev pub MayChange : Image → FileName → Type 0
+MayChange image file = (file ≡ Control) ⊎ ((s : Slot) × HasLive s image × IsChunkFrom s.chunk s.end file)
+
+-- the control file, or a chunk
+abbrev pub IsOfStore : FileName → Type 0
+IsOfStore file = (file ≡ Control) ⊎ IsChunk file
+
+pub record MakesStep (end : ℕ) (bytes : List ℕ) (slot : ℕ) (fields : Slot) (result : Result (Unit {0}) GroundFault) (old new : Told) : Type 0 where
+  pub only : ChangesOnly (IsWritten fields.chunk end) old new
+  -- Ok: the records are there, the slot is live, nothing of the control file is pending, and a crash leaves the records where it left those before
+  pub held : OnOk result (StandsAs fields.chunk fields.horizon (live_slot slot (slot_bytes fields)) (front_in fields end old.held ++ bytes) new.held)
+  pub kept : OnOk result (IsSynced new Control)
+  pub front : Leaves fields.chunk fields.horizon (front_in fields end old.held) old → OnOk result (Leaves fields.chunk fields.horizon (front_in fields end old.held ++ bytes) new)
+  -- where nothing of the records was pending, each image at each moment is as before or as after
+  pub images : Leaves fields.chunk fields.horizon (front_in fields end old.held) old
+      → EachImage old new (λ said image. StandsAs fields.chunk fields.horizon (live_of (control old)) (front_in fields end old.held) image
+      ⊎ StandsAs fields.chunk fields.horizon (live_slot slot (slot_bytes fields)) (front_in fields end old.held ++ bytes) image)
+
+-- At every moment the live slot is the one from before or this one. Ok: it is the latter.
+pub record TurnsGate (slot : ℕ) (fields : Slot) (result : Result (Unit {0}) GroundFault) (old new : Told) : Type 0 where
+  pub only : ChangesOnly (Only Control) old new
+  pub live : EachSince old new Control (λ content. (live_of content ≡ live_of (control old)) ⊎ (live_of content ≡ live_slot slot (slot_bytes fields)))
+  pub kept : OnOk result (IsSynced new Control)
+  pub opens : OnOk result (live_of (control new) ≡ live_slot slot (slot_bytes fields))
