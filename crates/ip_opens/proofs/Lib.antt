@@ -1,0 +1,7 @@
+pub mod ClearOpens
+pub mod MadeStores
+pub mod OpenedImages
+pub mod OpenedStores
+pub mod RecordSteps
+pub mod Walking
+pub mod Hashes

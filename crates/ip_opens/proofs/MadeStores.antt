@@ -1,0 +1,101 @@
+-- What making a store does, exit by exit.
+use Rattle.std.proofs.Common.{take, List, arith, subst, ◌≡◌, ◌<◌, ℕ, false, sym, ◌∙◌, ap, Ok, Err}
+use Rattle.std.specs.Prelude.{Result, IsSome, IsErrAnd, is_some}
+use Rattle.ip_ground.specs.declared.names.FileName.TheVariants.{Control}
+use Rattle.ip_ground.specs.declared.names.GroundFault.{GroundFault}
+use Rattle.ip_ground.specs.Contents.{bytes_of}
+use Rattle.ip_ground.specs.Custody as custody
+use Rattle.ip_ground.specs.Told.{Told, lending, Only, NoFile, ChangesOnly}
+use Rattle.ip_ground.specs.Calls.{Writes, Syncs}
+use Rattle.ip_ground.proofs.Spans.{only_on, only_more, lending_now}
+use Rattle.ip_ground.proofs.Durable.{sync_changes}
+use Rattle.ip_image.specs.declared.slot.Slot.{Slot}
+use Rattle.ip_image.specs.Slot.{live_index, IsChunkSize, fresh, fresh_control}
+use Rattle.ip_image.specs.Pending.{HasLive, NothingPending}
+use Rattle.ip_image.proofs.FreshLaws.{is_live}
+use Rattle.ip_image.proofs.HeadlineLaws.{one_slot}
+use Rattle.ip_opens.specs.declared.making.InitFault.{InitFault}
+use Rattle.ip_held.specs.Control.{control_in, IsFresh}
+use Rattle.ip_opens.specs.Opening.{Makes}
+use Rattle.ip_opens.proofs.ClearOpens.{made_clear}
+use Rattle.ip_held.proofs.Reading.{own, control_passes, fresh_written, fresh_now, none_of}
+
+to_control : (a b : Told) → ChangesOnly NoFile a b → ChangesOnly (Only Control) a b
+to_control a b passes = only_more a b NoFile (Only Control) (λ file none. absurd none) passes
+
+pub is_there : (chunk : ℕ) (a b : Told) → ChangesOnly NoFile a b → IsSome (live_index (control_in b.held)) → Makes chunk (Err InitFault.Existing) a b
+is_there chunk a b passes live = record {
+  only = to_control a b passes;
+  closed = tt;
+  existing = λ e. subst_live (control_passes a b passes);
+  unchanged = λ e. passes;
+  made = tt;
+  kept = tt;
+  stands = tt;
+  clear = tt;
+  nothing_pending = λ none. tt;
+}
+  where
+    subst_live : control_in b.held ≡ control_in a.held → IsSome (live_index (control_in a.held))
+    subst_live e = ap (λ bytes. is_some (live_index bytes)) (sym e) ∙ live
+
+-- a call that failed
+pub fails : (chunk : ℕ) (s : Result (Unit {0}) InitFault) (a b : Told) → IsErrAnd s (λ e. e ≡ InitFault.Ground) → ChangesOnly (Only Control) a b → Makes chunk s a b
+fails chunk (Ok u) a b fault only = absurd fault
+fails chunk (Err e) a b fault only = record {
+  only = only;
+  closed = tt;
+  existing = λ is. absurd (cc (fault, is));
+  unchanged = λ is. absurd (cc (fault, is));
+  made = tt;
+  kept = tt;
+  stands = tt;
+  clear = tt;
+  nothing_pending = λ none. tt;
+}
+
+pub of_spelled : (chunk : ℕ) (bytes : List ℕ) (r : Result (Unit {0}) GroundFault) (a b : Told) → bytes ≡ fresh_control chunk → Writes Control 0 bytes r a b → Writes Control 0 (fresh_control chunk) r a b
+of_spelled chunk bytes r a b is writes = subst (λ l. Writes Control 0 l r a b) is writes
+
+module _ (chunk : ℕ) (a b c : Told) (passes : ChangesOnly NoFile a b) (result : Result (Unit {0}) GroundFault) (writes : Writes Control 0 (fresh_control chunk) result b c) where
+  pub write_only : ChangesOnly (Only Control) a c
+  write_only = only_on a b c (Only Control) (to_control a b passes) writes.only
+
+module _ (chunk : ℕ) (a b c d : Told) (passes : ChangesOnly NoFile a b) (writes : Writes Control 0 (fresh_control chunk) (Ok tt) b c) (result : Result (Unit {0}) GroundFault) (syncs : Syncs Control result c d) where
+  pub sync_only : ChangesOnly (Only Control) a d
+  sync_only = only_on a c d (Only Control) (write_only chunk a b c passes (Ok tt) writes) (sync_changes Control own result c d syncs)
+
+-- no record is named, so none is pending; and no attempt was ever lent
+fresh_pending : (chunk : ℕ) → IsChunkSize chunk → (told : Told) → IsFresh chunk told.held → ((attempt : ℕ) → lending told attempt ≡ custody.own) → NothingPending told
+fresh_pending chunk size told is none = record {
+  chunks = λ s has at low high. absurd (none_below at (subst (λ (u : Slot). at < u.end) (sym (same s has)) high));
+  pair = λ s has live. absurd (live (ap (λ (u : Slot). u.live) (sym (same s has))));
+  drawn = λ s has attempt some. absurd (some (none attempt));
+}
+  where
+    none_below : (at : ℕ) → at < 0 → ⊥
+    none_below at high = omega (arith, high)
+
+    same : (s : Slot) → HasLive s told.held → fresh chunk ≡ s
+    same s has =
+        let begun : take 256 has.control ≡ fresh_control chunk = ap (λ c. take 256 (bytes_of c)) (sym has.held) ∙ is in
+        one_slot (fresh chunk) s told.held (record { control = has.control; index = 0; held = has.held; live = is_live has.control chunk size begun }) has
+
+pub makes : (chunk : ℕ) → IsChunkSize chunk → (a b c d : Told) → ChangesOnly NoFile a b → is_some (live_index (control_in b.held)) ≡ false → Writes Control 0 (fresh_control chunk) (Ok tt) b c → Syncs Control (Ok tt) c d → Makes chunk (Ok tt) a d
+makes chunk size a b c d passes closed writes syncs = record {
+  only = only;
+  closed = ap live_index (sym (control_passes a b passes)) ∙ none_of _ closed;
+  existing = λ is. absurd (cc (is));
+  unchanged = λ is. absurd (cc (is));
+  made = made;
+  kept = syncs.ok (λ x. x);
+  stands = fresh_now chunk size d made (syncs.ok (λ x. x));
+  clear = made_clear chunk size d made;
+  nothing_pending = λ none. fresh_pending chunk size d made (λ attempt. lending_now a d only.goes attempt (only.lending attempt) ∙ none attempt);
+}
+  where
+    only : ChangesOnly (Only Control) a d
+    only = sync_only chunk a b c d passes writes (Ok tt) syncs
+
+    made : IsFresh chunk d.held
+    made = ap (λ l. take 256 (bytes_of l)) ((syncs.files Control).held (λ x. x) ∙ writes.ok (λ x. x)) ∙ fresh_written chunk (b.held Control)

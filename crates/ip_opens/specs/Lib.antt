@@ -1,0 +1,4 @@
+pub mod Found
+pub mod OpenFaults
+pub mod Opening
+pub mod Walk

@@ -1,0 +1,52 @@
+-- What making a store does, and opening one, between what a ground tells before and after.
+use Rattle.std.specs.Prelude.{◌≡◌, ℕ, ◌<◌, ◌≤◌, None, IsSome, Result, OnOk, IfOk, IsErrOf}
+use Rattle.ip_ground.specs.declared.names.FileName.{FileName}
+use Rattle.ip_ground.specs.declared.names.FileName.TheVariants.{Control}
+use Rattle.ip_ground.specs.Custody.{own}
+use Rattle.ip_ground.specs.Told.{Told, lending, ChangesOnly, SyncsOnly, Only, NoFile, IsSynced, EachImageNow}
+use Rattle.ip_spec.specs.Repository.{Repository, no_repository}
+use Rattle.ip_image.specs.Slot.{live_index}
+use Rattle.ip_image.specs.Standing.{StandsFor, NoStore, DamagedAt}
+use Rattle.ip_image.specs.Pending.{crash_at, NothingPending}
+use Rattle.ip_image.specs.Headline.{RecoversTo}
+use Rattle.ip_opens.specs.declared.making.InitFault.{InitFault}
+use Rattle.ip_opens.specs.declared.opening.OpenFault.{OpenFault}
+use Rattle.ip_held.specs.declared.held.Held.{Held}
+use Rattle.ip_held.specs.Clear.{IsClearAt}
+use Rattle.ip_held.specs.Control.{control_in, IsFresh}
+use Rattle.ip_opens.specs.Found.{IsReached}
+use Rattle.ip_held.specs.Held.{OwnsLive, IsSound}
+
+pub record Makes (chunk : ℕ) (result : Result (Unit {0}) InitFault) (old new : Told) : Type 0 where
+  -- no other file changes at any moment, nothing is said, none is lent or settled
+  pub only : ChangesOnly (Only Control) old new
+  -- a store is there exactly where a slot is open, and then nothing changes
+  pub closed : OnOk result (live_index (control_in old.held) ≡ None)
+  pub existing : IsErrOf result InitFault.Existing → IsSome (live_index (control_in old.held))
+  pub unchanged : IsErrOf result InitFault.Existing → ChangesOnly NoFile old new
+  -- a crash leaves a store without commits
+  pub made : OnOk result (IsFresh chunk new.held)
+  pub kept : OnOk result (IsSynced new Control)
+  pub stands : OnOk result (EachImageNow new (λ image. StandsFor image no_repository))
+  -- nothing was to be cleared yet
+  pub clear : OnOk result (IsClearAt new)
+  -- and nothing is pending, where no attempt was ever lent
+  pub nothing_pending : ((attempt : ℕ) → lending old attempt ≡ own) → OnOk result (NothingPending new)
+
+-- From a moment of opening on, that of its sync, whatever a crash leaves stands for the repository that the files stood for, where the ground was in order.
+pub record RecoversOnceOpen (old new : Told) : Type 0 where
+  pub since : ℕ
+  pub begins : old.moment < since
+  pub recovers : (r : Repository) → StandsFor old.held r → NothingPending old → (t : ℕ) → since ≤ t → t ≤ new.moment → RecoversTo (crash_at new t) r
+  pub nothing_pending : NothingPending old → NothingPending new
+
+pub record Opens (result : Result Held OpenFault) (old new : Told) : Type 0 where
+  -- no file changes at any moment, and none but the control file is synced, nothing is said, none is lent or settled
+  pub only : SyncsOnly (Only Control) old new
+  pub no_store : IsErrOf result OpenFault.NoStore → NoStore new.held
+  -- where no child changes the live pair
+  pub damaged : OwnsLive old → (file : FileName) (at : ℕ) → IsErrOf result (OpenFault.Damaged file at) → DamagedAt new.held file at
+  pub holds : OwnsLive old → IfOk result (λ store. IsSound store new)
+  -- every answer but a fault of the ground comes after the sync, where there is a control file
+  pub opening : RecoversOnceOpen old new
+  pub reached : IsReached result → IsSome (old.held Control) → opening.since ≤ new.moment
