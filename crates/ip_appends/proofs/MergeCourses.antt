@@ -1,0 +1,82 @@
+-- A merge by how the commit stands to the branch's.
+--     into_none, into_memory      there is no such branch, or that could not be told.      into_current, into_leaving, into_bases      nothing is merged
+--     course_may      the branch's commit is there.      forward_at, join_at      the branch moves on, or the trees are merged
+use Rattle.std.proofs.Common.{◌≡◌, ℕ, Bool, false, Option, Some, None, refl, sym, ◌∙◌, ap, subst}
+use Rattle.std.specs.Prelude.{Result, Ok, Err, IsTrue}
+use Rattle.ip_base.specs.declared.info.Info.{Info}
+use Rattle.ip_ground.specs.Told.{Told}
+use Rattle.ip_spec.specs.declared.reply.Reply.{Reply}
+use Rattle.ip_spec.specs.Machine.{Phase}
+use Rattle.ip_spec.specs.Merge.{Rule}
+use Rattle.ip_spec.specs.Path.{Bytes}
+use Rattle.ip_spec.specs.Record.{Hash}
+use Rattle.ip_spec.specs.Repository.{Repository, head, is_retained, name_at}
+use Rattle.ip_held.specs.declared.fault.StoreFault.{StoreFault}
+use Rattle.ip_appends.specs.declared.merging.Course.{Course}
+use Rattle.ip_appends.specs.declared.merging.Merge.{Merge}
+use Rattle.ip_held.specs.declared.held.Held.{Held}
+use Rattle.ip_held.specs.Collecting.{phase_of}
+use Rattle.ip_held.specs.Held.{IsOf}
+use Rattle.ip_appends.specs.Merging.{IsCourse, IsForward, IsJoin, MergesInto, merge_reply, moves}
+use Rattle.ip_appends.proofs.JoinedCalls.{looked_nothing}
+use Rattle.ip_appends.proofs.JoinedTrees.{forward_from, join_from}
+use Rattle.ip_appends.proofs.MergeExits.{into, looked_fault, looked_value}
+use Rattle.ip_appends.proofs.MergeTurns.{IsQuiet, turn_bases, turn_current, turn_leaving, turn_memory, turn_none}
+use Rattle.ip_held.proofs.Phases.{head_retained}
+
+module _ (tells : Bool) (rule : Rule) (number : ℕ) (branch : Bytes) (info : Info) (store : Held) (a : Told) where
+  abbrev phase : Phase
+  phase = phase_of store.collection
+
+  abbrev There : Repository → Type 0
+  There r = IsTrue (is_retained r number)
+
+  abbrev Into : Result Merge StoreFault → Type 0
+  Into result = MergesInto tells rule number branch info result store store a a
+
+  still : (x : Merge) → moves x ≡ false → ((r : Repository) → IsOf store r → There r → (reply : Reply) × (merge_reply branch (Ok x) ≡ Some reply) × IsQuiet rule r phase number branch info reply r) → Into (Ok x)
+  still x none quiet = into tells rule number branch info There (Ok x) store store a a (λ r of here. here)
+      (looked_value tells rule number branch info There store store a a (looked_nothing tells store a) x none (λ told decides r held here. quiet r held.tables here))
+
+  pub into_memory : Into (Err StoreFault.Memory)
+  into_memory = into tells rule number branch info There (Err StoreFault.Memory) store store a a (λ r of here. here)
+      (looked_fault tells rule number branch info There store store a a (looked_nothing tells store a) StoreFault.Memory (λ told decides r held here. record { turns = turn_memory rule r phase number branch info; limits = tt; undamaged = tt }) tt)
+
+  module _ (found : Option ℕ) (is_found : (r : Repository) → IsOf store r → found ≡ head r branch) where
+    pub into_none : found ≡ None → Into (Ok Merge.NoBranch)
+    into_none none = still Merge.NoBranch refl (λ r of here. (Reply.NoBranch branch, refl, turn_none rule r phase number branch info (sym (is_found r of) ∙ none)))
+
+    module _ (at : ℕ) (some : found ≡ Some at) where
+      is_head : (r : Repository) → IsOf store r → head r branch ≡ Some at
+      is_head r of = sym (is_found r of) ∙ some
+
+      pub course_may : (r : Repository) → IsOf store r → IsTrue (is_retained r at)
+      course_may r of = head_retained store r of branch at (is_head r of)
+
+      module _ (course : Course) (courses : (r : Repository) → IsOf store r → IsTrue (is_retained r at) → There r → IsCourse r phase at number course) where
+        by : (one : Course) → course ≡ one → (r : Repository) → IsOf store r → There r → IsCourse r phase at number one
+        by one is r of here = subst (IsCourse r phase at number) is (courses r of (course_may r of) here)
+
+        pub into_current : course ≡ Course.Current → (name : Hash) → ((r : Repository) → IsOf store r → IsTrue (is_retained r at) → name ≡ name_at r at) → Into (Ok (Merge.Current name))
+        into_current is name named = still (Merge.Current name) refl (λ r of here. (
+          Reply.Current (name_at r at),
+          ap (λ h. Some (Reply.Current h)) (named r of (course_may r of)),
+          turn_current rule r phase number branch info at (is_head r of) (by Course.Current is r of here),
+        ))
+
+        pub into_leaving : course ≡ Course.Leaving → Into (Err (StoreFault.Leaving number))
+        into_leaving is = into tells rule number branch info There (Err (StoreFault.Leaving number)) store store a a (λ r of here. here)
+            (looked_fault tells rule number branch info There store store a a (looked_nothing tells store a) (StoreFault.Leaving number) (λ told decides r held here.
+            let taken = by Course.Leaving is r held.tables here in
+            record { turns = (turn_leaving rule r phase number branch info at (is_head r held.tables) taken.0.0 taken.0.1 (Reply.Leaving number) taken.1).turns; limits = tt; undamaged = tt }) tt)
+
+        pub into_bases : (count : ℕ) → course ≡ Course.Bases count → Into (Ok (Merge.Bases count))
+        into_bases count is = still (Merge.Bases count) refl (λ r of here.
+            let taken = by (Course.Bases count) is r of here in
+            (Reply.Bases count, refl, turn_bases rule r phase number branch info at (is_head r of) taken.0.0 taken.0.1 taken.3 count taken.1 taken.2))
+
+        pub forward_at : course ≡ Course.Forward → (r : Repository) → IsOf store r → There r → IsForward r branch number
+        forward_at is r of here = forward_from r phase branch at number (is_head r of) here (by Course.Forward is r of here)
+
+        pub join_at : (base : Option ℕ) → course ≡ Course.Join base → (r : Repository) → IsOf store r → There r → IsJoin r phase branch (record { base = base; head = at; number = number })
+        join_at base is r of here = join_from r phase branch at number base (is_head r of) (course_may r of) here (by (Course.Join base) is r of here)
