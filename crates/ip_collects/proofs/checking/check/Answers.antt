@@ -1,0 +1,134 @@
+use Rattle.std.proofs.Common.{◌∙◌, ◌≤◌, pos, refl, sym, ap, subst, Some, None}
+use Rattle.ip_base.specs.declared.exit.Exit.TheVariants as Exit
+use Rattle.ip_ground.specs.Counts.{Counts}
+use Rattle.ip_held.specs.declared.collection.Collection.{Collection}
+use Rattle.ip_held.specs.declared.held.Held.{Held}
+use Rattle.ip_held.specs.Collecting.{until}
+use Rattle.ip_check.specs.Checking.{looked_by}
+use Rattle.ip_collects.specs.CollectFaults.{ground_finish}
+use Rattle.ip_collects.specs.Finishing.{IsUndamaged, looked_at}
+use Rattle.ip_collects.specs.Judging.{EndsCheck, FitsExit, IsOpen, SlicesBy, TellsVerdict}
+use Rattle.ip_held.specs.Held.{Holds, IsOf}
+use Rattle.ip_held.proofs.Going.{phase_here}
+use Rattle.ip_collects.proofs.Judged.{begins_checking, begins_over, counts_check, ends_through, has_exit, job_space, kept_check, looks_on, no_damage, none_looked, not_open, put_check, same_one, sliced_holds, sliced_says, sliced_tables, slices, with_holds, zero_fits}
+use Rattle.ip_collects.proofs.checking.check.Goals as goal
+
+pub returns-in_err-check-clause-holds : goal.returns-in_err-check-clause-holds
+returns-in_err-check-clause-holds g c told r held =
+    let store = c.args.store.now in
+    let x = c.in-Some.collection in
+    subst (λ (y : Collection). Holds (record store { collection = Some y }) (g.G.Ground.told c.args.outside.now) r) (sym c.take_check.ensures.taken)
+    (with_holds store r x c.in-Some.is (has_exit store.collection x c.in-Some.is c.requires.running) (g.G.Ground.told c.args.outside.now) held None tt tt)
+
+pub returns-clause-check : goal.returns-clause-check
+returns-clause-check g c y runs =
+    let store = c.args.store.now in
+    let x = c.in-Some.collection in
+    let same = same_one store.collection x y c.in-Some.is runs in
+    let (r, of) = c.requires.tables in
+    let slice = c.advance-outcome.ensures in
+    let now = c.advance-outcome.new.self in (
+      Some now,
+      put_check store y c.take_check.new.collection (Some now) (c.take_check.ensures.taken ∙ ap (λ (z : Collection). record z { check = None }) same),
+      subst (λ (z : Collection). looked_at z ≤ looked_by now) same
+          (looks_on store r x c.in-Some.is (has_exit store.collection x c.in-Some.is c.requires.running) c.in_ok-check.check c.in_ok-check.ensures.next now slice.check slice.same c.args.most c.advance-outcome.result slice.advances),
+    )
+
+pub returns-in_err-check-clause-check : goal.returns-in_err-check-clause-check
+returns-in_err-check-clause-check g c y runs =
+    let store = c.args.store.now in
+    let x = c.in-Some.collection in
+    let same = same_one store.collection x y c.in-Some.is runs in (
+      None,
+      ap (λ (z : Collection). record store { collection = Some z }) (c.take_check.ensures.taken ∙ ap (λ (z : Collection). record z { check = None }) same),
+      subst (λ (z : Collection). looked_at z ≤ 0) same (none_looked x None (c.in_err-check.ensures.begins refl)),
+    )
+
+pub returns-clause-whole : goal.returns-clause-whole
+returns-clause-whole g c all opens =
+    not_open c.args.most c.in_ok-check.check c.advance-outcome.new.self c.advance-outcome.result c.left-left.result c.advance-outcome.ensures.check c.advance-outcome.ensures.advances all (subst IsOpen c.verdict_of.ensures opens)
+
+pub returns-clause-holds : goal.returns-clause-holds
+returns-clause-holds g c told r held =
+    let store = c.args.store.now in
+    let x = c.in-Some.collection in
+    let a = g.G.Ground.told c.args.outside.now in
+    let some = has_exit store.collection x c.in-Some.is c.requires.running in
+    let slice = c.advance-outcome.ensures in
+    let next = c.in_ok-check.ensures.next in
+    let over = begins_over store r x c.in-Some.is some c.in_ok-check.check next c.advance-outcome.new.self slice.check slice.same a held in
+    let begins = begins_checking store r x c.in-Some.is some c.in_ok-check.check next c.advance-outcome.new.self slice.check slice.same a held in
+    subst (λ (s : Held). Holds s (g.G.Ground.told c.advance-outcome.new.outside) r) (sym (put_check store x c.take_check.new.collection (Some c.advance-outcome.new.self) c.take_check.ensures.taken))
+    (sliced_holds store r x c.in-Some.is some c.in_ok-check.check next c.advance-outcome.new.self slice.check slice.same a held (g.G.Ground.told c.advance-outcome.new.outside) (slice.only told)
+    (slice.checking told over.readable over.fixed (until x.job.end held.stands.standing.records) over.whole begins))
+
+pub returns-clause-says : goal.returns-clause-says
+returns-clause-says g c told r held y runs =
+    let store = c.args.store.now in
+    let x = c.in-Some.collection in
+    let a = g.G.Ground.told c.args.outside.now in
+    let some = has_exit store.collection x c.in-Some.is c.requires.running in
+    let slice = c.advance-outcome.ensures in
+    let next = c.in_ok-check.ensures.next in
+    let over = begins_over store r x c.in-Some.is some c.in_ok-check.check next c.advance-outcome.new.self slice.check slice.same a held in
+    let begins = begins_checking store r x c.in-Some.is some c.in_ok-check.check next c.advance-outcome.new.self slice.check slice.same a held in
+    subst (λ (z : Collection). TellsVerdict held.stands.standing.records z a c.verdict_of.result) (same_one store.collection x y c.in-Some.is runs)
+    (subst (TellsVerdict held.stands.standing.records x a) (sym c.verdict_of.ensures)
+    (sliced_says store r x c.in-Some.is some c.in_ok-check.check next c.advance-outcome.new.self slice.check slice.same a held c.advance-outcome.result c.left-left.result
+    (slice.says told over.readable over.fixed (until x.job.end held.stands.standing.records) over.whole begins)))
+
+pub returns-clause-undamaged : goal.returns-clause-undamaged
+returns-clause-undamaged g c told r held =
+    let store = c.args.store.now in
+    let x = c.in-Some.collection in
+    let a = g.G.Ground.told c.args.outside.now in
+    let some = has_exit store.collection x c.in-Some.is c.requires.running in
+    let slice = c.advance-outcome.ensures in
+    let next = c.in_ok-check.ensures.next in
+    let over = begins_over store r x c.in-Some.is some c.in_ok-check.check next c.advance-outcome.new.self slice.check slice.same a held in
+    let begins = begins_checking store r x c.in-Some.is some c.in_ok-check.check next c.advance-outcome.new.self slice.check slice.same a held in
+    subst IsUndamaged (sym c.verdict_of.ensures)
+    (no_damage c.advance-outcome.result c.left-left.result (slice.undamaged told over.readable over.fixed (until x.job.end held.stands.standing.records) over.whole begins))
+
+pub take_check-requires-clause-job : goal.take_check-requires-clause-job
+take_check-requires-clause-job g c = let (r, of) = c.requires.tables in (phase_here c.args.store.now r c.in-Some.collection c.in-Some.is of).told.valid
+
+pub take_check-requires-clause-space : goal.take_check-requires-clause-space
+take_check-requires-clause-space g c = let (r, of) = c.requires.tables in job_space c.args.store.now r c.in-Some.collection c.in-Some.is of
+
+pub take_check-requires-clause-kept : goal.take_check-requires-clause-kept
+take_check-requires-clause-kept g c =
+    let (r, of) = c.requires.tables in
+    kept_check c.args.store.now r c.in-Some.collection c.in-Some.is (has_exit c.args.store.now.collection c.in-Some.collection c.in-Some.is c.requires.running) of
+
+pub returns-clause-tables : goal.returns-clause-tables
+returns-clause-tables g c r of =
+    let store = c.args.store.now in
+    let x = c.in-Some.collection in
+    subst (λ (s : Held). IsOf s r) (sym (put_check store x c.take_check.new.collection (Some c.advance-outcome.new.self) c.take_check.ensures.taken))
+    (sliced_tables store r x c.in-Some.is (has_exit store.collection x c.in-Some.is c.requires.running) c.in_ok-check.check c.in_ok-check.ensures.next c.advance-outcome.new.self c.advance-outcome.ensures.check c.advance-outcome.ensures.same of)
+
+pub returns-clause-fits : goal.returns-clause-fits
+returns-clause-fits g c = subst (FitsExit (Exit.Code (pos 0))) (sym c.verdict_of.ensures) (zero_fits c.advance-outcome.result c.left-left.result)
+
+pub returns-clause-ends : goal.returns-clause-ends
+returns-clause-ends g c =
+    subst (λ verdict. EndsCheck verdict (Some (record c.take_check.new.collection { check = Some c.advance-outcome.new.self }))) (sym c.verdict_of.ensures)
+    (ends_through c.take_check.new.collection c.advance-outcome.new.self c.advance-outcome.result c.left-left.result c.advance-outcome.ensures.advances.ends)
+
+pub returns-clause-counts : goal.returns-clause-counts
+returns-clause-counts g c =
+    subst (λ verdict. Counts ground_finish verdict (g.G.Ground.counts_of c.args.outside.now) (g.G.Ground.counts_of c.advance-outcome.new.outside)) (sym c.verdict_of.ensures)
+    (counts_check c.advance-outcome.result c.left-left.result (g.G.Ground.counts_of c.args.outside.now) (g.G.Ground.counts_of c.advance-outcome.new.outside) c.advance-outcome.ensures.counts)
+
+pub returns-clause-sliced : goal.returns-clause-sliced
+returns-clause-sliced g c y runs =
+    let store = c.args.store.now in
+    let x = c.in-Some.collection in
+    let (r, of) = c.requires.tables in
+    let now = c.advance-outcome.new.self in
+    subst (λ (z : Collection). SlicesBy c.args.most z c.verdict_of.result (Some (record c.take_check.new.collection { check = Some now }))) (same_one store.collection x y c.in-Some.is runs)
+    (subst (λ (z : Collection). SlicesBy c.args.most x c.verdict_of.result (Some (record z { check = Some now }))) (sym c.take_check.ensures.taken)
+    (subst (λ verdict. SlicesBy c.args.most x verdict (Some (record x { check = Some now }))) (sym c.verdict_of.ensures)
+    (slices store r x c.in-Some.is (has_exit store.collection x c.in-Some.is c.requires.running) c.in_ok-check.check c.in_ok-check.ensures.next now c.advance-outcome.ensures.check c.advance-outcome.ensures.same
+    c.args.most c.left-left.result c.advance-outcome.result c.advance-outcome.ensures.advances c.left-left.ensures)))

@@ -1,0 +1,55 @@
+-- The end of a collection, by a look or by a finish, which is a look that waits.
+--     asking wait      the command.      most_of wait      so many records are looked at, at most
+--     AsksChild wait attempt child tells x y m n      what is asked of the spawner, and what it tells and counts then
+--     ConcludesAs tells wait result met store now old new      all that is promised of the call, but for the child and the ground's counts
+use Rattle.std.specs.Prelude.{◌≡◌, ◌-◌, ◌^◌, ℕ, Bool, true, false, [], ◌∷◌, ◌++◌, Some, Result, IsTrue}
+use Rattle.ip_base.specs.declared.exit.Reaped.{Reaped}
+use Rattle.ip_ground.specs.Told.{Told}
+use Rattle.ip_spawn.specs.Children as spawn
+use Rattle.ip_spawn.specs.declared.spawner.SpawnCounts.{SpawnCounts}
+use Rattle.ip_spec.specs.declared.command.Command.{Command}
+use Rattle.ip_spec.specs.declared.event.Event.TheVariants as Event
+use Rattle.ip_spec.specs.declared.met.Child.{Child}
+use Rattle.ip_spec.specs.declared.met.Met.{Met}
+use Rattle.ip_spec.specs.Repository.{Repository}
+use Rattle.ip_image.specs.Pending.{NothingPending}
+use Rattle.ip_held.specs.declared.collection.Collection.{Collection}
+use Rattle.ip_held.specs.declared.held.Held.{Held}
+use Rattle.ip_held.specs.Clear.{KeepsClear, ClearsAll}
+use Rattle.ip_held.specs.Fronts.{LeavesFront}
+use Rattle.ip_held.specs.Held.{IsOf, Holds}
+use Rattle.ip_held.specs.Tie.{IsTied}
+use Rattle.ip_collects.specs.CollectEvents.{ending, finish_events}
+use Rattle.ip_collects.specs.Ending.{AwaitsChild, Goes, SeesChild}
+use Rattle.ip_collects.specs.Finishing.{Concludes, FinishesBy, HasAnswer, IsAsked, IsSweptBehind, IsUndamaged, LookReplies, WorksStay, conditions_by}
+use Rattle.ip_collects.specs.declared.finishing.FinishFault.{FinishFault}
+use Rattle.ip_collects.specs.declared.finishing.Looked.{Looked}
+use Rattle.ip_collects.specs.declared.finishing.TheConstants.{LOOKS}
+
+abbrev pub asking : Bool → Command
+asking true = Command.Finish
+asking false = Command.Look
+
+abbrev pub most_of : Bool → ℕ
+most_of true = 2 ^ 64 - 1
+most_of false = LOOKS
+
+abbrev pub AsksChild : Bool → ℕ → Child → Bool → spawn.Told → spawn.Told → SpawnCounts → SpawnCounts → Type 0
+AsksChild true attempt child tells x y m n = AwaitsChild attempt child tells x y m n
+AsksChild false attempt child tells x y m n = SeesChild attempt child tells x y m n
+
+pub record ConcludesAs (tells wait : Bool) (result : Result Looked FinishFault) (met : Met) (store now : Held) (old new : Told) : Type 0 where
+  pub goes : Goes met.child (most_of wait) result met store now
+  pub answered : (r : Repository) → IsOf store r → LookReplies result (Concludes r store.collection (asking wait) (conditions_by met result) now)
+  -- a finish waits, and makes the whole check
+  pub asked : IsAsked (asking wait) result
+  pub any_moment : IsTrue tells → (r : Repository) (held : Holds store old r) (c : Collection) (reaped : Reaped) → store.collection ≡ Some c → met.child ≡ Child.Ended reaped →
+      FinishesBy held.stands.standing.records r c (asking wait) result store.unswept met now old new
+  pub undamaged : IsTrue tells → (r : Repository) → Holds store old r → IsUndamaged result
+  pub works_stay : IsTrue tells → HasAnswer result → (r q : Repository) (held : Holds store old r) (still : Holds now new q) → WorksStay held still
+  -- What was cleared stays so, and behind a sweep that left nothing all is.
+  pub clear : IsTrue tells → HasAnswer result → (r : Repository) → Holds store old r → KeepsClear store now old new × ClearsAll (IsSweptBehind result) met.left store now old new
+  pub tied : IsTrue tells → HasAnswer result → (r q : Repository) (held : Holds store old r) (still : Holds now new q) →
+      IsTied store held.stands.standing.records now still.stands.standing.records (finish_events store.collection result)
+  -- where nothing was pending a crash at any moment, within a fault of the ground too, leaves a front of its events
+  pub fronts : IsTrue tells → (r : Repository) (held : Holds store old r) → NothingPending old → LeavesFront store held.stands.standing.records (ending store.collection ++ Event.Accept ∷ Event.Sweep ∷ []) old new

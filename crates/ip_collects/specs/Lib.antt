@@ -1,0 +1,9 @@
+pub mod Cancelling
+pub mod CollectEvents
+pub mod CollectFaults
+pub mod Ending
+pub mod Finishing
+pub mod Judging
+pub mod Starting
+pub mod Swapping
+pub mod Concluding
