@@ -1,35 +1,16 @@
-//! The store: making its folder's control file, opening it, the work of a session, and trees over its records.
+//! The store: a set of named branches over commits, each with a whole tree, in one folder. Here are all of its calls; what they do is in crates below:
+//! opening, reading, what appends records, and collections.
 #![tactic(auto)]
 
-mod branches;
-mod cancelling;
-mod checking;
-mod collection;
-mod committing;
-mod finishing;
-mod history;
-mod merging;
-mod naming;
-mod opening;
-mod publish;
-mod show;
-mod starting;
 mod store;
-mod swapping;
-mod sweeping;
-mod trees;
-mod walk;
-mod work;
 
-pub use branches::Branches;
-pub use cancelling::{CancelFault, Cancelled};
-pub use collection::{Collection, Unswept};
-pub use committing::StoreFault;
-pub use finishing::{Collected, FinishFault, Looked, Rejection};
+pub use ip_appends::Merge;
+pub use ip_collects::{
+    CancelFault, Cancelled, CollectFault, Collected, FinishFault, Looked, Rejection,
+};
+pub use ip_held::{Collection, StoreFault, Unswept, Work};
+pub use ip_opens::{InitFault, OpenFault};
+pub use ip_reads::Shown;
 pub use ip_spawn::chunk_allowed;
-pub use merging::Merge;
-pub use opening::OpenFault;
-pub use show::Shown;
-pub use starting::CollectFault;
-pub use store::{InitFault, Store};
-pub use work::Work;
+pub use ip_tables::Branches;
+pub use store::Store;

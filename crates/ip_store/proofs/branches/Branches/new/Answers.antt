@@ -1,5 +1,0 @@
-use Rattle.ip_store.proofs.Numbered.{no_branches}
-use Rattle.ip_store.proofs.branches.Branches.new.Goals as goal
-
-pub returns : goal.returns
-returns c = no_branches c.new.result c.new.ensures.empty
