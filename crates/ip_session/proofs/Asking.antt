@@ -3,7 +3,7 @@
 --     nothing_asked      it asks nothing.      plain_asked      so for a command that has to do with no child.      nothing_spawned      for a line
 --     none_met, faulted      no child was met.      start_asked      a collection was to begin.      start_quiet, start_counts      what was counted of the ground.      start_ends      how the session may end
 --     cancel_asked, cancel_counts, cancel_quiet      so of one that was to end
---     handles_of      a command is one of the others.      plain_counts, plain_quiet      so of these.      asked_as, counts_as      by another name of the command
+--     plain_counts, plain_quiet      so of the others
 --     lined_asked, lined_counts      so of the line that spells a command.      any_counts, none_counts      of any line, and of one that is none
 --     whole_asked, unwritten      a reply's text was written, or there was no memory for it
 use Rattle.std.proofs.Common.{◌≡◌, ◌≢◌, ◌↔◌, ◌⊎◌, inl, inr, ℕ, ◌-◌, ◌^◌, ◌≤◌, ◌++◌, Bool, true, false, List, [], ◌∷◌, refl, sym, ap, ◌∙◌, subst, arith, Option, Some, None, Ok, Err, IsTrue, length, append-nil}
@@ -29,25 +29,25 @@ use Rattle.ip_spec.specs.View.{no_view}
 use Rattle.ip_spec.specs.Record.{Hash}
 use Rattle.ip_spec.specs.Repository.{Repository}
 use Rattle.ip_spec.specs.Line.{IsLineOf}
-use Rattle.ip_store.specs.declared.cancelling.CancelFault.{CancelFault}
-use Rattle.ip_store.specs.declared.cancelling.Cancelled.{Cancelled}
-use Rattle.ip_store.specs.declared.collection.Collection.{Collection}
-use Rattle.ip_store.specs.declared.committing.StoreFault.{StoreFault}
-use Rattle.ip_store.specs.declared.starting.CollectFault.{CollectFault}
-use Rattle.ip_store.specs.declared.store.Store.{Store}
-use Rattle.ip_store.specs.Cancelling.{CancelReplies, met_by_cancel, CountsCancel, IsKilled}
-use Rattle.ip_store.specs.Collecting.{phase_of}
-use Rattle.ip_store.specs.Commits as commits
-use Rattle.ip_store.specs.Commits.{met_by}
-use Rattle.ip_store.specs.Faults.{ground_start}
-use Rattle.ip_store.specs.Starting.{AnswersCall, branch_name_at, met_by_start, IsBegun, IsTurnedDown, IsJobAt, started_by}
-use Rattle.ip_store.specs.Work.{work_at, state_at}
+use Rattle.ip_collects.specs.declared.cancelling.CancelFault.{CancelFault}
+use Rattle.ip_collects.specs.declared.cancelling.Cancelled.{Cancelled}
+use Rattle.ip_held.specs.declared.collection.Collection.{Collection}
+use Rattle.ip_held.specs.declared.fault.StoreFault.{StoreFault}
+use Rattle.ip_collects.specs.declared.starting.CollectFault.{CollectFault}
+use Rattle.ip_collects.specs.Cancelling.{CancelReplies, met_by_cancel, CountsCancel, IsKilled}
+use Rattle.ip_held.specs.Collecting.{phase_of}
+use Rattle.ip_held.specs.Answers as commits
+use Rattle.ip_held.specs.Answers.{met_by}
+use Rattle.ip_collects.specs.CollectFaults.{ground_start}
+use Rattle.ip_collects.specs.Starting.{AnswersCall, branch_name_at, met_by_start, IsBegun, IsTurnedDown, IsJobAt, started_by}
+use Rattle.ip_held.specs.Work.{work_at, state_at}
 use Rattle.ip_session.specs.declared.session.Session.{Session}
 use Rattle.ip_session.specs.declared.session.SessionEnd.{SessionEnd}
 use Rattle.ip_session.specs.Asking.{HasStarted, HandlesNone, TellsNone, MeetsNone, QuietIfLong, GoesOnBy, Asked, Spawns}
 use Rattle.ip_session.specs.Session.{met_only, IsLong, CountsBy, CountsAny, CountsIn, EndsBy, ground_end}
 use Rattle.ip_session.specs.Starting.{HeldReplies, StartReplies, cancel_answer}
 use Rattle.ip_session.proofs.SessionLemmas.{started_is_short, cancelled_is_short, orphan_is_short, idle_is_short}
+use Rattle.ip_store.specs.declared.store.Store.{Store}
 
 -- two facts on what there is
 pub both_some : {X : Type 0} (o : Option X) (P Q : X → Type 0) (R : Type 0) → ((x : X) → P x → Q x → R) → IsSomeAnd o P → IsSomeAnd o Q → R
@@ -80,7 +80,7 @@ none_added x = λ i. record { started = sym (append-nil x.started) i; reaped = s
 pub never_failed : {A : Type 0} (b : Bool) → b ≡ false → IsTrue b → A
 never_failed b is failed = absurd (cc (is, failed))
 
-pub asks_nothing : (s s' : Session) (command : Command) (result : Result Reply SessionEnd) (m : SpawnCounts) → ¬ HasStarted result → result ≢ Ok Reply.Cancelled → MeetsNone s'.met → IfOk result (λ reply. GoesOnBy [] s.store.collection s'.store.collection) → Asked s s' command result [] [] m m
+pub asks_nothing : (s s' : Session) (command : Command) (result : Result Reply SessionEnd) (m : SpawnCounts) → ¬ HasStarted result → result ≢ Ok Reply.Cancelled → MeetsNone s'.met → IfOk result (λ reply. GoesOnBy [] s.store.held.collection s'.store.held.collection) → Asked s s' command result [] [] m m
 asks_nothing s s' command result m never over met goes_on = record {
   started = λ has. absurd (never has);
   none_started = λ _. refl;
@@ -99,7 +99,7 @@ asks_nothing s s' command result m never over met goes_on = record {
   kill = λ failed. never_failed s'.met.kill_failed met.1 failed;
 }
 
-pub nothing_asked : (tells : Bool) (x y : spawn.Told) (s s' : Session) (command : Command) (result : Result Reply SessionEnd) (m n : SpawnCounts) → y ≡ x → n ≡ m → ¬ HasStarted result → result ≢ Ok Reply.Cancelled → MeetsNone s'.met → IfOk result (λ reply. GoesOnBy [] s.store.collection s'.store.collection) → AskedSo tells x y s s' command result m n
+pub nothing_asked : (tells : Bool) (x y : spawn.Told) (s s' : Session) (command : Command) (result : Result Reply SessionEnd) (m n : SpawnCounts) → y ≡ x → n ≡ m → ¬ HasStarted result → result ≢ Ok Reply.Cancelled → MeetsNone s'.met → IfOk result (λ reply. GoesOnBy [] s.store.held.collection s'.store.held.collection) → AskedSo tells x y s s' command result m n
 nothing_asked tells x y s s' command result m n same still never over met goes_on =
     ([], [], λ _. same ∙ none_added x, subst (λ (k : SpawnCounts). Asked s s' command result [] [] m k) (sym still) (asks_nothing s s' command result m never over met goes_on))
 
@@ -111,8 +111,8 @@ tells_start (Err end) none has = has
 tells_over : (result : Result Reply SessionEnd) → IfOk result TellsNone → result ≢ Ok Reply.Cancelled
 tells_over result none is = subst (λ (x : Result Reply SessionEnd). IfOk x TellsNone) is none
 
-pub plain_asked : (tells : Bool) (x : spawn.Told) (s s' : Session) (command : Command) (result : Result Reply SessionEnd) (m : SpawnCounts) → IfOk result TellsNone → MeetsNone s'.met → s'.store.collection ≡ s.store.collection → AskedSo tells x x s s' command result m m
-plain_asked tells x s s' command result m none met same = nothing_asked tells x x s s' command result m m refl refl (tells_start result none) (tells_over result none) met (goes_same result s.store.collection s'.store.collection same)
+pub plain_asked : (tells : Bool) (x : spawn.Told) (s s' : Session) (command : Command) (result : Result Reply SessionEnd) (m : SpawnCounts) → IfOk result TellsNone → MeetsNone s'.met → s'.store.held.collection ≡ s.store.held.collection → AskedSo tells x x s s' command result m m
+plain_asked tells x s s' command result m none met same = nothing_asked tells x x s s' command result m m refl refl (tells_start result none) (tells_over result none) met (goes_same result s.store.held.collection s'.store.held.collection same)
 
 pub none_met : (met : Met) (refused : Bool) → met ≡ met_only refused → MeetsNone met
 none_met met refused is = (ap (λ (m : Met). m.start_failed) is, ap (λ (m : Met). m.kill_failed) is, ap (λ (m : Met). m.child) is)
@@ -127,12 +127,12 @@ faulted (Err _) = (refl, refl, refl)
 -- ---- a collection is to begin
 
 -- none did
-module _ (tells : Bool) (x y : spawn.Told) (s s' : Session) (target : Target) (m n : SpawnCounts) (same : (y ≡ x) × (n ≡ m)) (stays : s'.store.collection ≡ s.store.collection) where
+module _ (tells : Bool) (x y : spawn.Told) (s s' : Session) (target : Target) (m n : SpawnCounts) (same : (y ≡ x) × (n ≡ m)) (stays : s'.store.held.collection ≡ s.store.held.collection) where
   abbrev None_of : Result Reply SessionEnd → Type 0
   None_of result = AskedSo tells x y s s' (Command.Collect target) result m n
 
   unstarted : (result : Result Reply SessionEnd) (reply : Reply) → result ≡ Ok reply → TellsNone reply → MeetsNone s'.met → None_of result
-  unstarted result reply is none met = subst None_of (sym is) (nothing_asked tells x y s s' (Command.Collect target) (Ok reply) m n same.0 same.1 (tells_start (Ok reply) none) (tells_over (Ok reply) none) met (goes_same (Ok reply) s.store.collection s'.store.collection stays))
+  unstarted result reply is none met = subst None_of (sym is) (nothing_asked tells x y s s' (Command.Collect target) (Ok reply) m n same.0 same.1 (tells_start (Ok reply) none) (tells_over (Ok reply) none) met (goes_same (Ok reply) s.store.held.collection s'.store.held.collection stays))
 
   unended : (result : Result Reply SessionEnd) (end : SessionEnd) → result ≡ Err end → MeetsNone s'.met → None_of result
   unended result end is met = subst None_of (sym is) (nothing_asked tells x y s s' (Command.Collect target) (Err end) m n same.0 same.1 (λ h. h) (λ e. absurd (cc e)) met tt)
@@ -145,10 +145,10 @@ module _ (tells : Bool) (x y : spawn.Told) (s : Session) (store : Store) (r : Re
   now = record s { store = store; met = met }
 
   abbrev Begun : Result Hash CollectFault → Type 0
-  Begun begun = (job : Job) × IsJobAt s.store number store.slot job × OnOk begun (store.collection ≡ Some (record { commit = number; job = job; exit = None; check = None }))
+  Begun begun = (job : Job) × IsJobAt s.store.held number store.held.slot job × OnOk begun (store.held.collection ≡ Some (record { commit = number; job = job; exit = None; check = None }))
       × (IsTrue tells → y ≡ record { started = x.started ++ started_by job begun; reaped = x.reaped }) × spawned.Counts false false false (is_err begun) m n
 
-  pub start_asked : (begun : Result Hash CollectFault) → StartReplies r begun store.met met result → store.met ≡ met_by_start begun → (IsTurnedDown begun ⊎ IsErrOf begun CollectFault.Ground → (y ≡ x) × (n ≡ m)) → (IsErr begun → store.collection ≡ s.store.collection) → (IsBegun begun → Begun begun)
+  pub start_asked : (begun : Result Hash CollectFault) → StartReplies r begun store.met met result → store.met ≡ met_by_start begun → (IsTurnedDown begun ⊎ IsErrOf begun CollectFault.Ground → (y ≡ x) × (n ≡ m)) → (IsErr begun → store.held.collection ≡ s.store.held.collection) → (IsBegun begun → Begun begun)
       → AskedSo tells x y s now (Command.Collect target) result m n
   start_asked (Ok name) says is_met still stays asked =
       let (job, at, runs, told, counts) = asked tt in
@@ -157,9 +157,9 @@ module _ (tells : Bool) (x y : spawn.Told) (s : Session) (store : Store) (r : Re
         [],
         λ t. told t ∙ (λ i. record { started = x.started ++ job ∷ []; reaped = sym (append-nil x.reaped) i }),
         record {
-          started = λ _. subst (λ (o : Option Collection). IsSomeAnd o (λ c. (job ∷ [] ≡ c.job ∷ []) × (c.exit ≡ None) × IsJobAt s.store c.commit store.slot c.job)) (sym runs) (refl, refl, at);
+          started = λ _. subst (λ (o : Option Collection). IsSomeAnd o (λ c. (job ∷ [] ≡ c.job ∷ []) × (c.exit ≡ None) × IsJobAt s.store.held c.commit store.held.slot c.job)) (sym runs) (refl, refl, at);
           none_started = λ not. absurd (not (subst HasStarted (sym says.0) tt));
-          goes_on = subst (λ (z : Result Reply SessionEnd). IfOk z (λ reply. GoesOnBy (job ∷ []) s.store.collection store.collection)) (sym says.0) (subst (GoesOnBy (job ∷ []) s.store.collection) (sym runs) (inl refl));
+          goes_on = subst (λ (z : Result Reply SessionEnd). IfOk z (λ reply. GoesOnBy (job ∷ []) s.store.held.collection store.held.collection)) (sym says.0) (subst (GoesOnBy (job ∷ []) s.store.held.collection) (sym runs) (inl refl));
           running = λ is. absurd (cc (sym none.2 ∙ is));
           not_running = λ _. counts.running;
           waits = omega (arith, counts.waits);
@@ -183,7 +183,7 @@ module _ (tells : Bool) (x y : spawn.Told) (s : Session) (store : Store) (r : Re
         record {
           started = λ has. absurd (subst HasStarted says.0 has);
           none_started = λ not. refl;
-          goes_on = goes_same result s.store.collection store.collection (stays refl);
+          goes_on = goes_same result s.store.held.collection store.held.collection (stays refl);
           running = λ is. absurd (cc (sym none ∙ is));
           not_running = λ _. counts.running;
           waits = omega (arith, counts.waits);
@@ -223,8 +223,8 @@ module _ (r : Repository) (before met : Met) (result : Result Reply SessionEnd) 
   start_counts (Err (CollectFault.Held place)) says counts = both_some (branch_name_at r place) _ _ (CountsBy result (Command.Collect target) met old new) (λ name h other. counts_ok h.0 h.1 counts) says says
 
   -- a long reply is no start
-  pub start_quiet : (begun : Result Hash CollectFault) → StartReplies r begun before met result → before ≡ met_by_start begun → CountsBy result (Command.Collect target) met old new → IfOk result (QuietIfLong met old new)
-  start_quiet begun says is_met counts = by result (unheard begun says is_met) counts (λ name is. whole begun says name is)
+  pub start_quiet : (begun : Result Hash CollectFault) → StartReplies r begun before met result → before ≡ met_by_start begun → IfOk begun (λ name. length name ≤ 32) → CountsBy result (Command.Collect target) met old new → IfOk result (QuietIfLong met old new)
+  start_quiet begun says is_met size counts = by result (unheard begun says is_met) counts (λ name is. whole begun size says name is)
     where
       by : (result : Result Reply SessionEnd) → met.child ≡ Child.NotAsked → CountsBy result (Command.Collect target) met old new → ((name : Hash) → result ≡ Ok (Reply.Started name) → ¬ IsLong (Reply.Started name)) → IfOk result (QuietIfLong met old new)
       by (Ok (Reply.Started name)) none counts short = λ long. absurd (short name refl long)
@@ -248,14 +248,14 @@ module _ (r : Repository) (before met : Met) (result : Result Reply SessionEnd) 
       other : {X : Type 0} (reply : Reply) (name : Hash) → result ≡ Ok reply → result ≡ Ok (Reply.Started name) → ¬ HasStarted (Ok reply) → X
       other reply name is started never = absurd (never (subst HasStarted (sym started ∙ is) tt))
 
-      whole : (begun : Result Hash CollectFault) → StartReplies r begun before met result → (name : Hash) → result ≡ Ok (Reply.Started name) → ¬ IsLong (Reply.Started name)
-      whole (Ok own) says name is long = (let same : own ≡ name = cc (sym says.0 ∙ is) in started_is_short name (subst (λ (h : Hash). length h ≡ 32) same says.2) long)
-      whole (Err CollectFault.Start) says name is long = other Reply.StartFault name says.0 is (λ h. h)
-      whole (Err (CollectFault.Busy h)) says name is long = other (Reply.Busy h) name says.0 is (λ h. h)
-      whole (Err (CollectFault.Limit limit)) says name is long = other (Reply.Limit limit) name says.0 is (λ h. h)
-      whole (Err CollectFault.Memory) says name is long = other Reply.Memory name says.0 is (λ h. h)
-      whole (Err CollectFault.Ground) says name is long = absurd (cc (sym says.0 ∙ is))
-      whole (Err (CollectFault.Held place)) says name is long = both_some (branch_name_at r place) _ _ ⊥ (λ own h again. held own h.0 h.1 h.2) says says
+      whole : (begun : Result Hash CollectFault) → IfOk begun (λ name. length name ≤ 32) → StartReplies r begun before met result → (name : Hash) → result ≡ Ok (Reply.Started name) → ¬ IsLong (Reply.Started name)
+      whole (Ok own) size says name is long = (let same : own ≡ name = cc (sym says.0 ∙ is) in started_is_short name (subst (λ (h : Hash). length h ≤ 32) same size) long)
+      whole (Err CollectFault.Start) size says name is long = other Reply.StartFault name says.0 is (λ h. h)
+      whole (Err (CollectFault.Busy h)) size says name is long = other (Reply.Busy h) name says.0 is (λ h. h)
+      whole (Err (CollectFault.Limit limit)) size says name is long = other (Reply.Limit limit) name says.0 is (λ h. h)
+      whole (Err CollectFault.Memory) size says name is long = other Reply.Memory name says.0 is (λ h. h)
+      whole (Err CollectFault.Ground) size says name is long = absurd (cc (sym says.0 ∙ is))
+      whole (Err (CollectFault.Held place)) size says name is long = both_some (branch_name_at r place) _ _ ⊥ (λ own h again. held own h.0 h.1 h.2) says says
         where
           held : (own : Bytes) (reply : Reply) → result ≡ Ok reply → HeldReplies own before met reply → ⊥
           held own reply is_it (inl told) = other (Reply.Held own) name (is_it ∙ ap Ok told.0) is (λ h. h)
@@ -303,7 +303,7 @@ cancel_ends (Ok Cancelled.Orphan) held = tt
 cancel_ends (Err CancelFault.Idle) held = tt
 cancel_ends (Err CancelFault.Ground) held = tt
 
-module _ (tells : Bool) (x y : spawn.Told) (s : Session) (store : Store) (met : Met) (done : Result Cancelled CancelFault) (left : ℕ) (is_met : met ≡ met_by_cancel done left) (over : store.collection ≡ None) (m n : SpawnCounts) where
+module _ (tells : Bool) (x y : spawn.Told) (s : Session) (store : Store) (met : Met) (done : Result Cancelled CancelFault) (left : ℕ) (is_met : met ≡ met_by_cancel done left) (over : store.held.collection ≡ None) (m n : SpawnCounts) where
   abbrev Over : Type 0
   Over = AskedSo tells x y s (record s { store = store; met = met }) Command.Cancel (cancel_answer done) m n
 
@@ -349,10 +349,10 @@ module _ (tells : Bool) (x y : spawn.Told) (s : Session) (store : Store) (met : 
 
   -- none runs
   pub idle_asked : done ≡ Err CancelFault.Idle → y ≡ x → n ≡ m → Over
-  idle_asked is same still = nothing_asked tells x y s (record s { store = store; met = met }) Command.Cancel (cancel_answer done) m n same still (never_started done) (λ cancelled. absurd (cc (sym (done_of done cancelled) ∙ is))) (no_start, no_kill (λ orphan. absurd (cc (sym orphan ∙ is))), no_child) (goes_none (cancel_answer done) [] s.store.collection store.collection over)
+  idle_asked is same still = nothing_asked tells x y s (record s { store = store; met = met }) Command.Cancel (cancel_answer done) m n same still (never_started done) (λ cancelled. absurd (cc (sym (done_of done cancelled) ∙ is))) (no_start, no_kill (λ orphan. absurd (cc (sym orphan ∙ is))), no_child) (goes_none (cancel_answer done) [] s.store.held.collection store.held.collection over)
 
   -- its child had been reaped
-  pub kept_asked : (c : Collection) → s.store.collection ≡ Some c → IsSome c.exit → done ≢ Ok Cancelled.Orphan → y ≡ x → n ≡ m → Over
+  pub kept_asked : (c : Collection) → s.store.held.collection ≡ Some c → IsSome c.exit → done ≢ Ok Cancelled.Orphan → y ≡ x → n ≡ m → Over
   kept_asked c runs kept not same still = (
     [],
     [],
@@ -360,7 +360,7 @@ module _ (tells : Bool) (x y : spawn.Told) (s : Session) (store : Store) (met : 
     record {
       started = λ has. absurd (never_started done has);
       none_started = λ _. refl;
-      goes_on = goes_none (cancel_answer done) [] s.store.collection store.collection over;
+      goes_on = goes_none (cancel_answer done) [] s.store.held.collection store.held.collection over;
       running = λ is. absurd (cc (sym no_child ∙ is));
       not_running = λ _. ap (λ (k : SpawnCounts). k.running) still;
       waits = (let e = ap (λ (k : SpawnCounts). k.waits) still in omega (arith, e));
@@ -385,7 +385,7 @@ module _ (tells : Bool) (x y : spawn.Told) (s : Session) (store : Store) (met : 
     record {
       started = λ has. absurd (never_started done has);
       none_started = λ _. refl;
-      goes_on = goes_none (cancel_answer done) [] s.store.collection store.collection over;
+      goes_on = goes_none (cancel_answer done) [] s.store.held.collection store.held.collection over;
       running = λ is. absurd (cc (sym no_child ∙ is));
       not_running = λ _. counts.running;
       waits = omega (arith, counts.waits);
@@ -410,7 +410,7 @@ module _ (tells : Bool) (x y : spawn.Told) (s : Session) (store : Store) (met : 
     record {
       started = λ has. absurd (never_started done has);
       none_started = λ _. refl;
-      goes_on = goes_none (cancel_answer done) [] s.store.collection store.collection over;
+      goes_on = goes_none (cancel_answer done) [] s.store.held.collection store.held.collection over;
       running = λ is. absurd (cc (sym no_child ∙ is));
       not_running = λ _. counts.running;
       waits = omega (arith, counts.waits);
@@ -427,35 +427,28 @@ module _ (tells : Bool) (x y : spawn.Told) (s : Session) (store : Store) (met : 
   )
 
   -- a kept exit is that of no orphan
-  kept_orphan : (r : Repository) (c : Collection) (x : Result Cancelled CancelFault) → s.store.collection ≡ Some c → IsSome c.exit → store.met ≡ met_by_cancel x left → CancelReplies x (AnswersCall r s.store.collection Command.Cancel store) → x ≢ Ok Cancelled.Orphan
+  kept_orphan : (r : Repository) (c : Collection) (x : Result Cancelled CancelFault) → s.store.held.collection ≡ Some c → IsSome c.exit → store.met ≡ met_by_cancel x left → CancelReplies x (AnswersCall r s.store.held.collection Command.Cancel store.met store.held) → x ≢ Ok Cancelled.Orphan
   kept_orphan r c (Ok Cancelled.Done) runs kept e A is = absurd (cc is)
   kept_orphan r c (Ok Cancelled.Orphan) runs kept e A is =
-      let met : IsMet (state_at r (phase_of s.store.collection) (work_at s.work no_view)) Command.Cancel (commits.conditions_of store.met) Reply.CancelledOrphan = (A.turns (work_at s.work no_view)).0 in
-      let none : exit_kept (phase_of s.store.collection) ≡ None = (met.kill (subst IsTrue (sym (ap (λ (k : Met). k.kill_failed) e)) refl)).1 in
+      let met : IsMet (state_at r (phase_of s.store.held.collection) (work_at s.work no_view)) Command.Cancel (commits.conditions_of store.met) Reply.CancelledOrphan = (A.turns (work_at s.work no_view)).0 in
+      let none : exit_kept (phase_of s.store.held.collection) ≡ None = (met.kill (subst IsTrue (sym (ap (λ (k : Met). k.kill_failed) e)) refl)).1 in
       let gone : c.exit ≡ None = subst (λ (o : Option Collection). exit_kept (phase_of o) ≡ None) runs none in
       absurd (cc (subst IsSome gone kept))
   kept_orphan r c (Err fault) runs kept e A is = absurd (cc is)
 
-  pub cancel_asked : (r : Repository) → (s.store.collection ≡ None) ↔ (done ≡ Err CancelFault.Idle) → CancelReplies done (AnswersCall r s.store.collection Command.Cancel store) → store.met ≡ met_by_cancel done left → (done ≡ Err CancelFault.Idle → (y ≡ x) × (n ≡ m))
-      → ((c : Collection) → s.store.collection ≡ Some c → IsSome c.exit → (y ≡ x) × (n ≡ m)) → m.reaps ≤ 2 ^ 64 - 1 → ((c : Collection) → s.store.collection ≡ Some c → c.exit ≡ None → Killed c) → Over
-  cancel_asked r either A e idle kept small killed = by s.store.collection refl
+  pub cancel_asked : (r : Repository) → (s.store.held.collection ≡ None) ↔ (done ≡ Err CancelFault.Idle) → CancelReplies done (AnswersCall r s.store.held.collection Command.Cancel store.met store.held) → store.met ≡ met_by_cancel done left → (done ≡ Err CancelFault.Idle → (y ≡ x) × (n ≡ m))
+      → ((c : Collection) → s.store.held.collection ≡ Some c → IsSome c.exit → (y ≡ x) × (n ≡ m)) → m.reaps ≤ 2 ^ 64 - 1 → ((c : Collection) → s.store.held.collection ≡ Some c → c.exit ≡ None → Killed c) → Over
+  cancel_asked r either A e idle kept small killed = by s.store.held.collection refl
     where
-      one : (c : Collection) → s.store.collection ≡ Some c → (exit : Option Reaped) → c.exit ≡ exit → Over
+      one : (c : Collection) → s.store.held.collection ≡ Some c → (exit : Option Reaped) → c.exit ≡ exit → Over
       one c is None none = killed_asked c small (killed c is none)
       one c is (Some reaped) some = (let there : IsSome c.exit = ap is_some some in let same = kept c is there in kept_asked c is there (kept_orphan r c done is there e A) same.0 same.1)
 
-      by : (o : Option Collection) → s.store.collection ≡ o → Over
+      by : (o : Option Collection) → s.store.held.collection ≡ o → Over
       by None is = (let none = either.0 is in let same = idle none in idle_asked none same.0 same.1)
       by (Some c) is = one c is c.exit refl
 
 -- ---- the other commands
-
-pub handles_of : (command : Command) → ((target : Target) → command ≢ Command.Collect target) → command ≢ Command.Look → command ≢ Command.Finish → command ≢ Command.Cancel → HandlesNone command
-handles_of (Command.Collect target) start look finish end = start target refl
-handles_of Command.Look start look finish end = look refl
-handles_of Command.Finish start look finish end = finish refl
-handles_of Command.Cancel start look finish end = end refl
-handles_of _ start look finish end = tt
 
 pub plain_counts : (command : Command) (result : Result Reply SessionEnd) (met : Met) (old new : GroundCounts) → HandlesNone command → Counts ground_end result old new → CountsBy result command met old new
 plain_counts command (Err end) met old new handles counts = counts
@@ -467,13 +460,6 @@ plain_counts _ (Ok reply) met old new handles counts = counts
 pub plain_quiet : (result : Result Reply SessionEnd) (met : Met) (old new : GroundCounts) → IfOk result TellsNone → MeetsNone met → Counts ground_end result old new → IfOk result (QuietIfLong met old new)
 plain_quiet (Ok reply) met old new none meets counts = λ long. (tells_start (Ok reply) none, meets.2, counts)
 plain_quiet (Err end) met old new none meets counts = tt
-
--- by another name of the command
-pub asked_as : (tells : Bool) (x y : spawn.Told) (s s' : Session) (command command' : Command) (result : Result Reply SessionEnd) (m n : SpawnCounts) → command ≡ command' → AskedSo tells x y s s' command' result m n → AskedSo tells x y s s' command result m n
-asked_as tells x y s s' command command' result m n is asked = subst (λ (c : Command). AskedSo tells x y s s' c result m n) (sym is) asked
-
-pub counts_as : (command command' : Command) (result : Result Reply SessionEnd) (met : Met) (old new : GroundCounts) → command ≡ command' → CountsBy result command' met old new → CountsBy result command met old new
-counts_as command command' result met old new is counts = subst (λ (c : Command). CountsBy result c met old new) (sym is) counts
 
 -- ---- lines
 
@@ -506,15 +492,15 @@ lined_asked tells x y s s' met command line result m n served one (jobs, ends, t
   };
 }
 
-pub nothing_spawned : (tells : Bool) (x : spawn.Told) (s s' : Session) (line : Bytes) (reply : Reply) (m : SpawnCounts) → TellsNone reply → MeetsNone s'.met → s'.store.collection ≡ s.store.collection → Spawns tells x x s s' line (Ok reply) m m
+pub nothing_spawned : (tells : Bool) (x : spawn.Told) (s s' : Session) (line : Bytes) (reply : Reply) (m : SpawnCounts) → TellsNone reply → MeetsNone s'.met → s'.store.held.collection ≡ s.store.held.collection → Spawns tells x x s s' line (Ok reply) m m
 nothing_spawned tells x s s' line reply m none met same = record {
   jobs = [];
   ends = [];
   told = λ _. none_added x;
   asked = record {
-    command = λ command served. asks_nothing s s' command (Ok reply) m (tells_start (Ok reply) none) (tells_over (Ok reply) none) met (goes_same (Ok reply) s.store.collection s'.store.collection same);
+    command = λ command served. asks_nothing s s' command (Ok reply) m (tells_start (Ok reply) none) (tells_over (Ok reply) none) met (goes_same (Ok reply) s.store.held.collection s'.store.held.collection same);
     none = λ _. (refl, refl, refl);
-    goes_on = goes_same (Ok reply) s.store.collection s'.store.collection same;
+    goes_on = goes_same (Ok reply) s.store.held.collection s'.store.held.collection same;
   };
 }
 

@@ -1,9 +1,9 @@
 -- What a session does that put a branch at a commit, or took one away.
 --     set_goes, remove_goes      the store answered it.      set_cut, remove_cut      a fault of the ground cut it short
 --     unnamed_goes      no commit has the name that was given.      serves      the session goes on serving, whatever is told
---     has_answer_set, has_answer_removed      what has a reply is an answer.      is_ground_set, is_ground_removed      what has no reply is a fault of the ground
+--     has_answer_set, has_answer_removed      what has a reply is an answer
 use Rattle.std.proofs.Common.{◌≡◌, ℕ, Bool, true, false, refl, sym, ap, ◌∙◌, subst, Option, Some, None, Ok, Err}
-use Rattle.std.specs.Prelude.{Result, IfSome, IsErrOf, IsSome}
+use Rattle.std.specs.Prelude.{Result, IfSome, IsSome}
 use Rattle.std.proofs.lemmas.Option.{IfSome_then}
 use Rattle.ip_ground.specs.Told.{Told, NoFile, ChangesOnly}
 use Rattle.ip_ground.proofs.Spans.{only_nowhere}
@@ -17,21 +17,22 @@ use Rattle.ip_spec.specs.Repository.{Repository, head}
 use Rattle.ip_spec.specs.Machine.{Phase, Work as MachineWork, State, Limit}
 use Rattle.ip_spec.specs.Step.{Refused, ◌>>◌, ◌>>=◌, refuse_if, or_refused, Turned, below, present, unless_some, not_leaving, resolve, room_for_branch, with_branch, is_short, Step, outcome, answer}
 use Rattle.ip_spec.specs.View.{View}
-use Rattle.ip_store.specs.declared.store.Store.{Store}
-use Rattle.ip_store.specs.declared.committing.StoreFault.{StoreFault}
-use Rattle.ip_store.specs.Changes.{Changes, HasAnswer, IsUndamaged}
-use Rattle.ip_store.specs.Collecting.{not_leaving_in, phase_of}
-use Rattle.ip_store.specs.Commits.{fault_reply, Turns}
-use Rattle.ip_store.specs.declared.collection.Collection.{Collection}
-use Rattle.ip_store.specs.Naming.{branch_reply, removed_reply, AnswersBranch, AnswersSet, AnswersRemove, without_branch}
-use Rattle.ip_store.specs.Store.{IsOf, Holds}
-use Rattle.ip_store.specs.Work.{AreParents, IsAt, work_at, session}
-use Rattle.ip_store.specs.Views.{IsViewAfter}
+use Rattle.ip_held.specs.declared.held.Held.{Held}
+use Rattle.ip_held.specs.declared.fault.StoreFault.{StoreFault}
+use Rattle.ip_held.specs.Changes.{Changes, HasAnswer}
+use Rattle.ip_held.specs.Collecting.{not_leaving_in, phase_of}
+use Rattle.ip_held.specs.Answers.{fault_reply, Turns}
+use Rattle.ip_held.specs.declared.collection.Collection.{Collection}
+use Rattle.ip_appends.specs.Naming.{branch_reply, removed_reply, AnswersBranch, AnswersSet, AnswersRemove, without_branch}
+use Rattle.ip_held.specs.Held.{IsOf, Holds}
+use Rattle.ip_held.specs.Work.{AreParents, IsAt, work_at, session}
+use Rattle.ip_held.specs.Views.{IsViewAfter}
 use Rattle.ip_session.specs.declared.session.Session.{Session}
 use Rattle.ip_session.specs.Session.{unasked, IsServing, IsWorking, state_in, met_only, conditions_of, IsDurable, ChangedBy, OnlyBy, GoesBy, CutBy}
 use Rattle.ip_session.proofs.SessionLemmas.{at, heard_none, plainly, ok_is_short, branch_refused, branch_rm_refused}
 use Rattle.ip_session.proofs.SessionGoes.{still_goes}
-use Rattle.ip_session.proofs.DurableGoes.{IsWhole, IsTurn, stays, refused_so, fault_so, done_so, reply_so, cut_so, Went, floor_stays, answered, unanswered}
+use Rattle.ip_session.proofs.DurableGoes.{IsWhole, IsTurn, stays, refused_so, fault_so, done_so, reply_so, cut_so, Went, floor_stays, answered}
+use Rattle.ip_store.specs.declared.store.Store.{Store}
 
 abbrev IsAccepted : Reply → Type 0
 IsAccepted Reply.Accepted = Unit {0}
@@ -143,15 +144,15 @@ module _ (r : Repository) (phase : Phase) (w : MachineWork) (name : Bytes) (targ
 
 pub unnamed_goes : (a : Told) (s : Session) (met : Met) (r : Repository) (v : View) (here : IsWorking a s r v) (name : Bytes) (target : Target) (reply : Reply) → met ≡ met_only false → resolve r target ≡ Err reply
     → GoesBy unasked a a s (record s { met = met }) r v (Command.Branch name target) reply
-unnamed_goes a s met r v here name target reply e none = still_goes a s met r v here (OnlyBy s.store a a (Command.Branch name target)) (Step unasked (state_in s r v) (Command.Branch name target)) (IsViewAfter r v (Command.Branch name target)) reply (ap (λ (m : Met). m.child) e)
-    (subst (λ (m : Met). Step unasked (state_in s r v) (Command.Branch name target) (conditions_of m) reply (state_in s r v)) (sym e) (unnamed r (phase_of s.store.collection) (work_at s.work v) name target reply none))
+unnamed_goes a s met r v here name target reply e none = still_goes a s met r v here (OnlyBy s.store.held a a (Command.Branch name target)) (Step unasked (state_in s r v) (Command.Branch name target)) (IsViewAfter r v (Command.Branch name target)) reply (ap (λ (m : Met). m.child) e)
+    (subst (λ (m : Met). Step unasked (state_in s r v) (Command.Branch name target) (conditions_of m) reply (state_in s r v)) (sym e) (unnamed r (phase_of s.store.held.collection) (work_at s.work v) name target reply none))
     refl
-    (λ long. branch_refused name target r (phase_of s.store.collection) (work_at s.work v))
-    (only_nowhere a (ChangedBy s.store a.held (Command.Branch name target) reply))
+    (λ long. branch_refused name target r (phase_of s.store.held.collection) (work_at s.work v))
+    (only_nowhere a (ChangedBy s.store.held a.held (Command.Branch name target) reply))
 
 -- the store's answer is the machine's turn, and the work is lawful where it stays so
-turn_of : (b : Told) (s : Session) (store : Store) (r : Repository) (v : View) (command : Command) (reply : Reply) → store.collection ≡ s.store.collection → IsViewAfter r v command reply v → AreParents r s.work.least s.work.parents → AnswersBranch r (phase_of s.store.collection) command store.met reply store
-    → ((q : Repository) → Holds store b q → AreParents q s.work.least s.work.parents → IsAt b store q s.work v) → IsTurn b s store s.work r v command reply
+turn_of : (b : Told) (s : Session) (store : Store) (r : Repository) (v : View) (command : Command) (reply : Reply) → store.held.collection ≡ s.store.held.collection → IsViewAfter r v command reply v → AreParents r s.work.least s.work.parents → AnswersBranch r (phase_of s.store.held.collection) command store.met reply store.held
+    → ((q : Repository) → Holds store.held b q → AreParents q s.work.least s.work.parents → IsAt b store.held q s.work v) → IsTurn b s store s.work r v command reply
 turn_of b s store r v command reply phase seen parents A stays = record {
   next = A.after;
   view = v;
@@ -161,44 +162,40 @@ turn_of b s store r v command reply phase seen parents A stays = record {
 }
 
 -- none of the commits that the work rests on was given up
-works_on : {A : Type 0} (a b : Told) (s : Session) (store : Store) (r after : Repository) (v : View) (made : Result A StoreFault) → after.floor ≡ r.floor → Changes r after made store a b
+works_on : {A : Type 0} (a b : Told) (s : Session) (store : Held) (r after : Repository) (v : View) (made : Result A StoreFault) → after.floor ≡ r.floor → Changes r after made store a b
     → (HasAnswer made → (q : Repository) → Holds store b q → q.floor ≡ r.floor → AreParents q s.work.least s.work.parents → IsAt b store q s.work v) → HasAnswer made → (q : Repository) → Holds store b q → AreParents q s.work.least s.work.parents → IsAt b store q s.work v
 works_on a b s store r after v made le does works has q now parents = works has q now (floor_stays r after q made store a b le does has now.tables) parents
 
 -- so the session goes on serving
-pub serves : (r : Repository) (phase : Phase) (command : Command) (met : Met) (reply : Reply) (store : Store) (s : Session) → AreParents r s.work.least s.work.parents → AnswersBranch r phase command met reply store → IsServing (record s { store = store })
+pub serves : (r : Repository) (phase : Phase) (command : Command) (met : Met) (reply : Reply) (store : Store) (s : Session) → AreParents r s.work.least s.work.parents → AnswersBranch r phase command met reply store.held → IsServing (record s { store = store })
 serves r phase command met reply store s parents A = (A.after, (A.tables, A.parents s.work.least s.work.parents parents))
 
-module _ (a b : Told) (s : Session) (store : Store) (met : Met) (r : Repository) (v : View) (here : IsWorking a s r v) (name : Bytes) (target : Target) (n : ℕ) (named : resolve r target ≡ Ok n) (made : Result (Unit {0}) StoreFault) (phase_is : store.collection ≡ s.store.collection)
-    (does : Changes r (with_branch r name n) made store a b) (works : HasAnswer made → (q : Repository) → Holds store b q → q.floor ≡ r.floor → AreParents q s.work.least s.work.parents → IsAt b store q s.work v) where
+module _ (a b : Told) (s : Session) (store : Store) (met : Met) (r : Repository) (v : View) (here : IsWorking a s r v) (name : Bytes) (target : Target) (n : ℕ) (named : resolve r target ≡ Ok n) (made : Result (Unit {0}) StoreFault) (phase_is : store.held.collection ≡ s.store.held.collection)
+    (does : Changes r (with_branch r name n) made store.held a b) (works : HasAnswer made → (q : Repository) → Holds store.held b q → q.floor ≡ r.floor → AreParents q s.work.least s.work.parents → IsAt b store.held q s.work v) where
   abbrev setting : Command
   setting = Command.Branch name target
 
   abbrev set_to : Repository
   set_to = with_branch r name n
 
-  pub set_goes : (reply : Reply) → met ≡ store.met → branch_reply made ≡ Some reply → IfSome (branch_reply made) (AnswersSet r (phase_of s.store.collection) name n store.met store)
+  pub set_goes : (reply : Reply) → met ≡ store.met → branch_reply made ≡ Some reply → IfSome (branch_reply made) (AnswersSet r (phase_of s.store.held.collection) name n store.met store.held)
       → GoesBy unasked a b s (record s { store = store; met = met }) r v setting reply
-  set_goes reply m e A = reply_so a b s store s.work r set_to v here setting whole met (branch_reply made) reply m e (by made A (works_on a b s store r set_to v made refl does works) does)
+  set_goes reply m e A = reply_so a b s store s.work r set_to v here setting whole met (branch_reply made) reply m e (by made A (works_on a b s store.held r set_to v made refl does works) does)
     where
-      whole : IsWhole r (phase_of s.store.collection) (work_at s.work v) setting set_to
-      whole = whole_set r (phase_of s.store.collection) (work_at s.work v) name target n named
+      whole : IsWhole r (phase_of s.store.held.collection) (work_at s.work v) setting set_to
+      whole = whole_set r (phase_of s.store.held.collection) (work_at s.work v) name target n named
 
-      by : (made : Result (Unit {0}) StoreFault) → IfSome (branch_reply made) (AnswersSet r (phase_of s.store.collection) name n store.met store) → (HasAnswer made → (q : Repository) → Holds store b q → AreParents q s.work.least s.work.parents → IsAt b store q s.work v)
-          → Changes r set_to made store a b → IfSome (branch_reply made) (Went a b s store s.work r set_to v here setting whole)
+      by : (made : Result (Unit {0}) StoreFault) → IfSome (branch_reply made) (AnswersSet r (phase_of s.store.held.collection) name n store.met store.held) → (HasAnswer made → (q : Repository) → Holds store.held b q → AreParents q s.work.least s.work.parents → IsAt b store.held q s.work v)
+          → Changes r set_to made store.held a b → IfSome (branch_reply made) (Went a b s store s.work r set_to v here setting whole)
       by (Ok u) A stays does = done_so a b s store s.work r set_to v here setting whole u Reply.Accepted tt ok_is_short (turn_of b s store r v setting Reply.Accepted phase_is refl here.lawful.parents (A target named) (stays tt)) does
       by (Err fault) A stays does = fault_so a b s store s.work r set_to v here setting whole fault (IfSome_then (fault_reply fault) A (λ reply x has. turn_of b s store r v setting reply phase_is refl here.lawful.parents (x target named) (stays has))) does
 
-  pub set_cut : met ≡ met_only false → not_leaving_in (phase_of s.store.collection) (Some n) ≡ Ok tt → room_for_branch r name ≡ Ok tt → CutBy unasked a b s (record s { store = store; met = met }) r v setting
-  set_cut e staying room = cut_so a b s store s.work r set_to v here setting (whole_set r (phase_of s.store.collection) (work_at s.work v) name target n named) made met e refl (roomy r (phase_of s.store.collection) (work_at s.work v) name target n named staying room) does
+  pub set_cut : met ≡ met_only false → not_leaving_in (phase_of s.store.held.collection) (Some n) ≡ Ok tt → room_for_branch r name ≡ Ok tt → CutBy unasked a b s (record s { store = store; met = met }) r v setting
+  set_cut e staying room = cut_so a b s store s.work r set_to v here setting (whole_set r (phase_of s.store.held.collection) (work_at s.work v) name target n named) made met e refl (roomy r (phase_of s.store.held.collection) (work_at s.work v) name target n named staying room) does
 
 pub has_answer_set : (made : Result (Unit {0}) StoreFault) (reply : Reply) → branch_reply made ≡ Some reply → HasAnswer made
 has_answer_set (Ok done) reply e = tt
 has_answer_set (Err fault) reply e = answered (Unit {0}) fault reply e
-
-pub is_ground_set : (made : Result (Unit {0}) StoreFault) → IsUndamaged made → branch_reply made ≡ None → IsErrOf made StoreFault.Ground
-is_ground_set (Ok done) u e = absurd (cc e)
-is_ground_set (Err fault) u e = ap Err (unanswered (Unit {0}) fault u e)
 
 -- ---- taking a branch away
 
@@ -244,48 +241,43 @@ module _ (r : Repository) (phase : Phase) (w : MachineWork) (name : Bytes) where
   found None h = absurd (cc h)
   found (Some n) h = refl
 
-module _ (a b : Told) (s : Session) (store : Store) (met : Met) (r : Repository) (v : View) (here : IsWorking a s r v) (name : Bytes) (made : Result Bool StoreFault) (phase_is : store.collection ≡ s.store.collection) (does : Changes r (without_branch r name) made store a b)
-    (works : HasAnswer made → (q : Repository) → Holds store b q → q.floor ≡ r.floor → AreParents q s.work.least s.work.parents → IsAt b store q s.work v) where
+module _ (a b : Told) (s : Session) (store : Store) (met : Met) (r : Repository) (v : View) (here : IsWorking a s r v) (name : Bytes) (made : Result Bool StoreFault) (phase_is : store.held.collection ≡ s.store.held.collection) (does : Changes r (without_branch r name) made store.held a b)
+    (works : HasAnswer made → (q : Repository) → Holds store.held b q → q.floor ≡ r.floor → AreParents q s.work.least s.work.parents → IsAt b store.held q s.work v) where
   abbrev removing : Command
   removing = Command.BranchRm name
 
   abbrev removed_to : Repository
   removed_to = without_branch r name
 
-  pub remove_goes : (reply : Reply) → met ≡ store.met → removed_reply name made ≡ Some reply → (made ≡ Ok false → b ≡ a) → IfSome (removed_reply name made) (AnswersRemove r (phase_of s.store.collection) name store.met store)
+  pub remove_goes : (reply : Reply) → met ≡ store.met → removed_reply name made ≡ Some reply → (made ≡ Ok false → b ≡ a) → IfSome (removed_reply name made) (AnswersRemove r (phase_of s.store.held.collection) name store.met store.held)
       → GoesBy unasked a b s (record s { store = store; met = met }) r v removing reply
-  remove_goes reply m e absent A = reply_so a b s store s.work r removed_to v here removing whole met (removed_reply name made) reply m e (by made A absent (works_on a b s store r removed_to v made refl does works) does)
+  remove_goes reply m e absent A = reply_so a b s store s.work r removed_to v here removing whole met (removed_reply name made) reply m e (by made A absent (works_on a b s store.held r removed_to v made refl does works) does)
     where
-      whole : IsWhole r (phase_of s.store.collection) (work_at s.work v) removing removed_to
-      whole = whole_removed r (phase_of s.store.collection) (work_at s.work v) name
+      whole : IsWhole r (phase_of s.store.held.collection) (work_at s.work v) removing removed_to
+      whole = whole_removed r (phase_of s.store.held.collection) (work_at s.work v) name
 
       -- nothing was done
-      as_before : AnswersBranch r (phase_of s.store.collection) removing store.met (Reply.NoBranch name) store → b ≡ a → Changes r removed_to (Ok false) store a b → ChangesOnly NoFile a b × Holds store b r
+      as_before : AnswersBranch r (phase_of s.store.held.collection) removing store.met (Reply.NoBranch name) store.held → b ≡ a → Changes r removed_to (Ok false) store.held a b → ChangesOnly NoFile a b × Holds store.held b r
       as_before A same does =
-          let state = stays r (phase_of s.store.collection) (work_at s.work v) removing removed_to whole store.met (heard_none (phase_of s.store.collection) removing tt store.met.child (A.turns (work_at s.work v)).0.child) (Reply.NoBranch name) (session A.after (phase_of s.store.collection) s.work v) (A.turns (work_at s.work v)).1 (λ h. h) in
+          let state = stays r (phase_of s.store.held.collection) (work_at s.work v) removing removed_to whole store.met (heard_none (phase_of s.store.held.collection) removing tt store.met.child (A.turns (work_at s.work v)).0.child) (Reply.NoBranch name) (session A.after (phase_of s.store.held.collection) s.work v) (A.turns (work_at s.work v)).1 (λ h. h) in
           let now = does.ok in
-          let tables : IsOf store r = subst (IsOf store) (ap (λ (t : State). t.repository) state) A.tables in (
+          let tables : IsOf store.held r = subst (IsOf store.held) (ap (λ (t : State). t.repository) state) A.tables in (
             subst (ChangesOnly NoFile a) (sym same) (only_nowhere a NoFile),
-            subst (Holds store b) (ap (λ (m : Map bytes_cmp ℕ). record r { branches = m }) (now.tables.branches ∙ sym tables.branches)) now,
+            subst (Holds store.held b) (ap (λ (m : Map bytes_cmp ℕ). record r { branches = m }) (now.tables.branches ∙ sym tables.branches)) now,
           )
 
-      by : (made : Result Bool StoreFault) → IfSome (removed_reply name made) (AnswersRemove r (phase_of s.store.collection) name store.met store) → (made ≡ Ok false → b ≡ a)
-          → (HasAnswer made → (q : Repository) → Holds store b q → AreParents q s.work.least s.work.parents → IsAt b store q s.work v) → Changes r removed_to made store a b
+      by : (made : Result Bool StoreFault) → IfSome (removed_reply name made) (AnswersRemove r (phase_of s.store.held.collection) name store.met store.held) → (made ≡ Ok false → b ≡ a)
+          → (HasAnswer made → (q : Repository) → Holds store.held b q → AreParents q s.work.least s.work.parents → IsAt b store.held q s.work v) → Changes r removed_to made store.held a b
           → IfSome (removed_reply name made) (Went a b s store s.work r removed_to v here removing whole)
       by (Ok true) A absent stays_so does = done_so a b s store s.work r removed_to v here removing whole true Reply.Accepted tt ok_is_short (turn_of b s store r v removing Reply.Accepted phase_is refl here.lawful.parents A (stays_so tt)) does
       by (Ok false) A absent stays_so does = refused_so a b s store s.work r removed_to v here removing whole (Reply.NoBranch name) (λ h. h) (turn_of b s store r v removing (Reply.NoBranch name) phase_is refl here.lawful.parents A (stays_so tt)) (as_before A (absent refl) does)
       by (Err fault) A absent stays_so does = fault_so a b s store s.work r removed_to v here removing whole fault (IfSome_then (fault_reply fault) A (λ reply x has. turn_of b s store r v removing reply phase_is refl here.lawful.parents x (stays_so has))) does
 
   pub remove_cut : met ≡ met_only false → IsSome (head r name) → CutBy unasked a b s (record s { store = store; met = met }) r v removing
-  remove_cut e there = cut_so a b s store s.work r removed_to v here removing (whole_removed r (phase_of s.store.collection) (work_at s.work v) name) made met e refl
-      (ap (λ (t : Turned). t.1.repository) (removed_turn r (phase_of s.store.collection) (work_at s.work v) name (met_only false)) ∙ found r (phase_of s.store.collection) (work_at s.work v) name (head r name) there) does
+  remove_cut e there = cut_so a b s store s.work r removed_to v here removing (whole_removed r (phase_of s.store.held.collection) (work_at s.work v) name) made met e refl
+      (ap (λ (t : Turned). t.1.repository) (removed_turn r (phase_of s.store.held.collection) (work_at s.work v) name (met_only false)) ∙ found r (phase_of s.store.held.collection) (work_at s.work v) name (head r name) there) does
 
 pub has_answer_removed : (name : Bytes) (made : Result Bool StoreFault) (reply : Reply) → removed_reply name made ≡ Some reply → HasAnswer made
 has_answer_removed name (Ok true) reply e = tt
 has_answer_removed name (Ok false) reply e = tt
 has_answer_removed name (Err fault) reply e = answered Bool fault reply e
-
-pub is_ground_removed : (name : Bytes) (made : Result Bool StoreFault) → IsUndamaged made → removed_reply name made ≡ None → IsErrOf made StoreFault.Ground
-is_ground_removed name (Ok true) u e = absurd (cc e)
-is_ground_removed name (Ok false) u e = absurd (cc e)
-is_ground_removed name (Err fault) u e = ap Err (unanswered Bool fault u e)

@@ -1,28 +1,25 @@
 -- Which files a command changes that may have to do with an attempt.
 --     changed_by      these files alone, whether there is an attempt or not.      nothing_by      none
 --     none_durable      a command that is not durable did nothing that is.      keeps_nothing      no file of an attempt was written.      changed_so, touched_so      by a durable command.      nothing_only      nothing changed, by whatever line
---     handles_none      the command has to do with no child, so it is no collection
 --     still_space      while no file changes the bytes of the live slot's records stay, whatever a crash leaves.      nothing_space      so where nothing changed
-use Rattle.std.proofs.Common.{Bool, ◌≡◌, ◌≢◌, ℕ, true, false, refl, subst, Option, Some, None}
+use Rattle.std.proofs.Common.{Bool, ◌≡◌, ℕ, true, false, refl, Option, Some, None}
 use Rattle.ip_ground.specs.declared.names.FileName.{FileName}
 use Rattle.ip_ground.specs.declared.names.FileName.TheVariants.{Chunk, Mapping, Prefix}
 use Rattle.ip_ground.specs.Contents.{Image}
 use Rattle.ip_ground.specs.Told.{Told, NoFile, KeepsFile, ChangesOnly}
 use Rattle.ip_ground.proofs.Spans.{only_more}
 use Rattle.ip_spec.specs.declared.command.Command.{Command}
-use Rattle.ip_spec.specs.declared.command.Target.{Target}
 use Rattle.ip_spec.specs.declared.reply.Reply.{Reply}
 use Rattle.ip_spec.specs.Path.{Bytes}
 use Rattle.ip_image.specs.declared.slot.Slot.{Slot}
 use Rattle.ip_image.specs.Pending.{HasLive, NothingPending, KeepsSpace}
 use Rattle.ip_image.specs.Virtual.{chunk_of, chunk_byte}
-use Rattle.ip_store.specs.declared.store.Store.{Store}
-use Rattle.ip_store.specs.Publishing.{MayChange}
-use Rattle.ip_store.specs.Sweeping.{KeepsFiles}
-use Rattle.ip_store.proofs.Apart.{for_only}
-use Rattle.ip_store.proofs.Ended.{ends_only}
-use Rattle.ip_store.proofs.KeptFiles.{keeps_store}
-use Rattle.ip_session.specs.Asking.{HandlesNone}
+use Rattle.ip_held.specs.declared.held.Held.{Held}
+use Rattle.ip_publish.specs.Publishing.{MayChange}
+use Rattle.ip_held.specs.Sweeping.{KeepsFiles}
+use Rattle.ip_held.proofs.Apart.{for_only}
+use Rattle.ip_collects.proofs.Ended.{ends_only}
+use Rattle.ip_held.proofs.KeptFiles.{keeps_store}
 use Rattle.ip_session.specs.Session.{attempt_of, hears, is_durable, IsDurable, ChangesBy, ChangedBy, TouchedBy, OnlyIn}
 
 pub changed_by : (heard : Bool) (attempt : Option ℕ) (these : FileName → Type 0) (a b : Told) → ChangesOnly these a b → ChangesBy heard attempt these a b
@@ -48,26 +45,23 @@ none_durable _ _ e h = absurd h
 pub keeps_nothing : (a b : Told) → ChangesOnly NoFile a b → KeepsFiles a b
 keeps_nothing a b only = keeps_store a b NoFile (λ file none. absurd none) only
 
-pub changed_so : (store : Store) (image : Image) (command : Command) (reply : Reply) (file : FileName) → IsDurable reply command → MayChange image file → ChangedBy store image command reply file
+pub changed_so : (store : Held) (image : Image) (command : Command) (reply : Reply) (file : FileName) → IsDurable reply command → MayChange image file → ChangedBy store image command reply file
 changed_so store image Command.Look reply file done may = absurd (none_durable reply Command.Look refl done)
 changed_so store image Command.Finish reply file done may = absurd (none_durable reply Command.Finish refl done)
 changed_so store image Command.Cancel reply file done may = absurd (none_durable reply Command.Cancel refl done)
 changed_so store image _ reply file done may = (done, may)
 
-pub touched_so : (store : Store) (image : Image) (command : Command) (file : FileName) → is_durable command ≡ true → MayChange image file → TouchedBy store image command file
+pub touched_so : (store : Held) (image : Image) (command : Command) (file : FileName) → is_durable command ≡ true → MayChange image file → TouchedBy store image command file
 touched_so store image Command.Look file durable may = absurd (cc durable)
 touched_so store image Command.Finish file durable may = absurd (cc durable)
 touched_so store image Command.Cancel file durable may = absurd (cc durable)
 touched_so store image _ file durable may = (durable, may)
 
-pub nothing_only : (store : Store) (a b : Told) (line : Bytes) (reply : Reply) → ChangesOnly NoFile a b → OnlyIn store a b line reply
+pub nothing_only : (store : Held) (a b : Told) (line : Bytes) (reply : Reply) → ChangesOnly NoFile a b → OnlyIn store a b line reply
 nothing_only store a b line reply only = record {
   command = λ command served. nothing_by (hears command) (attempt_of store command) (ChangedBy store a.held command reply) a b only;
   none = λ none. only;
 }
-
-pub handles_none : (command : Command) → HandlesNone command → (target : Target) → command ≢ Command.Collect target
-handles_none command handles target is = subst HandlesNone is handles
 
 pub still_space : (a b : Told) → ((file : FileName) → KeepsFile a b file) → NothingPending a → (u : Slot) → HasLive u a.held → KeepsSpace u a b
 unfolding chunk_byte

@@ -20,17 +20,17 @@ use Rattle.ip_spec.specs.Record.{Hash}
 use Rattle.ip_spec.specs.Repository.{Repository}
 use Rattle.ip_spec.specs.View.{View}
 use Rattle.ip_image.specs.declared.slot.Slot.{Slot}
-use Rattle.ip_store.specs.declared.cancelling.CancelFault.{CancelFault}
-use Rattle.ip_store.specs.declared.cancelling.Cancelled.{Cancelled}
-use Rattle.ip_store.specs.declared.collection.Unswept.{Unswept}
-use Rattle.ip_store.specs.declared.finishing.FinishFault.{FinishFault}
-use Rattle.ip_store.specs.declared.finishing.Looked.{Looked}
-use Rattle.ip_store.specs.declared.finishing.Rejection.{Rejection}
-use Rattle.ip_store.specs.declared.starting.CollectFault.{CollectFault}
-use Rattle.ip_store.specs.declared.store.Store.{Store}
-use Rattle.ip_store.specs.Clear.{IsClearTo, KeepsClear, ClearsAll}
+use Rattle.ip_collects.specs.declared.cancelling.CancelFault.{CancelFault}
+use Rattle.ip_collects.specs.declared.cancelling.Cancelled.{Cancelled}
+use Rattle.ip_held.specs.declared.collection.Unswept.{Unswept}
+use Rattle.ip_collects.specs.declared.finishing.FinishFault.{FinishFault}
+use Rattle.ip_collects.specs.declared.finishing.Looked.{Looked}
+use Rattle.ip_collects.specs.declared.finishing.Rejection.{Rejection}
+use Rattle.ip_collects.specs.declared.starting.CollectFault.{CollectFault}
+use Rattle.ip_held.specs.declared.held.Held.{Held}
+use Rattle.ip_held.specs.Clear.{IsClearTo, KeepsClear, ClearsAll}
 use Rattle.ip_spec.specs.Step.{IsSwept}
-use Rattle.ip_store.specs.Finishing.{HasAnswer, IsSweptBehind}
+use Rattle.ip_collects.specs.Finishing.{HasAnswer, IsSweptBehind}
 use Rattle.ip_session.specs.declared.session.Session.{Session}
 use Rattle.ip_session.specs.declared.session.SessionEnd.{SessionEnd}
 use Rattle.ip_session.specs.Asking.{MayReap}
@@ -38,6 +38,7 @@ use Rattle.ip_session.specs.Clearing.{SweepsBehind, ClearBy, ClearIn}
 use Rattle.ip_session.specs.Session.{IsWorking, HasRead}
 use Rattle.ip_session.specs.Starting.{StartReplies, cancel_answer, look_answer}
 use Rattle.ip_session.proofs.Placing.{still_slot}
+use Rattle.ip_store.specs.declared.store.Store.{Store}
 
 -- ---- no file changed
 
@@ -52,7 +53,7 @@ still_clear a b only s u clear = record {
       (only.others file (λ none. none)).held stays ∙ clear.files n file from low of was;
 }
 
-pub still_cleared : (store now : Store) (a b : Told) → ChangesOnly NoFile a b → now.slot ≡ store.slot → now.unswept ≡ store.unswept → KeepsClear store now a b
+pub still_cleared : (store now : Held) (a b : Told) → ChangesOnly NoFile a b → now.slot ≡ store.slot → now.unswept ≡ store.unswept → KeepsClear store now a b
 still_cleared store now a b only slot unswept clear =
     subst (λ (s : Slot). IsClearTo s now.unswept b.held (lending b)) (sym slot) (subst (λ (u : Unswept). IsClearTo store.slot u b.held (lending b)) (sym unswept) (still_clear a b only store.slot store.unswept clear))
 
@@ -70,14 +71,14 @@ sweeps_never Command.Finish reply not sweeps = not sweeps
 sweeps_never Command.Cancel reply not sweeps = not sweeps
 sweeps_never _ reply not sweeps = sweeps
 
-pub keeps_by : (a b : Told) (s s' : Session) (command : Command) (reply : Reply) → ¬ MayReap command → KeepsClear s.store s'.store a b → ClearBy (SweepsBehind command reply) a b s s'
+pub keeps_by : (a b : Told) (s s' : Session) (command : Command) (reply : Reply) → ¬ MayReap command → KeepsClear s.store.held s'.store.held a b → ClearBy (SweepsBehind command reply) a b s s'
 keeps_by a b s s' command reply not keeps = record { keeps = keeps; all = λ sweeps. absurd (sweeps_none command reply not sweeps) }
 
 pub read_clear : (tells : Bool) (a b : Told) (s s' : Session) (command : Command) → IsTrue tells → (r : Repository) (v : View) → IsWorking a s r v → (result : Result Reply SessionEnd) → ¬ MayReap command → HasRead tells a b s s' command result
     → IfOk result (λ reply. ClearBy (SweepsBehind command reply) a b s s')
 read_clear tells a b s s' command told r v here (Ok reply) not has =
     let looks = has.looks told in
-    keeps_by a b s s' command reply not (still_cleared s.store s'.store a b looks.reads.only (still_slot s.store s'.store r r a b here.holds (looks.holds r here.holds) looks.reads.only) has.unswept)
+    keeps_by a b s s' command reply not (still_cleared s.store.held s'.store.held a b looks.reads.only (still_slot s.store.held s'.store.held r r a b here.holds (looks.holds r here.holds) looks.reads.only) has.unswept)
 read_clear tells a b s s' command told r v here (Err end) not has = tt
 
 -- ---- the commands of a collection
@@ -89,14 +90,14 @@ module _ (a b : Told) (s : Session) (store : Store) (met : Met) where
   abbrev Clears : Command → Reply → Type 0
   Clears command reply = ClearBy (SweepsBehind command reply) a b s after_it
 
-  pub start_clear : (r : Repository) (target : Target) (before : Met) (begun : Result Hash CollectFault) (result : Result Reply SessionEnd) → StartReplies r begun before met result → (¬ IsErrOf begun CollectFault.Ground → KeepsClear s.store store a b) → IfOk result (Clears (Command.Collect target))
+  pub start_clear : (r : Repository) (target : Target) (before : Met) (begun : Result Hash CollectFault) (result : Result Reply SessionEnd) → StartReplies r begun before met result → (¬ IsErrOf begun CollectFault.Ground → KeepsClear s.store.held store.held a b) → IfOk result (Clears (Command.Collect target))
   start_clear r target before begun (Ok reply) says keeps = keeps_by a b s after_it (Command.Collect target) reply (λ may. may)
       (keeps (λ fault. let ends = (subst (λ (x : Result Hash CollectFault). StartReplies r x before met (Ok reply)) fault says).0 in absurd (cc ends)))
   start_clear r target before begun (Err end) says keeps = tt
 
-  -- the store met what the session did
+  -- the store.held met what the session did
   module _ (is_met : met ≡ store.met) where
-    swept_by : (command : Command) (reply : Reply) (Swept : Type 0) → (SweepsBehind command reply → Swept) → KeepsClear s.store store a b × ClearsAll Swept store.met.left s.store store a b → Clears command reply
+    swept_by : (command : Command) (reply : Reply) (Swept : Type 0) → (SweepsBehind command reply → Swept) → KeepsClear s.store.held store.held a b × ClearsAll Swept store.met.left s.store.held store.held a b → Clears command reply
     swept_by command reply Swept by clear = record { keeps = clear.0; all = λ sweeps none. clear.1 (by sweeps) (ap (λ (m : Met). m.left) (sym is_met) ∙ none) }
 
     has_swept : (command : Command) (reply : Reply) → SweepsBehind command reply → IsSwept reply
@@ -106,13 +107,13 @@ module _ (a b : Told) (s : Session) (store : Store) (met : Met) where
     has_swept _ reply sweeps = absurd sweeps
 
     -- the reply tells whether a sweep was made
-    pub finish_clear : (command : Command) (looked : Result Looked FinishFault) → (HasAnswer looked → KeepsClear s.store store a b × ClearsAll (IsSweptBehind looked) store.met.left s.store store a b) → IfOk (look_answer looked) (Clears command)
+    pub finish_clear : (command : Command) (looked : Result Looked FinishFault) → (HasAnswer looked → KeepsClear s.store.held store.held a b × ClearsAll (IsSweptBehind looked) store.met.left s.store.held store.held a b) → IfOk (look_answer looked) (Clears command)
     finish_clear command looked clear = by looked clear
       where
-        each : (reply : Reply) (Swept : Type 0) → (IsSwept reply → Swept) → KeepsClear s.store store a b × ClearsAll Swept store.met.left s.store store a b → Clears command reply
+        each : (reply : Reply) (Swept : Type 0) → (IsSwept reply → Swept) → KeepsClear s.store.held store.held a b × ClearsAll Swept store.met.left s.store.held store.held a b → Clears command reply
         each reply Swept told clear = swept_by command reply Swept (λ sweeps. told (has_swept command reply sweeps)) clear
 
-        by : (looked : Result Looked FinishFault) → (HasAnswer looked → KeepsClear s.store store a b × ClearsAll (IsSweptBehind looked) store.met.left s.store store a b) → IfOk (look_answer looked) (Clears command)
+        by : (looked : Result Looked FinishFault) → (HasAnswer looked → KeepsClear s.store.held store.held a b × ClearsAll (IsSweptBehind looked) store.met.left s.store.held store.held a b) → IfOk (look_answer looked) (Clears command)
         by (Ok Looked.Running) clear = each Reply.Running ⊥ (λ none. none) (clear tt)
         by (Ok (Looked.Checking left)) clear = each (Reply.Checking left) ⊥ (λ none. none) (clear tt)
         by (Ok (Looked.Collected collected)) clear = each (Reply.Collected collected.floor collected.left) (Unit {0}) (λ swept. tt) (clear tt)
@@ -125,7 +126,7 @@ module _ (a b : Told) (s : Session) (store : Store) (met : Met) where
         by (Err FinishFault.Ground) clear = tt
         by (Err (FinishFault.Damaged at)) clear = tt
 
-    pub cancel_clear : (done : Result Cancelled CancelFault) → (¬ IsErrOf done CancelFault.Ground → KeepsClear s.store store a b × ClearsAll (done ≡ Ok Cancelled.Done) store.met.left s.store store a b) → IfOk (cancel_answer done) (Clears Command.Cancel)
+    pub cancel_clear : (done : Result Cancelled CancelFault) → (¬ IsErrOf done CancelFault.Ground → KeepsClear s.store.held store.held a b × ClearsAll (done ≡ Ok Cancelled.Done) store.met.left s.store.held store.held a b) → IfOk (cancel_answer done) (Clears Command.Cancel)
     cancel_clear (Ok Cancelled.Done) clear = swept_by Command.Cancel Reply.Cancelled _ (λ swept. refl) (clear (λ fault. absurd (cc fault)))
     cancel_clear (Ok Cancelled.Orphan) clear = swept_by Command.Cancel Reply.CancelledOrphan _ (λ none. absurd none) (clear (λ fault. absurd (cc fault)))
     cancel_clear (Err CancelFault.Idle) clear = swept_by Command.Cancel Reply.Idle _ (λ none. absurd none) (clear (λ fault. absurd (cc fault)))
@@ -141,5 +142,5 @@ lined_clear a b s s' met command line (Ok reply) one clear = record {
 }
 lined_clear a b s s' met command line (Err end) one clear = tt
 
-pub quiet_clear : (a b : Told) (s s' : Session) (line : Bytes) (reply : Reply) → ¬ IsSwept reply → KeepsClear s.store s'.store a b → ClearIn a b s s' line reply
+pub quiet_clear : (a b : Told) (s s' : Session) (line : Bytes) (reply : Reply) → ¬ IsSwept reply → KeepsClear s.store.held s'.store.held a b → ClearIn a b s s' line reply
 quiet_clear a b s s' line reply not keeps = record { keeps = keeps; all = λ (command, spelled, sweeps). absurd (sweeps_never command reply not sweeps) }

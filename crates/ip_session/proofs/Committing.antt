@@ -2,8 +2,8 @@
 --     commit_goes      the store answered it.      commit_cut      a fault of the ground cut it short
 --     IsPast reply      it was done, or met a limit, so that (commit_there) its work was not given up
 --     has_answer      what has a reply is an answer
-use Rattle.std.proofs.Common.{◌≡◌, ℕ, Bool, true, false, length, refl, sym, ap, subst, ◌∙◌, arith, Option, Some, None, Ok, Err, length-append, ◌++◌, ◌∷◌, []}
-use Rattle.std.specs.Prelude.{Result, IfSome, IfOk, codes}
+use Rattle.std.proofs.Common.{◌≡◌, ◌≤◌, ℕ, Bool, true, false, length, refl, sym, ap, subst, ◌∙◌, arith, Option, Some, None, Ok, Err, length-append, ◌++◌, ◌∷◌, []}
+use Rattle.std.specs.Prelude.{Result, IfSome, codes}
 use Rattle.std.proofs.lemmas.Option.{IfSome_then}
 use Rattle.ip_base.specs.declared.info.Info.{Info}
 use Rattle.ip_ground.specs.Told.{Told}
@@ -18,19 +18,21 @@ use Rattle.ip_spec.specs.Machine.{Work as MachineWork}
 use Rattle.ip_spec.specs.Step.{Refused, ◌>>◌, refuse_if, or_refused, Turned, below, unless_some, not_given_up, head_among_parents, not_leaving, room_for_branch, not_existing, new_commit, with_commit, is_short, outcome, answer, turned}
 use Rattle.ip_spec.specs.View.{View}
 use Rattle.ip_spec.specs.Text.{reply_text, hex_text}
-use Rattle.ip_store.specs.declared.store.Store.{Store}
-use Rattle.ip_store.specs.declared.work.Work.{Work}
-use Rattle.ip_store.specs.declared.committing.StoreFault.{StoreFault}
-use Rattle.ip_store.specs.Changes.{HasAnswer}
-use Rattle.ip_store.specs.Collecting.{phase_of}
-use Rattle.ip_store.specs.Commits.{fault_reply, met_nothing, reply_to, Answers, Turns, repository_after, Commits}
-use Rattle.ip_store.specs.declared.collection.Collection.{Collection}
-use Rattle.ip_store.specs.Work.{IsThere, work_at, session}
-use Rattle.ip_store.proofs.Phases.{there_none}
+use Rattle.ip_held.specs.declared.work.Work.{Work}
+use Rattle.ip_held.specs.declared.fault.StoreFault.{StoreFault}
+use Rattle.ip_held.specs.Changes.{Changes, HasAnswer}
+use Rattle.ip_held.specs.Collecting.{phase_of}
+use Rattle.ip_held.specs.Answers.{fault_reply, met_nothing, reply_to, Answers, Turns}
+use Rattle.ip_appends.specs.Commits.{repository_after}
+use Rattle.ip_held.specs.declared.collection.Collection.{Collection}
+use Rattle.ip_held.specs.Work.{IsThere, work_at, session}
+use Rattle.ip_held.proofs.Phases.{there_none}
 use Rattle.ip_session.specs.declared.session.Session.{Session}
 use Rattle.ip_session.specs.Session.{unasked, IsWorking, met_only, conditions_of, IsLong, IsDurable, GoesBy, CutBy}
 use Rattle.ip_session.proofs.SessionLemmas.{at, heard_none, commit_refused, hex_long}
+use Rattle.ip_session.proofs.NameSizes.{Short, commit_short}
 use Rattle.ip_session.proofs.DurableGoes.{IsWhole, IsTurn, turned_by, unless_refused, fault_so, done_so, reply_so, cut_so, Went, answered}
+use Rattle.ip_store.specs.declared.store.Store.{Store}
 
 abbrev IsCommitted : Reply → Type 0
 IsCommitted (Reply.Committed name) = Unit {0}
@@ -122,40 +124,44 @@ module _ (r : Repository) (phase : Phase) (w : MachineWork) (branch : Bytes) (in
   commit_there met reply s' turns past = there_none r w.least
       (unless_refused r phase w command after whole met (heard_none phase command tt met.child turns.0.child) reply s' turns.1 (λ x t. IsPast x → below r.floor w.least ≡ None) (λ no. absurd no) (past_commit met) past)
 
+  -- the name that is told
+  pub commit_name : (met : Met) (reply : Reply) (s' : State) → Turns s command met reply s' → Short reply
+  commit_name met reply s' turns = unless_refused r phase w command after whole met (heard_none phase command tt met.child turns.0.child) reply s' turns.1 (λ x t. Short x) tt (commit_short s branch info (conditions_of met))
+
 -- ---- the text of a commit's name
 
-name_is_short : (name : Hash) → length name ≡ 32 → IsLong (Reply.Committed name) → ⊥
+name_is_short : (name : Hash) → length name ≤ 32 → IsLong (Reply.Committed name) → ⊥
 unfolding reply_text
 name_is_short name long_name long =
     omega (arith, long, long_name, hex_long name, length-append (codes "committed" ++ space ∷ hex_text name) (10 ∷ []), length-append (codes "committed") (space ∷ hex_text name))
 
 -- ---- the command
 
-module _ (a b : Told) (s : Session) (store : Store) (work : Work) (met : Met) (r : Repository) (v : View) (here : IsWorking a s r v) (branch : Bytes) (info : Info) (made : Result Hash StoreFault) (phase_is : store.collection ≡ s.store.collection) (does : Commits r (phase_of s.store.collection) s.work v branch info made store a b) where
+module _ (a b : Told) (s : Session) (store : Store) (work : Work) (met : Met) (r : Repository) (v : View) (here : IsWorking a s r v) (branch : Bytes) (info : Info) (made : Result Hash StoreFault) (phase_is : store.held.collection ≡ s.store.held.collection) (does : Changes r (repository_after r (phase_of s.store.held.collection) s.work v branch info) made store.held a b) where
   abbrev committing : Command
   committing = Command.Commit branch info
 
   abbrev committed_to : Repository
-  committed_to = repository_after r (phase_of s.store.collection) s.work v branch info
+  committed_to = repository_after r (phase_of s.store.held.collection) s.work v branch info
 
   abbrev Machine : Reply → Type 0
-  Machine reply = Answers b (session r (phase_of s.store.collection) s.work v) v committing store.met reply store work
+  Machine reply = Answers b (session r (phase_of s.store.held.collection) s.work v) v committing store.met reply store.held work
 
   turn_of : (reply : Reply) → Machine reply → IsTurn b s store work r v committing reply
-  turn_of reply A = record { next = A.after; view = A.view; turns = subst (λ (o : Option Collection). Turns (session r (phase_of s.store.collection) s.work v) committing store.met reply (session A.after (phase_of o) work A.view)) (sym phase_is) A.turns; is_at = λ holds. A.is_at; seen = A.seen }
+  turn_of reply A = record { next = A.after; view = A.view; turns = subst (λ (o : Option Collection). Turns (session r (phase_of s.store.held.collection) s.work v) committing store.met reply (session A.after (phase_of o) work A.view)) (sym phase_is) A.turns; is_at = λ holds. A.is_at; seen = A.seen }
 
   -- the store answered the commit
-  pub commit_goes : (reply : Reply) → met ≡ store.met → reply_to made ≡ Some reply → IfOk made (λ name. length name ≡ 32) → IfSome (reply_to made) Machine
-      → GoesBy unasked a b s (record s { store = store; work = work; met = met }) r v committing reply
-  commit_goes reply m e long A = reply_so a b s store work r committed_to v here committing (whole r (phase_of s.store.collection) (work_at s.work v) branch info) met (reply_to made) reply m e (by made long A does)
+  pub commit_goes : (reply : Reply) → met ≡ store.met → reply_to made ≡ Some reply → IfSome (reply_to made) Machine → GoesBy unasked a b s (record s { store = store; work = work; met = met }) r v committing reply
+  commit_goes reply m e A = reply_so a b s store work r committed_to v here committing (whole r (phase_of s.store.held.collection) (work_at s.work v) branch info) met (reply_to made) reply m e (by made A does)
     where
-      by : (made : Result Hash StoreFault) → IfOk made (λ name. length name ≡ 32) → IfSome (reply_to made) Machine → Commits r (phase_of s.store.collection) s.work v branch info made store a b
-          → IfSome (reply_to made) (Went a b s store work r committed_to v here committing (whole r (phase_of s.store.collection) (work_at s.work v) branch info))
-      by (Ok name) long A does = done_so a b s store work r committed_to v here committing (whole r (phase_of s.store.collection) (work_at s.work v) branch info) name (Reply.Committed name) tt (name_is_short name long) (turn_of (Reply.Committed name) A) does
-      by (Err fault) long A does = fault_so a b s store work r committed_to v here committing (whole r (phase_of s.store.collection) (work_at s.work v) branch info) fault (IfSome_then (fault_reply fault) A (λ reply x has. turn_of reply x)) does
+      by : (made : Result Hash StoreFault) → IfSome (reply_to made) Machine → Changes r (repository_after r (phase_of s.store.held.collection) s.work v branch info) made store.held a b
+          → IfSome (reply_to made) (Went a b s store work r committed_to v here committing (whole r (phase_of s.store.held.collection) (work_at s.work v) branch info))
+      by (Ok name) A does = done_so a b s store work r committed_to v here committing (whole r (phase_of s.store.held.collection) (work_at s.work v) branch info) name (Reply.Committed name) tt
+          (name_is_short name (commit_name r (phase_of s.store.held.collection) (work_at s.work v) branch info store.met (Reply.Committed name) _ A.turns)) (turn_of (Reply.Committed name) A) does
+      by (Err fault) A does = fault_so a b s store work r committed_to v here committing (whole r (phase_of s.store.held.collection) (work_at s.work v) branch info) fault (IfSome_then (fault_reply fault) A (λ reply x has. turn_of reply x)) does
 
   pub commit_cut : met ≡ met_only false → CutBy unasked a b s (record s { store = store; work = work; met = met }) r v committing
-  commit_cut e = cut_so a b s store work r committed_to v here committing (whole r (phase_of s.store.collection) (work_at s.work v) branch info) made met e refl (after_is r (phase_of s.store.collection) (work_at s.work v) branch info met_nothing refl) does
+  commit_cut e = cut_so a b s store work r committed_to v here committing (whole r (phase_of s.store.held.collection) (work_at s.work v) branch info) made met e refl (after_is r (phase_of s.store.held.collection) (work_at s.work v) branch info met_nothing refl) does
 
 pub has_answer : (made : Result Hash StoreFault) (reply : Reply) → reply_to made ≡ Some reply → HasAnswer made
 has_answer (Ok name) reply e = tt

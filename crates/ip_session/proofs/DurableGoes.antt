@@ -5,10 +5,10 @@
 --     refused_so, fault_so      the store refused it.      done_so      it did it.      cut_so      a fault of the ground cut it short
 --     reply_so      of an answer that there is
 --     floor_stays      an answered call gives no commits up
---     answered, unanswered      a fault that has a reply, and one that has none
---     fault_ends, fault_counts, answer_counts      why the session ends by one that has none, and which faults were counted
-use Rattle.std.proofs.Common.{◌≡◌, inl, Bool, true, false, refl, sym, ap, ◌∙◌, subst, arith, Option, Some, None, Ok, Err}
-use Rattle.std.specs.Prelude.{Result, IfSome, MatchBool, if◌then◌else◌}
+--     answered      a fault that has a reply
+--     by_answer      a call of the store has a reply, or why the session ends: by fault_ends.      fault_ground, fault_met      by a fault that is none of the files, by which nothing was met.      answer_counts      which faults were counted
+use Rattle.std.proofs.Common.{◌≡◌, inl, ℕ, Bool, true, false, refl, sym, ap, ◌∙◌, subst, arith, Option, Some, None, Ok, Err}
+use Rattle.std.specs.Prelude.{Result, IfSome, IsErrAnd, IsErrOf, MatchBool, if◌then◌else◌}
 use Rattle.ip_ground.specs.declared.names.GroundCounts.{GroundCounts}
 use Rattle.ip_ground.specs.Counts.{FileFault, CountsIf, Counts}
 use Rattle.ip_ground.specs.Told.{Told, NoFile, ChangesOnly}
@@ -19,34 +19,36 @@ use Rattle.ip_image.proofs.HeadlineLaws.{pending_passes}
 use Rattle.ip_spec.specs.declared.command.Command.{Command}
 use Rattle.ip_spec.specs.declared.met.Met.{Met}
 use Rattle.ip_spec.specs.declared.reply.Reply.{Reply}
+use Rattle.ip_spec.specs.Record.{Hash}
 use Rattle.ip_spec.specs.Repository.{Repository}
 use Rattle.ip_spec.specs.declared.met.Child.{Child}
 use Rattle.ip_spec.specs.Machine.{Phase, Work as MachineWork, State, Conditions}
 use Rattle.ip_spec.specs.Step.{Turned, IsMet, Turns, Step, answer, turned, state_with_exit}
 use Rattle.ip_spec.specs.View.{View}
-use Rattle.ip_store.specs.declared.store.Store.{Store}
-use Rattle.ip_store.specs.declared.work.Work.{Work}
-use Rattle.ip_store.specs.declared.committing.StoreFault.{StoreFault}
-use Rattle.ip_store.specs.Changes.{HasAnswer, IsUndamaged, Changes}
-use Rattle.ip_store.specs.Collecting.{phase_of}
-use Rattle.ip_store.specs.Commits.{fault_reply}
-use Rattle.ip_store.specs.Faults.{ground_store}
-use Rattle.ip_store.specs.Commits as commits
-use Rattle.ip_store.specs.Store.{IsOf, Holds}
-use Rattle.ip_store.specs.Views.{IsViewAfter}
-use Rattle.ip_store.specs.Work.{work_at, session, IsAt}
-use Rattle.ip_store.specs.Publishing.{MayChange}
-use Rattle.ip_store.proofs.Machine.{AsksNone}
-use Rattle.ip_store.proofs.KeptFiles.{keeps_store}
-use Rattle.ip_store.proofs.Recovering.{recovers_since}
-use Rattle.ip_store.proofs.Stepping.{of_store}
+use Rattle.ip_held.specs.declared.held.Held.{Held}
+use Rattle.ip_held.specs.declared.work.Work.{Work}
+use Rattle.ip_held.specs.declared.fault.StoreFault.{StoreFault}
+use Rattle.ip_held.specs.Changes.{HasAnswer, IsUndamaged, Changes}
+use Rattle.ip_held.specs.Collecting.{phase_of}
+use Rattle.ip_held.specs.Answers.{fault_reply, met_by, met_of}
+use Rattle.ip_held.specs.Faults.{ground_store}
+use Rattle.ip_held.specs.Answers as commits
+use Rattle.ip_held.specs.Held.{IsOf, Holds}
+use Rattle.ip_held.specs.Views.{IsViewAfter}
+use Rattle.ip_held.specs.Work.{work_at, session, IsAt}
+use Rattle.ip_publish.specs.Publishing.{MayChange}
+use Rattle.ip_held.proofs.Machine.{AsksNone}
+use Rattle.ip_held.proofs.KeptFiles.{keeps_store}
+use Rattle.ip_held.proofs.Recovering.{recovers_since}
+use Rattle.ip_held.proofs.Stepping.{of_store}
 use Rattle.ip_session.specs.declared.session.Session.{Session}
 use Rattle.ip_session.specs.declared.session.SessionEnd.{SessionEnd}
-use Rattle.ip_session.specs.Session.{unasked, attempt_of, hears, IsWorking, state_in, met_only, conditions_of, IsLong, is_durable, IsDurable, ChangedBy, TouchedBy, GoesBy, CutBy, EndsBy, EndsBecause, ground_end}
+use Rattle.ip_session.specs.Session.{unasked, attempt_of, hears, IsWorking, state_in, met_only, conditions_of, IsLong, is_durable, IsDurable, ChangedBy, TouchedBy, GoesBy, CutBy, EndsBy, IsAnswer, fault_answer, ground_end}
 use Rattle.ip_session.proofs.Changing.{changed_by, nothing_by, nothing_space, changed_so, touched_so, keeps_nothing}
 use Rattle.ip_session.proofs.SessionLemmas.{at, heard_none, unjudged, unsettled, nothing_kept, plainly, Refusable}
+use Rattle.ip_store.specs.declared.store.Store.{Store}
 
-pub keeps_still : (store : Store) (r after : Repository) (a b : Told) → Holds store a r → NothingPending a → ChangesOnly NoFile a b → IsAtomic a b r after
+pub keeps_still : (store : Held) (r after : Repository) (a b : Told) → Holds store a r → NothingPending a → ChangesOnly NoFile a b → IsAtomic a b r after
 keeps_still store r after a b holds order only t late le =
     let now = recovers_since store r a holds order b (λ file. only.others file (λ none. none)) only.lending t late le in
     record { stands = λ image possible. inl (now.stands image possible); flushed = now.flushed }
@@ -108,11 +110,11 @@ kept_view r v _ reply view durable quiet seen = absurd (cc durable)
 pub record IsTurn (b : Told) (s : Session) (store : Store) (work : Work) (r : Repository) (v : View) (command : Command) (reply : Reply) : Type 0 where
   pub next : Repository
   pub view : View
-  pub turns : commits.Turns (state_in s r v) command store.met reply (session next (phase_of store.collection) work view)
-  pub is_at : Holds store b next → IsAt b store next work view
+  pub turns : commits.Turns (state_in s r v) command store.met reply (session next (phase_of store.held.collection) work view)
+  pub is_at : Holds store.held b next → IsAt b store.held next work view
   pub seen : IsViewAfter r v command reply view
 
-module _ (a b : Told) (s : Session) (store : Store) (work : Work) (r after : Repository) (v : View) (here : IsWorking a s r v) (command : Command) (whole : IsWhole r (phase_of s.store.collection) (work_at s.work v) command after) where
+module _ (a b : Told) (s : Session) (store : Store) (work : Work) (r after : Repository) (v : View) (here : IsWorking a s r v) (command : Command) (whole : IsWhole r (phase_of s.store.held.collection) (work_at s.work v) command after) where
   abbrev pub after_it : Session
   after_it = record s { store = store; work = work; met = store.met }
 
@@ -123,33 +125,33 @@ module _ (a b : Told) (s : Session) (store : Store) (work : Work) (r after : Rep
   Turn = IsTurn b s store work r v command
 
   heard_as : {reply : Reply} → Turn reply → store.met.child ≡ Child.NotAsked
-  heard_as T = heard_none (phase_of s.store.collection) command (durable_asks command whole.durable) store.met.child T.turns.0.child
+  heard_as T = heard_none (phase_of s.store.held.collection) command (durable_asks command whole.durable) store.met.child T.turns.0.child
 
-  pub refused_so : (reply : Reply) → ¬ IsDurable reply command → Turn reply → ChangesOnly NoFile a b × Holds store b r → Went reply
+  pub refused_so : (reply : Reply) → ¬ IsDurable reply command → Turn reply → ChangesOnly NoFile a b × Holds store.held b r → Went reply
   refused_so reply quiet T does =
       let only : ChangesOnly NoFile a b = does.0 in
-      let state : session T.next (phase_of store.collection) work T.view ≡ state_in s r v = stays r (phase_of s.store.collection) (work_at s.work v) command after whole store.met (heard_as T) reply (session T.next (phase_of store.collection) work T.view) T.turns.1 quiet in
+      let state : session T.next (phase_of store.held.collection) work T.view ≡ state_in s r v = stays r (phase_of s.store.held.collection) (work_at s.work v) command after whole store.met (heard_as T) reply (session T.next (phase_of store.held.collection) work T.view) T.turns.1 quiet in
       let repository : T.next ≡ r = ap (λ (t : State). t.repository) state in
       record {
         after = T.next;
         view = T.view;
         difference = None;
-        gives = step_of r (phase_of s.store.collection) (work_at s.work v) command after whole store.met (heard_as T) reply (session T.next (phase_of store.collection) work T.view) T.turns.1 T.turns.0;
+        gives = step_of r (phase_of s.store.held.collection) (work_at s.work v) command after whole store.met (heard_as T) reply (session T.next (phase_of store.held.collection) work T.view) T.turns.1 T.turns.0;
         judged = unjudged a b s after_it r v (heard_as T);
         settled = unsettled b s after_it reply (heard_as T);
-        is_at = T.is_at (subst (Holds store b) (sym repository) does.1);
+        is_at = T.is_at (subst (Holds store.held b) (sym repository) does.1);
         seen = T.seen;
-        only = nothing_by (hears command) (attempt_of s.store command) (ChangedBy s.store a.held command reply) a b only;
+        only = nothing_by (hears command) (attempt_of s.store.held command) (ChangedBy s.store.held a.held command reply) a b only;
         files = keeps_nothing a b only;
         said = only.said;
         space = λ order none slot live. nothing_space a b only order slot live;
-        atomic = λ order. keeps_still s.store r T.next a b here.holds order only;
+        atomic = λ order. keeps_still s.store.held r T.next a b here.holds order only;
         nothing_pending = λ order. pending_passes a b only.goes (λ file. only.others file (λ none. none)) only.lending order;
-        spared = λ long. record { same = state; seen = kept_view r v command reply T.view whole.durable quiet T.seen; refused = whole.refusable r (phase_of s.store.collection) (work_at s.work v) };
+        spared = λ long. record { same = state; seen = kept_view r v command reply T.view whole.durable quiet T.seen; refused = whole.refusable r (phase_of s.store.held.collection) (work_at s.work v) };
         still = λ long. only;
       }
 
-  pub fault_so : {A : Type 0} (fault : StoreFault) → IfSome (fault_reply fault) (λ reply. HasAnswer {A = A} (Err fault) → Turn reply) → Changes {A = A} r after (Err fault) store a b → IfSome (fault_reply fault) Went
+  pub fault_so : {A : Type 0} (fault : StoreFault) → IfSome (fault_reply fault) (λ reply. HasAnswer {A = A} (Err fault) → Turn reply) → Changes {A = A} r after (Err fault) store.held a b → IfSome (fault_reply fault) Went
   fault_so (StoreFault.GivenUp number) T does = refused_so (Reply.GivenUp number) (λ h. h) (T tt) (does.refused (refl, tt))
   fault_so (StoreFault.Leaving number) T does = refused_so (Reply.Leaving number) (λ h. h) (T tt) (does.refused (refl, tt))
   fault_so (StoreFault.HeadMoved name) T does = refused_so (Reply.HeadMoved name) (λ h. h) (T tt) (does.refused (refl, tt))
@@ -159,19 +161,19 @@ module _ (a b : Told) (s : Session) (store : Store) (work : Work) (r after : Rep
   fault_so StoreFault.Ground T does = tt
   fault_so (StoreFault.Damaged at names) T does = tt
 
-  pub done_so : {A : Type 0} (x : A) (reply : Reply) → IsDurable reply command → ¬ IsLong reply → Turn reply → Changes {A = A} r after (Ok x) store a b → Went reply
+  pub done_so : {A : Type 0} (x : A) (reply : Reply) → IsDurable reply command → ¬ IsLong reply → Turn reply → Changes {A = A} r after (Ok x) store.held a b → Went reply
   done_so x reply done short T does =
-      let repository : T.next ≡ after = made r (phase_of s.store.collection) (work_at s.work v) command after whole store.met (heard_as T) reply (session T.next (phase_of store.collection) work T.view) T.turns.1 done in
+      let repository : T.next ≡ after = made r (phase_of s.store.held.collection) (work_at s.work v) command after whole store.met (heard_as T) reply (session T.next (phase_of store.held.collection) work T.view) T.turns.1 done in
       record {
         after = T.next;
         view = T.view;
         difference = None;
-        gives = step_of r (phase_of s.store.collection) (work_at s.work v) command after whole store.met (heard_as T) reply (session T.next (phase_of store.collection) work T.view) T.turns.1 T.turns.0;
+        gives = step_of r (phase_of s.store.held.collection) (work_at s.work v) command after whole store.met (heard_as T) reply (session T.next (phase_of store.held.collection) work T.view) T.turns.1 T.turns.0;
         judged = unjudged a b s after_it r v (heard_as T);
         settled = unsettled b s after_it reply (heard_as T);
-        is_at = T.is_at (subst (Holds store b) (sym repository) does.ok);
+        is_at = T.is_at (subst (Holds store.held b) (sym repository) does.ok);
         seen = T.seen;
-        only = changed_by (hears command) (attempt_of s.store command) (ChangedBy s.store a.held command reply) a b (only_more a b _ (ChangedBy s.store a.held command reply) (λ file changed. changed_so s.store a.held command reply file done changed) does.only);
+        only = changed_by (hears command) (attempt_of s.store.held command) (ChangedBy s.store.held a.held command reply) a b (only_more a b _ (ChangedBy s.store.held a.held command reply) (λ file changed. changed_so s.store.held a.held command reply file done changed) does.only);
         files = keeps_store a b (MayChange a.held) (of_store a.held) does.only;
         said = does.only.said;
         space = λ order none slot live. does.space order slot live;
@@ -181,13 +183,13 @@ module _ (a b : Told) (s : Session) (store : Store) (work : Work) (r after : Rep
         still = λ long. absurd (short long);
       }
 
-  -- the store tells what was met
+  -- the store.held tells what was met
   pub reply_so : (met : Met) (o : Option Reply) (reply : Reply) → met ≡ store.met → o ≡ Some reply → IfSome o Went → GoesBy unasked a b s (record s { store = store; work = work; met = met }) r v command reply
   reply_so met o reply m e went =
       subst (λ (x : Met). GoesBy unasked a b s (record s { store = store; work = work; met = x }) r v command reply) (sym m) (subst (λ (x : Option Reply). IfSome x Went) e went)
 
   -- what the machine gives where nothing was met
-  pub cut_so : {A : Type 0} (result : Result A StoreFault) (met : Met) → met ≡ met_only false → is_durable command ≡ true → (answer (state_in s r v) command (conditions_of (met_only false))).1.repository ≡ after → Changes {A = A} r after result store a b
+  pub cut_so : {A : Type 0} (result : Result A StoreFault) (met : Met) → met ≡ met_only false → is_durable command ≡ true → (answer (state_in s r v) command (conditions_of (met_only false))).1.repository ≡ after → Changes {A = A} r after result store.held a b
       → CutBy unasked a b s (record s { store = store; work = work; met = met }) r v command
   cut_so result met e durable repository does =
       let t = answer (state_in s r v) command (conditions_of (met_only false)) in
@@ -195,9 +197,9 @@ module _ (a b : Told) (s : Session) (store : Store) (work : Work) (r after : Rep
         reply = t.0;
         after = t.1;
         difference = None;
-        gives = subst (λ (m : Met). Step unasked (state_in s r v) command (conditions_of m) t.0 t.1) (sym e) (plainly r (phase_of s.store.collection) (work_at s.work v) command false t.0 (durable_asks command durable) (λ h. absurd (cc h)), whole.plain (conditions_of (met_only false)) t refl);
+        gives = subst (λ (m : Met). Step unasked (state_in s r v) command (conditions_of m) t.0 t.1) (sym e) (plainly r (phase_of s.store.held.collection) (work_at s.work v) command false t.0 (durable_asks command durable) (λ h. absurd (cc h)), whole.plain (conditions_of (met_only false)) t refl);
         judged = unjudged a b s (record s { store = store; work = work; met = met }) r v (ap (λ (m : Met). m.child) e);
-        only = changed_by (hears command) (attempt_of s.store command) (TouchedBy s.store a.held command) a b (only_more a b (MayChange a.held) (TouchedBy s.store a.held command) (λ file changed. touched_so s.store a.held command file durable changed) does.only);
+        only = changed_by (hears command) (attempt_of s.store.held command) (TouchedBy s.store.held a.held command) a b (only_more a b (MayChange a.held) (TouchedBy s.store.held a.held command) (λ file changed. touched_so s.store.held a.held command file durable changed) does.only);
         files = keeps_store a b (MayChange a.held) (of_store a.held) does.only;
         said = does.only.said;
         space = λ order none slot live. does.space order slot live;
@@ -205,7 +207,7 @@ module _ (a b : Told) (s : Session) (store : Store) (work : Work) (r after : Rep
       }
 
 -- an answered call gives no commits up, if the repository that it leaves does not
-pub floor_stays : {A : Type 0} (r after q : Repository) (made : Result A StoreFault) (store : Store) (a b : Told) → after.floor ≡ r.floor → Changes r after made store a b → HasAnswer made → IsOf store q → q.floor ≡ r.floor
+pub floor_stays : {A : Type 0} (r after q : Repository) (made : Result A StoreFault) (store : Held) (a b : Told) → after.floor ≡ r.floor → Changes r after made store a b → HasAnswer made → IsOf store q → q.floor ≡ r.floor
 floor_stays r after q (Ok x) store a b le does has of = let after_is = does.ok.tables.floor in let q_is = of.floor in omega (arith, le, after_is, q_is)
 floor_stays r after q (Err fault) store a b le does has of = let r_is = (does.refused (refl, has)).1.tables.floor in let q_is = of.floor in omega (arith, r_is, q_is)
 
@@ -219,32 +221,50 @@ answered A StoreFault.Memory reply e = tt
 answered A StoreFault.Ground reply e = absurd (cc e)
 answered A (StoreFault.Damaged at names) reply e = absurd (cc e)
 
--- where it is none of the files
-pub unanswered : (A : Type 0) (fault : StoreFault) → IsUndamaged {A = A} (Err fault) → fault_reply fault ≡ None → fault ≡ StoreFault.Ground
-unanswered A (StoreFault.GivenUp number) u e = absurd (cc e)
-unanswered A (StoreFault.Leaving number) u e = absurd (cc e)
-unanswered A (StoreFault.HeadMoved name) u e = absurd (cc e)
-unanswered A (StoreFault.Existing name) u e = absurd (cc e)
-unanswered A (StoreFault.Limit limit) u e = absurd (cc e)
-unanswered A StoreFault.Memory u e = absurd (cc e)
-unanswered A StoreFault.Ground u e = refl
-unanswered A (StoreFault.Damaged at names) u e = absurd u
+-- ---- what a call of the store is answered with
+
+abbrev pub EndsBecause : {A : Type 0} → Result A StoreFault → SessionEnd → Type 0
+EndsBecause made end = IsErrAnd made (λ fault. fault_answer fault ≡ Err end)
+
+pub by_answer : {A : Type 0} (replied : Option Reply) (made : Result A StoreFault) (result : Result Reply SessionEnd) (P : Result Reply SessionEnd → Type 0) → IsAnswer replied made result → ((reply : Reply) → replied ≡ Some reply → P (Ok reply)) → ((end : SessionEnd) → EndsBecause made end → P (Err end)) → P result
+by_answer replied made (Ok reply) P is answers ends = answers reply is.0
+by_answer replied made (Err end) P is answers ends = ends end is.1
+
+-- two faults end a session
+by_end : (P : StoreFault → SessionEnd → Type 0) (fault : StoreFault) (end : SessionEnd) → fault_answer fault ≡ Err end → P StoreFault.Ground SessionEnd.Ground → ((at_ : ℕ) (names : Option (Hash × Hash)) → P (StoreFault.Damaged at_ names) (SessionEnd.Damaged at_ names)) → P fault end
+by_end P StoreFault.Ground end is ground damaged = (let same : SessionEnd.Ground ≡ end = cc is in subst (P StoreFault.Ground) same ground)
+by_end P (StoreFault.Damaged at_ names) end is ground damaged = (let same : SessionEnd.Damaged at_ names ≡ end = cc is in subst (P (StoreFault.Damaged at_ names)) same (damaged at_ names))
+by_end P (StoreFault.GivenUp number) end is ground damaged = absurd (cc is)
+by_end P (StoreFault.Leaving number) end is ground damaged = absurd (cc is)
+by_end P (StoreFault.HeadMoved name) end is ground damaged = absurd (cc is)
+by_end P (StoreFault.Existing name) end is ground damaged = absurd (cc is)
+by_end P (StoreFault.Limit limit) end is ground damaged = absurd (cc is)
+by_end P StoreFault.Memory end is ground damaged = absurd (cc is)
 
 -- files that others changed are never met where it is known what the store holds
-pub fault_ends : (A : Type 0) (made : Result A StoreFault) (end : SessionEnd) (held : Type 0) → EndsBecause made end → (held → IsUndamaged made) → EndsBy held end
-fault_ends A (Ok x) end held is sound = absurd is
-fault_ends A (Err StoreFault.Ground) end held is sound = subst (EndsBy held) (sym is) tt
-fault_ends A (Err (StoreFault.Damaged at_ names)) end held is sound = subst (EndsBy held) (sym is) sound
-fault_ends A (Err _) end held is sound = absurd is
+pub fault_ends : {A : Type 0} (made : Result A StoreFault) (end : SessionEnd) (held : Type 0) → EndsBecause made end → (held → IsUndamaged made) → EndsBy held end
+fault_ends (Ok x) end held is sound = absurd is
+fault_ends {A = A} (Err fault) end held is sound = by_end (λ f e. (held → IsUndamaged {A = A} (Err f)) → EndsBy held e) fault end is (λ s. tt) (λ at_ names s. s) sound
 
-pub fault_counts : (A : Type 0) (made : Result A StoreFault) (end : SessionEnd) (old new : GroundCounts) → EndsBecause made end → Counts ground_store made old new → CountsIf FileFault (ground_end end) old new
-fault_counts A (Ok x) end old new is counts = absurd is
-fault_counts A (Err StoreFault.Ground) end old new is counts = subst (λ (e : SessionEnd). CountsIf FileFault (ground_end e) old new) (sym is) counts
-fault_counts A (Err (StoreFault.Damaged at_ names)) end old new is counts = subst (λ (e : SessionEnd). CountsIf FileFault (ground_end e) old new) (sym is) counts
-fault_counts A (Err _) end old new is counts = absurd is
+pub fault_ground : {A : Type 0} (made : Result A StoreFault) (end : SessionEnd) → EndsBecause made end → IsUndamaged made → IsErrOf made StoreFault.Ground
+fault_ground (Ok x) end is sound = absurd is
+fault_ground {A = A} (Err fault) end is sound = ap Err (by_end (λ f e. IsUndamaged {A = A} (Err f) → f ≡ StoreFault.Ground) fault end is (λ s. refl) (λ at_ names s. absurd s) sound)
 
-pub answer_counts : (A : Type 0) (made : Result A StoreFault) (old new : GroundCounts) → HasAnswer made → Counts ground_store made old new → new ≡ old
-answer_counts A (Ok x) old new has counts = counts
-answer_counts A (Err StoreFault.Ground) old new has counts = absurd has
-answer_counts A (Err (StoreFault.Damaged at_ names)) old new has counts = absurd has
-answer_counts A (Err _) old new has counts = counts
+-- nothing was met by it
+pub fault_met : {A : Type 0} (made : Result A StoreFault) (end : SessionEnd) → EndsBecause made end → met_by made ≡ met_only false
+fault_met (Ok x) end is = absurd is
+fault_met (Err fault) end is = by_end (λ f e. met_of f ≡ met_only false) fault end is refl (λ at_ names. refl)
+
+-- a fault of the ground was counted, and of all else none
+pub answer_counts : {A : Type 0} (replied : Option Reply) (made : Result A StoreFault) (result : Result Reply SessionEnd) (old new : GroundCounts) → IsAnswer replied made result → ((reply : Reply) → replied ≡ Some reply → HasAnswer made) → Counts ground_store made old new → Counts ground_end result old new
+answer_counts {A = A} replied made result old new is has counts = by_answer replied made result (λ x. Counts ground_end x old new) is (λ reply e. still made (has reply e) counts) (λ end e. counted made end e counts)
+  where
+    still : (made : Result A StoreFault) → HasAnswer made → Counts ground_store made old new → new ≡ old
+    still (Ok x) has counts = counts
+    still (Err StoreFault.Ground) has counts = absurd has
+    still (Err (StoreFault.Damaged at_ names)) has counts = absurd has
+    still (Err _) has counts = counts
+
+    counted : (made : Result A StoreFault) (end : SessionEnd) → EndsBecause made end → Counts ground_store made old new → CountsIf FileFault (ground_end end) old new
+    counted (Ok x) end e counts = absurd e
+    counted (Err fault) end e counts = by_end (λ f e. CountsIf FileFault (ground_store f) old new → CountsIf FileFault (ground_end e) old new) fault end e (λ c. c) (λ at_ names c. c) counts

@@ -1,13 +1,14 @@
--- What a look and a finish ask of the spawner, and what is counted meanwhile.
+-- What a look and a finish ask of the spawner, what is counted meanwhile, and all that the session does then.
 --     Sees child end ran failed      what was answered of a child: how it ended, whether it runs, and whether the call failed.      seen_so, reaped_so      so by a look and by a wait
 --     Answered c      the child of a collection was asked.      finish_asked      what the command asks
---     as_answered      the answer of a finish, as that of a look
 --     finish_counts, finish_quiet      what was counted.      finish_ends      how the session may end
+--     Knows a b before store command looked r held      what the store says besides where the ground tells what it holds.      finish_ran      all that the session does
 use Rattle.std.proofs.Common.{◌≡◌, ◌≢◌, ◌⊎◌, inl, inr, ℕ, zero, suc, ◌-◌, ◌^◌, ◌<◌, ◌≤◌, ◌++◌, Bool, true, false, List, [], ◌∷◌, refl, sym, ap, ◌∙◌, subst, arith, Option, Some, None, Ok, Err, IsTrue, append-nil}
 use Rattle.std.specs.Prelude.{Result, IfOk, IfErr, IfSome, IsSomeAnd, is_some, is_ok, is_err}
 use Rattle.ip_ground.specs.declared.names.GroundCounts.{GroundCounts}
 use Rattle.ip_base.specs.declared.exit.Reaped.{Reaped}
 use Rattle.ip_ground.specs.Counts.{CountsLeft, Rose}
+use Rattle.ip_ground.specs.Told.{Told}
 use Rattle.ip_spawn.proofs.Rising.{rose_counted}
 use Rattle.ip_spawn.specs.Children.{told_after, end_seen, end_reaped, is_running}
 use Rattle.ip_spawn.specs.Children as spawn
@@ -23,23 +24,26 @@ use Rattle.ip_spec.specs.Machine.{Phase, empty_work}
 use Rattle.ip_spec.specs.Repository.{Repository}
 use Rattle.ip_spec.specs.Step.{MayHear}
 use Rattle.ip_spec.specs.Step as Machine
-use Rattle.ip_store.specs.declared.collection.Collection.{Collection}
-use Rattle.ip_store.specs.declared.finishing.Collected.{Collected}
-use Rattle.ip_store.specs.declared.finishing.FinishFault.{FinishFault}
-use Rattle.ip_store.specs.declared.finishing.Looked.{Looked}
-use Rattle.ip_store.specs.declared.finishing.Rejection.{Rejection}
-use Rattle.ip_store.specs.declared.store.Store.{Store}
-use Rattle.ip_store.specs.Collecting.{phase_of, IsPhaseOf}
-use Rattle.ip_store.specs.Finishing.{FinishReplies, LookReplies, as_look, child_seen, child_reaped, CountsFinish, IsKept, IsOver, IsQuiet, IsUndamaged}
-use Rattle.ip_store.specs.Store.{IsOf}
-use Rattle.ip_store.proofs.FinishTurns.{IsEnding}
+use Rattle.ip_held.specs.declared.collection.Collection.{Collection}
+use Rattle.ip_collects.specs.declared.finishing.FinishFault.{FinishFault}
+use Rattle.ip_collects.specs.declared.finishing.Looked.{Looked}
+use Rattle.ip_collects.specs.declared.finishing.Rejection.{Rejection}
+use Rattle.ip_held.specs.declared.held.Held.{Held}
+use Rattle.ip_held.specs.Clear.{KeepsClear, ClearsAll}
+use Rattle.ip_held.specs.Collecting.{child_of, phase_of, IsPhaseOf}
+use Rattle.ip_collects.specs.Finishing.{LookReplies, child_seen, child_reaped, CountsFinish, FinishesBy, HasAnswer, IsKept, IsOver, IsQuiet, IsSweptBehind, IsUndamaged, WorksStay}
+use Rattle.ip_held.specs.Held.{IsOf, Holds}
+use Rattle.ip_collects.proofs.FinishTurns.{IsEnding}
 use Rattle.ip_session.specs.declared.session.Session.{Session}
 use Rattle.ip_session.specs.declared.session.SessionEnd.{SessionEnd}
 use Rattle.ip_session.specs.Asking.{HasStarted, HeardOf, GoesOnBy, QuietIfLong}
-use Rattle.ip_session.specs.Session.{CountsBy, EndsBy, IsLong}
+use Rattle.ip_session.specs.Running.{IsKnown, Ran}
+use Rattle.ip_session.specs.Session.{unasked, CountsBy, EndsBy, IsLong, IsServing}
 use Rattle.ip_session.specs.Starting.{look_answer}
 use Rattle.ip_session.proofs.Asking.{AskedSo, nothing_asked, goes_same, goes_none, none_added, never_failed, none_left}
-use Rattle.ip_session.proofs.FinishGoes.{Says, concluded, may_reap}
+use Rattle.ip_session.proofs.ClearGoes.{finish_clear}
+use Rattle.ip_session.proofs.FinishGoes.{Says, concluded, may_reap, finish_serves, finish_goes, finish_cuts, finish_placed}
+use Rattle.ip_store.specs.declared.store.Store.{Store}
 
 -- ---- what was answered
 
@@ -61,16 +65,6 @@ reaped_so (Err fault) = (refl, refl, refl)
 pub reaps_so : (answer : Result Reaped SpawnFault) → is_ok answer ≡ is_some (end_reaped answer)
 reaps_so (Ok reaped) = refl
 reaps_so (Err fault) = refl
-
--- ---- the answer of a finish
-
-pub as_answered : (P : Reply → Type 0) (done : Result Collected FinishFault) → FinishReplies done P → LookReplies (as_look done) P
-as_answered P (Ok collected) says = says
-as_answered P (Err fault) says = says
-
-pub idle_back : (done : Result Collected FinishFault) → as_look done ≡ Err FinishFault.Idle → done ≡ Err FinishFault.Idle
-idle_back (Ok collected) is = absurd (cc is)
-idle_back (Err fault) is = (let same : fault ≡ FinishFault.Idle = cc is in ap Err same)
 
 -- ---- what is asked
 
@@ -126,36 +120,36 @@ module _ (tells : Bool) (x y : spawn.Told) (s : Session) (store : Store) (met : 
   Asks = AskedSo tells x y s after_it command (look_answer looked) m n
 
   no_start : met.start_failed ≡ false
-  no_start = ap (λ (k : Met). k.start_failed) (is_met ∙ says.met.2)
+  no_start = ap (λ (k : Met). k.start_failed) (is_met ∙ says.goes.told)
 
   no_kill : met.kill_failed ≡ false
-  no_kill = ap (λ (k : Met). k.kill_failed) (is_met ∙ says.met.2)
+  no_kill = ap (λ (k : Met). k.kill_failed) (is_met ∙ says.goes.told)
 
   child_is : met.child ≡ store.met.child
   child_is = ap (λ (k : Met). k.child) is_met
 
   -- it goes on or is over, or nothing was done
-  goes_on : IfOk (look_answer looked) (λ reply. GoesOnBy [] s.store.collection store.collection)
+  goes_on : IfOk (look_answer looked) (λ reply. GoesOnBy [] s.store.held.collection store.held.collection)
   goes_on = by looked refl
     where
-      stays : (x : Result Looked FinishFault) → looked ≡ x → IsQuiet x → IfOk (look_answer x) (λ reply. GoesOnBy [] s.store.collection store.collection)
-      stays x is quiet = goes_same (look_answer x) s.store.collection store.collection (ap (λ (k : Store). k.collection) (says.quiet (subst IsQuiet (sym is) quiet)))
+      stays : (x : Result Looked FinishFault) → looked ≡ x → IsQuiet x → IfOk (look_answer x) (λ reply. GoesOnBy [] s.store.held.collection store.held.collection)
+      stays x is quiet = goes_same (look_answer x) s.store.held.collection store.held.collection (ap (λ (k : Held). k.collection) (says.goes.quiet (subst IsQuiet (sym is) quiet)))
 
-      ends : (x : Result Looked FinishFault) → looked ≡ x → IsOver x → IfOk (look_answer x) (λ reply. GoesOnBy [] s.store.collection store.collection)
-      ends x is over = goes_none (look_answer x) [] s.store.collection store.collection (says.over (subst IsOver (sym is) over))
+      ends : (x : Result Looked FinishFault) → looked ≡ x → IsOver x → IfOk (look_answer x) (λ reply. GoesOnBy [] s.store.held.collection store.held.collection)
+      ends x is over = goes_none (look_answer x) [] s.store.held.collection store.held.collection (says.goes.over (subst IsOver (sym is) over))
 
-      kept : IsKept looked → (looked ≢ Err FinishFault.Idle) → ¬ IsQuiet looked → GoesOnBy [] s.store.collection store.collection
-      kept is not loud = run s.store.collection refl
+      kept : IsKept looked → (looked ≢ Err FinishFault.Idle) → ¬ IsQuiet looked → GoesOnBy [] s.store.held.collection store.held.collection
+      kept is not loud = run s.store.held.collection refl
         where
-          some : (c : Collection) (reaped : Reaped) → s.store.collection ≡ Some c → store.met.child ≡ Child.Ended reaped → GoesOnBy [] s.store.collection store.collection
-          some c reaped runs heard = (let K = says.goes_on is c reaped runs heard in
-              subst (λ (o : Option Collection). GoesOnBy [] o store.collection) (sym runs) (subst (GoesOnBy [] (Some c)) (sym K.is) (inr (refl, (K.commit, K.job, λ none. absurd (cc (sym K.exit ∙ none)))))))
+          some : (c : Collection) (reaped : Reaped) → s.store.held.collection ≡ Some c → store.met.child ≡ Child.Ended reaped → GoesOnBy [] s.store.held.collection store.held.collection
+          some c reaped runs heard = (let K = says.goes.goes_on is c reaped runs heard in
+              subst (λ (o : Option Collection). GoesOnBy [] o store.held.collection) (sym runs) (subst (GoesOnBy [] (Some c)) (sym K.is) (inr (refl, (K.commit, K.job, λ none. absurd (cc (sym K.exit ∙ none)))))))
 
-          run : (o : Option Collection) → s.store.collection ≡ o → GoesOnBy [] s.store.collection store.collection
-          run None none = absurd (not (says.runs.0 none))
-          run (Some c) runs = elim says.ended [ inl quiet ↦ absurd (loud quiet) | inr heard ↦ some c heard.0 runs heard.1 ]
+          run : (o : Option Collection) → s.store.held.collection ≡ o → GoesOnBy [] s.store.held.collection store.held.collection
+          run None none = absurd (not (says.goes.runs.0 none))
+          run (Some c) runs = elim says.goes.ended [ inl quiet ↦ absurd (loud quiet) | inr heard ↦ some c heard.0 runs heard.1 ]
 
-      by : (x : Result Looked FinishFault) → looked ≡ x → IfOk (look_answer x) (λ reply. GoesOnBy [] s.store.collection store.collection)
+      by : (x : Result Looked FinishFault) → looked ≡ x → IfOk (look_answer x) (λ reply. GoesOnBy [] s.store.held.collection store.held.collection)
       by (Ok Looked.Running) is = stays (Ok Looked.Running) is tt
       by (Ok (Looked.Checking left)) is = kept (subst IsKept (sym is) tt) (λ e. absurd (cc (sym is ∙ e))) (λ quiet. subst IsQuiet is quiet)
       by (Ok (Looked.Collected collected)) is = ends (Ok (Looked.Collected collected)) is tt
@@ -169,17 +163,17 @@ module _ (tells : Bool) (x y : spawn.Told) (s : Session) (store : Store) (met : 
       by (Err (FinishFault.Damaged at)) is = tt
 
   -- none runs
-  idle_asked : (r : Repository) → IsOf s.store r → s.store.collection ≡ None → looked ≡ Err FinishFault.Idle → (y ≡ x) × (n ≡ m) → Asks
+  idle_asked : (r : Repository) → IsOf s.store.held r → s.store.held.collection ≡ None → looked ≡ Err FinishFault.Idle → (y ≡ x) × (n ≡ m) → Asks
   idle_asked r tables none is same =
       let says_idle = concluded s store met command ending looked is_met says r tables Reply.Idle (ap look_answer is) in
       let heard : MayHear Phase.Idle command store.met.child = subst (λ (o : Option Collection). MayHear (phase_of o) command store.met.child) none (says_idle.turns empty_work).0.child in
       nothing_asked tells x y s after_it command (look_answer looked) m n same.0 same.1 (never_started looked) (never_over looked) (no_start, no_kill, child_is ∙ none_heard command ending store.met.child heard) goes_on
 
   -- its child had been reaped
-  kept_asked : (r : Repository) → IsOf s.store r → (c : Collection) (kept : Reaped) → s.store.collection ≡ Some c → c.exit ≡ Some kept → (y ≡ x) × (n ≡ m) → Asks
+  kept_asked : (r : Repository) → IsOf s.store.held r → (c : Collection) (kept : Reaped) → s.store.held.collection ≡ Some c → c.exit ≡ Some kept → (y ≡ x) × (n ≡ m) → Asks
   kept_asked r tables c kept runs exit same =
       let child : met.child ≡ Child.Ended kept = child_is ∙ says.kept c kept runs exit in
-      let attempt : kept.attempt ≡ c.job.attempt = subst (λ (o : Option Reaped). IfSome o (λ reaped. reaped.attempt ≡ c.job.attempt)) exit (subst (IsPhaseOf s.store.slot r) runs tables.phase).reaped in (
+      let attempt : kept.attempt ≡ c.job.attempt = subst (λ (o : Option Reaped). IfSome o (λ reaped. reaped.attempt ≡ c.job.attempt)) exit (subst (IsPhaseOf s.store.held.slot r) runs tables.phase).reaped in (
         [],
         [],
         λ _. same.0 ∙ none_added x,
@@ -223,7 +217,7 @@ module _ (tells : Bool) (x y : spawn.Told) (s : Session) (store : Store) (met : 
   told_so None = none_added x
   told_so (Some reaped) = λ i. record { started = sym (append-nil x.started) i; reaped = x.reaped ++ reaped ∷ [] }
 
-  now_asked : (c : Collection) → s.store.collection ≡ Some c → c.exit ≡ None → m.reaps ≤ 2 ^ 64 - 1 → m.waits ≤ 2 ^ 64 - 1 → Answered c → Asks
+  now_asked : (c : Collection) → s.store.held.collection ≡ Some c → c.exit ≡ None → m.reaps ≤ 2 ^ 64 - 1 → m.waits ≤ 2 ^ 64 - 1 → Answered c → Asks
   now_asked c runs fresh reaps_small waits_small A = (
     [],
     ends_in A.end,
@@ -256,16 +250,16 @@ module _ (tells : Bool) (x y : spawn.Told) (s : Session) (store : Store) (met : 
     },
   )
 
-  pub finish_asked : (r : Repository) → IsOf s.store r → (looked ≡ Err FinishFault.Idle → (y ≡ x) × (n ≡ m)) → ((c : Collection) (reaped : Reaped) → s.store.collection ≡ Some c → c.exit ≡ Some reaped → (y ≡ x) × (n ≡ m))
-      → m.reaps ≤ 2 ^ 64 - 1 → m.waits ≤ 2 ^ 64 - 1 → ((c : Collection) → s.store.collection ≡ Some c → c.exit ≡ None → Answered c) → Asks
-  finish_asked r tables idle kept reaps_small waits_small now = by s.store.collection refl
+  pub finish_asked : (r : Repository) → IsOf s.store.held r → (looked ≡ Err FinishFault.Idle → (y ≡ x) × (n ≡ m)) → ((c : Collection) (reaped : Reaped) → s.store.held.collection ≡ Some c → c.exit ≡ Some reaped → (y ≡ x) × (n ≡ m))
+      → m.reaps ≤ 2 ^ 64 - 1 → m.waits ≤ 2 ^ 64 - 1 → ((c : Collection) → s.store.held.collection ≡ Some c → c.exit ≡ None → Answered c) → Asks
+  finish_asked r tables idle kept reaps_small waits_small now = by s.store.held.collection refl
     where
-      one : (c : Collection) → s.store.collection ≡ Some c → (exit : Option Reaped) → c.exit ≡ exit → Asks
+      one : (c : Collection) → s.store.held.collection ≡ Some c → (exit : Option Reaped) → c.exit ≡ exit → Asks
       one c runs None fresh = now_asked c runs fresh reaps_small waits_small (now c runs fresh)
       one c runs (Some reaped) exit = kept_asked r tables c reaped runs exit (kept c reaped runs exit)
 
-      by : (o : Option Collection) → s.store.collection ≡ o → Asks
-      by None none = (let is = says.runs.0 none in idle_asked r tables none is (idle is))
+      by : (o : Option Collection) → s.store.held.collection ≡ o → Asks
+      by None none = (let is = says.goes.runs.0 none in idle_asked r tables none is (idle is))
       by (Some c) runs = one c runs c.exit refl
 
 -- ---- what is counted
@@ -307,7 +301,7 @@ replies_weaker P Q by (Err FinishFault.Memory) says = by Reply.Memory says
 replies_weaker P Q by (Err FinishFault.Ground) says = tt
 replies_weaker P Q by (Err (FinishFault.Damaged at)) says = tt
 
-pub finish_counts : (s : Session) (store : Store) (met : Met) (command : Command) (ending : IsEnding command) (looked : Result Looked FinishFault) → met ≡ store.met → Says s store command looked → (r : Repository) → IsOf s.store r → (old new : GroundCounts)
+pub finish_counts : (s : Session) (store : Store) (met : Met) (command : Command) (ending : IsEnding command) (looked : Result Looked FinishFault) → met ≡ store.met → Says s store command looked → (r : Repository) → IsOf s.store.held r → (old new : GroundCounts)
     → CountsFinish looked store.met.left old new → CountsBy (look_answer looked) command met old new
 finish_counts s store met command ending looked is_met says r tables old new counts =
     subst (λ (k : Met). CountsBy (look_answer looked) command k old new) (sym is_met) (counts_so command ending store.met old new looked
@@ -329,3 +323,34 @@ finish_ends (Err (FinishFault.Limit limit)) held whole = tt
 finish_ends (Err FinishFault.Memory) held whole = tt
 finish_ends (Err FinishFault.Ground) held whole = tt
 finish_ends (Err (FinishFault.Damaged at)) held whole = whole
+
+-- ---- all that the session does
+
+pub record Knows (a b : Told) (before : Held) (store : Store) (command : Command) (looked : Result Looked FinishFault) (r : Repository) (held : Holds before a r) : Type 0 where
+  pub any_moment : (c : Collection) (reaped : Reaped) → before.collection ≡ Some c → store.met.child ≡ Child.Ended reaped → FinishesBy held.stands.standing.records r c command looked before.unswept store.met store.held a b
+  pub undamaged : IsUndamaged looked
+  pub works_stay : HasAnswer looked → (q : Repository) (now : Holds store.held b q) → WorksStay held now
+  pub clear : HasAnswer looked → KeepsClear before store.held a b × ClearsAll (IsSweptBehind looked) store.met.left before store.held a b
+
+module _ (tells : Bool) (a b : Told) (p q : GroundCounts) (spawns : Bool) (held : Option ℕ) (x y : spawn.Told) (m n : SpawnCounts) (s : Session) (store : Store) (met : Met) (command : Command) (ending : IsEnding command) (looked : Result Looked FinishFault) (is_met : met ≡ store.met) (says : Says s store command looked) where
+  abbrev Does : Result Reply SessionEnd → Type 0
+  Does = Ran (IsTrue tells) unasked a b p q spawns held x y m n s (record s { store = store; met = met }) command
+
+  pub finish_ran : (result : Result Reply SessionEnd) → result ≡ look_answer looked → IfOk result (λ reply. ¬ IsLong reply) → IsServing s → (IsTrue tells → (r : Repository) (here : Holds s.store.held a r) → Knows a b s.store.held store command looked r here) → (IsQuiet looked → b ≡ a) → CountsFinish looked store.met.left p q
+      → held ≡ child_of store.held.collection → AskedSo spawns x y s (record s { store = store; met = met }) command (look_answer looked) m n → Does result
+  finish_ran result is brief (r0, of) known still counts child asked =
+      let short = subst (λ (z : Result Reply SessionEnd). IfOk z (λ reply. ¬ IsLong reply)) is brief in
+      subst Does (sym is) (record {
+        runs = record {
+          serving = finish_serves s store met command ending looked is_met says r0 of.0 of.1;
+          goes = λ t r v here. let K = known t r here.holds in finish_goes s store met command ending looked is_met says a b r v here K.any_moment K.works_stay still short;
+          placed = λ t r v here. finish_placed s store met command ending looked is_met says r here.holds.tables v;
+          clear = λ t r v here. finish_clear a b s store met is_met command looked (known t r here.holds).clear;
+          cut = λ t r v here. let K = known t r here.holds in finish_cuts s store met command ending looked is_met says a b r v here K.any_moment K.undamaged;
+          cause = finish_ends looked (IsKnown (IsTrue tells) a s) (λ (t, (r, v, here)). (known t r here.holds).undamaged);
+        };
+        child = child;
+        asked = asked;
+        quiet = finish_quiet (look_answer looked) met p q short;
+        counts = finish_counts s store met command ending looked is_met says r0 of.0 p q counts;
+      })

@@ -4,7 +4,7 @@
 --     each_reply, of_reply, replied, has_answer      of what the store said, by its reply
 --     Says s store command looked      what the store says, whatever is told.      by_end      the child has ended, or it was not heard to have
 --     finish_serves      the session goes on serving.      finish_goes      the store answered it.      finish_cuts      a fault of the ground cut it short.      finish_placed      where the records lie then
-use Rattle.std.proofs.Common.{◌≡◌, ◌↔◌, ◌⊎◌, inl, inr, ℕ, ◌+◌, ◌<◌, Bool, true, false, refl, sym, ap, ◌∙◌, subst, arith, Option, Some, None, Ok, Err}
+use Rattle.std.proofs.Common.{◌≡◌, ◌⊎◌, inl, inr, ℕ, ◌+◌, ◌<◌, Bool, true, false, refl, sym, ap, ◌∙◌, subst, arith, Option, Some, None, Ok, Err}
 use Rattle.std.specs.Prelude.{Result, IfOk, OnErr, IsSomeAnd, All, option_map, if◌then◌else◌}
 use Rattle.ip_ground.specs.declared.names.FileName.{FileName}
 use Rattle.ip_ground.specs.declared.names.FileName.TheVariants.{Control, Chunk, Prefix, Mapping, Done}
@@ -25,22 +25,23 @@ use Rattle.ip_spec.specs.View.{View}
 use Rattle.ip_image.specs.declared.slot.Slot.{Slot}
 use Rattle.ip_image.specs.Headline.{IsAtomic}
 use Rattle.ip_image.proofs.OneRepository.{all_records}
-use Rattle.ip_store.specs.declared.collection.Collection.{Collection}
-use Rattle.ip_store.specs.declared.collection.Unswept.{Unswept}
-use Rattle.ip_store.specs.declared.finishing.FinishFault.{FinishFault}
-use Rattle.ip_store.specs.declared.finishing.Looked.{Looked}
-use Rattle.ip_store.specs.declared.finishing.Rejection.{Rejection}
-use Rattle.ip_store.specs.declared.store.Store.{Store}
-use Rattle.ip_store.specs.Collecting.{phase_of, carrying, IsPhaseOf}
-use Rattle.ip_store.specs.Finishing.{LookReplies, met_by_finish, conditions_by, difference_in, repository_after, swapped_slot, Concludes, FinishesBy, HasAnswer, IsCollected, IsKept, IsOver, IsQuiet, IsUndamaged, KeepsCollection, Judges, LimitsFinish, MayTouch, SlotBy, TurnsBy, WorksStay}
-use Rattle.ip_store.specs.Store.{IsOf, Holds, SameTables, image_records}
-use Rattle.ip_store.specs.Sweeping.{IsSwept, EndsFor}
-use Rattle.ip_store.specs.Views.{IsViewAfter}
-use Rattle.ip_store.specs.Work.{AreParents, work_at, state_at}
-use Rattle.ip_store.proofs.Ended.{ends_more}
-use Rattle.ip_store.proofs.FinishTurns.{IsEnding}
-use Rattle.ip_store.proofs.Stepping.{in_itself, same_holds, stays_still}
-use Rattle.ip_store.proofs.Works.{works_stay}
+use Rattle.ip_held.specs.declared.collection.Collection.{Collection}
+use Rattle.ip_held.specs.declared.collection.Unswept.{Unswept}
+use Rattle.ip_collects.specs.declared.finishing.FinishFault.{FinishFault}
+use Rattle.ip_collects.specs.declared.finishing.Looked.{Looked}
+use Rattle.ip_collects.specs.declared.finishing.Rejection.{Rejection}
+use Rattle.ip_held.specs.declared.held.Held.{Held}
+use Rattle.ip_held.specs.Collecting.{phase_of, carrying, IsPhaseOf}
+use Rattle.ip_collects.specs.Ending.{Goes}
+use Rattle.ip_collects.specs.Finishing.{LookReplies, met_by_finish, conditions_by, difference_in, repository_after, swapped_slot, Concludes, FinishesBy, HasAnswer, IsCollected, IsQuiet, IsUndamaged, Judges, MayTouch, SlotBy, TurnsBy, WorksStay}
+use Rattle.ip_held.specs.Held.{IsOf, Holds, SameTables, image_records}
+use Rattle.ip_held.specs.Sweeping.{IsSwept, EndsFor}
+use Rattle.ip_held.specs.Views.{IsViewAfter}
+use Rattle.ip_held.specs.Work.{AreParents, work_at, state_at}
+use Rattle.ip_collects.proofs.Ended.{ends_more}
+use Rattle.ip_collects.proofs.FinishTurns.{IsEnding}
+use Rattle.ip_held.proofs.Stepping.{itself, same_holds, stays_still}
+use Rattle.ip_held.proofs.Works.{works_stay}
 use Rattle.ip_session.specs.declared.session.Session.{Session}
 use Rattle.ip_session.specs.declared.session.SessionEnd.{SessionEnd}
 use Rattle.ip_session.specs.Asking.{MayReap}
@@ -49,6 +50,7 @@ use Rattle.ip_session.specs.Session.{unasked, conditions_with, IsServing, IsWork
 use Rattle.ip_session.specs.Starting.{look_answer}
 use Rattle.ip_session.proofs.Changing.{keeps_nothing, none_durable, nothing_by, nothing_space}
 use Rattle.ip_session.proofs.StartGoes.{chosen}
+use Rattle.ip_store.specs.declared.store.Store.{Store}
 
 -- ---- the machine
 
@@ -216,7 +218,7 @@ seen_ending r v Command.Look reply is = refl
 seen_ending r v Command.Finish reply is = refl
 seen_ending r v _ reply is = absurd is
 
-attempt_is : (store : Store) (command : Command) → IsEnding command → attempt_of store command ≡ option_map (λ c. c.job.attempt) store.collection
+attempt_is : (store : Held) (command : Command) → IsEnding command → attempt_of store command ≡ option_map (λ c. c.job.attempt) store.collection
 attempt_is store Command.Look is = refl
 attempt_is store Command.Finish is = refl
 attempt_is store _ is = absurd is
@@ -226,15 +228,15 @@ hears_is Command.Look is = refl
 hears_is Command.Finish is = refl
 hears_is _ is = absurd is
 
-by_attempt : (a b : Told) (store : Store) (c : Collection) (command : Command) → IsEnding command → store.collection ≡ Some c → (these : FileName → Type 0) → EndsFor c.job.attempt these a b → ChangesBy (hears command) (attempt_of store command) these a b
+by_attempt : (a b : Told) (store : Held) (c : Collection) (command : Command) → IsEnding command → store.collection ≡ Some c → (these : FileName → Type 0) → EndsFor c.job.attempt these a b → ChangesBy (hears command) (attempt_of store command) these a b
 by_attempt a b store c command is runs these changes = subst (λ (h : Bool). ChangesBy h (attempt_of store command) these a b) (sym (hears_is command is)) (subst (λ (n : Option ℕ). ChangesBy true n these a b) (sym (attempt_is store command is)) (subst (λ (o : Option Collection). ChangesBy true (option_map (λ x. x.job.attempt) o) these a b) (sym runs) changes))
 
-changed_is : (store : Store) (a : Told) (command : Command) → IsEnding command → (reply : Reply) (file : FileName) → ChangedAtEnd store reply file → ChangedBy store a.held command reply file
+changed_is : (store : Held) (a : Told) (command : Command) → IsEnding command → (reply : Reply) (file : FileName) → ChangedAtEnd store reply file → ChangedBy store a.held command reply file
 changed_is store a Command.Look is reply file changed = changed
 changed_is store a Command.Finish is reply file changed = changed
 changed_is store a _ is reply file changed = absurd is
 
-touched_is : (store : Store) (a : Told) (command : Command) → IsEnding command → (file : FileName) → file ≡ Control → TouchedBy store a.held command file
+touched_is : (store : Held) (a : Told) (command : Command) → IsEnding command → (file : FileName) → file ≡ Control → TouchedBy store a.held command file
 touched_is store a Command.Look is file control = control
 touched_is store a Command.Finish is file control = control
 touched_is store a _ is file control = absurd is
@@ -247,7 +249,7 @@ swept_alike s u c length rows (Prefix n) swept = swept
 swept_alike s u c length rows (Mapping n) swept = swept
 swept_alike s u c length rows (Done n) swept = swept
 
-module _ (before store : Store) (c : Collection) (runs : before.collection ≡ Some c) where
+module _ (before store : Held) (c : Collection) (runs : before.collection ≡ Some c) where
   abbrev Touches : Result Looked FinishFault → Reply → Type 0
   Touches looked reply = (file : FileName) → MayTouch looked store before.unswept file → ChangedAtEnd before reply file
 
@@ -274,11 +276,11 @@ may_reap Command.Look is = tt
 may_reap Command.Finish is = tt
 may_reap _ is = absurd is
 
-slot_next : (before store : Store) (c : Collection) (looked : Result Looked FinishFault) → SlotBy looked c before store.slot → store.slot.next ≡ before.slot.next
+slot_next : (before store : Held) (c : Collection) (looked : Result Looked FinishFault) → SlotBy looked c before store.slot → store.slot.next ≡ before.slot.next
 slot_next before store c (Ok (Looked.Collected collected)) (length, rows, slot) = ap (λ (t : Slot). t.next) slot
 slot_next before store c _ slot = ap (λ (t : Slot). t.next) slot
 
-slot_stays : (before store : Store) (c : Collection) (command : Command) → IsEnding command → (looked : Result Looked FinishFault) → SlotBy looked c before store.slot → IfOk (look_answer looked) (λ reply. ¬ HasCollected reply command → store.slot ≡ before.slot)
+slot_stays : (before store : Held) (c : Collection) (command : Command) → IsEnding command → (looked : Result Looked FinishFault) → SlotBy looked c before store.slot → IfOk (look_answer looked) (λ reply. ¬ HasCollected reply command → store.slot ≡ before.slot)
 slot_stays before store c command is (Ok Looked.Running) slot = λ not. slot
 slot_stays before store c command is (Ok (Looked.Checking left)) slot = λ not. slot
 slot_stays before store c command is (Ok (Looked.Collected collected)) slot = λ not. absurd (not (may_reap command is))
@@ -317,7 +319,7 @@ limit_of (Err FinishFault.Memory) limit is = absurd (cc is)
 limit_of (Err FinishFault.Ground) limit is = absurd (cc is)
 limit_of (Err (FinishFault.Damaged at)) limit is = absurd (cc is)
 
-swap_of : (before store : Store) (c : Collection) (looked : Result Looked FinishFault) → IsCollected looked → SlotBy looked c before store.slot → (length : ℕ) × (rows : ℕ) × (store.slot ≡ swapped_slot before.slot before.unswept c length rows)
+swap_of : (before store : Held) (c : Collection) (looked : Result Looked FinishFault) → IsCollected looked → SlotBy looked c before store.slot → (length : ℕ) × (rows : ℕ) × (store.slot ≡ swapped_slot before.slot before.unswept c length rows)
 swap_of before store c (Ok (Looked.Collected collected)) is slot = slot
 swap_of before store c _ is slot = absurd is
 
@@ -329,18 +331,11 @@ undurable _ is = absurd is
 -- ---- what the store says
 
 pub record Says (s : Session) (store : Store) (command : Command) (looked : Result Looked FinishFault) : Type 0 where
-  pub met : (child : Child) × (left : ℕ) × (store.met ≡ met_by_finish child looked left)
-  pub runs : (s.store.collection ≡ None) ↔ (looked ≡ Err FinishFault.Idle)
-  pub quiet : IsQuiet looked → store ≡ record s.store { met = store.met }
-  pub ended : IsQuiet looked ⊎ ((reaped : Reaped) × (store.met.child ≡ Child.Ended reaped))
+  pub most : ℕ
+  pub goes : Goes store.met.child most looked store.met s.store.held store.held
   -- a child that was reaped before is not asked again
-  pub kept : (c : Collection) (reaped : Reaped) → s.store.collection ≡ Some c → c.exit ≡ Some reaped → store.met.child ≡ Child.Ended reaped
-  pub slot : (c : Collection) → s.store.collection ≡ Some c → SlotBy looked c s.store store.slot
-  pub limits : LimitsFinish looked s.store
-  pub answered : (r : Repository) → IsOf s.store r → LookReplies looked (Concludes r s.store.collection command (conditions_by store.met looked) store)
-  -- it goes on, or is over
-  pub goes_on : IsKept looked → (c : Collection) (reaped : Reaped) → s.store.collection ≡ Some c → store.met.child ≡ Child.Ended reaped → KeepsCollection c reaped store.collection
-  pub over : IsOver looked → store.collection ≡ None
+  pub kept : (c : Collection) (reaped : Reaped) → s.store.held.collection ≡ Some c → c.exit ≡ Some reaped → store.met.child ≡ Child.Ended reaped
+  pub answered : (r : Repository) → IsOf s.store.held r → LookReplies looked (Concludes r s.store.held.collection command (conditions_by store.met looked) store.held)
 
 module _ (s : Session) (store : Store) (met : Met) (command : Command) (ending : IsEnding command) (looked : Result Looked FinishFault) (is_met : met ≡ store.met) (says : Says s store command looked) where
   abbrev after_it : Session
@@ -350,43 +345,43 @@ module _ (s : Session) (store : Store) (met : Met) (command : Command) (ending :
   quiet_idle is = subst IsQuiet (sym is) tt
 
   -- the child has ended, or it was not heard to have
-  pub by_end : (P : Type 0) → (IsQuiet looked → Unheard (phase_of s.store.collection) store.met.child → P) → ((c : Collection) (reaped : Reaped) → s.store.collection ≡ Some c → store.met.child ≡ Child.Ended reaped → P) → P
-  by_end P quiet ended = by s.store.collection refl
+  pub by_end : (P : Type 0) → (IsQuiet looked → Unheard (phase_of s.store.held.collection) store.met.child → P) → ((c : Collection) (reaped : Reaped) → s.store.held.collection ≡ Some c → store.met.child ≡ Child.Ended reaped → P) → P
+  by_end P quiet ended = by s.store.held.collection refl
     where
-      unheard : (c : Collection) → s.store.collection ≡ Some c → (child : Child) → store.met.child ≡ child → Unheard (phase_of (Some c)) child → ((reaped : Reaped) → store.met.child ≡ Child.Ended reaped → ⊥) → P
+      unheard : (c : Collection) → s.store.held.collection ≡ Some c → (child : Child) → store.met.child ≡ child → Unheard (phase_of (Some c)) child → ((reaped : Reaped) → store.met.child ≡ Child.Ended reaped → ⊥) → P
       unheard c runs child is un not = quiet
-          (elim says.ended [ inl still ↦ still | inr other ↦ absurd (not other.0 other.1) ])
+          (elim says.goes.ended [ inl still ↦ still | inr other ↦ absurd (not other.0 other.1) ])
           (subst (λ (o : Option Collection). Unheard (phase_of o) store.met.child) (sym runs) (subst (Unheard (phase_of (Some c))) (sym is) un))
 
-      heard : (c : Collection) → s.store.collection ≡ Some c → (child : Child) → store.met.child ≡ child → P
+      heard : (c : Collection) → s.store.held.collection ≡ Some c → (child : Child) → store.met.child ≡ child → P
       heard c runs Child.NotAsked is = unheard c runs Child.NotAsked is tt (λ reaped e. absurd (cc (sym is ∙ e)))
       heard c runs Child.Running is = unheard c runs Child.Running is tt (λ reaped e. absurd (cc (sym is ∙ e)))
       heard c runs Child.Fault is = unheard c runs Child.Fault is tt (λ reaped e. absurd (cc (sym is ∙ e)))
       heard c runs (Child.Ended reaped) is = ended c reaped runs is
 
-      by : (o : Option Collection) → s.store.collection ≡ o → P
-      by None is = quiet (quiet_idle (says.runs.0 is)) (subst (λ (o : Option Collection). Unheard (phase_of o) store.met.child) (sym is) tt)
+      by : (o : Option Collection) → s.store.held.collection ≡ o → P
+      by None is = quiet (quiet_idle (says.goes.runs.0 is)) (subst (λ (o : Option Collection). Unheard (phase_of o) store.met.child) (sym is) tt)
       by (Some c) is = heard c is store.met.child refl
 
   -- one runs, or none does
-  by_running : (P : Type 0) → (s.store.collection ≡ None → looked ≡ Err FinishFault.Idle → P) → ((c : Collection) → s.store.collection ≡ Some c → P) → P
-  by_running P none some = by s.store.collection refl
+  by_running : (P : Type 0) → (s.store.held.collection ≡ None → looked ≡ Err FinishFault.Idle → P) → ((c : Collection) → s.store.held.collection ≡ Some c → P) → P
+  by_running P none some = by s.store.held.collection refl
     where
-      by : (o : Option Collection) → s.store.collection ≡ o → P
-      by None is = none is (says.runs.0 is)
+      by : (o : Option Collection) → s.store.held.collection ≡ o → P
+      by None is = none is (says.goes.runs.0 is)
       by (Some c) is = some c is
 
-  same_next : store.slot.next ≡ s.store.slot.next
-  same_next = by_running (store.slot.next ≡ s.store.slot.next) (λ none idle. ap (λ (x : Store). x.slot.next) (says.quiet (quiet_idle idle))) (λ c runs. slot_next s.store store c looked (says.slot c runs))
+  same_next : store.held.slot.next ≡ s.store.held.slot.next
+  same_next = by_running (store.held.slot.next ≡ s.store.held.slot.next) (λ none idle. ap (λ (x : Held). x.slot.next) (says.goes.quiet (quiet_idle idle))) (λ c runs. slot_next s.store.held store.held c looked (says.goes.slot c runs))
 
   abbrev Concluded : Repository → Reply → Type 0
-  Concluded r = Concludes r s.store.collection command (conditions_by store.met looked) store
+  Concluded r = Concludes r s.store.held.collection command (conditions_by store.met looked) store.held
 
-  pub concluded : (r : Repository) → IsOf s.store r → (reply : Reply) → look_answer looked ≡ Ok reply → Concluded r reply
+  pub concluded : (r : Repository) → IsOf s.store.held r → (reply : Reply) → look_answer looked ≡ Ok reply → Concluded r reply
   concluded r tables reply is = of_reply (Concluded r) (look_answer looked) reply (replied (Concluded r) looked (says.answered r tables)) is
 
   -- no commit is lost that was made
-  parents_on : (r q : Repository) → IsOf s.store r → IsOf store q → AreParents r s.work.least s.work.parents → AreParents q s.work.least s.work.parents
+  parents_on : (r q : Repository) → IsOf s.store.held r → IsOf store.held q → AreParents r s.work.least s.work.parents → AreParents q s.work.least s.work.parents
   parents_on r q tables now parents = record {
     made = subst (λ (k : ℕ). All (λ n. n < k) s.work.parents) (tables.next ∙ sym same_next ∙ sym now.next) parents.made;
     above = parents.above;
@@ -394,45 +389,45 @@ module _ (s : Session) (store : Store) (met : Met) (command : Command) (ending :
     few = parents.few;
   }
 
-  pub finish_serves : (r : Repository) → IsOf s.store r → AreParents r s.work.least s.work.parents → IfOk (look_answer looked) (λ reply. IsServing after_it)
+  pub finish_serves : (r : Repository) → IsOf s.store.held r → AreParents r s.work.least s.work.parents → IfOk (look_answer looked) (λ reply. IsServing after_it)
   finish_serves r tables parents = each_reply (λ reply. IsServing after_it) (look_answer looked) (λ reply is. let C = concluded r tables reply is in (C.after, (C.tables, parents_on r C.after tables C.tables parents)))
 
   -- ---- where the records lie
 
-  at_commit : (r : Repository) (c : Collection) → s.store.collection ≡ Some c → (floor left : ℕ) → Concluded r (Reply.Collected floor left) → floor ≡ c.commit
+  at_commit : (r : Repository) (c : Collection) → s.store.held.collection ≡ Some c → (floor left : ℕ) → Concluded r (Reply.Collected floor left) → floor ≡ c.commit
   at_commit r c runs floor left C =
       let start = state_at r (phase_of (Some c)) empty_work in
       let met = conditions_by store.met looked in
-      let turns = subst (λ (o : Option Collection). TurnsBy (state_at r (phase_of o) empty_work) command met (Reply.Collected floor left) (state_at C.after (phase_of store.collection) empty_work)) runs (C.turns empty_work) in
+      let turns = subst (λ (o : Option Collection). TurnsBy (state_at r (phase_of o) empty_work) command met (Reply.Collected floor left) (state_at C.after (phase_of store.held.collection) empty_work)) runs (C.turns empty_work) in
       floor_of start c.commit c.exit met met.told.refused met.told.child floor left (ap (λ (t : Turned). t.0) (sym (turn_is start command ending met) ∙ turns.1))
 
-  module _ (r : Repository) (tables : IsOf s.store r) (v : View) where
+  module _ (r : Repository) (tables : IsOf s.store.held r) (v : View) where
     abbrev Swapped : ℕ → Type 0
-    Swapped floor = IsSwappedAt s.store.slot s.store.unswept floor store.slot
+    Swapped floor = IsSwappedAt s.store.held.slot s.store.held.unswept floor store.held.slot
 
     swapped : (floor left : ℕ) → look_answer looked ≡ Ok (Reply.Collected floor left) → Swapped floor
     swapped floor left is = by_running (Swapped floor) (λ none idle. absurd (subst IsCollected idle (collected_of looked floor left is))) (λ c runs.
-        let (length, rows, slot) = swap_of s.store store c looked (collected_of looked floor left is) (says.slot c runs) in
+        let (length, rows, slot) = swap_of s.store.held store.held c looked (collected_of looked floor left is) (says.goes.slot c runs) in
         let C = concluded r tables (Reply.Collected floor left) is in
         let floor_is : floor ≡ c.commit = at_commit r c runs floor left C in
-        let live_is : store.slot.live ≡ c.job.attempt = ap (λ (t : Slot). t.live) slot in
-        let drawn = (subst (IsPhaseOf s.store.slot r) runs tables.phase).told.attempt in
+        let live_is : store.held.slot.live ≡ c.job.attempt = ap (λ (t : Slot). t.live) slot in
+        let drawn = (subst (IsPhaseOf s.store.held.slot r) runs tables.phase).told.attempt in
         record {
           horizon = c.job.horizon;
           length = length;
           rows = rows;
-          is = slot ∙ (λ i. record (carrying s.store.slot s.store.unswept) { sequence = s.store.slot.sequence + 1; horizon = c.job.horizon; floor = (sym floor_is) i; live = (sym live_is) i; prefix_len = length; rows = rows });
+          is = slot ∙ (λ i. record (carrying s.store.held.slot s.store.held.unswept) { sequence = s.store.held.slot.sequence + 1; horizon = c.job.horizon; floor = (sym floor_is) i; live = (sym live_is) i; prefix_len = length; rows = rows });
           drawn = ap (λ (k : ℕ). k + 1) live_is ∙ drawn;
-          sequence = says.limits.enough (collected_of looked floor left is);
+          sequence = says.goes.limits.enough (collected_of looked floor left is);
         })
 
-    pub finish_placed : IfOk (look_answer looked) (PlacedBy unasked s.store.slot s.store.unswept store.slot (state_in s r v) v command)
-    finish_placed = each_reply (PlacedBy unasked s.store.slot s.store.unswept store.slot (state_in s r v) v command) (look_answer looked) (λ reply is. record {
+    pub finish_placed : IfOk (look_answer looked) (PlacedBy unasked s.store.held.slot s.store.held.unswept store.held.slot (state_in s r v) v command)
+    finish_placed = each_reply (PlacedBy unasked s.store.held.slot s.store.held.unswept store.held.slot (state_in s r v) v command) (look_answer looked) (λ reply is. record {
       done = λ done. absurd (none_durable reply command (undurable command ending) done);
-      quiet = λ undone not. by_running (store.slot ≡ s.store.slot) (λ none idle. ap (λ (x : Store). x.slot) (says.quiet (quiet_idle idle)))
-          (λ c runs. of_reply (λ x. ¬ HasCollected x command → store.slot ≡ s.store.slot) (look_answer looked) reply (slot_stays s.store store c command ending looked (says.slot c runs)) is not);
+      quiet = λ undone not. by_running (store.held.slot ≡ s.store.held.slot) (λ none idle. ap (λ (x : Held). x.slot) (says.goes.quiet (quiet_idle idle)))
+          (λ c runs. of_reply (λ x. ¬ HasCollected x command → store.held.slot ≡ s.store.held.slot) (look_answer looked) reply (slot_stays s.store.held store.held c command ending looked (says.goes.slot c runs)) is not);
       collected = λ floor left may e. swapped floor left (is ∙ ap Ok e);
-      ended = λ may e. (says.limits.sequence Limit.Sequence (limit_of looked Limit.Sequence (is ∙ ap Ok e))).1;
+      ended = λ may e. (says.goes.limits.sequence Limit.Sequence (limit_of looked Limit.Sequence (is ∙ ap Ok e))).1;
       space = λ durable. absurd (cc (sym durable ∙ undurable command ending));
       sequence = λ durable. absurd (cc (sym durable ∙ undurable command ending));
       attempt = λ target e. absurd (subst IsEnding e ending);
@@ -448,7 +443,7 @@ module _ (s : Session) (store : Store) (met : Met) (command : Command) (ending :
     records = here.holds.stands.standing.records
 
     -- it has ended
-    module _ (c : Collection) (reaped : Reaped) (runs : s.store.collection ≡ Some c) (heard : store.met.child ≡ Child.Ended reaped) (F : FinishesBy records r c command looked s.store.unswept store a b) where
+    module _ (c : Collection) (reaped : Reaped) (runs : s.store.held.collection ≡ Some c) (heard : store.met.child ≡ Child.Ended reaped) (F : FinishesBy records r c command looked s.store.held.unswept store.met store.held a b) where
       abbrev after : Repository
       after = repository_after r c command F.met
 
@@ -468,22 +463,22 @@ module _ (s : Session) (store : Store) (met : Met) (command : Command) (ending :
       settled_in : (reply : Reply) → look_answer looked ≡ Ok reply → IsSettledIn b s after_it reply
       settled_in reply is d other runs' heard' =
           let same : c ≡ d = cc (sym runs ∙ runs') in
-          subst (λ (x : Collection). HasSettled x reply store.slot b) same (record {
+          subst (λ (x : Collection). HasSettled x reply store.held.slot b) same (record {
             settled = F.does.settled (has_answer looked reply is);
             serves = λ floor left e. F.does.serves (collected_of looked floor left (is ∙ ap Ok e));
-            swapped = λ floor left e. (let (length, rows, slot) = swap_of s.store store c looked (collected_of looked floor left (is ∙ ap Ok e)) (says.slot c runs) in
+            swapped = λ floor left e. (let (length, rows, slot) = swap_of s.store.held store.held c looked (collected_of looked floor left (is ∙ ap Ok e)) (says.goes.slot c runs) in
                 (at_commit r c runs floor left (concluded r here.holds.tables (Reply.Collected floor left) (is ∙ ap Ok e)), ap (λ (t : Slot). t.live) slot, ap (λ (t : Slot). t.horizon) slot));
           })
 
       gives : (reply : Reply) → look_answer looked ≡ Ok reply → Step unasked (state_in s r v) command (conditions_with met F.met.difference) reply (state_in after_it after v)
       gives reply is =
           let w = work_at s.work v in
-          let next = state_at after (phase_of store.collection) w in
-          let turns = of_reply (λ x. (work : MachineWork) → TurnsBy (state_at r (phase_of (Some c)) work) command F.met x (state_at after (phase_of store.collection) work)) (look_answer looked) reply (replied _ looked F.turns) is in
+          let next = state_at after (phase_of store.held.collection) w in
+          let turns = of_reply (λ x. (work : MachineWork) → TurnsBy (state_at r (phase_of (Some c)) work) command F.met x (state_at after (phase_of store.held.collection) work)) (look_answer looked) reply (replied _ looked F.turns) is in
           subst (λ (m : Conditions). Step unasked (state_in s r v) command m reply next) (sym met_is)
           (subst (λ (o : Option Collection). Step unasked (state_at r (phase_of o) w) command F.met reply next) (sym runs) (step_heard (state_at r (phase_of (Some c)) w) command ending F.met reply next (turns w)))
 
-      ended_goes : (HasAnswer looked → (q : Repository) (now : Holds store b q) → WorksStay here.holds now) → (reply : Reply) → look_answer looked ≡ Ok reply → ¬ IsLong reply → Went reply
+      ended_goes : (HasAnswer looked → (q : Repository) (now : Holds store.held b q) → WorksStay here.holds now) → (reply : Reply) → look_answer looked ≡ Ok reply → ¬ IsLong reply → Went reply
       ended_goes stay reply is short =
           let has = has_answer looked reply is in
           let holds = F.does.holds has in
@@ -496,8 +491,8 @@ module _ (s : Session) (store : Store) (met : Met) (command : Command) (ending :
             settled = settled_in reply is;
             is_at = record { holds = holds; lawful = stay has after holds s.work v here.lawful };
             seen = seen_ending r v command reply ending;
-            only = by_attempt a b s.store c command ending runs (ChangedBy s.store a.held command reply) (ends_more c.job.attempt (MayTouch looked store s.store.unswept) a b (ChangedBy s.store a.held command reply)
-                (λ file may. changed_is s.store a command ending reply file (of_reply (Touches s.store store c runs looked) (look_answer looked) reply (touched_at s.store store c runs looked (says.slot c runs)) is file may)) F.does.only);
+            only = by_attempt a b s.store.held c command ending runs (ChangedBy s.store.held a.held command reply) (ends_more c.job.attempt (MayTouch looked store.held s.store.held.unswept) a b (ChangedBy s.store.held a.held command reply)
+                (λ file may. changed_is s.store.held a command ending reply file (of_reply (Touches s.store.held store.held c runs looked) (look_answer looked) reply (touched_at s.store.held store.held c runs looked (says.goes.slot c runs)) is file may)) F.does.only);
             files = F.does.files;
             said = F.does.only.beside.said;
             space = λ order none slot live. absurd (none reaped (child_so));
@@ -517,9 +512,8 @@ module _ (s : Session) (store : Store) (met : Met) (command : Command) (ending :
 
       cut_so : looked ≡ Err FinishFault.Ground → CutBy unasked a b s after_it r v command
       cut_so ground =
-          let (child, left, e) = says.met in
-          let child_is : child ≡ Child.Ended reaped = ap (λ (m : Met). m.child) (sym e) ∙ heard in
-          let met_so : met ≡ met_by_finish (Child.Ended reaped) (Err FinishFault.Ground) left = is_met ∙ e ∙ (λ i. met_by_finish (child_is i) (ground i) left) in
+          let left = says.goes.left in
+          let met_so : met ≡ met_by_finish (Child.Ended reaped) (Err FinishFault.Ground) left = is_met ∙ says.goes.told ∙ (λ i. met_by_finish (heard i) (ground i) left) in
           let w = work_at s.work v in
           let conditions = broken r c.commit c.exit reaped heard_so left F.met.difference in
           let there : conditions ≡ F.met = ap (λ (m : Met). conditions_with m F.met.difference) (sym met_so) ∙ met_is in
@@ -532,8 +526,8 @@ module _ (s : Session) (store : Store) (met : Met) (command : Command) (ending :
             gives = subst (λ (m : Met). Step unasked (state_in s r v) command (conditions_with m F.met.difference) t.0 t.1) (sym met_so)
                 (subst (λ (o : Option Collection). Step unasked (state_at r (phase_of o) w) command conditions t.0 t.1) (sym runs) (cut_step r c.commit c.exit reaped heard_so left F.met.difference w command ending));
             judged = judged;
-            only = by_attempt a b s.store c command ending runs (TouchedBy s.store a.held command) (ends_more c.job.attempt (MayTouch looked store s.store.unswept) a b (TouchedBy s.store a.held command)
-                (λ file may. touched_is s.store a command ending file (subst (λ (x : Result Looked FinishFault). MayTouch x store s.store.unswept file) ground may)) F.does.only);
+            only = by_attempt a b s.store.held c command ending runs (TouchedBy s.store.held a.held command) (ends_more c.job.attempt (MayTouch looked store.held s.store.held.unswept) a b (TouchedBy s.store.held a.held command)
+                (λ file may. touched_is s.store.held a command ending file (subst (λ (x : Result Looked FinishFault). MayTouch x store.held s.store.held.unswept file) ground may)) F.does.only);
             files = F.does.files;
             said = F.does.only.beside.said;
             space = λ order none slot live. absurd (none reaped (child_so));
@@ -541,9 +535,9 @@ module _ (s : Session) (store : Store) (met : Met) (command : Command) (ending :
           }
 
     -- it was not heard to have ended
-    module _ (quiet : IsQuiet looked) (un : Unheard (phase_of s.store.collection) store.met.child) (same : b ≡ a) where
-      tables_same : SameTables s.store store
-      tables_same = subst (SameTables s.store) (sym (says.quiet quiet)) (in_itself s.store store.met)
+    module _ (quiet : IsQuiet looked) (un : Unheard (phase_of s.store.held.collection) store.met.child) (same : b ≡ a) where
+      tables_same : SameTables s.store.held store.held
+      tables_same = subst (SameTables s.store.held) (sym (says.goes.quiet quiet)) (itself s.store.held)
 
       quiet_goes : (reply : Reply) → look_answer looked ≡ Ok reply → ¬ IsLong reply → Went reply
       quiet_goes reply is short =
@@ -553,18 +547,18 @@ module _ (s : Session) (store : Store) (met : Met) (command : Command) (ending :
           let conditions = conditions_by store.met looked in
           let turns = C.turns w in
           let after_is : C.after ≡ r = ap (λ (t : Turned). t.1.repository) (sym turns.1 ∙ turn_is start command ending conditions) ∙ ap (λ (t : State). t.repository) (unheard_stays start start.phase conditions conditions.told.refused conditions.told.child un) in
-          let step = step_heard start command ending conditions reply (state_at C.after (phase_of store.collection) w) turns in
-          let holds = same_holds s.store store tables_same (ap (λ (x : Store). x.space) (says.quiet quiet)) r a here.holds in
+          let step = step_heard start command ending conditions reply (state_at C.after (phase_of store.held.collection) w) turns in
+          let holds = same_holds s.store.held store.held tables_same (ap (λ (x : Held). x.space) (says.goes.quiet quiet)) r a here.holds in
           subst (λ (t : Told). GoesBy unasked a t s after_it r v command reply) (sym same) (record {
             after = r;
             view = v;
             difference = difference_in looked;
-            gives = subst (λ (m : Met). Step unasked start command (conditions_with m (difference_in looked)) reply (state_in after_it r v)) (sym is_met) (subst (λ (q : Repository). Step unasked start command conditions reply (state_at q (phase_of store.collection) w)) after_is step);
+            gives = subst (λ (m : Met). Step unasked start command (conditions_with m (difference_in looked)) reply (state_in after_it r v)) (sym is_met) (subst (λ (q : Repository). Step unasked start command conditions reply (state_at q (phase_of store.held.collection) w)) after_is step);
             judged = λ other c reaped runs heard. absurd (subst (Unheard (phase_of (Some c))) (ap (λ (m : Met). m.child) (sym is_met) ∙ heard) (subst (λ (o : Option Collection). Unheard (phase_of o) store.met.child) runs un));
             settled = λ c reaped runs heard. absurd (subst (Unheard (phase_of (Some c))) (ap (λ (m : Met). m.child) (sym is_met) ∙ heard) (subst (λ (o : Option Collection). Unheard (phase_of o) store.met.child) runs un));
-            is_at = record { holds = holds; lawful = works_stay (image_records here.holds) (image_records holds) r r s.work v here.lawful (λ there. stays_still s.store store tables_same r r a here.holds holds) (omega arith) here.lawful.parents };
+            is_at = record { holds = holds; lawful = works_stay (image_records here.holds) (image_records holds) r r s.work v here.lawful (λ there. stays_still s.store.held store.held tables_same r r a here.holds holds) (omega arith) here.lawful.parents };
             seen = seen_ending r v command reply ending;
-            only = nothing_by (hears command) (attempt_of s.store command) (ChangedBy s.store a.held command reply) a a (only_nowhere a NoFile);
+            only = nothing_by (hears command) (attempt_of s.store.held command) (ChangedBy s.store.held a.held command reply) a a (only_nowhere a NoFile);
             files = keeps_nothing a a (only_nowhere a NoFile);
             said = (only_nowhere a NoFile).said;
             space = λ order none slot live. nothing_space a a (only_nowhere a NoFile) order slot live;
@@ -575,9 +569,9 @@ module _ (s : Session) (store : Store) (met : Met) (command : Command) (ending :
           })
 
     abbrev Ends : Type 0
-    Ends = (c : Collection) (reaped : Reaped) → s.store.collection ≡ Some c → store.met.child ≡ Child.Ended reaped → FinishesBy records r c command looked s.store.unswept store a b
+    Ends = (c : Collection) (reaped : Reaped) → s.store.held.collection ≡ Some c → store.met.child ≡ Child.Ended reaped → FinishesBy records r c command looked s.store.held.unswept store.met store.held a b
 
-    pub finish_goes : Ends → (HasAnswer looked → (q : Repository) (now : Holds store b q) → WorksStay here.holds now) → (IsQuiet looked → b ≡ a) → IfOk (look_answer looked) (λ reply. ¬ IsLong reply) → IfOk (look_answer looked) Went
+    pub finish_goes : Ends → (HasAnswer looked → (q : Repository) (now : Holds store.held b q) → WorksStay here.holds now) → (IsQuiet looked → b ≡ a) → IfOk (look_answer looked) (λ reply. ¬ IsLong reply) → IfOk (look_answer looked) Went
     finish_goes ends stay still short = each_reply Went (look_answer looked) (λ reply is.
         let brief = of_reply (λ x. ¬ IsLong x) (look_answer looked) reply short is in
         by_end (Went reply) (λ quiet un. quiet_goes quiet un (still quiet) reply is brief) (λ c reaped runs heard. ended_goes c reaped runs heard (ends c reaped runs heard) stay reply is brief))

@@ -1,6 +1,7 @@
 pub mod SessionLemmas
 pub mod Referring
 pub mod Seeing
+pub mod NameSizes
 mod Reading
 pub mod Changing
 pub mod SessionGoes

@@ -27,19 +27,20 @@ use Rattle.ip_image.specs.declared.slot.Slot.{Slot}
 use Rattle.ip_image.specs.Appending.{fields_of, bytes_of_records}
 use Rattle.ip_image.proofs.HeadlineLaws.{one_slot}
 use Rattle.ip_image.proofs.Renaming.{spelled_is}
-use Rattle.ip_store.specs.declared.collection.Unswept.{Unswept}
-use Rattle.ip_store.specs.declared.committing.StoreFault.{StoreFault}
-use Rattle.ip_store.specs.declared.store.Store.{Store}
-use Rattle.ip_store.specs.declared.work.Work.{Work}
-use Rattle.ip_store.specs.Changes.{Changes, LimitsSpace, Appends, next_slot}
-use Rattle.ip_store.specs.Collecting.{phase_of, carrying, carried}
-use Rattle.ip_store.specs.Commits.{fault_reply, reply_to, first_parent, first_view, records_of, end_of, Answers, Commits}
-use Rattle.ip_store.specs.Naming.{branch_reply, removed_reply, without_branch}
-use Rattle.ip_store.specs.Store.{Holds, image_records}
-use Rattle.ip_store.specs.Work.{session, work_at}
-use Rattle.ip_store.proofs.FirstTree.{first_stored}
-use Rattle.ip_store.proofs.Phases.{retained_parents}
-use Rattle.ip_store.proofs.Recovering.{held_has}
+use Rattle.ip_held.specs.declared.collection.Unswept.{Unswept}
+use Rattle.ip_held.specs.declared.fault.StoreFault.{StoreFault}
+use Rattle.ip_held.specs.declared.held.Held.{Held}
+use Rattle.ip_held.specs.declared.work.Work.{Work}
+use Rattle.ip_held.specs.Changes.{Changes, LimitsSpace, Appends, next_slot}
+use Rattle.ip_held.specs.Collecting.{phase_of, carrying, carried}
+use Rattle.ip_held.specs.Answers.{fault_reply, reply_to, first_parent, first_view, Answers}
+use Rattle.ip_appends.specs.Commits.{records_of, end_of, repository_after}
+use Rattle.ip_appends.specs.Naming.{branch_reply, removed_reply, without_branch}
+use Rattle.ip_held.specs.Held.{Holds, image_records}
+use Rattle.ip_held.specs.Work.{session, work_at}
+use Rattle.ip_appends.proofs.FirstTree.{first_stored}
+use Rattle.ip_held.proofs.Phases.{retained_parents}
+use Rattle.ip_held.proofs.Recovering.{held_has}
 use Rattle.ip_session.specs.declared.session.Session.{Session}
 use Rattle.ip_session.specs.declared.session.SessionEnd.{SessionEnd}
 use Rattle.ip_session.specs.Asking.{MayReap}
@@ -49,14 +50,15 @@ use Rattle.ip_session.proofs.Referring.{IsUnnamed, NamesNone, names_none}
 use Rattle.ip_session.proofs.Committing.{IsPast, commit_there}
 use Rattle.ip_session.proofs.DurableGoes.{answered}
 use Rattle.ip_session.proofs.Changing.{none_durable}
+use Rattle.ip_store.specs.declared.store.Store.{Store}
 
-pub same_slot : (store store' : Store) (r q : Repository) (a b : Told) → Holds store a r → Holds store' b q → b.held Control ≡ a.held Control → store'.slot ≡ store.slot
+pub same_slot : (store store' : Held) (r q : Repository) (a b : Told) → Holds store a r → Holds store' b q → b.held Control ≡ a.held Control → store'.slot ≡ store.slot
 same_slot store store' r q a b before after same =
     let live = held_has store' q b after in
     one_slot store'.slot store.slot a.held (record { control = live.control; index = live.index; held = sym same ∙ live.held; live = live.live }) (held_has store r a before)
 
 -- no call changed a file
-pub still_slot : (store store' : Store) (r q : Repository) (a b : Told) → Holds store a r → Holds store' b q → ChangesOnly NoFile a b → store'.slot ≡ store.slot
+pub still_slot : (store store' : Held) (r q : Repository) (a b : Told) → Holds store a r → Holds store' b q → ChangesOnly NoFile a b → store'.slot ≡ store.slot
 still_slot store store' r q a b before after only = same_slot store store' r q a b before after ((only.others Control (λ none. none)).held (λ x. x))
 
 -- a batch is as long as from its begin to its end
@@ -107,7 +109,7 @@ module _ (slot : Slot) (u : Unswept) (slot' : Slot) (s : State) (v : View) (comm
   }
 
 -- the store refused it, by these records where a limit is met
-refused : {A : Type 0} (slot : Slot) (u : Unswept) (slot' : Slot) (s : State) (v : View) (command : Command) (more : Records) (commits : ℕ) (fault : StoreFault) (reply : Reply) (store : Store) → ((l : Limit) → reply ≡ Reply.Limit l → IsAppended unasked slot s v command more commits)
+refused : {A : Type 0} (slot : Slot) (u : Unswept) (slot' : Slot) (s : State) (v : View) (command : Command) (more : Records) (commits : ℕ) (fault : StoreFault) (reply : Reply) (store : Held) → ((l : Limit) → reply ≡ Reply.Limit l → IsAppended unasked slot s v command more commits)
     → ((target : Target) → command ≢ Command.Collect target) → ¬ MayReap command → fault_reply fault ≡ Some reply → store.slot ≡ slot → LimitsSpace {A = A} (slot.end + length (bytes_of_records more)) (Err fault) store → slot' ≡ slot → PlacedBy unasked slot u slot' s v command reply
 refused slot u slot' s v command more commits (StoreFault.GivenUp number) reply store are other reaps e at limits same = let is : Reply.GivenUp number ≡ reply = cc e in subst (PlacedBy unasked slot u slot' s v command) is (unmoved slot u slot' s v command (Reply.GivenUp number) unasked (λ h. h) (λ h. h) (λ l is. absurd (cc is)) (λ target is. absurd (other target is)) same)
 refused slot u slot' s v command more commits (StoreFault.Leaving number) reply store are other reaps e at limits same = let is : Reply.Leaving number ≡ reply = cc e in subst (PlacedBy unasked slot u slot' s v command) is (unmoved slot u slot' s v command (Reply.Leaving number) unasked (λ h. h) (λ h. h) (λ l is. absurd (cc is)) (λ target is. absurd (other target is)) same)
@@ -131,98 +133,98 @@ refused slot u slot' s v command more commits (StoreFault.Damaged at_ names) rep
 -- ---- the durable commands
 
 -- the tree of the first parent, as its commit's record refers to it
-first_is : (store : Store) (told : Told) (r : Repository) (held : Holds store told r) (parents : List ℕ) → All (λ n. IsTrue (is_retained r n)) parents → IsFirst r parents (first_view (image_records held) store r parents)
+first_is : (store : Held) (told : Told) (r : Repository) (held : Holds store told r) (parents : List ℕ) → All (λ n. IsTrue (is_retained r n)) parents → IsFirst r parents (first_view (image_records held) store r parents)
 first_is store told r held [] all = refl
 first_is store told r held (n ∷ parents) all = first_stored store told r held n parents all
 
 module _ (a b : Told) (s : Session) (store : Store) (r : Repository) (v : View) (here : IsWorking a s r v) where
   abbrev At : Command → Reply → Type 0
-  At command reply = PlacedBy unasked s.store.slot s.store.unswept store.slot (state_in s r v) v command reply
+  At command reply = PlacedBy unasked s.store.held.slot s.store.held.unswept store.held.slot (state_in s r v) v command reply
 
   module _ (branch : Bytes) (info : Info) (work : Work) where
     abbrev committing : Command
     committing = Command.Commit branch info
 
     abbrev Machine : Reply → Type 0
-    Machine reply = Answers b (session r (phase_of s.store.collection) s.work v) v committing store.met reply store work
+    Machine reply = Answers b (session r (phase_of s.store.held.collection) s.work v) v committing store.met reply store.held work
 
     abbrev put : Records
-    put = records_of r s.work v (first_parent here) branch info s.store
+    put = records_of r s.work v (first_parent here) branch info s.store.held
 
     abbrev put_end : ℕ
-    put_end = end_of r s.work v (first_parent here) branch info s.store
+    put_end = end_of r s.work v (first_parent here) branch info s.store.held
 
-    length_is : put_end ≡ s.store.slot.end + length (bytes_of_records put)
-    length_is = lie_long s.store.slot.end put put_end (batch_lies v (reusing_sources v (first_parent here)) (fields_of r s.work.parents info branch) s.store.slot.end)
+    length_is : put_end ≡ s.store.held.slot.end + length (bytes_of_records put)
+    length_is = lie_long s.store.held.slot.end put put_end (batch_lies v (reusing_sources v (first_parent here)) (fields_of r s.work.parents info branch) s.store.held.slot.end)
 
-    -- its parents are there, so the store has the first one's tree
-    are_put : (reply : Reply) → Machine reply → IsPast reply → IsAppended unasked s.store.slot (state_in s r v) v committing put 1
+    -- its parents are there, so the store.held has the first one's tree
+    are_put : (reply : Reply) → Machine reply → IsPast reply → IsAppended unasked s.store.held.slot (state_in s r v) v committing put 1
     are_put reply A past =
-        let there = commit_there r (phase_of s.store.collection) (work_at s.work v) branch info store.met reply (session A.after (phase_of s.store.collection) work A.view) A.turns past in
-        (first_parent here, first_is s.store a r here.holds s.work.parents (retained_parents r s.work.least s.work.parents here.lawful.parents there), refl, refl)
+        let there = commit_there r (phase_of s.store.held.collection) (work_at s.work v) branch info store.met reply (session A.after (phase_of s.store.held.collection) work A.view) A.turns past in
+        (first_parent here, first_is s.store.held a r here.holds s.work.parents (retained_parents r s.work.least s.work.parents here.lawful.parents there), refl, refl)
 
-    pub commit_placed : (made : Result Hash StoreFault) (reply : Reply) → reply_to made ≡ Some reply → IfSome (reply_to made) Machine → Commits r (phase_of s.store.collection) s.work v branch info made store a b → LimitsSpace put_end made s.store
-        → OnOk made (Appends put 1 s.store store a b) → At committing reply
+    pub commit_placed : (made : Result Hash StoreFault) (reply : Reply) → reply_to made ≡ Some reply → IfSome (reply_to made) Machine → Changes r (repository_after r (phase_of s.store.held.collection) s.work v branch info) made store.held a b → LimitsSpace put_end made s.store.held
+        → OnOk made (Appends put 1 s.store.held store.held a b) → At committing reply
     commit_placed (Ok name) reply e A does limits appends =
         let is : Reply.Committed name ≡ reply = cc e in
-        subst (At committing) is (did s.store.slot s.store.unswept store.slot (state_in s r v) v committing (Reply.Committed name) put 1 (are_put (Reply.Committed name) A tt) tt (λ l is. absurd (cc is)) (λ t is. absurd (cc is)) appends.slot
+        subst (At committing) is (did s.store.held.slot s.store.held.unswept store.held.slot (state_in s r v) v committing (Reply.Committed name) put 1 (are_put (Reply.Committed name) A tt) tt (λ l is. absurd (cc is)) (λ t is. absurd (cc is)) appends.slot
         (subst (λ (n : ℕ). n ≤ 2 ^ 62) length_is limits.enough.0, limits.enough.1))
     commit_placed (Err fault) reply e A does limits appends =
         let still = does.refused (refl, answered Hash fault reply e) in
-        refused {A = Hash} s.store.slot s.store.unswept store.slot (state_in s r v) v committing put 1 fault reply s.store (λ l limit. are_put reply (subst (λ (o : Option Reply). IfSome o Machine) e A) (subst IsPast (sym limit) tt)) (λ t is. absurd (cc is)) (λ may. may) e refl
-        (subst (λ (n : ℕ). LimitsSpace {A = Hash} n (Err fault) s.store) length_is limits)
-        (still_slot s.store store r r a b here.holds still.1 still.0)
+        refused {A = Hash} s.store.held.slot s.store.held.unswept store.held.slot (state_in s r v) v committing put 1 fault reply s.store.held (λ l limit. are_put reply (subst (λ (o : Option Reply). IfSome o Machine) e A) (subst IsPast (sym limit) tt)) (λ t is. absurd (cc is)) (λ may. may) e refl
+        (subst (λ (n : ℕ). LimitsSpace {A = Hash} n (Err fault) s.store.held) length_is limits)
+        (still_slot s.store.held store.held r r a b here.holds still.1 still.0)
 
   module _ (name : Bytes) (target : Target) (n : ℕ) (named : resolve r target ≡ Ok n) where
     abbrev setting : Command
     setting = Command.Branch name target
 
-    set_length : length (spelling (Record.BranchSet n name)) ≡ length_of s.store.slot (state_in s r v) setting
-    set_length = ap length (spelled_is s.store.slot.end (Record.BranchSet n name)) ∙ ap (λ (x : Result ℕ Reply). length (bytes_of_records (named_record s.store.slot.end name x))) (sym named)
+    set_length : length (spelling (Record.BranchSet n name)) ≡ length_of s.store.held.slot (state_in s r v) setting
+    set_length = ap length (spelled_is s.store.held.slot.end (Record.BranchSet n name)) ∙ ap (λ (x : Result ℕ Reply). length (bytes_of_records (named_record s.store.held.slot.end name x))) (sym named)
 
-    set_end : s.store.slot.end + length (spelling (Record.BranchSet n name)) ≡ s.store.slot.end + length_of s.store.slot (state_in s r v) setting
-    set_end = ap (λ (k : ℕ). s.store.slot.end + k) set_length
+    set_end : s.store.held.slot.end + length (spelling (Record.BranchSet n name)) ≡ s.store.held.slot.end + length_of s.store.held.slot (state_in s r v) setting
+    set_end = ap (λ (k : ℕ). s.store.held.slot.end + k) set_length
 
-    pub set_placed : (made : Result (Unit {0}) StoreFault) (reply : Reply) → branch_reply made ≡ Some reply → Changes r (with_branch r name n) made store a b → LimitsSpace (s.store.slot.end + length (spelling (Record.BranchSet n name))) made s.store
-        → OnOk made (Appends ((s.store.slot.end, Record.BranchSet n name) ∷ []) 0 s.store store a b) → At setting reply
+    pub set_placed : (made : Result (Unit {0}) StoreFault) (reply : Reply) → branch_reply made ≡ Some reply → Changes r (with_branch r name n) made store.held a b → LimitsSpace (s.store.held.slot.end + length (spelling (Record.BranchSet n name))) made s.store.held
+        → OnOk made (Appends ((s.store.held.slot.end, Record.BranchSet n name) ∷ []) 0 s.store.held store.held a b) → At setting reply
     set_placed (Ok u) reply e does limits appends =
         let is : Reply.Accepted ≡ reply = cc e in
-        subst (At setting) is (did s.store.slot s.store.unswept store.slot (state_in s r v) v setting Reply.Accepted (appended s.store.slot (state_in s r v) setting) 0 (refl, refl) tt (λ l is. absurd (cc is)) (λ t is. absurd (cc is))
-        (appends.slot ∙ ap (λ (k : ℕ). next_slot (carried s.store) k 0) (sym (ap length (spelled_is s.store.slot.end (Record.BranchSet n name))) ∙ set_length))
+        subst (At setting) is (did s.store.held.slot s.store.held.unswept store.held.slot (state_in s r v) v setting Reply.Accepted (appended s.store.held.slot (state_in s r v) setting) 0 (refl, refl) tt (λ l is. absurd (cc is)) (λ t is. absurd (cc is))
+        (appends.slot ∙ ap (λ (k : ℕ). next_slot (carried s.store.held) k 0) (sym (ap length (spelled_is s.store.held.slot.end (Record.BranchSet n name))) ∙ set_length))
         (subst (λ (k : ℕ). k ≤ 2 ^ 62) set_end limits.enough.0, limits.enough.1))
     set_placed (Err fault) reply e does limits appends =
         let still = does.refused (refl, answered (Unit {0}) fault reply e) in
-        refused {A = Unit {0}} s.store.slot s.store.unswept store.slot (state_in s r v) v setting (appended s.store.slot (state_in s r v) setting) 0 fault reply s.store (λ l limit. (refl, refl)) (λ t is. absurd (cc is)) (λ may. may) e refl
-        (subst (λ (k : ℕ). LimitsSpace {A = Unit {0}} k (Err fault) s.store) set_end limits)
-        (still_slot s.store store r r a b here.holds still.1 still.0)
+        refused {A = Unit {0}} s.store.held.slot s.store.held.unswept store.held.slot (state_in s r v) v setting (appended s.store.held.slot (state_in s r v) setting) 0 fault reply s.store.held (λ l limit. (refl, refl)) (λ t is. absurd (cc is)) (λ may. may) e refl
+        (subst (λ (k : ℕ). LimitsSpace {A = Unit {0}} k (Err fault) s.store.held) set_end limits)
+        (still_slot s.store.held store.held r r a b here.holds still.1 still.0)
 
   module _ (name : Bytes) where
     abbrev removing : Command
     removing = Command.BranchRm name
 
-    remove_length : length (spelling (Record.BranchRemove name)) ≡ length_of s.store.slot (state_in s r v) removing
-    remove_length = ap length (spelled_is s.store.slot.end (Record.BranchRemove name))
+    remove_length : length (spelling (Record.BranchRemove name)) ≡ length_of s.store.held.slot (state_in s r v) removing
+    remove_length = ap length (spelled_is s.store.held.slot.end (Record.BranchRemove name))
 
-    remove_end : s.store.slot.end + length (spelling (Record.BranchRemove name)) ≡ s.store.slot.end + length_of s.store.slot (state_in s r v) removing
-    remove_end = ap (λ (k : ℕ). s.store.slot.end + k) remove_length
+    remove_end : s.store.held.slot.end + length (spelling (Record.BranchRemove name)) ≡ s.store.held.slot.end + length_of s.store.held.slot (state_in s r v) removing
+    remove_end = ap (λ (k : ℕ). s.store.held.slot.end + k) remove_length
 
-    pub remove_placed : (made : Result Bool StoreFault) (reply : Reply) → removed_reply name made ≡ Some reply → Changes r (without_branch r name) made store a b
-        → (made ≢ Ok false → LimitsSpace (s.store.slot.end + length (spelling (Record.BranchRemove name))) made s.store) → (made ≡ Ok false → b ≡ a)
-        → (made ≡ Ok true → Appends ((s.store.slot.end, Record.BranchRemove name) ∷ []) 0 s.store store a b) → At removing reply
+    pub remove_placed : (made : Result Bool StoreFault) (reply : Reply) → removed_reply name made ≡ Some reply → Changes r (without_branch r name) made store.held a b
+        → (made ≢ Ok false → LimitsSpace (s.store.held.slot.end + length (spelling (Record.BranchRemove name))) made s.store.held) → (made ≡ Ok false → b ≡ a)
+        → (made ≡ Ok true → Appends ((s.store.held.slot.end, Record.BranchRemove name) ∷ []) 0 s.store.held store.held a b) → At removing reply
     remove_placed (Ok true) reply e does limits absent appends =
         let limits = limits (λ is. absurd (cc is)) in
         let is : Reply.Accepted ≡ reply = cc e in
-        subst (At removing) is (did s.store.slot s.store.unswept store.slot (state_in s r v) v removing Reply.Accepted (appended s.store.slot (state_in s r v) removing) 0 (refl, refl) tt (λ l is. absurd (cc is)) (λ t is. absurd (cc is)) (appends refl).slot
+        subst (At removing) is (did s.store.held.slot s.store.held.unswept store.held.slot (state_in s r v) v removing Reply.Accepted (appended s.store.held.slot (state_in s r v) removing) 0 (refl, refl) tt (λ l is. absurd (cc is)) (λ t is. absurd (cc is)) (appends refl).slot
         (subst (λ (k : ℕ). k ≤ 2 ^ 62) remove_end limits.enough.0, limits.enough.1))
     remove_placed (Ok false) reply e does limits absent appends =
         let is : Reply.NoBranch name ≡ reply = cc e in
-        subst (At removing) is (unmoved s.store.slot s.store.unswept store.slot (state_in s r v) v removing (Reply.NoBranch name) unasked (λ h. h) (λ h. h) (λ l is. absurd (cc is)) (λ t is. absurd (cc is))
-        (same_slot s.store store r (without_branch r name) a b here.holds does.ok (ap (λ (told : Told). told.held Control) (absent refl))))
+        subst (At removing) is (unmoved s.store.held.slot s.store.held.unswept store.held.slot (state_in s r v) v removing (Reply.NoBranch name) unasked (λ h. h) (λ h. h) (λ l is. absurd (cc is)) (λ t is. absurd (cc is))
+        (same_slot s.store.held store.held r (without_branch r name) a b here.holds does.ok (ap (λ (told : Told). told.held Control) (absent refl))))
     remove_placed (Err fault) reply e does limits absent appends =
         let still = does.refused (refl, answered Bool fault reply e) in
-        refused {A = Bool} s.store.slot s.store.unswept store.slot (state_in s r v) v removing (appended s.store.slot (state_in s r v) removing) 0 fault reply s.store (λ l limit. (refl, refl)) (λ t is. absurd (cc is)) (λ may. may) e refl
-        (subst (λ (k : ℕ). LimitsSpace {A = Bool} k (Err fault) s.store) remove_end (limits (λ is. absurd (cc is))))
-        (still_slot s.store store r r a b here.holds still.1 still.0)
+        refused {A = Bool} s.store.held.slot s.store.held.unswept store.held.slot (state_in s r v) v removing (appended s.store.held.slot (state_in s r v) removing) 0 fault reply s.store.held (λ l limit. (refl, refl)) (λ t is. absurd (cc is)) (λ may. may) e refl
+        (subst (λ (k : ℕ). LimitsSpace {A = Bool} k (Err fault) s.store.held) remove_end (limits (λ is. absurd (cc is))))
+        (still_slot s.store.held store.held r r a b here.holds still.1 still.0)
 
 pub unnamed_placed : (slot : Slot) (u : Unswept) (s : State) (v : View) (name : Bytes) (target : Target) (reply : Reply) → resolve s.repository target ≡ Err reply → PlacedBy unasked slot u slot s v (Command.Branch name target) reply
 unnamed_placed slot u s v name target reply is = by reply (subst NamesNone is (names_none s.repository target))
@@ -235,12 +237,12 @@ unnamed_placed slot u s v name target reply is = by reply (subst NamesNone is (n
 -- ---- the others
 
 pub read_placed : (rule : Rule) (tells : Bool) (a b : Told) (s s' : Session) (command : Command) → IsTrue tells → (r : Repository) (v : View) → IsWorking a s r v → (result : Result Reply SessionEnd) → is_durable command ≡ false → ¬ MayReap command → HasRead tells a b s s' command result
-    → IfOk result (PlacedBy rule s.store.slot s.store.unswept s'.store.slot (state_in s r v) v command)
+    → IfOk result (PlacedBy rule s.store.held.slot s.store.held.unswept s'.store.held.slot (state_in s r v) v command)
 read_placed rule tells a b s s' command told r v here (Ok reply) quiet reaps has =
     let looks = has.looks told in
     record {
       done = λ done. absurd (none_durable reply command quiet done);
-      quiet = λ not _. still_slot s.store s'.store r r a b here.holds (looks.holds r here.holds) looks.reads.only;
+      quiet = λ not _. still_slot s.store.held s'.store.held r r a b here.holds (looks.holds r here.holds) looks.reads.only;
       collected = λ floor left may is. absurd (reaps may);
       ended = λ may is. absurd (reaps may);
       space = λ durable. absurd (cc (sym durable ∙ quiet));

@@ -14,11 +14,11 @@ use Rattle.ip_spec.specs.Merge.{Rule}
 use Rattle.ip_spec.specs.Repository.{Repository}
 use Rattle.ip_spec.specs.Step.{Turns, Step, answer}
 use Rattle.ip_spec.specs.View.{View}
-use Rattle.ip_store.specs.Store.{Holds, image_records}
-use Rattle.ip_store.specs.Trees.{OnlyLooks}
-use Rattle.ip_store.specs.Collecting.{phase_of}
-use Rattle.ip_store.specs.Work.{IsLawful, work_at}
-use Rattle.ip_store.proofs.Machine.{AsksNone}
+use Rattle.ip_held.specs.Held.{Holds, image_records}
+use Rattle.ip_held.specs.Trees.{OnlyLooks}
+use Rattle.ip_held.specs.Collecting.{phase_of}
+use Rattle.ip_held.specs.Work.{IsLawful, work_at}
+use Rattle.ip_held.proofs.Machine.{AsksNone}
 use Rattle.ip_session.specs.declared.session.Session.{Session}
 use Rattle.ip_session.specs.declared.session.SessionEnd.{SessionEnd}
 use Rattle.ip_session.specs.Session.{unasked, attempt_of, hears, IsServing, IsWorking, state_in, met_only, conditions_of, is_durable, ChangedBy, TouchedBy, IsAnswered, HasRead, GoesBy, CutBy}
@@ -35,25 +35,25 @@ by_any_rule : (rule : Rule) (s : State) (command : Command) (met : Conditions) (
 by_any_rule rule s (Command.Merge target branch info) met reply s' quiet step = absurd (cc quiet)
 by_any_rule rule s _ met reply s' quiet step = step
 
-module _ (rule : Rule) (a b : Told) (s s' : Session) (r : Repository) (v : View) (here : IsWorking a s r v) (looks : OnlyLooks a b s.store s'.store) (command : Command) (quiet : is_durable command ≡ false) (asks : AsksNone command) where
+module _ (rule : Rule) (a b : Told) (s s' : Session) (r : Repository) (v : View) (here : IsWorking a s r v) (looks : OnlyLooks a b s.store.held s'.store.held) (command : Command) (quiet : is_durable command ≡ false) (asks : AsksNone command) where
   -- the store holds the repository over the same records
   goes : (reply : Reply) → IsAnswered (image_records here.holds) s s' r v command reply → GoesBy rule a b s s' r v command reply
   goes reply A =
-      let holds : Holds s'.store b r = looks.holds r here.holds in
+      let holds : Holds s'.store.held b r = looks.holds r here.holds in
       record {
         after = r;
         view = A.view;
         difference = None;
         gives = by_any_rule rule (state_in s r v) command (conditions_of s'.met) reply (state_in s' r A.view) quiet A.gives;
-        judged = unjudged a b s s' r v (heard_none (phase_of s.store.collection) command asks s'.met.child A.gives.0.child);
-        settled = unsettled b s s' reply (heard_none (phase_of s.store.collection) command asks s'.met.child A.gives.0.child);
+        judged = unjudged a b s s' r v (heard_none (phase_of s.store.held.collection) command asks s'.met.child A.gives.0.child);
+        settled = unsettled b s s' reply (heard_none (phase_of s.store.held.collection) command asks s'.met.child A.gives.0.child);
         seen = A.seen;
         is_at = record { holds = holds; lawful = subst (λ (records : ℕ → Option Record). IsLawful records r s'.work A.view) (sym (looks.records r here.holds holds)) A.lawful };
-        only = nothing_by (hears command) (attempt_of s.store command) (ChangedBy s.store a.held command reply) a b looks.reads.only;
+        only = nothing_by (hears command) (attempt_of s.store.held command) (ChangedBy s.store.held a.held command reply) a b looks.reads.only;
         files = keeps_nothing a b looks.reads.only;
         said = looks.reads.only.said;
         space = λ order none slot live. nothing_space a b looks.reads.only order slot live;
-        atomic = λ order. keeps_still s.store r r a b here.holds order looks.reads.only;
+        atomic = λ order. keeps_still s.store.held r r a b here.holds order looks.reads.only;
         nothing_pending = λ order. pending_passes a b looks.reads.only.goes (λ file. looks.reads.only.others file (λ none. none)) looks.reads.only.lending order;
         spared = λ long. let x = A.spared long in record { same = x.same; seen = x.seen; refused = by_any_rule rule (state_in s r v) command (conditions_of (met_only true)) Reply.Memory (state_in s r v) quiet x.refused };
         still = λ long. looks.reads.only;
@@ -68,13 +68,13 @@ module _ (rule : Rule) (a b : Told) (s s' : Session) (r : Repository) (v : View)
         after = t.1;
         difference = None;
         gives = subst (λ (m : Met). Step rule (state_in s r v) command (conditions_of m) t.0 t.1) (sym e)
-            (plainly r (phase_of s.store.collection) (work_at s.work v) command false t.0 asks (λ h. absurd (cc h)), plain rule (state_in s r v) command (conditions_of (met_only false)) quiet);
+            (plainly r (phase_of s.store.held.collection) (work_at s.work v) command false t.0 asks (λ h. absurd (cc h)), plain rule (state_in s r v) command (conditions_of (met_only false)) quiet);
         judged = unjudged a b s s' r v (ap (λ (m : Met). m.child) e);
-        only = nothing_by (hears command) (attempt_of s.store command) (TouchedBy s.store a.held command) a b looks.reads.only;
+        only = nothing_by (hears command) (attempt_of s.store.held command) (TouchedBy s.store.held a.held command) a b looks.reads.only;
         files = keeps_nothing a b looks.reads.only;
         said = looks.reads.only.said;
         space = λ order none slot live. nothing_space a b looks.reads.only order slot live;
-        atomic = λ order. keeps_still s.store r t.1.repository a b here.holds order looks.reads.only;
+        atomic = λ order. keeps_still s.store.held r t.1.repository a b here.holds order looks.reads.only;
       }
 
 pub read_serves : (tells : Bool) (a b : Told) (s s' : Session) (command : Command) (result : Result Reply SessionEnd) → IsServing s → HasRead tells a b s s' command result → IfOk result (λ reply. IsServing s')

@@ -40,27 +40,30 @@ use Rattle.ip_tree.specs.declared.tree.Tree as lazy
 use Rattle.ip_tree.specs.declared.tree.TreeFault.{TreeFault}
 use Rattle.ip_tree.proofs.PlacedTrees.{IsSplit, split}
 use Rattle.ip_save.specs.Batches.{HasShortContents}
-use Rattle.ip_store.specs.Collecting.{phase_of}
-use Rattle.ip_store.specs.Rooted.{IsRooted}
-use Rattle.ip_store.specs.Showing.{IsFetchedOr, IsShown}
-use Rattle.ip_store.specs.Store.{IsOf, Holds, SameTables, image_records}
-use Rattle.ip_store.specs.Trees.{OnlyLooks, IsTreeOf}
-use Rattle.ip_store.specs.Views.{IsStored, IsViewAfter}
-use Rattle.ip_store.specs.Work.{AreParents, IsLawful, IsThere, work_at, state_at}
-use Rattle.ip_store.specs.declared.collection.Collection.{Collection}
-use Rattle.ip_store.specs.declared.committing.StoreFault.{StoreFault}
-use Rattle.ip_store.specs.declared.store.Store.{Store}
-use Rattle.ip_store.specs.declared.work.Work.{Work}
-use Rattle.ip_store.proofs.Editing.{short_put, short_removed}
-use Rattle.ip_store.proofs.Phases.{retained_is, there_none}
-use Rattle.ip_store.proofs.RootedViews.{rooted_put, rooted_removed, rooted_grafted}
-use Rattle.ip_store.proofs.Stepping.{same_tables}
+use Rattle.ip_held.specs.Collecting.{phase_of}
+use Rattle.ip_held.specs.Rooted.{IsRooted}
+use Rattle.ip_held.specs.Showing.{IsFetchedOr}
+use Rattle.ip_reads.specs.Shown.{IsShown}
+use Rattle.ip_held.specs.Held.{IsOf, Holds, SameTables, image_records}
+use Rattle.ip_held.specs.Trees.{OnlyLooks, IsTreeOf}
+use Rattle.ip_held.specs.Views.{IsStored, IsViewAfter}
+use Rattle.ip_held.specs.Work.{AreParents, IsLawful, IsThere, work_at, state_at}
+use Rattle.ip_held.specs.declared.collection.Collection.{Collection}
+use Rattle.ip_held.specs.declared.fault.StoreFault.{StoreFault}
+use Rattle.ip_held.specs.declared.held.Held.{Held}
+use Rattle.ip_held.specs.declared.work.Work.{Work}
+use Rattle.ip_reads.proofs.Editing.{short_put, short_removed}
+use Rattle.ip_held.proofs.Phases.{retained_is, there_none}
+use Rattle.ip_held.proofs.RootedViews.{rooted_put, rooted_removed, rooted_grafted}
+use Rattle.ip_held.proofs.Stepping.{same_tables}
 use Rattle.ip_session.specs.declared.session.Session.{Session}
 use Rattle.ip_session.specs.declared.session.SessionEnd.{SessionEnd}
-use Rattle.ip_session.specs.Session.{unasked, IsIn, IsWorking, state_in, met_only, conditions_of, IsLong, IsAnswered, HasRead, IsHeld, EndsBy, Fails, tree_fault}
+use Rattle.ip_session.specs.Session.{unasked, IsIn, IsWorking, state_in, met_only, conditions_of, IsLong, IsAnswered, HasRead, IsHeld, EndsBy, Fails, met_failed, tree_fault}
 use Rattle.ip_session.proofs.SessionLemmas.{at, AsksWork, NoneGivenUp, given_is_short, given_up, Refusable, stat_of, empty_done, set_done, set_long, set_wide, rm_done, rm_absent, get_done, list_done, stat_done, hash_done, hash_refused, ok_is_short, at_is_short, memory_is_short, stat_is_short}
+use Rattle.ip_session.proofs.NameSizes.{name_size}
 use Rattle.ip_session.proofs.Seeing.{memory_seen, limit_seen, given_seen}
 use Rattle.ip_session.proofs.Referring.{checkout_done, cat_done, graft_absent, graft_deep, graft_wide, graft_done, parent_done, show_done}
+use Rattle.ip_store.specs.declared.store.Store.{Store}
 
 -- ---- what was met, and what stays
 
@@ -72,7 +75,7 @@ met_as s command met met' reply s' e h = subst (λ (m : Met). Step unasked s com
 moved_as : (s : State) (command : Command) (met met' : Met) (reply : Reply) (r : Repository) (o p : Option Collection) (w : Machine.Work) → met ≡ met' → p ≡ o → Step unasked s command (conditions_of met') reply (at r (phase_of o) w) → Step unasked s command (conditions_of met) reply (at r (phase_of p) w)
 moved_as s command met met' reply r o p w e same h = met_as s command met met' reply (at r (phase_of p) w) e (subst (λ (x : Option Collection). Step unasked s command (conditions_of met') reply (at r (phase_of x) w)) (sym same) h)
 
-module _ (records : ℕ → Option Record) (s s' : Session) (r : Repository) (v : View) (command : Command) (phase : s'.store.collection ≡ s.store.collection) (same : work_at s'.work v ≡ work_at s.work v) (lawful : IsLawful records r s'.work v) where
+module _ (records : ℕ → Option Record) (s s' : Session) (r : Repository) (v : View) (command : Command) (phase : s'.store.held.collection ≡ s.store.held.collection) (same : work_at s'.work v ≡ work_at s.work v) (lawful : IsLawful records r s'.work v) where
   state : state_in s' r v ≡ state_in s r v
   state = λ i. state_at r (phase_of (phase i)) (same i)
 
@@ -83,7 +86,7 @@ module _ (records : ℕ → Option Record) (s s' : Session) (r : Repository) (v 
     gives = met_as (state_in s r v) command s'.met (met_only false) reply (state_in s' r v) e (subst (Step unasked (state_in s r v) command (conditions_of (met_only false)) reply) (sym state) step);
     lawful = lawful;
     seen = seen;
-    spared = λ long. record { same = state; seen = refl; refused = spared long r (phase_of s.store.collection) (work_at s.work v) };
+    spared = λ long. record { same = state; seen = refl; refused = spared long r (phase_of s.store.held.collection) (work_at s.work v) };
   }
 
   pub still_answered : (reply : Reply) → s'.met ≡ met_only false → Step unasked (state_in s r v) command (conditions_of (met_only false)) reply (state_in s r v)
@@ -94,7 +97,7 @@ module _ (records : ℕ → Option Record) (s s' : Session) (r : Repository) (v 
   memory_answered e refusable = record {
     view = v;
     gives = met_as (state_in s r v) command s'.met (met_only true) Reply.Memory (state_in s' r v) e
-        (subst (Step unasked (state_in s r v) command (conditions_of (met_only true)) Reply.Memory) (sym state) (refusable r (phase_of s.store.collection) (work_at s.work v)));
+        (subst (Step unasked (state_in s r v) command (conditions_of (met_only true)) Reply.Memory) (sym state) (refusable r (phase_of s.store.held.collection) (work_at s.work v)));
     lawful = lawful;
     seen = memory_seen r v command;
     spared = λ long. absurd (omega (arith, long, memory_is_short));
@@ -102,21 +105,21 @@ module _ (records : ℕ → Option Record) (s s' : Session) (r : Repository) (v 
 
 -- ---- calls of the store, one behind another
 
-pub looks_nowhere : (a : Told) (store : Store) → OnlyLooks a a store store
+pub looks_nowhere : (a : Told) (store : Held) → OnlyLooks a a store store
 looks_nowhere a store = record {
   reads = reads_nothing a store.space;
   holds = λ r held. held;
   records = λ r held still. ap present (all_records a.held still.stands.standing held.stands.standing);
 }
 
-pub looks_on : (a b c : Told) (store mid now : Store) → OnlyLooks a b store mid → OnlyLooks b c mid now → OnlyLooks a c store now
+pub looks_on : (a b c : Told) (store mid now : Held) → OnlyLooks a b store mid → OnlyLooks b c mid now → OnlyLooks a c store now
 looks_on a b c store mid now one two = record {
   reads = reads_on a b c store.space mid.space now.space one.reads two.reads;
   holds = λ r held. two.holds r (one.holds r held);
   records = λ r held still. two.records r (one.holds r held) still ∙ one.records r held (one.holds r held);
 }
 
-pub same_on : (store mid now : Store) → SameTables store mid → SameTables mid now → SameTables store now
+pub same_on : (store mid now : Held) → SameTables store mid → SameTables mid now → SameTables store now
 same_on store mid now one two = record {
   index = two.index ∙ one.index;
   slot = two.slot ∙ one.slot;
@@ -173,6 +176,10 @@ graft_refuses r phase w target from to n (TreeFault.Limit _) kept is f = absurd 
 graft_refuses r phase w target from to n (TreeFault.Fetch fetch) kept is f = free_refuses (at r phase w) (Command.Graft target from to) (TreeFault.Fetch fetch) f
 graft_refuses r phase w target from to n TreeFault.Memory kept is f = tt
 
+pub met_stays : (fault : StoreFault) (met : Met) → fault ≢ StoreFault.Memory → met_failed fault met ≡ met
+met_stays StoreFault.Memory met not = absurd (not refl)
+met_stays _ met not = refl
+
 pub ends : (fault : StoreFault) (command : Command) (met met' : Met) (result : Result Reply SessionEnd) (held : Type 0) → Fails fault met met' result → (held → (s : State) × Refuses s command fault) → IfErr result (EndsBy held)
 ends StoreFault.Ground command met met' result held f refuses = subst (λ (x : Result Reply SessionEnd). IfErr x (EndsBy held)) (sym f.0) tt
 ends (StoreFault.Damaged at names) command met met' result held f refuses = subst (λ (x : Result Reply SessionEnd). IfErr x (EndsBy held)) (sym f.0) (λ h. (refuses h).1)
@@ -185,7 +192,7 @@ ends (StoreFault.Existing name) command met met' result held f refuses = subst (
 
 -- ---- what a command did that reads
 
-module _ (tells : Bool) (old new : Told) (s s' : Session) (command : Command) (tables : (r : Repository) → IsIn s r → IsIn s' r) (looks : IsTrue tells → OnlyLooks old new s.store s'.store) (unswept : s'.store.unswept ≡ s.store.unswept) where
+module _ (tells : Bool) (old new : Told) (s s' : Session) (command : Command) (tables : (r : Repository) → IsIn s r → IsIn s' r) (looks : IsTrue tells → OnlyLooks old new s.store.held s'.store.held) (unswept : s'.store.held.unswept ≡ s.store.held.unswept) where
   abbrev Did : Result Reply SessionEnd → Type 0
   Did result = HasRead tells old new s s' command result
 
@@ -196,9 +203,9 @@ module _ (tells : Bool) (old new : Told) (s s' : Session) (command : Command) (t
   ended_read end same = record { tables = tables; answered = λ told r v here. tt; looks = looks; unswept = unswept; unmet = λ err. same }
 
   -- over the view as it was
-  module _ (phase : s'.store.collection ≡ s.store.collection) (same : (v : View) → work_at s'.work v ≡ work_at s.work v) (e : s.met ≡ met_only false) (refusable : Refusable command) where
+  module _ (phase : s'.store.held.collection ≡ s.store.held.collection) (same : (v : View) → work_at s'.work v ≡ work_at s.work v) (e : s.met ≡ met_only false) (refusable : Refusable command) where
     pub still_read : (reply : Reply) → s'.met ≡ s.met
-        → ((r : Repository) (v : View) → IsOf s.store r → IsViewAfter r v command reply v)
+        → ((r : Repository) (v : View) → IsOf s.store.held r → IsViewAfter r v command reply v)
         → (IsTrue tells → (r : Repository) (v : View) (here : IsWorking old s r v) → IsLawful (image_records here.holds) r s'.work v × Step unasked (state_in s r v) command (conditions_of (met_only false)) reply (state_in s r v)) → Did (Ok reply)
     still_read reply met seen does = answered_read reply (λ told r v here. let x = does told r v here in still_answered (image_records here.holds) s s' r v command phase (same v) x.0 reply (met ∙ e) x.1 (seen r v here.holds.tables) refusable)
 
@@ -215,22 +222,22 @@ module _ (tells : Bool) (old new : Told) (s s' : Session) (command : Command) (t
 
 -- it looked at nothing, and nothing changed but what was met
 pub unread : (tells : Bool) (a : Told) (s : Session) (met : Met) (command : Command) (reply : Reply) → met ≡ met_only false → Refusable command
-    → ((r : Repository) (v : View) → IsOf s.store r → IsViewAfter r v command reply v)
-    → ((r : Repository) (v : View) → IsOf s.store r → Step unasked (state_in s r v) command (conditions_of (met_only false)) reply (state_in s r v))
+    → ((r : Repository) (v : View) → IsOf s.store.held r → IsViewAfter r v command reply v)
+    → ((r : Repository) (v : View) → IsOf s.store.held r → Step unasked (state_in s r v) command (conditions_of (met_only false)) reply (state_in s r v))
     → HasRead tells a a s (record s { met = met }) command (Ok reply)
-unread tells a s met command reply e refusable seen gives = answered_read tells a a s (record s { met = met }) command (λ r is. is) (λ told. looks_nowhere a s.store) refl reply
+unread tells a s met command reply e refusable seen gives = answered_read tells a a s (record s { met = met }) command (λ r is. is) (λ told. looks_nowhere a s.store.held) refl reply
     (λ told r v here. still_answered (image_records here.holds) s (record s { met = met }) r v command refl refl here.lawful reply e (gives r v here.holds.tables) (seen r v here.holds.tables) refusable)
 
 -- and it was refused memory
 pub refused_unread : (tells : Bool) (a : Told) (s : Session) (met : Met) (command : Command) (reply : Reply) → met ≡ met_only true → reply ≡ Reply.Memory → Refusable command → HasRead tells a a s (record s { met = met }) command (Ok reply)
 refused_unread tells a s met command reply e is refusable = subst (λ (x : Reply). HasRead tells a a s (record s { met = met }) command (Ok x)) (sym is)
-    (answered_read tells a a s (record s { met = met }) command (λ r is. is) (λ told. looks_nowhere a s.store) refl Reply.Memory
+    (answered_read tells a a s (record s { met = met }) command (λ r is. is) (λ told. looks_nowhere a s.store.held) refl Reply.Memory
     (λ told r v here. memory_answered (image_records here.holds) s (record s { met = met }) r v command refl refl here.lawful e refusable))
 
 -- it asks nothing of the ground
-pub within_read : (tells : Bool) (a : Told) (s s' : Session) (command : Command) (reply : Reply) → ((r : Repository) → IsIn s r → IsIn s' r) → s'.store ≡ s.store
-    → ((records : ℕ → Option Record) (r : Repository) (v : View) → IsOf s.store r → IsLawful records r s.work v → IsAnswered records s s' r v command reply) → HasRead tells a a s s' command (Ok reply)
-within_read tells a s s' command reply tables same answered = answered_read tells a a s s' command tables (λ told. subst (OnlyLooks a a s.store) (sym same) (looks_nowhere a s.store)) (ap (λ (x : Store). x.unswept) same) reply
+pub within_read : (tells : Bool) (a : Told) (s s' : Session) (command : Command) (reply : Reply) → ((r : Repository) → IsIn s r → IsIn s' r) → s'.store.held ≡ s.store.held
+    → ((records : ℕ → Option Record) (r : Repository) (v : View) → IsOf s.store.held r → IsLawful records r s.work v → IsAnswered records s s' r v command reply) → HasRead tells a a s s' command (Ok reply)
+within_read tells a s s' command reply tables same answered = answered_read tells a a s s' command tables (λ told. subst (OnlyLooks a a s.store.held) (sym same) (looks_nowhere a s.store.held)) (ap (λ (x : Held). x.unswept) same) reply
     (λ told r v here. answered (image_records here.holds) r v here.holds.tables here.lawful)
 
 -- by another name of the command
@@ -305,7 +312,7 @@ stored_as records n at map spelled = record { records = records; at = at; spelle
 lawful_with : (records : ℕ → Option Record) (r : Repository) (work : Work) (v : View) (tree : lazy.Tree) → IsLawful records r work v → (IsThere r work.least → IsView records tree v) → IsLawful records r (record work { tree = tree }) v
 lawful_with records r work v tree l view = record { tree = view; rooted = l.rooted; short = l.short; parents = l.parents; least = l.least }
 
-module _ (records : ℕ → Option Record) (s : Session) (store : Store) (met : Met) (r : Repository) (v : View) (e : met ≡ met_only false) (phase : store.collection ≡ s.store.collection) (l : IsLawful records r s.work v) where
+module _ (records : ℕ → Option Record) (s : Session) (store : Store) (met : Met) (r : Repository) (v : View) (e : met ≡ met_only false) (phase : store.held.collection ≡ s.store.held.collection) (l : IsLawful records r s.work v) where
   abbrev with_tree : lazy.Tree → Option ℕ → Session
   with_tree tree least = record s { store = store; work = record s.work { tree = tree; least = least }; met = met }
 
@@ -316,7 +323,7 @@ module _ (records : ℕ → Option Record) (s : Session) (store : Store) (met : 
   unfolding put_view
   set_answered there tree path bytes is = record {
     view = put_view v path bytes;
-    gives = moved_as (state_in s r v) (Command.Set path bytes) met (met_only false) Reply.Accepted r s.store.collection store.collection _ e phase (set_done r (phase_of s.store.collection) (work_at s.work v) there path bytes is.short is.narrow);
+    gives = moved_as (state_in s r v) (Command.Set path bytes) met (met_only false) Reply.Accepted r s.store.held.collection store.held.collection _ e phase (set_done r (phase_of s.store.held.collection) (work_at s.work v) there path bytes is.short is.narrow);
     lawful = record { tree = λ still. is.view; rooted = λ still. rooted_put records v path bytes (l.rooted still); short = short_put v.map path bytes l.short is.short; parents = l.parents; least = l.least };
     seen = refl;
     spared = λ long. absurd (ok_is_short long);
@@ -326,7 +333,7 @@ module _ (records : ℕ → Option Record) (s : Session) (store : Store) (met : 
   unfolding remove_view
   rm_answered there tree path is = record {
     view = remove_view v path;
-    gives = moved_as (state_in s r v) (Command.Rm path) met (met_only false) Reply.Accepted r s.store.collection store.collection _ e phase (rm_done r (phase_of s.store.collection) (work_at s.work v) there path (some_there (is_empty (subtree v.map path)) is.found));
+    gives = moved_as (state_in s r v) (Command.Rm path) met (met_only false) Reply.Accepted r s.store.held.collection store.held.collection _ e phase (rm_done r (phase_of s.store.held.collection) (work_at s.work v) there path (some_there (is_empty (subtree v.map path)) is.found));
     lawful = record { tree = λ still. is.view; rooted = λ still. rooted_removed records v path (l.rooted still); short = short_removed v.map path l.short; parents = l.parents; least = l.least };
     seen = refl;
     spared = λ long. absurd (ok_is_short long);
@@ -341,9 +348,9 @@ module _ (records : ℕ → Option Record) (s : Session) (store : Store) (met : 
   unfolding graft_view
   graft_answered there tree target from to n at_root low spelled named retained less short rooted is = record {
     view = graft_view v (stored_view records n at_root (tree_at r n)) from to;
-    gives = moved_as (state_in s r v) (Command.Graft target from to) met (met_only false) Reply.Accepted r s.store.collection store.collection _ e phase
-        (subst (λ (o : Option ℕ). Step unasked (state_in s r v) (Command.Graft target from to) (conditions_of (met_only false)) Reply.Accepted (at r (phase_of s.store.collection) (record (work_at s.work v) { tree = graft v.map (tree_at r n) from to; least = o }))) (sym less)
-        (graft_done r (phase_of s.store.collection) (work_at s.work v) target from to n there named (some_grafted (is_empty (subtree (tree_at r n) from)) is.found) (is.shallow refl) (is.narrow refl)));
+    gives = moved_as (state_in s r v) (Command.Graft target from to) met (met_only false) Reply.Accepted r s.store.held.collection store.held.collection _ e phase
+        (subst (λ (o : Option ℕ). Step unasked (state_in s r v) (Command.Graft target from to) (conditions_of (met_only false)) Reply.Accepted (at r (phase_of s.store.held.collection) (record (work_at s.work v) { tree = graft v.map (tree_at r n) from to; least = o }))) (sym less)
+        (graft_done r (phase_of s.store.held.collection) (work_at s.work v) target from to n there named (some_grafted (is_empty (subtree (tree_at r n) from)) is.found) (is.shallow refl) (is.narrow refl)));
     lawful = record {
       tree = λ still. is.view;
       rooted = λ still. rooted_grafted records v (stored_view records n at_root (tree_at r n)) from to (l.rooted there) rooted;
@@ -359,14 +366,14 @@ module _ (records : ℕ → Option Record) (s : Session) (store : Store) (met : 
       some_grafted true e = absurd (cc e)
       some_grafted false e = refl
 
-  pub checkout_answered : (tree : lazy.Tree) (parents : List ℕ) (target : Target) (n : ℕ) (name : Bytes) → parents ≡ n ∷ [] → resolve r target ≡ Ok n → IsTrue (is_retained r n) → name ≡ name_at r n → length name ≡ 32 → IsTreeOf records r n tree
+  pub checkout_answered : (tree : lazy.Tree) (parents : List ℕ) (target : Target) (n : ℕ) (name : Bytes) → parents ≡ n ∷ [] → resolve r target ≡ Ok n → IsTrue (is_retained r n) → name ≡ name_at r n → length name ≤ 32 → IsTreeOf records r n tree
       → Answers (Command.Checkout target) (record s { store = store; work = record { tree = tree; parents = parents; least = Some n }; met = met }) (Reply.At name)
   checkout_answered tree parents target n name one named retained is_name long_name t = record {
     view = stored_view records n t.at (tree_at r n);
-    gives = moved_as (state_in s r v) (Command.Checkout target) met (met_only false) (Reply.At name) r s.store.collection store.collection _ e phase
-        (subst (λ (ps : List ℕ). Step unasked (state_in s r v) (Command.Checkout target) (conditions_of (met_only false)) (Reply.At name) (at r (phase_of s.store.collection) (record { tree = tree_at r n; parents = ps; least = Some n }))) (sym one)
-        (subst (λ (x : Bytes). Step unasked (state_in s r v) (Command.Checkout target) (conditions_of (met_only false)) (Reply.At x) (at r (phase_of s.store.collection) (record { tree = tree_at r n; parents = n ∷ []; least = Some n }))) (sym is_name)
-        (checkout_done r (phase_of s.store.collection) (work_at s.work v) target n named)));
+    gives = moved_as (state_in s r v) (Command.Checkout target) met (met_only false) (Reply.At name) r s.store.held.collection store.held.collection _ e phase
+        (subst (λ (ps : List ℕ). Step unasked (state_in s r v) (Command.Checkout target) (conditions_of (met_only false)) (Reply.At name) (at r (phase_of s.store.held.collection) (record { tree = tree_at r n; parents = ps; least = Some n }))) (sym one)
+        (subst (λ (x : Bytes). Step unasked (state_in s r v) (Command.Checkout target) (conditions_of (met_only false)) (Reply.At x) (at r (phase_of s.store.held.collection) (record { tree = tree_at r n; parents = n ∷ []; least = Some n }))) (sym is_name)
+        (checkout_done r (phase_of s.store.held.collection) (work_at s.work v) target n named)));
     lawful = record {
       tree = λ still. t.view;
       rooted = λ still. t.rooted;
@@ -379,11 +386,6 @@ module _ (records : ℕ → Option Record) (s : Session) (store : Store) (met : 
   }
 
 -- ---- commands that ask nothing of the ground
-
--- by another name of the command
-pub answered_as : (records : ℕ → Option Record) (s s' : Session) (r : Repository) (v : View) (command command' : Command) (reply : Reply) → command ≡ command'
-    → IsAnswered records s s' r v command' reply → IsAnswered records s s' r v command reply
-answered_as records s s' r v command command' reply e h = subst (λ (x : Command). IsAnswered records s s' r v x reply) (sym e) h
 
 -- a retained commit more is a parent
 pub more_parents : (r : Repository) (o : Option ℕ) (low n : ℕ) (parents : List ℕ) → Some low ≡ least_with o n → AreParents r o parents → IsTrue (is_retained r n) → list_any (λ p. p == n) parents ≡ false → length parents < 16 → AreParents r (Some low) (parents ++ n ∷ [])
@@ -408,15 +410,15 @@ below_is floor (Some n) number is = by_test (nat_lt n floor) refl is
     by_test true e same = let one : n ≡ number = cc same in subst (λ (m : ℕ). m < floor) one (grind (arith, nat_tests))
     by_test false e same = absurd (cc same)
 
-module _ (records : ℕ → Option Record) (s : Session) (r : Repository) (v : View) (of : IsOf s.store r) (l : IsLawful records r s.work v) where
+module _ (records : ℕ → Option Record) (s : Session) (r : Repository) (v : View) (of : IsOf s.store.held r) (l : IsLawful records r s.work v) where
   abbrev Said : Command → Session → Reply → Type 0
   Said command s' reply = IsAnswered records s s' r v command reply
 
   pub empty_answered : (work : Work) (met : Met) → met ≡ met_only false → IsLawful records r work no_view → work_at work no_view ≡ empty_work → Said Command.Empty (record s { work = work; met = met }) Reply.Accepted
   empty_answered work met e lawful empty = record {
     view = no_view;
-    gives = met_as (state_in s r v) Command.Empty met (met_only false) Reply.Accepted (state_at r (phase_of s.store.collection) (work_at work no_view)) e
-        (subst (λ (w : Machine.Work). Step unasked (state_in s r v) Command.Empty (conditions_of (met_only false)) Reply.Accepted (state_at r (phase_of s.store.collection) w)) (sym empty) (empty_done r (phase_of s.store.collection) (work_at s.work v)));
+    gives = met_as (state_in s r v) Command.Empty met (met_only false) Reply.Accepted (state_at r (phase_of s.store.held.collection) (work_at work no_view)) e
+        (subst (λ (w : Machine.Work). Step unasked (state_in s r v) Command.Empty (conditions_of (met_only false)) Reply.Accepted (state_at r (phase_of s.store.held.collection) w)) (sym empty) (empty_done r (phase_of s.store.held.collection) (work_at s.work v)));
     lawful = lawful;
     seen = refl;
     spared = λ long. absurd (ok_is_short long);
@@ -424,11 +426,11 @@ module _ (records : ℕ → Option Record) (s : Session) (r : Repository) (v : V
 
   pub hash_answered : (met : Met) (bytes hash : Bytes) → met ≡ met_only false → hash ≡ sha256 bytes → Said (Command.Hash bytes) (record s { met = met }) (Reply.Hash hash)
   hash_answered met bytes hash e is = subst (λ (x : Bytes). Said (Command.Hash bytes) (record s { met = met }) (Reply.Hash x)) (sym is)
-      (still_answered records s (record s { met = met }) r v (Command.Hash bytes) refl refl l (Reply.Hash (sha256 bytes)) e (hash_done r (phase_of s.store.collection) (work_at s.work v) bytes) refl (hash_refused bytes))
+      (still_answered records s (record s { met = met }) r v (Command.Hash bytes) refl refl l (Reply.Hash (sha256 bytes)) e (hash_done r (phase_of s.store.held.collection) (work_at s.work v) bytes) refl (hash_refused bytes))
 
-  pub stat_answered : (met : Met) (reply : Reply) → met ≡ met_only false → reply ≡ stat_of r (phase_of s.store.collection) → Said Command.Stat (record s { met = met }) reply
+  pub stat_answered : (met : Met) (reply : Reply) → met ≡ met_only false → reply ≡ stat_of r (phase_of s.store.held.collection) → Said Command.Stat (record s { met = met }) reply
   stat_answered met reply e is = subst (Said Command.Stat (record s { met = met })) (sym is)
-      (plainly_answered records s (record s { met = met }) r v Command.Stat refl refl l (stat_of r (phase_of s.store.collection)) e (stat_done r (phase_of s.store.collection) (work_at s.work v)) refl (λ long. absurd (stat_is_short s.store r of long)))
+      (plainly_answered records s (record s { met = met }) r v Command.Stat refl refl l (stat_of r (phase_of s.store.held.collection)) e (stat_done r (phase_of s.store.held.collection) (work_at s.work v)) refl (λ long. absurd (stat_is_short s.store.held r of long)))
 
   pub parent_answered : IsThere r s.work.least → (parents : List ℕ) (low : ℕ) (met : Met) (target : Target) (n : ℕ) → met ≡ met_only false → resolve r target ≡ Ok n → IsTrue (is_retained r n) → list_any (λ p. p == n) s.work.parents ≡ false → length s.work.parents < 16
       → parents ≡ s.work.parents ++ n ∷ [] → Some low ≡ least_with s.work.least n
@@ -436,9 +438,9 @@ module _ (records : ℕ → Option Record) (s : Session) (r : Repository) (v : V
   parent_answered there parents low met target n e named retained new few added less = record {
     view = v;
     gives = met_as (state_in s r v) (Command.Parent target) met (met_only false) Reply.Accepted _ e
-        (subst (λ (ps : List ℕ). Step unasked (state_in s r v) (Command.Parent target) (conditions_of (met_only false)) Reply.Accepted (at r (phase_of s.store.collection) (record (work_at s.work v) { parents = ps; least = Some low }))) (sym added)
-        (subst (λ (o : Option ℕ). Step unasked (state_in s r v) (Command.Parent target) (conditions_of (met_only false)) Reply.Accepted (at r (phase_of s.store.collection) (record (work_at s.work v) { parents = s.work.parents ++ n ∷ []; least = o }))) (sym less)
-        (parent_done r (phase_of s.store.collection) (work_at s.work v) target n there named new few)));
+        (subst (λ (ps : List ℕ). Step unasked (state_in s r v) (Command.Parent target) (conditions_of (met_only false)) Reply.Accepted (at r (phase_of s.store.held.collection) (record (work_at s.work v) { parents = ps; least = Some low }))) (sym added)
+        (subst (λ (o : Option ℕ). Step unasked (state_in s r v) (Command.Parent target) (conditions_of (met_only false)) Reply.Accepted (at r (phase_of s.store.held.collection) (record (work_at s.work v) { parents = s.work.parents ++ n ∷ []; least = o }))) (sym less)
+        (parent_done r (phase_of s.store.held.collection) (work_at s.work v) target n there named new few)));
     lawful = record {
       tree = λ still. l.tree there;
       rooted = λ still. l.rooted there;
@@ -452,21 +454,21 @@ module _ (records : ℕ → Option Record) (s : Session) (r : Repository) (v : V
 
   -- the work was given up
   pub given_answered : (met : Met) (command : Command) (number : ℕ) → met ≡ met_only false → AsksWork command → below r.floor s.work.least ≡ Some number → Said command (record s { met = met }) (Reply.GivenUp number)
-  given_answered met command number e asks is = plainly_answered records s (record s { met = met }) r v command refl refl l (Reply.GivenUp number) e (given_up r (phase_of s.store.collection) (work_at s.work v) number command asks is) (given_seen r v command number)
-      (λ long. absurd (given_is_short s.store r of number (below_is r.floor s.work.least number is) long))
+  given_answered met command number e asks is = plainly_answered records s (record s { met = met }) r v command refl refl l (Reply.GivenUp number) e (given_up r (phase_of s.store.held.collection) (work_at s.work v) number command asks is) (given_seen r v command number)
+      (λ long. absurd (given_is_short s.store.held r of number (below_is r.floor s.work.least number is) long))
 
 -- a command that does nothing with a work that was given up, where this one was
-pub given_read : (tells : Bool) (a : Told) (s : Session) (command : Command) (number : ℕ) → s.met ≡ met_only false → AsksWork command → ((r : Repository) → IsOf s.store r → below r.floor s.work.least ≡ Some number) → HasRead tells a a s s command (Ok (Reply.GivenUp number))
-given_read tells a s command number e asks is = answered_read tells a a s s command (λ r in_it. in_it) (λ told. looks_nowhere a s.store) refl (Reply.GivenUp number)
+pub given_read : (tells : Bool) (a : Told) (s : Session) (command : Command) (number : ℕ) → s.met ≡ met_only false → AsksWork command → ((r : Repository) → IsOf s.store.held r → below r.floor s.work.least ≡ Some number) → HasRead tells a a s s command (Ok (Reply.GivenUp number))
+given_read tells a s command number e asks is = answered_read tells a a s s command (λ r in_it. in_it) (λ told. looks_nowhere a s.store.held) refl (Reply.GivenUp number)
     (λ told r v here. given_answered (image_records here.holds) s r v here.holds.tables here.lawful s.met command number e asks (is r here.holds.tables))
 
 -- and where it was not
-pub not_given : (s : Session) (found : Option ℕ) → found ≡ None → ((r : Repository) → IsOf s.store r → found ≡ below r.floor s.work.least) → (r : Repository) → IsOf s.store r → IsThere r s.work.least
+pub not_given : (s : Session) (found : Option ℕ) → found ≡ None → ((r : Repository) → IsOf s.store.held r → found ≡ below r.floor s.work.least) → (r : Repository) → IsOf s.store.held r → IsThere r s.work.least
 not_given s found none is r of = there_none r s.work.least (sym (is r of) ∙ none)
 
 -- ---- a commit's tree, and what was read of it behind that
 
-module _ (a b : Told) (store now : Store) (looks : OnlyLooks a b store now) (r : Repository) (held : Holds store a r) where
+module _ (a b : Told) (store now : Held) (looks : OnlyLooks a b store now) (r : Repository) (held : Holds store a r) where
   over : image_records (looks.holds r held) ≡ image_records held
   over = looks.records r held (looks.holds r held)
 
@@ -486,26 +488,26 @@ module _ (a b : Told) (store now : Store) (looks : OnlyLooks a b store now) (r :
 
 -- ---- calls of the store in a command
 
-pub kept_in : (s s' : Session) → SameTables s.store s'.store → s'.work.least ≡ s.work.least → s'.work.parents ≡ s.work.parents → (r : Repository) → IsIn s r → IsIn s' r
-kept_in s s' same least parents r is = (same_tables s.store s'.store same r is.0, subst (λ (o : Option ℕ). AreParents r o s'.work.parents) (sym least) (subst (AreParents r s.work.least) (sym parents) is.1))
+pub kept_in : (s s' : Session) → SameTables s.store.held s'.store.held → s'.work.least ≡ s.work.least → s'.work.parents ≡ s.work.parents → (r : Repository) → IsIn s r → IsIn s' r
+kept_in s s' same least parents r is = (same_tables s.store.held s'.store.held same r is.0, subst (λ (o : Option ℕ). AreParents r o s'.work.parents) (sym least) (subst (AreParents r s.work.least) (sym parents) is.1))
 
 -- whatever the work's tree is then
-module _ (tells : Bool) (old new : Told) (s : Session) (store : Store) (same : SameTables s.store store) (looks : IsTrue tells → OnlyLooks old new s.store store) (e : s.met ≡ met_only false) where
+module _ (tells : Bool) (old new : Told) (s : Session) (store : Store) (same : SameTables s.store.held store.held) (looks : IsTrue tells → OnlyLooks old new s.store.held store.held) (e : s.met ≡ met_only false) where
   abbrev after : lazy.Tree → Met → Session
   after tree met = record s { store = store; work = record s.work { tree = tree }; met = met }
 
-  pub set_read : ((r : Repository) → IsOf s.store r → IsThere r s.work.least) → (tree : lazy.Tree) (path : Path) (bytes : Bytes) → (IsTrue tells → (r : Repository) (v : View) (held : Holds s.store old r) → IsView (image_records held) s.work.tree v → IsSet (image_records held) path bytes tree v)
+  pub set_read : ((r : Repository) → IsOf s.store.held r → IsThere r s.work.least) → (tree : lazy.Tree) (path : Path) (bytes : Bytes) → (IsTrue tells → (r : Repository) (v : View) (held : Holds s.store.held old r) → IsView (image_records held) s.work.tree v → IsSet (image_records held) path bytes tree v)
       → HasRead tells old new s (after tree s.met) (Command.Set path bytes) (Ok Reply.Accepted)
   set_read there tree path bytes is = answered_read tells old new s (after tree s.met) (Command.Set path bytes) (kept_in s (after tree s.met) same refl refl) looks same.unswept Reply.Accepted
       (λ told r v here. set_answered (image_records here.holds) s store s.met r v e same.collection here.lawful (there r here.holds.tables) tree path bytes (is told r v here.holds (here.lawful.tree (there r here.holds.tables))))
 
-  pub rm_read : ((r : Repository) → IsOf s.store r → IsThere r s.work.least) → (tree : lazy.Tree) (path : Path) → (IsTrue tells → (r : Repository) (v : View) (held : Holds s.store old r) → IsView (image_records held) s.work.tree v → IsRemoved (image_records held) path tree v true)
+  pub rm_read : ((r : Repository) → IsOf s.store.held r → IsThere r s.work.least) → (tree : lazy.Tree) (path : Path) → (IsTrue tells → (r : Repository) (v : View) (held : Holds s.store.held old r) → IsView (image_records held) s.work.tree v → IsRemoved (image_records held) path tree v true)
       → HasRead tells old new s (after tree s.met) (Command.Rm path) (Ok Reply.Accepted)
   rm_read there tree path is = answered_read tells old new s (after tree s.met) (Command.Rm path) (kept_in s (after tree s.met) same refl refl) looks same.unswept Reply.Accepted
       (λ told r v here. rm_answered (image_records here.holds) s store s.met r v e same.collection here.lawful (there r here.holds.tables) tree path (is told r v here.holds (here.lawful.tree (there r here.holds.tables))))
 
   -- over the same view
-  pub same_read : (tree : lazy.Tree) (command : Command) (reply : Reply) → Refusable command → ((r : Repository) (v : View) → IsOf s.store r → IsViewAfter r v command reply v)
+  pub same_read : (tree : lazy.Tree) (command : Command) (reply : Reply) → Refusable command → ((r : Repository) (v : View) → IsOf s.store.held r → IsViewAfter r v command reply v)
       → (IsTrue tells → (r : Repository) (v : View) (here : IsWorking old s r v) → (IsThere r s.work.least → IsView (image_records here.holds) tree v) × Step unasked (state_in s r v) command (conditions_of (met_only false)) reply (state_in s r v))
       → HasRead tells old new s (after tree s.met) command (Ok reply)
   same_read tree command reply refusable seen does = still_read tells old new s (after tree s.met) command (kept_in s (after tree s.met) same refl refl) looks same.unswept same.collection (λ v. refl) e refusable reply refl seen
@@ -547,49 +549,46 @@ none_there false e = absurd (cc e)
 pub absent_gives : (r : Repository) (phase : Machine.Phase) (w : Machine.Work) (path : Path) → NoneGivenUp r w → false ≡ not (is_empty (subtree w.tree path)) → Step unasked (at r phase w) (Command.Rm path) (conditions_of (met_only false)) Reply.Absent (at r phase w)
 absent_gives r phase w path kept none = rm_absent r phase w kept path (none_there (is_empty (subtree w.tree path)) none)
 
--- the reply is known by another name
-pub reply_as : (tells : Bool) (a b : Told) (s s' : Session) (command : Command) (reply reply' : Reply) → reply ≡ reply' → HasRead tells a b s s' command (Ok reply') → HasRead tells a b s s' command (Ok reply)
-reply_as tells a b s s' command reply reply' e h = subst (λ (x : Reply). HasRead tells a b s s' command (Ok x)) (sym e) h
-
 -- ---- commands that take the tree of a commit
 
-module _ (tells : Bool) (old new : Told) (s : Session) (store : Store) (same : SameTables s.store store) (looks : IsTrue tells → OnlyLooks old new s.store store) (e : s.met ≡ met_only false)
-    (target : Target) (n : ℕ) (named : (r : Repository) → IsOf s.store r → Ok n ≡ resolve r target) (retained : (r : Repository) → IsOf s.store r → IsTrue (is_retained r n)) where
-  abbrev IsReadFor : (r : Repository) → Holds s.store old r → lazy.Tree → Type 0
+module _ (tells : Bool) (old new : Told) (s : Session) (store : Store) (same : SameTables s.store.held store.held) (looks : IsTrue tells → OnlyLooks old new s.store.held store.held) (e : s.met ≡ met_only false)
+    (target : Target) (n : ℕ) (named : (r : Repository) → IsOf s.store.held r → Ok n ≡ resolve r target) (retained : (r : Repository) → IsOf s.store.held r → IsTrue (is_retained r n)) where
+  abbrev IsReadFor : (r : Repository) → Holds s.store.held old r → lazy.Tree → Type 0
   IsReadFor r held source = IsTreeOf (image_records held) r n source
 
-  pub checkout_read : (tree : lazy.Tree) (parents : List ℕ) (name : Bytes) → parents ≡ n ∷ [] → ((r : Repository) → IsOf store r → IsTrue (is_retained r n) → name ≡ name_at r n) → length name ≡ 32
-      → (IsTrue tells → (r : Repository) (held : Holds s.store old r) → IsTrue (is_retained r n) → IsReadFor r held tree)
+  pub checkout_read : (tree : lazy.Tree) (parents : List ℕ) (name : Bytes) → parents ≡ n ∷ [] → ((r : Repository) → IsOf store.held r → IsTrue (is_retained r n) → name ≡ name_at r n)
+      → (IsTrue tells → (r : Repository) (held : Holds s.store.held old r) → IsTrue (is_retained r n) → IsReadFor r held tree)
       → HasRead tells old new s (record s { store = store; work = record { tree = tree; parents = parents; least = Some n } }) (Command.Checkout target) (Ok (Reply.At name))
-  checkout_read tree parents name one is_name long_name read =
+  checkout_read tree parents name one is_name read =
       let s' : Session = record s { store = store; work = record { tree = tree; parents = parents; least = Some n } } in
-      answered_read tells old new s s' (Command.Checkout target) (λ r is. (same_tables s.store store same r is.0, subst (AreParents r (Some n)) (sym one) (one_parent r n (retained r is.0)))) looks same.unswept (Reply.At name)
+      answered_read tells old new s s' (Command.Checkout target) (λ r is. (same_tables s.store.held store.held same r is.0, subst (AreParents r (Some n)) (sym one) (one_parent r n (retained r is.0)))) looks same.unswept (Reply.At name)
       (λ told r v here.
-      let of : IsOf s.store r = here.holds.tables in
-      checkout_answered (image_records here.holds) s store s.met r v e same.collection here.lawful tree parents target n name one (sym (named r of)) (retained r of)
-      (is_name r (same_tables s.store store same r of) (retained r of)) long_name (read told r here.holds (retained r of)))
+      let of : IsOf s.store.held r = here.holds.tables in
+      let now : IsOf store.held r = same_tables s.store.held store.held same r of in
+      let is : name ≡ name_at r n = is_name r now (retained r of) in
+      checkout_answered (image_records here.holds) s store s.met r v e same.collection here.lawful tree parents target n name one (sym (named r of)) (retained r of) is (subst (λ (h : Bytes). length h ≤ 32) (sym is) (name_size store.held r now n)) (read told r here.holds (retained r of)))
 
-  pub graft_read : ((r : Repository) → IsOf s.store r → IsThere r s.work.least) → (tree source : lazy.Tree) (from to : Path) (low : ℕ) → Some low ≡ least_with s.work.least n
-      → (IsTrue tells → (r : Repository) (held : Holds s.store old r) → IsTrue (is_retained r n) → IsReadFor r held source)
-      → (IsTrue tells → (r : Repository) (v : View) (held : Holds s.store old r) (t : IsReadFor r held source) → IsView (image_records held) s.work.tree v
+  pub graft_read : ((r : Repository) → IsOf s.store.held r → IsThere r s.work.least) → (tree source : lazy.Tree) (from to : Path) (low : ℕ) → Some low ≡ least_with s.work.least n
+      → (IsTrue tells → (r : Repository) (held : Holds s.store.held old r) → IsTrue (is_retained r n) → IsReadFor r held source)
+      → (IsTrue tells → (r : Repository) (v : View) (held : Holds s.store.held old r) (t : IsReadFor r held source) → IsView (image_records held) s.work.tree v
       → IsGrafted (image_records held) from to tree v (stored_view (image_records held) n t.at (tree_at r n)) true)
       → HasRead tells old new s (record s { store = store; work = record s.work { tree = tree; least = Some low } }) (Command.Graft target from to) (Ok Reply.Accepted)
   graft_read there tree source from to low less read grafted =
       let s' : Session = record s { store = store; work = record s.work { tree = tree; least = Some low } } in
-      answered_read tells old new s s' (Command.Graft target from to) (λ r is. (same_tables s.store store same r is.0, less_parents r s.work.least low n s.work.parents less is.1)) looks same.unswept Reply.Accepted
+      answered_read tells old new s s' (Command.Graft target from to) (λ r is. (same_tables s.store.held store.held same r is.0, less_parents r s.work.least low n s.work.parents less is.1)) looks same.unswept Reply.Accepted
       (λ told r v here.
-      let of : IsOf s.store r = here.holds.tables in
+      let of : IsOf s.store.held r = here.holds.tables in
       let t : IsReadFor r here.holds source = read told r here.holds (retained r of) in
       graft_answered (image_records here.holds) s store s.met r v e same.collection here.lawful (there r of) tree target from to n t.at low t.spelled (sym (named r of)) (retained r of) less t.short t.rooted (grafted told r v here.holds t (here.lawful.tree (there r of))))
 
   -- it could not be read
   pub unfetched_read : (met : Met) (command : Command) (fault : StoreFault) (result : Result Reply SessionEnd) → Refusable command → Fails fault s.met met result
-      → (IsTrue tells → (r : Repository) (held : Holds s.store old r) → IsTrue (is_retained r n) → IsFetchedOr (IsReadFor r held) (Err fault)) → HasRead tells old new s (record s { store = store; met = met }) command result
+      → (IsTrue tells → (r : Repository) (held : Holds s.store.held old r) → IsTrue (is_retained r n) → IsFetchedOr (IsReadFor r held) (Err fault)) → HasRead tells old new s (record s { store = store; met = met }) command result
   unfetched_read met command fault result refusable f read = failed_read tells old new s store same looks e s.work.tree met command fault result refusable f
       (λ told r v here. (here.lawful.tree, fetched_refuses (IsReadFor r here.holds) (state_in s r v) command fault (read told r here.holds (retained r here.holds.tables))))
 
-pub unfetched_ends : (s : Session) (old : Told) (n : ℕ) (tells : Bool) (command : Command) (met : Met) (fault : StoreFault) (result : Result Reply SessionEnd) → ((r : Repository) → IsOf s.store r → IsTrue (is_retained r n)) → Fails fault s.met met result
-    → (IsTrue tells → (r : Repository) (held : Holds s.store old r) → IsTrue (is_retained r n) → IsFetchedOr (IsTreeOf (image_records held) r n) (Err fault)) → IfErr result (EndsBy (IsHeld tells old s))
+pub unfetched_ends : (s : Session) (old : Told) (n : ℕ) (tells : Bool) (command : Command) (met : Met) (fault : StoreFault) (result : Result Reply SessionEnd) → ((r : Repository) → IsOf s.store.held r → IsTrue (is_retained r n)) → Fails fault s.met met result
+    → (IsTrue tells → (r : Repository) (held : Holds s.store.held old r) → IsTrue (is_retained r n) → IsFetchedOr (IsTreeOf (image_records held) r n) (Err fault)) → IfErr result (EndsBy (IsHeld tells old s))
 unfetched_ends s old n tells command met fault result retained f read = ends fault command s.met met result (IsHeld tells old s) f
     (λ (told, (r, v, here)). (state_in s r v, fetched_refuses (IsTreeOf (image_records here.holds) r n) (state_in s r v) command fault (read told r here.holds (retained r here.holds.tables))))
 

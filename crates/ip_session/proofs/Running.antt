@@ -1,9 +1,14 @@
 -- A command as the session runs it, by the class that it is of.
---     runs_as      by another name of the command.      by_any_rule      it is no merge, so it does the same by any rule
---     runs_read      it may read records, and changes no file.      runs_within      it asks nothing of the ground
-use Rattle.std.proofs.Common.{◌≡◌, ℕ, Bool, false, sym, subst, Option, Ok, IsTrue}
-use Rattle.std.specs.Prelude.{Result}
+--     ends_more      why it ended, where less is known.      runs_as      by another name of the command.      by_any_rule      it is no merge, so it does the same by any rule
+--     runs_ended      a call of the store cut it short.      runs_read      it may read records, and changes no file
+--     ran_plain      it has to do with no child: ran_within asks nothing of the ground, ran_read may read records, ran_durable may change files.      ran_child      it speaks to one
+use Rattle.std.proofs.Common.{◌≡◌, ℕ, Bool, false, refl, sym, ap, ◌∙◌, subst, Option, Ok, Err, IsTrue}
+use Rattle.std.specs.Prelude.{Result, IfOk, IfErr}
+use Rattle.ip_ground.specs.declared.names.GroundCounts.{GroundCounts}
+use Rattle.ip_ground.specs.Counts.{Counts}
 use Rattle.ip_ground.specs.Told.{Told}
+use Rattle.ip_spawn.specs.Children as spawn
+use Rattle.ip_spawn.specs.declared.spawner.SpawnCounts.{SpawnCounts}
 use Rattle.ip_spec.specs.Merge.{Rule}
 use Rattle.ip_spec.specs.Repository.{Repository}
 use Rattle.ip_spec.specs.View.{View}
@@ -11,21 +16,32 @@ use Rattle.ip_spec.specs.declared.command.Command.{Command}
 use Rattle.ip_spec.specs.declared.record.Record.{Record}
 use Rattle.ip_spec.specs.declared.reply.Reply.{Reply}
 use Rattle.ip_merge.specs.Rules.{IsDecisive}
-use Rattle.ip_store.specs.Store.{IsOf}
-use Rattle.ip_store.specs.Work.{IsLawful}
-use Rattle.ip_store.proofs.Machine.{AsksNone}
+use Rattle.ip_held.specs.declared.held.Held.{Held}
+use Rattle.ip_held.specs.Collecting.{child_of}
+use Rattle.ip_held.specs.Held.{IsOf}
+use Rattle.ip_held.specs.Work.{IsLawful}
+use Rattle.ip_held.proofs.Machine.{AsksNone}
 use Rattle.ip_session.specs.declared.session.Session.{Session}
 use Rattle.ip_session.specs.declared.session.SessionEnd.{SessionEnd}
-use Rattle.ip_session.specs.Asking.{HandlesNone, MayReap}
-use Rattle.ip_session.specs.Running.{Runs}
-use Rattle.ip_session.specs.Session.{unasked, IsIn, IsServing, HasRead, IsAnswered, is_durable, met_only}
+use Rattle.ip_session.specs.Asking.{HandlesNone, MayReap, MeetsNone, TellsNone}
+use Rattle.ip_session.specs.Running.{IsKnown, Runs, Ran}
+use Rattle.ip_session.specs.Session.{unasked, ground_end, EndsBy, IsHeld, IsIn, IsServing, IsWorking, HasRead, IsAnswered, CutBy, is_durable, met_only}
+use Rattle.ip_session.proofs.Asking.{plain_asked, plain_counts, plain_quiet}
 use Rattle.ip_session.proofs.ClearGoes.{read_clear}
 use Rattle.ip_session.proofs.Placing.{read_placed}
 use Rattle.ip_session.proofs.Reading.{within_read}
 use Rattle.ip_session.proofs.ReadGoes.{read_serves, read_goes, read_cut}
 
+pub ends_more : (result : Result Reply SessionEnd) (held more : Type 0) → (more → held) → IfErr result (EndsBy held) → IfErr result (EndsBy more)
+ends_more (Ok reply) held more by ends = tt
+ends_more (Err SessionEnd.Ground) held more by ends = tt
+ends_more (Err (SessionEnd.Damaged at_ names)) held more by ends = λ known. ends (by known)
+
 pub runs_as : (known : Type 0) (rule : Rule) (a b : Told) (s s' : Session) (command command' : Command) (result : Result Reply SessionEnd) → command ≡ command' → Runs known rule a b s s' command' result → Runs known rule a b s s' command result
 runs_as known rule a b s s' command command' result is runs = subst (λ (x : Command). Runs known rule a b s s' x result) (sym is) runs
+
+pub runs_ended : (known : Type 0) (rule : Rule) (a b : Told) (s s' : Session) (command : Command) (end : SessionEnd) → EndsBy (IsKnown known a s) end → (known → (r : Repository) (v : View) → IsWorking a s r v → CutBy rule a b s s' r v command) → Runs known rule a b s s' command (Err end)
+runs_ended known rule a b s s' command end cause cut = record { serving = tt; goes = λ k r v here. tt; placed = λ k r v here. tt; clear = λ k r v here. tt; cut = cut; cause = cause }
 
 abbrev pub IsNoMerge : Command → Type 0
 IsNoMerge (Command.Merge target branch info) = ⊥
@@ -39,6 +55,7 @@ by_any_rule tells rule a b s s' _ result plain runs = record {
   placed = λ known r v here. runs.placed known.0 r v here;
   clear = λ known r v here. runs.clear known.0 r v here;
   cut = λ known r v here. runs.cut known.0 r v here;
+  cause = ends_more result (IsKnown (IsTrue tells) a s) (IsKnown (IsTrue tells × IsDecisive rule) a s) (λ more. (more.0.0, more.1)) runs.cause;
 }
 
 -- a command that has to do with no child asks none, and reaps none
@@ -53,17 +70,58 @@ none_reaps Command.Finish handles may = handles
 none_reaps Command.Cancel handles may = handles
 none_reaps _ handles may = may
 
-module _ (tells : Bool) (rule : Rule) (a b : Told) (s s' : Session) (command command' : Command) (is : command ≡ command') (quiet : is_durable command' ≡ false) (handles : HandlesNone command') (unmet : s.met ≡ met_only false) (serving : IsServing s) where
-  pub runs_read : (result : Result Reply SessionEnd) → HasRead tells a b s s' command' result → Runs (IsTrue tells × IsDecisive rule) rule a b s s' command result
-  runs_read result has = runs_as (IsTrue tells × IsDecisive rule) rule a b s s' command command' result is (record {
-    serving = read_serves tells a b s s' command' result serving has;
-    goes = λ known r v here. read_goes rule tells a b s s' command' known.0 r v here result quiet (asks_of command' handles) has;
-    placed = λ known r v here. read_placed rule tells a b s s' command' known.0 r v here result quiet (none_reaps command' handles) has;
-    clear = λ known r v here. read_clear tells a b s s' command' known.0 r v here result (none_reaps command' handles) has;
-    cut = λ known r v here. read_cut rule tells a b s s' command' known.0 r v here result quiet (asks_of command' handles) unmet has;
+runs_read : (tells : Bool) (rule : Rule) (a b : Told) (s s' : Session) (command : Command) (result : Result Reply SessionEnd) → is_durable command ≡ false → HandlesNone command → s.met ≡ met_only false → IsServing s → HasRead tells a b s s' command result → IfErr result (EndsBy (IsHeld tells a s))
+    → Runs (IsTrue tells × IsDecisive rule) rule a b s s' command result
+runs_read tells rule a b s s' command result quiet handles unmet serving has cause = record {
+  serving = read_serves tells a b s s' command result serving has;
+  goes = λ known r v here. read_goes rule tells a b s s' command known.0 r v here result quiet (asks_of command handles) has;
+  placed = λ known r v here. read_placed rule tells a b s s' command known.0 r v here result quiet (none_reaps command handles) has;
+  clear = λ known r v here. read_clear tells a b s s' command known.0 r v here result (none_reaps command handles) has;
+  cut = λ known r v here. read_cut rule tells a b s s' command known.0 r v here result quiet (asks_of command handles) unmet has;
+  cause = ends_more result (IsHeld tells a s) (IsKnown (IsTrue tells × IsDecisive rule) a s) (λ more. (more.0.0, more.1)) cause;
+}
+
+-- ---- by another name of the command, as the match gives it
+
+abbrev Known : Bool → Rule → Type 0
+Known tells rule = IsTrue tells × IsDecisive rule
+
+module _ {tells : Bool} {rule : Rule} {a b : Told} {p q : GroundCounts} {spawns : Bool} {held : Option ℕ} {x : spawn.Told} {m : SpawnCounts} {s s' : Session} {result : Result Reply SessionEnd} (command command' : Command) (is : command ≡ command') where
+  -- it has to do with no child
+  pub ran_plain : HandlesNone command' → held ≡ child_of s.store.held.collection → Runs (Known tells rule) rule a b s s' command' result → IfOk result TellsNone → MeetsNone s'.met → s'.store.held.collection ≡ s.store.held.collection → Counts ground_end result p q
+      → Ran (Known tells rule) rule a b p q spawns held x x m m s s' command result
+  ran_plain handles child runs none meets same counts = subst (λ (k : Command). Ran (Known tells rule) rule a b p q spawns held x x m m s s' k result) (sym is) (record {
+    runs = runs;
+    child = child ∙ sym (ap child_of same);
+    asked = plain_asked spawns x s s' command' result m none meets same;
+    quiet = plain_quiet result s'.met p q none meets counts;
+    counts = plain_counts command' result s'.met p q handles counts;
   })
 
-module _ (tells : Bool) (rule : Rule) (a : Told) (s s' : Session) (command command' : Command) (is : command ≡ command') (quiet : is_durable command' ≡ false) (handles : HandlesNone command') (unmet : s.met ≡ met_only false) (serving : IsServing s) where
-  pub runs_within : (reply : Reply) → ((r : Repository) → IsIn s r → IsIn s' r) → s'.store ≡ s.store
-      → ((records : ℕ → Option Record) (r : Repository) (v : View) → IsOf s.store r → IsLawful records r s.work v → IsAnswered records s s' r v command' reply) → Runs (IsTrue tells × IsDecisive rule) rule a a s s' command (Ok reply)
-  runs_within reply tables same answered = runs_read tells rule a a s s' command command' is quiet handles unmet serving (Ok reply) (within_read tells a s s' command' reply tables same answered)
+  pub ran_durable : HandlesNone command' → IsNoMerge command' → held ≡ child_of s.store.held.collection → Runs (IsTrue tells) unasked a b s s' command' result → IfOk result TellsNone → MeetsNone s'.met → s'.store.held.collection ≡ s.store.held.collection → Counts ground_end result p q
+      → Ran (Known tells rule) rule a b p q spawns held x x m m s s' command result
+  ran_durable handles plain child runs none meets same counts = ran_plain handles child (by_any_rule tells rule a b s s' command' result plain runs) none meets same counts
+
+  pub ran_read : HandlesNone command' → is_durable command' ≡ false → s.met ≡ met_only false → IsServing s → held ≡ child_of s.store.held.collection → HasRead tells a b s s' command' result → IfErr result (EndsBy (IsHeld tells a s)) → IfOk result TellsNone → MeetsNone s'.met
+      → s'.store.held.collection ≡ s.store.held.collection → Counts ground_end result p q → Ran (Known tells rule) rule a b p q spawns held x x m m s s' command result
+  ran_read handles quiet unmet serving child has cause none meets same counts = ran_plain handles child (runs_read tells rule a b s s' command' result quiet handles unmet serving has cause) none meets same counts
+
+-- it speaks to one
+pub ran_child : {tells : Bool} {rule : Rule} {a b : Told} {p q : GroundCounts} {spawns : Bool} {held : Option ℕ} {x y : spawn.Told} {m n : SpawnCounts} {s s' : Session} {result : Result Reply SessionEnd} (command command' : Command) → command ≡ command' → IsNoMerge command'
+    → Ran (IsTrue tells) unasked a b p q spawns held x y m n s s' command' result → Ran (Known tells rule) rule a b p q spawns held x y m n s s' command result
+ran_child {tells = tells} {rule = rule} {a = a} {b = b} {p = p} {q = q} {spawns = spawns} {held = held} {x = x} {y = y} {m = m} {n = n} {s = s} {s' = s'} {result = result} command command' is plain ran =
+    subst (λ (k : Command). Ran (Known tells rule) rule a b p q spawns held x y m n s s' k result) (sym is) (record {
+      runs = by_any_rule tells rule a b s s' command' result plain ran.runs;
+      child = ran.child;
+      asked = ran.asked;
+      quiet = ran.quiet;
+      counts = ran.counts;
+    })
+
+-- it asks nothing of the ground
+pub ran_within : {tells : Bool} {rule : Rule} {a : Told} {p : GroundCounts} {spawns : Bool} {held : Option ℕ} {x : spawn.Told} {m : SpawnCounts} {s s' : Session} (command command' : Command) (reply : Reply) → command ≡ command' → HandlesNone command' → is_durable command' ≡ false → s.met ≡ met_only false → IsServing s
+    → held ≡ child_of s.store.held.collection → ((r : Repository) → IsIn s r → IsIn s' r) → s'.store.held ≡ s.store.held
+    → ((records : ℕ → Option Record) (r : Repository) (v : View) → IsOf s.store.held r → IsLawful records r s.work v → IsAnswered records s s' r v command' reply) → TellsNone reply → MeetsNone s'.met
+    → Ran (Known tells rule) rule a a p p spawns held x x m m s s' command (Ok reply)
+ran_within {tells = tells} {a = a} {s = s} {s' = s'} command command' reply is handles quiet unmet serving child tables same answered none meets =
+    ran_read command command' is handles quiet unmet serving child (within_read tells a s s' command' reply tables same answered) tt none meets (ap (λ (k : Held). k.collection) same) refl

@@ -8,7 +8,7 @@ use Rattle.ip_spec.specs.declared.reply.Reply.{Reply}
 use Rattle.ip_spec.specs.Repository.{Repository}
 use Rattle.ip_spec.specs.Step.{resolve}
 use Rattle.ip_spec.specs.View.{View}
-use Rattle.ip_store.specs.Views.{IsViewAfter}
+use Rattle.ip_held.specs.Views.{IsViewAfter}
 use Rattle.ip_session.proofs.Referring.{IsUnnamed, NamesNone, names_none}
 
 pub memory_seen : (r : Repository) (v : View) (command : Command) → IsViewAfter r v command Reply.Memory v

@@ -24,7 +24,7 @@ use Rattle.ip_spec.specs.View.{View}
 use Rattle.ip_merge.specs.Rules.{IsDecisive}
 use Rattle.ip_session.specs.declared.session.Session.{Session}
 use Rattle.ip_session.specs.declared.session.SessionEnd.{SessionEnd}
-use Rattle.ip_store.specs.Views.{IsViewAfter}
+use Rattle.ip_held.specs.Views.{IsViewAfter}
 use Rattle.ip_session.specs.Asking.{QuietIfLong, Spawns}
 use Rattle.ip_session.specs.Clearing.{ClearIn}
 use Rattle.ip_session.specs.Session.{CountsIn, IsWorking, state_in, met_only, conditions_of, IsLong, Writes, OnlyBy, OnlyIn, IsViewIn, Goes, GoesBy, GoesIn, CutBy, CutIn}
@@ -72,7 +72,7 @@ lined rule a b s s' met r v command line reply served one h = record {
   settled = h.settled;
   is_at = h.is_at;
   seen = record { command = λ other spelled. subst (λ (c : Command). IsViewAfter r v c reply h.view) (sym (one other spelled)) h.seen; none = λ none. absurd (none command served) };
-  only = record { command = λ other spelled. subst (λ (c : Command). OnlyBy s.store a b c reply) (sym (one other spelled)) h.only; none = λ none. absurd (none command served) };
+  only = record { command = λ other spelled. subst (λ (c : Command). OnlyBy s.store.held a b c reply) (sym (one other spelled)) h.only; none = λ none. absurd (none command served) };
   files = h.files;
   said = h.said;
   space = h.space;
@@ -95,11 +95,11 @@ lined_cut rule a b s s' met r v command line (Err end) served h = record { reply
 -- a line that is no command
 pub bad_goes : (rule : Rule) (a : Told) (s : Session) (met : Met) (r : Repository) (v : View) (here : IsWorking a s r v) (line : Bytes) (place : ℕ) → met ≡ met_only false → IsBadAt IsLineOf line place → length line < 2 ^ 64
     → GoesIn rule a a s (record s { met = met }) r v line (Reply.Bad place)
-bad_goes rule a s met r v here line place e bad small = still_goes a s met r v here (OnlyIn s.store a a line) (LineStep IsLineOf rule (state_in s r v) line) (IsViewIn r v line) (Reply.Bad place) (ap (λ (m : Met). m.child) e)
+bad_goes rule a s met r v here line place e bad small = still_goes a s met r v here (OnlyIn s.store.held a a line) (LineStep IsLineOf rule (state_in s r v) line) (IsViewIn r v line) (Reply.Bad place) (ap (λ (m : Met). m.child) e)
     (subst (λ (m : Met). LineStep IsLineOf rule (state_in s r v) line (conditions_of m) (Reply.Bad place) (state_in s r v)) (sym e) (bad_line rule (state_in s r v) line place bad))
     (record { command = λ command served. bad_seen r v command place; none = λ none. refl })
     (λ long. absurd (bad_is_short place line bad.in_line small long))
-    (nothing_only s.store a a line (Reply.Bad place) (only_nowhere a NoFile))
+    (nothing_only s.store.held a a line (Reply.Bad place) (only_nowhere a NoFile))
 
 refused_in : (r : Repository) (v : View) (line : Bytes) → IsViewIn r v line Reply.Memory v
 refused_in r v line = record { command = λ command served. memory_seen r v command; none = λ none. refl }
@@ -109,11 +109,11 @@ pub refused_goes : (rule : Rule) (a : Told) (s : Session) (met : Met) (r : Repos
     → LineStep IsLineOf rule (state_in s r v) line (conditions_of (met_only true)) Reply.Memory (state_in s r v)
     → GoesIn rule a a s (record s { met = met }) r v line reply
 refused_goes rule a s met r v here line reply e is_memory gives = subst (GoesIn rule a a s (record s { met = met }) r v line) (sym is_memory)
-    (still_goes a s met r v here (OnlyIn s.store a a line) (LineStep IsLineOf rule (state_in s r v) line) (IsViewIn r v line) Reply.Memory (ap (λ (m : Met). m.child) e)
+    (still_goes a s met r v here (OnlyIn s.store.held a a line) (LineStep IsLineOf rule (state_in s r v) line) (IsViewIn r v line) Reply.Memory (ap (λ (m : Met). m.child) e)
     (subst (λ (m : Met). LineStep IsLineOf rule (state_in s r v) line (conditions_of m) Reply.Memory (state_in s r v)) (sym e) gives)
     (refused_in r v line)
     (λ long. gives)
-    (nothing_only s.store a a line Reply.Memory (only_nowhere a NoFile)))
+    (nothing_only s.store.held a a line Reply.Memory (only_nowhere a NoFile)))
 
 -- ---- texts
 
@@ -144,7 +144,7 @@ abbrev Tells : (tells : Bool) (rule : Rule) (a b : Told) (s s' : Session) (line 
 Tells tells rule a b s s' line reply = IsTrue tells → IsDecisive rule → (r : Repository) (v : View) → IsWorking a s r v → GoesIn rule a b s s' r v line reply
 
 abbrev Places : (tells : Bool) (rule : Rule) (a : Told) (s s' : Session) (line : Bytes) (reply : Reply) → Type 0
-Places tells rule a s s' line reply = IsTrue tells → IsDecisive rule → (r : Repository) (v : View) → IsWorking a s r v → PlacedIn rule s.store.slot s.store.unswept s'.store.slot (state_in s r v) v line reply
+Places tells rule a s s' line reply = IsTrue tells → IsDecisive rule → (r : Repository) (v : View) → IsWorking a s r v → PlacedIn rule s.store.held.slot s.store.held.unswept s'.store.held.slot (state_in s r v) v line reply
 
 abbrev Clears : (tells : Bool) (rule : Rule) (a b : Told) (s s' : Session) (line : Bytes) (reply : Reply) → Type 0
 Clears tells rule a b s s' line reply = IsTrue tells → IsDecisive rule → (r : Repository) (v : View) → IsWorking a s r v → ClearIn a b s s' line reply
@@ -152,7 +152,7 @@ Clears tells rule a b s s' line reply = IsTrue tells → IsDecisive rule → (r 
 -- what was written of its reply
 module _ (tells : Bool) (rule : Rule) (a b : Told) (s s' : Session) (met : Met) (line : Bytes) (reply : Reply) where
   abbrev Written : Reply → Type 0
-  Written written = IsTrue tells → IsDecisive rule → (r : Repository) (v : View) → IsWorking a s r v → GoesIn rule a b s (record s' { met = met }) r v line written × PlacedIn rule s.store.slot s.store.unswept s'.store.slot (state_in s r v) v line written × ClearIn a b s (record s' { met = met }) line written
+  Written written = IsTrue tells → IsDecisive rule → (r : Repository) (v : View) → IsWorking a s r v → GoesIn rule a b s (record s' { met = met }) r v line written × PlacedIn rule s.store.held.slot s.store.held.unswept s'.store.held.slot (state_in s r v) v line written × ClearIn a b s (record s' { met = met }) line written
 
   whole_goes : met ≡ s'.met → Tells tells rule a b s s' line reply → Places tells rule a s s' line reply → Clears tells rule a b s s' line reply → Written reply
   whole_goes is goes placed clears told decisive r v here = (
@@ -164,8 +164,8 @@ module _ (tells : Bool) (rule : Rule) (a b : Told) (s s' : Session) (met : Met) 
   memory_goes : IsLong reply → met ≡ met_only true → Tells tells rule a b s s' line reply → Clears tells rule a b s s' line reply → Written Reply.Memory
   memory_goes long is goes clears told decisive r v here =
       let went = goes told decisive r v here in (
-        memory_instead a b s s' met r v (OnlyIn s.store a b line) (LineStep IsLineOf rule (state_in s r v) line) (IsViewIn r v line) reply went long is (refused_in r v line) (nothing_only s.store a b line Reply.Memory),
-        quiet_placed rule s.store.slot s.store.unswept s'.store.slot (state_in s r v) v line Reply.Memory (λ command h. h) (λ command h. h) (λ l is. absurd (cc is)) tt (still_slot s.store s'.store r went.after a b here.holds went.is_at.holds (went.still long)),
+        memory_instead a b s s' met r v (OnlyIn s.store.held a b line) (LineStep IsLineOf rule (state_in s r v) line) (IsViewIn r v line) reply went long is (refused_in r v line) (nothing_only s.store.held a b line Reply.Memory),
+        quiet_placed rule s.store.held.slot s.store.held.unswept s'.store.held.slot (state_in s r v) v line Reply.Memory (λ command h. h) (λ command h. h) (λ l is. absurd (cc is)) tt (still_slot s.store.held s'.store.held r went.after a b here.holds went.is_at.holds (went.still long)),
         quiet_clear a b s (record s' { met = met }) line Reply.Memory (λ h. h) (clears told decisive r v here).keeps,
       )
 

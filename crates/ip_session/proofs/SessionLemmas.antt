@@ -38,12 +38,12 @@ use Rattle.ip_spec.specs.Script.{LineStep}
 use Rattle.ip_spec.specs.Record.{Hash}
 use Rattle.ip_spec.specs.Text.{reply_text, hex_text, produced_text, seen_text}
 use Rattle.ip_spec.specs.View.{View}
-use Rattle.ip_store.specs.Store.{IsOf}
-use Rattle.ip_store.specs.declared.collection.Collection.{Collection}
-use Rattle.ip_store.specs.declared.store.Store.{Store}
-use Rattle.ip_store.specs.Collecting.{IsPhaseOf, phase_of}
-use Rattle.ip_store.proofs.Machine.{AsksNone, asks_none, unkept}
-use Rattle.ip_store.proofs.Phases.{retained_is}
+use Rattle.ip_held.specs.Held.{IsOf}
+use Rattle.ip_held.specs.declared.collection.Collection.{Collection}
+use Rattle.ip_held.specs.declared.held.Held.{Held}
+use Rattle.ip_held.specs.Collecting.{IsPhaseOf, phase_of}
+use Rattle.ip_held.proofs.Machine.{AsksNone, asks_none, unkept}
+use Rattle.ip_held.proofs.Phases.{retained_is}
 use Rattle.ip_session.specs.declared.session.Session.{Session}
 use Rattle.ip_session.specs.declared.session.TheConstants.{REPLY_ROOM}
 use Rattle.ip_session.specs.Session.{unasked, met_only, conditions_of, IsLong, IsJudgedIn, IsSettledIn}
@@ -295,12 +295,12 @@ pub hex_long : (bytes : Bytes) → length (hex_text bytes) ≡ 2 * length bytes
 hex_long [] = refl
 hex_long (b ∷ bytes) = let h = hex_long bytes in omega (arith, h)
 
-pub at_is_short : (name : Hash) → length name ≡ 32 → IsLong (Reply.At name) → ⊥
+pub at_is_short : (name : Hash) → length name ≤ 32 → IsLong (Reply.At name) → ⊥
 unfolding reply_text
 at_is_short name long_name long =
     omega (arith, long, long_name, hex_long name, length-append (codes "at" ++ space ∷ hex_text name) (10 ∷ []), length-append (codes "at") (space ∷ hex_text name))
 
-pub started_is_short : (name : Hash) → length name ≡ 32 → IsLong (Reply.Started name) → ⊥
+pub started_is_short : (name : Hash) → length name ≤ 32 → IsLong (Reply.Started name) → ⊥
 unfolding reply_text
 started_is_short name long_name long =
     omega (arith, long, long_name, hex_long name, length-append (codes "started" ++ space ∷ hex_text name) (10 ∷ []), length-append (codes "started") (space ∷ hex_text name))
@@ -404,7 +404,7 @@ bad_is_short place line inside small long =
     omega (arith, long, digits, length-append (codes "bad" ++ space ∷ decimal place) (10 ∷ []), length-append (codes "bad") (space ∷ decimal place))
 
 -- the numbers of a store are below 2 ^ 62, and there are few branches
-stat_idle_short : (store : Store) (r : Repository) → IsOf store r → IsLong (Reply.Stat r.floor (next r) (len r.branches) None) → ⊥
+stat_idle_short : (store : Held) (r : Repository) → IsOf store r → IsLong (Reply.Stat r.floor (next r) (len r.branches) None) → ⊥
 unfolding reply_text
 stat_idle_short store r is long =
     let next_high : next r < 10 ^ 20 = omega (arith, is.next, is.slot.next, is.slot.ends) in
@@ -418,7 +418,7 @@ stat_idle_short store r is long =
     let words : Bytes = decimal r.floor ++ space ∷ middle in
     omega (arith, long, a, b, c, length-append (decimal (len r.branches)) (space ∷ codes "idle"), length-append (decimal (next r)) (space ∷ last), length-append (decimal r.floor) (space ∷ middle), length-append words (10 ∷ []))
 
-stat_at_short : (store : Store) (r : Repository) (commit : ℕ) → IsOf store r → commit < next r → IsLong (Reply.Stat r.floor (next r) (len r.branches) (Some commit)) → ⊥
+stat_at_short : (store : Held) (r : Repository) (commit : ℕ) → IsOf store r → commit < next r → IsLong (Reply.Stat r.floor (next r) (len r.branches) (Some commit)) → ⊥
 unfolding reply_text
 stat_at_short store r commit is below long =
     let next_high : next r < 10 ^ 20 = omega (arith, is.next, is.slot.next, is.slot.ends) in
@@ -434,7 +434,7 @@ stat_at_short store r commit is below long =
     let words : Bytes = decimal r.floor ++ space ∷ middle in
     omega (arith, long, a, b, c, d, length-append (codes "at") (space ∷ decimal commit), length-append (decimal (len r.branches)) (space ∷ number), length-append (decimal (next r)) (space ∷ last), length-append (decimal r.floor) (space ∷ middle), length-append words (10 ∷ []))
 
-pub stat_is_short : (store : Store) (r : Repository) → IsOf store r → IsLong (stat_of r (phase_of store.collection)) → ⊥
+pub stat_is_short : (store : Held) (r : Repository) → IsOf store r → IsLong (stat_of r (phase_of store.collection)) → ⊥
 stat_is_short store r is = by store.collection is.phase
   where
     by : (o : Option Collection) → IsPhaseOf store.slot r o → IsLong (stat_of r (phase_of o)) → ⊥
@@ -442,7 +442,7 @@ stat_is_short store r is = by store.collection is.phase
     by (Some c) phase = stat_at_short store r c.commit is (retained_is r c.commit phase.retained).1
 
 -- of a number that the store has, as that of a commit that was given up
-pub given_is_short : (store : Store) (r : Repository) → IsOf store r → (number : ℕ) → number < r.floor → IsLong (Reply.GivenUp number) → ⊥
+pub given_is_short : (store : Held) (r : Repository) → IsOf store r → (number : ℕ) → number < r.floor → IsLong (Reply.GivenUp number) → ⊥
 unfolding reply_text
 given_is_short store r is number below long =
     let high : number < 10 ^ 20 = omega (arith, below, is.floor, is.slot.floor, is.slot.next, is.slot.ends) in

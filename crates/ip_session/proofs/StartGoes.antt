@@ -22,21 +22,21 @@ use Rattle.ip_spec.specs.View.{View}
 use Rattle.ip_image.specs.declared.slot.Slot.{Slot}
 use Rattle.ip_image.specs.Appending.{bytes_of_records}
 use Rattle.ip_image.proofs.Renaming.{spelled_is}
-use Rattle.ip_store.specs.declared.collection.Collection.{Collection}
-use Rattle.ip_store.specs.declared.collection.Unswept.{Unswept}
-use Rattle.ip_store.specs.declared.starting.CollectFault.{CollectFault}
-use Rattle.ip_store.specs.declared.store.Store.{Store}
-use Rattle.ip_store.specs.Collecting.{phase_of, carried, IsPhaseOf}
-use Rattle.ip_store.specs.Commits as commits
-use Rattle.ip_store.specs.Publishing.{MayChange}
-use Rattle.ip_store.specs.Starting.{table_of, branch_name_at, Replies, met_by_start, AnswersStart, IsBegun, IsTurnedDown, LimitsStart, begun_slot, Begins, StartsCollection}
-use Rattle.ip_store.specs.Store.{IsOf, Holds, image_records}
-use Rattle.ip_store.specs.Trees.{RecordsStay}
-use Rattle.ip_store.specs.Views.{IsViewAfter}
-use Rattle.ip_store.specs.Work.{AreParents, work_at}
-use Rattle.ip_store.proofs.Apart.{for_more}
-use Rattle.ip_store.proofs.Stepping.{in_itself, same_holds, stays_still}
-use Rattle.ip_store.proofs.Works.{works_stay}
+use Rattle.ip_held.specs.declared.collection.Collection.{Collection}
+use Rattle.ip_held.specs.declared.collection.Unswept.{Unswept}
+use Rattle.ip_collects.specs.declared.starting.CollectFault.{CollectFault}
+use Rattle.ip_held.specs.declared.held.Held.{Held}
+use Rattle.ip_held.specs.Collecting.{phase_of, carried, IsPhaseOf}
+use Rattle.ip_held.specs.Answers as commits
+use Rattle.ip_publish.specs.Publishing.{MayChange}
+use Rattle.ip_held.specs.TableRecord.{table_of}
+use Rattle.ip_collects.specs.Starting.{branch_name_at, Replies, met_by_start, AnswersStart, IsBegun, IsTurnedDown, LimitsStart, begun_slot, Begins, StartsCollection}
+use Rattle.ip_held.specs.Held.{IsOf, Holds, image_records}
+use Rattle.ip_held.specs.Trees.{RecordsStay}
+use Rattle.ip_held.specs.Views.{IsViewAfter}
+use Rattle.ip_held.specs.Work.{AreParents, work_at}
+use Rattle.ip_held.proofs.Apart.{for_more}
+use Rattle.ip_held.proofs.Works.{works_stay}
 use Rattle.ip_session.specs.declared.session.Session.{Session}
 use Rattle.ip_session.specs.declared.session.SessionEnd.{SessionEnd}
 use Rattle.ip_session.specs.Placing.{HasCollected, PlacedBy, AttemptsLeft}
@@ -48,6 +48,7 @@ use Rattle.ip_session.proofs.Placing.{unmoved}
 use Rattle.ip_session.proofs.Referring.{IsUnnamed, NamesNone, names_none}
 use Rattle.ip_session.proofs.SessionGoes.{still_goes}
 use Rattle.ip_session.proofs.SessionLemmas.{at, plainly, heard_none, unjudged, unsettled, collect_refused, started_is_short, start_fault_is_short}
+use Rattle.ip_store.specs.declared.store.Store.{Store}
 
 -- with want of memory the next state is what is kept, and else the machine's answer
 pub chosen : {A B : Type 0} (b : Bool) (x y : A × B) (reply : A) (next : B) → (if b then x else y) ≡ (reply, next) → MatchBool b ((reply ≡ x.0) × (next ≡ x.1)) ((reply, next) ≡ y)
@@ -145,17 +146,17 @@ module _ (a : Told) (s : Session) (r : Repository) (v : View) (here : IsWorking 
   quietly reply = GoesBy unasked a a s s r v (Command.Collect target) reply
 
   quiet_goes : (reply : Reply) → s.met ≡ met_only false → Step unasked (state_in s r v) (Command.Collect target) (conditions_of (met_only false)) reply (state_in s r v) → quietly reply
-  quiet_goes reply e step = still_goes a s s.met r v here (OnlyBy s.store a a (Command.Collect target)) (Step unasked (state_in s r v) (Command.Collect target)) (IsViewAfter r v (Command.Collect target)) reply (ap (λ (m : Met). m.child) e)
+  quiet_goes reply e step = still_goes a s s.met r v here (OnlyBy s.store.held a a (Command.Collect target)) (Step unasked (state_in s r v) (Command.Collect target)) (IsViewAfter r v (Command.Collect target)) reply (ap (λ (m : Met). m.child) e)
       (subst (λ (m : Met). Step unasked (state_in s r v) (Command.Collect target) (conditions_of m) reply (state_in s r v)) (sym e) step)
       refl
-      (λ long. collect_refused target r (phase_of s.store.collection) (work_at s.work v))
-      (nothing_by false (Some s.store.slot.next_attempt) (ChangedBy s.store a.held (Command.Collect target) reply) a a (only_nowhere a NoFile))
+      (λ long. collect_refused target r (phase_of s.store.held.collection) (work_at s.work v))
+      (nothing_by false (Some s.store.held.slot.next_attempt) (ChangedBy s.store.held a.held (Command.Collect target) reply) a a (only_nowhere a NoFile))
 
-  pub busy_goes : (n : ℕ) → s.met ≡ met_only false → phase_at (phase_of s.store.collection) ≡ Some n → quietly (Reply.Busy (name_at r n))
-  busy_goes n e running = quiet_goes (Reply.Busy (name_at r n)) e (busy_step r (phase_of s.store.collection) (work_at s.work v) target n running)
+  pub busy_goes : (n : ℕ) → s.met ≡ met_only false → phase_at (phase_of s.store.held.collection) ≡ Some n → quietly (Reply.Busy (name_at r n))
+  busy_goes n e running = quiet_goes (Reply.Busy (name_at r n)) e (busy_step r (phase_of s.store.held.collection) (work_at s.work v) target n running)
 
-  pub unnamed_start : (reply : Reply) → s.met ≡ met_only false → phase_at (phase_of s.store.collection) ≡ None → resolve r target ≡ Err reply → quietly reply
-  unnamed_start reply e idle none = quiet_goes reply e (unnamed_step r (phase_of s.store.collection) (work_at s.work v) target reply idle none)
+  pub unnamed_start : (reply : Reply) → s.met ≡ met_only false → phase_at (phase_of s.store.held.collection) ≡ None → resolve r target ≡ Err reply → quietly reply
+  unnamed_start reply e idle none = quiet_goes reply e (unnamed_step r (phase_of s.store.held.collection) (work_at s.work v) target reply idle none)
 
 pub busy_placed : (slot : Slot) (u : Unswept) (s : State) (v : View) (target : Target) (name : Hash) → PlacedBy unasked slot u slot s v (Command.Collect target) (Reply.Busy name)
 busy_placed slot u s v target name = unmoved slot u slot s v (Command.Collect target) (Reply.Busy name) unasked (λ h. h) (λ h. h) (λ l is. absurd (cc is)) (λ t is. tt) refl
@@ -181,14 +182,14 @@ module _ (a b : Told) (s : Session) (store : Store) (r : Repository) (v : View) 
   Went met = GoesBy unasked a b s (after_it met) r v command
 
   abbrev Answers : Reply → Type 0
-  Answers reply = AnswersStart r number s.store.collection store reply
+  Answers reply = AnswersStart r number s.store.held.collection store.met store.held reply
 
   gives : (reply : Reply) → Answers reply → Step unasked (state_in s r v) command (conditions_of store.met) reply (state_in (after_it store.met) r v)
   gives reply A = step_turned (state_in s r v) command store.met reply (state_in (after_it store.met) r v) tt ((A target named).turns (work_at s.work v))
 
   -- the attempt was drawn
-  begun_goes : (begun : Result Hash CollectFault) (reply : Reply) → IsBegun begun → IsDurable reply command → ¬ IsLong reply → Answers reply → StartsCollection r s.store.slot.next_attempt begun store a b
-      → ((q : Repository) (now : Holds store b q) → RecordsStay (image_records here.holds) (image_records now)) → Went store.met reply
+  begun_goes : (begun : Result Hash CollectFault) (reply : Reply) → IsBegun begun → IsDurable reply command → ¬ IsLong reply → Answers reply → StartsCollection r s.store.held.slot.next_attempt begun store.held a b
+      → ((q : Repository) (now : Holds store.held b q) → RecordsStay (image_records here.holds) (image_records now)) → Went store.met reply
   begun_goes begun reply is done short A M stay =
       let holds = M.holds is in
       record {
@@ -196,11 +197,11 @@ module _ (a b : Told) (s : Session) (store : Store) (r : Repository) (v : View) 
         view = v;
         difference = None;
         gives = gives reply A;
-        judged = unjudged a b s (after_it store.met) r v (heard_none (phase_of s.store.collection) command tt store.met.child (gives reply A).0.child);
-        settled = unsettled b s (after_it store.met) reply (heard_none (phase_of s.store.collection) command tt store.met.child (gives reply A).0.child);
+        judged = unjudged a b s (after_it store.met) r v (heard_none (phase_of s.store.held.collection) command tt store.met.child (gives reply A).0.child);
+        settled = unsettled b s (after_it store.met) reply (heard_none (phase_of s.store.held.collection) command tt store.met.child (gives reply A).0.child);
         is_at = record { holds = holds; lawful = works_stay (image_records here.holds) (image_records holds) r r s.work v here.lawful (λ there. stay r holds) (omega arith) here.lawful.parents };
         seen = refl;
-        only = for_more s.store.slot.next_attempt (MayChange a.held) (ChangedBy s.store a.held command reply) a b (λ file may. (done, may)) M.only;
+        only = for_more s.store.held.slot.next_attempt (MayChange a.held) (ChangedBy s.store.held a.held command reply) a b (λ file may. (done, may)) M.only;
         files = M.files;
         said = M.only.said;
         space = λ order none slot live. M.space order slot live;
@@ -211,82 +212,77 @@ module _ (a b : Told) (s : Session) (store : Store) (r : Repository) (v : View) 
       }
 
   -- it was turned down
-  module _ (met : Met) (same : b ≡ a) (is : store ≡ record s.store { met = met }) where
-    abbrev met_alone : Store
-    met_alone = record s.store { met = met }
-
-    holds_alone : Holds met_alone a r
-    holds_alone = same_holds s.store met_alone (in_itself s.store met) refl r a here.holds
+  module _ (same : b ≡ a) (is : store.held ≡ s.store.held) where
+    -- the store that notes what was met
+    abbrev noting : Held → Store
+    noting held = record { held = held; met = store.met }
 
     down : (now : Met) (reply : Reply) → Step unasked (state_in s r v) command (conditions_of now) reply (state_in s r v) → Went now reply
     down now reply step =
-        subst (λ (t : Told). GoesBy unasked a t s (after_it now) r v command reply) (sym same) (subst (λ (x : Store). GoesBy unasked a a s (record s { store = x; met = now }) r v command reply) (sym is) quiet)
+        subst (λ (t : Told). GoesBy unasked a t s (after_it now) r v command reply) (sym same) (subst (λ (x : Held). GoesBy unasked a a s (record s { store = noting x; met = now }) r v command reply) (sym is) quiet)
       where
-        quiet : GoesBy unasked a a s (record s { store = met_alone; met = now }) r v command reply
+        quiet : GoesBy unasked a a s (record s { store = noting s.store.held; met = now }) r v command reply
         quiet = record {
           after = r;
           view = v;
           difference = None;
           gives = step;
-          judged = unjudged a a s (record s { store = met_alone; met = now }) r v (heard_none (phase_of s.store.collection) command tt now.child step.0.child);
-          settled = unsettled a s (record s { store = met_alone; met = now }) reply (heard_none (phase_of s.store.collection) command tt now.child step.0.child);
-          is_at = record {
-            holds = holds_alone;
-            lawful = works_stay (image_records here.holds) (image_records holds_alone) r r s.work v here.lawful (λ there. stays_still s.store met_alone (in_itself s.store met) r r a here.holds holds_alone) (omega arith) here.lawful.parents;
-          };
+          judged = unjudged a a s (record s { store = noting s.store.held; met = now }) r v (heard_none (phase_of s.store.held.collection) command tt now.child step.0.child);
+          settled = unsettled a s (record s { store = noting s.store.held; met = now }) reply (heard_none (phase_of s.store.held.collection) command tt now.child step.0.child);
+          is_at = here;
           seen = refl;
-          only = nothing_by false (Some s.store.slot.next_attempt) (ChangedBy s.store a.held command reply) a a (only_nowhere a NoFile);
+          only = nothing_by false (Some s.store.held.slot.next_attempt) (ChangedBy s.store.held a.held command reply) a a (only_nowhere a NoFile);
           files = keeps_nothing a a (only_nowhere a NoFile);
           said = (only_nowhere a NoFile).said;
           space = λ order none slot live. nothing_space a a (only_nowhere a NoFile) order slot live;
           atomic = λ order t late le. absurd (omega (arith, late, le));
           nothing_pending = λ order. order;
-          spared = λ long. record { same = refl; seen = refl; refused = collect_refused target r (phase_of s.store.collection) (work_at s.work v) };
+          spared = λ long. record { same = refl; seen = refl; refused = collect_refused target r (phase_of s.store.held.collection) (work_at s.work v) };
           still = λ long. only_nowhere a NoFile;
         }
 
     refused_goes : (reply : Reply) → Answers reply → Went store.met reply
-    refused_goes reply A = down store.met reply (subst (λ (x : Store). Step unasked (state_in s r v) command (conditions_of store.met) reply (state_in (record s { store = x }) r v)) is (gives reply A))
+    refused_goes reply A = down store.met reply (subst (λ (x : Held). Step unasked (state_in s r v) command (conditions_of store.met) reply (state_in (record s { store = noting x }) r v)) is (gives reply A))
 
     memory_goes : Went (met_only true) Reply.Memory
-    memory_goes = down (met_only true) Reply.Memory (collect_refused target r (phase_of s.store.collection) (work_at s.work v))
+    memory_goes = down (met_only true) Reply.Memory (collect_refused target r (phase_of s.store.held.collection) (work_at s.work v))
 
   so_told : (result : Result Reply SessionEnd) (reply : Reply) (met : Met) → result ≡ Ok reply → met ≡ store.met → Went store.met reply → IfOk result (Went met)
   so_told result reply met is e went = subst (λ (x : Result Reply SessionEnd). IfOk x (Went met)) (sym is) (subst (λ (m : Met). Went m reply) (sym e) went)
 
-  pub start_goes : (begun : Result Hash CollectFault) (met : Met) (result : Result Reply SessionEnd) → StartReplies r begun store.met met result → Replies r begun Answers → StartsCollection r s.store.slot.next_attempt begun store a b
-      → (IsBegun begun → (q : Repository) (now : Holds store b q) → RecordsStay (image_records here.holds) (image_records now)) → (IsTurnedDown begun → (b ≡ a) × (store ≡ record s.store { met = met_by_start begun }))
+  pub start_goes : (begun : Result Hash CollectFault) (met : Met) (result : Result Reply SessionEnd) → StartReplies r begun store.met met result → IfOk begun (λ name. length name ≤ 32) → Replies r begun Answers → StartsCollection r s.store.held.slot.next_attempt begun store.held a b
+      → (IsBegun begun → (q : Repository) (now : Holds store.held b q) → RecordsStay (image_records here.holds) (image_records now)) → (IsTurnedDown begun → (b ≡ a) × (store.held ≡ s.store.held))
       → IfOk result (Went met)
-  start_goes (Ok name) met result says A M stay down = so_told result (Reply.Started name) met says.0 says.1 (begun_goes (Ok name) (Reply.Started name) tt tt (started_is_short name says.2) A M (stay tt))
-  start_goes (Err CollectFault.Start) met result says A M stay down = so_told result Reply.StartFault met says.0 says.1 (begun_goes (Err CollectFault.Start) Reply.StartFault tt tt start_fault_is_short A M (stay tt))
-  start_goes (Err (CollectFault.Busy name)) met result says A M stay down = so_told result (Reply.Busy name) met says.0 says.1 (refused_goes commits.met_nothing (down tt).0 (down tt).1 (Reply.Busy name) A)
-  start_goes (Err (CollectFault.Limit limit)) met result says A M stay down = so_told result (Reply.Limit limit) met says.0 says.1 (refused_goes (met_by_start (Err (CollectFault.Limit limit))) (down tt).0 (down tt).1 (Reply.Limit limit) A)
-  start_goes (Err CollectFault.Memory) met result says A M stay down = so_told result Reply.Memory met says.0 says.1 (refused_goes (met_by_start (Err CollectFault.Memory)) (down tt).0 (down tt).1 Reply.Memory A)
-  start_goes (Err CollectFault.Ground) met result says A M stay down = subst (λ (x : Result Reply SessionEnd). IfOk x (Went met)) (sym says.0) tt
-  start_goes (Err (CollectFault.Held place)) met result says A M stay down = both_some (branch_name_at r place) _ _ (IfOk result (Went met)) each says A
+  start_goes (Ok name) met result says size A M stay down = so_told result (Reply.Started name) met says.0 says.1 (begun_goes (Ok name) (Reply.Started name) tt tt (started_is_short name size) A M (stay tt))
+  start_goes (Err CollectFault.Start) met result says size A M stay down = so_told result Reply.StartFault met says.0 says.1 (begun_goes (Err CollectFault.Start) Reply.StartFault tt tt start_fault_is_short A M (stay tt))
+  start_goes (Err (CollectFault.Busy name)) met result says size A M stay down = so_told result (Reply.Busy name) met says.0 says.1 (refused_goes (down tt).0 (down tt).1 (Reply.Busy name) A)
+  start_goes (Err (CollectFault.Limit limit)) met result says size A M stay down = so_told result (Reply.Limit limit) met says.0 says.1 (refused_goes (down tt).0 (down tt).1 (Reply.Limit limit) A)
+  start_goes (Err CollectFault.Memory) met result says size A M stay down = so_told result Reply.Memory met says.0 says.1 (refused_goes (down tt).0 (down tt).1 Reply.Memory A)
+  start_goes (Err CollectFault.Ground) met result says size A M stay down = subst (λ (x : Result Reply SessionEnd). IfOk x (Went met)) (sym says.0) tt
+  start_goes (Err (CollectFault.Held place)) met result says size A M stay down = both_some (branch_name_at r place) _ _ (IfOk result (Went met)) each says A
     where
       each : (name : Bytes) → (reply : Reply) × (result ≡ Ok reply) × HeldReplies name store.met met reply → Answers (Reply.Held name) → IfOk result (Went met)
-      each name (reply, is, inl held) A = so_told result (Reply.Held name) met (is ∙ ap Ok held.0) held.1 (refused_goes commits.met_nothing (down tt).0 (down tt).1 (Reply.Held name) A)
-      each name (reply, is, inr short) A = subst (λ (x : Result Reply SessionEnd). IfOk x (Went met)) (sym (is ∙ ap Ok short.0)) (subst (λ (m : Met). Went m Reply.Memory) (sym short.1) (memory_goes commits.met_nothing (down tt).0 (down tt).1))
+      each name (reply, is, inl held) A = so_told result (Reply.Held name) met (is ∙ ap Ok held.0) held.1 (refused_goes (down tt).0 (down tt).1 (Reply.Held name) A)
+      each name (reply, is, inr short) A = subst (λ (x : Result Reply SessionEnd). IfOk x (Went met)) (sym (is ∙ ap Ok short.0)) (subst (λ (m : Met). Went m Reply.Memory) (sym short.1) (memory_goes (down tt).0 (down tt).1))
 
   -- the machine's answer, where nothing was met
-  cut_so : (met : Met) → met ≡ met_only false → StartsCollection {A = Hash} r s.store.slot.next_attempt (Err CollectFault.Ground) store a b → CutBy unasked a b s (after_it met) r v command
+  cut_so : (met : Met) → met ≡ met_only false → StartsCollection {A = Hash} r s.store.held.slot.next_attempt (Err CollectFault.Ground) store.held a b → CutBy unasked a b s (after_it met) r v command
   cut_so met e M =
       let t = answer (state_in s r v) command (conditions_of (met_only false)) in
       record {
         reply = t.0;
         after = t.1;
         difference = None;
-        gives = subst (λ (m : Met). Step unasked (state_in s r v) command (conditions_of m) t.0 t.1) (sym e) (plainly r (phase_of s.store.collection) (work_at s.work v) command false t.0 tt (λ h. absurd (cc h)), refl);
+        gives = subst (λ (m : Met). Step unasked (state_in s r v) command (conditions_of m) t.0 t.1) (sym e) (plainly r (phase_of s.store.held.collection) (work_at s.work v) command false t.0 tt (λ h. absurd (cc h)), refl);
         judged = unjudged a b s (after_it met) r v (ap (λ (m : Met). m.child) e);
-        only = for_more s.store.slot.next_attempt (MayChange a.held) (TouchedBy s.store a.held command) a b (λ file may. (refl, may)) M.only;
+        only = for_more s.store.held.slot.next_attempt (MayChange a.held) (TouchedBy s.store.held a.held command) a b (λ file may. (refl, may)) M.only;
         files = M.files;
         said = M.only.said;
         space = λ order none slot live. M.space order slot live;
         atomic = λ order moment late le. let at_it = M.recovers order moment late le in record { stands = λ image possible. inl (at_it.stands image possible); flushed = at_it.flushed };
       }
 
-  pub start_cut : (begun : Result Hash CollectFault) (met : Met) (result : Result Reply SessionEnd) → StartReplies r begun store.met met result → Replies r begun Answers → store.met ≡ met_by_start begun → StartsCollection r s.store.slot.next_attempt begun store a b
+  pub start_cut : (begun : Result Hash CollectFault) (met : Met) (result : Result Reply SessionEnd) → StartReplies r begun store.met met result → Replies r begun Answers → store.met ≡ met_by_start begun → StartsCollection r s.store.held.slot.next_attempt begun store.held a b
       → OnErr result (CutBy unasked a b s (after_it met) r v command)
   start_cut begun met result says A is_met M = by begun says is_met M
     where
@@ -299,7 +295,7 @@ module _ (a b : Told) (s : Session) (store : Store) (r : Repository) (v : View) 
       held : (name : Bytes) → (reply : Reply) × (result ≡ Ok reply) × HeldReplies name store.met met reply → (reply : Reply) × (result ≡ Ok reply) × HeldReplies name store.met met reply → Cuts result
       held name (reply, is, how) other = no_end reply is
 
-      by : (begun : Result Hash CollectFault) → StartReplies r begun store.met met result → store.met ≡ met_by_start begun → StartsCollection r s.store.slot.next_attempt begun store a b → Cuts result
+      by : (begun : Result Hash CollectFault) → StartReplies r begun store.met met result → store.met ≡ met_by_start begun → StartsCollection r s.store.held.slot.next_attempt begun store.held a b → Cuts result
       by (Ok name) says is_met M = no_end (Reply.Started name) says.0
       by (Err CollectFault.Start) says is_met M = no_end Reply.StartFault says.0
       by (Err (CollectFault.Busy name)) says is_met M = no_end (Reply.Busy name) says.0
@@ -311,24 +307,24 @@ module _ (a b : Told) (s : Session) (store : Store) (r : Repository) (v : View) 
   -- ---- where the record lies
 
   abbrev At : Reply → Type 0
-  At reply = PlacedBy unasked s.store.slot s.store.unswept store.slot (state_in s r v) v command reply
+  At reply = PlacedBy unasked s.store.held.slot s.store.held.unswept store.held.slot (state_in s r v) v command reply
 
   -- where the table ends
   abbrev ends_at : ℕ
-  ends_at = s.store.slot.end + length (spelling (table_of r))
+  ends_at = s.store.held.slot.end + length (spelling (table_of r))
 
-  table_length : length (spelling (table_of r)) ≡ length (bytes_of_records ((s.store.slot.end, table_of r) ∷ []))
-  table_length = ap length (spelled_is s.store.slot.end (table_of r))
+  table_length : length (spelling (table_of r)) ≡ length (bytes_of_records ((s.store.held.slot.end, table_of r) ∷ []))
+  table_length = ap length (spelled_is s.store.held.slot.end (table_of r))
 
-  drawn_at : (reply : Reply) → IsDurable reply command → ((l : Limit) → reply ≢ Reply.Limit l) → AttemptsLeft s.store.slot reply → Begins r s.store store a b → (ends_at ≤ 2 ^ 62) × (s.store.slot.sequence < 2 ^ 62) → At reply
+  drawn_at : (reply : Reply) → IsDurable reply command → ((l : Limit) → reply ≢ Reply.Limit l) → AttemptsLeft s.store.held.slot reply → Begins r s.store.held store.held a b → (ends_at ≤ 2 ^ 62) × (s.store.held.slot.sequence < 2 ^ 62) → At reply
   drawn_at reply done none left begins enough = record {
     done = λ _. record {
-      more = (s.store.slot.end, table_of r) ∷ [];
+      more = (s.store.held.slot.end, table_of r) ∷ [];
       commits = 0;
       are = (refl, refl);
       so = (
-        begins.slot ∙ ap (begun_slot (carried s.store)) table_length,
-        subst (λ (k : ℕ). s.store.slot.end + k ≤ 2 ^ 62) table_length enough.0,
+        begins.slot ∙ ap (begun_slot (carried s.store.held)) table_length,
+        subst (λ (k : ℕ). s.store.held.slot.end + k ≤ 2 ^ 62) table_length enough.0,
         enough.1,
       );
     };
@@ -340,26 +336,26 @@ module _ (a b : Told) (s : Session) (store : Store) (r : Repository) (v : View) 
     attempt = λ t is. left;
   }
 
-  stays_at : (reply : Reply) → ¬ IsDurable reply command → ¬ HasCollected reply command → ((l : Limit) → reply ≢ Reply.Limit l) → AttemptsLeft s.store.slot reply → store.slot ≡ s.store.slot → At reply
-  stays_at reply not over none left same = unmoved s.store.slot s.store.unswept store.slot (state_in s r v) v command reply unasked not over none (λ t is. left) same
+  stays_at : (reply : Reply) → ¬ IsDurable reply command → ¬ HasCollected reply command → ((l : Limit) → reply ≢ Reply.Limit l) → AttemptsLeft s.store.held.slot reply → store.held.slot ≡ s.store.held.slot → At reply
+  stays_at reply not over none left same = unmoved s.store.held.slot s.store.held.unswept store.held.slot (state_in s r v) v command reply unasked not over none (λ t is. left) same
 
-  limited_at : (limit : Limit) → MayBeShort limit → LimitsStart ends_at (Err (CollectFault.Limit limit)) s.store → store.slot ≡ s.store.slot → At (Reply.Limit limit)
+  limited_at : (limit : Limit) → MayBeShort limit → LimitsStart ends_at (Err (CollectFault.Limit limit)) s.store.held → store.held.slot ≡ s.store.held.slot → At (Reply.Limit limit)
   limited_at limit may limits same = record {
     done = λ done. absurd done;
     quiet = λ quiet _. same;
     collected = λ floor left may is. absurd may;
     ended = λ may is. absurd may;
     space = λ _ is. record {
-      more = (s.store.slot.end, table_of r) ∷ [];
+      more = (s.store.held.slot.end, table_of r) ∷ [];
       commits = 0;
       are = (refl, refl);
-      so = subst (λ (k : ℕ). 2 ^ 62 < s.store.slot.end + k) table_length (limits.space (limit_is Limit.Space is)).1;
+      so = subst (λ (k : ℕ). 2 ^ 62 < s.store.held.slot.end + k) table_length (limits.space (limit_is Limit.Space is)).1;
     };
     sequence = λ _ is. let h = limits.sequence (limit_is Limit.Sequence is) in record {
-      more = (s.store.slot.end, table_of r) ∷ [];
+      more = (s.store.held.slot.end, table_of r) ∷ [];
       commits = 0;
       are = (refl, refl);
-      so = (subst (λ (k : ℕ). s.store.slot.end + k ≤ 2 ^ 62) table_length h.1, h.2);
+      so = (subst (λ (k : ℕ). s.store.held.slot.end + k ≤ 2 ^ 62) table_length h.1, h.2);
     };
     attempt = λ t is. left limit may limits;
   }
@@ -367,28 +363,28 @@ module _ (a b : Told) (s : Session) (store : Store) (r : Repository) (v : View) 
       limit_is : (other : Limit) → Reply.Limit limit ≡ Reply.Limit other → IsErrOf {T = Hash} (Err (CollectFault.Limit limit)) (CollectFault.Limit other)
       limit_is other is = cc is
 
-      left : (limit : Limit) → MayBeShort limit → LimitsStart ends_at (Err (CollectFault.Limit limit)) s.store → AttemptsLeft s.store.slot (Reply.Limit limit)
+      left : (limit : Limit) → MayBeShort limit → LimitsStart ends_at (Err (CollectFault.Limit limit)) s.store.held → AttemptsLeft s.store.held.slot (Reply.Limit limit)
       left Limit.Space may limits = (limits.space refl).0
       left Limit.Sequence may limits = (limits.sequence refl).0
       left Limit.Attempt may limits = limits.attempt refl
       left _ may limits = absurd may
 
-  pub start_placed : (begun : Result Hash CollectFault) (met : Met) (result : Result Reply SessionEnd) → StartReplies r begun store.met met result → Replies r begun Answers → store.met ≡ met_by_start begun → LimitsStart ends_at begun s.store
-      → (IsBegun begun → Begins r s.store store a b) → (IsTurnedDown begun → store.slot ≡ s.store.slot) → IfOk result At
+  pub start_placed : (begun : Result Hash CollectFault) (met : Met) (result : Result Reply SessionEnd) → StartReplies r begun store.met met result → Replies r begun Answers → store.met ≡ met_by_start begun → LimitsStart ends_at begun s.store.held
+      → (IsBegun begun → Begins r s.store.held store.held a b) → (IsTurnedDown begun → store.held.slot ≡ s.store.held.slot) → IfOk result At
   start_placed begun met result says A is_met limits begins down = by begun says A is_met limits begins down
     where
       at_it : (reply : Reply) → result ≡ Ok reply → At reply → IfOk result At
       at_it reply is x = subst (λ (y : Result Reply SessionEnd). IfOk y At) (sym is) x
 
-      held : store.slot ≡ s.store.slot → (name : Bytes) → (reply : Reply) × (result ≡ Ok reply) × HeldReplies name store.met met reply → Answers (Reply.Held name) → IfOk result At
+      held : store.held.slot ≡ s.store.held.slot → (name : Bytes) → (reply : Reply) × (result ≡ Ok reply) × HeldReplies name store.met met reply → Answers (Reply.Held name) → IfOk result At
       held same name (reply, is, inl told) A = at_it (Reply.Held name) (is ∙ ap Ok told.0) (stays_at (Reply.Held name) (λ h. h) (λ h. h) (λ l e. absurd (cc e)) tt same)
       held same name (reply, is, inr short) A = at_it Reply.Memory (is ∙ ap Ok short.0) (stays_at Reply.Memory (λ h. h) (λ h. h) (λ l e. absurd (cc e)) tt same)
 
       may_be : (limit : Limit) → Answers (Reply.Limit limit) → store.met ≡ met_by_start (Err (CollectFault.Limit limit)) → MayBeShort limit
       may_be limit A is_met = (subst (λ (m : Met). IsMet (state_in s r v) command (conditions_of m) (Reply.Limit limit)) is_met ((A target named).turns (work_at s.work v)).0).short.1
 
-      by : (begun : Result Hash CollectFault) → StartReplies r begun store.met met result → Replies r begun Answers → store.met ≡ met_by_start begun → LimitsStart ends_at begun s.store
-          → (IsBegun begun → Begins r s.store store a b) → (IsTurnedDown begun → store.slot ≡ s.store.slot) → IfOk result At
+      by : (begun : Result Hash CollectFault) → StartReplies r begun store.met met result → Replies r begun Answers → store.met ≡ met_by_start begun → LimitsStart ends_at begun s.store.held
+          → (IsBegun begun → Begins r s.store.held store.held a b) → (IsTurnedDown begun → store.held.slot ≡ s.store.held.slot) → IfOk result At
       by (Ok name) says A is_met limits begins down = (let enough = limits.enough tt in at_it (Reply.Started name) says.0 (drawn_at (Reply.Started name) tt (λ l e. absurd (cc e)) enough.0 (begins tt) (enough.1, enough.2)))
       by (Err CollectFault.Start) says A is_met limits begins down = (let enough = limits.enough tt in at_it Reply.StartFault says.0 (drawn_at Reply.StartFault tt (λ l e. absurd (cc e)) enough.0 (begins tt) (enough.1, enough.2)))
       by (Err (CollectFault.Busy name)) says A is_met limits begins down = at_it (Reply.Busy name) says.0 (stays_at (Reply.Busy name) (λ h. h) (λ h. h) (λ l e. absurd (cc e)) tt (down tt))
@@ -401,7 +397,7 @@ module _ (a b : Told) (s : Session) (store : Store) (r : Repository) (v : View) 
 
 module _ (s : Session) (store : Store) (r : Repository) (target : Target) (number : ℕ) (named : resolve r target ≡ Ok number) (met : Met) (result : Result Reply SessionEnd) where
   abbrev Replied : Reply → Type 0
-  Replied reply = AnswersStart r number s.store.collection store reply
+  Replied reply = AnswersStart r number s.store.held.collection store.met store.held reply
 
   -- the session goes on serving
   pub start_serves : (begun : Result Hash CollectFault) → StartReplies r begun store.met met result → Replies r begun Replied → AreParents r s.work.least s.work.parents → IfOk result (λ reply. IsServing (record s { store = store; met = met }))
@@ -431,16 +427,16 @@ is_there None P p = absurd p
 is_there (Some x) P p = refl
 
 -- the branch that stands against it is there
-pub found_of : (r : Repository) (number : ℕ) (o : Option Collection) (store : Store) (target : Target) → resolve r target ≡ Ok number → (begun : Result Hash CollectFault) → Replies r begun (AnswersStart r number o store) → IsFound r store begun
-found_of r number o store target named (Ok name) A = tt
-found_of r number o store target named (Err (CollectFault.Busy name)) A = tt
-found_of r number o store target named (Err (CollectFault.Held place)) A = (both_some (branch_name_at r place) _ _ (IsOf store r) (λ name x y. (x target named).tables) A A, is_there (branch_name_at r place) _ A)
-found_of r number o store target named (Err (CollectFault.Limit limit)) A = tt
-found_of r number o store target named (Err CollectFault.Start) A = tt
-found_of r number o store target named (Err CollectFault.Ground) A = tt
-found_of r number o store target named (Err CollectFault.Memory) A = tt
+pub found_of : (r : Repository) (number : ℕ) (o : Option Collection) (met : Met) (store : Held) (target : Target) → resolve r target ≡ Ok number → (begun : Result Hash CollectFault) → Replies r begun (AnswersStart r number o met store) → IsFound r store begun
+found_of r number o met store target named (Ok name) A = tt
+found_of r number o met store target named (Err (CollectFault.Busy name)) A = tt
+found_of r number o met store target named (Err (CollectFault.Held place)) A = (both_some (branch_name_at r place) _ _ (IsOf store r) (λ name x y. (x target named).tables) A A, is_there (branch_name_at r place) _ A)
+found_of r number o met store target named (Err (CollectFault.Limit limit)) A = tt
+found_of r number o met store target named (Err CollectFault.Start) A = tt
+found_of r number o met store target named (Err CollectFault.Ground) A = tt
+found_of r number o met store target named (Err CollectFault.Memory) A = tt
 
 -- by what the session met before, which is what the store met
 pub says_as : (r : Repository) (number : ℕ) (o : Option Collection) (store : Store) (target : Target) (named : resolve r target ≡ Ok number) (begun : Result Hash CollectFault) (before met : Met) (result : Result Reply SessionEnd) → before ≡ store.met
-    → Replies r begun (AnswersStart r number o store) → (IsFound r store begun → StartReplies r begun before met result) → StartReplies r begun store.met met result
-says_as r number o store target named begun before met result is A says = subst (λ (m : Met). StartReplies r begun m met result) is (says (found_of r number o store target named begun A))
+    → Replies r begun (AnswersStart r number o store.met store.held) → (IsFound r store.held begun → StartReplies r begun before met result) → StartReplies r begun store.met met result
+says_as r number o store target named begun before met result is A says = subst (λ (m : Met). StartReplies r begun m met result) is (says (found_of r number o store.met store.held target named begun A))

@@ -22,9 +22,9 @@ use Rattle.ip_spec.specs.declared.reply.Reply.{Reply}
 use Rattle.ip_spec.specs.Machine.{exit_kept}
 use Rattle.ip_spec.specs.Path.{Bytes}
 use Rattle.ip_spec.specs.Line.{IsLineOf}
-use Rattle.ip_store.specs.declared.collection.Collection.{Collection}
-use Rattle.ip_store.specs.Collecting.{phase_of}
-use Rattle.ip_store.specs.Starting.{IsJobAt}
+use Rattle.ip_held.specs.declared.collection.Collection.{Collection}
+use Rattle.ip_held.specs.Collecting.{phase_of}
+use Rattle.ip_collects.specs.Starting.{IsJobAt}
 use Rattle.ip_session.specs.declared.session.Session.{Session}
 use Rattle.ip_session.specs.declared.session.SessionEnd.{SessionEnd}
 use Rattle.ip_session.specs.Session.{IsLong}
@@ -69,9 +69,9 @@ GoesOnBy jobs before now = IfSome now (λ c. (jobs ≡ c.job ∷ []) ⊎ ((jobs 
 -- A child is started by `collect` alone, where it says so. One is looked at by `look` alone, and waited for by `finish` alone; these two and `cancel` may reap it.
 pub record Asked (s s' : Session) (command : Command) (result : Result Reply SessionEnd) (jobs : List Job) (ends : List Reaped) (before after : SpawnCounts) : Type 0 where
   -- the job is that of the collection that goes on
-  pub started : HasStarted result → IsSomeAnd s'.store.collection (λ c. (jobs ≡ c.job ∷ []) × (c.exit ≡ None) × IsJobAt s.store c.commit s'.store.slot c.job)
+  pub started : HasStarted result → IsSomeAnd s'.store.held.collection (λ c. (jobs ≡ c.job ∷ []) × (c.exit ≡ None) × IsJobAt s.store.held c.commit s'.store.held.slot c.job)
   pub none_started : ¬ HasStarted result → jobs ≡ []
-  pub goes_on : IfOk result (λ reply. GoesOnBy jobs s.store.collection s'.store.collection)
+  pub goes_on : IfOk result (λ reply. GoesOnBy jobs s.store.held.collection s'.store.held.collection)
   -- it was seen to run where that is met, and else not
   pub running : s'.met.child ≡ Child.Running → Rose before.running after.running
   pub not_running : s'.met.child ≢ Child.Running → after.running ≡ before.running
@@ -80,10 +80,10 @@ pub record Asked (s s' : Session) (command : Command) (result : Result Reply Ses
   pub reaps : before.reaps ≤ after.reaps
   pub none_reaped : ¬ MayReap command → (ends ≡ []) × (after.reaps ≡ before.reaps)
   -- what is met of it is what the spawner answered now, or what was kept
-  pub heard : (reaped : Reaped) → s'.met.child ≡ Child.Ended reaped → IsSomeAnd s.store.collection (λ c. HeardOf c reaped ends before after)
+  pub heard : (reaped : Reaped) → s'.met.child ≡ Child.Ended reaped → IsSomeAnd s.store.held.collection (λ c. HeardOf c reaped ends before after)
   pub unheard : s'.met.child ≡ Child.Fault → Rose before.spawn_faults after.spawn_faults
   -- a kill reaps, and a child that had been reaped needs none
-  pub cancelled : result ≡ Ok Reply.Cancelled → Rose before.reaps after.reaps ⊎ IsSome (exit_kept (phase_of s.store.collection))
+  pub cancelled : result ≡ Ok Reply.Cancelled → Rose before.reaps after.reaps ⊎ IsSome (exit_kept (phase_of s.store.held.collection))
   pub spawn_faults : before.spawn_faults ≤ after.spawn_faults
   pub start : IsTrue s'.met.start_failed → Rose before.spawn_faults after.spawn_faults
   pub kill : IsTrue s'.met.kill_failed → Rose before.spawn_faults after.spawn_faults
@@ -93,7 +93,7 @@ pub record AskedIn (s s' : Session) (line : Bytes) (result : Result Reply Sessio
   pub command : (command : Command) → IsLineOf command line → Asked s s' command result jobs ends before after
   pub none : ((command : Command) → ¬ IsLineOf command line) → (jobs ≡ []) × (ends ≡ []) × (after ≡ before)
   -- whichever line it is
-  pub goes_on : IfOk result (λ reply. GoesOnBy jobs s.store.collection s'.store.collection)
+  pub goes_on : IfOk result (λ reply. GoesOnBy jobs s.store.held.collection s'.store.held.collection)
 
 pub record Spawns (tells : Bool) (old new : Told) (s s' : Session) (line : Bytes) (result : Result Reply SessionEnd) (before after : SpawnCounts) : Type 0 where
   pub jobs : List Job

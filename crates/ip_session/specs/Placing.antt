@@ -26,12 +26,13 @@ use Rattle.ip_spec.specs.View.{View}
 use Rattle.ip_spec.specs.Line.{IsLineOf}
 use Rattle.ip_image.specs.declared.slot.Slot.{Slot}
 use Rattle.ip_image.specs.Appending.{fields_of, bytes_of_records}
-use Rattle.ip_store.specs.declared.collection.Unswept.{Unswept}
-use Rattle.ip_store.specs.Changes.{next_slot}
-use Rattle.ip_store.specs.Collecting.{carrying}
-use Rattle.ip_store.specs.Merging.{MergeAppends}
-use Rattle.ip_store.specs.Starting.{table_of, begun_slot}
-use Rattle.ip_store.specs.Views.{IsStored}
+use Rattle.ip_held.specs.declared.collection.Unswept.{Unswept}
+use Rattle.ip_held.specs.Changes.{next_slot}
+use Rattle.ip_held.specs.Collecting.{carrying}
+use Rattle.ip_appends.specs.Merging.{MergeAppends}
+use Rattle.ip_held.specs.TableRecord.{table_of}
+use Rattle.ip_collects.specs.Starting.{begun_slot}
+use Rattle.ip_held.specs.Views.{IsStored}
 use Rattle.ip_session.specs.Asking.{MayReap}
 use Rattle.ip_session.specs.Session.{is_durable, IsDurable}
 

@@ -22,10 +22,9 @@
 --     IsHeld tells told session      the ground tells what the store holds, and the session works over it
 --     EndsBy held end      why a session has ended.      ground_end end      by a fault of the ground
 --     fault_answer fault      what a call of the store is answered with that failed, or why the session ends.      Fails fault met met' result      and what is met by it
---     tree_fault fault      a call on a tree fails as one of the store.      IsEndOf fault end, EndsBecause made end      the session ends by it, or by what a call failed with
---     IsNamed reply      a commit's name that a merge is answered with is no longer than a name
+--     IsAnswer replied made result      the reply that a call has, or why the session ends by it.      tree_fault fault      a call on a tree fails as one of the store
 --     IsLong reply      the text of such a reply may take memory.      Writes reply met met' text      it was written, or want of it
-use Rattle.std.specs.Prelude.{◌≡◌, ◌≢◌, ◌⊎◌, ◌<◌, ℕ, Bool, true, false, length, Option, Some, None, option_map, IsTrue, IfOk, IsErr, IsSomeAnd, Result, Ok, Err}
+use Rattle.std.specs.Prelude.{◌≡◌, ◌≢◌, ◌⊎◌, ◌<◌, ℕ, Bool, true, false, length, Option, Some, None, option_map, IsTrue, IfOk, IfErr, IsErr, IsErrAnd, IsSomeAnd, Result, Ok, Err}
 use Rattle.ip_ground.specs.declared.names.FileName.{FileName}
 use Rattle.ip_ground.specs.declared.names.FileName.TheVariants.{Control}
 use Rattle.ip_base.specs.declared.exit.Reaped.{Reaped}
@@ -38,7 +37,6 @@ use Rattle.ip_spec.specs.View.{View}
 use Rattle.ip_spec.specs.declared.record.Record.{Record}
 use Rattle.ip_spec.specs.declared.command.Command.{Command}
 use Rattle.ip_spec.specs.declared.met.Child.{Child}
-use Rattle.ip_spec.specs.declared.met.Child.TheVariants as Child
 use Rattle.ip_spec.specs.declared.met.Met.{Met}
 use Rattle.ip_spec.specs.declared.reply.Difference.{Difference}
 use Rattle.ip_spec.specs.declared.reply.Reply.{Reply}
@@ -53,36 +51,36 @@ use Rattle.ip_spec.specs.Line.{IsLineOf}
 use Rattle.ip_image.specs.declared.slot.Slot.{Slot}
 use Rattle.ip_image.specs.Pending.{HasLive, NothingPending, KeepsSpace}
 use Rattle.ip_image.specs.Headline.{IsAtomic}
-use Rattle.ip_store.specs.declared.committing.StoreFault.{StoreFault}
-use Rattle.ip_store.specs.declared.collection.Collection.{Collection}
-use Rattle.ip_store.specs.declared.store.Store.{Store}
-pub use Rattle.ip_store.specs.Commits.{conditions_of}
-use Rattle.ip_store.specs.Collecting.{phase_of}
-use Rattle.ip_store.specs.Commits.{met_nothing}
-use Rattle.ip_store.specs.Finishing.{swapped_slot, Judges, Serves}
-use Rattle.ip_store.specs.Publishing.{MayChange}
-use Rattle.ip_store.specs.Showing.{fault_from}
-use Rattle.ip_store.specs.Store.{IsOf, image_records}
-use Rattle.ip_store.specs.Sweeping.{IsSwept, ChangesFor, EndsFor, KeepsFiles}
-use Rattle.ip_store.specs.Trees.{OnlyLooks}
-use Rattle.ip_store.specs.Views.{IsViewAfter}
-use Rattle.ip_store.specs.Work.{AreParents, IsLawful, IsAt, session}
+use Rattle.ip_held.specs.declared.fault.StoreFault.{StoreFault}
+use Rattle.ip_held.specs.declared.collection.Collection.{Collection}
+use Rattle.ip_held.specs.declared.held.Held.{Held}
+pub use Rattle.ip_held.specs.Answers.{conditions_of}
+use Rattle.ip_held.specs.Collecting.{phase_of}
+use Rattle.ip_held.specs.Answers.{met_nothing}
+use Rattle.ip_collects.specs.Finishing.{swapped_slot, Judges, Serves}
+use Rattle.ip_publish.specs.Publishing.{MayChange}
+use Rattle.ip_held.specs.Showing.{fault_from}
+use Rattle.ip_held.specs.Held.{IsOf, image_records}
+use Rattle.ip_held.specs.Sweeping.{IsSwept, ChangesFor, EndsFor, KeepsFiles}
+use Rattle.ip_held.specs.Trees.{OnlyLooks}
+use Rattle.ip_held.specs.Views.{IsViewAfter}
+use Rattle.ip_held.specs.Work.{AreParents, IsLawful, IsAt, session}
 use Rattle.ip_tree.specs.declared.tree.TreeFault.{TreeFault}
 use Rattle.ip_session.specs.declared.session.Session.{Session}
 use Rattle.ip_session.specs.declared.session.SessionEnd.{SessionEnd}
 use Rattle.ip_session.specs.declared.session.TheConstants.{REPLY_ROOM}
 
 abbrev pub IsIn : Session → Repository → Type 0
-IsIn s r = IsOf s.store r × AreParents r s.work.least s.work.parents
+IsIn s r = IsOf s.store.held r × AreParents r s.work.least s.work.parents
 
 abbrev pub IsServing : Session → Type 0
 IsServing s = (r : Repository) × IsIn s r
 
 abbrev pub IsWorking : Told → Session → Repository → View → Type 0
-IsWorking told s r v = IsAt told s.store r s.work v
+IsWorking told s r v = IsAt told s.store.held r s.work v
 
 abbrev pub state_in : Session → Repository → View → State
-state_in s r v = session r (phase_of s.store.collection) s.work v
+state_in s r v = session r (phase_of s.store.held.collection) s.work v
 
 -- it has no answer: the steps of all commands but `merge` are the same by any rule
 abbrev pub unasked : Rule
@@ -128,7 +126,7 @@ IsDurable Reply.StartFault (Command.Collect target) = Unit {0}
 IsDurable reply command = ⊥
 
 -- the attempt that a command has to do with: it is drawn by it, or its child is heard of or killed
-abbrev pub attempt_of : Store → Command → Option ℕ
+abbrev pub attempt_of : Held → Command → Option ℕ
 attempt_of store (Command.Collect target) = Some store.slot.next_attempt
 attempt_of store Command.Look = option_map (λ c. c.job.attempt) store.collection
 attempt_of store Command.Finish = option_map (λ c. c.job.attempt) store.collection
@@ -148,38 +146,38 @@ ChangesBy false (Some attempt) these old new = ChangesFor attempt these old new
 ChangesBy true (Some attempt) these old new = EndsFor attempt these old new
 
 -- Of a collection that goes on, by what is answered of its child: where it was collected the control file, and what a sweep removes beside the pair; where it was rejected what a sweep removes.
-abbrev pub ChangedAtEnd : Store → Reply → FileName → Type 0
+abbrev pub ChangedAtEnd : Held → Reply → FileName → Type 0
 ChangedAtEnd store (Reply.Collected floor left) file = IsSomeAnd store.collection (λ c. (file ≡ Control) ⊎ IsSwept (swapped_slot store.slot store.unswept c 0 0) store.unswept file)
 ChangedAtEnd store (Reply.RejectedExit exit) file = IsSwept store.slot store.unswept file
 ChangedAtEnd store (Reply.Rejected difference) file = IsSwept store.slot store.unswept file
 ChangedAtEnd store reply file = ⊥
 
 -- of the files before it, by those that the store may change, or that a sweep removes
-abbrev pub ChangedBy : Store → Image → Command → Reply → FileName → Type 0
+abbrev pub ChangedBy : Held → Image → Command → Reply → FileName → Type 0
 ChangedBy store image Command.Look reply file = ChangedAtEnd store reply file
 ChangedBy store image Command.Finish reply file = ChangedAtEnd store reply file
 ChangedBy store image Command.Cancel reply file = (reply ≡ Reply.Cancelled) × IsSwept store.slot store.unswept file
 ChangedBy store image command reply file = IsDurable reply command × MayChange image file
 
 -- where a fault cut it short, by its words alone
-abbrev pub TouchedBy : Store → Image → Command → FileName → Type 0
+abbrev pub TouchedBy : Held → Image → Command → FileName → Type 0
 TouchedBy store image Command.Look file = file ≡ Control
 TouchedBy store image Command.Finish file = file ≡ Control
 TouchedBy store image Command.Cancel file = IsSwept store.slot store.unswept file
 TouchedBy store image command file = (is_durable command ≡ true) × MayChange image file
 
-abbrev pub OnlyBy : Store → Told → Told → Command → Reply → Type 0
+abbrev pub OnlyBy : Held → Told → Told → Command → Reply → Type 0
 OnlyBy store old new command reply = ChangesBy (hears command) (attempt_of store command) (ChangedBy store old.held command reply) old new
 
 -- of a line; one that is no command changes nothing
-pub record OnlyIn (store : Store) (old new : Told) (line : Bytes) (reply : Reply) : Type 0 where
+pub record OnlyIn (store : Held) (old new : Told) (line : Bytes) (reply : Reply) : Type 0 where
   pub command : (command : Command) → IsLineOf command line → OnlyBy store old new command reply
   pub none : ((command : Command) → ¬ IsLineOf command line) → ChangesOnly NoFile old new
 
-abbrev pub TouchesBy : Store → Told → Told → Command → Type 0
+abbrev pub TouchesBy : Held → Told → Told → Command → Type 0
 TouchesBy store old new command = ChangesBy (hears command) (attempt_of store command) (TouchedBy store old.held command) old new
 
-abbrev pub TouchesIn : Store → Told → Told → Bytes → Type 0
+abbrev pub TouchesIn : Held → Told → Told → Bytes → Type 0
 TouchesIn store old new line = (command : Command) × IsLineOf command line × TouchesBy store old new command
 
 -- nothing was changed, and memory may be refused instead
@@ -199,9 +197,9 @@ pub record IsAnswered (records : ℕ → Option Record) (s s' : Session) (r : Re
 pub record HasRead (tells : Bool) (old new : Told) (s s' : Session) (command : Command) (result : Result Reply SessionEnd) : Type 0 where
   pub tables : (r : Repository) → IsIn s r → IsIn s' r
   pub answered : IsTrue tells → (r : Repository) (v : View) (here : IsWorking old s r v) → IfOk result (IsAnswered (image_records here.holds) s s' r v command)
-  pub looks : IsTrue tells → OnlyLooks old new s.store s'.store
+  pub looks : IsTrue tells → OnlyLooks old new s.store.held s'.store.held
   -- what was unswept is so still
-  pub unswept : s'.store.unswept ≡ s.store.unswept
+  pub unswept : s'.store.held.unswept ≡ s.store.held.unswept
   -- one that was cut short met nothing
   pub unmet : IsErr result → s'.met ≡ s.met
 
@@ -214,7 +212,7 @@ conditions_with met difference = record { told = met; difference = difference }
 
 -- The difference is that of the settled pair of the child that was heard of, over the records of the store: none where it is the valid one. Whatever it is where no child ended.
 abbrev pub IsJudgedIn : Told → Told → Session → Session → Repository → View → Option Difference → Type 0
-IsJudgedIn old new s s' r v difference = (here : IsWorking old s r v) (c : Collection) (reaped : Reaped) → s.store.collection ≡ Some c → s'.met.child ≡ Child.Ended reaped → Judges here.holds.stands.standing.records c (conditions_with s'.met difference) new
+IsJudgedIn old new s s' r v difference = (here : IsWorking old s r v) (c : Collection) (reaped : Reaped) → s.store.held.collection ≡ Some c → s'.met.child ≡ Child.Ended reaped → Judges here.holds.stands.standing.records c (conditions_with s'.met difference) new
 
 -- No child changes its files any more. Where what it wrote was accepted the live pair is what it had left then, and the slot says so.
 pub record HasSettled (c : Collection) (reply : Reply) (slot : Slot) (told : Told) : Type 0 where
@@ -223,7 +221,7 @@ pub record HasSettled (c : Collection) (reply : Reply) (slot : Slot) (told : Tol
   pub swapped : (floor left : ℕ) → reply ≡ Reply.Collected floor left → (floor ≡ c.commit) × (slot.live ≡ c.job.attempt) × (slot.horizon ≡ c.job.horizon)
 
 abbrev pub IsSettledIn : Told → Session → Session → Reply → Type 0
-IsSettledIn new s s' reply = (c : Collection) (reaped : Reaped) → s.store.collection ≡ Some c → s'.met.child ≡ Child.Ended reaped → HasSettled c reply s'.store.slot new
+IsSettledIn new s s' reply = (c : Collection) (reaped : Reaped) → s.store.held.collection ≡ Some c → s'.met.child ≡ Child.Ended reaped → HasSettled c reply s'.store.held.slot new
 
 abbrev pub NoneEnded : Session → Type 0
 NoneEnded s = (reaped : Reaped) → s.met.child ≢ Child.Ended reaped
@@ -267,16 +265,16 @@ pub record Cut (old new : Told) (s s' : Session) (r : Repository) (v : View) (To
   pub atomic : NothingPending old → IsAtomic old new r after.repository
 
 abbrev pub GoesBy : Rule → Told → Told → Session → Session → Repository → View → Command → Reply → Type 0
-GoesBy rule old new s s' r v command = Goes old new s s' r v (OnlyBy s.store old new command) (Step rule (state_in s r v) command) (IsViewAfter r v command)
+GoesBy rule old new s s' r v command = Goes old new s s' r v (OnlyBy s.store.held old new command) (Step rule (state_in s r v) command) (IsViewAfter r v command)
 
 abbrev pub GoesIn : Rule → Told → Told → Session → Session → Repository → View → Bytes → Reply → Type 0
-GoesIn rule old new s s' r v line = Goes old new s s' r v (OnlyIn s.store old new line) (LineStep IsLineOf rule (state_in s r v) line) (IsViewIn r v line)
+GoesIn rule old new s s' r v line = Goes old new s s' r v (OnlyIn s.store.held old new line) (LineStep IsLineOf rule (state_in s r v) line) (IsViewIn r v line)
 
 abbrev pub CutBy : Rule → Told → Told → Session → Session → Repository → View → Command → Type 0
-CutBy rule old new s s' r v command = Cut old new s s' r v (TouchesBy s.store old new command) (Step rule (state_in s r v) command)
+CutBy rule old new s s' r v command = Cut old new s s' r v (TouchesBy s.store.held old new command) (Step rule (state_in s r v) command)
 
 abbrev pub CutIn : Rule → Told → Told → Session → Session → Repository → View → Bytes → Type 0
-CutIn rule old new s s' r v line = Cut old new s s' r v (TouchesIn s.store old new line) (LineStep IsLineOf rule (state_in s r v) line)
+CutIn rule old new s s' r v line = Cut old new s s' r v (TouchesIn s.store.held old new line) (LineStep IsLineOf rule (state_in s r v) line)
 
 abbrev pub IsHeld : Bool → Told → Session → Type 0
 IsHeld tells told s = IsTrue tells × ((r : Repository) × (v : View) × IsWorking told s r v)
@@ -334,17 +332,6 @@ tree_fault (TreeFault.Limit limit) = StoreFault.Limit limit
 tree_fault (TreeFault.Fetch fault) = fault_from fault
 tree_fault TreeFault.Memory = StoreFault.Memory
 
--- a fault that has no reply
-abbrev pub IsEndOf : StoreFault → SessionEnd → Type 0
-IsEndOf StoreFault.Ground end = end ≡ SessionEnd.Ground
-IsEndOf (StoreFault.Damaged at names) end = end ≡ SessionEnd.Damaged at names
-IsEndOf fault end = ⊥
-
-abbrev pub EndsBecause : {A : Type 0} → Result A StoreFault → SessionEnd → Type 0
-EndsBecause (Ok x) end = ⊥
-EndsBecause (Err fault) end = IsEndOf fault end
-
-abbrev pub IsNamed : Reply → Type 0
-IsNamed (Reply.Forward name) = length name ≡ 32
-IsNamed (Reply.Merged name) = length name ≡ 32
-IsNamed reply = Unit {0}
+-- a call of the store has this reply, or none where its fault ends the session
+abbrev pub IsAnswer : {A : Type 0} → Option Reply → Result A StoreFault → Result Reply SessionEnd → Type 0
+IsAnswer replied made result = IfOk result (λ reply. replied ≡ Some reply) × IfErr result (λ end. IsErrAnd made (λ fault. fault_answer fault ≡ Err end))

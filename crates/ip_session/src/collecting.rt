@@ -1,35 +1,31 @@
 // The commands of a collection.
-ghost use Rattle.std.specs.Prelude.{◌≡◌, ◌≤◌, ◌++◌, List, length, false, None, IsTrue, IfOk, IfErr, IsSome, IsSomeAnd};
+ghost use Rattle.std.specs.Prelude.{◌≡◌, ◌≤◌, ◌++◌, List, length, false, None, IsTrue, IfOk, IsSome, IsSomeAnd};
 ghost use Rattle.ip_base.specs.declared.exit.Reaped.{Reaped};
-ghost use Rattle.ip_spawn.specs.declared.job.Job.{Job};
 ghost use Rattle.ip_spec.specs.declared.command.Command.TheVariants as Command;
 ghost use Rattle.ip_spec.specs.declared.reply.Reply.TheVariants as Reply;
 ghost use Rattle.ip_spec.specs.Repository.{Repository};
-ghost use Rattle.ip_store.specs.Collecting.{child_of};
-ghost use Rattle.ip_store.specs.Finishing.{as_look};
-ghost use Rattle.ip_store.specs.Starting.{branch_name_at};
-ghost use Rattle.ip_store.specs.Store.{IsOf};
-ghost use Rattle.ip_session.specs.Asking.{Asked, QuietIfLong, LetsGo};
-ghost use Rattle.ip_session.specs.Running.{Runs};
-ghost use Rattle.ip_session.specs.Session.{met_only, unasked, CountsBy, EndsBy, IsHeld, IsLong};
-ghost use Rattle.ip_session.specs.Starting.{cancel_answer, finish_fault, look_answer, HeldReplies, IsFound, StartReplies};
+ghost use Rattle.ip_held.specs.Collecting.{child_of};
+ghost use Rattle.ip_collects.specs.Starting.{branch_name_at};
+ghost use Rattle.ip_held.specs.Held.{IsOf};
+ghost use Rattle.ip_session.specs.Asking.{LetsGo};
+ghost use Rattle.ip_session.specs.Running.{Ran};
+ghost use Rattle.ip_session.specs.Session.{met_only, unasked, IsLong};
+ghost use Rattle.ip_session.specs.Starting.{cancel_answer, look_answer, HeldReplies, IsFound, StartReplies};
 
-use crate::replies::{refuse, started_reply};
+use crate::replies::refuse;
 use crate::session::{Session, SessionEnd, resolve};
 use ip_base::{Blob, Hash};
 use ip_ground::Ground;
 use ip_script::{Reply, Target};
 use ip_spawn::Spawner;
 use ip_spec::met::{Met, Phase};
-use ip_store::{
-    CancelFault, Cancelled, CollectFault, Collected, FinishFault, Looked, Rejection, Store,
-};
+use ip_store::{CancelFault, Cancelled, CollectFault, FinishFault, Looked, Rejection, Store};
 use std::alloc::Global;
 
 // The reply that tells the branch which stands against a collection.
 fn held_reply(alloc: Global, store: &Store, met: &mut Met, place: u32) -> Reply
-    requires { (r : Repository) × IsOf store.now r × IsSome (branch_name_at r place) }
-    ensures { (r : Repository) → IsOf store.now r → IsSomeAnd (branch_name_at r place) (λ name. HeldReplies name met.old met.new result) }
+    requires { (r : Repository) × IsOf store.now.held r × IsSome (branch_name_at r place) }
+    ensures { (r : Repository) → IsOf store.now.held r → IsSomeAnd (branch_name_at r place) (λ name. HeldReplies name met.old met.new result) }
 {
     match store.branch_at(place) {
         Some((name, _)) => match Blob::copy_of(alloc, name) {
@@ -47,11 +43,11 @@ fn start_reply(
     met: &mut Met,
     begun: &Result<Hash, CollectFault>,
 ) -> Result<Reply, SessionEnd>
-    requires { (r : Repository) × IsFound r store.now begun.now }
-    ensures { (r : Repository) → IsFound r store.now begun.now → StartReplies r begun.now met.old met.new result }
+    requires { (r : Repository) × IsFound r store.now.held begun.now }
+    ensures { (r : Repository) → IsFound r store.now.held begun.now → StartReplies r begun.now met.old met.new result }
 {
     match begun {
-        Ok(name) => Ok(started_reply(*name)),
+        Ok(name) => Ok(Reply::Started(*name)),
         Err(CollectFault::Busy(name)) => Ok(Reply::Busy(*name)),
         Err(CollectFault::Held(place)) => Ok(held_reply(alloc, store, met, *place)),
         Err(CollectFault::Limit(limit)) => Ok(Reply::Limit(*limit)),
@@ -73,35 +69,7 @@ fn cancel_answer(done: Result<Cancelled, CancelFault>) -> Result<Reply, SessionE
     }
 }
 
-// Why a collection's end was not accepted, or not asked.
-fn finish_fault(fault: FinishFault) -> Result<Reply, SessionEnd>
-    ensures answer { result ≡ finish_fault fault }
-    ensures short { IfOk result (λ reply. ¬ IsLong reply) }
-{
-    match fault {
-        FinishFault::Idle => Ok(Reply::Idle),
-        FinishFault::Wait => Ok(Reply::WaitFault),
-        FinishFault::Rejected(Rejection::Exit(exit)) => Ok(Reply::RejectedExit(exit)),
-        FinishFault::Rejected(Rejection::Differs(difference)) => Ok(Reply::Rejected(difference)),
-        FinishFault::Limit(limit) => Ok(Reply::Limit(limit)),
-        FinishFault::Memory => Ok(Reply::Memory),
-        FinishFault::Ground => Err(SessionEnd::Ground),
-        FinishFault::Damaged(at) => Err(SessionEnd::Damaged { at, names: None }),
-    }
-}
-
-// The reply to a collection that was accepted.
-fn collected_reply(collected: Collected) -> Reply
-    ensures answer { result ≡ Reply.Collected collected.floor collected.left }
-    ensures short { ¬ IsLong result }
-{
-    Reply::Collected {
-        floor: collected.floor,
-        left: collected.left,
-    }
-}
-
-// What came of a look.
+// What came of a look at the child, and of what it wrote.
 fn look_answer(looked: Result<Looked, FinishFault>) -> Result<Reply, SessionEnd>
     ensures answer { result ≡ look_answer looked }
     ensures short { IfOk result (λ reply. ¬ IsLong reply) }
@@ -109,19 +77,20 @@ fn look_answer(looked: Result<Looked, FinishFault>) -> Result<Reply, SessionEnd>
     match looked {
         Ok(Looked::Running) => Ok(Reply::Running),
         Ok(Looked::Checking(left)) => Ok(Reply::Checking(left)),
-        Ok(Looked::Collected(collected)) => Ok(collected_reply(collected)),
-        Err(fault) => finish_fault(fault),
-    }
-}
-
-// What came of a finish.
-fn finish_answer(done: Result<Collected, FinishFault>) -> Result<Reply, SessionEnd>
-    ensures answer { result ≡ look_answer (as_look done) }
-    ensures short { IfOk result (λ reply. ¬ IsLong reply) }
-{
-    match done {
-        Ok(collected) => Ok(collected_reply(collected)),
-        Err(fault) => finish_fault(fault),
+        Ok(Looked::Collected(collected)) => Ok(Reply::Collected {
+            floor: collected.floor,
+            left: collected.left,
+        }),
+        Err(FinishFault::Idle) => Ok(Reply::Idle),
+        Err(FinishFault::Wait) => Ok(Reply::WaitFault),
+        Err(FinishFault::Rejected(Rejection::Exit(exit))) => Ok(Reply::RejectedExit(exit)),
+        Err(FinishFault::Rejected(Rejection::Differs(difference))) => {
+            Ok(Reply::Rejected(difference))
+        }
+        Err(FinishFault::Limit(limit)) => Ok(Reply::Limit(limit)),
+        Err(FinishFault::Memory) => Ok(Reply::Memory),
+        Err(FinishFault::Ground) => Err(SessionEnd::Ground),
+        Err(FinishFault::Damaged(at)) => Err(SessionEnd::Damaged { at, names: None }),
     }
 }
 
@@ -138,14 +107,9 @@ impl Session {
     ) -> Result<Reply, SessionEnd>
         requires met { self.old.met ≡ met_only false }
         requires tables { IsServing self.old }
-        requires child { P.held spawner.old ≡ child_of self.old.store.collection }
-        ensures runs { Runs (IsTrue G.tells) unasked (G.told ground.old) (G.told ground.new) self.old self.new (Command.Collect target) result }
-        ensures child { P.held spawner.new ≡ child_of self.new.store.collection }
-        ensures asked { (jobs : List Job) × (ends : List Reaped) × (IsTrue P.tells → P.told spawner.new ≡ record { started = (P.told spawner.old).started ++ jobs; reaped = (P.told spawner.old).reaped ++ ends })
-            × Asked self.old self.new (Command.Collect target) result jobs ends (P.counts_of spawner.old) (P.counts_of spawner.new) }
-        ensures quiet { IfOk result (QuietIfLong self.new.met (G.counts_of ground.old) (G.counts_of ground.new)) }
-        ensures counts { CountsBy result (Command.Collect target) self.new.met (G.counts_of ground.old) (G.counts_of ground.new) }
-        ensures cause { IfErr result (EndsBy (IsHeld G.tells (G.told ground.old) self.old)) }
+        requires child { P.held spawner.old ≡ child_of self.old.store.held.collection }
+        ensures { Ran (IsTrue G.tells) unasked (G.told ground.old) (G.told ground.new) (G.counts_of ground.old) (G.counts_of ground.new) P.tells (P.held spawner.new) (P.told spawner.old) (P.told spawner.new)
+            (P.counts_of spawner.old) (P.counts_of spawner.new) self.old self.new (Command.Collect target) result }
     {
         if let Phase::Collecting { commit, .. } = self.store.phase() {
             return Ok(Reply::Busy(self.store.retained_name(commit)));
@@ -169,14 +133,9 @@ impl Session {
     ) -> Result<Reply, SessionEnd>
         requires met { self.old.met ≡ met_only false }
         requires tables { IsServing self.old }
-        requires child { P.held spawner.old ≡ child_of self.old.store.collection }
-        ensures runs { Runs (IsTrue G.tells) unasked (G.told ground.old) (G.told ground.new) self.old self.new Command.Look result }
-        ensures child { P.held spawner.new ≡ child_of self.new.store.collection }
-        ensures asked { (jobs : List Job) × (ends : List Reaped) × (IsTrue P.tells → P.told spawner.new ≡ record { started = (P.told spawner.old).started ++ jobs; reaped = (P.told spawner.old).reaped ++ ends })
-            × Asked self.old self.new Command.Look result jobs ends (P.counts_of spawner.old) (P.counts_of spawner.new) }
-        ensures quiet { IfOk result (QuietIfLong self.new.met (G.counts_of ground.old) (G.counts_of ground.new)) }
-        ensures counts { CountsBy result Command.Look self.new.met (G.counts_of ground.old) (G.counts_of ground.new) }
-        ensures cause { IfErr result (EndsBy (IsHeld G.tells (G.told ground.old) self.old)) }
+        requires child { P.held spawner.old ≡ child_of self.old.store.held.collection }
+        ensures { Ran (IsTrue G.tells) unasked (G.told ground.old) (G.told ground.new) (G.counts_of ground.old) (G.counts_of ground.new) P.tells (P.held spawner.new) (P.told spawner.old) (P.told spawner.new)
+            (P.counts_of spawner.old) (P.counts_of spawner.new) self.old self.new Command.Look result }
     {
         // It says that each count is one of 64 bits.
         spawner.counts();
@@ -193,20 +152,15 @@ impl Session {
     ) -> Result<Reply, SessionEnd>
         requires met { self.old.met ≡ met_only false }
         requires tables { IsServing self.old }
-        requires child { P.held spawner.old ≡ child_of self.old.store.collection }
-        ensures runs { Runs (IsTrue G.tells) unasked (G.told ground.old) (G.told ground.new) self.old self.new Command.Finish result }
-        ensures child { P.held spawner.new ≡ child_of self.new.store.collection }
-        ensures asked { (jobs : List Job) × (ends : List Reaped) × (IsTrue P.tells → P.told spawner.new ≡ record { started = (P.told spawner.old).started ++ jobs; reaped = (P.told spawner.old).reaped ++ ends })
-            × Asked self.old self.new Command.Finish result jobs ends (P.counts_of spawner.old) (P.counts_of spawner.new) }
-        ensures quiet { IfOk result (QuietIfLong self.new.met (G.counts_of ground.old) (G.counts_of ground.new)) }
-        ensures counts { CountsBy result Command.Finish self.new.met (G.counts_of ground.old) (G.counts_of ground.new) }
-        ensures cause { IfErr result (EndsBy (IsHeld G.tells (G.told ground.old) self.old)) }
+        requires child { P.held spawner.old ≡ child_of self.old.store.held.collection }
+        ensures { Ran (IsTrue G.tells) unasked (G.told ground.old) (G.told ground.new) (G.counts_of ground.old) (G.counts_of ground.new) P.tells (P.held spawner.new) (P.told spawner.old) (P.told spawner.new)
+            (P.counts_of spawner.old) (P.counts_of spawner.new) self.old self.new Command.Finish result }
     {
         // It says that each count is one of 64 bits.
         spawner.counts();
         let done = self.store.finish(self.alloc, ground, spawner);
         self.met = self.store.met();
-        finish_answer(done)
+        look_answer(done)
     }
 
     // Gives the collection up that runs.
@@ -217,14 +171,9 @@ impl Session {
     ) -> Result<Reply, SessionEnd>
         requires met { self.old.met ≡ met_only false }
         requires tables { IsServing self.old }
-        requires child { P.held spawner.old ≡ child_of self.old.store.collection }
-        ensures runs { Runs (IsTrue G.tells) unasked (G.told ground.old) (G.told ground.new) self.old self.new Command.Cancel result }
-        ensures child { P.held spawner.new ≡ child_of self.new.store.collection }
-        ensures asked { (jobs : List Job) × (ends : List Reaped) × (IsTrue P.tells → P.told spawner.new ≡ record { started = (P.told spawner.old).started ++ jobs; reaped = (P.told spawner.old).reaped ++ ends })
-            × Asked self.old self.new Command.Cancel result jobs ends (P.counts_of spawner.old) (P.counts_of spawner.new) }
-        ensures quiet { IfOk result (QuietIfLong self.new.met (G.counts_of ground.old) (G.counts_of ground.new)) }
-        ensures counts { CountsBy result Command.Cancel self.new.met (G.counts_of ground.old) (G.counts_of ground.new) }
-        ensures cause { IfErr result (EndsBy (IsHeld G.tells (G.told ground.old) self.old)) }
+        requires child { P.held spawner.old ≡ child_of self.old.store.held.collection }
+        ensures { Ran (IsTrue G.tells) unasked (G.told ground.old) (G.told ground.new) (G.counts_of ground.old) (G.counts_of ground.new) P.tells (P.held spawner.new) (P.told spawner.old) (P.told spawner.new)
+            (P.counts_of spawner.old) (P.counts_of spawner.new) self.old self.new Command.Cancel result }
     {
         // It says that each count is one of 64 bits.
         spawner.counts();
@@ -237,7 +186,7 @@ impl Session {
 impl Session {
     /// Lets go of the child that is held, if one is: it is killed once. Then the session is over.
     pub fn let_go<P: Spawner>(&self, spawner: &mut P)
-        requires child { P.held spawner.old ≡ child_of self.now.store.collection }
+        requires child { P.held spawner.old ≡ child_of self.now.store.held.collection }
         ensures none_held { P.held spawner.new ≡ None }
         ensures told { (ends : List Reaped) × (length ends ≤ 1) × (IsTrue P.tells → P.told spawner.new ≡ record { started = (P.told spawner.old).started; reaped = (P.told spawner.old).reaped ++ ends }) }
         ensures counts { LetsGo (P.counts_of spawner.old) (P.counts_of spawner.new) }

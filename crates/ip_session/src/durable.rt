@@ -1,5 +1,5 @@
 // The commands that may change files.
-ghost use Rattle.std.specs.Prelude.{◌≡◌, false, IsTrue, IfOk, IfErr};
+ghost use Rattle.std.specs.Prelude.{◌≡◌, false, IsTrue, IfOk};
 ghost use Rattle.ip_ground.specs.Counts.{Counts};
 ghost use Rattle.ip_spec.specs.declared.command.Target.{Target};
 ghost use Rattle.ip_spec.specs.declared.command.Command.TheVariants as Command;
@@ -7,9 +7,9 @@ ghost use Rattle.ip_spec.specs.Record.{IsBranchName, IsInfo};
 ghost use Rattle.ip_merge.specs.Rules.{IsDecisive};
 ghost use Rattle.ip_session.specs.Asking.{MeetsNone, TellsNone};
 ghost use Rattle.ip_session.specs.Running.{Runs};
-ghost use Rattle.ip_session.specs.Session.{ground_end, met_only, unasked, IsHeld, EndsBy};
+ghost use Rattle.ip_session.specs.Session.{ground_end, met_only, unasked};
 
-use crate::replies::{branch_reply, commit_answer, merge_answer, removed_reply};
+use crate::replies::{branch_answer, commit_answer, merge_answer, removed_answer};
 use crate::session::{Session, SessionEnd, resolve};
 use ip_base::{Blob, Info};
 use ip_ground::Ground;
@@ -23,30 +23,22 @@ impl Session {
     pub(crate) fn commit<G: Ground>(
         &mut self,
         ground: &mut G,
-        branch: &[u8],
+        branch: Blob,
         info: Info,
     ) -> Result<Reply, SessionEnd>
-        requires branch { IsBranchName branch.now }
+        requires branch { IsBranchName branch }
         requires info { IsInfo info }
         requires met { self.old.met ≡ met_only false }
         requires tables { IsServing self.old }
-        ensures runs { Runs (IsTrue G.tells) unasked (G.told ground.old) (G.told ground.new) self.old self.new (Command.Commit branch.now info) result }
-        ensures same_collection { self.new.store.collection ≡ self.old.store.collection }
+        ensures runs { Runs (IsTrue G.tells) unasked (G.told ground.old) (G.told ground.new) self.old self.new (Command.Commit branch info) result }
+        ensures same_collection { self.new.store.held.collection ≡ self.old.store.held.collection }
         ensures meets_none { MeetsNone self.new.met }
         ensures tells_none { IfOk result TellsNone }
         ensures counts { Counts ground_end result (G.counts_of ground.old) (G.counts_of ground.new) }
-        ensures cause { IfErr result (EndsBy (IsHeld G.tells (G.told ground.old) self.old)) }
     {
-        let made = self
-            .store
-            .commit(self.alloc, ground, &mut self.work, branch, info);
-        match commit_answer(made) {
-            Ok(reply) => {
-                self.met = self.store.met();
-                Ok(reply)
-            }
-            Err(end) => Err(end),
-        }
+        let made = self.store.commit(self.alloc, ground, &mut self.work, branch.as_slice(), info);
+        self.met = self.store.met();
+        commit_answer(made)
     }
 
     // Merges the commit that a reference names into a branch, by these rules. The work stays as it is.
@@ -63,11 +55,10 @@ impl Session {
         requires met { self.old.met ≡ met_only false }
         requires tables { IsServing self.old }
         ensures runs { Runs (IsTrue G.tells × IsDecisive (D.rule rules.now)) (D.rule rules.now) (G.told ground.old) (G.told ground.new) self.old self.new (Command.Merge target branch info) result }
-        ensures same_collection { self.new.store.collection ≡ self.old.store.collection }
+        ensures same_collection { self.new.store.held.collection ≡ self.old.store.held.collection }
         ensures meets_none { MeetsNone self.new.met }
         ensures tells_none { IfOk result TellsNone }
         ensures counts { Counts ground_end result (G.counts_of ground.old) (G.counts_of ground.new) }
-        ensures cause { IsDecisive (D.rule rules.now) → IfErr result (EndsBy (IsHeld G.tells (G.told ground.old) self.old)) }
     {
         let number = match resolve(&self.store, target) {
             Ok(number) => number,
@@ -76,44 +67,35 @@ impl Session {
         let made = self
             .store
             .merge_into(self.alloc, ground, number, branch.as_slice(), info, rules);
-        match merge_answer(branch, made) {
-            Ok(reply) => {
-                self.met = self.store.met();
-                Ok(reply)
-            }
-            Err(end) => Err(end),
-        }
+        self.met = self.store.met();
+        merge_answer(branch, made)
     }
 
     // Puts a branch at the commit that a reference names.
     pub(crate) fn set_branch<G: Ground>(
         &mut self,
         ground: &mut G,
-        name: &[u8],
+        name: Blob,
         target: Target,
     ) -> Result<Reply, SessionEnd>
-        requires name { IsBranchName name.now }
+        requires name { IsBranchName name }
         requires met { self.old.met ≡ met_only false }
         requires tables { IsServing self.old }
-        ensures runs { Runs (IsTrue G.tells) unasked (G.told ground.old) (G.told ground.new) self.old self.new (Command.Branch name.now target) result }
-        ensures same_collection { self.new.store.collection ≡ self.old.store.collection }
+        ensures runs { Runs (IsTrue G.tells) unasked (G.told ground.old) (G.told ground.new) self.old self.new (Command.Branch name target) result }
+        ensures same_collection { self.new.store.held.collection ≡ self.old.store.held.collection }
         ensures meets_none { MeetsNone self.new.met }
         ensures tells_none { IfOk result TellsNone }
         ensures counts { Counts ground_end result (G.counts_of ground.old) (G.counts_of ground.new) }
-        ensures cause { IfErr result (EndsBy (IsHeld G.tells (G.told ground.old) self.old)) }
     {
         let number = match resolve(&self.store, target) {
             Ok(number) => number,
             Err(reply) => return Ok(reply),
         };
-        let made = self.store.set_branch(self.alloc, ground, name, number);
-        match branch_reply(&made) {
-            Some(reply) => {
-                self.met = self.store.met();
-                Ok(reply)
-            }
-            None => Err(SessionEnd::Ground),
-        }
+        let made = self
+            .store
+            .set_branch(self.alloc, ground, name.as_slice(), number);
+        self.met = self.store.met();
+        branch_answer(made)
     }
 
     // Takes a branch away.
@@ -126,21 +108,15 @@ impl Session {
         requires met { self.old.met ≡ met_only false }
         requires tables { IsServing self.old }
         ensures runs { Runs (IsTrue G.tells) unasked (G.told ground.old) (G.told ground.new) self.old self.new (Command.BranchRm name) result }
-        ensures same_collection { self.new.store.collection ≡ self.old.store.collection }
+        ensures same_collection { self.new.store.held.collection ≡ self.old.store.held.collection }
         ensures meets_none { MeetsNone self.new.met }
         ensures tells_none { IfOk result TellsNone }
         ensures counts { Counts ground_end result (G.counts_of ground.old) (G.counts_of ground.new) }
-        ensures cause { IfErr result (EndsBy (IsHeld G.tells (G.told ground.old) self.old)) }
     {
         let made = self
             .store
             .remove_branch(self.alloc, ground, name.as_slice());
-        match removed_reply(name, &made) {
-            Some(reply) => {
-                self.met = self.store.met();
-                Ok(reply)
-            }
-            None => Err(SessionEnd::Ground),
-        }
+        self.met = self.store.met();
+        removed_answer(name, made)
     }
 }

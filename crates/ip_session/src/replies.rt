@@ -1,14 +1,14 @@
 // What a session answers, and what it meets.
-ghost use Rattle.std.specs.Prelude.{◌≡◌, ◌≤◌, [], true, IfOk, IfErr, IfSome, length};
+ghost use Rattle.std.specs.Prelude.{◌≡◌, ◌≤◌, [], true, IfOk, Some, Ok, Err};
 ghost use Rattle.std.specs.Vec.{vec_capacity};
 ghost use Rattle.ip_spec.specs.declared.reply.Reply.TheVariants as Reply;
 ghost use Rattle.ip_spec.specs.Step.{got_reply, listed_reply};
-ghost use Rattle.ip_store.specs.Commits.{fault_reply, reply_to};
-ghost use Rattle.ip_store.specs.Merging.{merge_reply};
-ghost use Rattle.ip_store.specs.Naming.{branch_reply, removed_reply};
+ghost use Rattle.ip_held.specs.Answers.{fault_reply, reply_to};
+ghost use Rattle.ip_appends.specs.Merging.{merge_reply};
+ghost use Rattle.ip_appends.specs.Naming.{branch_reply, removed_reply};
 ghost use Rattle.ip_session.specs.Asking.{MeetsNone, TellsNone};
 ghost use Rattle.ip_session.specs.declared.session.TheConstants.{REPLY_ROOM};
-ghost use Rattle.ip_session.specs.Session.{met_only, Writes, Fails, fault_answer, tree_fault, IsEndOf, EndsBecause, IsNamed};
+ghost use Rattle.ip_session.specs.Session.{met_only, Writes, Fails, fault_answer, tree_fault, IsAnswer};
 
 use crate::session::SessionEnd;
 use ip_base::{Blob, Hash};
@@ -68,105 +68,10 @@ pub(crate) fn listed_reply(listed: Listed) -> Reply
     }
 }
 
-// What a durable command is answered with that was not done. A fault of the ground has no answer, nor has one of its files.
-pub(crate) fn fault_reply(fault: &StoreFault) -> Option<Reply>
-    ensures value { result ≡ fault_reply fault.now }
-    ensures tells_none { IfSome result TellsNone }
-{
-    match fault {
-        StoreFault::GivenUp(number) => Some(Reply::GivenUp(*number)),
-        StoreFault::HeadMoved(name) => Some(Reply::HeadMoved(*name)),
-        StoreFault::Leaving(number) => Some(Reply::Leaving(*number)),
-        StoreFault::Existing(name) => Some(Reply::Existing(*name)),
-        StoreFault::Limit(limit) => Some(Reply::Limit(*limit)),
-        StoreFault::Memory => Some(Reply::Memory),
-        StoreFault::Ground | StoreFault::Damaged { .. } => None,
-    }
-}
-
-// What a commit is answered with, or why the session ends.
-pub(crate) fn commit_answer(made: Result<Hash, StoreFault>) -> Result<Reply, SessionEnd>
-    ensures reply { IfOk result (λ reply. reply_to made ≡ Some reply) }
-    ensures end { IfErr result (EndsBecause made) }
-    ensures long { IfOk made (λ name. length name ≡ 32) }
-    ensures tells_none { IfOk result TellsNone }
-{
-    match made {
-        Ok(name) => {
-            // It says how long a name is.
-            name.as_slice();
-            Ok(Reply::Committed(name))
-        }
-        Err(refusal) => fault_answer(refusal),
-    }
-}
-
-// What making a commit's tree the work is answered with.
-pub(crate) fn at_reply(name: Hash) -> Reply
-    ensures reply { result ≡ Reply.At name }
-    ensures long { length name ≡ 32 }
-    ensures tells_none { TellsNone result }
-{
-    // It says how long a name is.
-    name.as_slice();
-    Reply::At(name)
-}
-
-// What a collection is answered with that was begun.
-pub(crate) fn started_reply(name: Hash) -> Reply
-    ensures reply { result ≡ Reply.Started name }
-    ensures long { length name ≡ 32 }
-{
-    // It says how long a name is.
-    name.as_slice();
-    Reply::Started(name)
-}
-
-// What putting a branch at a commit is answered with.
-pub(crate) fn branch_reply(made: &Result<(), StoreFault>) -> Option<Reply>
-    ensures value { result ≡ branch_reply made.now }
-    ensures tells_none { IfSome result TellsNone }
-{
-    match made {
-        Ok(()) => Some(Reply::Accepted),
-        Err(refusal) => fault_reply(refusal),
-    }
-}
-
-// What taking away the branch of this name is answered with.
-pub(crate) fn removed_reply(name: Blob, made: &Result<bool, StoreFault>) -> Option<Reply>
-    ensures value { result ≡ removed_reply name made.now }
-    ensures tells_none { IfSome result TellsNone }
-{
-    match made {
-        Ok(true) => Some(Reply::Accepted),
-        Ok(false) => Some(Reply::NoBranch(name)),
-        Err(refusal) => fault_reply(refusal),
-    }
-}
-
-// What a merge into the branch of this name is answered with, or why the session ends.
-pub(crate) fn merge_answer(
-    branch: Blob,
-    made: Result<Merge, StoreFault>,
-) -> Result<Reply, SessionEnd>
-    ensures reply { IfOk result (λ reply. merge_reply branch made ≡ Some reply) }
-    ensures end { IfErr result (EndsBecause made) }
-    ensures long { IfOk result IsNamed }
-    ensures tells_none { IfOk result TellsNone }
-{
-    match made {
-        Ok(merge) => Ok(merged_reply(branch, merge)),
-        Err(fault) => fault_answer(fault),
-    }
-}
-
 // What a call of the store is answered with that was not done, or why the session ends.
 fn fault_answer(fault: StoreFault) -> Result<Reply, SessionEnd>
-    ensures answer { result ≡ fault_answer fault }
-    ensures reply { IfOk result (λ reply. fault_reply fault ≡ Some reply) }
-    ensures end { IfErr result (IsEndOf fault) }
-    ensures long { IfOk result IsNamed }
+    ensures value { result ≡ fault_answer fault }
+    ensures answer { IsAnswer {A = Unit {0}} (fault_reply fault) (Err fault) result }
     ensures tells_none { IfOk result TellsNone }
 {
     match fault {
@@ -181,23 +86,66 @@ fn fault_answer(fault: StoreFault) -> Result<Reply, SessionEnd>
     }
 }
 
+// What a commit is answered with, or why the session ends.
+pub(crate) fn commit_answer(made: Result<Hash, StoreFault>) -> Result<Reply, SessionEnd>
+    ensures answer { IsAnswer (reply_to made) made result }
+    ensures tells_none { IfOk result TellsNone }
+{
+    match made {
+        Ok(name) => Ok(Reply::Committed(name)),
+        Err(refusal) => fault_answer(refusal),
+    }
+}
+
+// What putting a branch at a commit is answered with, or why the session ends.
+pub(crate) fn branch_answer(made: Result<(), StoreFault>) -> Result<Reply, SessionEnd>
+    ensures answer { IsAnswer (branch_reply made) made result }
+    ensures tells_none { IfOk result TellsNone }
+{
+    match made {
+        Ok(()) => Ok(Reply::Accepted),
+        Err(fault) => fault_answer(fault),
+    }
+}
+
+// What taking away the branch of this name is answered with, or why the session ends.
+pub(crate) fn removed_answer(
+    name: Blob,
+    made: Result<bool, StoreFault>,
+) -> Result<Reply, SessionEnd>
+    ensures answer { IsAnswer (removed_reply name made) made result }
+    ensures tells_none { IfOk result TellsNone }
+{
+    match made {
+        Ok(true) => Ok(Reply::Accepted),
+        Ok(false) => Ok(Reply::NoBranch(name)),
+        Err(fault) => fault_answer(fault),
+    }
+}
+
+// What a merge into the branch of this name is answered with, or why the session ends.
+pub(crate) fn merge_answer(
+    branch: Blob,
+    made: Result<Merge, StoreFault>,
+) -> Result<Reply, SessionEnd>
+    ensures answer { IsAnswer (merge_reply branch made) made result }
+    ensures tells_none { IfOk result TellsNone }
+{
+    match made {
+        Ok(merge) => Ok(merged_reply(branch, merge)),
+        Err(fault) => fault_answer(fault),
+    }
+}
+
 // What a merge that came to this is answered with.
 fn merged_reply(branch: Blob, merge: Merge) -> Reply
     ensures reply { merge_reply branch (Ok merge) ≡ Some result }
-    ensures long { IsNamed result }
     ensures tells_none { TellsNone result }
 {
     match merge {
         Merge::Current(name) => Reply::Current(name),
-        Merge::Forward(name) => {
-            // It says how long a name is.
-            name.as_slice();
-            Reply::Forward(name)
-        }
-        Merge::Merged(name) => {
-            name.as_slice();
-            Reply::Merged(name)
-        }
+        Merge::Forward(name) => Reply::Forward(name),
+        Merge::Merged(name) => Reply::Merged(name),
         Merge::NoBranch => Reply::NoBranch(branch),
         Merge::Bases(count) => Reply::Bases(count),
         Merge::Conflict(path) => Reply::Conflict(path),
@@ -213,13 +161,7 @@ pub(crate) fn failed(fault: StoreFault, met: &mut Met) -> Result<Reply, SessionE
 {
     match fault {
         StoreFault::Memory => Ok(refuse(met)),
-        StoreFault::GivenUp(number) => fault_answer(StoreFault::GivenUp(number)),
-        StoreFault::HeadMoved(name) => fault_answer(StoreFault::HeadMoved(name)),
-        StoreFault::Leaving(number) => fault_answer(StoreFault::Leaving(number)),
-        StoreFault::Existing(name) => fault_answer(StoreFault::Existing(name)),
-        StoreFault::Limit(limit) => fault_answer(StoreFault::Limit(limit)),
-        StoreFault::Ground => fault_answer(StoreFault::Ground),
-        StoreFault::Damaged { at, names } => fault_answer(StoreFault::Damaged { at, names }),
+        other => fault_answer(other),
     }
 }
 

@@ -1,9 +1,7 @@
 // A session: one line, one reply.
-ghost use Rattle.std.specs.Prelude.{◌≡◌, ◌≤◌, [], ◌++◌, List, false, ℕ, Option, IsTrue, IfOk, IfErr, OnOk, OnErr, None, Ok};
+ghost use Rattle.std.specs.Prelude.{◌≡◌, ◌≤◌, [], false, ℕ, Option, IsTrue, IfOk, IfErr, OnOk, OnErr, None, Ok};
 ghost use Rattle.std.specs.Vec.{vec_capacity};
-ghost use Rattle.ip_ground.specs.Counts.{Counts, CountsIf, FileFault};
-ghost use Rattle.ip_base.specs.declared.exit.Reaped.{Reaped};
-ghost use Rattle.ip_spawn.specs.declared.job.Job.{Job};
+ghost use Rattle.ip_ground.specs.Counts.{CountsIf, FileFault};
 ghost use Rattle.ip_spec.specs.Map.{len};
 ghost use Rattle.ip_spec.specs.View.{View, no_view};
 ghost use Rattle.ip_spec.specs.declared.record.Record.{Record};
@@ -15,17 +13,17 @@ ghost use Rattle.ip_spec.specs.declared.reply.Reply.{Reply};
 ghost use Rattle.ip_spec.specs.declared.reply.Reply.TheVariants as Reply;
 ghost use Rattle.ip_spec.specs.Step.{resolve, least_with, phase_at};
 ghost use Rattle.ip_spec.specs.Text.{reply_text};
-ghost use Rattle.ip_store.specs.Collecting.{child_of, phase_of};
-ghost use Rattle.ip_store.specs.Commits.{met_nothing};
-ghost use Rattle.ip_store.specs.Store.{IsOf};
-ghost use Rattle.ip_store.specs.Work.{IsLawful, IsThere};
+ghost use Rattle.ip_held.specs.Collecting.{child_of, phase_of};
+ghost use Rattle.ip_held.specs.Answers.{met_nothing};
+ghost use Rattle.ip_held.specs.Held.{IsOf};
+ghost use Rattle.ip_held.specs.Work.{IsLawful, IsThere};
 ghost use Rattle.ip_merge.specs.Rules.{IsDecisive};
 ghost use Rattle.ip_session.specs.Clearing.{ClearIn};
-ghost use Rattle.ip_session.specs.Asking.{Asked, HandlesNone, QuietIfLong, MeetsNone, Spawns, TellsNone};
+ghost use Rattle.ip_session.specs.Asking.{QuietIfLong, MeetsNone, Spawns, TellsNone};
 ghost use Rattle.ip_session.specs.Placing.{PlacedIn};
-ghost use Rattle.ip_session.specs.Running.{Runs};
+ghost use Rattle.ip_session.specs.Running.{Ran};
 ghost use Rattle.ip_session.specs.declared.session.TheConstants.{REPLY_ROOM};
-ghost use Rattle.ip_session.specs.Session.{ground_end, met_only, CountsBy, CountsIn, IsHeld, EndsBy};
+ghost use Rattle.ip_session.specs.Session.{ground_end, met_only, CountsIn, IsHeld, EndsBy};
 
 use crate::replies::{met_only, put_reply, refuse};
 use ip_base::limit::PARENTS_MAX;
@@ -57,9 +55,9 @@ pub enum SessionEnd {
 
 // The commit that a reference names, or the answer that there is none.
 pub(crate) fn resolve(store: &Store, target: Target) -> Result<Number, Reply>
-    requires tables { (r : Repository) × IsOf store.now r }
-    ensures number { (r : Repository) → IsOf store.now r → result ≡ resolve r target }
-    ensures retained { (r : Repository) → IsOf store.now r → IfOk result (λ n. IsTrue (is_retained r n)) }
+    requires tables { (r : Repository) × IsOf store.now.held r }
+    ensures number { (r : Repository) → IsOf store.now.held r → result ≡ resolve r target }
+    ensures retained { (r : Repository) → IsOf store.now.held r → IfOk result (λ n. IsTrue (is_retained r n)) }
     ensures tells_none { IfErr result TellsNone }
 {
     match target {
@@ -100,8 +98,8 @@ impl Session {
     pub fn new(alloc: Global, store: Store) -> Self
         ensures store { result.store ≡ store }
         ensures met { result.met ≡ met_nothing }
-        ensures is_in { (r : Repository) → IsOf store r → IsIn result r }
-        ensures state { store.collection ≡ None → (r : Repository) → state_in result r no_view ≡ opened r }
+        ensures is_in { (r : Repository) → IsOf store.held r → IsIn result r }
+        ensures state { store.held.collection ≡ None → (r : Repository) → state_in result r no_view ≡ opened r }
         ensures lawful { (records : ℕ → Option Record) (r : Repository) → IsLawful records r result.work no_view }
     {
         Session {
@@ -126,8 +124,8 @@ impl Session {
         ensures tables { (r : Repository) → IsIn self.old r → IsTrue (is_retained r number) → IsIn self.new r }
         ensures meets_none { MeetsNone self.new.met }
         ensures tells_none { TellsNone result }
-        ensures same_store { self.new.store ≡ self.old.store }
-        ensures answered { (records : ℕ → Option Record) (r : Repository) (v : View) → IsOf self.old.store r → IsLawful records r self.old.work v → IsThere r self.old.work.least → IsTrue (is_retained r number) →
+        ensures same_store { self.new.store.held ≡ self.old.store.held }
+        ensures answered { (records : ℕ → Option Record) (r : Repository) (v : View) → IsOf self.old.store.held r → IsLawful records r self.old.work v → IsThere r self.old.work.least → IsTrue (is_retained r number) →
             (target : Target) → resolve r target ≡ Ok number → IsAnswered records self.old self.new r v (Command.Parent target) result }
     {
         let parents = self.work.parents.as_slice();
@@ -151,8 +149,8 @@ impl Session {
         ensures tables { (r : Repository) → IsIn self.old r → IsIn self.new r }
         ensures meets_none { MeetsNone self.new.met }
         ensures tells_none { TellsNone result }
-        ensures same_store { self.new.store ≡ self.old.store }
-        ensures answered { (records : ℕ → Option Record) (r : Repository) (v : View) → IsOf self.old.store r → IsLawful records r self.old.work v →
+        ensures same_store { self.new.store.held ≡ self.old.store.held }
+        ensures answered { (records : ℕ → Option Record) (r : Repository) (v : View) → IsOf self.old.store.held r → IsLawful records r self.old.work v →
             IsAnswered records self.old self.new r v (Command.Parent target) result }
     {
         if let Some(number) = self.store.given_up(self.work.least) {
@@ -171,8 +169,8 @@ impl Session {
         ensures tables { (r : Repository) → IsIn self.old r → IsIn self.new r }
         ensures meets_none { MeetsNone self.new.met }
         ensures tells_none { TellsNone result }
-        ensures same_store { self.new.store ≡ self.old.store }
-        ensures answered { (records : ℕ → Option Record) (r : Repository) (v : View) → IsOf self.old.store r → IsLawful records r self.old.work v →
+        ensures same_store { self.new.store.held ≡ self.old.store.held }
+        ensures answered { (records : ℕ → Option Record) (r : Repository) (v : View) → IsOf self.old.store.held r → IsLawful records r self.old.work v →
             IsAnswered records self.old self.new r v Command.Branches result }
     {
         match self.store.branches(self.alloc) {
@@ -188,8 +186,8 @@ impl Session {
         ensures tables { (r : Repository) → IsIn self.old r → IsIn self.new r }
         ensures meets_none { MeetsNone self.new.met }
         ensures tells_none { TellsNone result }
-        ensures same_store { self.new.store ≡ self.old.store }
-        ensures answered { (records : ℕ → Option Record) (r : Repository) (v : View) → IsOf self.old.store r → IsLawful records r self.old.work v →
+        ensures same_store { self.new.store.held ≡ self.old.store.held }
+        ensures answered { (records : ℕ → Option Record) (r : Repository) (v : View) → IsOf self.old.store.held r → IsLawful records r self.old.work v →
             IsAnswered records self.old self.new r v (Command.Log target) result }
     {
         let number = match resolve(&self.store, target) {
@@ -209,8 +207,8 @@ impl Session {
         ensures tables { (r : Repository) → IsIn self.old r → IsIn self.new r }
         ensures meets_none { MeetsNone self.new.met }
         ensures tells_none { TellsNone result }
-        ensures same_store { self.new.store ≡ self.old.store }
-        ensures answered { (records : ℕ → Option Record) (r : Repository) (v : View) → IsOf self.old.store r → IsLawful records r self.old.work v →
+        ensures same_store { self.new.store.held ≡ self.old.store.held }
+        ensures answered { (records : ℕ → Option Record) (r : Repository) (v : View) → IsOf self.old.store.held r → IsLawful records r self.old.work v →
             IsAnswered records self.old self.new r v (Command.Lcas one other) result }
     {
         let one = match resolve(&self.store, one) {
@@ -229,7 +227,7 @@ impl Session {
 
     // The numbers of the store.
     fn stat(&self) -> Reply
-        ensures { (r : Repository) → IsOf self.now.store r → result ≡ Reply.Stat r.floor (next r) (len r.branches) (phase_at (phase_of self.now.store.collection)) }
+        ensures { (r : Repository) → IsOf self.now.store.held r → result ≡ Reply.Stat r.floor (next r) (len r.branches) (phase_at (phase_of self.now.store.held.collection)) }
     {
         Reply::Stat {
             floor: self.store.floor(),
@@ -242,23 +240,21 @@ impl Session {
         }
     }
 
-    // Runs a command that has to do with no child.
-    fn plain<G: Ground, D: Decides>(
+    // Runs a command.
+    fn run<G: Ground, P: Spawner, D: Decides>(
         &mut self,
+        dir: &str,
         ground: &mut G,
+        spawner: &mut P,
         command: Command,
         rules: &D,
     ) -> Result<Reply, SessionEnd>
         requires words { HasWords command }
-        requires childless { HandlesNone command }
         requires met { self.old.met ≡ met_only false }
         requires tables { IsServing self.old }
-        ensures runs { Runs (IsTrue G.tells × IsDecisive (D.rule rules.now)) (D.rule rules.now) (G.told ground.old) (G.told ground.new) self.old self.new command result }
-        ensures same_collection { self.new.store.collection ≡ self.old.store.collection }
-        ensures meets_none { MeetsNone self.new.met }
-        ensures tells_none { IfOk result TellsNone }
-        ensures counts { Counts ground_end result (G.counts_of ground.old) (G.counts_of ground.new) }
-        ensures cause { IsDecisive (D.rule rules.now) → IfErr result (EndsBy (IsHeld G.tells (G.told ground.old) self.old)) }
+        requires child { P.held spawner.old ≡ child_of self.old.store.held.collection }
+        ensures { Ran (IsTrue G.tells × IsDecisive (D.rule rules.now)) (D.rule rules.now) (G.told ground.old) (G.told ground.new) (G.counts_of ground.old) (G.counts_of ground.new) P.tells (P.held spawner.new) (P.told spawner.old) (P.told spawner.new)
+            (P.counts_of spawner.old) (P.counts_of spawner.new) self.old self.new command result }
     {
         match command {
             // It asks nothing of the ground.
@@ -282,47 +278,19 @@ impl Session {
             Command::Cat { target, path } => self.cat(ground, target, path),
             Command::Show(target) => self.show(ground, target),
             // It may change files.
-            Command::Commit { branch, info } => self.commit(ground, branch.as_slice(), info),
+            Command::Commit { branch, info } => self.commit(ground, branch, info),
             Command::Merge {
                 target,
                 branch,
                 info,
             } => self.merge(ground, target, branch, info, rules),
-            Command::Branch { name, target } => self.set_branch(ground, name.as_slice(), target),
+            Command::Branch { name, target } => self.set_branch(ground, name, target),
             Command::BranchRm(name) => self.remove_branch(ground, name),
-            // The others speak to a child.
-            _ => unreachable!(),
-        }
-    }
-
-    // Runs a command.
-    fn run<G: Ground, P: Spawner, D: Decides>(
-        &mut self,
-        dir: &str,
-        ground: &mut G,
-        spawner: &mut P,
-        command: Command,
-        rules: &D,
-    ) -> Result<Reply, SessionEnd>
-        requires words { HasWords command }
-        requires met { self.old.met ≡ met_only false }
-        requires tables { IsServing self.old }
-        requires child { P.held spawner.old ≡ child_of self.old.store.collection }
-        ensures runs { Runs (IsTrue G.tells × IsDecisive (D.rule rules.now)) (D.rule rules.now) (G.told ground.old) (G.told ground.new) self.old self.new command result }
-        ensures child { P.held spawner.new ≡ child_of self.new.store.collection }
-        ensures asked { (jobs : List Job) × (ends : List Reaped) × (IsTrue P.tells → P.told spawner.new ≡ record { started = (P.told spawner.old).started ++ jobs; reaped = (P.told spawner.old).reaped ++ ends })
-            × Asked self.old self.new command result jobs ends (P.counts_of spawner.old) (P.counts_of spawner.new) }
-        ensures quiet { IfOk result (QuietIfLong self.new.met (G.counts_of ground.old) (G.counts_of ground.new)) }
-        ensures counts { CountsBy result command self.new.met (G.counts_of ground.old) (G.counts_of ground.new) }
-        ensures cause { IsDecisive (D.rule rules.now) → IfErr result (EndsBy (IsHeld G.tells (G.told ground.old) self.old)) }
-    {
-        match command {
             // It speaks to the child of a collection.
             Command::Collect(target) => self.collect(dir, ground, spawner, target),
             Command::Look => self.look(ground, spawner),
             Command::Finish => self.finish(ground, spawner),
             Command::Cancel => self.cancel(ground, spawner),
-            other => self.plain(ground, other, rules),
         }
     }
 
@@ -336,14 +304,14 @@ impl Session {
         rules: &D,
     ) -> Result<Reply, SessionEnd>
         requires tables { IsServing self.old }
-        requires child { P.held spawner.old ≡ child_of self.old.store.collection }
-        ensures child { P.held spawner.new ≡ child_of self.new.store.collection }
+        requires child { P.held spawner.old ≡ child_of self.old.store.held.collection }
+        ensures child { P.held spawner.new ≡ child_of self.new.store.held.collection }
         ensures asked { Spawns P.tells (P.told spawner.old) (P.told spawner.new) self.old self.new line.now result (P.counts_of spawner.old) (P.counts_of spawner.new) }
         ensures tables { IfOk result (λ reply. IsServing self.new) }
         ensures goes { IsTrue G.tells → IsDecisive (D.rule rules.now) → (r : Repository) (v : View) → IsWorking (G.told ground.old) self.old r v →
             IfOk result (GoesIn (D.rule rules.now) (G.told ground.old) (G.told ground.new) self.old self.new r v line.now) }
         ensures placed { IsTrue G.tells → IsDecisive (D.rule rules.now) → (r : Repository) (v : View) → IsWorking (G.told ground.old) self.old r v →
-            IfOk result (PlacedIn (D.rule rules.now) self.old.store.slot self.old.store.unswept self.new.store.slot (state_in self.old r v) v line.now) }
+            IfOk result (PlacedIn (D.rule rules.now) self.old.store.held.slot self.old.store.held.unswept self.new.store.held.slot (state_in self.old r v) v line.now) }
         ensures clear { IsTrue G.tells → IsDecisive (D.rule rules.now) → (r : Repository) (v : View) → IsWorking (G.told ground.old) self.old r v →
             IfOk result (ClearIn (G.told ground.old) (G.told ground.new) self.old self.new line.now) }
         ensures cut { IsTrue G.tells → IsDecisive (D.rule rules.now) → (r : Repository) (v : View) → IsWorking (G.told ground.old) self.old r v →
@@ -375,8 +343,8 @@ impl Session {
         requires empty { text.old.items ≡ [] }
         requires room { REPLY_ROOM ≤ vec_capacity text.old }
         requires tables { IsServing self.old }
-        requires child { P.held spawner.old ≡ child_of self.old.store.collection }
-        ensures child { P.held spawner.new ≡ child_of self.new.store.collection }
+        requires child { P.held spawner.old ≡ child_of self.old.store.held.collection }
+        ensures child { P.held spawner.new ≡ child_of self.new.store.held.collection }
         ensures room { vec_capacity text.old ≤ vec_capacity text.new }
         ensures silent { OnErr result (text.new.items ≡ []) }
         ensures tables { OnOk result (IsServing self.new) }
@@ -384,7 +352,7 @@ impl Session {
             × Spawns P.tells (P.told spawner.old) (P.told spawner.new) self.old self.new line.now (Ok reply) (P.counts_of spawner.old) (P.counts_of spawner.new)
             × CountsIn line.now (Ok reply) self.new.met (G.counts_of ground.old) (G.counts_of ground.new) × (IsTrue G.tells → IsDecisive (D.rule rules.now) → (r : Repository) (v : View) → IsWorking (G.told ground.old) self.old r v →
             GoesIn (D.rule rules.now) (G.told ground.old) (G.told ground.new) self.old self.new r v line.now reply
-            × PlacedIn (D.rule rules.now) self.old.store.slot self.old.store.unswept self.new.store.slot (state_in self.old r v) v line.now reply
+            × PlacedIn (D.rule rules.now) self.old.store.held.slot self.old.store.held.unswept self.new.store.held.slot (state_in self.old r v) v line.now reply
             × ClearIn (G.told ground.old) (G.told ground.new) self.old self.new line.now reply)) }
         ensures cut { IsTrue G.tells → IsDecisive (D.rule rules.now) → (r : Repository) (v : View) → IsWorking (G.told ground.old) self.old r v →
             OnErr result (CutIn (D.rule rules.now) (G.told ground.old) (G.told ground.new) self.old self.new r v line.now) }

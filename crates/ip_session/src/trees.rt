@@ -1,14 +1,12 @@
 // The commands that read records, and change no file.
-ghost use Rattle.std.specs.Prelude.{◌≡◌, false, IsTrue, IfOk, IfErr};
+ghost use Rattle.std.specs.Prelude.{◌≡◌, false, IfOk, IfErr};
 ghost use Rattle.ip_ground.specs.Counts.{Counts};
 ghost use Rattle.ip_spec.specs.declared.command.Command.TheVariants as Command;
 ghost use Rattle.ip_spec.specs.Path.{IsPath};
-ghost use Rattle.ip_spec.specs.Repository.{Repository};
-ghost use Rattle.ip_spec.specs.View.{View};
 ghost use Rattle.ip_session.specs.Asking.{MeetsNone, TellsNone};
 ghost use Rattle.ip_session.specs.Session.{ground_end, met_only, HasRead, IsHeld, EndsBy};
 
-use crate::replies::{at_reply, failed, got_reply, listed_reply, refuse, shown_reply, tree_fault};
+use crate::replies::{failed, got_reply, listed_reply, refuse, shown_reply, tree_fault};
 use crate::session::{Session, SessionEnd, least_with, resolve};
 use ip_base::{Blob, Numbers, Path};
 use ip_ground::Ground;
@@ -16,7 +14,7 @@ use ip_script::{Reply, Target};
 use ip_store::Work;
 
 impl Session {
-    ghost use Rattle.ip_session.specs.Session.{IsServing, IsWorking};
+    ghost use Rattle.ip_session.specs.Session.{IsServing};
 
     // Makes the work the tree of the commit that a reference names, and that its parent. It reads the commit's record alone.
     pub(crate) fn checkout<G: Ground>(
@@ -27,7 +25,7 @@ impl Session {
         requires met { self.old.met ≡ met_only false }
         requires tables { IsServing self.old }
         ensures reads { HasRead G.tells (G.told ground.old) (G.told ground.new) self.old self.new (Command.Checkout target) result }
-        ensures same_collection { self.new.store.collection ≡ self.old.store.collection }
+        ensures same_collection { self.new.store.held.collection ≡ self.old.store.held.collection }
         ensures meets_none { MeetsNone self.new.met }
         ensures tells_none { IfOk result TellsNone }
         ensures counts { Counts ground_end result (G.counts_of ground.old) (G.counts_of ground.new) }
@@ -50,7 +48,7 @@ impl Session {
             parents,
             least: Some(number),
         };
-        Ok(at_reply(self.store.retained_name(number)))
+        Ok(Reply::At(self.store.retained_name(number)))
     }
 
     // Puts contents at a path of the work's tree.
@@ -64,7 +62,7 @@ impl Session {
         requires met { self.old.met ≡ met_only false }
         requires tables { IsServing self.old }
         ensures reads { HasRead G.tells (G.told ground.old) (G.told ground.new) self.old self.new (Command.Set path contents) result }
-        ensures same_collection { self.new.store.collection ≡ self.old.store.collection }
+        ensures same_collection { self.new.store.held.collection ≡ self.old.store.held.collection }
         ensures meets_none { MeetsNone self.new.met }
         ensures tells_none { IfOk result TellsNone }
         ensures counts { Counts ground_end result (G.counts_of ground.old) (G.counts_of ground.new) }
@@ -90,7 +88,7 @@ impl Session {
         requires met { self.old.met ≡ met_only false }
         requires tables { IsServing self.old }
         ensures reads { HasRead G.tells (G.told ground.old) (G.told ground.new) self.old self.new (Command.Rm path) result }
-        ensures same_collection { self.new.store.collection ≡ self.old.store.collection }
+        ensures same_collection { self.new.store.held.collection ≡ self.old.store.held.collection }
         ensures meets_none { MeetsNone self.new.met }
         ensures tells_none { IfOk result TellsNone }
         ensures counts { Counts ground_end result (G.counts_of ground.old) (G.counts_of ground.new) }
@@ -119,7 +117,7 @@ impl Session {
         requires met { self.old.met ≡ met_only false }
         requires tables { IsServing self.old }
         ensures reads { HasRead G.tells (G.told ground.old) (G.told ground.new) self.old self.new (Command.Graft target from to) result }
-        ensures same_collection { self.new.store.collection ≡ self.old.store.collection }
+        ensures same_collection { self.new.store.held.collection ≡ self.old.store.held.collection }
         ensures meets_none { MeetsNone self.new.met }
         ensures tells_none { IfOk result TellsNone }
         ensures counts { Counts ground_end result (G.counts_of ground.old) (G.counts_of ground.new) }
@@ -152,7 +150,7 @@ impl Session {
         requires met { self.old.met ≡ met_only false }
         requires tables { IsServing self.old }
         ensures reads { HasRead G.tells (G.told ground.old) (G.told ground.new) self.old self.new (Command.Get path) result }
-        ensures same_collection { self.new.store.collection ≡ self.old.store.collection }
+        ensures same_collection { self.new.store.held.collection ≡ self.old.store.held.collection }
         ensures meets_none { MeetsNone self.new.met }
         ensures tells_none { IfOk result TellsNone }
         ensures counts { Counts ground_end result (G.counts_of ground.old) (G.counts_of ground.new) }
@@ -179,7 +177,7 @@ impl Session {
         requires met { self.old.met ≡ met_only false }
         requires tables { IsServing self.old }
         ensures reads { HasRead G.tells (G.told ground.old) (G.told ground.new) self.old self.new (Command.List path) result }
-        ensures same_collection { self.new.store.collection ≡ self.old.store.collection }
+        ensures same_collection { self.new.store.held.collection ≡ self.old.store.held.collection }
         ensures meets_none { MeetsNone self.new.met }
         ensures tells_none { IfOk result TellsNone }
         ensures counts { Counts ground_end result (G.counts_of ground.old) (G.counts_of ground.new) }
@@ -207,7 +205,7 @@ impl Session {
         requires met { self.old.met ≡ met_only false }
         requires tables { IsServing self.old }
         ensures reads { HasRead G.tells (G.told ground.old) (G.told ground.new) self.old self.new (Command.Cat target path) result }
-        ensures same_collection { self.new.store.collection ≡ self.old.store.collection }
+        ensures same_collection { self.new.store.held.collection ≡ self.old.store.held.collection }
         ensures meets_none { MeetsNone self.new.met }
         ensures tells_none { IfOk result TellsNone }
         ensures counts { Counts ground_end result (G.counts_of ground.old) (G.counts_of ground.new) }
@@ -236,7 +234,7 @@ impl Session {
         requires met { self.old.met ≡ met_only false }
         requires tables { IsServing self.old }
         ensures reads { HasRead G.tells (G.told ground.old) (G.told ground.new) self.old self.new (Command.Show target) result }
-        ensures same_collection { self.new.store.collection ≡ self.old.store.collection }
+        ensures same_collection { self.new.store.held.collection ≡ self.old.store.held.collection }
         ensures meets_none { MeetsNone self.new.met }
         ensures tells_none { IfOk result TellsNone }
         ensures counts { Counts ground_end result (G.counts_of ground.old) (G.counts_of ground.new) }

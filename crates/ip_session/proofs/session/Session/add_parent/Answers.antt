@@ -3,8 +3,8 @@ use Rattle.std.specs.List.{list_any}
 use Rattle.ip_base.specs.declared.limit.Limit.TheVariants as Limit
 use Rattle.ip_spec.specs.declared.command.Command.TheVariants as Command
 use Rattle.ip_spec.specs.declared.reply.Reply.TheVariants as Reply
-use Rattle.ip_store.specs.Collecting.{phase_of}
-use Rattle.ip_store.specs.Work.{work_at, AreParents, IsLawful}
+use Rattle.ip_held.specs.Collecting.{phase_of}
+use Rattle.ip_held.specs.Work.{work_at, AreParents, IsLawful}
 use Rattle.ip_session.specs.declared.session.Session.{Session}
 use Rattle.ip_session.specs.Session.{IsAnswered}
 use Rattle.ip_session.proofs.SessionLemmas.{parent_refused}
@@ -16,14 +16,14 @@ pub returns-then-contains-clause-answered : goal.returns-then-contains-clause-an
 returns-then-contains-clause-answered c records r v of l there retained target named =
     let s = c.args.self.now in
     let known : list_any (λ p. p == c.args.number) s.work.parents ≡ true = search rules in
-    still_answered records s s r v (Command.Parent target) refl refl l Reply.Accepted c.requires.met (parent_known r (phase_of s.store.collection) (work_at s.work v) target c.args.number there named known) refl (parent_refused target)
+    still_answered records s s r v (Command.Parent target) refl refl l Reply.Accepted c.requires.met (parent_known r (phase_of s.store.held.collection) (work_at s.work v) target c.args.number there named known) refl (parent_refused target)
 
 pub returns-then-parents-ge-PARENTS_MAX-clause-answered : goal.returns-then-parents-ge-PARENTS_MAX-clause-answered
 returns-then-parents-ge-PARENTS_MAX-clause-answered c records r v of l there retained target named =
     let s = c.args.self.now in
     let new : list_any (λ p. p == c.args.number) s.work.parents ≡ false = search rules in
     still_answered records s s r v (Command.Parent target) refl refl l (Reply.Limit Limit.Parents) c.requires.met
-    (parent_full r (phase_of s.store.collection) (work_at s.work v) target c.args.number there named new (omega (arith, ap length c.as_slice-parents.ensures))) refl (parent_refused target)
+    (parent_full r (phase_of s.store.held.collection) (work_at s.work v) target c.args.number there named new (omega (arith, ap length c.as_slice-parents.ensures))) refl (parent_refused target)
 
 pub returns-clause-answered : goal.returns-clause-answered
 returns-clause-answered c records r v of l there retained target named =

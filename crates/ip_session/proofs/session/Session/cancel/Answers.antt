@@ -1,69 +1,49 @@
-use Rattle.std.proofs.Common.{rules, ◌≤◌, ◌^◌, ◌-◌, sym, ap, subst, ◌∙◌}
-use Rattle.std.specs.Prelude.{Result, IfOk, IfErr, OnErr}
+use Rattle.std.proofs.Common.{rules, ◌≤◌, ◌^◌, ◌-◌, sym, ap, subst, ◌∙◌, IsTrue}
 use Rattle.ip_spawn.specs.declared.spawner.SpawnCounts.{SpawnCounts}
 use Rattle.ip_spec.specs.declared.command.Command.TheVariants as Command
 use Rattle.ip_spec.specs.declared.met.Met.{Met}
-use Rattle.ip_spec.specs.declared.reply.Reply.{Reply}
-use Rattle.ip_store.specs.declared.store.Store.{Store}
-use Rattle.ip_store.specs.Cancelling.{CountsCancel}
-use Rattle.ip_store.specs.Collecting.{child_of}
-use Rattle.ip_session.specs.declared.session.SessionEnd.{SessionEnd}
-use Rattle.ip_session.specs.Asking.{QuietIfLong}
-use Rattle.ip_session.specs.Clearing.{SweepsBehind, ClearBy}
-use Rattle.ip_session.specs.Placing.{PlacedBy}
-use Rattle.ip_session.specs.Session.{unasked, IsServing, IsHeld, state_in, CountsBy, CutBy, EndsBy, GoesBy}
-use Rattle.ip_session.proofs.Asking.{AskedSo, cancel_asked, cancel_counts, cancel_quiet, cancel_ends}
+use Rattle.ip_collects.specs.Cancelling.{CountsCancel}
+use Rattle.ip_held.specs.Collecting.{child_of}
+use Rattle.ip_session.specs.Running.{IsKnown, Ran}
+use Rattle.ip_session.specs.Session.{unasked}
+use Rattle.ip_session.proofs.Asking.{cancel_asked, cancel_counts, cancel_quiet, cancel_ends}
 use Rattle.ip_session.proofs.ClearGoes.{cancel_clear}
-use Rattle.ip_session.proofs.CancelGoes.{cancel_serves, cancel_placed, cancel_does, cancel_cuts}
+use Rattle.ip_session.proofs.CancelGoes.{over_slot, over_none, cancel_serves, cancel_placed, cancel_does, cancel_cuts}
 use Rattle.ip_session.proofs.session.Session.cancel.Goals as goal
 
-pub returns-clause-runs : goal.returns-clause-runs
-returns-clause-runs g c =
+pub returns : goal.returns
+returns g c =
     let s = c.args.self.now in
     let call = c.cancel-done in
     let store = call.new.self in
+    let C = call.ensures.cancels in
     let done = call.result in
-    let (left, is_met) = call.ensures.met in
-    let slot_is = ap (λ (x : Store). x.slot) call.ensures.same in
-    let says = c.cancel_answer.ensures in
-    record {
-      serving = let (r, is) = c.requires.tables in subst (λ (x : Result Reply SessionEnd). IfOk x (λ reply. IsServing (record s { store = store; met = c.met-self.result }))) (sym says) (cancel_serves (g.G.Ground.told c.args.ground.now) (g.G.Ground.told call.new.outside) s store c.met-self.result left done c.met-self.ensures slot_is r is.1 done (call.ensures.answered r is.0));
-      goes = λ tells r v here. subst (λ (x : Result Reply SessionEnd). IfOk x (GoesBy unasked (g.G.Ground.told c.args.ground.now) (g.G.Ground.told call.new.outside) s (record s { store = store; met = c.met-self.result }) r v Command.Cancel)) (sym says)
-          (cancel_does _ _ s store _ left done c.met-self.ensures slot_is r v here call.ensures.runs (call.ensures.answered r here.holds.tables) (λ idle. ap g.G.Ground.told (call.ensures.idle idle).0) (λ orphan. ap g.G.Ground.told (call.ensures.orphan orphan))
-          call.ensures.unswept call.ensures.same (λ x runs. call.ensures.any_moment tells r here.holds x runs) (λ ok q now. call.ensures.records_stay tells ok r q here.holds now));
-      placed = λ tells r v here. subst (λ (x : Result Reply SessionEnd). IfOk x (PlacedBy unasked s.store.slot s.store.unswept store.slot (state_in s r v) v Command.Cancel)) (sym says) (cancel_placed (g.G.Ground.told c.args.ground.now) (g.G.Ground.told call.new.outside) s store c.met-self.result left done c.met-self.ensures slot_is r v here done);
-      clear = λ tells r v here. subst (λ (x : Result Reply SessionEnd). IfOk x (λ reply. ClearBy (SweepsBehind Command.Cancel reply) (g.G.Ground.told c.args.ground.now) (g.G.Ground.told call.new.outside) s (record s { store = store; met = c.met-self.result }))) (sym says)
-          (cancel_clear _ _ s store c.met-self.result c.met-self.ensures done (λ answers. call.ensures.clear tells answers r here.holds));
-      cut = λ tells r v here. subst (λ (x : Result Reply SessionEnd). OnErr x (CutBy unasked (g.G.Ground.told c.args.ground.now) (g.G.Ground.told call.new.outside) s (record s { store = store; met = c.met-self.result }) r v Command.Cancel)) (sym says)
-          (cancel_cuts _ _ s store _ left done c.met-self.ensures slot_is r v here call.ensures.runs is_met (λ x runs. call.ensures.any_moment tells r here.holds x runs));
-    }
-
-pub returns-clause-child : goal.returns-clause-child
-returns-clause-child g c = c.cancel-done.ensures.child ∙ sym (ap child_of c.cancel-done.ensures.over)
-
-pub returns-clause-asked : goal.returns-clause-asked
-returns-clause-asked g c =
-    let s = c.args.self.now in
-    let call = c.cancel-done in
-    let store = call.new.self in
-    let (left, is_met) = call.ensures.met in
+    let met = c.met-self.result in
+    let a = g.G.Ground.told c.args.ground.now in
+    let b = g.G.Ground.told call.new.outside in
+    let p = g.G.Ground.counts_of c.args.ground.now in
+    let q = g.G.Ground.counts_of call.new.outside in
+    let (left, is_met) = C.told in
+    let met_is = c.met-self.ensures ∙ is_met in
+    let slot_is = over_slot s.store.held store.held store.held.unswept C.same in
+    let over = over_none s.store.held store.held store.held.unswept C.same in
     let (r, is) = c.requires.tables in
-    let told : c.counts.result.reaps ≤ 2 ^ 64 - 1 = search rules in
-    let small = subst (λ (k : SpawnCounts). k.reaps ≤ 2 ^ 64 - 1) c.counts.ensures told in
-    subst (λ (x : Result Reply SessionEnd). AskedSo g.P.Spawner.tells (g.P.Spawner.told c.args.spawner.now) (g.P.Spawner.told call.new.spawner) s (record s { store = store; met = c.met-self.result }) Command.Cancel x (g.P.Spawner.counts_of c.args.spawner.now) (g.P.Spawner.counts_of call.new.spawner)) (sym c.cancel_answer.ensures)
-    (cancel_asked _ _ _ s store _ call.result left (c.met-self.ensures ∙ is_met) call.ensures.over _ _ r call.ensures.runs (call.ensures.answered r is.0) is_met
-    (λ idle. let same = (call.ensures.idle idle).1 in (ap g.P.Spawner.told same, ap g.P.Spawner.counts_of same)) (λ x runs there. let same = call.ensures.kept x runs there in (ap g.P.Spawner.told same, ap g.P.Spawner.counts_of same)) small call.ensures.killed)
-
-pub returns-clause-counts : goal.returns-clause-counts
-returns-clause-counts g c =
-    let (left, is_met) = c.cancel-done.ensures.met in
-    let old = g.G.Ground.counts_of c.args.ground.now in
-    let new = g.G.Ground.counts_of c.cancel-done.new.outside in
-    subst (λ (x : Result Reply SessionEnd). CountsBy x Command.Cancel c.met-self.result old new) (sym c.cancel_answer.ensures)
-    (cancel_counts c.cancel-done.result c.met-self.result left old new (c.met-self.ensures ∙ is_met) (subst (λ (m : Met). CountsCancel c.cancel-done.result m.left old new) (sym c.met-self.ensures) c.cancel-done.ensures.counts))
-
-pub returns-clause-quiet : goal.returns-clause-quiet
-returns-clause-quiet g c = subst (λ (x : Result Reply SessionEnd). IfOk x (QuietIfLong c.met-self.result (g.G.Ground.counts_of c.args.ground.now) (g.G.Ground.counts_of c.cancel-done.new.outside))) (sym c.cancel_answer.ensures) (cancel_quiet c.cancel-done.result c.met-self.result (g.G.Ground.counts_of c.args.ground.now) (g.G.Ground.counts_of c.cancel-done.new.outside))
-
-pub returns-clause-cause : goal.returns-clause-cause
-returns-clause-cause g c = subst (λ (x : Result Reply SessionEnd). IfErr x (EndsBy (IsHeld g.G.Ground.tells (g.G.Ground.told c.args.ground.now) c.args.self.now))) (sym c.cancel_answer.ensures) (cancel_ends c.cancel-done.result (IsHeld g.G.Ground.tells (g.G.Ground.told c.args.ground.now) c.args.self.now))
+    let reaps : c.counts.result.reaps ≤ 2 ^ 64 - 1 = search rules in
+    let small = subst (λ (k : SpawnCounts). k.reaps ≤ 2 ^ 64 - 1) c.counts.ensures reaps in
+    subst (Ran (IsTrue g.G.Ground.tells) unasked a b p q g.P.Spawner.tells (g.P.Spawner.held call.new.spawner) (g.P.Spawner.told c.args.spawner.now) (g.P.Spawner.told call.new.spawner) (g.P.Spawner.counts_of c.args.spawner.now) (g.P.Spawner.counts_of call.new.spawner) s (record s { store = store; met = met }) Command.Cancel)
+    (sym c.cancel_answer.ensures) (record {
+      runs = record {
+        serving = cancel_serves a b s store met left done c.met-self.ensures slot_is r is.1 done (C.answered r is.0);
+        goes = λ tells r v here. cancel_does a b s store met left done c.met-self.ensures slot_is r v here C.runs (C.answered r here.holds.tables) (λ idle. ap g.G.Ground.told (call.ensures.idle idle).0) (λ orphan. ap g.G.Ground.told (call.ensures.orphan orphan))
+            C.unswept C.same (λ x runs. C.any_moment tells r here.holds x runs) (λ ok q now. C.stay tells ok r q here.holds now);
+        placed = λ tells r v here. cancel_placed a b s store met left done c.met-self.ensures slot_is r v here done;
+        clear = λ tells r v here. cancel_clear a b s store met c.met-self.ensures done (λ answers. C.clear tells answers r here.holds);
+        cut = λ tells r v here. cancel_cuts a b s store met left done c.met-self.ensures slot_is r v here C.runs is_met (λ x runs. C.any_moment tells r here.holds x runs);
+        cause = cancel_ends done (IsKnown (IsTrue g.G.Ground.tells) a s);
+      };
+      child = call.ensures.child ∙ sym (ap child_of over);
+      asked = cancel_asked _ _ _ s store met done left met_is over _ _ r C.runs (C.answered r is.0) is_met
+          (λ idle. let same = (call.ensures.idle idle).1 in (ap g.P.Spawner.told same, ap g.P.Spawner.counts_of same)) (λ x runs there. let same = call.ensures.kept x runs there in (ap g.P.Spawner.told same, ap g.P.Spawner.counts_of same)) small call.ensures.killed;
+      quiet = cancel_quiet done met p q;
+      counts = cancel_counts done met left p q met_is (subst (λ (m : Met). CountsCancel done m.left p q) (sym c.met-self.ensures) call.ensures.counts);
+    })

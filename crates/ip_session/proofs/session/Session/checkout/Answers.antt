@@ -1,13 +1,12 @@
 use Rattle.std.proofs.Common.{rules, ◌≡◌, [], ◌∷◌, sym}
 use Rattle.ip_spec.specs.declared.command.Command.TheVariants as Command
-use Rattle.ip_spec.specs.declared.reply.Reply.TheVariants as Reply
-use Rattle.ip_store.specs.Collecting.{phase_of}
-use Rattle.ip_store.specs.Work.{work_at}
-use Rattle.ip_store.proofs.Stepping.{same_tables}
+use Rattle.ip_held.specs.Collecting.{phase_of}
+use Rattle.ip_held.specs.Work.{work_at}
+use Rattle.ip_held.proofs.Stepping.{same_tables}
 use Rattle.ip_session.proofs.SessionLemmas.{checkout_refused}
 use Rattle.ip_session.proofs.Referring.{checkout_unnamed}
 use Rattle.ip_session.proofs.Seeing.{unnamed_seen}
-use Rattle.ip_session.proofs.Reading.{unread, refused_unread, reply_as, checkout_read, unfetched_read, unfetched_ends}
+use Rattle.ip_session.proofs.Reading.{unread, refused_unread, checkout_read, unfetched_read, unfetched_ends}
 use Rattle.ip_session.proofs.session.Session.checkout.Goals as goal
 
 pub returns-in-Err-clause-reads : goal.returns-in-Err-clause-reads
@@ -15,7 +14,7 @@ returns-in-Err-clause-reads g c =
     let s = c.args.self.now in
     unread _ _ s s.met (Command.Checkout c.args.target) c.in-Err.reply c.requires.met (checkout_refused c.args.target)
     (λ r v of. unnamed_seen r v (Command.Checkout c.args.target) c.args.target c.in-Err.reply (sym (c.in-Err.ensures.number r of)))
-    (λ r v of. checkout_unnamed r (phase_of s.store.collection) (work_at s.work v) c.args.target c.in-Err.reply (sym (c.in-Err.ensures.number r of)))
+    (λ r v of. checkout_unnamed r (phase_of s.store.held.collection) (work_at s.work v) c.args.target c.in-Err.reply (sym (c.in-Err.ensures.number r of)))
 
 pub returns-then-is_err-clause-reads : goal.returns-then-is_err-clause-reads
 returns-then-is_err-clause-reads g c = refused_unread _ _ c.args.self.now c.refuse.new.met (Command.Checkout c.args.target) c.refuse.result c.refuse.ensures.met c.refuse.ensures.reply (checkout_refused c.args.target)
@@ -40,12 +39,11 @@ pub retained_name-requires : goal.retained_name-requires
 retained_name-requires g c =
     let r = c.requires.tables.0 in
     let is = c.requires.tables.1 in
-    record { tables = (r, same_tables c.args.self.now.store c.tree_of.new.self c.tree_of.ensures.same r is.0, c.in-Ok.ensures.retained r is.0) }
+    record { tables = (r, same_tables c.args.self.now.store.held c.tree_of.new.self.held c.tree_of.ensures.same r is.0, c.in-Ok.ensures.retained r is.0) }
 
 pub returns-clause-reads : goal.returns-clause-reads
 returns-clause-reads g c =
     let s = c.args.self.now in
     let one : c.push.new.self ≡ c.in-Ok.number ∷ [] = search rules in
-    reply_as _ _ _ s _ (Command.Checkout c.args.target) c.at_reply.result (Reply.At c.retained_name.result) c.at_reply.ensures.reply
-    (checkout_read _ _ _ s c.tree_of.new.self c.tree_of.ensures.same c.tree_of.ensures.looks c.requires.met c.args.target c.in-Ok.number c.in-Ok.ensures.number c.in-Ok.ensures.retained
-    c.in-Ok-tree_of.tree c.push.new.self c.retained_name.result one c.retained_name.ensures c.at_reply.ensures.long c.in-Ok-tree_of.ensures.tree)
+    checkout_read _ _ _ s c.tree_of.new.self c.tree_of.ensures.same c.tree_of.ensures.looks c.requires.met c.args.target c.in-Ok.number c.in-Ok.ensures.number c.in-Ok.ensures.retained
+    c.in-Ok-tree_of.tree c.push.new.self c.retained_name.result one c.retained_name.ensures c.in-Ok-tree_of.ensures.tree

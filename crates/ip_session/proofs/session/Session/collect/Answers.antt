@@ -1,11 +1,20 @@
-use Rattle.std.proofs.Common.{false, refl, sym, ap, subst, ◌∙◌, Ok}
+use Rattle.std.proofs.Common.{◌≡◌, ◌≤◌, length, false, refl, sym, ap, subst, ◌∙◌, Ok, IsTrue}
+use Rattle.std.specs.Prelude.{IfOk}
 use Rattle.ip_spec.specs.declared.command.Command.TheVariants as Command
+use Rattle.ip_spec.specs.declared.met.Met.{Met}
 use Rattle.ip_spec.specs.declared.reply.Reply.{Reply}
 use Rattle.ip_spec.specs.Record.{Hash}
-use Rattle.ip_store.specs.declared.store.Store.{Store}
+use Rattle.ip_spec.specs.Repository.{Repository}
+use Rattle.ip_spec.specs.Step.{resolve}
+use Rattle.ip_held.specs.declared.held.Held.{Held}
+use Rattle.ip_collects.specs.Starting.{AnswersStart, Replies, met_by_start}
+use Rattle.ip_held.specs.Held.{IsOf}
+use Rattle.ip_session.specs.Running.{IsKnown}
 use Rattle.ip_session.specs.Session.{unasked, state_in, GoesBy}
-use Rattle.ip_session.proofs.Asking.{none_met, plain_asked, start_asked, start_counts, start_quiet, start_ends}
+use Rattle.ip_session.specs.Starting.{StartReplies}
+use Rattle.ip_session.proofs.Asking.{none_met, plain_asked, plain_quiet, start_asked, start_counts, start_quiet, start_ends}
 use Rattle.ip_session.proofs.ClearGoes.{keeps_by, start_clear}
+use Rattle.ip_session.proofs.NameSizes.{names_size}
 use Rattle.ip_session.proofs.StartGoes.{runs_none, runs_at, retained_at, busy_goes, busy_placed, unnamed_start, unnamed_start_placed, start_goes, start_cut, start_placed, start_serves, found_of, says_as}
 use Rattle.ip_session.proofs.session.Session.collect.Goals as goal
 
@@ -14,40 +23,51 @@ use Rattle.ip_session.proofs.session.Session.collect.Goals as goal
 pub retained_name-requires : goal.retained_name-requires
 retained_name-requires g c =
     let (r, is) = c.requires.tables in
-    record { tables = (r, is.0, retained_at c.args.self.now.store.slot r c.args.self.now.store.collection c.in-Collecting.commit _ is.0.phase (sym c.phase.ensures ∙ c.in-Collecting.is)) }
+    record { tables = (r, is.0, retained_at c.args.self.now.store.held.slot r c.args.self.now.store.held.collection c.in-Collecting.commit _ is.0.phase (sym c.phase.ensures ∙ c.in-Collecting.is)) }
 
-pub returns-in-Collecting-clause-runs : goal.returns-in-Collecting-clause-runs
-returns-in-Collecting-clause-runs g c =
+pub returns-in-Collecting : goal.returns-in-Collecting
+returns-in-Collecting g c =
     let s = c.args.self.now in
+    let busy = Reply.Busy c.retained_name.result in
     let told = sym c.phase.ensures ∙ c.in-Collecting.is in
+    let unmet = none_met s.met false c.requires.met in
     record {
-      serving = c.requires.tables;
-      goes = λ tells r v here. subst (λ (h : Hash). GoesBy unasked (g.G.Ground.told c.args.ground.now) (g.G.Ground.told c.args.ground.now) s s r v (Command.Collect c.args.target) (Reply.Busy h))
-          (sym (c.retained_name.ensures r here.holds.tables (retained_at s.store.slot r s.store.collection c.in-Collecting.commit _ here.holds.tables.phase told)))
-          (busy_goes _ s r v here c.args.target c.in-Collecting.commit c.requires.met (runs_at s.store.collection c.in-Collecting.commit _ told));
-      placed = λ tells r v here. busy_placed _ _ (state_in s r v) v c.args.target c.retained_name.result;
-      clear = λ tells r v here. keeps_by _ _ s s (Command.Collect c.args.target) (Reply.Busy c.retained_name.result) (λ may. may) (λ clear. clear);
-      cut = λ tells r v here. tt;
+      runs = record {
+        serving = c.requires.tables;
+        goes = λ tells r v here. subst (λ (h : Hash). GoesBy unasked (g.G.Ground.told c.args.ground.now) (g.G.Ground.told c.args.ground.now) s s r v (Command.Collect c.args.target) (Reply.Busy h))
+            (sym (c.retained_name.ensures r here.holds.tables (retained_at s.store.held.slot r s.store.held.collection c.in-Collecting.commit _ here.holds.tables.phase told)))
+            (busy_goes _ s r v here c.args.target c.in-Collecting.commit c.requires.met (runs_at s.store.held.collection c.in-Collecting.commit _ told));
+        placed = λ tells r v here. busy_placed _ _ (state_in s r v) v c.args.target c.retained_name.result;
+        clear = λ tells r v here. keeps_by _ _ s s (Command.Collect c.args.target) busy (λ may. may) (λ clear. clear);
+        cut = λ tells r v here. tt;
+        cause = tt;
+      };
+      child = c.requires.child;
+      asked = plain_asked _ _ s s (Command.Collect c.args.target) (Ok busy) _ tt unmet refl;
+      quiet = plain_quiet (Ok busy) s.met _ _ tt unmet refl;
+      counts = refl;
     }
-
-pub returns-in-Collecting-clause-asked : goal.returns-in-Collecting-clause-asked
-returns-in-Collecting-clause-asked g c = plain_asked _ _ c.args.self.now c.args.self.now (Command.Collect c.args.target) (Ok (Reply.Busy c.retained_name.result)) _ tt (none_met c.args.self.now.met false c.requires.met) refl
 
 -- ---- no commit has the name
 
-pub returns-in-Err-clause-runs : goal.returns-in-Err-clause-runs
-returns-in-Err-clause-runs g c =
+pub returns-in-Err : goal.returns-in-Err
+returns-in-Err g c =
     let s = c.args.self.now in
+    let unmet = none_met s.met false c.requires.met in
     record {
-      serving = c.requires.tables;
-      goes = λ tells r v here. unnamed_start _ s r v here c.args.target c.in-Err.reply c.requires.met (runs_none s.store.collection (λ n k is. c.in_default.not-Collecting n k (c.phase.ensures ∙ is))) (sym (c.in-Err.ensures.number r here.holds.tables));
-      placed = λ tells r v here. unnamed_start_placed _ _ (state_in s r v) v c.args.target c.in-Err.reply (sym (c.in-Err.ensures.number r here.holds.tables));
-      clear = λ tells r v here. keeps_by _ _ s s (Command.Collect c.args.target) c.in-Err.reply (λ may. may) (λ clear. clear);
-      cut = λ tells r v here. tt;
+      runs = record {
+        serving = c.requires.tables;
+        goes = λ tells r v here. unnamed_start _ s r v here c.args.target c.in-Err.reply c.requires.met (runs_none s.store.held.collection (λ n k is. c.in_default.not-Collecting n k (c.phase.ensures ∙ is))) (sym (c.in-Err.ensures.number r here.holds.tables));
+        placed = λ tells r v here. unnamed_start_placed _ _ (state_in s r v) v c.args.target c.in-Err.reply (sym (c.in-Err.ensures.number r here.holds.tables));
+        clear = λ tells r v here. keeps_by _ _ s s (Command.Collect c.args.target) c.in-Err.reply (λ may. may) (λ clear. clear);
+        cut = λ tells r v here. tt;
+        cause = tt;
+      };
+      child = c.requires.child;
+      asked = plain_asked _ _ s s (Command.Collect c.args.target) (Ok c.in-Err.reply) _ c.in-Err.ensures.tells_none unmet refl;
+      quiet = plain_quiet (Ok c.in-Err.reply) s.met _ _ c.in-Err.ensures.tells_none unmet refl;
+      counts = refl;
     }
-
-pub returns-in-Err-clause-asked : goal.returns-in-Err-clause-asked
-returns-in-Err-clause-asked g c = plain_asked _ _ c.args.self.now c.args.self.now (Command.Collect c.args.target) (Ok c.in-Err.reply) _ c.in-Err.ensures.tells_none (none_met c.args.self.now.met false c.requires.met) refl
 
 -- ---- the store was asked
 
@@ -59,84 +79,44 @@ start_collect-begun-requires-clause-tables g c =
 pub start_reply-requires : goal.start_reply-requires
 start_reply-requires g c =
     let (r, is) = c.requires.tables in
-    (r, found_of r c.in-Ok.number c.args.self.now.store.collection c.start_collect-begun.new.self c.args.target (sym (c.in-Ok.ensures.number r is.0)) c.start_collect-begun.result (c.start_collect-begun.ensures.answered r is.0 (c.in-Ok.ensures.retained r is.0)))
+    let call = c.start_collect-begun in
+    (r, found_of r c.in-Ok.number c.args.self.now.store.held.collection (met_by_start call.result) call.new.self.held c.args.target (sym (c.in-Ok.ensures.number r is.0)) call.result (call.ensures.begins.answered r is.0 (c.in-Ok.ensures.retained r is.0)))
 
-pub returns-clause-runs : goal.returns-clause-runs
-returns-clause-runs g c =
+pub returns : goal.returns
+returns g c =
     let s = c.args.self.now in
     let call = c.start_collect-begun in
+    let begun = call.result in
     let store = call.new.self in
+    let B = call.ensures.begins in
+    let met = c.start_reply.new.met in
+    let result = c.start_reply.result in
+    let target = c.args.target in
     let n = c.in-Ok.number in
+    let named : (r : Repository) → IsOf s.store.held r → resolve r target ≡ Ok n = λ r of. sym (c.in-Ok.ensures.number r of) in
+    let answered : (r : Repository) → IsOf s.store.held r → Replies r begun (AnswersStart r n s.store.held.collection store.met store.held) = λ r of. subst (λ (m : Met). Replies r begun (AnswersStart r n s.store.held.collection m store.held)) (sym call.ensures.met) (B.answered r of (c.in-Ok.ensures.retained r of)) in
+    let says : (r : Repository) → IsOf s.store.held r → StartReplies r begun store.met met result = λ r of. says_as r n s.store.held.collection store target (named r of) begun _ met result c.met-self.ensures (answered r of) (c.start_reply.ensures r) in
+    let size : (r : Repository) → IsOf s.store.held r → IfOk begun (λ name. length name ≤ 32) = λ r of. names_size s.store.held r of n begun (B.named r of (c.in-Ok.ensures.retained r of)) in
+    let (r, is) = c.requires.tables in
+    let counts = start_counts r _ met result target _ _ begun (says r is.0) call.ensures.counts in
     record {
-      serving =
-          let (r, is) = c.requires.tables in
-          let named = sym (c.in-Ok.ensures.number r is.0) in
-          let A = call.ensures.answered r is.0 (c.in-Ok.ensures.retained r is.0) in
-          let says = says_as r n s.store.collection store c.args.target named call.result _ c.start_reply.new.met c.start_reply.result c.met-self.ensures A (c.start_reply.ensures r) in
-          start_serves s store r c.args.target n named c.start_reply.new.met c.start_reply.result call.result says A is.1;
-      goes = λ tells r v here.
-          let tables = here.holds.tables in
-          let named = sym (c.in-Ok.ensures.number r tables) in
-          let A = call.ensures.answered r tables (c.in-Ok.ensures.retained r tables) in
-          let says = says_as r n s.store.collection store c.args.target named call.result _ c.start_reply.new.met c.start_reply.result c.met-self.ensures A (c.start_reply.ensures r) in
-          start_goes _ _ s store r v here c.args.target n named call.result c.start_reply.new.met c.start_reply.result says A (call.ensures.any_moment tells r here.holds)
-          (λ begun q now. call.ensures.records_stay tells begun r q here.holds now) (λ down. let both = call.ensures.turned_down down in (ap g.G.Ground.told both.0, both.1));
-      placed = λ tells r v here.
-          let tables = here.holds.tables in
-          let named = sym (c.in-Ok.ensures.number r tables) in
-          let A = call.ensures.answered r tables (c.in-Ok.ensures.retained r tables) in
-          let says = says_as r n s.store.collection store c.args.target named call.result _ c.start_reply.new.met c.start_reply.result c.met-self.ensures A (c.start_reply.ensures r) in
-          start_placed _ _ s store r v here c.args.target n named call.result c.start_reply.new.met c.start_reply.result says A call.ensures.met (call.ensures.limits r tables)
-          (λ begun. call.ensures.begins tells begun r tables) (λ down. ap (λ (x : Store). x.slot) (call.ensures.turned_down down).1);
-      clear = λ tells r v here.
-          let tables = here.holds.tables in
-          let named = sym (c.in-Ok.ensures.number r tables) in
-          let A = call.ensures.answered r tables (c.in-Ok.ensures.retained r tables) in
-          let says = says_as r n s.store.collection store c.args.target named call.result _ c.start_reply.new.met c.start_reply.result c.met-self.ensures A (c.start_reply.ensures r) in
-          start_clear _ _ s store c.start_reply.new.met r c.args.target store.met call.result c.start_reply.result says (λ answers. call.ensures.clear tells answers r here.holds);
-      cut = λ tells r v here.
-          let tables = here.holds.tables in
-          let named = sym (c.in-Ok.ensures.number r tables) in
-          let A = call.ensures.answered r tables (c.in-Ok.ensures.retained r tables) in
-          let says = says_as r n s.store.collection store c.args.target named call.result _ c.start_reply.new.met c.start_reply.result c.met-self.ensures A (c.start_reply.ensures r) in
-          start_cut _ _ s store r v here c.args.target n named call.result c.start_reply.new.met c.start_reply.result says A call.ensures.met (call.ensures.any_moment tells r here.holds);
+      runs = record {
+        serving = start_serves s store r target n (named r is.0) met result begun (says r is.0) (answered r is.0) is.1;
+        goes = λ tells r v here.
+            let of = here.holds.tables in
+            start_goes _ _ s store r v here target n (named r of) begun met result (says r of) (size r of) (answered r of) (B.any_moment tells r here.holds)
+            (λ begun q now. B.stay tells begun r q here.holds now) (λ down. (ap g.G.Ground.told (call.ensures.turned_down down), B.turned_down down));
+        placed = λ tells r v here.
+            let of = here.holds.tables in
+            start_placed _ _ s store r v here target n (named r of) begun met result (says r of) (answered r of) call.ensures.met (B.limits r of)
+            (λ begun. B.begins tells begun r of) (λ down. let same : store.held.slot ≡ s.store.held.slot = ap (λ (x : Held). x.slot) (B.turned_down down) in same);
+        clear = λ tells r v here. start_clear _ _ s store met r target store.met begun result (says r here.holds.tables) (λ answers. B.clear tells answers r here.holds);
+        cut = λ tells r v here. let of = here.holds.tables in start_cut _ _ s store r v here target n (named r of) begun met result (says r of) (answered r of) call.ensures.met (B.any_moment tells r here.holds);
+        cause = start_ends r _ met result (IsKnown (IsTrue g.G.Ground.tells) (g.G.Ground.told c.args.ground.now) s) begun (says r is.0);
+      };
+      child = call.ensures.child;
+      asked = start_asked _ _ _ s store r target n met result _ _ begun (says r is.0) call.ensures.met
+          (λ none. let same = call.ensures.unasked none in (ap g.P.Spawner.told same, ap g.P.Spawner.counts_of same)) B.same_collection call.ensures.asked;
+      quiet = start_quiet r _ met result target _ _ begun (says r is.0) call.ensures.met (size r is.0) counts;
+      counts = counts;
     }
-
-pub returns-clause-asked : goal.returns-clause-asked
-returns-clause-asked g c =
-    let s = c.args.self.now in
-    let call = c.start_collect-begun in
-    let store = call.new.self in
-    let (r, is) = c.requires.tables in
-    let n = c.in-Ok.number in
-    let named = sym (c.in-Ok.ensures.number r is.0) in
-    let A = call.ensures.answered r is.0 (c.in-Ok.ensures.retained r is.0) in
-    let says = says_as r n s.store.collection store c.args.target named call.result _ c.start_reply.new.met c.start_reply.result c.met-self.ensures A (c.start_reply.ensures r) in
-    start_asked _ _ _ s store r c.args.target n c.start_reply.new.met c.start_reply.result _ _ call.result says call.ensures.met
-    (λ none. let same = call.ensures.unasked none in (ap g.P.Spawner.told same, ap g.P.Spawner.counts_of same)) call.ensures.same_collection call.ensures.asked
-
-pub returns-clause-counts : goal.returns-clause-counts
-returns-clause-counts g c =
-    let s = c.args.self.now in
-    let call = c.start_collect-begun in
-    let (r, is) = c.requires.tables in
-    let A = call.ensures.answered r is.0 (c.in-Ok.ensures.retained r is.0) in
-    start_counts r _ c.start_reply.new.met c.start_reply.result c.args.target _ _ call.result
-    (c.start_reply.ensures r (found_of r c.in-Ok.number s.store.collection call.new.self c.args.target (sym (c.in-Ok.ensures.number r is.0)) call.result A)) call.ensures.counts
-
-pub returns-clause-quiet : goal.returns-clause-quiet
-returns-clause-quiet g c =
-    let s = c.args.self.now in
-    let call = c.start_collect-begun in
-    let (r, is) = c.requires.tables in
-    let A = call.ensures.answered r is.0 (c.in-Ok.ensures.retained r is.0) in
-    let says = c.start_reply.ensures r (found_of r c.in-Ok.number s.store.collection call.new.self c.args.target (sym (c.in-Ok.ensures.number r is.0)) call.result A) in
-    start_quiet r _ c.start_reply.new.met c.start_reply.result c.args.target _ _ call.result says (c.met-self.ensures ∙ call.ensures.met) (start_counts r _ c.start_reply.new.met c.start_reply.result c.args.target _ _ call.result says call.ensures.counts)
-
-pub returns-clause-cause : goal.returns-clause-cause
-returns-clause-cause g c =
-    let s = c.args.self.now in
-    let call = c.start_collect-begun in
-    let (r, is) = c.requires.tables in
-    let A = call.ensures.answered r is.0 (c.in-Ok.ensures.retained r is.0) in
-    start_ends r _ c.start_reply.new.met c.start_reply.result _ call.result (c.start_reply.ensures r (found_of r c.in-Ok.number s.store.collection call.new.self c.args.target (sym (c.in-Ok.ensures.number r is.0)) call.result A))

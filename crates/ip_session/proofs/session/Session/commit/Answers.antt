@@ -1,50 +1,54 @@
-use Rattle.std.proofs.Common.{sym, ◌∙◌, subst}
+use Rattle.std.proofs.Common.{sym, ap, subst, ◌∙◌, IsTrue}
+use Rattle.std.specs.Prelude.{IfSome}
+use Rattle.ip_spec.specs.Repository.{Repository}
+use Rattle.ip_spec.specs.View.{View}
 use Rattle.ip_spec.specs.declared.command.Command.TheVariants as Command
-use Rattle.ip_spec.specs.Record.{Hash}
+use Rattle.ip_spec.specs.declared.met.Met.{Met}
+use Rattle.ip_spec.specs.declared.reply.Reply.{Reply}
+use Rattle.ip_spec.specs.Path.{Bytes}
+use Rattle.ip_held.specs.Answers.{reply_to, Answers}
+use Rattle.ip_held.specs.Collecting.{phase_of}
+use Rattle.ip_held.specs.Work.{IsAt, session}
 use Rattle.ip_session.specs.Asking.{MeetsNone}
+use Rattle.ip_session.specs.Running.{IsKnown, Runs}
+use Rattle.ip_session.specs.Session.{unasked}
 use Rattle.ip_session.proofs.Asking.{faulted}
 use Rattle.ip_session.proofs.ClearGoes.{keeps_by}
 use Rattle.ip_session.proofs.Committing.{commit_goes, commit_cut, has_answer}
-use Rattle.ip_session.proofs.DurableGoes.{fault_ends, fault_counts, answer_counts}
+use Rattle.ip_session.proofs.DurableGoes.{by_answer, fault_ends, fault_met, answer_counts}
 use Rattle.ip_session.proofs.Placing.{commit_placed}
+use Rattle.ip_session.proofs.Running.{runs_as, runs_ended}
 use Rattle.ip_session.proofs.session.Session.commit.Goals as goal
 
-pub returns-in-Ok-clause-runs : goal.returns-in-Ok-clause-runs
-returns-in-Ok-clause-runs g c =
-    let made = c.commit-made.result in
-    let has = has_answer made c.in-Ok.reply c.in-Ok.ensures.reply in
-    record {
-      serving =
-          let (r, is) = c.requires.tables in
-          let on = c.commit-made.ensures.tables r is.0 is.1 has in
-          (on.repository, (on.tables, on.parents));
-      goes = λ told r v here.
-          commit_goes _ _ c.args.self.now c.commit-made.new.self c.commit-made.new.work _ r v here c.args.branch.now c.args.info made c.commit-made.ensures.same_collection (c.commit-made.ensures.any_moment told r v here)
-          c.in-Ok.reply c.met-self.ensures c.in-Ok.ensures.reply c.in-Ok.ensures.long (c.commit-made.ensures.answered told r v here);
-      placed = λ told r v here.
-          commit_placed _ _ c.args.self.now c.commit-made.new.self r v here c.args.branch.now c.args.info c.commit-made.new.work made c.in-Ok.reply c.in-Ok.ensures.reply (c.commit-made.ensures.answered told r v here)
-          (c.commit-made.ensures.any_moment told r v here) (c.commit-made.ensures.limits told r v here) (c.commit-made.ensures.appends told r v here);
-      clear = λ told r v here. keeps_by _ _ c.args.self.now _ (Command.Commit c.args.branch.now c.args.info) c.in-Ok.reply (λ may. may) (c.commit-made.ensures.clear told has r v here);
+-- by the name that the slice has
+pub returns-clause-runs : goal.returns-clause-runs
+returns-clause-runs g c =
+    let s = c.args.self.now in
+    let call = c.commit-made in
+    let commits = call.ensures.commits in
+    let made = call.result in
+    let name = c.as_slice.result.now in
+    let info = c.args.info in
+    let after = record s { store = call.new.self; work = call.new.work; met = c.met-self.result } in
+    let a = g.G.Ground.told c.args.ground.now in
+    let b = g.G.Ground.told call.new.outside in
+    -- of what the store met
+    let answered : IsTrue g.G.Ground.tells → (r : Repository) (v : View) → IsAt a s.store.held r s.work v → IfSome (reply_to made) (λ (reply : Reply). Answers b (session r (phase_of s.store.held.collection) s.work v) v (Command.Commit name info) call.new.self.met reply call.new.self.held call.new.work) =
+    λ told r v here. subst (λ (m : Met). IfSome (reply_to made) (λ (reply : Reply). Answers b (session r (phase_of s.store.held.collection) s.work v) v (Command.Commit name info) m reply call.new.self.held call.new.work)) (sym call.ensures.met) (commits.answered told r v here) in
+    runs_as _ _ _ _ _ _ _ (Command.Commit name info) _ (ap (λ (n : Bytes). Command.Commit n info) (sym c.as_slice.ensures)) (by_answer (reply_to made) made c.commit_answer.result (Runs (IsTrue g.G.Ground.tells) unasked a b s after (Command.Commit name info)) c.commit_answer.ensures.answer
+    (λ reply is. record {
+      serving = let (r, of) = c.requires.tables in let on = commits.tables r of.0 of.1 (has_answer made reply is) in (on.repository, (on.tables, on.parents));
+      goes = λ told r v here. commit_goes a b s call.new.self call.new.work _ r v here name info made commits.same_collection (commits.took told r v here).changes reply c.met-self.ensures is (answered told r v here);
+      placed = λ told r v here. commit_placed a b s call.new.self r v here name info call.new.work made reply is (answered told r v here) (commits.took told r v here).changes (commits.limits told r v here) (commits.appends told r v here);
+      clear = λ told r v here. keeps_by a b s after (Command.Commit name info) reply (λ may. may) ((commits.took told r v here).clear (has_answer made reply is));
       cut = λ told r v here. tt;
-    }
+      cause = tt;
+    })
+    (λ end is. runs_ended (IsTrue g.G.Ground.tells) unasked a b s after (Command.Commit name info) end (fault_ends made end (IsKnown (IsTrue g.G.Ground.tells) a s) is (λ (told, (r, v, here)). commits.undamaged told r v here))
+    (λ told r v here. commit_cut a b s call.new.self call.new.work _ r v here name info made commits.same_collection (commits.took told r v here).changes (c.met-self.ensures ∙ call.ensures.met ∙ fault_met made end is))))
 
-pub returns-in-Ok-clause-counts : goal.returns-in-Ok-clause-counts
-returns-in-Ok-clause-counts g c = answer_counts Hash c.commit-made.result _ _ (has_answer c.commit-made.result c.in-Ok.reply c.in-Ok.ensures.reply) c.commit-made.ensures.counts
+pub returns-clause-counts : goal.returns-clause-counts
+returns-clause-counts g c = answer_counts (reply_to c.commit-made.result) c.commit-made.result c.commit_answer.result _ _ c.commit_answer.ensures.answer (has_answer c.commit-made.result) c.commit-made.ensures.counts
 
-pub returns-in-Ok-clause-meets_none : goal.returns-in-Ok-clause-meets_none
-returns-in-Ok-clause-meets_none g c = subst MeetsNone (sym (c.met-self.ensures ∙ c.commit-made.ensures.met)) (faulted c.commit-made.result)
-
-pub returns-in-Err-clause-runs : goal.returns-in-Err-clause-runs
-returns-in-Err-clause-runs g c = record {
-  serving = tt;
-  goes = λ told r v here. tt;
-  placed = λ told r v here. tt;
-  clear = λ told r v here. tt;
-  cut = λ told r v here. commit_cut _ _ c.args.self.now c.commit-made.new.self c.commit-made.new.work _ r v here c.args.branch.now c.args.info c.commit-made.result c.commit-made.ensures.same_collection (c.commit-made.ensures.any_moment told r v here) c.requires.met;
-}
-
-pub returns-in-Err-clause-counts : goal.returns-in-Err-clause-counts
-returns-in-Err-clause-counts g c = fault_counts Hash c.commit-made.result c.in-Err.end _ _ c.in-Err.ensures.end c.commit-made.ensures.counts
-
-pub returns-in-Err-clause-cause : goal.returns-in-Err-clause-cause
-returns-in-Err-clause-cause g c = fault_ends Hash c.commit-made.result c.in-Err.end _ c.in-Err.ensures.end (λ (told, (r, v, here)). c.commit-made.ensures.undamaged told r v here)
+pub returns-clause-meets_none : goal.returns-clause-meets_none
+returns-clause-meets_none g c = subst MeetsNone (sym (c.met-self.ensures ∙ c.commit-made.ensures.met)) (faulted c.commit-made.result)

@@ -1,7 +1,7 @@
 use Rattle.std.proofs.Common.{refl, ap, sym, ◌∙◌, rules}
 use Rattle.ip_spec.specs.declared.command.Command.TheVariants as Command
-use Rattle.ip_store.specs.Collecting.{phase_of}
-use Rattle.ip_store.specs.Work.{work_at}
+use Rattle.ip_held.specs.Collecting.{phase_of}
+use Rattle.ip_held.specs.Work.{work_at}
 use Rattle.ip_session.specs.Session.{state_in, tree_fault}
 use Rattle.ip_session.proofs.SessionLemmas.{get_refused}
 use Rattle.ip_session.proofs.Reading.{given_read, not_given, read_as, same_read, failed_read, fails_as, free_refuses, ends, got_gives}
@@ -21,7 +21,7 @@ returns-in-Ok-clause-reads g c =
     let path = c.steps.result.now in
     read_as _ _ _ s _ (Command.Get c.args.path) (Command.Get path) _ (ap Command.Get c.steps.ensures)
     (same_read _ _ _ s c.get.new.self c.get.ensures.same c.get.ensures.looks c.requires.met s.work.tree (Command.Get path) c.got_reply.result (get_refused path) (λ r v of. refl)
-    (λ told r v here. (here.lawful.tree, got_gives r (phase_of s.store.collection) (work_at s.work v) path c.in-Ok.got c.got_reply.result (there r here.holds.tables) c.got_reply.ensures.value (c.in-Ok.ensures.got told r v here.holds (here.lawful.tree (there r here.holds.tables))))))
+    (λ told r v here. (here.lawful.tree, got_gives r (phase_of s.store.held.collection) (work_at s.work v) path c.in-Ok.got c.got_reply.result (there r here.holds.tables) c.got_reply.ensures.value (c.in-Ok.ensures.got told r v here.holds (here.lawful.tree (there r here.holds.tables))))))
 
 pub returns-clause-reads : goal.returns-clause-reads
 returns-clause-reads g c =

@@ -1,8 +1,8 @@
 use Rattle.std.proofs.Common.{refl, sym, ap, subst, ◌∙◌}
 use Rattle.ip_spec.specs.declared.command.Command.TheVariants as Command
 use Rattle.ip_spec.specs.declared.reply.Reply.{Reply}
-use Rattle.ip_store.specs.Collecting.{phase_of}
-use Rattle.ip_store.specs.Work.{work_at}
+use Rattle.ip_held.specs.Collecting.{phase_of}
+use Rattle.ip_held.specs.Work.{work_at}
 use Rattle.ip_session.specs.declared.session.Session.{Session}
 use Rattle.ip_session.specs.Session.{IsAnswered}
 use Rattle.ip_session.proofs.SessionLemmas.{lcas_refused}
@@ -12,11 +12,11 @@ use Rattle.ip_session.proofs.session.Session.lcas.Goals as goal
 
 pub returns-in-Err-clause-answered : goal.returns-in-Err-clause-answered
 returns-in-Err-clause-answered c records r v of l = still_answered records c.args.self.now c.args.self.now r v (Command.Lcas c.args.one c.args.other) refl refl l c.in-Err.reply c.requires.met
-    (lcas_unnamed r (phase_of c.args.self.now.store.collection) (work_at c.args.self.now.work v) c.args.one c.args.other c.in-Err.reply (sym (c.in-Err.ensures.number r of))) refl (lcas_refused c.args.one c.args.other)
+    (lcas_unnamed r (phase_of c.args.self.now.store.held.collection) (work_at c.args.self.now.work v) c.args.one c.args.other c.in-Err.reply (sym (c.in-Err.ensures.number r of))) refl (lcas_refused c.args.one c.args.other)
 
 pub returns-in-Err-resolve-clause-answered : goal.returns-in-Err-resolve-clause-answered
 returns-in-Err-resolve-clause-answered c records r v of l = still_answered records c.args.self.now c.args.self.now r v (Command.Lcas c.args.one c.args.other) refl refl l c.in-Err-resolve.reply c.requires.met
-    (lcas_unnamed_second r (phase_of c.args.self.now.store.collection) (work_at c.args.self.now.work v) c.args.one c.args.other c.in-Ok.number c.in-Err-resolve.reply (sym (c.in-Ok.ensures.number r of)) (sym (c.in-Err-resolve.ensures.number r of)))
+    (lcas_unnamed_second r (phase_of c.args.self.now.store.held.collection) (work_at c.args.self.now.work v) c.args.one c.args.other c.in-Ok.number c.in-Err-resolve.reply (sym (c.in-Ok.ensures.number r of)) (sym (c.in-Err-resolve.ensures.number r of)))
     refl (lcas_refused c.args.one c.args.other)
 
 pub lcas-requires : goal.lcas-requires
@@ -30,7 +30,7 @@ returns-in-Ok-lcas-clause-answered c records r v of l =
     let s = c.args.self.now in
     subst (IsAnswered records s s r v (Command.Lcas c.args.one c.args.other)) (sym (ap Reply.Lcas (c.of.ensures ∙ c.in-Ok-lcas.ensures r of)))
     (still_answered records s s r v (Command.Lcas c.args.one c.args.other) refl refl l _ c.requires.met
-    (lcas_done r (phase_of s.store.collection) (work_at s.work v) c.args.one c.args.other c.in-Ok.number c.in-Ok-resolve.number (sym (c.in-Ok.ensures.number r of)) (sym (c.in-Ok-resolve.ensures.number r of)))
+    (lcas_done r (phase_of s.store.held.collection) (work_at s.work v) c.args.one c.args.other c.in-Ok.number c.in-Ok-resolve.number (sym (c.in-Ok.ensures.number r of)) (sym (c.in-Ok-resolve.ensures.number r of)))
     refl (lcas_refused c.args.one c.args.other))
 
 pub returns-in-Err-lcas-clause-answered : goal.returns-in-Err-lcas-clause-answered

@@ -1,8 +1,8 @@
 use Rattle.std.proofs.Common.{refl, sym, ap, subst, ◌∙◌}
 use Rattle.ip_spec.specs.declared.command.Command.TheVariants as Command
 use Rattle.ip_spec.specs.declared.reply.Reply.{Reply}
-use Rattle.ip_store.specs.Collecting.{phase_of}
-use Rattle.ip_store.specs.Work.{work_at}
+use Rattle.ip_held.specs.Collecting.{phase_of}
+use Rattle.ip_held.specs.Work.{work_at}
 use Rattle.ip_session.specs.declared.session.Session.{Session}
 use Rattle.ip_session.specs.Session.{IsAnswered}
 use Rattle.ip_session.proofs.SessionLemmas.{log_refused}
@@ -12,7 +12,7 @@ use Rattle.ip_session.proofs.session.Session.log.Goals as goal
 
 pub returns-in-Err-clause-answered : goal.returns-in-Err-clause-answered
 returns-in-Err-clause-answered c records r v of l = still_answered records c.args.self.now c.args.self.now r v (Command.Log c.args.target) refl refl l c.in-Err.reply c.requires.met
-    (log_unnamed r (phase_of c.args.self.now.store.collection) (work_at c.args.self.now.work v) c.args.target c.in-Err.reply (sym (c.in-Err.ensures.number r of))) refl (log_refused c.args.target)
+    (log_unnamed r (phase_of c.args.self.now.store.held.collection) (work_at c.args.self.now.work v) c.args.target c.in-Err.reply (sym (c.in-Err.ensures.number r of))) refl (log_refused c.args.target)
 
 pub log-requires : goal.log-requires
 log-requires c =
@@ -25,7 +25,7 @@ returns-in-Ok-log-clause-answered c records r v of l =
     let s = c.args.self.now in
     subst (IsAnswered records s s r v (Command.Log c.args.target)) (sym (ap Reply.Log (c.of.ensures ∙ c.in-Ok-log.ensures r of)))
     (still_answered records s s r v (Command.Log c.args.target) refl refl l _ c.requires.met
-    (log_done r (phase_of s.store.collection) (work_at s.work v) c.args.target c.in-Ok.number (sym (c.in-Ok.ensures.number r of))) refl (log_refused c.args.target))
+    (log_done r (phase_of s.store.held.collection) (work_at s.work v) c.args.target c.in-Ok.number (sym (c.in-Ok.ensures.number r of))) refl (log_refused c.args.target))
 
 pub returns-in-Err-log-clause-answered : goal.returns-in-Err-log-clause-answered
 returns-in-Err-log-clause-answered c records r v of l =

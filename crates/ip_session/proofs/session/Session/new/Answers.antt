@@ -1,5 +1,5 @@
-use Rattle.ip_store.specs.Work.{state_at}
-use Rattle.ip_store.specs.Collecting.{phase_of}
+use Rattle.ip_held.specs.Work.{state_at}
+use Rattle.ip_held.specs.Collecting.{phase_of}
 use Rattle.ip_session.proofs.session.Session.new.Goals as goal
 
 pub returns-clause-is_in : goal.returns-clause-is_in

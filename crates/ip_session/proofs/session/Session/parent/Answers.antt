@@ -1,7 +1,7 @@
 use Rattle.std.proofs.Common.{sym, refl, rules, ◌∙◌}
 use Rattle.ip_spec.specs.declared.command.Command.TheVariants as Command
-use Rattle.ip_store.specs.Collecting.{phase_of}
-use Rattle.ip_store.specs.Work.{work_at}
+use Rattle.ip_held.specs.Collecting.{phase_of}
+use Rattle.ip_held.specs.Work.{work_at}
 use Rattle.ip_session.proofs.SessionLemmas.{parent_refused}
 use Rattle.ip_session.proofs.Referring.{parent_unnamed}
 use Rattle.ip_session.proofs.Reading.{given_answered, not_given, still_answered}
@@ -18,7 +18,7 @@ returns-in-Some-clause-answered c records r v of l = given_answered records c.ar
 
 pub returns-in-Err-clause-answered : goal.returns-in-Err-clause-answered
 returns-in-Err-clause-answered c records r v of l = still_answered records c.args.self.now c.args.self.now r v (Command.Parent c.args.target) refl refl l c.in-Err.reply c.requires.met
-    (parent_unnamed r (phase_of c.args.self.now.store.collection) (work_at c.args.self.now.work v) c.args.target c.in-Err.reply (not_given c.args.self.now c.given_up.result (search rules) c.given_up.ensures r of) (sym (c.in-Err.ensures.number r of))) refl (parent_refused c.args.target)
+    (parent_unnamed r (phase_of c.args.self.now.store.held.collection) (work_at c.args.self.now.work v) c.args.target c.in-Err.reply (not_given c.args.self.now c.given_up.result (search rules) c.given_up.ensures r of) (sym (c.in-Err.ensures.number r of))) refl (parent_refused c.args.target)
 
 pub returns-in-Ok-clause-answered : goal.returns-in-Ok-clause-answered
 returns-in-Ok-clause-answered c records r v of l = c.add_parent.ensures.answered records r v of l (not_given c.args.self.now c.given_up.result (search rules) c.given_up.ensures r of) (c.in-Ok.ensures.retained r of) c.args.target (sym (c.in-Ok.ensures.number r of))

@@ -2,9 +2,9 @@ use Rattle.std.proofs.Common.{refl, ap, subst, sym, ◌∙◌, rules}
 use Rattle.ip_spec.specs.declared.command.Command.TheVariants as Command
 use Rattle.ip_spec.specs.declared.reply.Reply.TheVariants as Reply
 use Rattle.ip_tree.specs.TreeView.{IsRemoved}
-use Rattle.ip_store.specs.Store.{image_records}
-use Rattle.ip_store.specs.Collecting.{phase_of}
-use Rattle.ip_store.specs.Work.{work_at}
+use Rattle.ip_held.specs.Held.{image_records}
+use Rattle.ip_held.specs.Collecting.{phase_of}
+use Rattle.ip_held.specs.Work.{work_at}
 use Rattle.ip_session.specs.Session.{state_in, tree_fault}
 use Rattle.ip_session.proofs.SessionLemmas.{rm_refused}
 use Rattle.ip_session.proofs.Reading.{given_read, not_given, read_as, rm_read, same_read, failed_read, fails_as, free_refuses, absent_gives, ends}
@@ -34,7 +34,7 @@ returns-in-Ok-false-clause-reads g c =
     read_as _ _ _ s _ (Command.Rm c.args.path) (Command.Rm path) _ (ap Command.Rm c.steps.ensures)
     (same_read _ _ _ s c.remove.new.self c.remove.ensures.same c.remove.ensures.looks c.requires.met c.remove.new.tree (Command.Rm path) Reply.Absent (rm_refused path) (λ r v of. refl)
     (λ told r v here. let removed = subst (IsRemoved (image_records here.holds) path c.remove.new.tree v) c.in-Ok-false.field-0-test (c.in-Ok-false.ensures.removes told r v here.holds (here.lawful.tree (there r here.holds.tables))) in
-    ((λ still. removed.view), absent_gives r (phase_of s.store.collection) (work_at s.work v) path (there r here.holds.tables) removed.found)))
+    ((λ still. removed.view), absent_gives r (phase_of s.store.held.collection) (work_at s.work v) path (there r here.holds.tables) removed.found)))
 
 pub returns-clause-reads : goal.returns-clause-reads
 returns-clause-reads g c =

@@ -1,68 +1,59 @@
-use Rattle.std.proofs.Common.{◌≡◌, ◌≢◌, ◌+◌, length, [], ◌∷◌, arith, sym, ap, subst, ◌∙◌, Bool, true, false, Ok, Option}
-use Rattle.std.specs.Prelude.{IfSome, IsSome}
+use Rattle.std.proofs.Common.{arith, sym, ap, subst, ◌∙◌, IsTrue, Option}
+use Rattle.std.specs.Prelude.{IfSome}
 use Rattle.ip_spec.specs.declared.command.Command.TheVariants as Command
+use Rattle.ip_spec.specs.declared.met.Met.{Met}
 use Rattle.ip_spec.specs.declared.reply.Reply.{Reply}
 use Rattle.ip_spec.specs.Path.{Bytes}
-use Rattle.ip_spec.specs.Repository.{head}
-use Rattle.ip_spec.specs.declared.record.Record.TheVariants as Record
-use Rattle.ip_spec.specs.Record.{spelling}
-use Rattle.ip_store.specs.Changes.{Changes, LimitsSpace, Appends}
-use Rattle.ip_store.specs.Collecting.{phase_of}
-use Rattle.ip_store.specs.Naming.{removed_reply, AnswersRemove, without_branch}
-use Rattle.ip_store.proofs.Works.{works_stay}
+use Rattle.ip_held.specs.Answers.{met_by}
+use Rattle.ip_held.specs.Collecting.{phase_of}
+use Rattle.ip_appends.specs.Naming.{removed_reply, AnswersRemove}
+use Rattle.ip_held.proofs.Works.{works_stay}
 use Rattle.ip_session.specs.Asking.{MeetsNone}
+use Rattle.ip_session.specs.Running.{IsKnown, Runs}
+use Rattle.ip_session.specs.Session.{unasked, IsAnswer}
 use Rattle.ip_session.proofs.Asking.{faulted}
-use Rattle.ip_session.proofs.BranchGoes.{serves, remove_goes, remove_cut, has_answer_removed, is_ground_removed}
+use Rattle.ip_session.proofs.BranchGoes.{serves, remove_goes, remove_cut, has_answer_removed}
 use Rattle.ip_session.proofs.ClearGoes.{keeps_by}
+use Rattle.ip_session.proofs.DurableGoes.{by_answer, fault_ends, fault_ground, fault_met, answer_counts}
 use Rattle.ip_session.proofs.Placing.{remove_placed}
+use Rattle.ip_session.proofs.Running.{runs_as, runs_ended}
 use Rattle.ip_session.proofs.session.Session.remove_branch.Goals as goal
 
-pub returns-in-Some-clause-runs : goal.returns-in-Some-clause-runs
-returns-in-Some-clause-runs g c = record {
-  serving =
-      let (r, is) = c.requires.tables in
-      let made = c.remove_branch-made.result in
-      let store = c.remove_branch-made.new.self in
-      let answers = subst (λ (n : Bytes). IfSome (removed_reply n made) (AnswersRemove r (phase_of c.args.self.now.store.collection) n store.met store)) c.as_slice.ensures (c.remove_branch-made.ensures.answered r is.0) in
-      serves r (phase_of c.args.self.now.store.collection) (Command.BranchRm c.args.name) store.met c.in-Some.reply store c.args.self.now is.1
-      (subst (λ (o : Option Reply). IfSome o (AnswersRemove r (phase_of c.args.self.now.store.collection) c.args.name store.met store)) (sym c.removed_reply.ensures.value ∙ c.in-Some.is) answers);
-  goes = λ told r v here.
-      let made = c.remove_branch-made.result in
-      let store = c.remove_branch-made.new.self in
-      remove_goes _ _ c.args.self.now store _ r v here c.args.name made c.remove_branch-made.ensures.same_collection
-      (subst (λ (n : Bytes). Changes {A = Bool} r (without_branch r n) made store (g.G.Ground.told c.args.ground.now) (g.G.Ground.told c.remove_branch-made.new.outside)) c.as_slice.ensures (c.remove_branch-made.ensures.any_moment told r here.holds))
-      (λ has q now kept parents. record { holds = now; lawful = works_stay _ _ r q _ v here.lawful (λ there. c.remove_branch-made.ensures.records_stay told has r q here.holds now) (omega (arith, kept)) parents })
-      c.in-Some.reply c.met-self.ensures (sym c.removed_reply.ensures.value ∙ c.in-Some.is) (λ absent. ap g.G.Ground.told (c.remove_branch-made.ensures.absent absent))
-      (subst (λ (n : Bytes). IfSome (removed_reply n made) (AnswersRemove r (phase_of c.args.self.now.store.collection) n store.met store)) c.as_slice.ensures (c.remove_branch-made.ensures.answered r here.holds.tables));
-  placed = λ told r v here.
-      let made = c.remove_branch-made.result in
-      let store = c.remove_branch-made.new.self in
-      remove_placed _ _ c.args.self.now store r v here c.args.name made c.in-Some.reply (sym c.removed_reply.ensures.value ∙ c.in-Some.is)
-      (subst (λ (n : Bytes). Changes {A = Bool} r (without_branch r n) made store (g.G.Ground.told c.args.ground.now) (g.G.Ground.told c.remove_branch-made.new.outside)) c.as_slice.ensures (c.remove_branch-made.ensures.any_moment told r here.holds))
-      (subst (λ (n : Bytes). made ≢ Ok false → LimitsSpace (c.args.self.now.store.slot.end + length (spelling (Record.BranchRemove n))) made c.args.self.now.store) c.as_slice.ensures c.remove_branch-made.ensures.limits)
-      (λ absent. ap g.G.Ground.told (c.remove_branch-made.ensures.absent absent))
-      (subst (λ (n : Bytes). made ≡ Ok true → Appends ((c.args.self.now.store.slot.end, Record.BranchRemove n) ∷ []) 0 c.args.self.now.store store (g.G.Ground.told c.args.ground.now) (g.G.Ground.told c.remove_branch-made.new.outside)) c.as_slice.ensures
-      (c.remove_branch-made.ensures.appends told));
-  clear = λ told r v here. keeps_by _ _ c.args.self.now _ (Command.BranchRm c.args.name) c.in-Some.reply (λ may. may)
-      (c.remove_branch-made.ensures.clear told (has_answer_removed c.args.name c.remove_branch-made.result c.in-Some.reply (sym c.removed_reply.ensures.value ∙ c.in-Some.is)) r here.holds);
-  cut = λ told r v here. tt;
-}
+-- by the name that the slice has
+pub returns-clause-runs : goal.returns-clause-runs
+returns-clause-runs g c =
+    let s = c.args.self.now in
+    let call = c.remove_branch-made in
+    let removes = call.ensures.removes in
+    let made = call.result in
+    let store = call.new.self in
+    let name = c.as_slice.result.now in
+    let result = c.removed_answer.result in
+    let after = record s { store = store; met = c.met-self.result } in
+    let a = g.G.Ground.told c.args.ground.now in
+    let b = g.G.Ground.told call.new.outside in
+    let is_answer : IsAnswer (removed_reply name made) made result = subst (λ (n : Bytes). IsAnswer (removed_reply n made) made result) (sym c.as_slice.ensures) c.removed_answer.ensures.answer in
+    runs_as _ _ _ _ _ _ _ (Command.BranchRm name) _ (ap Command.BranchRm (sym c.as_slice.ensures)) (by_answer (removed_reply name made) made result (Runs (IsTrue g.G.Ground.tells) unasked a b s after (Command.BranchRm name)) is_answer
+    (λ reply is. record {
+      serving =
+          let (r, of) = c.requires.tables in
+          serves r (phase_of s.store.held.collection) (Command.BranchRm name) (met_by made) reply store s of.1 (subst (λ (o : Option Reply). IfSome o (AnswersRemove r (phase_of s.store.held.collection) name (met_by made) store.held)) is (removes.answered r of.0));
+      goes = λ told r v here.
+          remove_goes a b s store _ r v here name made removes.same_collection (removes.took told r here.holds).changes
+          (λ has q now kept parents. record { holds = now; lawful = works_stay _ _ r q _ v here.lawful (λ there. (removes.grew told r here.holds).stay has q now) (omega (arith, kept)) parents })
+          reply c.met-self.ensures is (λ absent. ap g.G.Ground.told (call.ensures.absent absent)) (subst (λ (m : Met). IfSome (removed_reply name made) (AnswersRemove r (phase_of s.store.held.collection) name m store.held)) (sym call.ensures.met) (removes.answered r here.holds.tables));
+      placed = λ told r v here. remove_placed a b s store r v here name made reply is (removes.took told r here.holds).changes removes.limits (λ absent. ap g.G.Ground.told (call.ensures.absent absent)) (removes.appends told);
+      clear = λ told r v here. keeps_by a b s after (Command.BranchRm name) reply (λ may. may) ((removes.took told r here.holds).clear (has_answer_removed name made reply is));
+      cut = λ told r v here. tt;
+      cause = tt;
+    })
+    (λ end is. runs_ended (IsTrue g.G.Ground.tells) unasked a b s after (Command.BranchRm name) end (fault_ends made end (IsKnown (IsTrue g.G.Ground.tells) a s) is (λ held. removes.undamaged)) (λ told r v here.
+    remove_cut a b s store _ r v here name made removes.same_collection (removes.took told r here.holds).changes
+    (λ has q now kept parents. record { holds = now; lawful = works_stay _ _ r q _ v here.lawful (λ there. (removes.grew told r here.holds).stay has q now) (omega (arith, kept)) parents })
+    (c.met-self.ensures ∙ call.ensures.met ∙ fault_met made end is) (removes.begun r here.holds.tables (fault_ground made end is removes.undamaged)))))
 
-pub returns-in-None-clause-runs : goal.returns-in-None-clause-runs
-returns-in-None-clause-runs g c = record {
-  serving = tt;
-  goes = λ told r v here. tt;
-  placed = λ told r v here. tt;
-  clear = λ told r v here. tt;
-  cut = λ told r v here.
-      let made = c.remove_branch-made.result in
-      let store = c.remove_branch-made.new.self in
-      remove_cut _ _ c.args.self.now store _ r v here c.args.name made c.remove_branch-made.ensures.same_collection
-      (subst (λ (n : Bytes). Changes {A = Bool} r (without_branch r n) made store (g.G.Ground.told c.args.ground.now) (g.G.Ground.told c.remove_branch-made.new.outside)) c.as_slice.ensures (c.remove_branch-made.ensures.any_moment told r here.holds))
-      (λ has q now kept parents. record { holds = now; lawful = works_stay _ _ r q _ v here.lawful (λ there. c.remove_branch-made.ensures.records_stay told has r q here.holds now) (omega (arith, kept)) parents })
-      c.requires.met
-      (subst (λ (n : Bytes). IsSome (head r n)) c.as_slice.ensures (c.remove_branch-made.ensures.begun r here.holds.tables (is_ground_removed c.args.name made c.remove_branch-made.ensures.undamaged (sym c.removed_reply.ensures.value ∙ c.in-None.is))));
-}
+pub returns-clause-counts : goal.returns-clause-counts
+returns-clause-counts g c = answer_counts (removed_reply c.args.name c.remove_branch-made.result) c.remove_branch-made.result c.removed_answer.result _ _ c.removed_answer.ensures.answer (has_answer_removed c.args.name c.remove_branch-made.result) c.remove_branch-made.ensures.counts
 
-pub returns-in-Some-clause-meets_none : goal.returns-in-Some-clause-meets_none
-returns-in-Some-clause-meets_none g c = subst MeetsNone (sym (c.met-self.ensures ∙ c.remove_branch-made.ensures.met)) (faulted c.remove_branch-made.result)
+pub returns-clause-meets_none : goal.returns-clause-meets_none
+returns-clause-meets_none g c = subst MeetsNone (sym (c.met-self.ensures ∙ c.remove_branch-made.ensures.met)) (faulted c.remove_branch-made.result)

@@ -1,74 +1,93 @@
-use Rattle.std.proofs.Common.{sym, ap, ◌∙◌}
+use Rattle.std.proofs.Common.{false, refl, sym, ap, subst, ◌∙◌}
+use Rattle.sha2.specs.Sha256.{sha256}
 use Rattle.ip_spec.specs.declared.command.Command.TheVariants as Command
-use Rattle.ip_store.specs.Collecting.{child_of}
-use Rattle.ip_session.proofs.Asking.{handles_of, asked_as, counts_as, plain_asked, plain_counts, plain_quiet}
-use Rattle.ip_session.proofs.Running.{runs_as, by_any_rule}
+use Rattle.ip_spec.specs.declared.reply.Reply.TheVariants as Reply
+use Rattle.ip_session.specs.Asking.{TellsNone}
+use Rattle.ip_session.proofs.Asking.{none_met}
+use Rattle.ip_session.proofs.Reading.{empty_answered, hash_answered, stat_answered}
+use Rattle.ip_session.proofs.Running.{ran_within, ran_read, ran_plain, ran_durable, ran_child}
 use Rattle.ip_session.proofs.session.Session.run.Goals as goal
 
--- ---- a collection is to begin
+-- ---- it asks nothing of the ground
 
-pub returns-in-Collect-clause-runs : goal.returns-in-Collect-clause-runs
-returns-in-Collect-clause-runs g c = runs_as _ _ _ _ _ _ c.args.command (Command.Collect c.in-Collect.target) _ c.in-Collect.is
-    (by_any_rule g.G.Ground.tells (g.D.Decides.rule c.args.rules.now) _ _ _ _ (Command.Collect c.in-Collect.target) _ tt c.collect.ensures.runs)
+pub returns-in-Empty : goal.returns-in-Empty
+returns-in-Empty g c = ran_within c.args.command Command.Empty Reply.Accepted c.in-Empty.is tt refl c.requires.met c.requires.tables c.requires.child
+    (λ r is. (is.0, c.empty.ensures.parents r)) refl (λ records r v of l. empty_answered records c.args.self.now r v of l c.empty.result _ c.requires.met (c.empty.ensures.lawful records r) c.empty.ensures.begins) tt (none_met c.args.self.now.met false c.requires.met)
 
-pub returns-in-Collect-clause-asked : goal.returns-in-Collect-clause-asked
-returns-in-Collect-clause-asked g c = asked_as _ _ _ _ _ c.args.command (Command.Collect c.in-Collect.target) _ _ _ c.in-Collect.is c.collect.ensures.asked
+pub returns-in-Parent : goal.returns-in-Parent
+returns-in-Parent g c = ran_within c.args.command (Command.Parent c.in-Parent.target) c.parent.result c.in-Parent.is tt refl c.requires.met c.requires.tables c.requires.child
+    c.parent.ensures.tables c.parent.ensures.same_store c.parent.ensures.answered c.parent.ensures.tells_none c.parent.ensures.meets_none
 
-pub returns-in-Collect-clause-counts : goal.returns-in-Collect-clause-counts
-returns-in-Collect-clause-counts g c = counts_as c.args.command (Command.Collect c.in-Collect.target) c.collect.result _ _ _ c.in-Collect.is c.collect.ensures.counts
+pub returns-in-Branches : goal.returns-in-Branches
+returns-in-Branches g c = ran_within c.args.command Command.Branches c.branches.result c.in-Branches.is tt refl c.requires.met c.requires.tables c.requires.child
+    c.branches.ensures.tables c.branches.ensures.same_store c.branches.ensures.answered c.branches.ensures.tells_none c.branches.ensures.meets_none
 
--- ---- its child is looked at
+pub returns-in-Log : goal.returns-in-Log
+returns-in-Log g c = ran_within c.args.command (Command.Log c.in-Log.target) c.log.result c.in-Log.is tt refl c.requires.met c.requires.tables c.requires.child
+    c.log.ensures.tables c.log.ensures.same_store c.log.ensures.answered c.log.ensures.tells_none c.log.ensures.meets_none
 
-pub returns-in-Look-clause-runs : goal.returns-in-Look-clause-runs
-returns-in-Look-clause-runs g c = runs_as _ _ _ _ _ _ c.args.command Command.Look _ c.in-Look.is
-    (by_any_rule g.G.Ground.tells (g.D.Decides.rule c.args.rules.now) _ _ _ _ Command.Look _ tt c.look.ensures.runs)
+pub returns-in-Lcas : goal.returns-in-Lcas
+returns-in-Lcas g c = ran_within c.args.command (Command.Lcas c.in-Lcas.one c.in-Lcas.other) c.lcas.result c.in-Lcas.is tt refl c.requires.met c.requires.tables c.requires.child
+    c.lcas.ensures.tables c.lcas.ensures.same_store c.lcas.ensures.answered c.lcas.ensures.tells_none c.lcas.ensures.meets_none
 
-pub returns-in-Look-clause-asked : goal.returns-in-Look-clause-asked
-returns-in-Look-clause-asked g c = asked_as _ _ _ _ _ c.args.command Command.Look _ _ _ c.in-Look.is c.look.ensures.asked
+pub returns-in-Hash : goal.returns-in-Hash
+returns-in-Hash g c = ran_within c.args.command (Command.Hash c.in-Hash.bytes) (Reply.Hash c.digest.result) c.in-Hash.is tt refl c.requires.met c.requires.tables c.requires.child
+    (λ r is. is) refl (λ records r v of l. hash_answered records c.args.self.now r v of l _ c.in-Hash.bytes c.digest.result c.requires.met (c.digest.ensures ∙ ap sha256 c.as_slice.ensures)) tt (none_met c.args.self.now.met false c.requires.met)
 
-pub returns-in-Look-clause-counts : goal.returns-in-Look-clause-counts
-returns-in-Look-clause-counts g c = counts_as c.args.command Command.Look c.look.result _ _ _ c.in-Look.is c.look.ensures.counts
+pub returns-in-Stat : goal.returns-in-Stat
+returns-in-Stat g c = ran_within c.args.command Command.Stat c.stat.result c.in-Stat.is tt refl c.requires.met c.requires.tables c.requires.child
+    (λ r is. is) refl (λ records r v of l. stat_answered records c.args.self.now r v of l _ c.stat.result c.requires.met (c.stat.ensures r of)) (let (r, is) = c.requires.tables in subst TellsNone (sym (c.stat.ensures r is.0)) tt) (none_met c.args.self.now.met false c.requires.met)
 
--- ---- its end is waited for
+-- ---- it reads records
 
-pub returns-in-Finish-clause-runs : goal.returns-in-Finish-clause-runs
-returns-in-Finish-clause-runs g c = runs_as _ _ _ _ _ _ c.args.command Command.Finish _ c.in-Finish.is
-    (by_any_rule g.G.Ground.tells (g.D.Decides.rule c.args.rules.now) _ _ _ _ Command.Finish _ tt c.finish.ensures.runs)
+pub returns-in-Checkout : goal.returns-in-Checkout
+returns-in-Checkout g c = ran_read c.args.command (Command.Checkout c.in-Checkout.target) c.in-Checkout.is tt refl c.requires.met c.requires.tables c.requires.child c.checkout.ensures.reads c.checkout.ensures.cause c.checkout.ensures.tells_none c.checkout.ensures.meets_none c.checkout.ensures.same_collection c.checkout.ensures.counts
 
-pub returns-in-Finish-clause-asked : goal.returns-in-Finish-clause-asked
-returns-in-Finish-clause-asked g c = asked_as _ _ _ _ _ c.args.command Command.Finish _ _ _ c.in-Finish.is c.finish.ensures.asked
+pub returns-in-Set : goal.returns-in-Set
+returns-in-Set g c = ran_read c.args.command (Command.Set c.in-Set.path c.in-Set.contents) c.in-Set.is tt refl c.requires.met c.requires.tables c.requires.child c.set.ensures.reads c.set.ensures.cause c.set.ensures.tells_none c.set.ensures.meets_none c.set.ensures.same_collection c.set.ensures.counts
 
-pub returns-in-Finish-clause-counts : goal.returns-in-Finish-clause-counts
-returns-in-Finish-clause-counts g c = counts_as c.args.command Command.Finish c.finish.result _ _ _ c.in-Finish.is c.finish.ensures.counts
+pub returns-in-Rm : goal.returns-in-Rm
+returns-in-Rm g c = ran_read c.args.command (Command.Rm c.in-Rm.path) c.in-Rm.is tt refl c.requires.met c.requires.tables c.requires.child c.remove.ensures.reads c.remove.ensures.cause c.remove.ensures.tells_none c.remove.ensures.meets_none c.remove.ensures.same_collection c.remove.ensures.counts
 
--- ---- one is to end
+pub returns-in-Graft : goal.returns-in-Graft
+returns-in-Graft g c = ran_read c.args.command (Command.Graft c.in-Graft.target c.in-Graft.from c.in-Graft.to) c.in-Graft.is tt refl c.requires.met c.requires.tables c.requires.child c.graft.ensures.reads c.graft.ensures.cause c.graft.ensures.tells_none c.graft.ensures.meets_none c.graft.ensures.same_collection c.graft.ensures.counts
 
-pub returns-in-Cancel-clause-runs : goal.returns-in-Cancel-clause-runs
-returns-in-Cancel-clause-runs g c = runs_as _ _ _ _ _ _ c.args.command Command.Cancel _ c.in-Cancel.is
-    (by_any_rule g.G.Ground.tells (g.D.Decides.rule c.args.rules.now) _ _ _ _ Command.Cancel _ tt c.cancel.ensures.runs)
+pub returns-in-Get : goal.returns-in-Get
+returns-in-Get g c = ran_read c.args.command (Command.Get c.in-Get.path) c.in-Get.is tt refl c.requires.met c.requires.tables c.requires.child c.get.ensures.reads c.get.ensures.cause c.get.ensures.tells_none c.get.ensures.meets_none c.get.ensures.same_collection c.get.ensures.counts
 
-pub returns-in-Cancel-clause-asked : goal.returns-in-Cancel-clause-asked
-returns-in-Cancel-clause-asked g c = asked_as _ _ _ _ _ c.args.command Command.Cancel _ _ _ c.in-Cancel.is c.cancel.ensures.asked
+pub returns-in-List : goal.returns-in-List
+returns-in-List g c = ran_read c.args.command (Command.List c.in-List.path) c.in-List.is tt refl c.requires.met c.requires.tables c.requires.child c.list.ensures.reads c.list.ensures.cause c.list.ensures.tells_none c.list.ensures.meets_none c.list.ensures.same_collection c.list.ensures.counts
 
-pub returns-in-Cancel-clause-counts : goal.returns-in-Cancel-clause-counts
-returns-in-Cancel-clause-counts g c = counts_as c.args.command Command.Cancel c.cancel.result _ _ _ c.in-Cancel.is c.cancel.ensures.counts
+pub returns-in-Cat : goal.returns-in-Cat
+returns-in-Cat g c = ran_read c.args.command (Command.Cat c.in-Cat.target c.in-Cat.path) c.in-Cat.is tt refl c.requires.met c.requires.tables c.requires.child c.cat.ensures.reads c.cat.ensures.cause c.cat.ensures.tells_none c.cat.ensures.meets_none c.cat.ensures.same_collection c.cat.ensures.counts
 
--- ---- it has to do with no child
+pub returns-in-Show : goal.returns-in-Show
+returns-in-Show g c = ran_read c.args.command (Command.Show c.in-Show.target) c.in-Show.is tt refl c.requires.met c.requires.tables c.requires.child c.show.ensures.reads c.show.ensures.cause c.show.ensures.tells_none c.show.ensures.meets_none c.show.ensures.same_collection c.show.ensures.counts
 
-pub returns-in_default-clause-runs : goal.returns-in_default-clause-runs
-returns-in_default-clause-runs g c = c.plain.ensures.runs
+-- ---- it may change files
 
-pub returns-in_default-clause-child : goal.returns-in_default-clause-child
-returns-in_default-clause-child g c = c.requires.child ∙ sym (ap child_of c.plain.ensures.same_collection)
+pub returns-in-Commit : goal.returns-in-Commit
+returns-in-Commit g c = ran_durable c.args.command (Command.Commit c.in-Commit.branch c.in-Commit.info) c.in-Commit.is tt tt c.requires.child c.commit.ensures.runs c.commit.ensures.tells_none c.commit.ensures.meets_none c.commit.ensures.same_collection c.commit.ensures.counts
 
-pub returns-in_default-clause-asked : goal.returns-in_default-clause-asked
-returns-in_default-clause-asked g c = plain_asked _ _ c.args.self.now c.plain.new.self c.args.command c.plain.result _ c.plain.ensures.tells_none c.plain.ensures.meets_none c.plain.ensures.same_collection
+pub returns-in-Merge : goal.returns-in-Merge
+returns-in-Merge g c = ran_plain c.args.command (Command.Merge c.in-Merge.target c.in-Merge.branch c.in-Merge.info) c.in-Merge.is tt c.requires.child c.merge.ensures.runs c.merge.ensures.tells_none c.merge.ensures.meets_none c.merge.ensures.same_collection c.merge.ensures.counts
 
-pub returns-in_default-clause-quiet : goal.returns-in_default-clause-quiet
-returns-in_default-clause-quiet g c = plain_quiet c.plain.result c.plain.new.self.met _ _ c.plain.ensures.tells_none c.plain.ensures.meets_none c.plain.ensures.counts
+pub returns-in-Branch : goal.returns-in-Branch
+returns-in-Branch g c = ran_durable c.args.command (Command.Branch c.in-Branch.name c.in-Branch.target) c.in-Branch.is tt tt c.requires.child c.set_branch.ensures.runs c.set_branch.ensures.tells_none c.set_branch.ensures.meets_none c.set_branch.ensures.same_collection c.set_branch.ensures.counts
 
-pub returns-in_default-clause-counts : goal.returns-in_default-clause-counts
-returns-in_default-clause-counts g c = plain_counts c.args.command c.plain.result c.plain.new.self.met _ _ (handles_of c.args.command c.in_default.not-Collect c.in_default.not-Look c.in_default.not-Finish c.in_default.not-Cancel) c.plain.ensures.counts
+pub returns-in-BranchRm : goal.returns-in-BranchRm
+returns-in-BranchRm g c = ran_durable c.args.command (Command.BranchRm c.in-BranchRm.name) c.in-BranchRm.is tt tt c.requires.child c.remove_branch.ensures.runs c.remove_branch.ensures.tells_none c.remove_branch.ensures.meets_none c.remove_branch.ensures.same_collection c.remove_branch.ensures.counts
 
-pub returns-in_default-clause-cause : goal.returns-in_default-clause-cause
-returns-in_default-clause-cause g c = c.plain.ensures.cause
+-- ---- it speaks to the child of a collection
+
+pub returns-in-Collect : goal.returns-in-Collect
+returns-in-Collect g c = ran_child c.args.command (Command.Collect c.in-Collect.target) c.in-Collect.is tt c.collect.ensures
+
+pub returns-in-Look : goal.returns-in-Look
+returns-in-Look g c = ran_child c.args.command Command.Look c.in-Look.is tt c.look.ensures
+
+pub returns-in-Finish : goal.returns-in-Finish
+returns-in-Finish g c = ran_child c.args.command Command.Finish c.in-Finish.is tt c.finish.ensures
+
+pub returns-in-Cancel : goal.returns-in-Cancel
+returns-in-Cancel g c = ran_child c.args.command Command.Cancel c.in-Cancel.is tt c.cancel.ensures

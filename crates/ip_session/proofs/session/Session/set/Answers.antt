@@ -1,7 +1,7 @@
 use Rattle.std.proofs.Common.{ap₂, sym, ◌∙◌, rules}
 use Rattle.ip_spec.specs.declared.command.Command.TheVariants as Command
-use Rattle.ip_store.specs.Collecting.{phase_of}
-use Rattle.ip_store.specs.Work.{work_at}
+use Rattle.ip_held.specs.Collecting.{phase_of}
+use Rattle.ip_held.specs.Work.{work_at}
 use Rattle.ip_session.specs.Session.{state_in, tree_fault}
 use Rattle.ip_session.proofs.SessionLemmas.{set_refused}
 use Rattle.ip_session.proofs.Reading.{given_read, not_given, read_as, set_read, failed_read, fails_as, set_refuses, ends}
@@ -32,7 +32,7 @@ returns-clause-reads g c =
     read_as _ _ _ s _ (Command.Set c.args.path c.args.contents) (Command.Set path bytes) _ (ap₂ Command.Set c.steps.ensures c.as_slice.ensures)
     (failed_read _ _ _ s c.set.new.self c.set.ensures.same c.set.ensures.looks c.requires.met c.set.new.tree c.failed.new.met (Command.Set path bytes) (tree_fault c.in-Err.fault) c.failed.result (set_refused path bytes)
     (fails_as c.in-Err.fault c.tree_fault.result s.met c.failed.new.met c.failed.result c.tree_fault.ensures c.failed.ensures.value)
-    (λ told r v here. let not_set = c.in-Err.ensures.sets told r v here.holds (here.lawful.tree (there r here.holds.tables)) in ((λ still. not_set.view), set_refuses r (phase_of s.store.collection) (work_at s.work v) path bytes c.in-Err.fault (there r here.holds.tables) not_set.cause)))
+    (λ told r v here. let not_set = c.in-Err.ensures.sets told r v here.holds (here.lawful.tree (there r here.holds.tables)) in ((λ still. not_set.view), set_refuses r (phase_of s.store.held.collection) (work_at s.work v) path bytes c.in-Err.fault (there r here.holds.tables) not_set.cause)))
 
 pub returns-clause-cause : goal.returns-clause-cause
 returns-clause-cause g c =
@@ -44,4 +44,4 @@ returns-clause-cause g c =
     (fails_as c.in-Err.fault c.tree_fault.result s.met c.failed.new.met c.failed.result c.tree_fault.ensures c.failed.ensures.value)
     (λ (told, (r, v, here)).
     let not_set = c.in-Err.ensures.sets told r v here.holds (here.lawful.tree (there r here.holds.tables)) in
-    (state_in s r v, set_refuses r (phase_of s.store.collection) (work_at s.work v) path bytes c.in-Err.fault (there r here.holds.tables) not_set.cause))
+    (state_in s r v, set_refuses r (phase_of s.store.held.collection) (work_at s.work v) path bytes c.in-Err.fault (there r here.holds.tables) not_set.cause))

@@ -1,7 +1,7 @@
 use Rattle.std.proofs.Common.{refl, sym}
 use Rattle.ip_spec.specs.declared.command.Command.TheVariants as Command
-use Rattle.ip_store.specs.Collecting.{phase_of}
-use Rattle.ip_store.specs.Work.{work_at}
+use Rattle.ip_held.specs.Collecting.{phase_of}
+use Rattle.ip_held.specs.Work.{work_at}
 use Rattle.ip_session.specs.Session.{state_in}
 use Rattle.ip_session.proofs.SessionLemmas.{show_refused}
 use Rattle.ip_session.proofs.Referring.{show_unnamed}
@@ -12,7 +12,7 @@ pub returns-in-Err-clause-reads : goal.returns-in-Err-clause-reads
 returns-in-Err-clause-reads g c =
     let s = c.args.self.now in
     unread _ _ s s.met (Command.Show c.args.target) c.in-Err.reply c.requires.met (show_refused c.args.target) (λ r v of. refl)
-    (λ r v of. show_unnamed r (phase_of s.store.collection) (work_at s.work v) c.args.target c.in-Err.reply (sym (c.in-Err.ensures.number r of)))
+    (λ r v of. show_unnamed r (phase_of s.store.held.collection) (work_at s.work v) c.args.target c.in-Err.reply (sym (c.in-Err.ensures.number r of)))
 
 pub show-requires : goal.show-requires
 show-requires g c =
@@ -27,7 +27,7 @@ returns-in-Ok-show-clause-reads g c =
     (λ told r v here.
     let of = here.holds.tables in (
       here.lawful.tree,
-      shown_gives r (phase_of s.store.collection) (work_at s.work v) c.args.target c.in-Ok.number _ c.shown_reply.result (sym (c.in-Ok.ensures.number r of)) c.shown_reply.ensures.value
+      shown_gives r (phase_of s.store.held.collection) (work_at s.work v) c.args.target c.in-Ok.number _ c.shown_reply.result (sym (c.in-Ok.ensures.number r of)) c.shown_reply.ensures.value
           (c.in-Ok-show.ensures.shows told r here.holds (c.in-Ok.ensures.retained r of)),
     ))
 

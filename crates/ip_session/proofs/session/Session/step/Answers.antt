@@ -1,10 +1,10 @@
-use Rattle.std.proofs.Common.{rules, sym, ap, subst, refl, false, Err}
+use Rattle.std.proofs.Common.{rules, sym, ap, subst, refl, false, Err, IsTrue}
 use Rattle.ip_spec.specs.declared.command.LineFault.{LineFault}
 use Rattle.ip_spec.specs.Line.{Reads, IsLineOf}
 use Rattle.ip_script.proofs.LineLaw.{one_command}
 use Rattle.ip_script.proofs.ReadLaw.{each_line}
-use Rattle.ip_store.specs.Collecting.{phase_of}
-use Rattle.ip_store.specs.Work.{work_at}
+use Rattle.ip_held.specs.Collecting.{phase_of}
+use Rattle.ip_held.specs.Work.{work_at}
 use Rattle.ip_spec.specs.declared.met.Met.{Met}
 use Rattle.ip_spec.specs.Step.{IsSwept}
 use Rattle.ip_session.proofs.Asking.{lined_asked, lined_counts, nothing_spawned, none_counts, none_met}
@@ -13,7 +13,10 @@ use Rattle.ip_session.proofs.SessionGoes.{lined_ok, lined_cut, bad_goes, refused
 use Rattle.ip_session.proofs.ClearGoes.{lined_clear, quiet_clear}
 use Rattle.ip_session.proofs.Placing.{lined_placed, quiet_placed}
 use Rattle.ip_session.specs.Placing.{PlacedIn}
-use Rattle.ip_session.specs.Session.{state_in}
+use Rattle.ip_merge.specs.Rules.{IsDecisive}
+use Rattle.ip_session.specs.Running.{IsKnown}
+use Rattle.ip_session.specs.Session.{state_in, IsHeld}
+use Rattle.ip_session.proofs.Running.{ends_more}
 use Rattle.ip_spec.specs.declared.reply.Reply.{Reply}
 use Rattle.ip_session.proofs.session.Session.step.Goals as goal
 
@@ -33,7 +36,7 @@ returns-in-Err-Bad-clause-goes g c told decisive r v here = bad_goes _ _ c.args.
 
 pub returns-in-Err-Memory-clause-goes : goal.returns-in-Err-Memory-clause-goes
 returns-in-Err-Memory-clause-goes g c told decisive r v here = refused_goes _ _ c.args.self.now c.refuse.new.met r v here c.args.line.now c.refuse.result c.refuse.ensures.met c.refuse.ensures.reply
-    (line_refused (g.D.Decides.rule c.args.rules.now) r (phase_of c.args.self.now.store.collection) (work_at c.args.self.now.work v) c.args.line.now (each_line c.args.line.now) (has_words c.args.line.now c.in-Err-Memory.field-0 c.in-Err-Memory.field-0-is c.in-Err-Memory.ensures.one_word))
+    (line_refused (g.D.Decides.rule c.args.rules.now) r (phase_of c.args.self.now.store.held.collection) (work_at c.args.self.now.work v) c.args.line.now (each_line c.args.line.now) (has_words c.args.line.now c.in-Err-Memory.field-0 c.in-Err-Memory.field-0-is c.in-Err-Memory.ensures.one_word))
 
 pub returns-in-Ok-clause-placed : goal.returns-in-Ok-clause-placed
 returns-in-Ok-clause-placed g c told decisive r v here = lined_placed _ _ _ _ _ v c.in-Ok.command c.args.line.now c.run.result c.in-Ok.ensures.reads
@@ -44,7 +47,7 @@ returns-in-Err-Bad-clause-placed g c told decisive r v here = quiet_placed _ _ _
 
 pub returns-in-Err-Memory-clause-placed : goal.returns-in-Err-Memory-clause-placed
 returns-in-Err-Memory-clause-placed g c told decisive r v here =
-    subst (PlacedIn (g.D.Decides.rule c.args.rules.now) c.args.self.now.store.slot c.args.self.now.store.unswept c.args.self.now.store.slot (state_in c.args.self.now r v) v c.args.line.now) (sym c.refuse.ensures.reply) (quiet_placed _ _ _ _ _ v c.args.line.now Reply.Memory (λ command h. h) (λ command h. h) (λ l is. absurd (cc is)) tt refl)
+    subst (PlacedIn (g.D.Decides.rule c.args.rules.now) c.args.self.now.store.held.slot c.args.self.now.store.held.unswept c.args.self.now.store.held.slot (state_in c.args.self.now r v) v c.args.line.now) (sym c.refuse.ensures.reply) (quiet_placed _ _ _ _ _ v c.args.line.now Reply.Memory (λ command h. h) (λ command h. h) (λ l is. absurd (cc is)) tt refl)
 
 pub returns-in-Ok-clause-clear : goal.returns-in-Ok-clause-clear
 returns-in-Ok-clause-clear g c told decisive r v here = lined_clear _ _ c.args.self.now c.run.new.self c.met_only-self.result c.in-Ok.command c.args.line.now c.run.result
@@ -62,6 +65,18 @@ returns-in-Ok-clause-asked g c = lined_asked _ _ _ c.args.self.now c.run.new.sel
 
 pub returns-in-Ok-clause-counts : goal.returns-in-Ok-clause-counts
 returns-in-Ok-clause-counts g c = lined_counts c.in-Ok.command c.args.line.now c.run.result c.run.new.self.met _ _ c.in-Ok.ensures.reads (λ other spelled. one_command c.args.line.now other c.in-Ok.command spelled c.in-Ok.ensures.reads) c.run.ensures.counts
+
+pub returns-in-Ok-clause-child : goal.returns-in-Ok-clause-child
+returns-in-Ok-clause-child g c = c.run.ensures.child
+
+pub returns-in-Ok-clause-quiet : goal.returns-in-Ok-clause-quiet
+returns-in-Ok-clause-quiet g c = c.run.ensures.quiet
+
+pub returns-in-Ok-clause-cause : goal.returns-in-Ok-clause-cause
+returns-in-Ok-clause-cause g c decisive =
+    let s = c.args.self.now in
+    let a = g.G.Ground.told c.args.ground.now in
+    ends_more c.run.result (IsKnown (IsTrue g.G.Ground.tells × IsDecisive (g.D.Decides.rule c.args.rules.now)) a s) (IsHeld g.G.Ground.tells a s) (λ held. ((held.0, decisive), held.1)) c.run.ensures.runs.cause
 
 pub returns-in-Err-Bad-clause-asked : goal.returns-in-Err-Bad-clause-asked
 returns-in-Err-Bad-clause-asked g c = nothing_spawned _ _ c.args.self.now _ c.args.line.now (Reply.Bad c.in-Err-Bad.at) _ tt (none_met c.met_only-self.result false c.met_only-self.ensures) refl
