@@ -13,9 +13,9 @@ use Rattle.ip_ground.proofs.Spans.{lending_now}
 use Rattle.ip_image.specs.declared.slot.Slot.{Slot}
 use Rattle.ip_image.specs.Pending.{HasLive}
 use Rattle.ip_image.proofs.HeadlineLaws.{one_slot}
-use Rattle.ip_store.specs.declared.collection.Unswept.{Unswept}
-use Rattle.ip_store.specs.declared.store.Store.{Store}
-use Rattle.ip_store.specs.Clear.{unswept_in, IsClearTo, IsCleared, IsClearAt, IsClear}
+use Rattle.ip_held.specs.declared.collection.Unswept.{Unswept}
+use Rattle.ip_held.specs.declared.held.Held.{Held}
+use Rattle.ip_held.specs.Clear.{unswept_in, IsClearTo, IsCleared, IsClearAt, IsClear}
 use Rattle.ip_app.proofs.LivePair.{live_before}
 
 -- a file of an attempt is no child's where the attempt is not
@@ -52,7 +52,7 @@ module _ (a b : Told) (only : SyncsOnly (Only Control) a b) where
   clear_synced clear s has = synced_to s (unswept_in s) (clear s (live_before a b only.files s has))
 
   -- nothing is unswept but what its slot says
-  pub cleared_opened : (store : Store) → HasLive store.slot b.held → store.unswept ≡ unswept_in store.slot → IsClearAt a → IsCleared store b
+  pub cleared_opened : (store : Held) → HasLive store.slot b.held → store.unswept ≡ unswept_in store.slot → IsClearAt a → IsCleared store b
   cleared_opened store has unswept clear = subst (λ (u : Unswept). IsClearTo store.slot u b.held (lending b)) (sym unswept) (synced_to store.slot (unswept_in store.slot) (clear store.slot (live_before a b only.files store.slot has)))
 
 -- ---- in the end
@@ -60,7 +60,7 @@ module _ (a b : Told) (only : SyncsOnly (Only Control) a b) where
 below : (a b c : ℕ) → a < b → b ≤ c → a < c
 below a b c low to = omega (arith, low, to)
 
-pub cleared_at : (told : Told) (store : Store) → HasLive store.slot told.held → IsCleared store told → IsClearAt told
+pub cleared_at : (told : Told) (store : Held) → HasLive store.slot told.held → IsCleared store told → IsClearAt told
 cleared_at told store has was s other = subst (λ (t : Slot). IsClearTo t (unswept_in t) told.held (lending told)) (one_slot store.slot s told.held has other) (record {
   chunk = le_refl store.slot.first_chunk;
   attempt = le_refl store.slot.first_attempt;
@@ -69,6 +69,6 @@ cleared_at told store has was s other = subst (λ (t : Slot). IsClearTo t (unswe
 })
 
 -- at a moment that is told as another one
-pub cleared_same : (a b : Told) (store : Store) → b.held ≡ a.held → lending b ≡ lending a → HasLive store.slot a.held → IsCleared store a → IsClearAt b
+pub cleared_same : (a b : Told) (store : Held) → b.held ≡ a.held → lending b ≡ lending a → HasLive store.slot a.held → IsCleared store a → IsClearAt b
 cleared_same a b store held whose has was = cleared_at b store (subst (λ (image : Image). HasLive store.slot image) (sym held) has)
     (clear_along a b (λ file ours. ap (λ (image : Image). image file) held) (λ attempt. ap (λ (custodies : ℕ → Custody). custodies attempt) whose) store.slot store.unswept was)

@@ -8,7 +8,7 @@
 --     ended_counts      the end of a session counts what its status says
 --     follow_more      turns one after another, while no fault of a file is counted
 use Rattle.std.specs.Prelude.{is_err}
-use Rattle.std.proofs.Common.{◌≡◌, ℕ, ◌+◌, ◌-◌, ◌^◌, ◌≤◌, Bool, true, false, List, [], ◌∷◌, ◌++◌, inl, inr, refl, sym, ap, ap₂, ◌∙◌, subst, arith, None, Some, Result, Ok, Err}
+use Rattle.std.proofs.Common.{◌≡◌, ℕ, ◌-◌, ◌^◌, ◌≤◌, Bool, true, false, List, [], ◌∷◌, ◌++◌, inl, inr, refl, sym, ap, ap₂, ◌∙◌, subst, arith, None, Some, Result, Ok, Err}
 use Rattle.ip_ground.specs.declared.names.GroundCounts.{GroundCounts}
 use Rattle.ip_ground.specs.declared.names.GroundFault.{GroundFault}
 use Rattle.ip_ground.specs.Counts.{Rose, RoseBy, NoneFalls, FileFault, SayFault, CountsIf, CountsAs}

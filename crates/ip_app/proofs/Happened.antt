@@ -15,9 +15,7 @@ use Rattle.ip_spawn.specs.Children as spawn
 use Rattle.ip_spawn.specs.declared.job.Job.{Job}
 use Rattle.ip_spawn.specs.declared.spawner.SpawnCounts.{SpawnCounts}
 use Rattle.ip_spec.specs.declared.command.Command.{Command}
-use Rattle.ip_spec.specs.declared.command.Command.TheVariants as Command
 use Rattle.ip_spec.specs.declared.met.Child.{Child}
-use Rattle.ip_spec.specs.declared.met.Child.TheVariants as Child
 use Rattle.ip_spec.specs.declared.met.Met.{Met}
 use Rattle.ip_spec.specs.declared.reply.Difference.{Difference}
 use Rattle.ip_spec.specs.declared.reply.Reply.{Reply}
@@ -29,10 +27,10 @@ use Rattle.ip_spec.specs.Line.{IsLineOf}
 use Rattle.ip_spec.specs.Script.{LineStep}
 use Rattle.ip_image.specs.declared.counts.TurnCounts.{TurnCounts}
 use Rattle.ip_image.specs.declared.slot.Slot.{Slot}
-use Rattle.ip_store.specs.declared.collection.Collection.{Collection}
-use Rattle.ip_store.specs.declared.store.Store.{Store}
-use Rattle.ip_store.specs.Collecting.{phase_of, IsJobOf, IsPhaseOf}
-use Rattle.ip_store.specs.Starting.{IsJobAt}
+use Rattle.ip_held.specs.declared.collection.Collection.{Collection}
+use Rattle.ip_held.specs.declared.held.Held.{Held}
+use Rattle.ip_held.specs.Collecting.{phase_of, IsJobOf, IsPhaseOf}
+use Rattle.ip_collects.specs.Starting.{IsJobAt}
 use Rattle.ip_session.specs.declared.session.Session.{Session}
 use Rattle.ip_session.specs.declared.session.SessionEnd.{SessionEnd}
 use Rattle.ip_session.specs.Asking.{HasStarted, MayReap, HeardOf, Asked, AskedIn, LetsGo}
@@ -48,7 +46,7 @@ abbrev pub exchange_of : Bytes → Met → TurnCounts → TurnCounts → Option 
 exchange_of line met before later difference jobs ends reply after = record { line = line; turn = record { met = met; before = before; after = later }; difference = difference; started = jobs; reaped = ends; reply = reply; after = after }
 
 -- the job that was started
-job_of : (store : Store) (slot : Slot) (jobs : List Job) (collection : Option Collection) → IsSomeAnd collection (λ c. (jobs ≡ c.job ∷ []) × (c.exit ≡ None) × IsJobAt store c.commit slot c.job) → (job : Job) × (jobs ≡ job ∷ [])
+job_of : (store : Held) (slot : Slot) (jobs : List Job) (collection : Option Collection) → IsSomeAnd collection (λ c. (jobs ≡ c.job ∷ []) × (c.exit ≡ None) × IsJobAt store c.commit slot c.job) → (job : Job) × (jobs ≡ job ∷ [])
 job_of store slot jobs None h = absurd h
 job_of store slot jobs (Some c) h = (c.job, h.0)
 
@@ -74,16 +72,16 @@ module _ (s s' : Session) (reply : Reply) (difference : Option Difference) (jobs
   abbrev plain : Bytes → Exchange
   plain line = exchange_of line s'.met (turn_counts a p) (turn_counts b q) difference jobs ends reply after
 
-  by_command : (line : Bytes) (command : Command) → Asked s s' command (Ok reply) jobs ends p q → CountsBy (Ok reply) command s'.met a b → HappensBy command (phase_of s.store.collection) (plain line)
+  by_command : (line : Bytes) (command : Command) → Asked s s' command (Ok reply) jobs ends p q → CountsBy (Ok reply) command s'.met a b → HappensBy command (phase_of s.store.held.collection) (plain line)
   by_command line command asked counts = record {
-    started = λ has. job_of s.store s'.store.slot jobs s'.store.collection (asked.started has);
+    started = λ has. job_of s.store.held s'.store.held.slot jobs s'.store.held.collection (asked.started has);
     none_started = asked.none_started;
     start = asked.start;
     running = asked.running;
     not_running = asked.not_running;
     no_wait = asked.no_wait;
     none_reaped = asked.none_reaped;
-    heard = λ reaped is. heard_of s.store.collection reaped ends p q (asked.heard reaped is);
+    heard = λ reaped is. heard_of s.store.held.collection reaped ends p q (asked.heard reaped is);
     unheard = asked.unheard;
     cancelled = λ is. asked.cancelled (ap (λ (r : Reply). Ok r) is);
     kill = asked.kill;
@@ -91,16 +89,16 @@ module _ (s s' : Session) (reply : Reply) (difference : Option Difference) (jobs
     none_left = λ none. none_left_of command reply s'.met a b none counts;
   }
 
-  plainly : (line : Bytes) → AskedIn s s' line (Ok reply) jobs ends p q → CountsIn line (Ok reply) s'.met a b → Happens (phase_of s.store.collection) (plain line)
+  plainly : (line : Bytes) → AskedIn s s' line (Ok reply) jobs ends p q → CountsIn line (Ok reply) s'.met a b → Happens (phase_of s.store.held.collection) (plain line)
   plainly line asked counts = record {
     command = λ command served. by_command line command (asked.command command served) (counts.command command served);
     none = λ no. let it = asked.none no in (it.0, it.1, it.2, ap (λ (c : GroundCounts). c.remove_faults) (counts.none no));
   }
 
   pub happens_of : (line read : Bytes) (met : Met) (before later : TurnCounts) → read ≡ line → met ≡ s'.met → before ≡ turn_counts a p → later ≡ turn_counts b q → AskedIn s s' read (Ok reply) jobs ends p q → CountsIn read (Ok reply) s'.met a b
-      → Happens (phase_of s.store.collection) (exchange_of line met before later difference jobs ends reply after)
+      → Happens (phase_of s.store.held.collection) (exchange_of line met before later difference jobs ends reply after)
   happens_of line read met before later same same_met from to asked counts =
-      let phase = phase_of s.store.collection in
+      let phase = phase_of s.store.held.collection in
       subst (λ (l : Bytes). Happens phase (exchange_of l met before later difference jobs ends reply after)) same
       (subst (λ (m : Met). Happens phase (exchange_of read m before later difference jobs ends reply after)) (sym same_met)
       (subst (λ (c : TurnCounts). Happens phase (exchange_of read s'.met c later difference jobs ends reply after)) (sym from)
@@ -112,15 +110,15 @@ no_start : (refused : Bool) (at : ℕ) → HasStarted (Ok (if refused then Reply
 no_start true at has = has
 no_start false at has = has
 
-job_at : (store : Store) (slot : Slot) (jobs : List Job) (collection : Option Collection) → IsSomeAnd collection (λ c. (jobs ≡ c.job ∷ []) × (c.exit ≡ None) × IsJobAt store c.commit slot c.job)
+job_at : (store : Held) (slot : Slot) (jobs : List Job) (collection : Option Collection) → IsSomeAnd collection (λ c. (jobs ≡ c.job ∷ []) × (c.exit ≡ None) × IsJobAt store c.commit slot c.job)
     → (job : Job) × (jobs ≡ job ∷ []) × IsJobOf slot job × (job.attempt ≡ store.slot.next_attempt) × (job.end ≡ slot.end)
 job_at store slot jobs None h = absurd h
 job_at store slot jobs (Some c) h = (c.job, h.0, h.2.of, h.2.attempt, h.2.end)
 
 -- a line that is no command starts none, by its answer
 pub starts_of : (rule : Rule) (s s' : Session) (state after : State) (line : Bytes) (met : Conditions) (reply : Reply) (jobs : List Job) (ends : List Reaped) (p q : SpawnCounts) → AskedIn s s' line (Ok reply) jobs ends p q → LineStep IsLineOf rule state line met reply after → HasStarted (Ok reply)
-    → (job : Job) × (jobs ≡ job ∷ []) × IsJobOf s'.store.slot job × (job.attempt ≡ s.store.slot.next_attempt) × (job.end ≡ s'.store.slot.end)
-starts_of rule s s' state after line met reply jobs ends p q asked (inl step) has = job_at s.store s'.store.slot jobs s'.store.collection ((asked.command step.0 step.1).started has)
+    → (job : Job) × (jobs ≡ job ∷ []) × IsJobOf s'.store.held.slot job × (job.attempt ≡ s.store.held.slot.next_attempt) × (job.end ≡ s'.store.held.slot.end)
+starts_of rule s s' state after line met reply jobs ends p q asked (inl step) has = job_at s.store.held s'.store.held.slot jobs s'.store.held.collection ((asked.command step.0 step.1).started has)
 starts_of rule s s' state after line met reply jobs ends p q asked (inr bad) has = absurd (no_start met.told.refused bad.at (subst (λ (r : Reply). HasStarted (Ok r)) bad.reply_is has))
 
 -- ---- the child that was heard of
@@ -131,8 +129,8 @@ heard_at slot r (Some c) reaped ends p q phase h = ap (λ (n : ℕ). n + 1) h.0 
 
 -- a line that is no command hears of none, by what it met
 pub hears_of : (rule : Rule) (s s' : Session) (state after : State) (line : Bytes) (difference : Option Difference) (reply : Reply) (jobs : List Job) (ends : List Reaped) (p q : SpawnCounts) → IsServing s → AskedIn s s' line (Ok reply) jobs ends p q
-    → LineStep IsLineOf rule state line (conditions_with s'.met difference) reply after → (reaped : Reaped) → s'.met.child ≡ Child.Ended reaped → reaped.attempt + 1 ≡ s.store.slot.next_attempt
-hears_of rule s s' state after line difference reply jobs ends p q serving asked (inl step) reaped is = heard_at s.store.slot serving.0 s.store.collection reaped ends p q serving.1.0.phase ((asked.command step.0 step.1).heard reaped is)
+    → LineStep IsLineOf rule state line (conditions_with s'.met difference) reply after → (reaped : Reaped) → s'.met.child ≡ Child.Ended reaped → reaped.attempt + 1 ≡ s.store.held.slot.next_attempt
+hears_of rule s s' state after line difference reply jobs ends p q serving asked (inl step) reaped is = heard_at s.store.held.slot serving.0 s.store.held.collection reaped ends p q serving.1.0.phase ((asked.command step.0 step.1).heard reaped is)
 hears_of rule s s' state after line difference reply jobs ends p q serving asked (inr bad) reaped is =
     let none : s'.met.child ≡ Child.NotAsked = ap (λ (m : Met). m.child) bad.unasked in
     absurd (cc (is, none))

@@ -6,7 +6,7 @@
 --     ended_same, ended_cut      what a child may read in the end.      watched_unbegun, watched_all, watched_cut      of a run in which no command was begun, all were answered, or the last was cut off
 --     watches_along      where a reply is said behind an exchange
 --     heard_by      which collection's child was heard of.      watches_of      what an exchange met of it, by what the session says
-use Rattle.std.proofs.Common.{◌≡◌, ◌≢◌, inl, inr, ℕ, ◌+◌, ◌≤◌, ◌++◌, length, Bool, true, List, [], ◌∷◌, refl, sym, ap, ◌∙◌, subst, arith, append_assoc, append-nil, Option, Some, None, Ok}
+use Rattle.std.proofs.Common.{◌≡◌, ◌≢◌, inl, inr, ℕ, ◌≤◌, ◌++◌, length, Bool, true, List, [], ◌∷◌, refl, sym, ap, ◌∙◌, subst, arith, append_assoc, append-nil, Option, Some, None, Ok}
 use Rattle.std.specs.Prelude.{IfSome, IsSomeAnd}
 use Rattle.std.proofs.lemmas.Bool.{cases_lt}
 use Rattle.ip_ground.specs.declared.names.FileName.{FileName}
@@ -38,13 +38,13 @@ use Rattle.ip_image.specs.Slot.{layout_of}
 use Rattle.ip_image.specs.Standing.{Generation, StandsFor}
 use Rattle.ip_image.specs.Virtual.{chunk_byte}
 use Rattle.ip_image.proofs.HeadlineLaws.{one_slot}
-use Rattle.ip_store.specs.declared.collection.Collection.{Collection}
-use Rattle.ip_store.specs.declared.collection.Unswept.{Unswept}
-use Rattle.ip_store.specs.declared.store.Store.{Store}
-use Rattle.ip_store.specs.Clear.{IsClear, IsClearAt, IsClearTo}
-use Rattle.ip_store.specs.Collecting.{phase_of, Collects, IsJobOf, IsPhaseOf}
-use Rattle.ip_store.specs.Store.{IsOf, Holds}
-use Rattle.ip_store.proofs.Recovering.{held_has}
+use Rattle.ip_held.specs.declared.collection.Collection.{Collection}
+use Rattle.ip_held.specs.declared.collection.Unswept.{Unswept}
+use Rattle.ip_held.specs.declared.held.Held.{Held}
+use Rattle.ip_held.specs.Clear.{IsClear, IsClearAt, IsClearTo}
+use Rattle.ip_held.specs.Collecting.{phase_of, Collects, IsJobOf, IsPhaseOf}
+use Rattle.ip_held.specs.Held.{IsOf, Holds}
+use Rattle.ip_held.proofs.Recovering.{held_has}
 use Rattle.ip_session.specs.declared.session.Session.{Session}
 use Rattle.ip_session.specs.Asking.{GoesOnBy, HeardOf, AskedIn}
 use Rattle.ip_session.specs.Clearing.{ClearIn}
@@ -169,7 +169,7 @@ held_some : (s : State) (collection : Option Collection) → s.phase ≡ phase_o
 held_some s None phase held = absurd (cc (sym held.1 ∙ phase))
 held_some s (Some c) phase held = (let same : Phase.Collecting held.0 None ≡ Phase.Collecting c.commit c.exit = sym held.1 ∙ phase in sym (ap exit_kept same))
 
-jobs_in : (store : Store) (r : Repository) → IsOf store r → IfSome store.collection (λ c. IsJobOf store.slot c.job)
+jobs_in : (store : Held) (r : Repository) → IsOf store r → IfSome store.collection (λ c. IsJobOf store.slot c.job)
 jobs_in store r tables = by store.collection tables.phase
   where
     by : (o : Option Collection) → IsPhaseOf store.slot r o → IfSome o (λ c. IsJobOf store.slot c.job)
@@ -310,7 +310,7 @@ ended_same a b goes same last None_heard is = some_more last _ _ (λ child was.
     (on, λ none. on)) is
 
 -- the last command was cut short
-pub ended_cut : (a b : Told) (goes : KeepsPast a b) → (s : State) (store : Store) (r : Repository) → Holds store a r → s.phase ≡ phase_of store.collection → (last : Option Started) → Going store.collection last → IsHeldIn s → IsSomeAnd last (λ child. ReadsNow a child)
+pub ended_cut : (a b : Told) (goes : KeepsPast a b) → (s : State) (store : Held) (r : Repository) → Holds store a r → s.phase ≡ phase_of store.collection → (last : Option Started) → Going store.collection last → IsHeldIn s → IsSomeAnd last (λ child. ReadsNow a child)
     → (None_heard : Type 0) → (None_heard → (slot : Slot) → HasLive slot a.held → KeepsSpace slot a b) → IsSomeAnd last (λ child. ReadsSame b child a.moment × (None_heard → ReadsSame b child b.moment))
 ended_cut a b goes s store r holds phase last going held reads None_heard space =
     some_both last (λ child. IsJobOf store.slot child.job) (λ child. ReadsNow a child) (λ child. Unit {0}) _ (λ child of was u. (reads_later a b goes child a.moment (omega arith) was.0, λ none. on child of was none)) jobs reads (some_more last _ _ (λ child was. tt) reads)
@@ -363,7 +363,7 @@ watched_unbegun says is_cut_off is_cut_short old new first calm quiet = record {
 }
 
 -- the last command was cut off
-pub watched_cut : (says : Reply → Bytes) (is_cut_off is_cut_short : Bool) → is_cut_off ≡ true → (old mid new : Told) → KeepsPast mid new → (first : State) (xs : List Exchange) (x : Exchange) (store : Store) (r : Repository) → IsWatchedTo says old mid first xs store.collection → said mid ≡ said old ++ texts_by says xs → Holds store mid r → (after_all first xs).phase ≡ phase_of store.collection
+pub watched_cut : (says : Reply → Bytes) (is_cut_off is_cut_short : Bool) → is_cut_off ≡ true → (old mid new : Told) → KeepsPast mid new → (first : State) (xs : List Exchange) (x : Exchange) (store : Held) (r : Repository) → IsWatchedTo says old mid first xs store.collection → said mid ≡ said old ++ texts_by says xs → Holds store mid r → (after_all first xs).phase ≡ phase_of store.collection
     → (is_cut_short ≡ true → NothingPending old → ((reaped : Reaped) → x.turn.met.child ≢ Child.Ended reaped) → (slot : Slot) → HasLive slot mid.held → KeepsSpace slot mid new) → WatchedIn says is_cut_off is_cut_short old new first (xs ++ x ∷ [])
 watched_cut says is_cut_off is_cut_short cut old mid new goes first xs x store r w all holds phase space = record {
   whole = xs;
@@ -432,8 +432,8 @@ heard_at collection reaped ends p q is = some_more collection (λ c. HeardOf c r
 
 -- a line that is no command hears of none, by what it met
 pub heard_by : (rule : Rule) (s s' : Session) (state after : State) (line : Bytes) (difference : Option Difference) (reply : Reply) (jobs : List Job) (ends : List Reaped) (p q : SpawnCounts) → AskedIn s s' line (Ok reply) jobs ends p q → LineStep IsLineOf rule state line (conditions_with s'.met difference) reply after
-    → (reaped : Reaped) → s'.met.child ≡ Child.Ended reaped → IsSomeAnd s.store.collection (λ c. reaped.attempt ≡ c.job.attempt)
-heard_by rule s s' state after line difference reply jobs ends p q asked (inl step) reaped is = heard_at s.store.collection reaped ends p q ((asked.command step.0 step.1).heard reaped is)
+    → (reaped : Reaped) → s'.met.child ≡ Child.Ended reaped → IsSomeAnd s.store.held.collection (λ c. reaped.attempt ≡ c.job.attempt)
+heard_by rule s s' state after line difference reply jobs ends p q asked (inl step) reaped is = heard_at s.store.held.collection reaped ends p q ((asked.command step.0 step.1).heard reaped is)
 heard_by rule s s' state after line difference reply jobs ends p q asked (inr bad) reaped is =
     let none : s'.met.child ≡ Child.NotAsked = ap (λ (m : Met). m.child) bad.unasked in
     absurd (cc (is, none))
@@ -449,17 +449,17 @@ module _ (a mid : Told) (s s' : Session) (r : Repository) (v : View) (here : IsW
   Concludes = (reaped : Reaped) → s'.met.child ≡ Child.Ended reaped → IsConcluded reaped (conditions_with s'.met difference) reply
 
   -- what it wrote is served
-  served_of : (c : Collection) → s.store.collection ≡ Some c → (reaped : Reaped) → s'.met.child ≡ Child.Ended reaped → (floor left : ℕ) → reply ≡ Reply.Collected floor left → IsSettledIn mid s s' reply → (q : Repository) (w : View) (behind : IsWorking mid s' q w) → IsServedAs mid mid.moment mid.held c.job
+  served_of : (c : Collection) → s.store.held.collection ≡ Some c → (reaped : Reaped) → s'.met.child ≡ Child.Ended reaped → (floor left : ℕ) → reply ≡ Reply.Collected floor left → IsSettledIn mid s s' reply → (q : Repository) (w : View) (behind : IsWorking mid s' q w) → IsServedAs mid mid.moment mid.held c.job
   served_of c runs reaped heard floor left is settled q w behind =
       let H = settled c reaped runs heard in
       let serves = H.serves floor left is in
       let (floor_is, live, horizon) = H.swapped floor left is in
-      let slot = s'.store.slot in
+      let slot = s'.store.held.slot in
       let A = behind.holds.stands.standing in
-      let there : HasLive slot mid.held = held_has s'.store q mid behind.holds in
+      let there : HasLive slot mid.held = held_has s'.store.held q mid behind.holds in
       let same : A.slot ≡ slot = one_slot A.slot slot mid.held (record { control = A.control; index = A.index; held = A.held; live = A.live }) there in
       let G = subst (λ (t : Slot). Generation mid.held (layout_of t) A.rows) same A.generation in
-      let drawn = (subst (IsPhaseOf s.store.slot r) runs here.holds.tables.phase).told.valid.attempt in
+      let drawn = (subst (IsPhaseOf s.store.held.slot r) runs here.holds.tables.phase).told.valid.attempt in
       let some : slot.live ≢ 0 = λ none. omega (arith, drawn, live, none) in
       let M = G.file some in
       record {
@@ -476,9 +476,9 @@ module _ (a mid : Told) (s s' : Session) (r : Repository) (v : View) (here : IsW
         mapping_is = record { end = M.end; file = sym (subst (λ (n : ℕ). mid.held (Mapping n) ≡ serves.pair (Mapping n)) (sym live) serves.mapping) ∙ M.file; count = M.count; numbers = M.numbers; above = M.above; inside = M.inside };
       }
 
-  judged_of : (c : Collection) → s.store.collection ≡ Some c → (reaped : Reaped) → met.child ≡ Child.Ended reaped → reaped.attempt ≡ c.job.attempt → Concludes → IsJudgedIn a mid s s' r v difference → IsSettledIn mid s s' reply → (q : Repository) (w : View) → IsWorking mid s' q w → IsJudgedAs mid mid.moment mid.held (phase_of (Some c)) records c.job reaped x
+  judged_of : (c : Collection) → s.store.held.collection ≡ Some c → (reaped : Reaped) → met.child ≡ Child.Ended reaped → reaped.attempt ≡ c.job.attempt → Concludes → IsJudgedIn a mid s s' r v difference → IsSettledIn mid s s' reply → (q : Repository) (w : View) → IsWorking mid s' q w → IsJudgedAs mid mid.moment mid.held (phase_of (Some c)) records c.job reaped x
   judged_of c runs reaped ended attempt concluded judged settled q w behind =
-      let collects : Collects a s.store.slot records r c = subst (λ (o : Option Collection). IfSome o (Collects a s.store.slot records r)) runs here.holds.collects in
+      let collects : Collects a s.store.held.slot records r c = subst (λ (o : Option Collection). IfSome o (Collects a s.store.held.slot records r)) runs here.holds.collects in
       let heard : s'.met.child ≡ Child.Ended reaped = ap (λ (m : Met). m.child) (sym met_is) ∙ ended in
       record {
         attempt = attempt;
@@ -492,10 +492,10 @@ module _ (a mid : Told) (s s' : Session) (r : Repository) (v : View) (here : IsW
       }
 
   abbrev Heard : Type 0
-  Heard = (reaped : Reaped) → s'.met.child ≡ Child.Ended reaped → IsSomeAnd s.store.collection (λ c. reaped.attempt ≡ c.job.attempt)
+  Heard = (reaped : Reaped) → s'.met.child ≡ Child.Ended reaped → IsSomeAnd s.store.held.collection (λ c. reaped.attempt ≡ c.job.attempt)
 
   pub watches_of : KeepsSaid a mid → IsPossibleNow a → IsPossibleNow mid → Heard → Concludes → (IsHeldIn after → (reaped : Reaped) → s'.met.child ≢ Child.Ended reaped)
-      → IsJudgedIn a mid s s' r v difference → IsSettledIn mid s s' reply → ClearIn a mid s s' line reply → KeepsSpaceIn a mid s' → (NothingPending a → NothingPending mid) → (q : Repository) (u : View) → after ≡ state_in s' q u → IsWorking mid s' q u → Watches a mid (state_in s r v) s.store.collection s'.store.collection s.store.slot s'.store.slot s.store.unswept x
+      → IsJudgedIn a mid s s' r v difference → IsSettledIn mid s s' reply → ClearIn a mid s s' line reply → KeepsSpaceIn a mid s' → (NothingPending a → NothingPending mid) → (q : Repository) (u : View) → after ≡ state_in s' q u → IsWorking mid s' q u → Watches a mid (state_in s r v) s.store.held.collection s'.store.held.collection s.store.held.slot s'.store.held.slot s.store.held.unswept x
   watches_of still possible possible_mid heard concluded unheard judged settled clear space calm q u after_is behind = record {
     phase = refl;
     phase_behind = ap (λ (t : State). t.phase) after_is;
@@ -505,22 +505,22 @@ module _ (a mid : Told) (s s' : Session) (r : Repository) (v : View) (here : IsW
     unsaid = said_now a mid past still;
     possible = λ file. possible_later a mid past a.moment a.held (omega arith) (λ other. possible other) file;
     stands = here.holds.stands;
-    has = held_has s.store r a here.holds;
+    has = held_has s.store.held r a here.holds;
     behind = mid.held;
     left = λ file. possible_mid file;
     stands_behind = subst (λ (t : State). StandsFor mid.held t.repository) (sym after_is) behind.holds.stands;
-    has_behind = held_has s'.store q mid behind.holds;
-    judged = λ reaped ended. by s.store.collection refl reaped ended (heard reaped (ap (λ (m : Met). m.child) (sym met_is) ∙ ended));
+    has_behind = held_has s'.store.held q mid behind.holds;
+    judged = λ reaped ended. by s.store.held.collection refl reaped ended (heard reaped (ap (λ (m : Met). m.child) (sym met_is) ∙ ended));
     clear = λ cleared swept none. clear.all swept (ap (λ (m : Met). m.left) (sym met_is) ∙ none) cleared;
-    job = jobs_in s.store r here.holds.tables;
-    job_behind = jobs_in s'.store q behind.holds.tables;
-    space = λ order none t late le image possible_then. space order (λ reaped ended. none reaped (ap (λ (m : Met). m.child) met_is ∙ ended)) s.store.slot (held_has s.store r a here.holds) t late le image possible_then;
+    job = jobs_in s.store.held r here.holds.tables;
+    job_behind = jobs_in s'.store.held q behind.holds.tables;
+    space = λ order none t late le image possible_then. space order (λ reaped ended. none reaped (ap (λ (m : Met). m.child) met_is ∙ ended)) s.store.held.slot (held_has s.store.held r a here.holds) t late le image possible_then;
     saying = λ order t late le image possible_then. absurd (omega (arith, late, le));
-    held = λ order. same_space s'.store.slot mid.held;
+    held = λ order. same_space s'.store.held.slot mid.held;
     unheard = λ held reaped ended. unheard held reaped (ap (λ (m : Met). m.child) (sym met_is) ∙ ended);
   }
     where
-      by : (o : Option Collection) → s.store.collection ≡ o → (reaped : Reaped) → met.child ≡ Child.Ended reaped → IsSomeAnd s.store.collection (λ c. reaped.attempt ≡ c.job.attempt) → IsSomeAnd s.store.collection (λ c. IsJudgedAs mid mid.moment mid.held (phase_of s.store.collection) records c.job reaped x)
+      by : (o : Option Collection) → s.store.held.collection ≡ o → (reaped : Reaped) → met.child ≡ Child.Ended reaped → IsSomeAnd s.store.held.collection (λ c. reaped.attempt ≡ c.job.attempt) → IsSomeAnd s.store.held.collection (λ c. IsJudgedAs mid mid.moment mid.held (phase_of s.store.held.collection) records c.job reaped x)
       by None none reaped ended is = absurd (subst (λ (o : Option Collection). IsSomeAnd o (λ c. reaped.attempt ≡ c.job.attempt)) none is)
       by (Some c) runs reaped ended is =
           let attempt = subst (λ (o : Option Collection). IsSomeAnd o (λ d. reaped.attempt ≡ d.job.attempt)) runs is in

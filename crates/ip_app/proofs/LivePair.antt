@@ -19,8 +19,8 @@ use Rattle.ip_image.specs.Slot.{IsSlot, slot_bytes, slot_fields, slot_at, live_i
 use Rattle.ip_image.specs.Pending.{HasLive, NothingPending}
 use Rattle.ip_image.specs.Standing.{StandsFor}
 use Rattle.ip_image.proofs.OneRepository.{zero_or_not}
-use Rattle.ip_store.specs.Store.{OwnsPair, OwnsLive}
-use Rattle.ip_store.proofs.Listed.{pair_stays}
+use Rattle.ip_held.specs.Held.{OwnsPair, OwnsLive}
+use Rattle.ip_held.proofs.Listed.{pair_stays}
 
 -- what is not loose is no child's
 not_foreign : (c : Custody) (file : FileName) → ¬ custody.IsLoose c file → ¬ custody.IsForeign c

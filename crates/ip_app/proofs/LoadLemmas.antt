@@ -9,7 +9,7 @@ use Rattle.std.proofs.lemmas.List.{map-append}
 use Rattle.ip_ground.specs.declared.names.FileName.TheVariants.{Control}
 use Rattle.ip_spawn.specs.Children as spawn
 use Rattle.ip_spawn.specs.declared.spawner.SpawnCounts.{SpawnCounts}
-use Rattle.ip_ground.specs.Told.{Told, said, SyncsOnly, Only}
+use Rattle.ip_ground.specs.Told.{said, SyncsOnly, Only}
 use Rattle.ip_ground.proofs.Spans.{said_now}
 use Rattle.ip_image.specs.declared.counts.TurnCounts.{TurnCounts}
 use Rattle.ip_image.specs.Standing.{StandsFor}
@@ -26,9 +26,9 @@ use Rattle.ip_spec.specs.Machine.{State, opened}
 use Rattle.ip_spec.specs.Text.{reply_text}
 use Rattle.ip_spec.specs.declared.reply.Reply.{Reply}
 use Rattle.ip_merge.specs.Rules.{IsDecisive}
-use Rattle.ip_store.specs.Clear.{IsCleared, IsClearAt}
-use Rattle.ip_store.specs.Opening.{RecoversOnceOpen}
-use Rattle.ip_store.proofs.Recovering.{held_has}
+use Rattle.ip_held.specs.Clear.{IsCleared, IsClearAt}
+use Rattle.ip_opens.specs.Opening.{RecoversOnceOpen}
+use Rattle.ip_held.proofs.Recovering.{held_has}
 use Rattle.ip_session.specs.declared.session.Session.{Session}
 use Rattle.ip_session.specs.Session.{IsServing, IsWorking, state_in}
 use Rattle.ip_summary.specs.declared.summary.Summary.{Summary}
@@ -66,8 +66,8 @@ drop_front (x ∷ xs) ys = drop_front xs ys
 -- ---- line by line
 
 pub loaded_first : (rule : Rule) (decisive : Bool) → (IsTrue decisive → IsDecisive rule) → (seed : ℕ) (old now : Outside) (counts : TurnCounts) (s : Session) (summary : Summary) (r : Repository) (v : View) → v ≡ no_view → (known : (b : Bool) × (Knows decisive old → IsTrue b) × (IsTrue b → Knows decisive old)) → IsServing s → state_in s r v ≡ opened r
-    → (Tells old → IsWorking now.told s r v) → (Tells old → IsClearAt old.told → IsCleared s.store now.told) → (Tells old → StandsFor old.told.held r) → (opening : IsTrue old.ground_tells → RecoversOnceOpen old.told now.told) → ((tells : Tells old) → (opening tells.0).since ≤ now.told.moment)
-    → counts ≡ turn_counts old.counts old.spawns → now.counts ≡ old.counts → IsUnasked old now → s.store.collection ≡ None → old.held ≡ None → now.read_faults ≡ old.read_faults → GoesOn old now → (IsTrue old.ground_tells → SyncsOnly (Only Control) old.told now.told) → now.turns ≡ old.turns → now.left ≡ old.left → Tallies summary []
+    → (Tells old → IsWorking now.told s r v) → (Tells old → IsClearAt old.told → IsCleared s.store.held now.told) → (Tells old → StandsFor old.told.held r) → (opening : IsTrue old.ground_tells → RecoversOnceOpen old.told now.told) → ((tells : Tells old) → (opening tells.0).since ≤ now.told.moment)
+    → counts ≡ turn_counts old.counts old.spawns → now.counts ≡ old.counts → IsUnasked old now → s.store.held.collection ≡ None → old.held ≡ None → now.read_faults ≡ old.read_faults → GoesOn old now → (IsTrue old.ground_tells → SyncsOnly (Only Control) old.told now.told) → now.turns ≡ old.turns → now.left ≡ old.left → Tallies summary []
     → Loaded rule decisive seed seed 0 old now counts s summary
 loaded_first rule decisive by_rule seed old now counts s summary r v none_known known serving begun working cleared began opening over counted no_fault unasked idle alone reads g f turns left tallies = record {
   known = known.0;
@@ -75,9 +75,9 @@ loaded_first rule decisive by_rule seed old now counts s summary r v none_known 
   first = r;
   repository = r;
   view = v;
-  slot = s.store.slot;
+  slot = s.store.held.slot;
   ran = ran_first rule decisive by_rule old now counts s r v none_known known serving begun working cleared began opening counted no_fault unasked idle alone reads g f turns;
-  watched = λ is. watched_none says_nothing old.told now.told (opened r) s.store.collection idle refl;
+  watched = λ is. watched_none says_nothing old.told now.told (opened r) s.store.held.collection idle refl;
   no_fault = removals_same old.counts now.counts no_fault;
   lines_then = λ more. let n : 0 + more ≡ more = omega arith in ap (lines_from seed 1) n;
   count = refl;
@@ -102,9 +102,9 @@ module _ (rule : Rule) (decisive : Bool) (seed state number : ℕ) (old mid : Ou
   silent : IsTrue h.known → said mid.told ≡ said old.told ++ texts_by says_nothing h.exchanges
   silent is = h.said is ∙ (sym (append_nil (said old.told)) ∙ ap (λ (t : Bytes). said old.told ++ t) (sym (none_said h.exchanges)))
 
-  watched_on : (new : Outside) (counts' : TurnCounts) (s' : Session) (after : Repository) (view : View) (x : Exchange) → Exchanged rule h.known mid new counts counts' s s' h.repository h.view x after view → IsTrue h.known → IsWatchedTo says_nothing old.told new.told (opened h.first) (h.exchanges ++ x ∷ []) s'.store.collection
-  watched_on new counts' s' after view x t is = watched_next says_nothing old.told mid.told new.told (h.ran.trace.files is).goes (t.begun.files is).goes (opened h.first) h.exchanges s.store.collection s'.store.collection s.store.slot s'.store.slot s.store.unswept x (h.watched is) (silent is) (h.ran.nothing_pending is) (after_more (opened h.first) h.exchanges x) t.goes_on_by (h.ran.clear is)
-      (subst (λ (state : State). Watches mid.told new.told state s.store.collection s'.store.collection s.store.slot s'.store.slot s.store.unswept x) (h.ran.now_at is) (t.watches is))
+  watched_on : (new : Outside) (counts' : TurnCounts) (s' : Session) (after : Repository) (view : View) (x : Exchange) → Exchanged rule h.known mid new counts counts' s s' h.repository h.view x after view → IsTrue h.known → IsWatchedTo says_nothing old.told new.told (opened h.first) (h.exchanges ++ x ∷ []) s'.store.held.collection
+  watched_on new counts' s' after view x t is = watched_next says_nothing old.told mid.told new.told (h.ran.trace.files is).goes (t.begun.files is).goes (opened h.first) h.exchanges s.store.held.collection s'.store.held.collection s.store.held.slot s'.store.held.slot s.store.held.unswept x (h.watched is) (silent is) (h.ran.nothing_pending is) (after_more (opened h.first) h.exchanges x) t.goes_on_by (h.ran.clear is)
+      (subst (λ (state : State). Watches mid.told new.told state s.store.held.collection s'.store.held.collection s.store.held.slot s'.store.held.slot s.store.held.unswept x) (h.ran.now_at is) (t.watches is))
 
   pub loaded_more : (new : Outside) (text : Bytes) (counts' : TurnCounts) (s' : Session) (summary' : Summary) (state' : ℕ) → (t : Replied rule h.known mid new (load_line state (number + 1)).0 text counts counts' s s' h.repository h.view) → new.left ≡ mid.left → state' ≡ (load_line state (number + 1)).1
       → ((reply : Reply) → text ≡ reply_text reply → Tallies summary' (replies_in h.exchanges ++ reply ∷ [])) → Loaded rule decisive seed state' (number + 1) old new counts' s' summary'
@@ -180,7 +180,7 @@ module _ (rule : Rule) (decisive : Bool) (seed state number : ℕ) (old mid : Ou
             begun = (rest, script ∙ (sym (append_assoc (lines_in h.exchanges) (line ∷ []) rest) ∙ ap (λ (front : List Bytes). front ++ rest) (ap (λ (l : Bytes). lines_in h.exchanges ++ l ∷ []) (sym u.line_is) ∙ sym (map-append (λ x. x.line) h.exchanges (x ∷ [])))), λ behind whole. absurd (cc (cut, whole)));
             run = λ b. trace.run (h.ran.trace.known_so b);
             placed = λ b slot live. subst (λ (cut_off : Bool). PlacesIn rule cut_off slot first xs) (sym cut) (placed_cut rule decisive h.known h.exchanges h.first h.repository h.view h.slot old mid counts s x h.ran b slot live);
-            watched = λ b. let is = h.ran.trace.known_so b in watched_cut says_nothing (is_cut_short s') (is_cut_short s') cut old.told mid.told new.told (u.begun.files is).goes first h.exchanges x s.store h.repository (h.watched is) (silent is) (h.ran.working is).holds (sym h.ran.phase)
+            watched = λ b. let is = h.ran.trace.known_so b in watched_cut says_nothing (is_cut_short s') (is_cut_short s') cut old.told mid.told new.told (u.begun.files is).goes first h.exchanges x s.store.held h.repository (h.watched is) (silent is) (h.ran.working is).holds (sym h.ran.phase)
                 (λ short order none slot live. u.space is (h.ran.nothing_pending is order) none slot live);
             said = λ b. let is = h.ran.trace.known_so b in record {
               part = [];
@@ -253,7 +253,7 @@ module _ (rule : Rule) (decisive : Bool) (seed state number : ℕ) (old mid : Ou
             begun = ([], script_end count all ∙ (ap (λ (l : Bytes). lines_in h.exchanges ++ l ∷ []) (sym u.line_is) ∙ (sym (map-append (λ x. x.line) h.exchanges (x ∷ [])) ∙ sym (append_nil (lines_in xs)))), λ behind whole. refl);
             run = λ b. ran.trace.run (h.ran.trace.known_so b);
             placed = placed_all (is_cut_short s') rule decisive h.known xs h.first u.after u.view h.slot old new counts' session ran;
-            watched = λ b. let is = h.ran.trace.known_so b in let w = u.exchanged.watches is in watched_all says_nothing (is_cut_short s') (is_cut_short s') old.told new.told first xs session.store.collection (watched_on new counts' session u.after u.view x u.exchanged is) w.answered w.by_now
+            watched = λ b. let is = h.ran.trace.known_so b in let w = u.exchanged.watches is in watched_all says_nothing (is_cut_short s') (is_cut_short s') old.told new.told first xs session.store.held.collection (watched_on new counts' session u.after u.view x u.exchanged is) w.answered w.by_now
                 (w.unsaid ∙ (h.said is ∙ (sym (append_nil (said old.told)) ∙ ap (λ (t : Bytes). said old.told ++ t) (sym (none_said xs)))));
             said = λ b. let is = h.ran.trace.known_so b in let p = u.part is in record {
               part = p.0;
@@ -271,7 +271,7 @@ module _ (rule : Rule) (decisive : Bool) (seed state number : ℕ) (old mid : Ou
                 h.repository (ap (λ (state : State). state.repository) (h.ran.now_at is)) u.after (ap (λ (state : State). state.repository) (sym (u.exchanged.now_at is))) _ (u.turning is (h.ran.nothing_pending is order))));
             again = λ b d may. let is = known_so b d may.nothing_pending in record { repository = u.after; stands = (u.exchanged.working is).holds.stands; nothing_pending = ran.nothing_pending is may.nothing_pending };
             stands = λ b whole began. let is = h.ran.trace.known_so b in subst (λ (state : State). StandsFor new.told.held state.repository) (ran.now_at is) (u.exchanged.working is).holds.stands;
-            clear = λ b whole clear. let is = h.ran.trace.known_so b in cleared_at new.told session.store (held_has session.store u.after new.told (u.exchanged.working is).holds) (ran.clear is clear);
+            clear = λ b whole clear. let is = h.ran.trace.known_so b in cleared_at new.told session.store.held (held_has session.store.held u.after new.told (u.exchanged.working is).holds) (ran.clear is clear);
             files = λ b. ran.trace.files (h.ran.trace.known_so b);
           };
           notes = notes_of rule decisive h.known xs h.first s' old new counts' ran.trace (serving_on s' old.counts mid.counts new.counts h.no_fault u.counted) spawned held spawns gone;

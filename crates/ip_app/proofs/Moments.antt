@@ -21,10 +21,10 @@ use Rattle.ip_spec.specs.Repository.{Repository}
 use Rattle.ip_spec.specs.Machine.{State, opened}
 use Rattle.ip_spec.specs.Script.{Answered, state_after}
 use Rattle.ip_spec.specs.Text.{reply_text}
-use Rattle.ip_store.specs.declared.store.Store.{Store}
-use Rattle.ip_store.specs.Opening.{RecoversOnceOpen}
-use Rattle.ip_store.specs.Store.{Holds}
-use Rattle.ip_store.proofs.Recovering.{recovers_now, recovers_since}
+use Rattle.ip_held.specs.declared.held.Held.{Held}
+use Rattle.ip_opens.specs.Opening.{RecoversOnceOpen}
+use Rattle.ip_held.specs.Held.{Holds}
+use Rattle.ip_held.proofs.Recovering.{recovers_now, recovers_since}
 use Rattle.ip_app.specs.Exchanges.{Exchange, answer_of, texts_in, after_all}
 use Rattle.ip_app.proofs.LivePair.{owns_pending}
 use Rattle.ip_app.proofs.SameFiles.{stands_after}
@@ -34,21 +34,21 @@ module _ (mid new : Told) (text : Bytes) (result : Result (Unit {0}) GroundFault
   pub order_says : NothingPending mid → NothingPending new
   order_says order = pending_passes mid new says.goes says.files says.lending order
 
-  saying : (reply : Bytes) → text ≡ reply → (store : Store) (before after : Repository) → Holds store mid after → NothingPending mid → Turning mid new reply before after
+  saying : (reply : Bytes) → text ≡ reply → (store : Held) (before after : Repository) → Holds store mid after → NothingPending mid → Turning mid new reply before after
   saying reply e store before after holds order =
       turns_saying mid new reply before after
       (λ t late le. subst (λ (bytes : Bytes). (n : ℕ) × (n ≤ length bytes) × (new.said_at t ≡ said mid ++ take n bytes)) e (says.front t late le))
       (recovers_since store after mid holds order new says.files says.lending)
 
   pub turned_moments : (old : Told) → KeepsPast old mid → KeepsSaid old mid → (reply : Bytes) → text ≡ reply → (before after : Repository) → IsAtomic old mid before after
-      → (store : Store) → Holds store mid after → NothingPending mid → Turning old new reply before after
+      → (store : Held) → Holds store mid after → NothingPending mid → Turning old new reply before after
   turned_moments old goes quiet reply e before after keeps store holds order =
       turning_on old mid new reply before after says.goes (said_now old mid goes quiet)
       (turns_quietly old mid reply before after quiet keeps)
       (saying reply e store before after holds order)
 
 -- A command that was cut short leaves a ground that may be served again.
-pub cut_again : (store : Store) (r after : Repository) (a b : Told) → Holds store a r → NothingPending a → KeepsPast a b → IsAtomic a b r after → IsPossibleNow b → MayServe b
+pub cut_again : (store : Held) (r after : Repository) (a b : Told) → Holds store a r → NothingPending a → KeepsPast a b → IsAtomic a b r after → IsPossibleNow b → MayServe b
 cut_again store r after a b holds order goes keeps possible = elim (cases_lt a.moment b.moment) [
   | inl later ↦ now (keeps b.moment later (omega arith))
   | inr still ↦

@@ -4,7 +4,7 @@
 --     trace_more, ran_more      one exchange more.      ran_first      none yet.      said_along      a reply is said behind it
 --     let_go_as, LetsGoAs, goes_on_gone      the child that is held is let go.      notes_of, asks_of      what was noted, and asked of the spawner.      notes_none, asks_none      where no command was begun
 --     places_in      where its records came to lie, from the slot that was live
-use Rattle.std.proofs.Common.{true, ◌≡◌, inl, ℕ, ◌≤◌, Bool, List, [], ◌∷◌, ◌++◌, length, refl, sym, ap, ap₂, ◌∙◌, subst, arith, append_assoc, map, IsTrue, Option, None}
+use Rattle.std.proofs.Common.{true, ◌≡◌, inl, ℕ, ◌≤◌, Bool, List, [], ◌∷◌, ◌++◌, length, refl, sym, ap, ap₂, ◌∙◌, subst, arith, append_assoc, IsTrue, Option, None}
 use Rattle.std.proofs.lemmas.List.{map-append}
 use Rattle.ip_ground.specs.declared.names.FileName.TheVariants.{Control}
 use Rattle.ip_base.specs.declared.exit.Reaped.{Reaped}
@@ -24,13 +24,13 @@ use Rattle.ip_spec.specs.Machine.{State, Phase, opened}
 use Rattle.ip_merge.specs.Rules.{IsDecisive}
 use Rattle.ip_spec.specs.Line.{IsLineOf}
 use Rattle.ip_spec.specs.Script.{LineStep}
-use Rattle.ip_store.specs.declared.collection.Unswept.{Unswept}
-use Rattle.ip_store.specs.Opening.{RecoversOnceOpen}
-use Rattle.ip_store.specs.Clear.{IsCleared, IsClearAt}
-use Rattle.ip_store.specs.Collecting.{phase_of, child_of}
-use Rattle.ip_store.specs.Sweeping.{KeepsFiles}
-use Rattle.ip_store.proofs.KeptFiles.{keeps_on, keeps_store}
-use Rattle.ip_store.proofs.Recovering.{held_has}
+use Rattle.ip_held.specs.declared.collection.Unswept.{Unswept}
+use Rattle.ip_opens.specs.Opening.{RecoversOnceOpen}
+use Rattle.ip_held.specs.Clear.{IsCleared, IsClearAt}
+use Rattle.ip_held.specs.Collecting.{phase_of, child_of}
+use Rattle.ip_held.specs.Sweeping.{KeepsFiles}
+use Rattle.ip_held.proofs.KeptFiles.{keeps_on, keeps_store}
+use Rattle.ip_held.proofs.Recovering.{held_has}
 use Rattle.ip_session.specs.declared.session.Session.{Session}
 use Rattle.ip_session.specs.Session.{IsServing, IsWorking, state_in}
 use Rattle.ip_app.specs.declared.turn_log.Turn.{Turn}
@@ -117,9 +117,9 @@ ran_more rule decisive known xs first r v slot old mid new counts counts' s s' x
   trace = trace_more rule decisive known xs first old mid new counts counts' (state_in s r v) x h.trace no_fault h.now_at t.begun;
   now_at = λ g. sym (t.now_at g) ∙ sym (after_more (opened first) xs x);
   live = h.live;
-  places = λ g. places_more rule slot (opened first) no_view xs s.store.slot v x s.store.unswept s'.store.slot view (h.places g) (ap (λ (state : State). state.work.tree) (t.now_at g))
+  places = λ g. places_more rule slot (opened first) no_view xs s.store.held.slot v x s.store.held.unswept s'.store.held.slot view (h.places g) (ap (λ (state : State). state.work.tree) (t.now_at g))
       (subst (λ (state : State). IsViewIn state.repository v x.line x.reply view) (h.now_at g) (t.seen g))
-      (subst (λ (state : State). PlacedIn rule s.store.slot s.store.unswept s'.store.slot state v x.line x.reply) (h.now_at g) (t.placed g)) (t.starts g) (t.hears g);
+      (subst (λ (state : State). PlacedIn rule s.store.held.slot s.store.held.unswept s'.store.held.slot state v x.line x.reply) (h.now_at g) (t.placed g)) (t.starts g) (t.hears g);
   serving = t.serving;
   working = t.working;
   clear = λ g clear. t.clear g (h.clear g clear);
@@ -135,9 +135,9 @@ told_none told = ap₂ told_with (sym (append_nil told.started)) (sym (append_ni
 
 -- no line was run yet
 pub ran_first : (rule : Rule) (decisive : Bool) → (IsTrue decisive → IsDecisive rule) → (old now : Outside) (counts : TurnCounts) (s : Session) (r : Repository) (v : View) → v ≡ no_view → (known : (b : Bool) × (Knows decisive old → IsTrue b) × (IsTrue b → Knows decisive old)) → IsServing s → state_in s r v ≡ opened r
-    → (Tells old → IsWorking now.told s r v) → (Tells old → IsClearAt old.told → IsCleared s.store now.told) → (Tells old → StandsFor old.told.held r) → (IsTrue old.ground_tells → RecoversOnceOpen old.told now.told)
-    → counts ≡ turn_counts old.counts old.spawns → now.counts ≡ old.counts → IsUnasked old now → s.store.collection ≡ None → old.held ≡ None → now.read_faults ≡ old.read_faults → GoesOn old now → (IsTrue old.ground_tells → SyncsOnly (Only Control) old.told now.told) → now.turns ≡ old.turns
-    → Ran rule decisive known.0 [] r r v s.store.slot old now counts s
+    → (Tells old → IsWorking now.told s r v) → (Tells old → IsClearAt old.told → IsCleared s.store.held now.told) → (Tells old → StandsFor old.told.held r) → (IsTrue old.ground_tells → RecoversOnceOpen old.told now.told)
+    → counts ≡ turn_counts old.counts old.spawns → now.counts ≡ old.counts → IsUnasked old now → s.store.held.collection ≡ None → old.held ≡ None → now.read_faults ≡ old.read_faults → GoesOn old now → (IsTrue old.ground_tells → SyncsOnly (Only Control) old.told now.told) → now.turns ≡ old.turns
+    → Ran rule decisive known.0 [] r r v s.store.held.slot old now counts s
 ran_first rule decisive by_rule old now counts s r v none_known known serving begun working cleared began opening counted no_fault unasked idle alone reads g f turns = record {
   trace = record {
     known_so = known.1;
@@ -154,7 +154,7 @@ ran_first rule decisive by_rule old now counts s r v none_known known serving be
     reads = reads;
   };
   now_at = λ is. begun;
-  live = λ is. live_before old.told now.told (f (known.2 is).0.0).files s.store.slot (held_has s.store r now.told (working (known.2 is).0).holds);
+  live = λ is. live_before old.told now.told (f (known.2 is).0.0).files s.store.held.slot (held_has s.store.held r now.told (working (known.2 is).0).holds);
   places = λ is. (refl, none_known);
   serving = serving;
   working = λ is. working (known.2 is).0;
@@ -238,16 +238,16 @@ happen_cut xs x all = record { whole = xs; cut = x ∷ []; all = refl; one = ome
 
 -- one slot was live when the run began
 placed_from : (rule : Rule) (decisive known : Bool) (xs : List Exchange) (first r : Repository) (v : View) (slot : Slot) (old now : Outside) (counts : TurnCounts) (session : Session) → Ran rule decisive known xs first r v slot old now counts session → Knows decisive old → (live : Slot) → HasLive live old.told.held
-    → Places rule live (opened first) no_view xs session.store.slot v
+    → Places rule live (opened first) no_view xs session.store.held.slot v
 placed_from rule decisive known xs first r v slot old now counts session h b live has =
     let is = h.trace.known_so b in
-    subst (λ (t : Slot). Places rule t (opened first) no_view xs session.store.slot v) (one_slot slot live old.told.held (h.live is) has) (h.places is)
+    subst (λ (t : Slot). Places rule t (opened first) no_view xs session.store.held.slot v) (one_slot slot live old.told.held (h.live is) has) (h.places is)
 
 pub placed_all : (cut_off : Bool) (rule : Rule) (decisive known : Bool) (xs : List Exchange) (first r : Repository) (v : View) (slot : Slot) (old now : Outside) (counts : TurnCounts) (session : Session) → Ran rule decisive known xs first r v slot old now counts session → Knows decisive old → (live : Slot) → HasLive live old.told.held
     → PlacesIn rule cut_off live (opened first) xs
-placed_all cut_off rule decisive known xs first r v slot old now counts session h b live has = record { whole = xs; cut = []; all = append_nil xs; one = omega arith; none = λ _. refl; last = session.store.slot; view = v; places = placed_from rule decisive known xs first r v slot old now counts session h b live has }
+placed_all cut_off rule decisive known xs first r v slot old now counts session h b live has = record { whole = xs; cut = []; all = append_nil xs; one = omega arith; none = λ _. refl; last = session.store.held.slot; view = v; places = placed_from rule decisive known xs first r v slot old now counts session h b live has }
 
 -- but for one that was cut off
 pub placed_cut : (rule : Rule) (decisive known : Bool) (xs : List Exchange) (first r : Repository) (v : View) (slot : Slot) (old now : Outside) (counts : TurnCounts) (session : Session) (x : Exchange) → Ran rule decisive known xs first r v slot old now counts session → Knows decisive old → (live : Slot) → HasLive live old.told.held
     → PlacesIn rule true live (opened first) (xs ++ x ∷ [])
-placed_cut rule decisive known xs first r v slot old now counts session x h b live has = record { whole = xs; cut = x ∷ []; all = refl; one = omega arith; none = λ c. absurd (cc c); last = session.store.slot; view = v; places = placed_from rule decisive known xs first r v slot old now counts session h b live has }
+placed_cut rule decisive known xs first r v slot old now counts session x h b live has = record { whole = xs; cut = x ∷ []; all = refl; one = omega arith; none = λ c. absurd (cc c); last = session.store.held.slot; view = v; places = placed_from rule decisive known xs first r v slot old now counts session h b live has }

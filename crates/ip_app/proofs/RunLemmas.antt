@@ -29,12 +29,12 @@ use Rattle.ip_spec.specs.Machine.{State, opened}
 use Rattle.ip_merge.specs.Rules.{IsDecisive}
 use Rattle.ip_spec.specs.Script.{whole_lines}
 use Rattle.ip_spec.specs.Text.{reply_text}
-use Rattle.ip_store.specs.Control.{control_in}
-use Rattle.ip_store.specs.Opening.{RecoversOnceOpen}
-use Rattle.ip_store.specs.Clear.{IsCleared, IsClearAt}
-use Rattle.ip_store.specs.Sweeping.{KeepsFiles}
-use Rattle.ip_store.proofs.KeptFiles.{keeps_on, keeps_custody, stays_goes}
-use Rattle.ip_store.proofs.Recovering.{held_has}
+use Rattle.ip_held.specs.Control.{control_in}
+use Rattle.ip_opens.specs.Opening.{RecoversOnceOpen}
+use Rattle.ip_held.specs.Clear.{IsCleared, IsClearAt}
+use Rattle.ip_held.specs.Sweeping.{KeepsFiles}
+use Rattle.ip_held.proofs.KeptFiles.{keeps_on, keeps_custody, stays_goes}
+use Rattle.ip_held.proofs.Recovering.{held_has}
 use Rattle.ip_session.specs.declared.session.Session.{Session}
 use Rattle.ip_session.specs.Session.{IsServing, IsWorking, state_in}
 use Rattle.ip_app.specs.declared.lines.Lines.{Lines}
@@ -109,8 +109,8 @@ served_more rule decisive old mid new lines lines' counts counts' s s' h turned 
       rest_then = λ tail. ap last_piece (sym (regroup h.done x.line tail)) ∙ (h.rest_then (x.line ++ line_feed ∷ tail) ∙ last_piece-line x.line tail t.no_line_feed);
       short = subst (All IsShort) (sym (map-append (λ x. x.line) h.exchanges (x ∷ []))) (All-append IsShort (lines_in h.exchanges) (x.line ∷ []) h.short (All-cons IsShort x.line [] t.short (All-nil IsShort)));
       count = omega (arith, h.count, t.count, length-append h.done (x.line ++ line_feed ∷ []), length-append x.line (line_feed ∷ []));
-      watched = λ g. watched_next reply_text old.told mid.told new.told (h.ran.trace.files g).goes (goes.files g).goes (opened h.first) h.exchanges s.store.collection s'.store.collection s.store.slot s'.store.slot s.store.unswept x (h.watched g) (h.said g ∙ ap (λ (t : Bytes). said old.told ++ t) (texts_same h.exchanges)) (h.ran.nothing_pending g) (after_more (opened h.first) h.exchanges x) turned.exchanged.goes_on_by (h.ran.clear g)
-          (subst (λ (state : State). Watches mid.told new.told state s.store.collection s'.store.collection s.store.slot s'.store.slot s.store.unswept x) (h.ran.now_at g) (turned.exchanged.watches g));
+      watched = λ g. watched_next reply_text old.told mid.told new.told (h.ran.trace.files g).goes (goes.files g).goes (opened h.first) h.exchanges s.store.held.collection s'.store.held.collection s.store.held.slot s'.store.held.slot s.store.held.unswept x (h.watched g) (h.said g ∙ ap (λ (t : Bytes). said old.told ++ t) (texts_same h.exchanges)) (h.ran.nothing_pending g) (after_more (opened h.first) h.exchanges x) turned.exchanged.goes_on_by (h.ran.clear g)
+          (subst (λ (state : State). Watches mid.told new.told state s.store.held.collection s'.store.held.collection s.store.held.slot s'.store.held.slot s.store.held.unswept x) (h.ran.now_at g) (turned.exchanged.watches g));
       said = λ g. turned.said g ∙ (ap (λ (u : Bytes). u ++ reply_text x.reply) (h.said g) ∙ (append_assoc (said old.told) (texts_in h.exchanges) (reply_text x.reply) ∙ ap (λ (u : Bytes). said old.told ++ u) (sym (texts_more h.exchanges x))));
       opened_at = h.opened_at;
       headline = λ g order. headline_turn (h.opened_at g) old.told mid.told new.told (opened h.first) h.exchanges x (h.headline g order) (goes.files g).goes (h.over g) (h.said g)
@@ -119,9 +119,9 @@ served_more rule decisive old mid new lines lines' counts counts' s s' h turned 
     }
 
 -- no line was served yet
-pub served_first : (rule : Rule) (decisive : Bool) → (IsTrue decisive → IsDecisive rule) → (old now : Outside) (lines : Lines) (counts : TurnCounts) (s : Session) (r : Repository) (v : View) → v ≡ no_view → (known : (b : Bool) × (Knows decisive old → IsTrue b) × (IsTrue b → Knows decisive old)) → IsServing s → state_in s r v ≡ opened r → (Tells old → IsWorking now.told s r v) → (Tells old → IsClearAt old.told → IsCleared s.store now.told) → (Tells old → StandsFor old.told.held r)
+pub served_first : (rule : Rule) (decisive : Bool) → (IsTrue decisive → IsDecisive rule) → (old now : Outside) (lines : Lines) (counts : TurnCounts) (s : Session) (r : Repository) (v : View) → v ≡ no_view → (known : (b : Bool) × (Knows decisive old → IsTrue b) × (IsTrue b → Knows decisive old)) → IsServing s → state_in s r v ≡ opened r → (Tells old → IsWorking now.told s r v) → (Tells old → IsClearAt old.told → IsCleared s.store.held now.told) → (Tells old → StandsFor old.told.held r)
     → (opening : IsTrue old.ground_tells → RecoversOnceOpen old.told now.told) → ((tells : Tells old) → (opening tells.0).since ≤ now.told.moment)
-    → counts ≡ turn_counts old.counts old.spawns → now.counts ≡ old.counts → IsUnasked old now → s.store.collection ≡ None → old.held ≡ None → now.read_faults ≡ old.read_faults → GoesOn old now → (IsTrue old.ground_tells → SyncsOnly (Only Control) old.told now.told) → now.left ≡ old.left → now.turns ≡ old.turns → pending lines ≡ [] → lines.taken ≡ 0 → Served rule decisive old now lines counts s
+    → counts ≡ turn_counts old.counts old.spawns → now.counts ≡ old.counts → IsUnasked old now → s.store.held.collection ≡ None → old.held ≡ None → now.read_faults ≡ old.read_faults → GoesOn old now → (IsTrue old.ground_tells → SyncsOnly (Only Control) old.told now.told) → now.left ≡ old.left → now.turns ≡ old.turns → pending lines ≡ [] → lines.taken ≡ 0 → Served rule decisive old now lines counts s
 served_first rule decisive by_rule old now lines counts s r v none_known known serving begun working cleared began opening over counted no_fault unasked idle alone reads g f left turns none zero =
     record {
       known = known.0;
@@ -130,7 +130,7 @@ served_first rule decisive by_rule old now lines counts s r v none_known known s
       first = r;
       repository = r;
       view = v;
-      slot = s.store.slot;
+      slot = s.store.held.slot;
       ran = ran_first rule decisive by_rule old now counts s r v none_known known serving begun working cleared began opening counted no_fault unasked idle alone reads g f turns;
       no_fault = removals_same old.counts now.counts no_fault;
       bytes = λ b. sym left ∙ ap (λ (u : Bytes). u ++ now.left) (sym none);
@@ -138,7 +138,7 @@ served_first rule decisive by_rule old now lines counts s r v none_known known s
       rest_then = λ tail. refl;
       short = All-nil IsShort;
       count = omega (arith, zero, ap length none);
-      watched = λ is. watched_none reply_text old.told now.told (opened r) s.store.collection idle refl;
+      watched = λ is. watched_none reply_text old.told now.told (opened r) s.store.held.collection idle refl;
       said = λ is. let only = f (known.2 is).0.0 in said_now old.told now.told only.changes.goes only.changes.said ∙ sym (append_nil (said old.told));
       opened_at = λ is. (opening (known.2 is).0.0).since;
       over = λ is. over (known.2 is).0;
@@ -287,7 +287,7 @@ serves_stopped rule decisive s old mid new lines lines' counts counts' session h
             (headline_later (h.opened_at is) old.told mid.told new.told first (map answer_of h.exchanges) (h.headline is order) t.files.goes t.same_moment);
         again = λ b d may. let is = known b d may.nothing_pending in record { repository = h.repository; stands = t.stands is; nothing_pending = t.nothing_pending (h.ran.nothing_pending is may.nothing_pending) };
         stands = λ b whole began. subst (λ (state : State). StandsFor new.told.held state.repository) (h.ran.now_at (h.ran.trace.known_so b)) (t.stands (h.ran.trace.known_so b));
-        clear = λ b whole clear. let is = h.ran.trace.known_so b in cleared_same mid.told new.told session.store t.same_held t.same_lending (held_has session.store h.repository mid.told (h.ran.working is).holds) (h.ran.clear is clear);
+        clear = λ b whole clear. let is = h.ran.trace.known_so b in cleared_same mid.told new.told session.store.held t.same_held t.same_lending (held_has session.store.held h.repository mid.told (h.ran.working is).holds) (h.ran.clear is clear);
         files = λ g. keeps_on old.told mid.told new.told (h.ran.trace.files (h.ran.trace.known_so g)) t.files;
       };
       notes = record {
@@ -306,7 +306,7 @@ serves_stopped rule decisive s old mid new lines lines' counts counts' session h
 
 -- a reply could not be said
 serves_unsaid : (rule : Rule) (decisive : Bool) (s : Status) (old mid new : Outside) (lines lines' : Lines) (counts counts' : TurnCounts) (session : Session) (h : Served rule decisive old mid lines counts session) → is_cut_off s ≡ true → ((xs : List Exchange) → Begins s old (opened h.first) xs)
-    → Unsaid rule s h.known mid new lines lines' counts counts' session.store (state_in session h.repository h.view) → ((taken : Bytes) (last : Outside) → Row decisive s old last taken)
+    → Unsaid rule s h.known mid new lines lines' counts counts' session.store.held (state_in session h.repository h.view) → ((taken : Bytes) (last : Outside) → Row decisive s old last taken)
     → (spawned : spawn.Told) (held : Option ℕ) (spawns : SpawnCounts) → LetsGoAs new spawned held spawns → Serves rule decisive old (let_go_as new spawned held spawns) s
 serves_unsaid rule decisive s old mid new lines lines' counts counts' session h cut opened_so u row spawned held spawns gone =
     let first = opened h.first in
@@ -331,7 +331,7 @@ serves_unsaid rule decisive s old mid new lines lines' counts counts' session h 
         short = subst (All IsShort) (sym (map-append (λ x. x.line) h.exchanges (x ∷ []))) (All-append IsShort (lines_in h.exchanges) (x.line ∷ []) h.short (All-cons IsShort x.line [] t.short (All-nil IsShort)));
         run = λ b. trace.run (h.ran.trace.known_so b);
         placed = λ b slot live. subst (λ (cut_off : Bool). PlacesIn rule cut_off slot first xs) (sym cut) (placed_cut rule decisive h.known h.exchanges h.first h.repository h.view h.slot old mid counts session x h.ran b slot live);
-        watched = λ b. let is = h.ran.trace.known_so b in watched_cut reply_text (is_cut_off s) (is_cut_short s) cut old.told mid.told new.told (goes.files is).goes first h.exchanges x session.store h.repository (h.watched is) (h.said is ∙ ap (λ (u : Bytes). said old.told ++ u) (texts_same h.exchanges)) (h.ran.working is).holds (sym h.ran.phase)
+        watched = λ b. let is = h.ran.trace.known_so b in watched_cut reply_text (is_cut_off s) (is_cut_short s) cut old.told mid.told new.told (goes.files is).goes first h.exchanges x session.store.held h.repository (h.watched is) (h.said is ∙ ap (λ (u : Bytes). said old.told ++ u) (texts_same h.exchanges)) (h.ran.working is).holds (sym h.ran.phase)
             (λ short order none slot live. u.space is short (h.ran.nothing_pending is order) none slot live);
         said_part = λ b. let is = h.ran.trace.known_so b in let p = u.part is in record { whole = h.exchanges; cut = x ∷ []; part = p.0; unsaid = p.1; all = refl; one = omega arith; some = λ _ _ none. absurd (cc none); text = p.2 ∙ sym (append_nil (reply_text x.reply)); said_is = p.3 ∙ ap (λ (v : Bytes). v ++ p.0) (h.said is); silent = u.silent is };
         said_all = λ b c. absurd (cc (c, cut));
@@ -352,7 +352,7 @@ serves_unsaid rule decisive s old mid new lines lines' counts counts' session h 
     }
 
 -- how a run ends
-pub serves_stop : (rule : Rule) (decisive : Bool) (s : Status) (old mid new : Outside) (lines lines' : Lines) (counts counts' : TurnCounts) (session : Session) (h : Served rule decisive old mid lines counts session) → Stops rule s h.known mid new lines lines' counts counts' session.store (state_in session h.repository h.view)
+pub serves_stop : (rule : Rule) (decisive : Bool) (s : Status) (old mid new : Outside) (lines lines' : Lines) (counts counts' : TurnCounts) (session : Session) (h : Served rule decisive old mid lines counts session) → Stops rule s h.known mid new lines lines' counts counts' session.store.held (state_in session h.repository h.view)
     → (spawned : spawn.Told) (held : Option ℕ) (spawns : SpawnCounts) → LetsGoAs new spawned held spawns → Serves rule decisive old (let_go_as new spawned held spawns) s
 serves_stop rule decisive status.SayFault old mid new lines lines' counts counts' session h u = serves_unsaid rule decisive status.SayFault old mid new lines lines' counts counts' session h refl (λ xs b. h.ran.trace.began b) u (λ taken last. tt)
 serves_stop rule decisive status.GroundFault old mid new lines lines' counts counts' session h u = serves_unsaid rule decisive status.GroundFault old mid new lines lines' counts counts' session h refl (λ xs. inr h.ran.trace.began) u (λ taken last. tt)

@@ -4,7 +4,7 @@ use Rattle.std.proofs.Common.{◌≡◌, ℕ, ◌+◌, ◌-◌, ◌^◌, ◌≤�
 use Rattle.ip_ground.specs.declared.names.GroundCounts.{GroundCounts}
 use Rattle.ip_ground.specs.declared.names.GroundFault.{GroundFault}
 use Rattle.ip_ground.specs.Counts.{SayFault}
-use Rattle.ip_ground.specs.Told.{Told, said}
+use Rattle.ip_ground.specs.Told.{Told}
 use Rattle.ip_ground.specs.Calls.{Says}
 use Rattle.ip_ground.proofs.Spans.{lending_now}
 use Rattle.ip_image.specs.declared.counts.TurnCounts.{TurnCounts}
@@ -17,8 +17,8 @@ use Rattle.ip_spec.specs.Machine.{State}
 use Rattle.ip_spec.specs.Text.{reply_text}
 use Rattle.ip_image.specs.Standing.{StandsFor}
 use Rattle.ip_image.specs.Headline.{Turning}
-use Rattle.ip_store.specs.Sweeping.{KeepsFiles}
-use Rattle.ip_store.proofs.Recovering.{held_has}
+use Rattle.ip_held.specs.Sweeping.{KeepsFiles}
+use Rattle.ip_held.proofs.Recovering.{held_has}
 use Rattle.ip_session.specs.declared.session.Session.{Session}
 use Rattle.ip_session.specs.Session.{IsWorking, state_in}
 use Rattle.ip_app.specs.declared.lines.Lines.{Lines}
@@ -69,11 +69,11 @@ module _ (rule : Rule) (known : Bool) (old mid : Outside) (read text shown : Byt
     exchanged = exchanged_along rule known old mid c c' left read_faults told counts reads (files (Ok tt) says) (falls_same mid.counts counts still) (ap (λ (n : GroundCounts). turn_counts n mid.spawns) (sym still)) s s' r v h.exchange h.after h.view (works (Ok tt) says) (order (Ok tt) says) (λ is. (says is).files) (λ is. (says is).lending) h.exchanged;
     no_fault = removals_on old.counts mid.counts counts h.no_fault (removals_same mid.counts counts still);
     said = λ is. said_of old.told mid.told told (h.exchanged.begun.files is) (h.quiet is) shown (Ok tt) (says is) _ (same ∙ h.text_is);
-    turning = λ is none. turned_moments mid.told told shown (Ok tt) (says is) old.told (h.exchanged.begun.files is).goes (h.quiet is) _ (same ∙ h.text_is) r h.after (h.atomic is none) s'.store (h.exchanged.working is).holds (h.exchanged.nothing_pending is none);
+    turning = λ is none. turned_moments mid.told told shown (Ok tt) (says is) old.told (h.exchanged.begun.files is).goes (h.quiet is) _ (same ∙ h.text_is) r h.after (h.atomic is none) s'.store.held (h.exchanged.working is).holds (h.exchanged.nothing_pending is none);
   }
 
   pub left_unsaid : (fault : GroundFault) (says : IsTrue known → Says shown (Err fault) mid.told told) → mid.counts.say_faults ≤ 2 ^ 64 - 1 → SayFault mid.counts counts
-      → Unsaid rule status.SayFault known old (told_as mid left read_faults told counts) lines lines' c c' s.store (state_in s r v)
+      → Unsaid rule status.SayFault known old (told_as mid left read_faults told counts) lines lines' c c' s.store.held (state_in s r v)
   left_unsaid fault says small counted = record {
     exchange = h.exchange;
     took = took_it;
@@ -83,9 +83,9 @@ module _ (rule : Rule) (known : Bool) (old mid : Outside) (read text shown : Byt
     silent = λ is cut_short. absurd (cc cut_short);
     space = λ is cut_short. absurd (cc cut_short);
     stands = λ is whole. subst (λ (q : Repository). StandsFor told.held q) (after_is is) (works (Err fault) says is (h.exchanged.working is)).holds.stands;
-    clear = λ is whole cleared. cleared_at told s'.store (held_has s'.store h.after told (works (Err fault) says is (h.exchanged.working is)).holds)
-        (clear_along mid.told told (λ file. ((says is).files file).held) (λ attempt. lending_now mid.told told (says is).goes attempt ((says is).lending attempt)) s'.store.slot s'.store.unswept (h.exchanged.clear is cleared));
-    turning = λ is none. subst (λ (q : Repository). Turning old.told told (reply_text h.exchange.reply) r q) (after_is is) (turned_moments mid.told told shown (Err fault) (says is) old.told (h.exchanged.begun.files is).goes (h.quiet is) _ (same ∙ h.text_is) r h.after (h.atomic is none) s'.store (h.exchanged.working is).holds (h.exchanged.nothing_pending is none));
+    clear = λ is whole cleared. cleared_at told s'.store.held (held_has s'.store.held h.after told (works (Err fault) says is (h.exchanged.working is)).holds)
+        (clear_along mid.told told (λ file. ((says is).files file).held) (λ attempt. lending_now mid.told told (says is).goes attempt ((says is).lending attempt)) s'.store.held.slot s'.store.held.unswept (h.exchanged.clear is cleared));
+    turning = λ is none. subst (λ (q : Repository). Turning old.told told (reply_text h.exchange.reply) r q) (after_is is) (turned_moments mid.told told shown (Err fault) (says is) old.told (h.exchanged.begun.files is).goes (h.quiet is) _ (same ∙ h.text_is) r h.after (h.atomic is none) s'.store.held (h.exchanged.working is).holds (h.exchanged.nothing_pending is none));
     again = λ is none. record {
       repository = h.after;
       stands = (works (Err fault) says is (h.exchanged.working is)).holds.stands;

@@ -23,11 +23,11 @@ use Rattle.ip_image.specs.Standing.{RunByRun, FillTo, IsGood, MappingIs, Generat
 use Rattle.ip_image.proofs.AppendingLaws.{stands_still}
 use Rattle.ip_image.proofs.HeadlineLaws.{same_generation_itself}
 use Rattle.ip_image.proofs.OneRepository.{zero_or_not}
-use Rattle.ip_store.specs.declared.store.Store.{Store}
-use Rattle.ip_store.specs.Store.{OwnsLive, Holds, image_records}
-use Rattle.ip_store.specs.Work.{IsLawful}
-use Rattle.ip_store.proofs.Going.{collects_still}
-use Rattle.ip_store.proofs.Listed.{space_stays, pair_stays, holds_on, same_list}
+use Rattle.ip_held.specs.declared.held.Held.{Held}
+use Rattle.ip_held.specs.Held.{OwnsLive, Holds, image_records}
+use Rattle.ip_held.specs.Work.{IsLawful}
+use Rattle.ip_held.proofs.Going.{collects_still}
+use Rattle.ip_held.proofs.Listed.{space_stays, pair_stays, holds_on, same_list}
 use Rattle.ip_spec.specs.TreeAt.{present}
 use Rattle.ip_spec.specs.View.{View}
 use Rattle.ip_session.specs.declared.session.Session.{Session}
@@ -110,7 +110,7 @@ module _ (image other : Image) (same : ReadsAlike image other) where
 -- ---- while no file changes
 
 -- a store holds on what it held
-pub holds_along : (a b : Told) (store : Store) (r : Repository) → KeepsPast a b → ((file : FileName) → KeepsFile a b file) → ((attempt : ℕ) → KeepsCustody a b attempt) → Holds store a r → Holds store b r
+pub holds_along : (a b : Told) (store : Held) (r : Repository) → KeepsPast a b → ((file : FileName) → KeepsFile a b file) → ((attempt : ℕ) → KeepsCustody a b attempt) → Holds store a r → Holds store b r
 holds_along a b store r goes files lending h =
     let control : b.held Control ≡ a.held Control = (files Control).held (λ foreign. foreign) in
     let still : EachNow b Control (λ content. content ≡ a.held Control) = left_now a b Control (λ content. content ≡ a.held Control) goes h.kept (each_stays a b Control (λ content. content ≡ a.held Control) (λ loose. loose) (files Control) h.kept) in
@@ -121,9 +121,9 @@ holds_along a b store r goes files lending h =
 pub working_along : (a b : Told) (s : Session) (r : Repository) (v : View) → KeepsPast a b → ((file : FileName) → KeepsFile a b file) → ((attempt : ℕ) → KeepsCustody a b attempt) → IsWorking a s r v → IsWorking b s r v
 working_along a b s r v goes files lending h =
     let control : b.held Control ≡ a.held Control = (files Control).held (λ foreign. foreign) in
-    let holds : Holds s.store b r = holds_along a b s.store r goes files lending h.holds in
-    let space : SameSpace s.store.slot a.held b.held = space_stays s.store.slot a b (λ file. (files file).held) h.holds.pair in
-    let same : image_records holds ≡ image_records h.holds = ap (λ (records : List (ℕ × Record)). present records) (same_list s.store a r h.holds b control space holds.stands.standing) in
+    let holds : Holds s.store.held b r = holds_along a b s.store.held r goes files lending h.holds in
+    let space : SameSpace s.store.held.slot a.held b.held = space_stays s.store.held.slot a b (λ file. (files file).held) h.holds.pair in
+    let same : image_records holds ≡ image_records h.holds = ap (λ (records : List (ℕ × Record)). present records) (same_list s.store.held a r h.holds b control space holds.stands.standing) in
     record { holds = holds; lawful = subst (λ (records : ℕ → Option Record). IsLawful records r s.work v) (sym same) h.lawful }
 
 -- what the files read as at the end of calls that change none, though they may sync the control file

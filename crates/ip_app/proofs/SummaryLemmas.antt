@@ -18,7 +18,7 @@ use Rattle.ip_spec.specs.Machine.{State}
 use Rattle.ip_spec.specs.Repository.{Repository}
 use Rattle.ip_spec.specs.Text.{reply_text}
 use Rattle.ip_spec.specs.View.{View}
-use Rattle.ip_store.specs.Sweeping.{KeepsFiles}
+use Rattle.ip_held.specs.Sweeping.{KeepsFiles}
 use Rattle.ip_session.specs.declared.session.Session.{Session}
 use Rattle.ip_session.specs.Session.{IsWorking, state_in}
 use Rattle.ip_app.specs.declared.statuses.Status.{Status}
@@ -85,7 +85,7 @@ module _ (rule : Rule) (known : Bool) (old mid : Outside) (text line first secon
     counted = removals_on old.counts mid.counts counts h.no_fault (removals_same mid.counts counts still);
     part = λ is. (line ++ reply_text h.exchange.reply, [], append_nil (line ++ reply_text h.exchange.reply), said_of old.told mid.told told (h.exchanged.begun.files is) (h.quiet is) (first ++ second) (Ok tt) (says is) _ all_is);
     whole = λ is done. refl;
-    turning = λ is none. turned_moments mid.told told (first ++ second) (Ok tt) (says is) old.told (h.exchanged.begun.files is).goes (h.quiet is) _ all_is r h.after (h.atomic is none) s'.store (h.exchanged.working is).holds (h.exchanged.nothing_pending is none);
+    turning = λ is none. turned_moments mid.told told (first ++ second) (Ok tt) (says is) old.told (h.exchanged.begun.files is).goes (h.quiet is) _ all_is r h.after (h.atomic is none) s'.store.held (h.exchanged.working is).holds (h.exchanged.nothing_pending is none);
   }
 
   pub summed_fault : (fault : GroundFault) (says : IsTrue known → Says (first ++ second) (Err fault) mid.told told) → mid.counts.say_faults ≤ 2 ^ 64 - 1 → SayFault mid.counts counts → Summed rule status.SayFault known old (told_as mid mid.left mid.read_faults told counts) line c c' s s' r v
@@ -98,7 +98,7 @@ module _ (rule : Rule) (known : Bool) (old mid : Outside) (text line first secon
     counted = serving_on status.SayFault old.counts mid.counts counts h.no_fault (serving_of status.SayFault mid.counts counts counted);
     part = λ is. part_of old.told mid.told told (h.exchanged.begun.files is) (h.quiet is) (first ++ second) (Err fault) (says is) _ all_is;
     whole = λ is done. absurd (cc done);
-    turning = λ is none. turned_moments mid.told told (first ++ second) (Err fault) (says is) old.told (h.exchanged.begun.files is).goes (h.quiet is) _ all_is r h.after (h.atomic is none) s'.store (h.exchanged.working is).holds (h.exchanged.nothing_pending is none);
+    turning = λ is none. turned_moments mid.told told (first ++ second) (Err fault) (says is) old.told (h.exchanged.begun.files is).goes (h.quiet is) _ all_is r h.after (h.atomic is none) s'.store.held (h.exchanged.working is).holds (h.exchanged.nothing_pending is none);
   }
 
 -- ---- two texts

@@ -3,7 +3,7 @@
 --     files_of, said_of, part_of      the files and what was said, once the reply was said, or not
 --     settled      what is there in any case, and so where it is known.      went_to, cut_to      what a session did with a line, where it is known to work
 --     stops_reading      why a source is read no further.      ended_short, cuts_short, short_of, stops_short      the session has ended
-use Rattle.std.proofs.Common.{◌≡◌, ℕ, ◌+◌, ◌++◌, arith, List, [], ◌∷◌, refl, sym, ◌∙◌, subst, Bool, true, false, Option, None, Some, OnOk, Result, IsTrue}
+use Rattle.std.proofs.Common.{◌≡◌, ℕ, ◌++◌, arith, List, [], ◌∷◌, refl, sym, ◌∙◌, subst, Bool, true, false, Option, None, Some, OnOk, Result, IsTrue}
 use Rattle.ip_ground.specs.declared.names.GroundCounts.{GroundCounts}
 use Rattle.ip_ground.specs.declared.names.GroundFault.{GroundFault}
 use Rattle.ip_base.specs.declared.exit.Reaped.{Reaped}
@@ -22,10 +22,10 @@ use Rattle.ip_spec.specs.Path.{Bytes}
 use Rattle.ip_spec.specs.Machine.{State}
 use Rattle.ip_spec.specs.Line.{IsLineOf}
 use Rattle.ip_spec.specs.Script.{LineStep}
-use Rattle.ip_store.specs.declared.store.Store.{Store}
-use Rattle.ip_store.specs.Sweeping.{KeepsFiles}
-use Rattle.ip_store.proofs.KeptFiles.{keeps_on, keeps_itself}
-use Rattle.ip_store.proofs.Recovering.{held_has}
+use Rattle.ip_held.specs.declared.held.Held.{Held}
+use Rattle.ip_held.specs.Sweeping.{KeepsFiles}
+use Rattle.ip_held.proofs.KeptFiles.{keeps_on, keeps_itself}
+use Rattle.ip_held.proofs.Recovering.{held_has}
 use Rattle.ip_app.specs.declared.lines.Lines.{Lines}
 use Rattle.ip_session.specs.declared.session.SessionEnd.{SessionEnd}
 use Rattle.ip_app.specs.declared.statuses.Status.{Status}
@@ -110,8 +110,8 @@ module _ (rule : Rule) (known : Bool) (old mid : Outside) (c c' : TurnCounts) (l
     starts = h.starts;
     hears = h.hears;
     goes_on_by = h.goes_on_by;
-    watches = λ is. watches_along old.told mid.told told (files is).goes (state_in s r v) s.store.collection s'.store.collection s.store.slot s'.store.slot s.store.unswept x (h.nothing_pending is) (stays is) (held_has s'.store after mid.told (h.working is).holds) (h.watches is);
-    clear = λ is cleared. clear_along mid.told told (λ file. (stays is file).held) (λ attempt. lending_now mid.told told (files is).goes attempt (lends is attempt)) s'.store.slot s'.store.unswept (h.clear is cleared);
+    watches = λ is. watches_along old.told mid.told told (files is).goes (state_in s r v) s.store.held.collection s'.store.held.collection s.store.held.slot s'.store.held.slot s.store.held.unswept x (h.nothing_pending is) (stays is) (held_has s'.store.held after mid.told (h.working is).holds) (h.watches is);
+    clear = λ is cleared. clear_along mid.told told (λ file. (stays is file).held) (λ attempt. lending_now mid.told told (files is).goes attempt (lends is attempt)) s'.store.held.slot s'.store.held.unswept (h.clear is cleared);
     happens = h.happens;
     phase = h.phase;
     child = h.child;
@@ -137,7 +137,7 @@ module _ (old mid new : Told) (files : KeepsFiles old mid) (still : KeepsSaid ol
 abbrev pub nothing_said : (old new : Told) (reply : Bytes) → KeepsPast old new → KeepsSaid old new → SaysPart reply (said old) (said new)
 nothing_said old new reply goes still = ([], reply, refl, said_now old new goes still ∙ sym (append_nil (said old)))
 
-pub stops_reading : (rule : Rule) (s : Status) (known : Bool) (old new : Outside) (lines lines' : Lines) (counts counts' : TurnCounts) (store : Store) (state : State) → Stopped s known old new lines lines' counts counts' state → Stops rule s known old new lines lines' counts counts' store state
+pub stops_reading : (rule : Rule) (s : Status) (known : Bool) (old new : Outside) (lines lines' : Lines) (counts counts' : TurnCounts) (store : Held) (state : State) → Stopped s known old new lines lines' counts counts' state → Stops rule s known old new lines lines' counts counts' store state
 stops_reading rule status.SayFault known old new lines lines' counts counts' store state t = absurd t.ends
 stops_reading rule status.GroundFault known old new lines lines' counts counts' store state t = absurd t.ends
 stops_reading rule (status.DamagedRecord at) known old new lines lines' counts counts' store state t = absurd t.ends
@@ -177,7 +177,7 @@ short_of rule status.Unfinished known old new line counts counts' state h = absu
 short_of rule status.Exists known old new line counts counts' state h = absurd h
 
 -- the line of a source
-pub stops_short : (rule : Rule) (s : Status) (known : Bool) (old new : Outside) (line read : Bytes) (lines lines' : Lines) (counts counts' : TurnCounts) (store : Store) (state : State) (left : Bytes) (read_faults : ℕ) → CutsShort rule s known old new read counts counts' state → read ≡ line
+pub stops_short : (rule : Rule) (s : Status) (known : Bool) (old new : Outside) (line read : Bytes) (lines lines' : Lines) (counts counts' : TurnCounts) (store : Held) (state : State) (left : Bytes) (read_faults : ℕ) → CutsShort rule s known old new read counts counts' state → read ≡ line
     → Took old (told_as new left read_faults new.told new.counts) lines lines' line → read_faults ≡ new.read_faults → Stops rule s known old (told_as new left read_faults new.told new.counts) lines lines' counts counts' store state
 stops_short rule s known old new line read lines lines' counts counts' store state left read_faults h read_is took same = by_status s h
   where

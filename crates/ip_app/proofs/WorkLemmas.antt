@@ -13,7 +13,7 @@ use Rattle.ip_ground.specs.Contents.{Content, Image}
 use Rattle.ip_ground.specs.Custody as custody
 use Rattle.ip_ground.specs.Custody.{Custody, IsOfAttempt}
 use Rattle.ip_ground.specs.Counts.{Rose, FileFault, RemoveFault, NoneFalls}
-use Rattle.ip_ground.specs.Told.{Told, lending, IsForeign, IsLoose, KeepsPast, ChangesOnly, NoFile}
+use Rattle.ip_ground.specs.Told.{Told, IsForeign, IsLoose, KeepsPast, ChangesOnly, NoFile}
 use Rattle.ip_ground.proofs.Spans.{only_on, only_more, only_nowhere, lending_now}
 use Rattle.ip_ground.proofs.Rising.{falls_itself}
 use Rattle.ip_spec.specs.TreeAt.{Records}

@@ -26,9 +26,9 @@ use Rattle.ip_merge.specs.Rules.{IsDecisive}
 use Rattle.ip_spec.specs.Line.{IsLineOf}
 use Rattle.ip_spec.specs.Script.{LineStep}
 use Rattle.ip_spec.specs.Text.{reply_text}
-use Rattle.ip_store.specs.Clear.{IsCleared, IsClearAt, KeepsClear}
-use Rattle.ip_store.specs.Collecting.{phase_of, child_of}
-use Rattle.ip_store.specs.Sweeping.{KeepsFiles}
+use Rattle.ip_held.specs.Clear.{IsCleared, IsClearAt, KeepsClear}
+use Rattle.ip_held.specs.Collecting.{phase_of, child_of}
+use Rattle.ip_held.specs.Sweeping.{KeepsFiles}
 use Rattle.ip_session.specs.declared.session.Session.{Session}
 use Rattle.ip_session.specs.declared.session.SessionEnd.{SessionEnd}
 use Rattle.ip_session.specs.Asking.{GoesOnBy}
@@ -108,16 +108,16 @@ pub record Exchanged (rule : Rule) (known : Bool) (old new : Outside) (counts co
   pub begun : Begun rule known old new counts counts' (state_in s r v) x
   pub now_at : IsTrue known → x.after ≡ state_in s' after view
   pub seen : IsTrue known → IsViewIn r v x.line x.reply view
-  pub placed : IsTrue known → PlacedIn rule s.store.slot s.store.unswept s'.store.slot (state_in s r v) v x.line x.reply
-  pub starts : IsTrue known → StartsAt s.store.slot s'.store.slot x
-  pub hears : IsTrue known → HearsAt s.store.slot x
-  pub goes_on_by : GoesOnBy x.started s.store.collection s'.store.collection
-  pub watches : IsTrue known → Watches old.told new.told (state_in s r v) s.store.collection s'.store.collection s.store.slot s'.store.slot s.store.unswept x
+  pub placed : IsTrue known → PlacedIn rule s.store.held.slot s.store.held.unswept s'.store.held.slot (state_in s r v) v x.line x.reply
+  pub starts : IsTrue known → StartsAt s.store.held.slot s'.store.held.slot x
+  pub hears : IsTrue known → HearsAt s.store.held.slot x
+  pub goes_on_by : GoesOnBy x.started s.store.held.collection s'.store.held.collection
+  pub watches : IsTrue known → Watches old.told new.told (state_in s r v) s.store.held.collection s'.store.held.collection s.store.held.slot s'.store.held.slot s.store.held.unswept x
   -- what had been cleared away is so still
-  pub clear : IsTrue known → KeepsClear s.store s'.store old.told new.told
-  pub happens : Happens (phase_of s.store.collection) x
-  pub phase : x.after.phase ≡ phase_of s'.store.collection
-  pub child : new.held ≡ child_of s'.store.collection
+  pub clear : IsTrue known → KeepsClear s.store.held s'.store.held old.told new.told
+  pub happens : Happens (phase_of s.store.held.collection) x
+  pub phase : x.after.phase ≡ phase_of s'.store.held.collection
+  pub child : new.held ≡ child_of s'.store.held.collection
   pub serving : IsServing s'
   pub working : IsTrue known → IsWorking new.told s' after view
   pub nothing_pending : IsTrue known → NothingPending old.told → NothingPending new.told
@@ -176,12 +176,12 @@ pub record Ran (rule : Rule) (decisive known : Bool) (exchanges : List Exchange)
   pub trace : Trace rule decisive known exchanges first old now counts
   pub now_at : IsTrue known → state_in session repository view ≡ after_all (opened first) exchanges
   pub live : IsTrue known → HasLive slot old.told.held
-  pub places : IsTrue known → Places rule slot (opened first) no_view exchanges session.store.slot view
+  pub places : IsTrue known → Places rule slot (opened first) no_view exchanges session.store.held.slot view
   pub serving : IsServing session
   pub working : IsTrue known → IsWorking now.told session repository view
   -- where nothing was left to be cleared when it began that its slot names as swept, nothing is that is not unswept
-  pub clear : IsTrue known → IsClearAt old.told → IsCleared session.store now.told
+  pub clear : IsTrue known → IsClearAt old.told → IsCleared session.store.held now.told
   pub nothing_pending : IsTrue known → NothingPending old.told → NothingPending now.told
   pub phases : AllHappen Phase.Idle exchanges
-  pub phase : phase_of session.store.collection ≡ (after_all (opened first) exchanges).phase
-  pub child : now.held ≡ child_of session.store.collection
+  pub phase : phase_of session.store.held.collection ≡ (after_all (opened first) exchanges).phase
+  pub child : now.held ≡ child_of session.store.held.collection

@@ -9,7 +9,6 @@ use Rattle.ip_ground.specs.Counts.{Rose, RoseBy}
 use Rattle.ip_base.specs.declared.exit.Reaped.{Reaped}
 use Rattle.ip_spawn.specs.declared.job.Job.{Job}
 use Rattle.ip_spec.specs.declared.command.Command.{Command}
-use Rattle.ip_spec.specs.declared.command.Command.TheVariants as Command
 use Rattle.ip_spec.specs.declared.met.Child.TheVariants as Child
 use Rattle.ip_spec.specs.declared.reply.Reply.TheVariants as Reply
 use Rattle.ip_spec.specs.Machine.{Phase, exit_kept}

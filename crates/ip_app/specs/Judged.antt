@@ -26,7 +26,6 @@ use Rattle.ip_spec.specs.declared.met.Child.TheVariants as Child
 use Rattle.ip_spec.specs.declared.record.CommitRecord.{CommitRecord}
 use Rattle.ip_spec.specs.declared.record.Record.TheVariants as record_of
 use Rattle.ip_spec.specs.declared.reply.Reply.{Reply}
-use Rattle.ip_spec.specs.declared.reply.Reply.TheVariants as Reply
 use Rattle.ip_spec.specs.Line.{IsLineOf}
 use Rattle.ip_spec.specs.Machine.{State, Phase, Conditions, Verdict, Limit, verdict_on}
 use Rattle.ip_spec.specs.Path.{Bytes}
@@ -38,10 +37,10 @@ use Rattle.ip_image.specs.declared.slot.Slot.{Slot}
 use Rattle.ip_image.specs.Pending.{HasLive, SameChunks, SameSpace, NothingPending}
 use Rattle.ip_image.specs.Slot.{layout_of}
 use Rattle.ip_image.specs.Standing.{MappingIs, StandsFor}
-use Rattle.ip_store.specs.declared.collection.Collection.{Collection}
-use Rattle.ip_store.specs.declared.collection.Unswept.{Unswept}
-use Rattle.ip_store.specs.Clear.{IsClear, IsClearAt, IsClearTo}
-use Rattle.ip_store.specs.Collecting.{phase_of, IsJobOf}
+use Rattle.ip_held.specs.declared.collection.Collection.{Collection}
+use Rattle.ip_held.specs.declared.collection.Unswept.{Unswept}
+use Rattle.ip_held.specs.Clear.{IsClear, IsClearAt, IsClearTo}
+use Rattle.ip_held.specs.Collecting.{phase_of, IsJobOf}
 use Rattle.ip_session.specs.Clearing.{SweepsBehind}
 use Rattle.ip_app.specs.Exchanges.{Exchange, conditions, after_all}
 

@@ -19,8 +19,8 @@ use Rattle.ip_spec.specs.Load.{load_lines, summary}
 use Rattle.ip_spec.specs.Machine.{State, opened}
 use Rattle.ip_spec.specs.Script.{Answered, state_after}
 use Rattle.ip_spec.specs.declared.reply.Reply.{Reply}
-use Rattle.ip_store.specs.Clear.{IsClearAt}
-use Rattle.ip_store.specs.Sweeping.{KeepsFiles}
+use Rattle.ip_held.specs.Clear.{IsClearAt}
+use Rattle.ip_held.specs.Sweeping.{KeepsFiles}
 use Rattle.ip_app.specs.declared.statuses.Status.{Status}
 use Rattle.ip_app.specs.Exchanges.{Exchange, answer_of, Run, lines_in, texts_in, after_all}
 use Rattle.ip_app.specs.Exchanging.{is_cut_short}

@@ -8,7 +8,7 @@ use Rattle.ip_ground.specs.declared.names.GroundCounts.{GroundCounts}
 use Rattle.ip_ground.specs.Counts.{NoneFalls}
 use Rattle.ip_ground.specs.Told.{Told}
 use Rattle.ip_spec.specs.Path.{Bytes}
-use Rattle.ip_store.specs.Store.{OwnsLive}
+use Rattle.ip_held.specs.Held.{OwnsLive}
 use Rattle.ip_spawn.specs.Children as spawn
 use Rattle.ip_spawn.specs.declared.spawner.SpawnCounts.{SpawnCounts}
 use Rattle.ip_app.specs.declared.turn_log.Turn.{Turn}

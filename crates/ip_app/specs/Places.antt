@@ -10,8 +10,8 @@ use Rattle.ip_spec.specs.Machine.{State}
 use Rattle.ip_spec.specs.Merge.{Rule}
 use Rattle.ip_spec.specs.View.{View, no_view}
 use Rattle.ip_image.specs.declared.slot.Slot.{Slot}
-use Rattle.ip_store.specs.declared.collection.Unswept.{Unswept}
-use Rattle.ip_store.specs.Collecting.{IsJobOf}
+use Rattle.ip_held.specs.declared.collection.Unswept.{Unswept}
+use Rattle.ip_held.specs.Collecting.{IsJobOf}
 use Rattle.ip_session.specs.Asking.{HasStarted}
 use Rattle.ip_session.specs.Placing.{PlacedIn}
 use Rattle.ip_session.specs.Session.{IsViewIn}

@@ -20,14 +20,14 @@ use Rattle.ip_spec.specs.Path.{Bytes}
 use Rattle.ip_spec.specs.Repository.{Repository, no_repository}
 use Rattle.ip_spec.specs.Machine.{State, opened}
 use Rattle.ip_spec.specs.Script.{whole_lines}
-use Rattle.ip_store.specs.Control.{control_in, IsFresh}
-use Rattle.ip_store.specs.declared.store.InitFault.{InitFault}
-use Rattle.ip_store.specs.declared.opening.OpenFault.{OpenFault}
-use Rattle.ip_store.specs.declared.store.Store.{Store}
-use Rattle.ip_store.specs.Opening.{RecoversOnceOpen}
-use Rattle.ip_store.specs.Store.{IsOf, OwnsLive, Holds}
-use Rattle.ip_store.specs.Clear.{IsCleared, IsClearAt}
-use Rattle.ip_store.specs.Sweeping.{KeepsFiles}
+use Rattle.ip_held.specs.Control.{control_in, IsFresh}
+use Rattle.ip_opens.specs.declared.making.InitFault.{InitFault}
+use Rattle.ip_opens.specs.declared.opening.OpenFault.{OpenFault}
+use Rattle.ip_held.specs.declared.held.Held.{Held}
+use Rattle.ip_opens.specs.Opening.{RecoversOnceOpen}
+use Rattle.ip_held.specs.Held.{IsOf, OwnsLive, Holds}
+use Rattle.ip_held.specs.Clear.{IsCleared, IsClearAt}
+use Rattle.ip_held.specs.Sweeping.{KeepsFiles}
 use Rattle.ip_spawn.specs.declared.spawner.SpawnCounts.{SpawnCounts}
 use Rattle.ip_app.specs.declared.statuses.Status.{Status}
 use Rattle.ip_app.specs.Lines.{longest_line, last_piece}
@@ -59,7 +59,7 @@ CouldNotOpen Status.Memory tells old = Unit {0}
 CouldNotOpen status tells old = ⊥
 
 -- the store is open, and holds a repository for which the files stood when the call began
-pub record OpensAs (tells : Bool) (old new : Told) (store : Store) : Type 0 where
+pub record OpensAs (tells : Bool) (old new : Told) (store : Held) : Type 0 where
   pub repository : Repository
   pub tables : IsOf store repository
   pub holds : IsTrue tells → OwnsLive old → Holds store new repository

@@ -21,9 +21,9 @@ use Rattle.ip_spec.specs.Repository.{Repository}
 use Rattle.ip_spec.specs.View.{View}
 use Rattle.ip_spec.specs.Script.{whole_lines}
 use Rattle.ip_spec.specs.Text.{reply_text}
-use Rattle.ip_store.specs.declared.store.Store.{Store}
-use Rattle.ip_store.specs.Clear.{IsCleared, IsClearAt}
-use Rattle.ip_store.specs.Sweeping.{KeepsFiles}
+use Rattle.ip_held.specs.declared.held.Held.{Held}
+use Rattle.ip_held.specs.Clear.{IsCleared, IsClearAt}
+use Rattle.ip_held.specs.Sweeping.{KeepsFiles}
 use Rattle.ip_session.specs.declared.session.Session.{Session}
 use Rattle.ip_app.specs.declared.statuses.Status.{Status}
 use Rattle.ip_app.specs.declared.lines.Lines.{Lines}
@@ -85,7 +85,7 @@ CountsOf _ old new = new ≡ old
 
 -- The line was the last: its reply was not said, or only a part of it. Of a command that a fault of the ground or of its
 -- files cuts short, the reply and the state are those that it has where none of its writes fails.
-pub record Unsaid (rule : Rule) (status : Status) (known : Bool) (old new : Outside) (lines lines' : Lines) (counts counts' : TurnCounts) (store : Store) (state : State) : Type 0 where
+pub record Unsaid (rule : Rule) (status : Status) (known : Bool) (old new : Outside) (lines lines' : Lines) (counts counts' : TurnCounts) (store : Held) (state : State) : Type 0 where
   pub exchange : Exchange
   pub took : Took old new lines lines' exchange.line
   pub begun : Begun rule known old new counts counts' state exchange
@@ -102,7 +102,7 @@ pub record Unsaid (rule : Rule) (status : Status) (known : Bool) (old new : Outs
   -- what a child may read stays while a command is cut short that did not hear of its end
   pub space : IsTrue known → is_cut_short status ≡ true → NothingPending old.told → ((reaped : Reaped) → exchange.turn.met.child ≢ Child.Ended reaped) → (slot : Slot) → HasLive slot old.told.held → KeepsSpace slot old.told new.told
 
-abbrev pub Stops : Rule → Status → (known : Bool) → Outside → Outside → Lines → Lines → TurnCounts → TurnCounts → Store → State → Type 0
+abbrev pub Stops : Rule → Status → (known : Bool) → Outside → Outside → Lines → Lines → TurnCounts → TurnCounts → Held → State → Type 0
 Stops rule Status.SayFault known old new lines lines' counts counts' store state = Unsaid rule Status.SayFault known old new lines lines' counts counts' store state
 Stops rule Status.GroundFault known old new lines lines' counts counts' store state = Unsaid rule Status.GroundFault known old new lines lines' counts counts' store state
 Stops rule (Status.DamagedRecord at) known old new lines lines' counts counts' store state = Unsaid rule (Status.DamagedRecord at) known old new lines lines' counts counts' store state × (¬ IsTrue known)
@@ -118,7 +118,7 @@ pub record Served (rule : Rule) (decisive : Bool) (old now : Outside) (lines : L
   pub view : View
   pub slot : Slot
   pub ran : Ran rule decisive known exchanges first repository view slot old now counts session
-  pub watched : IsTrue known → IsWatchedTo reply_text old.told now.told (opened first) exchanges session.store.collection
+  pub watched : IsTrue known → IsWatchedTo reply_text old.told now.told (opened first) exchanges session.store.held.collection
   pub no_fault : OnlyRemovals old.counts now.counts
   pub bytes : IsTrue old.source_tells → old.left ≡ done ++ (pending lines ++ now.left)
   pub lines_then : (tail : Bytes) → whole_lines (done ++ tail) ≡ lines_in exchanges ++ whole_lines tail

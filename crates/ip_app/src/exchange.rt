@@ -4,7 +4,7 @@ ghost use Rattle.std.specs.Vec.{vec_capacity};
 ghost use Rattle.ip_spec.specs.Path.{Bytes};
 ghost use Rattle.ip_spec.specs.Repository.{Repository};
 ghost use Rattle.ip_spec.specs.View.{View};
-ghost use Rattle.ip_store.specs.Collecting.{child_of};
+ghost use Rattle.ip_held.specs.Collecting.{child_of};
 ghost use Rattle.ip_session.specs.declared.session.TheConstants.{REPLY_ROOM};
 ghost use Rattle.ip_session.specs.Session.{IsServing, state_in};
 ghost use Rattle.ip_app.specs.Exchanging.{ended_status, Works, Replied, CutsShort};
@@ -52,12 +52,12 @@ pub fn exchange<G: Ground, P: Spawner, D: Decides, L: Log>(
     requires removals { counts.old.remove_faults ≤ 2 ^ 64 - 1 }
     requires running { counts.old.spawner.running ≤ 2 ^ 64 - 1 }
     requires tables { IsServing session.old }
-    requires child { P.held spawner.old ≡ child_of session.old.store.collection }
+    requires child { P.held spawner.old ≡ child_of session.old.store.held.collection }
     ensures room { vec_capacity text.old ≤ vec_capacity text.new }
     ensures removals { counts.new.remove_faults ≤ 2 ^ 64 - 1 }
     ensures running { counts.new.spawner.running ≤ 2 ^ 64 - 1 }
     ensures sayable { (G.counts_of ground.new).say_faults ≤ 2 ^ 64 - 1 }
-    ensures child { P.held spawner.new ≡ child_of session.new.store.collection }
+    ensures child { P.held spawner.new ≡ child_of session.new.store.held.collection }
     // Whatever a source tells meanwhile.
     ensures replied { (source_tells : Bool) (left : Bytes) (read_faults : ℕ) → let told = outside_of source_tells left read_faults G.tells G.told G.counts_of P.tells P.told P.held P.counts_of L.tells L.turns in
         (known : Bool) (r : Repository) (v : View) → (IsTrue known → Works (D.rule rules.now) G.tells (G.told ground.old) session.old r v) →

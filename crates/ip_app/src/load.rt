@@ -10,7 +10,7 @@ ghost use Rattle.ip_spec.specs.Repository.{Repository};
 ghost use Rattle.ip_spec.specs.Text.{reply_text};
 ghost use Rattle.ip_spec.specs.View.{View};
 ghost use Rattle.ip_spec.specs.declared.reply.Reply.{Reply};
-ghost use Rattle.ip_store.specs.Collecting.{child_of};
+ghost use Rattle.ip_held.specs.Collecting.{child_of};
 ghost use Rattle.ip_session.specs.Session.{IsServing, state_in};
 ghost use Rattle.ip_app.specs.Exchanging.{Works, Replied, CutsShort};
 ghost use Rattle.ip_app.specs.Loading.{Loads, LoadsWhereAllIsWell};
@@ -72,11 +72,11 @@ impl LoadRoom {
         requires removals { counts.old.remove_faults ≤ 2 ^ 64 - 1 }
         requires running { counts.old.spawner.running ≤ 2 ^ 64 - 1 }
         requires tables { IsServing session.old }
-        requires child { P.held spawner.old ≡ child_of session.old.store.collection }
+        requires child { P.held spawner.old ≡ child_of session.old.store.held.collection }
         ensures roomy { IsLoadRoom self.new }
         ensures removals { counts.new.remove_faults ≤ 2 ^ 64 - 1 }
         ensures running { counts.new.spawner.running ≤ 2 ^ 64 - 1 }
-        ensures child { P.held spawner.new ≡ child_of session.new.store.collection }
+        ensures child { P.held spawner.new ≡ child_of session.new.store.held.collection }
         ensures state { state.new ≡ (load_line state.old number).1 }
         ensures tallies { OnOk result ((replies : List Reply) (reply : Reply) → self.new.text.items ≡ reply_text reply → length replies < 2 ^ 64 - 1 → Tallies self.old.summary replies → Tallies self.new.summary (replies ++ reply ∷ [])) }
         ensures replied { (source_tells : Bool) (left : Bytes) (read_faults : ℕ) → let told = outside_of source_tells left read_faults G.tells G.told G.counts_of P.tells P.told P.held P.counts_of L.tells L.turns in
@@ -124,9 +124,9 @@ impl LoadRoom {
         requires removals { counts.old.remove_faults ≤ 2 ^ 64 - 1 }
         requires running { counts.old.spawner.running ≤ 2 ^ 64 - 1 }
         requires tables { IsServing session.old }
-        requires child { P.held spawner.old ≡ child_of session.old.store.collection }
+        requires child { P.held spawner.old ≡ child_of session.old.store.held.collection }
         requires tallied { (replies : List Reply) × Tallies self.summary replies }
-        ensures child { P.held spawner.new ≡ child_of session.new.store.collection }
+        ensures child { P.held spawner.new ≡ child_of session.new.store.held.collection }
         ensures finishes { (source_tells : Bool) (left : Bytes) (read_faults : ℕ) → let told = outside_of source_tells left read_faults G.tells G.told G.counts_of P.tells P.told P.held P.counts_of L.tells L.turns in
             (known : Bool) (r : Repository) (v : View) → (IsTrue known → Works (D.rule rules.now) G.tells (G.told ground.old) session.old r v) →
             (replies : List Reply) → Tallies self.summary replies →

@@ -5,8 +5,8 @@ ghost use Rattle.ip_ground.specs.declared.names.FileName.TheVariants.{Control};
 ghost use Rattle.ip_merge.specs.Rules.{IsDecisive};
 ghost use Rattle.ip_spec.specs.Repository.{Repository};
 ghost use Rattle.ip_spec.specs.View.{View};
-ghost use Rattle.ip_store.specs.Collecting.{child_of};
-ghost use Rattle.ip_store.specs.Opening.{RecoversOnceOpen};
+ghost use Rattle.ip_held.specs.Collecting.{child_of};
+ghost use Rattle.ip_opens.specs.Opening.{RecoversOnceOpen};
 ghost use Rattle.ip_app.specs.Outside.{outside};
 ghost use Rattle.ip_app.specs.Turns.{turn_counts};
 ghost use Rattle.ip_app.specs.Serving.{CountsOf, Works, TurnedIn, Stops};
@@ -71,17 +71,17 @@ impl LineRoom {
         requires removals { counts.old.remove_faults ≤ 2 ^ 64 - 1 }
         requires running { counts.old.spawner.running ≤ 2 ^ 64 - 1 }
         requires tables { IsServing session.old }
-        requires child { P.held spawner.old ≡ child_of session.old.store.collection }
+        requires child { P.held spawner.old ≡ child_of session.old.store.held.collection }
         ensures roomy { IsRoomy self.new }
         ensures removals { counts.new.remove_faults ≤ 2 ^ 64 - 1 }
         ensures running { counts.new.spawner.running ≤ 2 ^ 64 - 1 }
-        ensures child { P.held spawner.new ≡ child_of session.new.store.collection }
+        ensures child { P.held spawner.new ≡ child_of session.new.store.held.collection }
         ensures turned { let told = outside S.tells S.left S.read_faults G.tells G.told G.counts_of P.tells P.told P.held P.counts_of L.tells L.turns in
             (known : Bool) (r : Repository) (v : View) → (IsTrue known → Works (D.rule rules.now) G.tells (G.told ground.old) session.old r v) →
             OnOk result (TurnedIn (D.rule rules.now) known (told source.old ground.old spawner.old log.old) (told source.new ground.new spawner.new log.new) self.old.lines self.new.lines counts.old counts.new session.old session.new r v) }
         ensures stops { let told = outside S.tells S.left S.read_faults G.tells G.told G.counts_of P.tells P.told P.held P.counts_of L.tells L.turns in
             (known : Bool) (r : Repository) (v : View) → (IsTrue known → Works (D.rule rules.now) G.tells (G.told ground.old) session.old r v) →
-            IfErr result (λ status. Stops (D.rule rules.now) status known (told source.old ground.old spawner.old log.old) (told source.new ground.new spawner.new log.new) self.old.lines self.new.lines counts.old counts.new session.old.store (state_in session.old r v)) }
+            IfErr result (λ status. Stops (D.rule rules.now) status known (told source.old ground.old spawner.old log.old) (told source.new ground.new spawner.new log.new) self.old.lines self.new.lines counts.old counts.new session.old.store.held (state_in session.old r v)) }
     {
         self.line.clear();
         self.text.clear();
@@ -128,8 +128,8 @@ pub(crate) fn open_in<G: Ground>(
 ) -> Result<Store, Status>
     ensures only { IsTrue G.tells → SyncsOnly (Only Control) (G.told ground.old) (G.told ground.new) }
     ensures opening { IsTrue G.tells → RecoversOnceOpen (G.told ground.old) (G.told ground.new) }
-    ensures opened { IfOk result (OpensAs G.tells (G.told ground.old) (G.told ground.new)) }
-    ensures idle { IfOk result (λ store. store.collection ≡ None) }
+    ensures opened { IfOk result (λ store. OpensAs G.tells (G.told ground.old) (G.told ground.new) store.held) }
+    ensures idle { IfOk result (λ store. store.held.collection ≡ None) }
     ensures refused { IfErr result (λ status. CouldNotOpen status G.tells (G.told ground.old)) }
     ensures counted { IfErr result (λ status. CountsOf status (G.counts_of ground.old) (G.counts_of ground.new)) }
     ensures no_fault { OnOk result (G.counts_of ground.new ≡ G.counts_of ground.old) }

@@ -6,10 +6,10 @@ use Rattle.ip_ground.specs.Counts.{Counts}
 use Rattle.ip_ground.specs.Told.{Told, ChangesOnly, Only, NoFile}
 use Rattle.ip_ground.proofs.Spans.{only_on, only_more, lending_now}
 use Rattle.ip_image.specs.Slot.{live_index}
-use Rattle.ip_store.specs.Opening.{Makes}
-use Rattle.ip_store.specs.declared.store.InitFault.{InitFault}
+use Rattle.ip_opens.specs.Opening.{Makes}
+use Rattle.ip_opens.specs.declared.making.InitFault.{InitFault}
 use Rattle.ip_app.specs.declared.statuses.Status.{Status}
-use Rattle.ip_store.specs.Faults.{ground_init}
+use Rattle.ip_opens.specs.OpenFaults.{ground_init}
 use Rattle.ip_app.specs.Serving.{CountsOf}
 use Rattle.ip_app.specs.Run.{init_status, InitRow}
 use Rattle.ip_app.proofs.Counting.{attach_counts, attached_same}

@@ -7,14 +7,14 @@ use Rattle.ip_ground.specs.Told.{Told, ChangesOnly, NoFile, Only, SyncsOnly}
 use Rattle.ip_ground.proofs.Spans.{at_most, syncs_none, syncs_on}
 use Rattle.ip_spec.specs.Repository.{Repository}
 use Rattle.ip_image.specs.Standing.{StandsFor}
-use Rattle.ip_store.specs.Clear.{unswept_in}
-use Rattle.ip_store.specs.Opening.{Opens}
-use Rattle.ip_store.proofs.Recovering.{held_has}
-use Rattle.ip_store.specs.Store.{IsOf, OwnsLive, Holds, IsSound}
-use Rattle.ip_store.specs.declared.store.Store.{Store}
-use Rattle.ip_store.specs.declared.opening.OpenFault.{OpenFault}
+use Rattle.ip_held.specs.Clear.{unswept_in}
+use Rattle.ip_opens.specs.Opening.{Opens}
+use Rattle.ip_held.proofs.Recovering.{held_has}
+use Rattle.ip_held.specs.Held.{IsOf, OwnsLive, Holds, IsSound}
+use Rattle.ip_held.specs.declared.held.Held.{Held}
+use Rattle.ip_opens.specs.declared.opening.OpenFault.{OpenFault}
 use Rattle.ip_app.specs.declared.statuses.Status.{Status}
-use Rattle.ip_store.specs.Faults.{ground_open}
+use Rattle.ip_opens.specs.OpenFaults.{ground_open}
 use Rattle.ip_app.specs.Serving.{CountsOf}
 use Rattle.ip_app.specs.Run.{opening_status, CouldNotOpen, OpensAs}
 use Rattle.ip_app.proofs.Cleared.{cleared_opened}
@@ -42,7 +42,7 @@ owns_passed : (old mid : Told) → ChangesOnly NoFile old mid → OwnsLive old �
 owns_passed old mid passes owns = owns_on old mid (λ file. at_most old mid file (passes.others file (λ none. none))) owns
 
 -- a repository that the store's tables are of; where the ground tells, and no child changes the live pair, one that it holds
-opens_as : (tells : Bool) (old mid new : Told) (store : Store) → ((r : Repository) × IsOf store r) → (IsTrue tells → ChangesOnly NoFile old mid) → store.unswept ≡ unswept_in store.slot → (IsTrue tells → Opens (Ok store) mid new) → OpensAs tells old new store
+opens_as : (tells : Bool) (old mid new : Told) (store : Held) → ((r : Repository) × IsOf store r) → (IsTrue tells → ChangesOnly NoFile old mid) → store.unswept ≡ unswept_in store.slot → (IsTrue tells → Opens (Ok store) mid new) → OpensAs tells old new store
 opens_as tells old mid new store tables passes unswept does = record {
   repository = opened.0.0;
   tables = opened.0.1;
@@ -70,7 +70,7 @@ opens_as tells old mid new store tables passes unswept does = record {
         (λ is. let both = known.2 is in let held = sound both.0 both.1 in ((held.0, held.1.tables), (held.1, stood both.0 both.1)))
 
 pub returns-in-Ok-clause-opened : goal.returns-in-Ok-clause-opened
-returns-in-Ok-clause-opened g c = opens_as g.G.Ground.tells _ _ _ c.in-Ok.store c.in-Ok.ensures.tables (λ told. (c.attach.ensures.does told).only) c.in-Ok.ensures.unswept c.in-Ok.ensures.does
+returns-in-Ok-clause-opened g c = opens_as g.G.Ground.tells _ _ _ c.in-Ok.store.held c.in-Ok.ensures.tables (λ told. (c.attach.ensures.does told).only) c.in-Ok.ensures.unswept c.in-Ok.ensures.does
 
 pub returns-then-is_err-clause-opening : goal.returns-then-is_err-clause-opening
 returns-then-is_err-clause-opening g c told = opening_none _ _ (c.attach.ensures.does told).only

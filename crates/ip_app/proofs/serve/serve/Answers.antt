@@ -5,8 +5,8 @@ use Rattle.ip_image.specs.declared.counts.TurnCounts.{TurnCounts}
 use Rattle.ip_spawn.specs.declared.spawner.SpawnCounts.{SpawnCounts}
 use Rattle.ip_spec.specs.Merge.{Rule}
 use Rattle.ip_store.specs.declared.store.Store.{Store}
-use Rattle.ip_store.specs.Clear.{IsCleared}
-use Rattle.ip_store.specs.Collecting.{child_of}
+use Rattle.ip_held.specs.Clear.{IsCleared}
+use Rattle.ip_held.specs.Collecting.{child_of}
 use Rattle.ip_merge.specs.Rules.{IsDecisive}
 use Rattle.ip_app.specs.declared.statuses.Status.TheVariants as status
 use Rattle.ip_app.specs.Turns.{turn_counts}
@@ -38,7 +38,7 @@ returns-in_default-clause-serves g c decisive by_rule = begins_unopened _ decisi
 pub lines-init : goal.lines-init
 lines-init g c =
     let opened = c.in-Ok.ensures.opened in
-    let idle = ap (λ (store : Store). store.collection) c.new-session.ensures.store ∙ c.in-Ok.ensures.idle in
+    let idle = ap (λ (store : Store). store.held.collection) c.new-session.ensures.store ∙ c.in-Ok.ensures.idle in
     let child = c.requires.child ∙ sym (ap child_of idle) in
     let removals : c.counts.result.remove_faults ≤ 2 ^ 64 - 1 = search rules in
     let running : c.counts-2.result.running ≤ 2 ^ 64 - 1 = search rules in
@@ -48,7 +48,7 @@ lines-init g c =
       running = subst (λ (n : ℕ). n ≤ 2 ^ 64 - 1) (sym (ap (λ (t : TurnCounts). t.spawner.running) (c.turn_counts-counts.ensures ∙ ap₂ turn_counts c.counts.ensures c.counts-2.ensures))) (subst (λ (n : SpawnCounts). n.running ≤ 2 ^ 64 - 1) c.counts-2.ensures running);
       child = child;
       served = λ decisive by_rule. served_first _ decisive by_rule _ _ c.in-Ok-new.room.lines c.turn_counts-counts.result c.new-session.result opened.repository no_view refl (with_flag _ decisive (known_or_not g.G.Ground.tells _ (λ told owns. live_in _ _ (opened.stands told owns)))) (opened.repository, c.new-session.ensures.is_in opened.repository opened.tables) (c.new-session.ensures.state c.in-Ok.ensures.idle opened.repository)
-          (λ tells. begins_working _ c.new-session.result _ opened.repository c.new-session.ensures.store c.new-session.ensures.lawful (opened.holds tells.0 tells.1)) (λ tells clear. subst (λ (store : Store). IsCleared store (g.G.Ground.told c.open_in.new.ground)) (sym c.new-session.ensures.store) (opened.clear tells.0 tells.1 clear)) (λ tells. opened.stands tells.0 tells.1) opened.opening (λ tells. opened.over tells.0 tells.1) (c.turn_counts-counts.ensures ∙ ap₂ turn_counts c.counts.ensures c.counts-2.ensures) c.in-Ok.ensures.no_fault (record { spawned = refl; held = refl; spawns = refl }) idle c.requires.child refl
+          (λ tells. begins_working _ c.new-session.result _ opened.repository (ap (λ (store : Store). store.held) c.new-session.ensures.store) c.new-session.ensures.lawful (opened.holds tells.0 tells.1)) (λ tells clear. subst (λ (store : Store). IsCleared store.held (g.G.Ground.told c.open_in.new.ground)) (sym c.new-session.ensures.store) (opened.clear tells.0 tells.1 clear)) (λ tells. opened.stands tells.0 tells.1) opened.opening (λ tells. opened.over tells.0 tells.1) (c.turn_counts-counts.ensures ∙ ap₂ turn_counts c.counts.ensures c.counts-2.ensures) c.in-Ok.ensures.no_fault (record { spawned = refl; held = refl; spawns = refl }) idle c.requires.child refl
           (record { source_tells = refl; ground_tells = refl; spawner_tells = refl; log_tells = λ t. t; read_faults = le_refl (g.S.Source.read_faults c.args.source.now); counts = falls_same _ _ c.in-Ok.ensures.no_fault; spawns = spawns_itself (g.P.Spawner.counts_of c.args.spawner.now) })
           c.open_in.ensures.only refl refl c.in-Ok-new.ensures.pending c.in-Ok-new.ensures.taken;
     }

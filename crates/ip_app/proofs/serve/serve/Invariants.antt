@@ -1,6 +1,6 @@
 use Rattle.std.proofs.Common.{◌≡◌, ◌-◌, ◌^◌, ◌≤◌, length, Bool, IsTrue}
 use Rattle.ip_merge.specs.Rules.{IsDecisive}
-use Rattle.ip_store.specs.Collecting.{child_of}
+use Rattle.ip_held.specs.Collecting.{child_of}
 use Rattle.ip_app.specs.Outside.{outside}
 use Rattle.ip_app.specs.Serving.{Served}
 use Rattle.ip_app.specs.Rooms.{IsRoomy}
@@ -14,7 +14,7 @@ invariant-lines g l =
       roomy : IsRoomy l.room;
       removals : l.counts.remove_faults ≤ 2 ^ 64 - 1;
       running : l.counts.spawner.running ≤ 2 ^ 64 - 1;
-      child : g.P.Spawner.held l.spawner ≡ child_of l.session.store.collection;
+      child : g.P.Spawner.held l.spawner ≡ child_of l.session.store.held.collection;
       served : (decisive : Bool) → (IsTrue decisive → IsDecisive (g.D.Decides.rule l.fn.rules)) → Served (g.D.Decides.rule l.fn.rules) decisive (told l.fn.source l.fn.ground l.fn.spawner l.fn.log) (told l.source l.ground l.spawner l.log) l.room.lines l.counts l.session;
     }
 
