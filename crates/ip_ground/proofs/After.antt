@@ -65,6 +65,7 @@ module _ (a b c : Told) (first : ChangesOnly NoFile a b) where
     ok = λ own. on_ok_weaker r (λ is. is ∙ ap (λ h. written h at bytes) ((stays f).held own)) (next.ok ((stays f).own own));
     err = λ own. on_err_weaker r (λ torn. subst (λ h. Torn at (length bytes) h (c.held f)) ((stays f).held own) torn) (next.err ((stays f).own own));
     left = λ firm. steps_after f (Torn at (length bytes)) firm (torn_itself at (length bytes)) (next.left ((stays f).firm firm)) next.only.goes;
+    written = on_ok_weaker r (λ lt. omega (arith, lt, (stays f).unwritten)) next.written;
   }
 
   pub syncs_after : (f : FileName) (r : Answer) → Syncs f r b c → Syncs f r a c
@@ -88,6 +89,7 @@ module _ (a b c : Told) (first : ChangesOnly NoFile a b) where
     ok = λ own. next.ok ((stays f).own own);
     err = λ own. on_err_weaker r (λ so. elim so [ inl same ↦ inl (same ∙ (stays f).held own) | inr gone ↦ inr gone ]) (next.err ((stays f).own own));
     left = λ firm. steps_after f _ firm (λ x. inl refl) (next.left ((stays f).firm firm)) next.only.goes;
+    unwritten = next.unwritten ∙ (stays f).unwritten;
   }
 
   pub lends_after : (attempt : ℕ) (r : Answer) → Lends attempt r b c → Lends attempt r a c
@@ -95,6 +97,7 @@ module _ (a b c : Told) (first : ChangesOnly NoFile a b) where
     advances = later r next.advances;
     goes = goes_on a b c first.goes next.goes;
     files = λ g not. stays_on a b c g first.goes next.goes (stays g) (next.files g not);
+    unwritten = λ g. next.unwritten g ∙ (stays g).unwritten;
     ok = next.ok;
     err = on_err_weaker r (λ so. elim so [ inl is ↦ inl is | inr same ↦ inr (from_a NoFile same) ]) next.err;
     turns = turns_after attempt next.goes next.turns;
@@ -141,6 +144,7 @@ module _ (a : Told) (e : GroundFault) where
     ok = λ own. tt;
     err = λ own. torn_itself at (length bytes) (a.held f);
     left = λ firm t x since le left. absurd (no_moment a.moment t since le);
+    written = tt;
   }
 
   pub syncs_nothing : (f : FileName) → Syncs f (Err e) a a
@@ -164,6 +168,7 @@ module _ (a : Told) (e : GroundFault) where
     ok = λ own. tt;
     err = λ own. inl refl;
     left = λ firm t x since le left. absurd (no_moment a.moment t since le);
+    unwritten = λ i. a.writes f;
   }
 
   pub lends_nothing : (n : ℕ) → Lends n (Err e) a a
@@ -171,6 +176,7 @@ module _ (a : Told) (e : GroundFault) where
     advances = tt;
     goes = same.goes;
     files = λ g not. same.others g (λ none. none);
+    unwritten = λ g i. a.writes g;
     ok = tt;
     err = inr same;
     turns = λ t since le. absurd (no_moment a.moment t since le);

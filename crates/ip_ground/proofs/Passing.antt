@@ -9,6 +9,7 @@ goes_itself t = goes_nowhere t
 
 pub stays_itself : (t : Told) (file : FileName) → KeepsFile t t file
 stays_itself t file = record {
+  unwritten = refl;
   held = λ own. refl;
   left = λ firm moment content after before is. absurd (omega arith);
   still_left = λ firm moment content after before is. absurd (omega arith);

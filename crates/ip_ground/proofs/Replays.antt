@@ -15,7 +15,7 @@ use Rattle.ip_ground.specs.Custody as custody
 use Rattle.ip_ground.specs.Files.{no_true, number_itself, file_itself, cases_file, other_file}
 use Rattle.ip_ground.specs.Told.{said, lending, IsForeign, IsLoose, KeepsPast, ChangesLeft, SyncsAtMost, KeepsFile, KeepsSaid, KeepsCustody, TurnsCustody, Only, NoFile, ChangesOnly, Reopens}
 use Rattle.ip_ground.specs.Calls.{Writes, Syncs, Removes, Lends, Settles, Says}
-use Rattle.ip_ground.specs.Replay.{State, is_of_attempt, with_held, with_left, with_lending, left_by_sync, left_by_stop, changed_by_child, content_of, after, said_after, blank, replayed, told_by}
+use Rattle.ip_ground.specs.Replay.{State, is_of_attempt, with_held, with_left, with_lending, with_write, left_by_sync, left_by_stop, changed_by_child, content_of, after, said_after, blank, replayed, told_by}
 use Rattle.ip_ground.specs.ReplayLaws.{lawful_log, torn_itself, loose_synced, loose_settled, lending_other, lending_here, lending_was}
 
 pub replayed_push : (s : State) (log : List Event) (event : Event) → replayed s (log ++ event ∷ []) ≡ after event (replayed s log)
@@ -48,6 +48,7 @@ said_more log more event before after is was so =
 
 -- one file from a state to the next
 record StaysIn (old new : State) (file : FileName) : Type 0 where
+  unwritten : new.writes file ≡ old.writes file
   held : ¬ custody.IsForeign (custody_of old.lending file) → new.held file ≡ old.held file
   left : ¬ custody.IsLoose (custody_of old.lending file) file → (x : Content) → new.may_leave file x → old.may_leave file x
   own : ¬ custody.IsForeign (custody_of old.lending file) → ¬ custody.IsForeign (custody_of new.lending file)
@@ -96,6 +97,7 @@ module _ (log : List Event) (event : Event) where
     still_left = λ t f x le left. subst (λ l. (replayed blank l).may_leave f x) (sym (earlier t le)) left;
     said = λ t le. ap (λ l. (replayed blank l).said) (earlier t le);
     lending = λ t n le. ap (λ l. (replayed blank l).lending n) (earlier t le);
+    beside = λ i. (told_by log).beside;
   }
 
   pub advances : length log < length longer
@@ -141,8 +143,12 @@ module _ (log : List Event) (event : Event) where
   pub held_new : (f : FileName) → (told_by longer).held f ≡ new.held f
   held_new f = ap (λ (s : State). s.held f) pushed
 
+  writes_new : (f : FileName) → (told_by longer).writes f ≡ new.writes f
+  writes_new f = ap (λ (s : State). s.writes f) pushed
+
   synced_by : (f : FileName) → StaysIn old new f → SyncsAtMost (told_by log) (told_by longer) f
   synced_by f stays = record {
+    unwritten = writes_new f ∙ stays.unwritten;
     held = λ own. held_new f ∙ stays.held (own_was f own);
     left = λ firm t x since le left. from_now f x (stays.left (firm_was f firm) x (at_last t f x since le left));
     own = λ own foreign. stays.own (own_was f own) (foreign_now f foreign);
@@ -153,6 +159,7 @@ module _ (log : List Event) (event : Event) where
   stays_by f stays still =
       let most = synced_by f stays in
       record {
+        unwritten = most.unwritten;
         held = most.held;
         left = most.left;
         still_left = λ firm t x since le left. to_last t f x since le (still x (to_now f x left));
@@ -171,19 +178,22 @@ not_number : (m n : ℕ) → (m ≡ n → ⊥) → (m == n) ≡ false
 not_number m n ne = grind (arith, nat_tests)
 
 stays_same : (s : State) (f : FileName) → StaysIn s s f
-stays_same s f = record { held = λ own. refl; left = λ firm x so. so; own = λ own. own; firm = λ firm. firm }
+stays_same s f = record { unwritten = refl; held = λ own. refl; left = λ firm x so. so; own = λ own. own; firm = λ firm. firm }
 
--- the other files, where one file's place is changed
-stays_other : (s : State) (file : FileName) (made : Content) (these : Content → Type 0) (g : FileName) → g ≢ file → StaysIn s (record s { held = with_held file made s.held; may_leave = with_left file these s.may_leave }) g
-stays_other s file made these g ne = record {
+-- the other files, where one file's place is changed, and of this one no write was asked for
+stays_other : (s : State) (file : FileName) (made : Content) (these : Content → Type 0) (writes : FileName → ℕ) (g : FileName) → g ≢ file → writes g ≡ s.writes g
+    → StaysIn s (record s { held = with_held file made s.held; may_leave = with_left file these s.may_leave; writes = writes }) g
+stays_other s file made these writes g ne same = record {
+  unwritten = same;
   held = λ own. ap (λ (b : Bool). if b then made else s.held g) (other_file g file ne);
   left = λ firm x so. subst (λ b. MatchBool b (these x) (s.may_leave g x)) (other_file g file ne) so;
   own = λ own. own;
   firm = λ firm. firm;
 }
 
-left_other : (s : State) (file : FileName) (these : Content → Type 0) (g : FileName) → g ≢ file → StaysIn s (record s { may_leave = with_left file these s.may_leave }) g
-left_other s file these g ne = record {
+left_other : (s : State) (file : FileName) (these : Content → Type 0) (writes : FileName → ℕ) (g : FileName) → g ≢ file → writes g ≡ s.writes g → StaysIn s (record s { may_leave = with_left file these s.may_leave; writes = writes }) g
+left_other s file these writes g ne same = record {
+  unwritten = same;
   held = λ own. refl;
   left = λ firm x so. subst (λ b. MatchBool b (these x) (s.may_leave g x)) (other_file g file ne) so;
   own = λ own. own;
@@ -193,6 +203,13 @@ left_other s file these g ne = record {
 -- what might be left of them may be so still
 still_other : (s : State) (file : FileName) (these : Content → Type 0) (g : FileName) → g ≢ file → (x : Content) → s.may_leave g x → with_left file these s.may_leave g x
 still_other s file these g ne x so = subst (λ b. MatchBool b (these x) (s.may_leave g x)) (sym (other_file g file ne)) so
+
+-- writes of another file, and of this one
+unwritten_other : (s : State) (file g : FileName) → g ≢ file → with_write file s.writes g ≡ s.writes g
+unwritten_other s file g ne = ap (λ (b : Bool). if b then s.writes g + 1 else s.writes g) (other_file g file ne)
+
+written_here : (s : State) (file : FileName) → with_write file s.writes file ≡ s.writes file + 1
+written_here s file = ap (λ (b : Bool). if b then s.writes file + 1 else s.writes file) (file_itself file)
 
 -- the file itself
 made_here : (s : State) (file : FileName) (made : Content) → with_held file made s.held file ≡ made
@@ -215,10 +232,11 @@ wrote log file at bytes =
     let s : State = replayed blank log in
     record {
       advances = advances log event;
-      only = only_by log event (Only file) (λ g ne. stays_other s file (written (s.held file) at bytes.items) (torn_left s file at (length bytes.items)) g ne) (λ g ne. still_other s file (torn_left s file at (length bytes.items)) g ne) (λ n. refl) refl;
+      only = only_by log event (Only file) (λ g ne. stays_other s file (written (s.held file) at bytes.items) (torn_left s file at (length bytes.items)) (with_write file s.writes) g ne (unwritten_other s file g ne)) (λ g ne. still_other s file (torn_left s file at (length bytes.items)) g ne) (λ n. refl) refl;
       ok = λ own. held_new log event file ∙ made_here s file (written (s.held file) at bytes.items);
       err = λ own. tt;
       left = λ firm. steps_by log event file (Torn at (length bytes.items)) (λ x so. left_here s file (torn_left s file at (length bytes.items)) x so);
+      written = omega (arith, writes_new log event file ∙ written_here s file);
     }
 
 pub failed : (log : List Event) (file : FileName) (at : ℕ) (bytes : List ℕ) (e : GroundFault) → Writes file at bytes (Err e) (told_by log) (told_by (log ++ Failed file at (length bytes) ∷ []))
@@ -228,10 +246,11 @@ failed log file at bytes e =
     let s : State = replayed blank log in
     record {
       advances = tt;
-      only = only_by log event (Only file) (λ g ne. left_other s file (torn_left s file at (length bytes)) g ne) (λ g ne. still_other s file (torn_left s file at (length bytes)) g ne) (λ n. refl) refl;
+      only = only_by log event (Only file) (λ g ne. left_other s file (torn_left s file at (length bytes)) (with_write file s.writes) g ne (unwritten_other s file g ne)) (λ g ne. still_other s file (torn_left s file at (length bytes)) g ne) (λ n. refl) refl;
       ok = λ own. tt;
       err = λ own. subst (Torn at (length bytes) (s.held file)) (sym (held_new log event file)) (torn_itself at (length bytes) (s.held file));
       left = λ firm. steps_by log event file (Torn at (length bytes)) (λ x so. left_here s file (torn_left s file at (length bytes)) x so);
+      written = tt;
     }
 
 pub removed : (log : List Event) (file : FileName) → Removes file (Ok tt) (told_by log) (told_by (log ++ Removed file ∷ []))
@@ -241,13 +260,14 @@ removed log file =
     let these : Content → Type 0 = λ x. s.may_leave file x ⊎ (x ≡ None) in
     record {
       advances = advances log event;
-      only = only_by log event (Only file) (λ g ne. stays_other s file None these g ne) (λ g ne. still_other s file these g ne) (λ n. refl) refl;
+      only = only_by log event (Only file) (λ g ne. stays_other s file None these s.writes g ne refl) (λ g ne. still_other s file these g ne) (λ n. refl) refl;
       ok = λ own. held_new log event file ∙ made_here s file None;
       err = λ own. tt;
       left = λ firm. steps_by log event file (λ before x. (x ≡ before) ⊎ (x ≡ None)) (λ x so. elim (left_here s file these x so) [
         | inl was ↦ (x, was, inl refl)
         | inr gone ↦ (s.held file, (lawful_log log).possible file, inr gone)
       ]);
+      unwritten = writes_new log event file;
     }
 
 -- no file becomes foreign by a sync or by settling
@@ -321,6 +341,7 @@ synced log file =
     let s : State = replayed blank log in
     let these : Content → Type 0 = left_by_sync (custody_of s.lending file) (s.held file) (s.may_leave file) in
     let most : (g : FileName) → StaysIn s (after event s) g = λ g. record {
+      unwritten = refl;
       held = λ own. refl;
       left = λ firm x so. elim (cases_file g file) [
         | inl same ↦ subst (λ f. s.may_leave f x) (sym same.1) (sync_keeps (custody_of s.lending file) (s.held file) (s.may_leave file) x ((lawful_log log).possible file) (left_here s file these x (subst (λ f. with_left file these s.may_leave f x) same.1 so)))
@@ -357,11 +378,13 @@ lent_event log attempt =
       advances = advances log event;
       goes = goes log event;
       files = λ f not. let other = not_of_attempt attempt f not in let same = lending_other s.lending attempt lent f other in stays_by log event f (record {
+        unwritten = refl;
         held = λ own. refl;
         left = λ firm x so. subst (λ b. MatchBool b (Unit {0}) (s.may_leave f x)) other so;
         own = λ own foreign. own (subst custody.IsForeign same foreign);
         firm = λ firm loose. firm (subst (λ st. custody.IsLoose st f) same loose);
       }) (λ x so. subst (λ b. MatchBool b (Unit {0}) (s.may_leave f x)) (sym other) so);
+      unwritten = λ f. writes_new log event f;
       ok = lending_new log event attempt ∙ ap (λ (b : Bool). if b then lent else s.lending attempt) (number_itself attempt);
       err = tt;
       turns = turns_by log event attempt;
@@ -377,6 +400,7 @@ settled_event log attempt =
       advances = advances log event;
       goes = goes log event;
       files = λ f. stays_by log event f (record {
+        unwritten = refl;
         held = λ own. refl;
         left = λ firm x so. so;
         own = λ own foreign. own (foreign_settled s.lending s.held attempt f foreign);
@@ -397,7 +421,7 @@ said_event log bytes =
     record {
       advances = advances log event;
       goes = goes log event;
-      files = λ f. stays_by log event f (record { held = λ own. refl; left = λ firm x so. so; own = λ own. own; firm = λ firm. firm }) (λ x so. so);
+      files = λ f. stays_by log event f (record { unwritten = refl; held = λ own. refl; left = λ firm x so. so; own = λ own. own; firm = λ firm. firm }) (λ x so. so);
       lending = λ n. custody_by log event n refl;
       ok = said_last log event (length (log ++ event ∷ [])) (advances log event) (omega arith) ∙ ap (λ l. l ++ bytes.items) (sym (said_old log event));
       front = λ t since le. (length bytes.items, omega arith, said_last log event t since le ∙ ap (λ l. l ++ bytes.items) (sym (said_old log event)) ∙ ap (λ l. said (told_by log) ++ l) (sym (take_all (length bytes.items) bytes.items (omega arith))));
@@ -414,6 +438,7 @@ changed log file bytes =
     let event : Event = Changed file bytes in
     let s : State = replayed blank log in
     only_by log event NoFile (λ g not. record {
+      unwritten = refl;
       held = λ own. elim (cases_file g file) [
         | inl same ↦ subst (λ f. ¬ custody.IsForeign (custody_of s.lending f) → with_held file (changed_by_child (custody_of s.lending file) (s.held file) (content_of bytes)) s.held f ≡ s.held f) (sym same.1)
             (λ not. made_here s file (changed_by_child (custody_of s.lending file) (s.held file) (content_of bytes)) ∙ child_leaves (custody_of s.lending file) (s.held file) (content_of bytes) not) own

@@ -13,6 +13,7 @@ goes_nowhere a = record {
   still_left = λ t f x le left. left;
   said = λ t le i. a.said_at t;
   lending = λ t n le i. a.lending_at t n;
+  beside = λ i. a.beside;
 }
 
 -- no moment is later than a and not later than a
@@ -23,6 +24,7 @@ pub only_nowhere : (a : Told) (these : FileName → Type 0) → ChangesOnly thes
 only_nowhere a these = record {
   goes = goes_nowhere a;
   others = λ f _. record {
+    unwritten = λ i. a.writes f;
     held = λ own i. a.held f;
     left = λ firm t x after le left. absurd (no_moment a.moment t after le);
     still_left = λ firm t x after le left. absurd (no_moment a.moment t after le);
@@ -72,7 +74,7 @@ module _ (a b : Told) where
   ]
 
   pub at_most : (f : FileName) → KeepsFile a b f → SyncsAtMost a b f
-  at_most f stays = record { held = stays.held; left = stays.left; own = stays.own; firm = stays.firm }
+  at_most f stays = record { unwritten = stays.unwritten; held = stays.held; left = stays.left; own = stays.own; firm = stays.firm }
 
   -- what stays has what it had, and so has what was synced
   pub each_synced : (f : FileName) (P : Content → Type 0) → ¬ IsLoose a f → SyncsAtMost a b f → EachNow a f P → EachSince a b f P
@@ -115,6 +117,7 @@ module _ (a b c : Told) where
     still_left = λ t f x le left. next.still_left t f x (omega (arith, le, first.later)) (first.still_left t f x le left);
     said = λ t le. next.said t (omega (arith, le, first.later)) ∙ first.said t le;
     lending = λ t n le. next.lending t n (omega (arith, le, first.later)) ∙ first.lending t n le;
+    beside = next.beside ∙ first.beside;
   }
 
   -- what holds since a, and then since b
@@ -126,6 +129,7 @@ module _ (a b c : Told) where
 
   pub synced_on : (f : FileName) → KeepsPast a b → KeepsPast b c → SyncsAtMost a b f → SyncsAtMost b c f → SyncsAtMost a c f
   synced_on f first next stays onward = record {
+    unwritten = onward.unwritten ∙ stays.unwritten;
     held = λ own. onward.held (stays.own own) ∙ stays.held own;
     left = λ firm. each_on f (a.may_leave a.moment f) next (stays.left firm)
         (each_synced b c f (a.may_leave a.moment f) (stays.firm firm) onward (left_now a b f (a.may_leave a.moment f) first (λ x now. now) (stays.left firm)));
@@ -137,6 +141,7 @@ module _ (a b c : Told) where
   stays_on f first next stays onward =
       let most = synced_on f first next (at_most a b f stays) (at_most b c f onward) in
       record {
+        unwritten = most.unwritten;
         held = most.held;
         left = most.left;
         still_left = λ firm t x after le left. elim (cases_lt b.moment t) [

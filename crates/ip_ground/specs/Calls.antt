@@ -3,7 +3,7 @@ use Rattle.std.specs.Prelude.{◌≡◌, ◌≢◌, ◌⊎◌, ℕ, ◌-◌, ◌
 use Rattle.std.specs.Option.{option_map}
 use Rattle.ip_ground.specs.declared.names.FileName.{FileName}
 use Rattle.ip_ground.specs.declared.names.GroundFault.{GroundFault}
-use Rattle.ip_ground.specs.Contents.{bytes_of, size_of, written, Torn}
+use Rattle.ip_ground.specs.Contents.{bytes_of, size_of, written as written_over, Torn}
 use Rattle.ip_ground.specs.Custody.{lent, IsOfAttempt, after_sync, after_settle}
 use Rattle.ip_ground.specs.Told.{Told, said, lending, IsForeign, IsLoose, KeepsPast, ChangesLeft, SyncsAtMost, KeepsFile, KeepsSaid, KeepsCustody, TurnsCustody, IsSynced, Only, NoFile, ChangesOnly}
 
@@ -29,9 +29,10 @@ pub record Reads (file : FileName) (at : ℕ) (out filled : List ℕ) (result : 
 pub record Writes (file : FileName) (at : ℕ) (bytes : List ℕ) (result : Result (Unit {0}) GroundFault) (old new : Told) : Type 0 where
   pub advances : OnOk result (old.moment < new.moment)
   pub only : ChangesOnly (Only file) old new
-  pub ok : ¬ IsForeign old file → OnOk result (new.held file ≡ written (old.held file) at bytes)
+  pub ok : ¬ IsForeign old file → OnOk result (new.held file ≡ written_over (old.held file) at bytes)
   pub err : ¬ IsForeign old file → OnErr result (Torn at (length bytes) (old.held file) (new.held file))
   pub left : ¬ IsLoose old file → ChangesLeft (Torn at (length bytes)) old new file
+  pub written : OnOk result (old.writes file < new.writes file)
 
 -- Ok: a crash leaves what the file reads as. It changes none, and syncs no other; else nothing is changed.
 pub record Syncs (file : FileName) (result : Result (Unit {0}) GroundFault) (old new : Told) : Type 0 where
@@ -46,19 +47,21 @@ pub record Syncs (file : FileName) (result : Result (Unit {0}) GroundFault) (old
   pub lending : OnOk result ((attempt : ℕ) → lending new attempt ≡ after_sync file attempt (lending old attempt))
   pub said : KeepsSaid old new
 
--- Ok: the file is absent. A crash may leave it or not, until it is synced.
+-- Ok: the file is absent. A crash may leave it or not, until it is synced. No write is asked for.
 pub record Removes (file : FileName) (result : Result (Unit {0}) GroundFault) (old new : Told) : Type 0 where
   pub advances : OnOk result (old.moment < new.moment)
   pub only : ChangesOnly (Only file) old new
   pub ok : ¬ IsForeign old file → OnOk result (new.held file ≡ None)
   pub err : ¬ IsForeign old file → OnErr result ((new.held file ≡ old.held file) ⊎ (new.held file ≡ None))
   pub left : ¬ IsLoose old file → ChangesLeft (λ before content. (content ≡ before) ⊎ (content ≡ None)) old new file
+  pub unwritten : new.writes file ≡ old.writes file
 
--- Ok: the attempt is lent. Of its files nothing is known from then on.
+-- Ok: the attempt is lent. Of its files nothing is known from then on. No write of any file is asked for.
 pub record Lends (attempt : ℕ) (result : Result (Unit {0}) GroundFault) (old new : Told) : Type 0 where
   pub advances : OnOk result (old.moment < new.moment)
   pub goes : KeepsPast old new
   pub files : (file : FileName) → ¬ IsOfAttempt attempt file → KeepsFile old new file
+  pub unwritten : (file : FileName) → new.writes file ≡ old.writes file
   pub ok : OnOk result (lending new attempt ≡ lent)
   pub err : OnErr result ((lending new attempt ≡ lent) ⊎ ChangesOnly NoFile old new)
   pub turns : TurnsCustody old new attempt

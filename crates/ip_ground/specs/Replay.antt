@@ -1,5 +1,5 @@
 -- What a list of events makes of files, output and lending.
-use Rattle.std.specs.Prelude.{◌≡◌, ◌⊎◌, ℕ, Bool, true, false, if◌then◌else◌, ◌==◌, ◌||◌, ◌&&◌, not, MatchBool, List, [], ◌∷◌, ◌++◌, length, take, Vec, Option, None}
+use Rattle.std.specs.Prelude.{◌≡◌, ◌⊎◌, ℕ, ◌+◌, Bool, true, false, if◌then◌else◌, ◌==◌, ◌||◌, ◌&&◌, not, MatchBool, List, [], ◌∷◌, ◌++◌, length, take, Vec, Option, None}
 use Rattle.std.specs.Option.{option_map}
 use Rattle.std.specs.declared.alloc.Global.{Global}
 use Rattle.ip_ground.specs.declared.names.FileName.{FileName}
@@ -8,7 +8,7 @@ use Rattle.ip_ground.specs.declared.event.Event.{Event}
 use Rattle.ip_ground.specs.declared.event.Event.TheVariants.{Passed, Wrote, Failed, Synced, Removed, Lent, Settled, Said, Changed, Stopped}
 use Rattle.ip_ground.specs.Contents.{Content, Image, written, Torn}
 use Rattle.ip_ground.specs.Custody.{Custody, own, lent, settled, custody_of, is_same_file, after_sync, after_settle}
-use Rattle.ip_ground.specs.Told.{Told, NoFile, ChangesOnly}
+use Rattle.ip_ground.specs.Told.{Told, NoFile, ChangesOnly, nothing_beside}
 
 pub record State : Type 1 where
   pub held : Image
@@ -17,6 +17,7 @@ pub record State : Type 1 where
   pub may_leave : FileName → Content → Type 0
   pub said : List ℕ
   pub lending : ℕ → Custody
+  pub writes : FileName → ℕ
 
 abbrev pub is_of_attempt : ℕ → FileName → Bool
 is_of_attempt n Control = false
@@ -35,6 +36,10 @@ with_left file these may_leave = λ other content. MatchBool (is_same_file other
 
 abbrev pub with_lending : ℕ → Custody → (ℕ → Custody) → ℕ → Custody
 with_lending attempt custody lending = λ other. if other == attempt then custody else lending other
+
+-- one write more that was asked for
+abbrev pub with_write : FileName → (FileName → ℕ) → FileName → ℕ
+with_write file writes = λ other. if is_same_file other file then writes other + 1 else writes other
 
 -- what a crash may leave of a file that was synced
 abbrev pub left_by_sync : Custody → Content → (Content → Type 0) → Content → Type 0
@@ -62,8 +67,12 @@ after Passed s = s
 after (Wrote file at bytes) s = record s {
   held = with_held file (written (s.held file) at bytes.items) s.held;
   may_leave = with_left file (λ content. (before : Content) × s.may_leave file before × Torn at (length bytes.items) before content) s.may_leave;
+  writes = with_write file s.writes;
 }
-after (Failed file at count) s = record s { may_leave = with_left file (λ content. (before : Content) × s.may_leave file before × Torn at count before content) s.may_leave }
+after (Failed file at count) s = record s {
+  may_leave = with_left file (λ content. (before : Content) × s.may_leave file before × Torn at count before content) s.may_leave;
+  writes = with_write file s.writes;
+}
 after (Synced file) s = record s {
   durable = with_held file (s.held file) s.durable;
   may_leave = with_left file (left_by_sync (custody_of s.lending file) (s.held file) (s.may_leave file)) s.may_leave;
@@ -84,11 +93,12 @@ after (Stopped false) s = record {
   may_leave = λ file. left_by_stop (custody_of s.lending file) file (s.durable file) (s.may_leave file);
   said = [];
   lending = s.lending;
+  writes = s.writes;
 }
 
 -- no file, nothing said, nothing lent
 abbrev pub blank : State
-blank = record { held = λ file. None; durable = λ file. None; may_leave = λ file content. content ≡ None; said = []; lending = λ attempt. own }
+blank = record { held = λ file. None; durable = λ file. None; may_leave = λ file content. content ≡ None; said = []; lending = λ attempt. own; writes = λ file. 0 }
 
 abbrev pub replayed : State → List Event → State
 replayed s [] = s
@@ -102,6 +112,8 @@ told_by log = record {
   may_leave = λ moment. (replayed blank (take moment log)).may_leave;
   said_at = λ moment. (replayed blank (take moment log)).said;
   lending_at = λ moment. (replayed blank (take moment log)).lending;
+  writes = (replayed blank log).writes;
+  beside = nothing_beside;
 }
 
 -- what was said since the last stop, after an event

@@ -11,7 +11,7 @@ use Rattle.ip_ground.specs.Custody.{Custody, own, lent, settled, custody_of, IsF
 use Rattle.ip_ground.specs.Writing.{torn_written_anywhere}
 use Rattle.ip_ground.specs.Files.{same_number, no_true, same_file}
 use Rattle.std.proofs.lemmas.Bool.Decides.{nat_tests}
-use Rattle.ip_ground.specs.Replay.{State, is_of_attempt, with_held, with_left, with_lending, left_by_sync, left_by_stop, changed_by_child, content_of, after, blank, replayed, told_by}
+use Rattle.ip_ground.specs.Replay.{State, is_of_attempt, with_held, with_left, with_lending, with_write, left_by_sync, left_by_stop, changed_by_child, content_of, after, blank, replayed, told_by}
 use Rattle.ip_ground.specs.Told.{IsPossibleNow}
 
 -- a write that changes nothing is one that may be cut short so
@@ -35,18 +35,18 @@ by_place false P Q here there = there refl
 
 module _ (s : State) (lawful : Lawful s) where
   -- where one file is made this, which is then possible, and nothing becomes loose
-  one_made : (file : FileName) (made : Content) (these : Content → Type 0) → these made → these (s.durable file) → ((content : Content) → IsLoose (custody_of s.lending file) file → these content)
-      → Lawful (record s { held = with_held file made s.held; may_leave = with_left file these s.may_leave })
-  one_made file made these here there any = record {
+  one_made : (file : FileName) (made : Content) (these : Content → Type 0) (writes : FileName → ℕ) → these made → these (s.durable file) → ((content : Content) → IsLoose (custody_of s.lending file) file → these content)
+      → Lawful (record s { held = with_held file made s.held; may_leave = with_left file these s.may_leave; writes = writes })
+  one_made file made these writes here there any = record {
     durable = λ g. by_place (is_same_file g file) (these (s.durable g)) (s.may_leave g (s.durable g)) (λ same. subst (λ f. these (s.durable f)) (sym (same_file g file same)) there) (λ other. lawful.durable g);
     possible = λ g. in_place (is_same_file g file) these (s.may_leave g) made (s.held g) here (lawful.possible g);
     loose = λ g x is. by_place (is_same_file g file) (these x) (s.may_leave g x) (λ same. any x (subst (λ f. IsLoose (custody_of s.lending f) f) (same_file g file same) is)) (λ other. lawful.loose g x is);
   }
 
   -- where one file stays, and more is possible
-  one_stays : (file : FileName) (these : Content → Type 0) → these (s.held file) → these (s.durable file) → ((content : Content) → IsLoose (custody_of s.lending file) file → these content)
-      → Lawful (record s { may_leave = with_left file these s.may_leave })
-  one_stays file these here there any = record {
+  one_stays : (file : FileName) (these : Content → Type 0) (writes : FileName → ℕ) → these (s.held file) → these (s.durable file) → ((content : Content) → IsLoose (custody_of s.lending file) file → these content)
+      → Lawful (record s { may_leave = with_left file these s.may_leave; writes = writes })
+  one_stays file these writes here there any = record {
     durable = λ g. by_place (is_same_file g file) (these (s.durable g)) (s.may_leave g (s.durable g)) (λ same. subst (λ f. these (s.durable f)) (sym (same_file g file same)) there) (λ other. lawful.durable g);
     possible = λ g. by_place (is_same_file g file) (these (s.held g)) (s.may_leave g (s.held g)) (λ same. subst (λ f. these (s.held f)) (sym (same_file g file same)) here) (λ other. lawful.possible g);
     loose = λ g x is. by_place (is_same_file g file) (these x) (s.may_leave g x) (λ same. any x (subst (λ f. IsLoose (custody_of s.lending f) f) (same_file g file same) is)) (λ other. lawful.loose g x is);
@@ -167,9 +167,9 @@ stopped_loose (settled pair synced) file durable before x loose so = by_place (s
 pub lawful_after : (event : Event) (s : State) → Lawful s → Lawful (after event s)
 lawful_after Passed s lawful = record { possible = lawful.possible; durable = lawful.durable; loose = lawful.loose }
 lawful_after (Wrote file at bytes) s lawful =
-    one_made s lawful file (written (s.held file) at bytes.items) _ (s.held file, lawful.possible file, torn_written_anywhere (s.held file) at bytes.items) (s.durable file, lawful.durable file, torn_itself at (length bytes.items) (s.durable file)) (λ x loose. (x, lawful.loose file x loose, torn_itself at (length bytes.items) x))
+    one_made s lawful file (written (s.held file) at bytes.items) _ (with_write file s.writes) (s.held file, lawful.possible file, torn_written_anywhere (s.held file) at bytes.items) (s.durable file, lawful.durable file, torn_itself at (length bytes.items) (s.durable file)) (λ x loose. (x, lawful.loose file x loose, torn_itself at (length bytes.items) x))
 lawful_after (Failed file at count) s lawful =
-    one_stays s lawful file _ (s.held file, lawful.possible file, torn_itself at count (s.held file)) (s.durable file, lawful.durable file, torn_itself at count (s.durable file)) (λ x loose. (x, lawful.loose file x loose, torn_itself at count x))
+    one_stays s lawful file _ (with_write file s.writes) (s.held file, lawful.possible file, torn_itself at count (s.held file)) (s.durable file, lawful.durable file, torn_itself at count (s.durable file)) (λ x loose. (x, lawful.loose file x loose, torn_itself at count x))
 lawful_after (Synced file) s lawful =
     let these : Content → Type 0 = left_by_sync (custody_of s.lending file) (s.held file) (s.may_leave file) in
     record {
@@ -180,7 +180,7 @@ lawful_after (Synced file) s lawful =
           (λ same. let is_file = same_file g file same in synced_foreign (custody_of s.lending file) (s.held file) (s.may_leave file) x (subst (λ f. IsForeign (custody_of s.lending f)) is_file (was.1 same)) (lawful.loose file x (subst (λ f. IsLoose (custody_of s.lending f) f) is_file was.0)))
           (λ other. lawful.loose g x was.0);
     }
-lawful_after (Removed file) s lawful = one_made s lawful file None _ (inr refl) (inl (lawful.durable file)) (λ x loose. inl (lawful.loose file x loose))
+lawful_after (Removed file) s lawful = one_made s lawful file None _ s.writes (inr refl) (inl (lawful.durable file)) (λ x loose. inl (lawful.loose file x loose))
 lawful_after (Lent attempt) s lawful = record {
   possible = λ g. by_place (is_of_attempt attempt g) (Unit {0}) (s.may_leave g (s.held g)) (λ here. tt) (λ other. lawful.possible g);
   durable = λ g. by_place (is_of_attempt attempt g) (Unit {0}) (s.may_leave g (s.durable g)) (λ here. tt) (λ other. lawful.durable g);

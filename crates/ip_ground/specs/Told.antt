@@ -5,6 +5,12 @@ use Rattle.ip_ground.specs.Contents.{Content, Image, Leave, Possible, Torn}
 use Rattle.ip_ground.specs.Custody.{Custody, own, settled, custody_of}
 use Rattle.ip_ground.specs.Custody as custody
 
+-- What a ground keeps to itself, and no call changes. One that reads through another object tells here which one, by the
+-- name under which that is borrowed, and what that tells of the folder at all moments.
+pub record Beside : Type 0 where
+  pub name : ℕ
+  pub film : ℕ → Image
+
 pub record Told : Type 1 where
   -- the moment now; each call that is Ok comes later
   pub moment : ℕ
@@ -16,6 +22,9 @@ pub record Told : Type 1 where
   pub said_at : ℕ → List ℕ
   -- whose the files of an attempt were at a moment up to now
   pub lending_at : ℕ → ℕ → Custody
+  -- how many writes of a file were asked for, those that failed too, where they were noted. What a child does is not among them
+  pub writes : FileName → ℕ
+  pub beside : Beside
 
 abbrev pub said : Told → List ℕ
 said told = told.said_at told.moment
@@ -43,6 +52,7 @@ pub record KeepsPast (old new : Told) : Type 0 where
   pub still_left : (moment : ℕ) (file : FileName) (content : Content) → moment ≤ old.moment → old.may_leave moment file content → new.may_leave moment file content
   pub said : (moment : ℕ) → moment ≤ old.moment → new.said_at moment ≡ old.said_at moment
   pub lending : (moment attempt : ℕ) → moment ≤ old.moment → new.lending_at moment attempt ≡ old.lending_at moment attempt
+  pub beside : new.beside ≡ old.beside
 
 -- Each content of the file that a crash may leave at a moment since old is one of before, after a step.
 abbrev pub ChangesLeft : (Content → Content → Type 0) → Told → Told → FileName → Type 0
@@ -50,16 +60,18 @@ ChangesLeft step old new file = (moment : ℕ) (content : Content) → old.momen
     → (before : Content) × old.may_leave old.moment file before × step before content
 
 -- The file reads as it did, and a crash leaves nothing more of it, as far as its child leaves it so: at
--- most it was synced.
+-- most it was synced. No write of it was asked for, whoever may change it.
 pub record SyncsAtMost (old new : Told) (file : FileName) : Type 0 where
+  pub unwritten : new.writes file ≡ old.writes file
   pub held : ¬ IsForeign old file → new.held file ≡ old.held file
   pub left : ¬ IsLoose old file → (moment : ℕ) (content : Content) → old.moment < moment → moment ≤ new.moment → new.may_leave moment file content → old.may_leave old.moment file content
   pub own : ¬ IsForeign old file → ¬ IsForeign new file
   pub firm : ¬ IsLoose old file → ¬ IsLoose new file
 
 -- The file stays as it was, by what a read gives and by what a crash may leave, as far as its child leaves
--- it so. What was pending is so still: it was not synced either.
+-- it so. What was pending is so still: it was not synced either. No write of it was asked for, whoever may change it.
 pub record KeepsFile (old new : Told) (file : FileName) : Type 0 where
+  pub unwritten : new.writes file ≡ old.writes file
   pub held : ¬ IsForeign old file → new.held file ≡ old.held file
   pub left : ¬ IsLoose old file → (moment : ℕ) (content : Content) → old.moment < moment → moment ≤ new.moment → new.may_leave moment file content → old.may_leave old.moment file content
   pub still_left : ¬ IsLoose old file → (moment : ℕ) (content : Content) → old.moment < moment → moment ≤ new.moment → old.may_leave old.moment file content → new.may_leave moment file content
@@ -157,6 +169,10 @@ abbrev pub IsSyncedAs : Told → FileName → Content → Type 0
 IsSyncedAs told file content = (moment : ℕ) × (moment ≤ told.moment) × ((other : Content) → told.may_leave moment file other → other ≡ content)
     × ((later : ℕ) → moment ≤ later → later ≤ told.moment → told.may_leave later file content)
 
+-- one that reads through no other
+abbrev pub nothing_beside : Beside
+nothing_beside = record { name = 0; film = λ moment file. None }
+
 -- what a ground that tells nothing tells
 abbrev pub silent : Told
-silent = record { moment = 0; held = λ file. None; may_leave = λ moment file content. Unit {0}; said_at = λ moment. []; lending_at = λ moment attempt. own }
+silent = record { moment = 0; held = λ file. None; may_leave = λ moment file content. Unit {0}; said_at = λ moment. []; lending_at = λ moment attempt. own; writes = λ file. 0; beside = nothing_beside }
