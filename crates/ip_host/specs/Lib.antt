@@ -1,3 +1,4 @@
 pub mod Names
 pub mod Opened
 pub mod Children
+pub mod Started

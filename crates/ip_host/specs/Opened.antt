@@ -1,10 +1,16 @@
 -- The files that stay open.
 --     name_at kept place
-use Rattle.std.specs.Prelude.{ℕ, List, Option, slice_get}
+--     bound_of files      the name of the folder that is attached
+use Rattle.std.specs.Prelude.{ℕ, List, Option, slice_get, string_bytes}
 use Rattle.std.specs.Option.{option_map}
 use Rattle.ip_ground.specs.declared.names.FileName.{FileName}
+use Rattle.ip_host.specs.declared.files.FolderFiles.{FolderFiles}
 use Rattle.ip_host.specs.declared.files.Opened.{Opened}
 
 -- the name of the file that stands at this place
 abbrev pub name_at : List Opened → ℕ → Option FileName
 name_at kept place = option_map (λ opened. opened.name) (slice_get kept place)
+
+-- the name of the folder that is attached, if one is
+abbrev pub bound_of : Option FolderFiles → Option (List ℕ)
+bound_of files = option_map (λ folder. string_bytes folder.dir) files

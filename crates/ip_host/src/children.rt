@@ -1,5 +1,5 @@
 // Real children.
-ghost use Rattle.std.specs.Prelude.{◌≡◌, ◌++◌, ◌∷◌, None, Some, IfOk, string_bytes};
+ghost use Rattle.std.specs.Prelude.{◌≡◌, None, Some, IfOk, string_bytes};
 ghost use Rattle.std.specs.Process.{command_program, command_args, command_dir, exit_code};
 ghost use Rattle.ip_host.specs.Children.{child_words, folder_word, exit_by, exit_told};
 
@@ -17,34 +17,49 @@ use std::process::{Child, Command, ExitStatus, Processes, Stdio, SystemProcess};
 // A child that was started and has not been waited for.
 #[derive(Drop)]
 struct Held {
-    attempt: u64,
+    job: Job,
     child: Child,
     // where its done file stands, once it is through
     done: String,
+    // it was sent the signal that ends it, or had ended before
+    is_signalled: bool,
 }
 
 impl Held {
+    ghost use Rattle.std.specs.Prelude.{OnOk, IsTrue};
+
     // Waits until it has ended, and says how.
     fn wait(&mut self) -> io::Result<Reaped>
         ensures exit { IfOk result (λ reaped. exit_told self.new.child ≡ Some reaped.exit) }
-        ensures attempt { IfOk result (λ reaped. reaped.attempt ≡ self.old.attempt) }
-        ensures same { self.new.attempt ≡ self.old.attempt }
+        ensures attempt { IfOk result (λ reaped. reaped.attempt ≡ self.old.job.attempt) }
+        ensures same { self.new ≡ record self.old { child = self.new.child } }
     {
         let status = self.child.wait()?;
         Ok(Reaped {
-            attempt: self.attempt,
+            attempt: self.job.attempt,
             exit: exit_of(status),
         })
     }
 
-    // Ends it, and says how it ended. It is looked at before: one that others have waited for gets no signal, since its
-    // number may be another's by now.
-    fn end(&mut self) -> io::Result<Reaped>
-        ensures exit { IfOk result (λ reaped. exit_told self.new.child ≡ Some reaped.exit) }
-        ensures attempt { IfOk result (λ reaped. reaped.attempt ≡ self.old.attempt) }
+    // Sends it the signal that it cannot catch; no other function does, and none else says that it was sent. It is looked
+    // at before: one that others have waited for gets no signal, since its number may be another's by now.
+    fn signal(&mut self) -> io::Result<()>
+        ensures signalled { OnOk result (IsTrue self.new.is_signalled) }
+        ensures same { self.new ≡ record self.old { child = self.new.child; is_signalled = self.new.is_signalled } }
     {
         self.child.try_wait()?;
         self.child.kill()?;
+        self.is_signalled = true;
+        Ok(())
+    }
+
+    // Ends it, and says how it ended.
+    fn end(&mut self) -> io::Result<Reaped>
+        ensures exit { IfOk result (λ reaped. exit_told self.new.child ≡ Some reaped.exit) }
+        ensures attempt { IfOk result (λ reaped. reaped.attempt ≡ self.old.job.attempt) }
+        ensures signalled { IfOk result (λ _. IsTrue self.new.is_signalled) }
+    {
+        self.signal()?;
         self.wait()
     }
 }
@@ -70,12 +85,11 @@ pub struct Children<R: Processes<Started = SystemProcess> + Files + Drop> {
 }
 
 impl<R: Processes<Started = SystemProcess> + Files + Drop> Children<R> {
-    ghost use Rattle.std.specs.Prelude.{IsSome, is_ok, is_err, true, false};
-    ghost use Rattle.ip_ground.specs.declared.names.FileName.TheVariants.{Done};
+    ghost use Rattle.std.specs.Prelude.{IsSome, IsTrue, is_ok, is_err, true, false};
     ghost use Rattle.ip_spawn.specs.Children.{end_reaped, held_after};
     ghost use Rattle.ip_spawn.specs.Counts.{Counts};
     ghost use Rattle.ip_spawn.specs.declared.spawner.SpawnCounts.{SpawnCounts};
-    ghost use Rattle.ip_host.specs.Names.{slash, file_text};
+    ghost use Rattle.ip_host.specs.Started.{IsFor};
 
     /// No child yet, and no fault. A program without a slash in its name is looked for in the search path.
     pub fn new(rt: R, alloc: Global, program: String) -> Children<R>
@@ -113,16 +127,26 @@ impl<R: Processes<Started = SystemProcess> + Files + Drop> Children<R> {
 
     // Starts the program with the child's words.
     fn begin(&self, dir: &str, job: &Job) -> io::Result<Held>
-        ensures attempt { IfOk result (λ held. held.attempt ≡ job.now.attempt) }
-        ensures done { IfOk result (λ held. string_bytes held.done ≡ dir.now ++ slash ∷ file_text (Done job.now.attempt)) }
+        ensures { IfOk result (IsFor dir.now job.now) }
+    {
+        let mut command = command_of(self.alloc, self.program.as_str(), dir, job)?;
+        self.spawn_worker(&mut command, dir, job)
+    }
+
+    // Starts a child by this command, which has to be the one for this folder and job. No other function starts any.
+    fn spawn_worker(&self, command: &mut Command, dir: &str, job: &Job) -> io::Result<Held>
+        requires program { command_program command.old ≡ string_bytes self.now.program }
+        requires words { command_args command.old ≡ child_words dir.now job.now }
+        requires place { command_dir command.old ≡ None }
+        ensures { IfOk result (IsFor dir.now job.now) }
     {
         let done = path_of(self.alloc, dir, FileName::Done(job.attempt))?;
-        let mut command = command_of(self.alloc, self.program.as_str(), dir, job)?;
         let child = command.spawn(&self.rt)?;
         Ok(Held {
-            attempt: job.attempt,
+            job: *job,
             child,
             done,
+            is_signalled: false,
         })
     }
 
@@ -133,6 +157,16 @@ impl<R: Processes<Started = SystemProcess> + Files + Drop> Children<R> {
     {
         self.counts.spawn_faults = self.counts.spawn_faults.saturating_add(1);
         SpawnFault
+    }
+
+    // Counts that the child which was ended was waited for.
+    fn count_ended(&mut self, held: &Held)
+        requires { IsTrue held.now.is_signalled }
+        ensures only { self.new ≡ record self.old { counts = self.new.counts } }
+        ensures counts { Counts false false true false self.old.counts self.new.counts }
+    {
+        let _ = held;
+        self.counts.reaps = self.counts.reaps.saturating_add(1);
     }
 
     // Waits for the child that is held, which is held no more once it has ended.
@@ -155,18 +189,27 @@ impl<R: Processes<Started = SystemProcess> + Files + Drop> Children<R> {
 }
 
 impl<R: Processes<Started = SystemProcess> + Files + Drop> Spawner for Children<R> {
-    ghost use Rattle.std.specs.Prelude.{false, option_map};
-    ghost use Rattle.ip_spawn.specs.Children.{blank};
+    ghost use Rattle.std.specs.Prelude.{false, option_map, IsTrue, IfSome, OnOk, is_err};
+    ghost use Rattle.ip_spawn.specs.Children.{blank, held_after_start, told_after_start};
+    ghost use Rattle.ip_spawn.specs.Counts.{Counts};
+    ghost use Rattle.ip_host.specs.Started.{IsFor};
 
     ghost tells = { false };
 
     ghost told = { λ _. blank };
 
-    ghost held = { λ children. option_map (λ held. held.attempt) children.held };
+    ghost held = { λ children. option_map (λ held. held.job.attempt) children.held };
 
     ghost counts_of = { λ children. children.counts };
 
-    fn start(&mut self, dir: &str, job: &Job) -> Result<(), SpawnFault> {
+    // The trait's clauses, and that the child is the one for this folder and job.
+    fn start(&mut self, dir: &str, job: &Job) -> Result<(), SpawnFault>
+        requires { ⟦<Children<R> as Spawner>⟧.held self.old ≡ None }
+        ensures held { ⟦<Children<R> as Spawner>⟧.held self.new ≡ held_after_start job.now result }
+        ensures told { IsTrue ⟦<Children<R> as Spawner>⟧.tells → ⟦<Children<R> as Spawner>⟧.told self.new ≡ told_after_start dir.now job.now result (⟦<Children<R> as Spawner>⟧.told self.old) }
+        ensures counts { Counts false false false (is_err result) self.old.counts self.new.counts }
+        ensures child { OnOk result (IfSome self.new.held (IsFor dir.now job.now)) }
+    {
         match self.begin(dir, job) {
             Ok(held) => {
                 self.held = Some(held);
@@ -205,7 +248,7 @@ impl<R: Processes<Started = SystemProcess> + Files + Drop> Spawner for Children<
         let Ok(reaped) = held.end() else {
             return Err(self.fault());
         };
-        self.counts.reaps = self.counts.reaps.saturating_add(1);
+        self.count_ended(&held);
         Ok(reaped)
     }
 

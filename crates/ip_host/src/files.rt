@@ -1,7 +1,7 @@
 // The files of a folder. They stay open from call to call: a read of an open file takes a third of the time of one
 // that is opened for it; and where a file stays open from a write to the next sync, the system tells that sync of a
 // write that did not reach the disk.
-ghost use Rattle.std.specs.Prelude.{◌≤◌, ◌<◌, IfOk, IfSome, length, vec_len};
+ghost use Rattle.std.specs.Prelude.{◌≤◌, ◌<◌, IfOk, IfSome, length, vec_len, string_bytes};
 ghost use Rattle.ip_host.specs.declared.files.TheConstants.{KEPT};
 
 use crate::names::path_of;
@@ -96,6 +96,7 @@ impl FolderFiles {
     pub fn of<R: Files<File = File>>(alloc: Global, rt: &R, dir: &str) -> io::Result<FolderFiles>
         ensures unlocked { IfOk result (λ files. IsFalse files.is_locked) }
         ensures changed { IfOk result (λ files. IsTrue files.is_changed) }
+        ensures dir { IfOk result (λ files. string_bytes files.dir ≡ dir.now) }
     {
         let streams = closed_streams(alloc, rt)?;
         // An open of a fifo would wait.
@@ -118,7 +119,8 @@ impl FolderFiles {
 
     /// The same beside the store's process: the lock is not asked for.
     pub fn unlocked(mut self) -> FolderFiles
-        ensures { IsTrue result.is_locked }
+        ensures lock { IsTrue result.is_locked }
+        ensures dir { result.dir ≡ self.dir }
     {
         self.is_locked = true;
         self
@@ -129,6 +131,7 @@ impl FolderFiles {
     fn claim(&mut self, name: FileName) -> io::Result<()>
         ensures locked { OnOk result (name ≡ Control → IsTrue self.new.is_locked) }
         ensures flag { self.new.is_changed ≡ self.old.is_changed }
+        ensures dir { self.new.dir ≡ self.old.dir }
     {
         if name == FileName::Control && !self.is_locked {
             self.folder.try_lock()?;
@@ -154,6 +157,7 @@ impl FolderFiles {
     fn close(&mut self, name: FileName)
         ensures lock { self.new.is_locked ≡ self.old.is_locked }
         ensures flag { self.new.is_changed ≡ self.old.is_changed }
+        ensures dir { self.new.dir ≡ self.old.dir }
     {
         if let Some(place) = self.place_of(name) {
             self.kept.remove(place);
@@ -167,6 +171,7 @@ impl FolderFiles {
         ensures room { OnOk result (vec_len self.new.kept < KEPT) }
         ensures lock { self.new.is_locked ≡ self.old.is_locked }
         ensures flag { self.new.is_changed ≡ self.old.is_changed }
+        ensures dir { self.new.dir ≡ self.old.dir }
     {
         let oldest = &mut self.kept[0];
         if oldest.is_written {
@@ -182,6 +187,7 @@ impl FolderFiles {
         ensures named { IfOk result (λ place. name_at self.new.kept.items place ≡ Some name) }
         ensures lock { self.new.is_locked ≡ self.old.is_locked }
         ensures flag { self.new.is_changed ≡ self.old.is_changed }
+        ensures dir { self.new.dir ≡ self.old.dir }
     {
         if self.kept.len() >= KEPT {
             self.close_oldest()?;
@@ -211,6 +217,7 @@ impl FolderFiles {
         ensures named { IfOk result (λ found. IfSome found (λ place. name_at self.new.kept.items place ≡ Some name)) }
         ensures lock { self.new.is_locked ≡ self.old.is_locked }
         ensures flag { self.new.is_changed ≡ self.old.is_changed }
+        ensures dir { self.new.dir ≡ self.old.dir }
     {
         let path = path_of(self.alloc, self.dir.as_str(), name)?;
         let (is_left, settled) = (self.is_left(name), self.settled(name));
@@ -239,6 +246,7 @@ impl FolderFiles {
         ensures named { IfOk result (λ found. IfSome found (λ place. name_at self.new.kept.items place ≡ Some name)) }
         ensures locked { OnOk result (name ≡ Control → IsTrue self.new.is_locked) }
         ensures flag { self.new.is_changed ≡ self.old.is_changed }
+        ensures dir { self.new.dir ≡ self.old.dir }
     {
         self.claim(name)?;
         match self.place_of(name) {
@@ -253,6 +261,7 @@ impl FolderFiles {
         ensures named { IfOk result (λ place. name_at self.new.kept.items place ≡ Some name) }
         ensures locked { OnOk result (name ≡ Control → IsTrue self.new.is_locked) }
         ensures flag { IsTrue self.old.is_changed → IsTrue self.new.is_changed }
+        ensures dir { self.new.dir ≡ self.old.dir }
     {
         if let Some(place) = self.find(rt, name)? {
             return Ok(place);
@@ -271,6 +280,7 @@ impl FolderFiles {
     ) -> io::Result<Option<u64>>
         ensures locked { OnOk result (name ≡ Control → IsTrue self.new.is_locked) }
         ensures flag { self.new.is_changed ≡ self.old.is_changed }
+        ensures dir { self.new.dir ≡ self.old.dir }
     {
         match self.find(rt, name)? {
             Some(place) => Ok(Some(self.kept[place].file.metadata()?.len())),
@@ -289,6 +299,7 @@ impl FolderFiles {
         ensures fits { IfOk result (λ n. n ≤ length out.old) }
         ensures locked { OnOk result (name ≡ Control → IsTrue self.new.is_locked) }
         ensures flag { self.new.is_changed ≡ self.old.is_changed }
+        ensures dir { self.new.dir ≡ self.old.dir }
     {
         match self.find(rt, name)? {
             Some(place) => read_from(&self.kept[place].file, at, out),
@@ -306,6 +317,7 @@ impl FolderFiles {
     ) -> io::Result<()>
         ensures locked { OnOk result (name ≡ Control → IsTrue self.new.is_locked) }
         ensures flag { IsTrue self.old.is_changed → IsTrue self.new.is_changed }
+        ensures dir { self.new.dir ≡ self.old.dir }
     {
         let place = self.find_or_make(rt, name)?;
         self.kept[place].write(at, bytes)
@@ -318,6 +330,7 @@ impl FolderFiles {
         ensures locked { OnOk result (name ≡ Control → IsTrue self.new.is_locked) }
         ensures synced { OnOk result (IsFalse self.new.is_changed) }
         ensures flag { OnErr result (self.new.is_changed ≡ self.old.is_changed) }
+        ensures dir { self.new.dir ≡ self.old.dir }
     {
         if let Some(place) = self.find(rt, name)? {
             if let Some(identity) = self.settled(name) {
@@ -338,6 +351,7 @@ impl FolderFiles {
         ensures locked { OnOk result (name ≡ Control → IsTrue self.new.is_locked) }
         ensures changed { OnOk result (IsTrue self.new.is_changed) }
         ensures flag { IsTrue self.old.is_changed → IsTrue self.new.is_changed }
+        ensures dir { self.new.dir ≡ self.old.dir }
     {
         self.claim(name)?;
         let path = path_of(self.alloc, self.dir.as_str(), name)?;
@@ -351,6 +365,7 @@ impl FolderFiles {
     pub fn hand_over(&mut self, attempt: u64)
         ensures lock { self.new.is_locked ≡ self.old.is_locked }
         ensures changed { IsTrue self.new.is_changed }
+        ensures dir { self.new.dir ≡ self.old.dir }
     {
         self.close(FileName::Prefix(attempt));
         self.close(FileName::Mapping(attempt));
@@ -366,6 +381,7 @@ impl FolderFiles {
     pub fn settle<R: Files<File = File>>(&mut self, rt: &R, attempt: u64) -> io::Result<()>
         ensures lock { self.new.is_locked ≡ self.old.is_locked }
         ensures flag { self.new.is_changed ≡ self.old.is_changed }
+        ensures dir { self.new.dir ≡ self.old.dir }
     {
         let (prefix, mapping) = (FileName::Prefix(attempt), FileName::Mapping(attempt));
         let found = (self.take(rt, prefix)?, self.take(rt, mapping)?);
@@ -390,6 +406,7 @@ impl FolderFiles {
     fn take<R: Files<File = File>>(&mut self, rt: &R, name: FileName) -> io::Result<Found>
         ensures lock { self.new.is_locked ≡ self.old.is_locked }
         ensures flag { self.new.is_changed ≡ self.old.is_changed }
+        ensures dir { self.new.dir ≡ self.old.dir }
     {
         let path = path_of(self.alloc, self.dir.as_str(), name)?;
         match opened(rt, path.as_str(), true)? {

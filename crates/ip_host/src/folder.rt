@@ -1,6 +1,7 @@
 // A real folder and standard output.
 ghost use Rattle.std.specs.Prelude.{◌≡◌};
-ghost use Rattle.ip_ground.specs.Counts.{FileFault, RemoveFault, SayFault};
+ghost use Rattle.ip_ground.specs.Counts.{FileFault, RemoveFault, SayFault, noting};
+ghost use Rattle.ip_host.specs.Opened.{bound_of};
 
 use crate::causes::{Cause, Subject};
 use crate::files::FolderFiles;
@@ -42,11 +43,11 @@ pub struct Folder<R: Files<File = File> + Print + Drop> {
 }
 
 impl<R: Files<File = File> + Print + Drop> Folder<R> {
-    ghost use Rattle.ip_ground.specs.declared.names.GroundCounts.{GroundCounts};
+    ghost use Rattle.ip_ground.specs.Counts.{nothing_noted};
 
     /// No folder yet, and no fault.
     pub fn new(rt: R, alloc: Global) -> Folder<R>
-        ensures { ⟦<Folder<R> as Ground>⟧.counts_of result ≡ record { file_faults = 0; remove_faults = 0; say_faults = 0 } }
+        ensures { ⟦<Folder<R> as Ground>⟧.counts_of result ≡ nothing_noted }
     {
         Folder::made(rt, alloc, false)
     }
@@ -54,13 +55,13 @@ impl<R: Files<File = File> + Print + Drop> Folder<R> {
     /// The same for a process beside the one that the store is of: no call locks the folder. It must not write the
     /// control file, nor what that one writes.
     pub fn beside(rt: R, alloc: Global) -> Folder<R>
-        ensures { ⟦<Folder<R> as Ground>⟧.counts_of result ≡ record { file_faults = 0; remove_faults = 0; say_faults = 0 } }
+        ensures { ⟦<Folder<R> as Ground>⟧.counts_of result ≡ nothing_noted }
     {
         Folder::made(rt, alloc, true)
     }
 
     fn made(rt: R, alloc: Global, is_beside: bool) -> Folder<R>
-        ensures { result.counts ≡ record { file_faults = 0; remove_faults = 0; say_faults = 0 } }
+        ensures { ⟦<Folder<R> as Ground>⟧.counts_of result ≡ nothing_noted }
     {
         Folder {
             rt,
@@ -72,6 +73,7 @@ impl<R: Files<File = File> + Print + Drop> Folder<R> {
                 file_faults: 0,
                 remove_faults: 0,
                 say_faults: 0,
+                damages: 0,
             },
             cause: None,
             removal: None,
@@ -88,7 +90,7 @@ impl<R: Files<File = File> + Print + Drop> Folder<R> {
 
     // Counts a fault of a file call.
     fn file_fault(&mut self, call: &'static str, subject: Subject, error: &io::Error) -> GroundFault
-        ensures { FileFault self.old.counts self.new.counts }
+        ensures { FileFault (noting self.old.counts (bound_of self.old.files)) (noting self.new.counts (bound_of self.new.files)) }
     {
         self.keep(Cause::of(call, subject, error));
         self.counts.file_faults = self.counts.file_faults.saturating_add(1);
@@ -97,7 +99,7 @@ impl<R: Files<File = File> + Print + Drop> Folder<R> {
 
     // Counts a fault of a removal.
     fn remove_fault(&mut self, file: FileName, error: &io::Error) -> GroundFault
-        ensures { RemoveFault self.old.counts self.new.counts }
+        ensures { RemoveFault (noting self.old.counts (bound_of self.old.files)) (noting self.new.counts (bound_of self.new.files)) }
     {
         if self.removal.is_none() {
             self.removal = Some(Cause::of("remove", Subject::File(file), error));
@@ -108,7 +110,7 @@ impl<R: Files<File = File> + Print + Drop> Folder<R> {
 
     // Counts a fault of output.
     fn say_fault(&mut self, error: &io::Error) -> GroundFault
-        ensures { SayFault self.old.counts self.new.counts }
+        ensures { SayFault (noting self.old.counts (bound_of self.old.files)) (noting self.new.counts (bound_of self.new.files)) }
     {
         self.keep(Cause::of("write", Subject::Output, error));
         self.counts.say_faults = self.counts.say_faults.saturating_add(1);
@@ -117,7 +119,7 @@ impl<R: Files<File = File> + Print + Drop> Folder<R> {
 
     // Keeps the first cause.
     fn keep(&mut self, cause: Cause)
-        ensures { self.new.counts ≡ self.old.counts }
+        ensures { self.new ≡ record self.old { cause = self.new.cause } }
     {
         if self.cause.is_none() {
             self.cause = Some(cause);
@@ -126,7 +128,7 @@ impl<R: Files<File = File> + Print + Drop> Folder<R> {
 
     // A child may make, change and remove the files of this attempt, or has done so.
     fn hand_over(&mut self, attempt: u64)
-        ensures { self.new.counts ≡ self.old.counts }
+        ensures { noting self.new.counts (bound_of self.new.files) ≡ noting self.old.counts (bound_of self.old.files) }
     {
         if let Some(files) = &mut self.files {
             files.hand_over(attempt);
@@ -142,7 +144,7 @@ impl<R: Files<File = File> + Print + Drop> Ground for Folder<R> {
 
     ghost told = { λ _. silent };
 
-    ghost counts_of = { λ folder. folder.counts };
+    ghost counts_of = { λ folder. noting folder.counts (bound_of folder.files) };
 
     ghost refuses = { λ _ _. false };
 
@@ -250,6 +252,10 @@ impl<R: Files<File = File> + Print + Drop> Ground for Folder<R> {
             Ok(()) => Ok(()),
             Err(error) => Err(self.say_fault(&error)),
         }
+    }
+
+    fn note_damage(&mut self) {
+        self.counts.damages = self.counts.damages.saturating_add(1);
     }
 
     fn counts(&self) -> GroundCounts {

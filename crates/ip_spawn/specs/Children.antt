@@ -1,14 +1,19 @@
 -- What a spawner tells of its children, and how each call goes on with it.
-use Rattle.std.specs.Prelude.{◌≡◌, ℕ, Bool, true, false, List, [], ◌∷◌, ◌++◌, Option, Some, None, Result, Ok, Err}
+use Rattle.std.specs.Prelude.{ℕ, Bool, true, false, List, [], ◌∷◌, ◌++◌, Option, Some, None, Result, Ok, Err}
 use Rattle.ip_base.specs.declared.exit.Reaped.{Reaped}
 use Rattle.ip_spawn.specs.declared.job.Job.{Job}
 use Rattle.ip_spawn.specs.declared.spawner.Look.{Look}
 use Rattle.ip_spawn.specs.declared.spawner.Look.TheVariants.{Running, Ended}
 use Rattle.ip_spawn.specs.declared.spawner.SpawnFault.{SpawnFault}
 
+-- a child that was started: the folder of its store, and its job
+pub record Start : Type 0 where
+  pub dir : List ℕ
+  pub job : Job
+
 pub record Told : Type 0 where
-  -- the jobs that were started, in order
-  pub started : List Job
+  -- the children that were started, in order
+  pub started : List Start
   -- how each child ended that was reaped, in order
   pub reaped : List Reaped
 
@@ -21,9 +26,9 @@ abbrev pub held_after_start : Job → Result (Unit {0}) SpawnFault → Option �
 held_after_start job (Ok _) = Some job.attempt
 held_after_start job (Err _) = None
 
-abbrev pub told_after_start : Job → Result (Unit {0}) SpawnFault → Told → Told
-told_after_start job (Ok _) told = record { started = told.started ++ job ∷ []; reaped = told.reaped }
-told_after_start job (Err _) told = told
+abbrev pub told_after_start : List ℕ → Job → Result (Unit {0}) SpawnFault → Told → Told
+told_after_start dir job (Ok _) told = record { started = told.started ++ record { dir = dir; job = job } ∷ []; reaped = told.reaped }
+told_after_start dir job (Err _) told = told
 
 -- how the child ended, by what was answered of it, if it did
 abbrev pub end_seen : Result Look SpawnFault → Option Reaped

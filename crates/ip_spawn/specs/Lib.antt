@@ -3,3 +3,4 @@ pub mod Spelling
 pub mod Jobs
 pub mod Counts
 pub mod Children
+pub mod Scripting

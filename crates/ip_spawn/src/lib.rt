@@ -8,5 +8,5 @@ mod scripted;
 mod spawner;
 
 pub use job::{Job, chunk_allowed};
-pub use scripted::{Plan, Plans, Scripted};
+pub use scripted::{Plan, Plans, Scripted, Started};
 pub use spawner::{Look, SpawnCounts, SpawnFault, Spawner};

@@ -4,7 +4,7 @@ ghost use Rattle.std.specs.Prelude.{◌≡◌};
 use crate::{Job, Look, SpawnCounts, SpawnFault, Spawner};
 use ip_base::{Exit, Reaped};
 use ip_ground::Calls;
-use std::alloc::Global;
+use std::alloc::{AllocError, Global};
 
 /// How a child goes: it runs for so many looks, and then it has ended so.
 #[derive(Clone, Copy, Debug, PartialEq, Eq)]
@@ -18,6 +18,15 @@ pub struct Plan {
 /// How the children go, in the order in which they are started.
 pub type Plans = Vec<Plan>;
 
+/// A child that was started: the folder of its store, and its job.
+#[derive(Drop)]
+pub struct Started {
+    /// The folder's name.
+    pub dir: String,
+    /// What it is to collect.
+    pub job: Job,
+}
+
 // A child that is held.
 #[derive(Clone, Copy, Debug, PartialEq, Eq)]
 pub struct Held {
@@ -27,31 +36,36 @@ pub struct Held {
 
 /// Children that go by plans, one for each that was started: the next start takes the next plan. The calls whose
 /// numbers are listed fail, and so does a start for which no plan is left; each call but `counts` has a number, counted
-/// from 0. A child that is waited for has ended as planned, and one that is killed has ended by a signal. A call takes
-/// time by the numbers of failing calls.
+/// from 0. A child that is waited for has ended as planned, and one that is killed has ended by a signal. Want of memory
+/// is a fault, and nothing but the count of faults has changed then. A call takes time by the numbers of failing calls.
 #[derive(Drop)]
 pub struct Scripted {
+    alloc: Global,
     plans: Plans,
     fails: Calls,
     calls: u64,
     held: Option<Held>,
     counts: SpawnCounts,
-    started: Vec<Job>,
+    started: Vec<Started>,
     reaped: Vec<Reaped>,
 }
 
 impl Scripted {
-    ghost use Rattle.std.specs.Prelude.{None, ◌++◌, ◌∷◌, [], IfOk, OnErr, is_ok, is_err, if◌then◌else◌, true, false};
+    ghost use Rattle.std.specs.Prelude.{None, ◌++◌, ◌∷◌, [], map, IfOk, OnOk, OnErr, is_ok, is_err, if◌then◌else◌, true, false};
     ghost use Rattle.ip_spawn.specs.Children.{blank};
-    ghost use Rattle.ip_spawn.specs.Counts.{Counts};
+    ghost use Rattle.ip_spawn.specs.Counts.{Counts, counted};
+    ghost use Rattle.ip_spawn.specs.Scripting.{start_of, fails_next};
     ghost use Rattle.ip_spawn.specs.declared.spawner.SpawnCounts.{SpawnCounts};
 
-    /// A spawner that holds no child, and has started none.
+    /// A spawner that goes by these plans and failing calls: it holds no child, and has started none.
     pub fn new(alloc: Global, plans: Plans, fails: Calls) -> Scripted
         ensures held { ⟦<Scripted as Spawner>⟧.held result ≡ None }
         ensures told { ⟦<Scripted as Spawner>⟧.told result ≡ blank }
+        ensures counts { ⟦<Scripted as Spawner>⟧.counts_of result ≡ record { running = 0; waits = 0; reaps = 0; spawn_faults = 0 } }
+        ensures script { (result.plans ≡ plans) × (result.fails ≡ fails) × (result.calls ≡ 0) }
     {
         Scripted {
+            alloc,
             plans,
             fails,
             calls: 0,
@@ -67,9 +81,9 @@ impl Scripted {
         }
     }
 
-    /// The jobs that were started, in order.
-    pub fn started(&self) -> &[Job]
-        ensures { result.now ≡ (⟦<Scripted as Spawner>⟧.told self.now).started }
+    /// The children that were started, in order.
+    pub fn started(&self) -> &[Started]
+        ensures { map start_of result.now ≡ (⟦<Scripted as Spawner>⟧.told self.now).started }
     {
         self.started.as_slice()
     }
@@ -83,11 +97,26 @@ impl Scripted {
 
     // Begins a call, and says whether it fails.
     fn fails_now(&mut self) -> bool
-        ensures { self.new ≡ record self.old { calls = self.new.calls } }
+        ensures fails { result ≡ fails_next self.old }
+        ensures calls { self.new ≡ record self.old { calls = counted true self.old.calls } }
     {
         let call = self.calls;
         self.calls = call.saturating_add(1);
         self.fails.contains(&call)
+    }
+
+    // Keeps what is started now, its folder's name as a copy. If that can't be kept, nothing has changed.
+    fn note(&mut self, dir: &str, job: &Job) -> Result<(), AllocError>
+        ensures only { self.new ≡ record self.old { started = self.new.started } }
+        ensures noted { OnOk result (map start_of self.new.started.items ≡ map start_of self.old.started.items ++ record { dir = dir.now; job = job.now } ∷ []) }
+        ensures same { OnErr result (self.new.started.items ≡ self.old.started.items) }
+    {
+        let dir = String::from_str(self.alloc, dir)?;
+        let started = Started { dir, job: *job };
+        if self.started.push(started).is_err() {
+            return Err(AllocError);
+        }
+        Ok(())
     }
 
     // Counts a fault.
@@ -102,8 +131,9 @@ impl Scripted {
     // This child has ended so, and is held no more. If that can't be noted, nothing has changed.
     fn reap(&mut self, held: Held, exit: Exit) -> Result<Reaped, SpawnFault>
         ensures attempt { IfOk result (λ reaped. reaped.attempt ≡ held.attempt) }
+        ensures exit { IfOk result (λ reaped. reaped.exit ≡ exit) }
         ensures held { self.new.held ≡ (if is_ok result then None else self.old.held) }
-        ensures started { self.new.started ≡ self.old.started }
+        ensures only { self.new ≡ record self.old { held = self.new.held; counts = self.new.counts; reaped = self.new.reaped } }
         ensures noted { IfOk result (λ reaped. self.new.reaped.items ≡ self.old.reaped.items ++ reaped ∷ []) }
         ensures same { OnErr result (self.new.reaped.items ≡ self.old.reaped.items) }
         ensures counts { Counts false false (is_ok result) (is_err result) self.old.counts self.new.counts }
@@ -122,19 +152,30 @@ impl Scripted {
 }
 
 impl Spawner for Scripted {
-    ghost use Rattle.std.specs.Prelude.{true};
-    ghost use Rattle.std.specs.Option.{option_map};
-    ghost use Rattle.ip_spawn.specs.Children.{Told};
+    ghost use Rattle.std.specs.Prelude.{true, false, ℕ, ◌<◌, ◌↔◌, Some, None, IsTrue, IsFalse, IsErr, IsSome, IfSome, IfOk, OnOk, is_some, is_ok, is_err};
+    ghost use Rattle.ip_base.specs.declared.exit.Exit.TheVariants.{Signal};
+    ghost use Rattle.ip_spawn.specs.Children.{held_after_start, told_after_start, end_seen, end_reaped, is_running, held_after, told_after};
+    ghost use Rattle.ip_spawn.specs.Counts.{Counts};
+    ghost use Rattle.ip_spawn.specs.Scripting.{held_of, told_of, fails_next, GoesOn, next_held, LooksBy};
+    ghost use Rattle.ip_spawn.specs.declared.scripted.Held.{Held};
 
     ghost tells = { true };
 
-    ghost told = { λ s. record { started = s.started.items; reaped = s.reaped.items } };
+    ghost told = { told_of };
 
-    ghost held = { λ s. option_map (λ held. held.attempt) s.held };
+    ghost held = { held_of };
 
     ghost counts_of = { λ s. s.counts };
 
-    fn start(&mut self, _dir: &str, job: &Job) -> Result<(), SpawnFault> {
+    fn start(&mut self, dir: &str, job: &Job) -> Result<(), SpawnFault>
+        requires { held_of self.old ≡ None }
+        ensures held { held_of self.new ≡ held_after_start job.now result }
+        ensures told { told_of self.new ≡ told_after_start dir.now job.now result (told_of self.old) }
+        ensures counts { Counts false false false (is_err result) self.old.counts self.new.counts }
+        ensures planned { OnOk result (self.new.held ≡ next_held self.old job.now) }
+        ensures fails { IsTrue (fails_next self.old) → IsErr result }
+        ensures goes { GoesOn self.old self.new }
+    {
         if self.fails_now() {
             return Err(self.fault());
         }
@@ -145,14 +186,24 @@ impl Spawner for Scripted {
             attempt: job.attempt,
             plan: *plan,
         };
-        if self.started.push(*job).is_err() {
+        if self.note(dir, job).is_err() {
             return Err(self.fault());
         }
         self.held = Some(held);
         Ok(())
     }
 
-    fn look(&mut self) -> Result<Look, SpawnFault> {
+    fn look(&mut self) -> Result<Look, SpawnFault>
+        requires { IsSome (held_of self.old) }
+        ensures attempt { IfSome (end_seen result) (λ reaped. held_of self.old ≡ Some reaped.attempt) }
+        ensures held { held_of self.new ≡ held_after (end_seen result) (held_of self.old) }
+        ensures told { told_of self.new ≡ told_after (end_seen result) (told_of self.old) }
+        ensures counts { Counts (is_running result) false (is_some (end_seen result)) (is_err result) self.old.counts self.new.counts }
+        ensures runs { (h : Held) → self.old.held ≡ Some h → (IsTrue (is_running result) ↔ (0 < h.plan.looks) × IsFalse (fails_next self.old)) }
+        ensures planned { (h : Held) → self.old.held ≡ Some h → LooksBy h result self.new.held }
+        ensures fails { IsTrue (fails_next self.old) → IsErr result }
+        ensures goes { GoesOn self.old self.new }
+    {
         let Some(held) = self.held else {
             unreachable!()
         };
@@ -174,7 +225,16 @@ impl Spawner for Scripted {
         Ok(Look::Running)
     }
 
-    fn wait(&mut self) -> Result<Reaped, SpawnFault> {
+    fn wait(&mut self) -> Result<Reaped, SpawnFault>
+        requires { IsSome (held_of self.old) }
+        ensures attempt { IfSome (end_reaped result) (λ reaped. held_of self.old ≡ Some reaped.attempt) }
+        ensures held { held_of self.new ≡ held_after (end_reaped result) (held_of self.old) }
+        ensures told { told_of self.new ≡ told_after (end_reaped result) (told_of self.old) }
+        ensures counts { Counts false true (is_ok result) (is_err result) self.old.counts self.new.counts }
+        ensures planned { (h : Held) → self.old.held ≡ Some h → IfOk result (λ reaped. reaped.exit ≡ h.plan.exit) }
+        ensures fails { IsTrue (fails_next self.old) → IsErr result }
+        ensures goes { GoesOn self.old self.new }
+    {
         let Some(held) = self.held else {
             unreachable!()
         };
@@ -185,7 +245,16 @@ impl Spawner for Scripted {
         self.reap(held, held.plan.exit)
     }
 
-    fn kill(&mut self) -> Result<Reaped, SpawnFault> {
+    fn kill(&mut self) -> Result<Reaped, SpawnFault>
+        requires { IsSome (held_of self.old) }
+        ensures attempt { IfSome (end_reaped result) (λ reaped. held_of self.old ≡ Some reaped.attempt) }
+        ensures held { held_of self.new ≡ None }
+        ensures told { told_of self.new ≡ told_after (end_reaped result) (told_of self.old) }
+        ensures counts { Counts false false (is_ok result) (is_err result) self.old.counts self.new.counts }
+        ensures signal { IfOk result (λ reaped. reaped.exit ≡ Signal) }
+        ensures fails { IsTrue (fails_next self.old) → IsErr result }
+        ensures goes { GoesOn self.old self.new }
+    {
         let Some(held) = self.held.take() else {
             unreachable!()
         };

@@ -39,7 +39,7 @@ pub trait Spawner {
     /// Whether it tells what it started, and how these ended. Objects in memory do.
     ghost tells: { Bool };
 
-    /// What it tells of these.
+    /// What it tells of these, the folder of each start beside its job.
     ghost told: { Self → Told };
 
     /// The attempt of the child that is held, if one is.
@@ -52,7 +52,7 @@ pub trait Spawner {
     fn start(&mut self, dir: &str, job: &Job) -> Result<(), SpawnFault>
         requires { held self.old ≡ None }
         ensures held { held self.new ≡ held_after_start job.now result }
-        ensures told { IsTrue tells → told self.new ≡ told_after_start job.now result (told self.old) }
+        ensures told { IsTrue tells → told self.new ≡ told_after_start dir.now job.now result (told self.old) }
         ensures counts { Counts false false false (is_err result) (counts_of self.old) (counts_of self.new) };
 
     /// Whether the child runs, or how it ended. After a fault it is still held.

@@ -49,8 +49,12 @@ fn a_folder_keeps_plain_files(rt: HostRuntime) -> Result<(), Fail> {
     assert_eq!(rt; folder.length(chunk), Err(GroundFault));
     assert_eq!(rt; folder.write(chunk, 0, b"x"), Err(GroundFault));
     assert!(rt; !fs::exists(&rt, "kept/chunk.8")?);
+    folder.note_damage();
     let counts = folder.counts();
-    assert_eq!(rt; (counts.file_faults, counts.remove_faults), (3, 0));
+    assert_eq!(rt;
+        (counts.file_faults, counts.remove_faults, counts.damages),
+        (3, 0, 1)
+    );
     fs::remove_dir_all(&rt, "kept")?;
     Ok(())
 }
