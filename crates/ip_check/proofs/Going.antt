@@ -6,7 +6,7 @@ use Rattle.std.proofs.Common.{◌≡◌, ℕ, ◌+◌, ◌*◌, ◌≤◌, List,
 use Rattle.std.specs.Prelude.{Option, Some, None, Result, Ok, IsTrue}
 use Rattle.std.proofs.lemmas.List.Sums.{sum_by-cons}
 use Rattle.ip_ground.specs.declared.names.FileName.{FileName}
-use Rattle.ip_ground.specs.declared.names.GroundCounts.{GroundCounts}
+use Rattle.ip_ground.specs.Counts.{Noted}
 use Rattle.ip_ground.specs.Contents.{Content}
 use Rattle.ip_ground.specs.Told.{Told, NoFile, ChangesOnly, IsForeign}
 use Rattle.ip_ground.proofs.Spans.{only_on, only_nowhere}
@@ -25,7 +25,7 @@ use Rattle.ip_check.specs.declared.mapping.Pieces.{Pieces}
 use Rattle.ip_check.proofs.Reading.{held_still, own_still}
 use Rattle.ip_check.proofs.Making.{begun, row_taken, whole_compared}
 
-pub record Goes (tells : Bool) (a b : Told) (c d : GroundCounts) (old p : Pieces) (runs left : List Run) (place : ℕ) : Type 0 where
+pub record Goes (tells : Bool) (a b : Told) (c d : Noted) (old p : Pieces) (runs left : List Run) (place : ℕ) : Type 0 where
   pub fit : FitRuns left
   pub few : made_to p + 24 * length (joined left) ≤ made_to old + 24 * length (joined runs)
   pub sums : place + total (joined left) ≡ total (joined runs)
@@ -35,7 +35,7 @@ pub record Goes (tells : Bool) (a b : Told) (c d : GroundCounts) (old p : Pieces
   pub counts : d ≡ c
   pub says : IsTrue tells → ¬ IsForeign a old.file → (whole : Bytes) → AreMade whole (a.held old.file) old (rows_from 0 (joined runs)) → AreMade whole (a.held old.file) p (rows_from place (joined left))
 
-pub goes_begun : (tells : Bool) (a : Told) (c : GroundCounts) (p : Pieces) (runs : List Run) → FitRuns runs → FitsIn p → Goes tells a a c c p p runs runs 0
+pub goes_begun : (tells : Bool) (a : Told) (c : Noted) (p : Pieces) (runs : List Run) → FitRuns runs → FitsIn p → Goes tells a a c c p p runs runs 0
 goes_begun tells a c p runs fit fits = record {
   fit = fit;
   few = omega arith;
@@ -54,7 +54,7 @@ PutSays b p q row found = ¬ IsForeign b p.file → (whole rest : Bytes) → Are
 abbrev pub row_at : Run → ℕ → Bytes
 row_at run place = row_bytes (record { at = run.at; length = run.length; place = place })
 
-module _ (tells : Bool) (a b : Told) (c d : GroundCounts) (old p : Pieces) (runs left : List Run) (place : ℕ) (goes : Goes tells a b c d old p runs left place) where
+module _ (tells : Bool) (a b : Told) (c d : Noted) (old p : Pieces) (runs left : List Run) (place : ℕ) (goes : Goes tells a b c d old p runs left place) where
   pub goes_end : (new : List Run) → GivesRun left None new → IsTrue tells → ¬ IsForeign a old.file → (whole : Bytes) → AreMade whole (a.held old.file) old (rows_from 0 (joined runs)) → AreMade whole (a.held old.file) p []
   goes_end new gives told own whole made = subst (λ (rs : List Run). AreMade whole (a.held old.file) p (rows_from place (joined rs))) gives.0 (goes.says told own whole made)
 
@@ -92,7 +92,7 @@ module _ (tells : Bool) (a b : Told) (c d : GroundCounts) (old p : Pieces) (runs
       found_here x is told own whole made =
           subst (λ (f : Option Difference). Compares {E = CheckFault} whole (a.held old.file) q (rows_from (place + run.length) (joined rest)) (Ok f)) is (compared told own whole made)
 
-      pub goes_on : (e : Told) (f : GroundCounts) → found ≡ None → FitRuns rest → FitsIn q → q.file ≡ p.file → made_to q ≤ made_to p + 24 → (IsTrue tells → ChangesOnly NoFile b e) → f ≡ d
+      pub goes_on : (e : Told) (f : Noted) → found ≡ None → FitRuns rest → FitsIn q → q.file ≡ p.file → made_to q ≤ made_to p + 24 → (IsTrue tells → ChangesOnly NoFile b e) → f ≡ d
           → Goes tells a e c f old q runs rest (place + run.length)
       goes_on e f is fit fits file few only counts = record {
         fit = fit;

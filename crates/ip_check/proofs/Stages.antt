@@ -106,6 +106,10 @@ keeps_on a b m c d e r s only goes one two records over keeping =
 same_err : {A : Type 0} (x y : CheckFault) → ◌≡◌ {A = Result A CheckFault} (Err x) (Err y) → x ≡ y
 same_err x y e = cc
 
+-- damage is the same, whatever an answer would have been
+pub blamed_as : {A B : Type 0} (fault : CheckFault) (at : ℕ) → IsErrOf {T = A} {E = CheckFault} (Err fault) (CheckFault.Damaged at) → IsErrOf {T = B} {E = CheckFault} (Err fault) (CheckFault.Damaged at)
+blamed_as fault at e = ap (λ (f : CheckFault). Err f) (same_err fault (CheckFault.Damaged at) e)
+
 pub undamaged_as : {A B : Type 0} (fault : CheckFault) → IsUndamaged {A = A} (Err fault) → IsUndamaged {A = B} (Err fault)
 undamaged_as fault whole at e = whole at (ap (λ (f : CheckFault). Err f) (same_err fault (CheckFault.Damaged at) e))
 

@@ -1,12 +1,13 @@
 -- The check of a pair of files, in slices.
 --     IsSpaceOf job space      its records are those of the job.      begun job space      the check of which nothing was done
 --     IsCheck c      what holds of it over any files.      looked_by c      how many records were looked at
+--     IsBlamed c at      a record that is looked at next, or that waits, or one that is kept
 --     IsVerdict records job found told      the first place that differs from the valid pair, or that there is none
 --     IsChecking records found c      what it has found of these records and of these files
 --     Says records job found result      what an answer says.      Advances most old new result      how far a slice goes
 --     SameCheck old new      it is the check of the same job, in the same space.      IsFixed told job      what is to stay as it is
 --     FewLooks      law: how many looks there are at most.      Accepts      law: the valid pair is accepted
-use Rattle.std.specs.Prelude.{◌≡◌, ◌≢◌, ℕ, ◌+◌, ◌*◌, ◌≤◌, [], length, take, count_by, Option, Some, None, Result, Ok, Err}
+use Rattle.std.specs.Prelude.{◌≡◌, ◌≢◌, ◌⊎◌, ℕ, ◌+◌, ◌*◌, ◌≤◌, [], length, take, count_by, Contains, Option, Some, None, Result, Ok, Err}
 use Rattle.ip_ground.specs.declared.names.FileName.TheVariants.{Mapping, Prefix}
 use Rattle.ip_ground.specs.Contents.{Image}
 use Rattle.ip_ground.specs.Told.{Told, IsForeign}
@@ -18,7 +19,7 @@ use Rattle.ip_spawn.specs.Jobs.{IsValid as IsValidJob}
 use Rattle.ip_image.specs.Collection.{Pair, Found, IsValid, IsKept, difference, first_difference}
 use Rattle.ip_image.specs.Virtual.{total}
 use Rattle.ip_space.specs.SpaceView.{SpaceView, bare, grown}
-use Rattle.ip_keep.specs.Keeping.{IsKeep, IsKeeping, IsThrough, looked_in, starts_between}
+use Rattle.ip_keep.specs.Keeping.{IsBlamedKeep, IsKeep, IsKeeping, IsThrough, looked_in, offsets, starts_between}
 use Rattle.ip_keep.specs.Whole.{AreRecords}
 use Rattle.ip_check.specs.declared.fault.CheckFault.{CheckFault}
 use Rattle.ip_check.specs.declared.check.Stage.{Stage}
@@ -58,6 +59,10 @@ pub record IsCheck (c : CheckView) : Type 0 where
 
 abbrev pub looked_by : CheckView → ℕ
 looked_by c = looked_in c.keep + c.compared
+
+-- what damage is told of: a record that is still to be looked at, or a kept one, while the prefix is compared
+abbrev pub IsBlamed : CheckView → ℕ → Type 0
+IsBlamed c at = IsBlamedKeep c.keep at ⊎ Contains (offsets c.keep.kept) at
 
 -- the mapping is the valid one, and the prefix is up to a place
 pub record IsComparing (records : Records) (job : Job) (found : Found) (place : ℕ) : Type 0 where

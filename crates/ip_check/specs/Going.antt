@@ -1,8 +1,9 @@
 -- The steps of a slice.
 --     IsOver told records c      these are the records of a check, and its files stay.      found_of told c      what it finds of the pair
 --     Goes most old new      it looks at up to so many records more.      KeepsTrue told old new result      what it found stays true, and no damage is met
+--     Blames result c      damage is told of a record of the check
 --     IsOpen stage      there is no verdict.      next_stage found place      behind a comparison that went up to a place
-use Rattle.std.specs.Prelude.{◌≡◌, ◌≢◌, ℕ, ◌+◌, ◌<◌, ◌≤◌, length, Option, Some, None, Result}
+use Rattle.std.specs.Prelude.{◌≡◌, ◌≢◌, ℕ, ◌+◌, ◌<◌, ◌≤◌, length, Option, Some, None, Result, IsErrOf}
 use Rattle.ip_ground.specs.Told.{Told}
 use Rattle.ip_spec.specs.declared.reply.Difference.{Difference}
 use Rattle.ip_spec.specs.TreeAt.{Records}
@@ -12,7 +13,7 @@ use Rattle.ip_keep.specs.Whole.{AreRecords}
 use Rattle.ip_check.specs.declared.fault.CheckFault.{CheckFault}
 use Rattle.ip_check.specs.declared.check.Stage.{Stage}
 use Rattle.ip_check.specs.CheckView.{CheckView}
-use Rattle.ip_check.specs.Checking.{IsCheck, IsChecking, IsFixed, SameCheck, looked_by}
+use Rattle.ip_check.specs.Checking.{IsBlamed, IsCheck, IsChecking, IsFixed, SameCheck, looked_by}
 use Rattle.ip_check.specs.Faults.{IsUndamaged}
 
 pub record IsOver (told : Told) (records : Records) (c : CheckView) : Type 0 where
@@ -31,6 +32,9 @@ pub record Goes (most : ℕ) (old new : CheckView) : Type 0 where
 
 abbrev pub KeepsTrue : {A : Type 0} → Told → CheckView → CheckView → Result A CheckFault → Type 0
 KeepsTrue told old new result = (records : Records) → IsOver told records old → IsChecking records (found_of told old) old → IsChecking records (found_of told old) new × IsUndamaged result
+
+abbrev pub Blames : {A : Type 0} → Result A CheckFault → CheckView → Type 0
+Blames result c = (at : ℕ) → IsErrOf result (CheckFault.Damaged at) → IsBlamed c at
 
 abbrev pub IsOpen : Stage → Type 0
 IsOpen stage = (told : Option Difference) → stage ≢ Stage.Through told

@@ -1,5 +1,5 @@
 // The check of what a collection wrote.
-ghost use Rattle.std.specs.Prelude.{◌≡◌, ◌≢◌, ℕ, ◌+◌, ◌≤◌, ◌<◌, length, Some, None, IsTrue, IfOk, IfSome, IfNone};
+ghost use Rattle.std.specs.Prelude.{◌≡◌, ◌≢◌, ℕ, ◌+◌, ◌≤◌, ◌<◌, length, Option, Some, None, IsTrue, IsOk, IsErrOf, IfOk, IfSome, IfNone};
 ghost use Rattle.ip_base.specs.declared.limit.TheConstants.{OFFSET_MAX};
 ghost use Rattle.ip_ground.specs.Contents.{Image};
 ghost use Rattle.ip_ground.specs.Counts.{Counts};
@@ -15,11 +15,11 @@ ghost use Rattle.ip_check.specs.declared.check.Stage.TheVariants as Stage;
 ghost use Rattle.ip_check.specs.declared.check.Outcome.TheVariants as Outcome;
 ghost use Rattle.ip_check.specs.declared.fault.CheckFault.TheVariants as CheckFaultValue;
 ghost use Rattle.ip_keep.specs.declared.fault.KeepFault.TheVariants as KeepFaultValue;
-ghost use Rattle.ip_keep.specs.Faults.{ground_keep};
+ghost use Rattle.ip_keep.specs.Faults.{counted_keep};
 ghost use Rattle.ip_spec.specs.declared.reply.Difference.{Difference as DifferenceValue};
-ghost use Rattle.ip_check.specs.Faults.{ground_check, IsUndamaged};
-ghost use Rattle.ip_check.specs.Going.{Goes, HasNext, IsOpen, KeepsTrue, next_stage as next_stage_of};
-ghost use Rattle.ip_check.specs.Checking.{Advances, IsCheck, IsChecking, IsFixed, IsSpaceOf, Says, SameCheck, begun, looked_by};
+ghost use Rattle.ip_check.specs.Faults.{counted_check, IsUndamaged};
+ghost use Rattle.ip_check.specs.Going.{Blames, Goes, HasNext, IsOpen, KeepsTrue, next_stage as next_stage_of};
+ghost use Rattle.ip_check.specs.Checking.{Advances, IsBlamed, IsCheck, IsChecking, IsFixed, IsSpaceOf, Says, SameCheck, begun, looked_by};
 
 use crate::CheckFault;
 use crate::compare::compare_end;
@@ -142,8 +142,12 @@ impl Check {
         ensures undamaged { IsTrue G.tells → IsReadable (G.told outside.old) self.old.keep.space → IsFixed (G.told outside.old) self.old.job →
             (records : Records) → AreRecords (G.told outside.old).held self.old.keep.space self.old.keep.horizon records →
             IsChecking records (found_in (G.told outside.old).held self.old.job.attempt) self.old → IsUndamaged result }
+        // Over any ground: which record damage is told of.
+        ensures blames { (at : ℕ) → IsErrOf result (CheckFaultValue.Damaged at) → IsBlamed self.new at }
+        // A verdict that is there is told again: that takes no memory.
+        ensures through { (told : Option DifferenceValue) → self.old.stage ≡ Stage.Through told → IsOk result }
         ensures only { IsTrue G.tells → ChangesOnly NoFile (G.told outside.old) (G.told outside.new) }
-        ensures counts { Counts ground_check result (G.counts_of outside.old) (G.counts_of outside.new) }
+        ensures counts { Counts counted_check result (G.counts_of outside.old) (G.counts_of outside.new) }
     {
         let left = match self.find(outside, most) {
             Ok(left) => left,
@@ -173,9 +177,11 @@ impl Check {
         requires check { IsCheck self.old }
         ensures goes { Goes most self.old self.new }
         ensures left { IfOk result (λ left. (looked_by self.new + left ≡ looked_by self.old + most) × (left ≤ most) × (self.new.stage ≡ Stage.Keeping → left ≡ 0)) }
+        ensures blames { Blames result self.new }
+        ensures through { (told : Option DifferenceValue) → self.old.stage ≡ Stage.Through told → IsOk result × (self.new.stage ≡ Stage.Through told) }
         ensures keeps { IsTrue G.tells → KeepsTrue (G.told outside.old) self.old self.new result }
         ensures only { IsTrue G.tells → ChangesOnly NoFile (G.told outside.old) (G.told outside.new) }
-        ensures counts { Counts ground_check result (G.counts_of outside.old) (G.counts_of outside.new) }
+        ensures counts { Counts counted_check result (G.counts_of outside.old) (G.counts_of outside.new) }
     {
         let Stage::Keeping = self.stage else {
             return Ok(most);
@@ -201,9 +207,11 @@ impl Check {
         requires found { self.old.stage ≡ Stage.Keeping → most ≡ 0 }
         ensures goes { Goes most self.old self.new }
         ensures all { IfOk result (λ _. IsOpen self.new.stage → looked_by self.new ≡ looked_by self.old + most) }
+        ensures blames { Blames result self.new }
+        ensures through { (told : Option DifferenceValue) → self.old.stage ≡ Stage.Through told → IsOk result }
         ensures keeps { IsTrue G.tells → KeepsTrue (G.told outside.old) self.old self.new result }
         ensures only { IsTrue G.tells → ChangesOnly NoFile (G.told outside.old) (G.told outside.new) }
-        ensures counts { Counts ground_check result (G.counts_of outside.old) (G.counts_of outside.new) }
+        ensures counts { Counts counted_check result (G.counts_of outside.old) (G.counts_of outside.new) }
     {
         let mut left = most;
         while let Some(place) = self.next_place(left) {
@@ -242,9 +250,10 @@ impl Check {
         ensures goes { Goes most self.old self.new }
         ensures some { IfOk result (λ count. (1 ≤ count) × (count ≤ most) × (looked_by self.new ≡ looked_by self.old + count)) }
         ensures stage { self.new.stage ≢ Stage.Keeping }
+        ensures blames { Blames result self.new }
         ensures keeps { IsTrue G.tells → KeepsTrue (G.told outside.old) self.old self.new result }
         ensures only { IsTrue G.tells → ChangesOnly NoFile (G.told outside.old) (G.told outside.new) }
-        ensures counts { Counts ground_check result (G.counts_of outside.old) (G.counts_of outside.new) }
+        ensures counts { Counts counted_check result (G.counts_of outside.old) (G.counts_of outside.new) }
     {
         let stretch = stretch_from(self.keep.kept(), self.compared, most);
         let space = self.keep.space();
@@ -263,10 +272,12 @@ impl Check {
         requires check { IsCheck self.old }
         ensures goes { Goes 0 self.old self.new }
         ensures same { IsOpen self.new.stage → self.new ≡ self.old }
+        ensures blames { Blames result self.new }
+        ensures through { (told : Option DifferenceValue) → self.old.stage ≡ Stage.Through told → IsOk result }
         ensures all { IfOk result (λ _. (place : ℕ) → self.new.stage ≡ Stage.Comparing place → self.new.compared < length self.new.keep.kept) }
         ensures keeps { IsTrue G.tells → KeepsTrue (G.told outside.old) self.old self.new result }
         ensures only { IsTrue G.tells → ChangesOnly NoFile (G.told outside.old) (G.told outside.new) }
-        ensures counts { Counts ground_check result (G.counts_of outside.old) (G.counts_of outside.new) }
+        ensures counts { Counts counted_check result (G.counts_of outside.old) (G.counts_of outside.new) }
     {
         let Stage::Comparing(place) = self.stage else {
             return Ok(());
@@ -293,7 +304,7 @@ fn next_stage(found: Option<Difference>, place: u64) -> Stage
 
 // The fault of the search, as one of the check.
 fn fault_of(fault: KeepFault) -> CheckFault
-    ensures ground { ground_check result ≡ ground_keep fault }
+    ensures ground { counted_check result ≡ counted_keep fault }
     ensures damaged { (at : ℕ) → result ≡ CheckFaultValue.Damaged at → fault ≡ KeepFaultValue.Damaged at }
 {
     match fault {

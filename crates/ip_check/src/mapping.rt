@@ -9,7 +9,7 @@ ghost use Rattle.ip_spec.specs.Path.{Bytes};
 ghost use Rattle.ip_image.specs.Virtual.{mapping_bytes, row_bytes, total};
 ghost use Rattle.ip_mapping.specs.Parsing.{head_bytes};
 ghost use Rattle.ip_keep.specs.Runs.{FitRuns, joined, left_of};
-ghost use Rattle.ip_check.specs.Faults.{ground_check, IsUndamaged};
+ghost use Rattle.ip_check.specs.Faults.{counted_check, IsUndamaged};
 ghost use Rattle.ip_check.specs.Alike.{SaysEnd};
 ghost use Rattle.ip_check.specs.Pieces.{AreMade, Compares, FitsIn, made_to, rows_from};
 
@@ -52,7 +52,7 @@ pub fn compare_mapping<G: Ground>(
         SaysEnd Produced.Mapping (mapping_bytes job.now.horizon job.now.end (joined (left_of runs.entry))) ((G.told outside.old).held (Mapping job.now.attempt)) result }
     ensures undamaged { IsUndamaged result }
     ensures only { IsTrue G.tells → ChangesOnly NoFile (G.told outside.old) (G.told outside.new) }
-    ensures counts { Counts ground_check result (G.counts_of outside.old) (G.counts_of outside.new) }
+    ensures counts { Counts counted_check result (G.counts_of outside.old) (G.counts_of outside.new) }
 {
     let rows = count_runs(runs);
     if rows >= TOO_MANY {
@@ -120,7 +120,7 @@ impl Pieces {
             AreMade whole ((G.told outside.old).held self.old.file) self.old (rows_from 0 (joined (left_of runs.entry))) → Compares whole ((G.told outside.old).held self.old.file) self.new [] result }
         ensures undamaged { IsUndamaged result }
         ensures only { IsTrue G.tells → ChangesOnly NoFile (G.told outside.old) (G.told outside.new) }
-        ensures counts { Counts ground_check result (G.counts_of outside.old) (G.counts_of outside.new) }
+        ensures counts { Counts counted_check result (G.counts_of outside.old) (G.counts_of outside.new) }
     {
         let mut left = runs;
         let mut place = 0;
@@ -153,7 +153,7 @@ impl Pieces {
             AreMade whole ((G.told outside.old).held self.old.file) self.old (row_bytes row.now ++ rest) → Compares whole ((G.told outside.old).held self.old.file) self.new rest result }
         ensures undamaged { IsUndamaged result }
         ensures only { IsTrue G.tells → ChangesOnly NoFile (G.told outside.old) (G.told outside.new) }
-        ensures counts { Counts ground_check result (G.counts_of outside.old) (G.counts_of outside.new) }
+        ensures counts { Counts counted_check result (G.counts_of outside.old) (G.counts_of outside.new) }
     {
         if self.bytes.len() + 24 <= PIECE {
             put_row(&mut self.bytes, row)?;
@@ -178,7 +178,7 @@ impl Pieces {
             AreMade whole ((G.told outside.old).held self.old.file) self.old rest → Compares whole ((G.told outside.old).held self.old.file) self.new rest result }
         ensures undamaged { IsUndamaged result }
         ensures only { IsTrue G.tells → ChangesOnly NoFile (G.told outside.old) (G.told outside.new) }
-        ensures counts { Counts ground_check result (G.counts_of outside.old) (G.counts_of outside.new) }
+        ensures counts { Counts counted_check result (G.counts_of outside.old) (G.counts_of outside.new) }
     {
         let found = compare(
             outside,
@@ -201,7 +201,7 @@ impl Pieces {
             AreMade whole ((G.told outside.old).held self.old.file) self.old [] → SaysEnd Produced.Mapping whole ((G.told outside.old).held self.old.file) result }
         ensures undamaged { IsUndamaged result }
         ensures only { IsTrue G.tells → ChangesOnly NoFile (G.told outside.old) (G.told outside.new) }
-        ensures counts { Counts ground_check result (G.counts_of outside.old) (G.counts_of outside.new) }
+        ensures counts { Counts counted_check result (G.counts_of outside.old) (G.counts_of outside.new) }
     {
         if let Some(found) = self.flush(outside)? {
             return Ok(Some(found));

@@ -1,5 +1,5 @@
 // The prefix beside what is kept, by stretches in which records lie end to end.
-ghost use Rattle.std.specs.Prelude.{◌≡◌, ◌+◌, ◌<◌, ◌≤◌, length, reverse, drop, IsTrue};
+ghost use Rattle.std.specs.Prelude.{◌≡◌, ℕ, ◌+◌, ◌<◌, ◌≤◌, length, reverse, drop, IsTrue, IsErrOf};
 ghost use Rattle.ip_base.specs.declared.limit.TheConstants.{OFFSET_MAX};
 ghost use Rattle.ip_ground.specs.Counts.{Counts};
 ghost use Rattle.ip_ground.specs.Told.{NoFile, ChangesOnly, IsForeign};
@@ -9,7 +9,8 @@ ghost use Rattle.ip_image.specs.Virtual.{total, Stands};
 ghost use Rattle.ip_space.specs.SpaceView.{IsReadable, byte_at};
 ghost use Rattle.ip_keep.specs.Runs.{FitRuns};
 ghost use Rattle.ip_check.specs.Alike.{IsPiece, IsSoFar, SaysAlike};
-ghost use Rattle.ip_check.specs.Faults.{ground_check, IsUndamaged};
+ghost use Rattle.ip_check.specs.declared.fault.CheckFault.TheVariants as CheckFaultValue;
+ghost use Rattle.ip_check.specs.Faults.{counted_check, IsUndamaged};
 ghost use Rattle.ip_check.specs.Stretching.{IsStretch};
 
 use crate::CheckFault;
@@ -59,7 +60,7 @@ pub fn stretch_from(kept: &[Run], compared: usize, most: u64) -> Stretch
 }
 
 /// The first difference between the bytes of a stretch and those that the prefix's file has from a place on, where what lies before is alike.
-/// Memory is taken for twice these bytes.
+/// Memory is taken for twice these bytes. Where bytes of the stretch are missing damage is noted, and it is blamed by its offset.
 pub fn compare_stretch<G: Ground>(
     alloc: Global,
     outside: &mut G,
@@ -76,8 +77,9 @@ pub fn compare_stretch<G: Ground>(
         SaysAlike Produced.Prefix whole ((G.told outside.old).held file) (place + stretch.now.length) result }
     ensures undamaged { IsTrue G.tells → IsReadable (G.told outside.old) space.now →
         (bytes : Bytes) → length bytes ≡ stretch.now.length → Stands (byte_at (G.told outside.old) space.now) stretch.now.at bytes → IsUndamaged result }
+    ensures blames { (at : ℕ) → IsErrOf result (CheckFaultValue.Damaged at) → at ≡ stretch.now.at }
     ensures only { IsTrue G.tells → ChangesOnly NoFile (G.told outside.old) (G.told outside.new) }
-    ensures counts { Counts ground_check result (G.counts_of outside.old) (G.counts_of outside.new) }
+    ensures counts { Counts counted_check result (G.counts_of outside.old) (G.counts_of outside.new) }
 {
     let Ok(mut want) = vec![in alloc; 0; stretch.length as usize] else {
         return Err(CheckFault::Memory);
@@ -87,6 +89,7 @@ pub fn compare_stretch<G: Ground>(
     };
     let count = space.read(outside, stretch.at, &mut want)?;
     if count < want.len() {
+        outside.note_damage();
         return Err(CheckFault::Damaged(stretch.at));
     }
     let found = compare(outside, file, Produced::Prefix, place, &want, &mut room)?;

@@ -6,8 +6,7 @@ use Rattle.std.proofs.lemmas.List.Elements.{Contains-append_left, Contains-push}
 use Rattle.ip_ground.specs.declared.names.FileName.TheVariants.{Chunk}
 use Rattle.ip_ground.specs.declared.names.GroundFault.{GroundFault}
 use Rattle.ip_ground.specs.Contents.{Content}
-use Rattle.ip_ground.specs.declared.names.GroundCounts.{GroundCounts}
-use Rattle.ip_ground.specs.Counts.{Rose, RoseBy, RemoveFault, CountsAs, CountsLeft}
+use Rattle.ip_ground.specs.Counts.{Noted, Rose, RoseBy, RemoveFault, CountsAs, CountsLeft}
 use Rattle.ip_ground.specs.Told.{Told, ChangesLeft, KeepsFile, Only, ChangesOnly}
 use Rattle.ip_ground.specs.Calls.{Removes}
 use Rattle.ip_ground.proofs.Spans.{only_more, only_on}
@@ -148,7 +147,7 @@ rose_one n old mid new (inl by) (inr last) = inr last
 rose_one n old mid new (inr last) (inl more) = inr (omega (arith, last, more))
 rose_one n old mid new (inr last) (inr still) = inr still
 
-pub counts_next : (r : Result (Unit {0}) GroundFault) (left now : ℕ) (old mid new : GroundCounts) → CountsLeft left old mid → CountsAs RemoveFault r mid new → Counted r left now → CountsLeft now old new
+pub counts_next : (r : Result (Unit {0}) GroundFault) (left now : ℕ) (old mid new : Noted) → CountsLeft left old mid → CountsAs RemoveFault r mid new → Counted r left now → CountsLeft now old new
 counts_next (Ok u) left now old mid new by same (inl gone) = subst (λ (n : ℕ). CountsLeft n old new) (sym gone.1) (subst (CountsLeft left old) (sym same) by)
 counts_next (Err e) left now old mid new by counted (inl gone) = absurd (true≢false gone.0)
 counts_next (Ok u) left now old mid new by same (inr lost) = absurd (true≢false (sym lost.0))
@@ -157,4 +156,6 @@ counts_next (Err e) left now old mid new by counted (inr lost) = subst (λ (n : 
   none = λ zero. absurd (omega (arith, zero));
   file_faults = counted.file_faults ∙ by.file_faults;
   say_faults = counted.say_faults ∙ by.say_faults;
+  damages = counted.damages ∙ by.damages;
+  bound = counted.bound ∙ by.bound;
 })

@@ -9,7 +9,7 @@ ghost use Rattle.ip_spec.specs.Path.{Path, Step, bytes_cmp};
 ghost use Rattle.ip_spec.specs.Tree.{IsTree, is_contents, is_empty, subtree};
 ghost use Rattle.ip_spec.specs.View.{View};
 ghost use Rattle.ip_spec.specs.declared.record.Record.{Record};
-ghost use Rattle.ip_tree.specs.Faults.{ground_tree};
+ghost use Rattle.ip_tree.specs.Faults.{counted_tree};
 ghost use Rattle.ip_tree.specs.Finding.{as_node};
 ghost use Rattle.ip_tree.specs.Reads.{IsOver, IsFree, Looks, IsCause};
 ghost use Rattle.ip_tree.specs.declared.tree.TreeFault.TheVariants as TreeFault;
@@ -50,7 +50,7 @@ pub fn differing<G: Ground>(
         → IsDirectoryAt records v p (option_map as_node one.now) → IsDirectoryAt records w q (option_map as_node other.now)
         → MatchResult result (λ pairs. (s : Step) → Differs records v w p q one.now other.now s (find bytes_cmp s pairs.entries)) IsFree }
     ensures looks { Looks G.tells (G.told outside.old) (G.told outside.new) space.old space.new }
-    ensures counts { Counts ground_tree result (G.counts_of outside.old) (G.counts_of outside.new) }
+    ensures counts { Counts counted_tree result (G.counts_of outside.old) (G.counts_of outside.new) }
     ensures causes { IfErr result (IsCause G.tells (G.told outside.old) space.old) }
 {
     let mut found = BTreeMap::new(alloc);

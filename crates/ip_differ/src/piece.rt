@@ -10,7 +10,7 @@ ghost use Rattle.ip_spec.specs.Shape.{Entries, deepest};
 ghost use Rattle.ip_spec.specs.Tree.{entries_of, subtree};
 ghost use Rattle.ip_spec.specs.View.{View};
 ghost use Rattle.ip_spec.specs.declared.record.Record.{Record};
-ghost use Rattle.ip_tree.specs.Faults.{ground_tree};
+ghost use Rattle.ip_tree.specs.Faults.{counted_tree};
 ghost use Rattle.ip_tree.specs.Finding.{IsPlaceOf, as_node};
 ghost use Rattle.ip_tree.specs.Node as view;
 ghost use Rattle.ip_tree.specs.Reads.{IsOver, IsFree, Looks, IsCause, children_read, record_of};
@@ -113,7 +113,7 @@ pub fn fetch_piece<G: Ground>(
     ensures opened { IsTrue G.tells → (records : ℕ → Option Record) (a : Step → Option Entry) (es : Entries) (is : List ℕ) → IsOver (G.told outside.old) space.old records
         → PieceIs records a es is piece.now → MatchResult result (OpenedIs records a es is piece.now) IsFree }
     ensures looks { Looks G.tells (G.told outside.old) (G.told outside.new) space.old space.new }
-    ensures counts { Counts ground_tree result (G.counts_of outside.old) (G.counts_of outside.new) }
+    ensures counts { Counts counted_tree result (G.counts_of outside.old) (G.counts_of outside.new) }
     ensures causes { IfErr result (IsCause G.tells (G.told outside.old) space.old) }
 {
     match piece {

@@ -11,7 +11,7 @@ ghost use Rattle.ip_spec.specs.Shape.{Entries, deepest};
 ghost use Rattle.ip_spec.specs.StoredParts.{entry_named};
 ghost use Rattle.ip_spec.specs.View.{leads};
 ghost use Rattle.ip_spec.specs.declared.record.Record.{Record};
-ghost use Rattle.ip_tree.specs.Faults.{ground_tree};
+ghost use Rattle.ip_tree.specs.Faults.{counted_tree};
 ghost use Rattle.ip_tree.specs.Reads.{IsOver, IsFree, Looks, IsCause, record_of};
 ghost use Rattle.ip_tree.specs.declared.node.Stored.{Stored};
 ghost use Rattle.ip_tree.specs.declared.tree.TreeFault.TheVariants as TreeFault;
@@ -50,7 +50,7 @@ pub fn put_all<G: Ground>(
         → length is ≡ depth → OpenedIs records a es is piece.now content
         → MatchResult result (λ _. Puts side (λ s. cond (leads 0 is s) (a s) None) found.old.entries found.new.entries) IsFree }
     ensures looks { Looks G.tells (G.told outside.old) (G.told outside.new) space.old space.new }
-    ensures counts { Counts ground_tree result (G.counts_of outside.old) (G.counts_of outside.new) }
+    ensures counts { Counts counted_tree result (G.counts_of outside.old) (G.counts_of outside.new) }
     ensures causes { IfErr result (IsCause G.tells (G.told outside.old) space.old) }
 {
     if !is_inode(piece, &content) {

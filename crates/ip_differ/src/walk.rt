@@ -5,7 +5,7 @@ ghost use Rattle.ip_space.specs.declared.fault.FetchFault.TheVariants as FetchFa
 ghost use Rattle.ip_spec.specs.Path.{Step};
 ghost use Rattle.ip_spec.specs.Shape.{Entries, deepest};
 ghost use Rattle.ip_spec.specs.declared.record.Record.{Record};
-ghost use Rattle.ip_tree.specs.Faults.{ground_tree};
+ghost use Rattle.ip_tree.specs.Faults.{counted_tree};
 ghost use Rattle.ip_tree.specs.Reads.{IsOver, IsFree, Looks, IsCause};
 ghost use Rattle.ip_tree.specs.declared.tree.TreeFault.TheVariants as TreeFault;
 ghost use Rattle.ip_differ.specs.Pieces.{PieceIs};
@@ -36,7 +36,7 @@ pub fn walk_parts<G: Ground>(
         → PieceIs records a es is one.now → PieceIs records b fs is other.now → IsClear is found.old.entries
         → MatchResult result (λ _. Walks a b is found.old.entries found.new.entries) IsFree }
     ensures looks { Looks G.tells (G.told outside.old) (G.told outside.new) space.old space.new }
-    ensures counts { Counts ground_tree result (G.counts_of outside.old) (G.counts_of outside.new) }
+    ensures counts { Counts counted_tree result (G.counts_of outside.old) (G.counts_of outside.new) }
     ensures causes { IfErr result (IsCause G.tells (G.told outside.old) space.old) }
 {
     if is_one_record(one, other) {

@@ -1,7 +1,8 @@
 -- How the search goes on, over what is told.
---     goes_nowhere, goes_on      no call, and two.      blames_later      what is met by the second one is met by both
+--     goes_nowhere, goes_on      no call, and two.      blames_later, breaks_later      what is met by the second one is met by both
 --     goes_read, goes_up, goes_behind      a record from the horizon on: not entered whole, or looked at.      goes_down, goes_kept      one that waits
 --     blameless_up, blameless_down      no damage is met where records are whole
+--     blames_as, blamed_as, breaks_as      of a fault, whatever an answer would have been
 use Rattle.std.proofs.Common.{◌≡◌, ◌⊎◌, inl, inr, ℕ, ◌+◌, ◌<◌, ◌≤◌, List, [], ◌∷◌, ◌++◌, refl, sym, ap, subst, ◌∙◌, Bool, true, false, length, arith}
 use Rattle.std.proofs.lemmas.Bool.{false≢true}
 use Rattle.std.specs.Prelude.{Contains, Option, Some, IsTrue, Result, Err, IsErrOf}
@@ -17,12 +18,12 @@ use Rattle.ip_image.specs.Standing.{RunByRun}
 use Rattle.ip_image.specs.Virtual.{Stands}
 use Rattle.ip_image.proofs.StayingRecords.{in_from, in_contains}
 use Rattle.ip_space.specs.SpaceView.{SpaceView, IsReadable, byte_at, records_of, stretches_of}
-use Rattle.ip_space.proofs.Stayed.{byte_stays, readable_stays}
+use Rattle.ip_space.proofs.Stayed.{byte_stays, only_looks, readable_stays}
 use Rattle.ip_space.proofs.StoodBytes.{alike}
 use Rattle.ip_spec.proofs.Spelling.{some_bytes}
 use Rattle.ip_keep.specs.declared.fault.KeepFault.{KeepFault}
 use Rattle.ip_keep.specs.Entering.{are_below, refs_of, Gains, GainsSome}
-use Rattle.ip_keep.specs.Going.{Goes, Blameless}
+use Rattle.ip_keep.specs.Going.{Goes, Blameless, Blames, Breaks}
 use Rattle.ip_keep.specs.KeepView.{KeepView}
 use Rattle.ip_keep.specs.Keeping.{IsKeep, IsKeeping, SameWork, lowest}
 use Rattle.ip_keep.specs.Runs.{AreHeld}
@@ -72,6 +73,11 @@ module _ (tells : Bool) where
   blames_later a b k m result one later t readable records whole keeping =
       later t (subst (IsReadable b) (sym one.work.space) (readable_stays a b (one.only t) k.space readable)) records
       (other_whole b k m records one.work (later_whole a b k.space k.horizon records (one.only t) readable whole)) (one.keeping t readable records whole keeping)
+
+  pub breaks_later : {A : Type 0} (a b : Told) (k m n : KeepView) (result : Result A KeepFault) → Goes tells a b k m → Breaks tells b m n result → Breaks tells a k n result
+  breaks_later a b k m n result one later t readable at is rec there =
+      later t (subst (IsReadable b) (sym one.work.space) (readable_stays a b (one.only t) k.space readable)) at is rec
+      (ap (λ (s : SpaceView). records_of b s at) one.work.space ∙ (only_looks a b (one.only t) k.space).records readable at ∙ there)
 
   -- ---- a record is read
 
@@ -188,3 +194,9 @@ same_fault f g e = cc
 -- a fault, whatever an answer would have been
 pub blames_as : {A B : Type 0} (tells : Bool) (a : Told) (k : KeepView) (fault : KeepFault) → Blameless {A = A} tells a k (Err fault) → Blameless {A = B} tells a k (Err fault)
 blames_as tells a k fault none t readable records whole keeping at is = none t readable records whole keeping at (ap Err (same_fault fault (KeepFault.Damaged at) is))
+
+pub blamed_as : {A B : Type 0} (k : KeepView) (fault : KeepFault) → Blames {A = A} (Err fault) k → Blames {A = B} (Err fault) k
+blamed_as k fault blames at is = blames at (ap Err (same_fault fault (KeepFault.Damaged at) is))
+
+pub breaks_as : {A B : Type 0} (tells : Bool) (a : Told) (k n : KeepView) (fault : KeepFault) → Breaks {A = A} tells a k n (Err fault) → Breaks {A = B} tells a k n (Err fault)
+breaks_as tells a k n fault breaks t readable at is = breaks t readable at (ap Err (same_fault fault (KeepFault.Damaged at) is))

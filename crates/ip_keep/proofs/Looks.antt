@@ -1,6 +1,8 @@
 -- The exits of a look at a record, where the search is open.
 --     UpReady, DownReady      what is known when a record is looked at
-use Rattle.std.proofs.Common.{◌≡◌, ℕ, ◌+◌, ◌<◌, ◌≤◌, List, [], ◌∷◌, ◌++◌, sym, ap, subst, ◌∙◌, Bool, true, false, length, arith}
+--     up_blames, up_breaks, down_blames, down_breaks      what a fault says of it
+use Rattle.std.proofs.Common.{◌≡◌, inl, inr, ℕ, ◌+◌, ◌<◌, ◌≤◌, List, [], ◌∷◌, ◌++◌, sym, ap, subst, ◌∙◌, Bool, true, false, length, arith}
+use Rattle.std.proofs.lemmas.Bool.{false≢true}
 use Rattle.std.specs.Prelude.{Contains, Some, IsTrue, Result, IsErrOf}
 use Rattle.ip_ground.specs.Told.{Told, NoFile, ChangesOnly}
 use Rattle.ip_spec.specs.declared.record.Record.{Record}
@@ -11,7 +13,7 @@ use Rattle.ip_space.specs.ScanView.{ScanView}
 use Rattle.ip_space.specs.Scanning.{IsCurrent}
 use Rattle.ip_keep.specs.declared.fault.KeepFault.{KeepFault}
 use Rattle.ip_keep.specs.Entering.{are_below, refs_of, Gains, GainsSome}
-use Rattle.ip_keep.specs.Going.{Goes, Blameless, IsAlong}
+use Rattle.ip_keep.specs.Going.{Goes, Blameless, Blames, Breaks, IsAlong}
 use Rattle.ip_keep.specs.KeepView.{KeepView}
 use Rattle.ip_keep.specs.Keeping.{IsKeep, lowest}
 use Rattle.ip_keep.proofs.Looked.{waits, with_kept}
@@ -53,6 +55,18 @@ module _ (tells : Bool) (a : Told) (scan : ScanView) (k o : KeepView) (is : k �
       (subst (λ (n : ℕ). IsTrue tells → IsReadable a k.space → (at : ℕ) → IsErrOf result (KeepFault.Damaged at) → (r : Record) → records_of a k.space n ≡ Some r → are_below n (refs_of r) ≡ false)
       ready.along.next (λ t readable at bad. ahead t readable (ready.current t readable) at bad)))
 
+  -- the record ahead is the one that is blamed
+  module _ {A : Type 0} (result : Result A KeepFault) (here : (at : ℕ) → IsErrOf result (KeepFault.Damaged at) → at ≡ scan.next) where
+    pub up_blames : Blames result o
+    up_blames at bad = inl (here at bad ∙ at_o.along.next)
+
+    pub up_breaks : (n : KeepView) → (IsTrue tells → IsReadable a k.space → IsCurrent a k.space scan → (at : ℕ) → IsErrOf result (KeepFault.Damaged at) →
+        (r : Record) → records_of a k.space scan.next ≡ Some r → are_below scan.next (refs_of r) ≡ false) → Breaks tells a o n result
+    up_breaks n ahead = subst (λ (q : KeepView). Breaks tells a q n result) is (λ t readable at bad r there under.
+        let e = here at bad in
+        let bad_ref = ahead t readable (ready.current t readable) at bad r (ap (records_of a k.space) (sym e) ∙ there) in
+        absurd (false≢true (sym bad_ref ∙ ap (λ (m : ℕ). are_below m (refs_of r)) (sym e) ∙ under)))
+
 -- ---- one that waits
 
 pub record DownReady (at : ℕ) (k : KeepView) : Type 0 where
@@ -92,3 +106,16 @@ module _ (tells : Bool) (a : Told) (at : ℕ) (k o : KeepView) (is : k ≡ o) (a
       let low_k : below ≡ lowest k = low ∙ ap lowest (sym is) in
       subst (λ (q : KeepView). Blameless tells a q result) is
       (blameless_down tells a k result at set.keep set.there (λ t readable place bad r there under. (let l = long t readable place bad r there under in omega (arith, l, low_k))))
+
+  module _ {A : Type 0} (result : Result A KeepFault) (here : (place : ℕ) → IsErrOf result (KeepFault.Damaged place) → place ≡ at) where
+    pub down_blames : Blames result (record k { space = space })
+    down_blames place bad = inr (subst (Contains k.waiting) (sym (here place bad)) set.there)
+
+    pub down_breaks : (below : ℕ) → below ≡ lowest o
+        → (IsTrue tells → IsReadable a k.space → (place : ℕ) → IsErrOf result (KeepFault.Damaged place) → (r : Record) → records_of a k.space at ≡ Some r → are_below at (refs_of r) ≡ true → below < at + length (spelling r))
+        → Breaks tells a o (record k { space = space }) result
+    down_breaks below low long = subst (λ (q : KeepView). Breaks tells a q (record k { space = space }) result) is (λ t readable place bad r there under.
+        let e = here place bad in
+        let low_k : below ≡ lowest k = low ∙ ap lowest (sym is) in
+        let l = long t readable place bad r (ap (records_of a k.space) (sym e) ∙ there) (ap (λ (m : ℕ). are_below m (refs_of r)) (sym e) ∙ under) in
+        omega (arith, l, low_k, e))

@@ -1,17 +1,18 @@
 -- How the search goes on.
 --     Goes tells before after old new      it does: whatever it had found of records is still true, with what it found since
 --     Blameless tells before old result      where the records are whole no damage is met
+--     Blames result k      damage is told of what comes next, or waits.      Breaks tells before old new result      and what stands there is none that a whole store has
 --     IsAlong k scan      a walk is where the search is, and goes to the end
 --     LooksOne old new result      one record more was looked at.      LooksOn most old new result      so many, or fewer where none is left from the horizon on
-use Rattle.std.specs.Prelude.{◌≡◌, ℕ, ◌+◌, ◌<◌, ◌≤◌, Bool, IsTrue, Result, Ok, Err}
+use Rattle.std.specs.Prelude.{◌≡◌, ℕ, ◌+◌, ◌<◌, ◌≤◌, Bool, IsTrue, Result, Ok, Err, IsErrOf}
 use Rattle.ip_ground.specs.Told.{Told, NoFile, ChangesOnly}
 use Rattle.ip_spec.specs.TreeAt.{Records}
-use Rattle.ip_space.specs.SpaceView.{IsReadable, byte_at}
+use Rattle.ip_space.specs.SpaceView.{IsReadable, byte_at, records_of}
 use Rattle.ip_space.specs.ScanView.{ScanView}
 use Rattle.ip_keep.specs.declared.fault.KeepFault.{KeepFault}
 use Rattle.ip_keep.specs.Faults.{IsUndamaged}
 use Rattle.ip_keep.specs.KeepView.{KeepView}
-use Rattle.ip_keep.specs.Keeping.{IsKeep, IsKeeping, SameWork, looked_in}
+use Rattle.ip_keep.specs.Keeping.{IsBlamedKeep, IsBroken, IsKeep, IsKeeping, SameWork, looked_in}
 use Rattle.ip_keep.specs.Runs.{AreHeld}
 use Rattle.ip_keep.specs.Whole.{AreRecords}
 
@@ -25,6 +26,12 @@ pub record Goes (tells : Bool) (before after : Told) (old new : KeepView) : Type
 
 abbrev pub Blameless : {A : Type 0} → Bool → Told → KeepView → Result A KeepFault → Type 0
 Blameless tells before old result = IsTrue tells → IsReadable before old.space → (records : Records) → AreRecords before.held old.space old.horizon records → IsKeeping records old → IsUndamaged result
+
+abbrev pub Blames : {A : Type 0} → Result A KeepFault → KeepView → Type 0
+Blames result k = (at : ℕ) → IsErrOf result (KeepFault.Damaged at) → IsBlamedKeep k at
+
+abbrev pub Breaks : {A : Type 0} → Bool → Told → KeepView → KeepView → Result A KeepFault → Type 0
+Breaks tells before old new result = IsTrue tells → IsReadable before old.space → (at : ℕ) → IsErrOf result (KeepFault.Damaged at) → IsBroken (records_of before old.space) new at
 
 pub record IsAlong (k : KeepView) (scan : ScanView) : Type 0 where
   pub next : scan.next ≡ k.next

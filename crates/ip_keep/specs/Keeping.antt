@@ -2,9 +2,10 @@
 --     IsKeep k      what holds of it over any files.      IsThrough k      nothing is left to be looked at.      lowest k      above it nothing is looked at any more
 --     looked_in k      how many records were looked at
 --     IsKeeping records k      what it has found of these records
+--     IsBlamedKeep k at      a record that is looked at next, or that waits.      IsBroken records k at      none stands there, or none that a whole store has
 --     SameWork old new      it goes on in the same space, at the same horizon.      LooksUpTo most old new result      how many records were looked at
 --     KeepsAll      law: then what was kept is the least set.      FewLooks      law: how many looks there are at most
-use Rattle.std.specs.Prelude.{◌≡◌, ◌⊎◌, ℕ, ◌+◌, ◌<◌, ◌≤◌, ◌&&◌, List, [], length, map, count_by, Bool, Contains, Some, Result, Ok, Err, nat_le, nat_lt}
+use Rattle.std.specs.Prelude.{◌≡◌, ◌⊎◌, ℕ, ◌+◌, ◌<◌, ◌≤◌, ◌&&◌, List, [], length, map, count_by, Bool, true, Contains, Option, Some, Result, Ok, Err, nat_le, nat_lt}
 use Rattle.std.specs.List.{AllByRecursion}
 use Rattle.std.specs.List.Sorted.{IsStrictlyIncreasing}
 use Rattle.ip_base.specs.declared.limit.TheConstants.{OFFSET_MAX}
@@ -18,6 +19,7 @@ use Rattle.ip_image.specs.declared.run.Run.{Run}
 use Rattle.ip_image.specs.Collection.{IsKept, runs_of}
 use Rattle.ip_space.specs.Scanning.{RunsTo}
 use Rattle.ip_keep.specs.declared.fault.KeepFault.{KeepFault}
+use Rattle.ip_keep.specs.Entering.{are_below, refs_of}
 use Rattle.ip_keep.specs.KeepView.{KeepView}
 use Rattle.ip_keep.specs.Runs.{joined, least, AreApart}
 use Rattle.ip_keep.specs.Whole.{run_at, AreRecords}
@@ -63,6 +65,14 @@ pub record IsKeeping (records : Records) (k : KeepView) : Type 0 where
   pub above : (r : CoreRecord) (at : ℕ) → Contains (core_records records) r → k.horizon ≤ r.at → r.at < k.next → Contains r.refs at → at < k.horizon → IsFound k at
   pub closed : (r : CoreRecord) (at : ℕ) → Contains (core_records records) r → Contains (offsets k.kept) r.at → Contains r.refs at → IsFound k at
   pub lengths : (run : Run) → Contains k.kept run → (r : Record) × (present records run.at ≡ Some r) × (run.length ≡ length (spelling r))
+
+-- what damage is told of: the next record from the horizon on, or one that waits
+abbrev pub IsBlamedKeep : KeepView → ℕ → Type 0
+IsBlamedKeep k at = (at ≡ k.next) ⊎ Contains k.waiting at
+
+-- no record stands there, or it refers to what does not lie below it, or goes over the next that is kept
+abbrev pub IsBroken : (ℕ → Option Record) → KeepView → ℕ → Type 0
+IsBroken records k at = (rec : Record) → records at ≡ Some rec → are_below at (refs_of rec) ≡ true → lowest k < at + length (spelling rec)
 
 pub record SameWork (old new : KeepView) : Type 0 where
   pub space : new.space ≡ old.space

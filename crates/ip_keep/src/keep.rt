@@ -1,16 +1,17 @@
 // The search for the records that a collection keeps.
-ghost use Rattle.std.specs.Prelude.{◌≡◌, ◌↔◌, ◌+◌, ◌*◌, ◌≤◌, ◌<◌, [], ◌∷◌, ◌++◌, ℕ, List, Contains, reverse, length, IsTrue, OnOk, OnErr};
+ghost use Rattle.std.specs.Prelude.{◌≡◌, ◌↔◌, ◌+◌, ◌*◌, ◌≤◌, ◌<◌, [], ◌∷◌, ◌++◌, ℕ, List, Contains, reverse, length, IsTrue, IsErrOf, OnOk, OnErr};
 ghost use Rattle.ip_base.specs.declared.limit.TheConstants.{OFFSET_MAX};
 ghost use Rattle.ip_ground.specs.Contents.{Image};
 ghost use Rattle.ip_ground.specs.Counts.{Counts};
 ghost use Rattle.ip_ground.specs.Told.{NoFile, ChangesOnly};
 ghost use Rattle.ip_spec.specs.TreeAt.{Records};
 ghost use Rattle.ip_image.specs.Virtual.{RowsFit, placed, total};
-ghost use Rattle.ip_space.specs.SpaceView.{AreBelow, IsReadable, byte_at};
+ghost use Rattle.ip_space.specs.SpaceView.{AreBelow, IsReadable, byte_at, records_of};
 ghost use Rattle.ip_space.specs.Scanning.{IsCurrent};
-ghost use Rattle.ip_keep.specs.Faults.{ground_keep, IsUndamaged};
-ghost use Rattle.ip_keep.specs.Going.{Goes, Blameless, IsAlong, LooksOne, LooksOn};
-ghost use Rattle.ip_keep.specs.Keeping.{IsKeep, IsThrough, IsKeeping, LooksUpTo, SameWork, looked_in, lowest};
+ghost use Rattle.ip_keep.specs.declared.fault.KeepFault.TheVariants as KeepFaultValue;
+ghost use Rattle.ip_keep.specs.Faults.{counted_keep, IsUndamaged};
+ghost use Rattle.ip_keep.specs.Going.{Goes, Blameless, Blames, Breaks, IsAlong, LooksOne, LooksOn};
+ghost use Rattle.ip_keep.specs.Keeping.{IsBlamedKeep, IsBroken, IsKeep, IsThrough, IsKeeping, LooksUpTo, SameWork, looked_in, lowest};
 ghost use Rattle.ip_keep.specs.Runs.{AreHeld, FitRuns, joined, left_of};
 ghost use Rattle.ip_keep.specs.Whole.{AreRecords};
 
@@ -138,8 +139,12 @@ impl Keep {
             AreHeld (byte_at (G.told outside.new) self.old.space) self.new.kept }
         ensures undamaged { IsTrue G.tells → IsReadable (G.told outside.old) self.old.space → (records : Records) → AreRecords (G.told outside.old).held self.old.space self.old.horizon records →
             IsKeeping records self.old → IsUndamaged result }
+        // Over any ground: damage is told of a record that was not looked at.
+        ensures blames { (at : ℕ) → IsErrOf result (KeepFaultValue.Damaged at) → IsBlamedKeep self.new at }
+        ensures broken { IsTrue G.tells → IsReadable (G.told outside.old) self.old.space → (at : ℕ) → IsErrOf result (KeepFaultValue.Damaged at) →
+            IsBroken (records_of (G.told outside.old) self.old.space) self.new at }
         ensures only { IsTrue G.tells → ChangesOnly NoFile (G.told outside.old) (G.told outside.new) }
-        ensures counts { Counts ground_keep result (G.counts_of outside.old) (G.counts_of outside.new) }
+        ensures counts { Counts counted_keep result (G.counts_of outside.old) (G.counts_of outside.new) }
     {
         let left = match self.go_up(outside, most) {
             Ok(left) => left,
@@ -154,7 +159,9 @@ impl Keep {
         ensures goes { Goes G.tells (G.told outside.old) (G.told outside.new) self.old self.new }
         ensures looks { LooksOn most self.old self.new result }
         ensures undamaged { Blameless G.tells (G.told outside.old) self.old result }
-        ensures counts { Counts ground_keep result (G.counts_of outside.old) (G.counts_of outside.new) }
+        ensures blames { Blames result self.new }
+        ensures broken { Breaks G.tells (G.told outside.old) self.old self.new result }
+        ensures counts { Counts counted_keep result (G.counts_of outside.old) (G.counts_of outside.new) }
     {
         let end = self.space.layout().end;
         let mut scan = self.space.scan(self.next, end);
@@ -180,7 +187,9 @@ impl Keep {
         ensures along { OnOk result (IsAlong self.new scan.new) }
         ensures current { IsTrue G.tells → IsReadable (G.told outside.old) self.old.space → IsCurrent (G.told outside.new) self.old.space scan.new }
         ensures undamaged { Blameless G.tells (G.told outside.old) self.old result }
-        ensures counts { Counts ground_keep result (G.counts_of outside.old) (G.counts_of outside.new) }
+        ensures blames { Blames result self.new }
+        ensures broken { Breaks G.tells (G.told outside.old) self.old self.new result }
+        ensures counts { Counts counted_keep result (G.counts_of outside.old) (G.counts_of outside.new) }
     {
         let rec = match next_record(outside, &self.space, scan) {
             Ok(rec) => rec,
@@ -199,7 +208,9 @@ impl Keep {
         ensures goes { Goes G.tells (G.told outside.old) (G.told outside.new) self.old self.new }
         ensures looks { LooksUpTo most self.old self.new result }
         ensures undamaged { Blameless G.tells (G.told outside.old) self.old result }
-        ensures counts { Counts ground_keep result (G.counts_of outside.old) (G.counts_of outside.new) }
+        ensures blames { Blames result self.new }
+        ensures broken { Breaks G.tells (G.told outside.old) self.old self.new result }
+        ensures counts { Counts counted_keep result (G.counts_of outside.old) (G.counts_of outside.new) }
     {
         let mut left = most;
         while left > 0 && !self.waiting.is_empty() {
@@ -221,7 +232,9 @@ impl Keep {
         ensures looks { LooksOne self.old self.new result }
         ensures up { self.new.next ≡ self.new.space.layout.end }
         ensures undamaged { Blameless G.tells (G.told outside.old) self.old result }
-        ensures counts { Counts ground_keep result (G.counts_of outside.old) (G.counts_of outside.new) }
+        ensures blames { Blames result self.new }
+        ensures broken { Breaks G.tells (G.told outside.old) self.old self.new result }
+        ensures counts { Counts counted_keep result (G.counts_of outside.old) (G.counts_of outside.new) }
     {
         let at = self.greatest();
         let below = self.lowest();

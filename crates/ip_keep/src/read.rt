@@ -12,7 +12,7 @@ ghost use Rattle.ip_keep.specs.declared.fault.KeepFault.TheVariants as KeepFault
 ghost use Rattle.ip_spec.specs.declared.record.InodeChild.{InodeChild as InodeChildValue};
 ghost use Rattle.ip_spec.specs.declared.record.LeafEntry.{LeafEntry as LeafEntryValue};
 ghost use Rattle.ip_keep.specs.Entering.{are_below, refs_of};
-ghost use Rattle.ip_keep.specs.Faults.{ground_keep, unread_as};
+ghost use Rattle.ip_keep.specs.Faults.{counted_keep, unread_as};
 
 use crate::KeepFault;
 use ip_ground::Ground;
@@ -54,7 +54,8 @@ fn children_below(children: &[InodeChild], at: u64) -> bool
     children.iter().all(|child| child.at < at)
 }
 
-/// The record that comes next in a walk. What it refers to has to lie below it.
+/// The record that comes next in a walk. What it refers to has to lie below it. Where it does not damage is noted: of what cannot be read
+/// at all the space noted it.
 pub(crate) fn next_record<G: Ground>(
     outside: &mut G,
     space: &Space,
@@ -66,27 +67,33 @@ pub(crate) fn next_record<G: Ground>(
         IfOk result (λ rec. records_of (G.told outside.old) space.now scan.old.next ≡ Some rec) }
     ensures damaged { IsTrue G.tells → IsReadable (G.told outside.old) space.now → IsCurrent (G.told outside.old) space.now scan.old →
         (at : ℕ) → IsErrOf result (KeepFault.Damaged at) → (rec : Record) → records_of (G.told outside.old) space.now scan.old.next ≡ Some rec → are_below scan.old.next (refs_of rec) ≡ false }
+    ensures blames { (at : ℕ) → IsErrOf result (KeepFault.Damaged at) → at ≡ scan.old.next }
     ensures current { IsTrue G.tells → IsReadable (G.told outside.old) space.now → IsCurrent (G.told outside.old) space.now scan.old →
         IsCurrent (G.told outside.new) space.now scan.new }
     ensures below { IfOk result (λ rec. are_below scan.old.next (refs_of rec) ≡ true) }
     ensures moves { IfOk result (λ rec. (scan.new.next ≡ scan.old.next + length (spelling rec)) × (scan.new.to ≡ scan.old.to)) }
     ensures inside { IfOk result (λ rec. scan.old.next + length (spelling rec) ≤ space.now.layout.end) }
-    ensures counts { Counts ground_keep result (G.counts_of outside.old) (G.counts_of outside.new) }
+    ensures counts { Counts counted_keep result (G.counts_of outside.old) (G.counts_of outside.new) }
 {
     let at = scan.next();
     match scan.step(outside, space) {
         Ok(Some((_, rec))) => {
             if !refers_below(&rec, at) {
+                outside.note_damage();
                 return Err(KeepFault::Damaged(at));
             }
             Ok(rec)
         }
-        Ok(None) => Err(KeepFault::Damaged(at)),
+        Ok(None) => {
+            outside.note_damage();
+            Err(KeepFault::Damaged(at))
+        }
         Err(fault) => Err(unread(at, fault)),
     }
 }
 
-/// The record at an offset, and its length. It has to end at or below another offset, and what it refers to has to lie below it.
+/// The record at an offset, and its length. It has to end at or below another offset, and what it refers to has to lie below it; where it
+/// does not, damage is noted.
 pub(crate) fn record_below<G: Ground>(
     outside: &mut G,
     space: &mut Space,
@@ -100,14 +107,16 @@ pub(crate) fn record_below<G: Ground>(
     ensures stands { IsTrue G.tells → IsReadable (G.told outside.old) space.old → IfOk result (λ found. Stands (byte_at (G.told outside.new) space.old) at (spelling found.0)) }
     ensures damaged { IsTrue G.tells → IsReadable (G.told outside.old) space.old → (place : ℕ) → IsErrOf result (KeepFault.Damaged place) →
         (rec : Record) → records_of (G.told outside.old) space.old at ≡ Some rec → are_below at (refs_of rec) ≡ true → below < at + length (spelling rec) }
+    ensures blames { (place : ℕ) → IsErrOf result (KeepFault.Damaged place) → place ≡ at }
     ensures length { IfOk result (λ found. found.1 ≡ length (spelling found.0)) }
     ensures inside { IfOk result (λ found. at + found.1 ≤ below) }
     ensures below { IfOk result (λ found. are_below at (refs_of found.0) ≡ true) }
-    ensures counts { Counts ground_keep result (G.counts_of outside.old) (G.counts_of outside.new) }
+    ensures counts { Counts counted_keep result (G.counts_of outside.old) (G.counts_of outside.new) }
 {
     match space.record_at(outside, at) {
         Ok((rec, length)) => {
             if at + length > below || !refers_below(&rec, at) {
+                outside.note_damage();
                 return Err(KeepFault::Damaged(at));
             }
             Ok((rec, length))

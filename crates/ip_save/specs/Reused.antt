@@ -9,12 +9,13 @@
 --     look_fault fault      the fault of a look-up
 --     IsThere records r, IsDirectoryThere records r      what is told of the other tree, if there is such a thing, lies in these records
 --     IsFound tells told space bs held before after      a walk put these new contents into the table, found again as `held` says.      IsLost      it failed
-use Rattle.std.specs.Prelude.{◌≡◌, ℕ, ◌+◌, ◌<◌, ◌&&◌, ◌==◌, Bool, false, List, [], ◌∷◌, ◌++◌, map, Option, Some, None, if◌then◌else◌, IsTrue}
+use Rattle.std.specs.Prelude.{◌≡◌, ℕ, ◌+◌, ◌<◌, ◌&&◌, ◌==◌, Bool, List, [], ◌∷◌, ◌++◌, map, Option, Some, None, if◌then◌else◌, IsTrue}
 use Rattle.std.specs.List.{AllByRecursion}
+use Rattle.ip_ground.specs.Counts.{Counted, as_nothing}
 use Rattle.sha2.specs.Sha256.{sha256}
 use Rattle.ip_base.specs.declared.limit.Limit.TheVariants.{Contents}
 use Rattle.ip_ground.specs.Told.{Told}
-use Rattle.ip_space.specs.Faults.{ground_fetch}
+use Rattle.ip_space.specs.Faults.{counted_fetch}
 use Rattle.ip_space.specs.SpaceView.{SpaceView, IsReadable, records_of}
 use Rattle.ip_space.specs.declared.fault.FetchFault.TheVariants as fetch
 use Rattle.ip_spec.specs.Path.{Bytes, Step, same_bytes}
@@ -139,9 +140,9 @@ look_fault (fault.Limit l) = Limit l
 look_fault (fault.Fetch f) = Fetch f
 look_fault fault.Memory = Memory
 
-abbrev pub ground_save : SaveFault → Bool
-ground_save (Fetch f) = ground_fetch f
-ground_save other = false
+abbrev pub counted_save : SaveFault → Counted
+counted_save (Fetch f) = counted_fetch f
+counted_save other = as_nothing
 
 abbrev pub IsSaveCause : Bool → Told → SpaceView → SaveFault → Type 0
 IsSaveCause tells told space (Fetch f) = IsCause tells told space (fault.Fetch f)

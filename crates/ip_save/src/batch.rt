@@ -3,7 +3,7 @@ ghost use Rattle.std.specs.Prelude.{◌≡◌, ◌+◌, ◌<◌, ◌≤◌, ℕ,
 ghost use Rattle.ip_ground.specs.Counts.{Counts};
 ghost use Rattle.ip_base.specs.declared.limit.TheConstants.{OFFSET_MAX};
 ghost use Rattle.ip_save.specs.Batches.{AreFields, HasShortContents, IsBatch, IsFirst, IsSaveFault, fields_told};
-ghost use Rattle.ip_save.specs.Reused.{IsSaveCause, IsUnfetched, ground_save};
+ghost use Rattle.ip_save.specs.Reused.{IsSaveCause, IsUnfetched, counted_save};
 ghost use Rattle.ip_spec.specs.declared.record.Record.{Record};
 ghost use Rattle.ip_spec.specs.View.{View};
 ghost use Rattle.ip_tree.specs.Reads.{IsOver, Looks};
@@ -98,7 +98,7 @@ impl Batch {
         ensures some { IfOk result (λ batch. 0 < length batch.bytes.items) }
         ensures placed { IfOk result (λ batch. (end ≤ batch.commit_at) × (batch.commit_at < end + length batch.bytes.items)) }
         ensures looks { Looks G.tells (G.told outside.old) (G.told outside.new) space.old space.new }
-        ensures counts { Counts ground_save result (G.counts_of outside.old) (G.counts_of outside.new) }
+        ensures counts { Counts counted_save result (G.counts_of outside.old) (G.counts_of outside.new) }
         ensures causes { IfErr result (IsSaveCause G.tells (G.told outside.old) space.old) }
         // without another tree the ground is not asked
         ensures alone { first ≡ None → (outside.new ≡ outside.old) × (space.new ≡ space.old) × IfErr result IsUnfetched }

@@ -5,7 +5,7 @@ ghost use Rattle.ip_ground.specs.Counts.{Counts};
 ghost use Rattle.ip_save.specs.Batches.{IsFirst};
 ghost use Rattle.ip_save.specs.Laid.{BeginsWith, IsShort, fresh, fresh_root, longest, longest_root, nodes_in, tallies, tallies_among, tallies_root};
 ghost use Rattle.ip_save.specs.Reused.{AreHashed, IsDirectoryThere, IsFound, IsFreeSave, IsFreshFault, IsLost, IsSaveCause, IsThere, IsUnfetched};
-ghost use Rattle.ip_save.specs.Reused.{again, again_among, again_root, as_directory, bytes_in, entry_at, found_in, ground_save, held_by, look_fault, reference_in, same_contents};
+ghost use Rattle.ip_save.specs.Reused.{again, again_among, again_root, as_directory, bytes_in, entry_at, found_in, counted_save, held_by, look_fault, reference_in, same_contents};
 ghost use Rattle.ip_space.specs.SpaceView.{IsReadable, records_of};
 ghost use Rattle.ip_spec.specs.View.{View};
 ghost use Rattle.ip_spec.specs.declared.kind.TheConstants as kinds;
@@ -59,7 +59,7 @@ pub fn find_fresh<'a, G: Ground>(
     ensures free { IsTrue G.tells → (records : ℕ → Option Record) (other : Option View) → IsOver (G.told outside.old) space.old records → IsFirst records first other → IfErr result IsFreeSave }
     ensures cause { IfErr result (IsFreshFault (longest_root (shown_root root.now))) }
     ensures looks { Looks G.tells (G.told outside.old) (G.told outside.new) space.old space.new }
-    ensures counts { Counts ground_save result (G.counts_of outside.old) (G.counts_of outside.new) }
+    ensures counts { Counts counted_save result (G.counts_of outside.old) (G.counts_of outside.new) }
     ensures causes { IfErr result (IsSaveCause G.tells (G.told outside.old) space.old) }
     ensures alone { first ≡ None → (outside.new ≡ outside.old) × (space.new ≡ space.old) × IfErr result IsUnfetched }
 {
@@ -87,7 +87,7 @@ fn find_in<'a, G: Ground>(
     ensures found { BeginsWith (tallies_among (nodes_in dir.now)) ahead.now → MatchResult result (λ _. IsFound G.tells (G.told outside.old) space.old (fresh (shown_directory dir.now)) (λ records. again_among records (nodes_in dir.now) other.now) out.old.items out.new.items)
         (IsLost G.tells (G.told outside.old) space.old (longest (shown_directory dir.now)) (λ records. IsDirectoryThere records other.now)) }
     ensures looks { Looks G.tells (G.told outside.old) (G.told outside.new) space.old space.new }
-    ensures counts { Counts ground_save result (G.counts_of outside.old) (G.counts_of outside.new) }
+    ensures counts { Counts counted_save result (G.counts_of outside.old) (G.counts_of outside.new) }
     ensures alone { other.now ≡ None → (outside.new ≡ outside.old) × (space.new ≡ space.old) × IfErr result IsUnfetched }
 {
     let mut left = ahead;
@@ -115,7 +115,7 @@ fn find_at<'a, G: Ground>(
     ensures found { BeginsWith (tallies (shown node.now)) ahead.now → MatchResult result (λ _. IsFound G.tells (G.told outside.old) space.old (fresh (shown node.now)) (λ records. again records (shown node.now) (entry_at records step.now other.now)) out.old.items out.new.items)
         (IsLost G.tells (G.told outside.old) space.old (longest (shown node.now)) (λ records. IsDirectoryThere records other.now)) }
     ensures looks { Looks G.tells (G.told outside.old) (G.told outside.new) space.old space.new }
-    ensures counts { Counts ground_save result (G.counts_of outside.old) (G.counts_of outside.new) }
+    ensures counts { Counts counted_save result (G.counts_of outside.old) (G.counts_of outside.new) }
     ensures alone { other.now ≡ None → (outside.new ≡ outside.old) × (space.new ≡ space.old) × IfErr result IsUnfetched }
 {
     match node {
@@ -147,7 +147,7 @@ fn find_one<'a, G: Ground>(
     ensures found { MatchResult result (λ _. IsFound G.tells (G.told outside.old) space.old (bytes.now ∷ []) (λ records. held_by records bytes.now (entry_at records step.now other.now) ∷ []) out.old.items out.new.items)
         (IsLost G.tells (G.told outside.old) space.old (length bytes.now) (λ records. IsDirectoryThere records other.now)) }
     ensures looks { Looks G.tells (G.told outside.old) (G.told outside.new) space.old space.new }
-    ensures counts { Counts ground_save result (G.counts_of outside.old) (G.counts_of outside.new) }
+    ensures counts { Counts counted_save result (G.counts_of outside.old) (G.counts_of outside.new) }
     ensures alone { other.now ≡ None → (outside.new ≡ outside.old) × (space.new ≡ space.old) × IfErr result IsUnfetched }
 {
     if bytes.len() > CONTENTS_MAX {
@@ -177,7 +177,7 @@ fn held_at<G: Ground>(
     ensures found { IsTrue G.tells → IsReadable (G.told outside.old) space.old → IfOk result (λ at. at ≡ held_by (records_of (G.told outside.old) space.old) bytes.now (entry_at (records_of (G.told outside.old) space.old) step.now other.now)) }
     ensures lost { IfErr result (IsLost G.tells (G.told outside.old) space.old 0 (λ records. IsDirectoryThere records other.now)) }
     ensures looks { Looks G.tells (G.told outside.old) (G.told outside.new) space.old space.new }
-    ensures counts { Counts ground_save result (G.counts_of outside.old) (G.counts_of outside.new) }
+    ensures counts { Counts counted_save result (G.counts_of outside.old) (G.counts_of outside.new) }
     ensures alone { other.now ≡ None → (result ≡ Ok None) × (outside.new ≡ outside.old) × (space.new ≡ space.old) }
 {
     match entry_at(outside, space, step, other) {
@@ -197,7 +197,7 @@ fn directory_at<G: Ground>(
     ensures there { IsTrue G.tells → (records : ℕ → Option Record) → IsOver (G.told outside.old) space.old records → IsDirectoryThere records other.now → IfOk result (IsDirectoryThere records) }
     ensures lost { IfErr result (IsLost G.tells (G.told outside.old) space.old 0 (λ records. IsDirectoryThere records other.now)) }
     ensures looks { Looks G.tells (G.told outside.old) (G.told outside.new) space.old space.new }
-    ensures counts { Counts ground_save result (G.counts_of outside.old) (G.counts_of outside.new) }
+    ensures counts { Counts counted_save result (G.counts_of outside.old) (G.counts_of outside.new) }
     ensures alone { other.now ≡ None → (result ≡ Ok None) × (outside.new ≡ outside.old) × (space.new ≡ space.old) }
 {
     match entry_at(outside, space, step, other) {
@@ -229,7 +229,7 @@ fn entry_at<G: Ground>(
     ensures there { IsTrue G.tells → (records : ℕ → Option Record) → IsOver (G.told outside.old) space.old records → IsDirectoryThere records other.now → IfOk result (IsThere records) }
     ensures lost { IfErr result (IsLost G.tells (G.told outside.old) space.old 0 (λ records. IsDirectoryThere records other.now)) }
     ensures looks { Looks G.tells (G.told outside.old) (G.told outside.new) space.old space.new }
-    ensures counts { Counts ground_save result (G.counts_of outside.old) (G.counts_of outside.new) }
+    ensures counts { Counts counted_save result (G.counts_of outside.old) (G.counts_of outside.new) }
     ensures alone { other.now ≡ None → (result ≡ Ok None) × (outside.new ≡ outside.old) × (space.new ≡ space.old) }
 {
     let Some(reference) = other else {
@@ -272,7 +272,7 @@ fn held_by<G: Ground>(
     ensures found { IsTrue G.tells → IsReadable (G.told outside.old) space.old → IfOk result (λ at. at ≡ held_by (records_of (G.told outside.old) space.old) bytes.now entry.now) }
     ensures lost { IfErr result (IsLost G.tells (G.told outside.old) space.old 0 (λ records. IsThere records entry.now)) }
     ensures looks { Looks G.tells (G.told outside.old) (G.told outside.new) space.old space.new }
-    ensures counts { Counts ground_save result (G.counts_of outside.old) (G.counts_of outside.new) }
+    ensures counts { Counts counted_save result (G.counts_of outside.old) (G.counts_of outside.new) }
     ensures alone { entry.now ≡ None → (result ≡ Ok None) × (outside.new ≡ outside.old) × (space.new ≡ space.old) }
 {
     let Some(reference) = entry else {
@@ -303,7 +303,7 @@ fn held_in<G: Ground>(
         IfOk result (λ at. at ≡ same_contents bytes.now reference.now.at (records_of (G.told outside.old) space.old reference.now.at)) }
     ensures lost { IfErr result (IsLost G.tells (G.told outside.old) space.old 0 (λ records. IsThere records (Some reference.now))) }
     ensures looks { Looks G.tells (G.told outside.old) (G.told outside.new) space.old space.new }
-    ensures counts { Counts ground_save result (G.counts_of outside.old) (G.counts_of outside.new) }
+    ensures counts { Counts counted_save result (G.counts_of outside.old) (G.counts_of outside.new) }
 {
     let at = reference.at;
     match space.bring(outside, *reference) {

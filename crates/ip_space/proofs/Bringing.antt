@@ -1,12 +1,11 @@
 -- What bringing a record comes to.
 --     Brings tells told space r kept result      what is said of it, where this is kept at the reference then
---     brings_by, counts_by      of a record that stands there.      misses      where none was read
---     again_reads, again_brings, again_counts      of one that was kept.      new_reads, new_brings      of one that was read
-use Rattle.std.proofs.Common.{◌≡◌, ℕ, Bool, List, Option, Some, None, Result, Ok, Err, IsTrue, IfOk, IsSome, refl, sym, ◌∙◌, ap, subst}
-use Rattle.ip_ground.specs.Told.{Told, NoFile}
-use Rattle.ip_ground.specs.Counts.{Counts}
-use Rattle.ip_ground.specs.declared.names.GroundCounts.{GroundCounts}
-use Rattle.ip_ground.proofs.Spans.{only_nowhere}
+--     brings_by, no_ground      of a record that stands there.      misses      where none was read
+--     again_reads, again_brings, again_known, again_no_ground      of one that was kept.      none_known      where none was.      new_reads, new_brings      of one that was read
+--     copied_known, spared_so      of a copy
+use Rattle.std.proofs.Common.{◌≡◌, ℕ, Bool, List, Option, Some, None, Result, Ok, Err, IsTrue, IfOk, IsSome, IsErrOf, MatchResult, inl, inr, refl, sym, ◌∙◌, ap, subst}
+use Rattle.ip_ground.specs.Told.{Told, NoFile, ChangesOnly}
+use Rattle.ip_ground.proofs.Passing.{changes_nothing_on}
 use Rattle.ip_spec.specs.declared.record.Record.{Record}
 use Rattle.ip_spec.specs.declared.record.Ref.{Ref}
 use Rattle.ip_spec.specs.declared.record.RecordFault.{RecordFault}
@@ -14,8 +13,7 @@ use Rattle.ip_spec.specs.Record.{Fits}
 use Rattle.ip_image.specs.Slot.{newest_version}
 use Rattle.ip_image.specs.Stored.{record_read}
 use Rattle.ip_space.specs.SpaceView.{SpaceView, IsReadable, OnlyReads, kept_at, records_of, read_at}
-use Rattle.ip_space.specs.Faults.{ground_fetch}
-use Rattle.ip_space.specs.Fetching.{Fetches, IsBecause, Blames, BlamesPlace, Meets, Refers, ReadsOne, form_fault}
+use Rattle.ip_space.specs.Fetching.{Fetches, IsBecause, Blames, BlamesPlace, Meets, Refers, IsFoundOf, TellsDamage, ReadsOne, form_fault}
 use Rattle.ip_space.specs.Kept.{GainsNone, GainsAtMost, IsKnown, answer_of, brought, found_again}
 use Rattle.ip_space.specs.declared.fault.FetchFault.{FetchFault}
 use Rattle.ip_space.specs.declared.fault.FetchFault.TheVariants.{Ground, Form, Name, Memory}
@@ -81,12 +79,12 @@ brings_by tells told space r kept result rec fits read refers = record {
   bounds = bounds_of rec r fits (brought kept result) refers;
 }
 
-pub counts_by : (rec : Record) (r : Ref) (kept : Option Record) (result : Found) → Refers rec r (brought kept result) → (old new : GroundCounts) → new ≡ old → Counts ground_fetch result old new
-counts_by rec r kept (Ok found) refers old new same = same
-counts_by rec r kept (Err Ground) refers old new same = absurd refers
-counts_by rec r kept (Err (Form at fault)) refers old new same = same
-counts_by rec r kept (Err (Name at want got)) refers old new same = same
-counts_by rec r kept (Err Memory) refers old new same = absurd refers
+pub no_ground : (rec : Record) (r : Ref) (kept : Option Record) (result : Found) → Refers rec r (brought kept result) → IsErrOf result Ground → ⊥
+no_ground rec r kept (Ok found) refers is = absurd (cc is)
+no_ground rec r kept (Err Ground) refers is = refers
+no_ground rec r kept (Err (Form at fault)) refers is = absurd (cc is)
+no_ground rec r kept (Err (Name at want got)) refers is = absurd (cc is)
+no_ground rec r kept (Err Memory) refers is = refers
 
 -- ---- of one that was kept
 
@@ -113,11 +111,20 @@ module _ (told : Told) (old new : SpaceView) (r : Ref) (answer : Result (Unit {0
   again_brings tells = brings_by tells told old r (kept_at r.at new.kept) result known.rec known.fits
       (λ t readable. read_as_some (read_at told old r.at) known.rec (sym (record_there told old r.at) ∙ kept_stands (records_of told old) old.kept readable.kept r.at known.rec known.is)) again_refers
 
-  pub again_counts : (counts : GroundCounts) → Counts ground_fetch result counts counts
-  again_counts counts = counts_by known.rec r (kept_at r.at new.kept) result again_refers counts counts refl
+  pub again_known : (rec : Record) → kept_at r.at old.kept ≡ Some rec → Refers rec r (brought (kept_at r.at new.kept) result)
+  again_known rec there =
+      let same : known.rec ≡ rec = cc (sym known.is ∙ there) in
+      subst (λ (x : Record). Refers x r (brought (kept_at r.at new.kept) result)) same again_refers
 
-pub again_reads : (told : Told) (old new : SpaceView) → new.layout ≡ old.layout → new.runs ≡ old.runs → GainsNone old.kept new.kept → OnlyReads told told old new
-again_reads told old new layout runs none = only_reads_kept told told (only_nowhere told NoFile) old new layout runs (λ readable. current_none (records_of told old) old.kept new.kept readable.kept none)
+  pub again_no_ground : IsErrOf result Ground → ⊥
+  again_no_ground = no_ground known.rec r (kept_at r.at new.kept) result again_refers
+
+pub again_reads : (told now : Told) → ChangesOnly NoFile told now → (old new : SpaceView) → new.layout ≡ old.layout → new.runs ≡ old.runs → GainsNone old.kept new.kept → OnlyReads told now old new
+again_reads told now only old new layout runs none = only_reads_kept told now only old new layout runs (λ readable. current_none (records_of told old) old.kept new.kept readable.kept none)
+
+-- none is known where none is kept
+pub none_known : (kept : Option Record) (r : Ref) → IsKnown kept r None → (rec : Record) → kept ≡ Some rec → ⊥
+none_known kept r none rec some = absurd (cc (sym none ∙ some))
 
 -- ---- of one that was read
 
@@ -150,7 +157,21 @@ module _ (told now : Told) (old mid new : SpaceView) (r : Ref) (rec : Record) (n
   new_brings tells result fits read refers = brings_by tells told old r (kept_at r.at new.kept) result rec fits (λ t readable. record { length = n; is = read t readable }) refers
 
   pub new_reads : OnlyReads told now old mid → mid.kept ≡ old.kept → (IsReadable told old → read_at told old r.at ≡ Ok (rec, n)) → new.layout ≡ mid.layout → new.runs ≡ mid.runs → GainsAtMost r.at rec mid.kept new.kept
-      → OnlyReads told now old new
-  new_reads reads same read layout runs gains = only_reads_kept told now reads.only old new (layout ∙ reads.layout) (runs ∙ reads.runs)
+      → (after : Told) → ChangesOnly NoFile now after → OnlyReads told after old new
+  new_reads reads same read layout runs gains after only = only_reads_kept told after (changes_nothing_on told now after reads.only only) old new (layout ∙ reads.layout) (runs ∙ reads.runs)
       (λ readable. current_one (records_of told old) old.kept new.kept readable.kept r.at rec (subst (λ (k : List (ℕ × Record)). GainsAtMost r.at rec k new.kept) same gains)
       (record_there told old r.at ∙ ap record_read (read readable)))
+
+-- ---- of a copy
+
+pub copied_known : (rec : Record) (r : Ref) (kept : Option Record) (result : Answer) → Refers rec r (brought kept (Ok None)) → MatchResult result (λ x. kept ≡ Some x) (λ fault. fault ≡ Memory) → IsFoundOf rec r result
+copied_known rec r kept (Ok x) refers is = inl (subst (λ (k : Option Record). Refers rec r (brought k (Ok None))) is refers)
+copied_known rec r (Some x) (Err fault) refers is = inr (ap Err is, refers.1)
+copied_known rec r None (Err fault) refers is = absurd refers
+
+-- a fault says the same of either answer
+pub spared_so : (fault : FetchFault) → (TellsDamage {A = Record} (Err fault) → ⊥) → TellsDamage {A = Option Record} (Err fault) → ⊥
+spared_so Ground none tells = tells
+spared_so (Form at fault) none tells = none tells
+spared_so (Name at want got) none tells = none tells
+spared_so Memory none tells = tells

@@ -10,6 +10,7 @@ pub mod Cached
 pub mod Current
 pub mod Bringing
 pub mod Passing
+pub mod Borders
 pub mod Lying
 pub mod Laws
 pub mod Stretches

@@ -1,9 +1,10 @@
 -- What reading the live mapping and prefix comes to.
 --     no_front, bad_numbers, no_length      bytes that are no mapping of the layout.      parsed, parse_failed      what parsing them gives
 --     whole_read      one read gives the bytes of a file.      measured      its length, where an absent one has none
---     mapping_later, own_later      over calls that change no file.      not_filled, pair_found, pair_refused      the tests behind the rows
+--     rows_length, parse_wants, read_refused, mapping_refused      where memory is wanted the length is right
+--     held_later, length_later, mapping_later, own_later, prefix_later      over calls that change no file.      not_filled, pair_found, pair_refused      the tests behind the rows
 use Rattle.std.proofs.Common.{◌≡◌, ◌≢◌, ℕ, ◌+◌, ◌*◌, List, [], ◌∷◌, ◌++◌, length, take, drop, refl, sym, ◌∙◌, ap, subst, arith, map}
-use Rattle.std.specs.Prelude.{Option, Some, None, Ok, Err, option_map, flat_map}
+use Rattle.std.specs.Prelude.{Option, Some, None, Ok, Err, option_map, flat_map, IsSomeAnd}
 use Rattle.std.specs.Option.{unwrap_or}
 use Rattle.std.proofs.lemmas.List.{take_all, take-append-le}
 use Rattle.ip_ground.specs.declared.names.FileName.{FileName}
@@ -22,7 +23,7 @@ use Rattle.ip_mapping.specs.Parsing as parsing
 use Rattle.ip_mapping.specs.declared.head.Head.{Head}
 use Rattle.ip_mapping.proofs.Numbers.{length_rows}
 use Rattle.ip_mapping.proofs.Outcomes.{IsSmall, file_begins, its_head}
-use Rattle.ip_space.specs.Pair.{PrefixFits, IsBadPair, no_mapping, no_row, no_sum, no_prefix, HasNumbers, FindsPrefix, FindsPair, FindsSpace}
+use Rattle.ip_space.specs.Pair.{PrefixFits, IsBadPair, no_mapping, no_row, no_sum, no_prefix, HasNumbers, HasRowsLength, FindsMapping, FindsPrefix, FindsPair, FindsSpace}
 use Rattle.ip_space.specs.declared.fault.SpaceFault.{SpaceFault}
 use Rattle.ip_space.specs.declared.fault.SpaceFault.TheVariants.{Ground, Damaged, Memory}
 
@@ -110,6 +111,27 @@ no_length image s size is other = no_mapping (λ rows found.
     let count = found.count in
     other (sym is ∙ ap size_of found.file ∙ file_size m ∙ ap (λ (n : ℕ). 32 + 24 * n) count))
 
+-- a mapping has the length of its rows
+pub rows_length : (image : Image) (s : Layout) (rows : List Row) → MappingIs image s rows → HasRowsLength image s
+rows_length image s rows found =
+    let m : Fields = record { horizon = s.horizon; end = found.end; rows = rows } in
+    let count = found.count in
+    ap size_of found.file ∙ file_size m ∙ ap (λ (n : ℕ). 32 + 24 * n) count
+
+pub parse_wants : (image : Image) (s : Layout) (bytes : Bytes) → bytes_of (image (Mapping s.live)) ≡ bytes → (head : Head) → IsSmall head → Begins bytes head → HasNumbers s head → (m : Fields) × IsForm bytes m → HasRowsLength image s
+parse_wants image s bytes here head few begins right m = rows_length image s m.0.rows (mapping_is image s bytes here head few begins right m.0 m.1)
+
+-- what is no mapping yet has the length of one
+pub read_refused : (image : Image) (s : Layout) (fault : SpaceFault) → ((file : FileName) (at : ℕ) → fault ≡ Damaged file at → ⊥) → HasRowsLength image s → FindsMapping image s (Err fault)
+read_refused image s Ground none length = tt
+read_refused image s (Damaged file at) none length = absurd (none file at refl)
+read_refused image s Memory none length = length
+
+pub mapping_refused : (image : Image) (s : Layout) (fault : SpaceFault) → FindsMapping image s (Err fault) → FindsPair image s (Err fault)
+mapping_refused image s Ground found = tt
+mapping_refused image s (Damaged file at) found = found
+mapping_refused image s Memory found = found
+
 pub measured : (content : Content) (found : Option ℕ) → found ≡ option_map length content → size_of content ≡ unwrap_or found 0
 measured None found is = sym (ap (λ (f : Option ℕ). unwrap_or f 0) is)
 measured (Some bytes) found is = sym (ap (λ (f : Option ℕ). unwrap_or f 0) is)
@@ -136,6 +158,9 @@ module _ (a b : Told) (only : ChangesOnly NoFile a b) (s : Layout) where
   pub own_later : (file : FileName) → ¬ IsForeign a file → ¬ IsForeign b file
   own_later file own = (only.others file (λ none. none)).own own
 
+  pub length_later : ¬ IsForeign a (Mapping s.live) → HasRowsLength a.held s → HasRowsLength b.held s
+  length_later own length = ap size_of (held_later (Mapping s.live) own) ∙ length
+
   pub mapping_later : ¬ IsForeign a (Mapping s.live) → (rows : List Row) → MappingIs a.held s rows → MappingIs b.held s rows
   mapping_later own rows is = record {
     end = is.end;
@@ -145,6 +170,9 @@ module _ (a b : Told) (only : ChangesOnly NoFile a b) (s : Layout) where
     above = is.above;
     inside = is.inside;
   }
+
+  pub prefix_later : ¬ IsForeign a (Prefix s.live) → PrefixFits b.held s → PrefixFits a.held s
+  prefix_later own fits = subst (λ (content : Content). IsSomeAnd content (λ bytes. length bytes ≡ s.prefix_len)) (held_later (Prefix s.live) own) fits
 
 -- ---- behind the rows
 
@@ -164,4 +192,4 @@ module _ (image : Image) (s : Layout) (rows : List Row) (is : MappingIs image s 
 pub space_refused : (image : Image) (s : Layout) (fault : SpaceFault) → FindsPair image s (Err fault) → FindsSpace image s (Err fault)
 space_refused image s Ground found = tt
 space_refused image s (Damaged file at) found = found
-space_refused image s Memory found = tt
+space_refused image s Memory found = found

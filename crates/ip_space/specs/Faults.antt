@@ -1,17 +1,17 @@
--- Which faults are the ground's.
-use Rattle.std.specs.Prelude.{Bool, true, false}
+-- As what faults are counted.
+use Rattle.ip_ground.specs.Counts.{Counted, as_nothing, as_fault, as_damage}
 use Rattle.ip_space.specs.declared.fault.FetchFault.{FetchFault}
 use Rattle.ip_space.specs.declared.fault.FetchFault.TheVariants as fetch
 use Rattle.ip_space.specs.declared.fault.SpaceFault.{SpaceFault}
 use Rattle.ip_space.specs.declared.fault.SpaceFault.TheVariants as space
 
-abbrev pub ground_fetch : FetchFault → Bool
-ground_fetch fetch.Ground = true
-ground_fetch (fetch.Form at fault) = false
-ground_fetch (fetch.Name at want got) = false
-ground_fetch fetch.Memory = false
+abbrev pub counted_fetch : FetchFault → Counted
+counted_fetch fetch.Ground = as_fault
+counted_fetch (fetch.Form at fault) = as_damage
+counted_fetch (fetch.Name at want got) = as_damage
+counted_fetch fetch.Memory = as_nothing
 
-abbrev pub ground_space : SpaceFault → Bool
-ground_space space.Ground = true
-ground_space (space.Damaged file at) = false
-ground_space space.Memory = false
+abbrev pub counted_space : SpaceFault → Counted
+counted_space space.Ground = as_fault
+counted_space (space.Damaged file at) = as_damage
+counted_space space.Memory = as_nothing

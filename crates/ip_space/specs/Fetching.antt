@@ -3,11 +3,12 @@
 --     Fetches records r result      the record at the reference, or what is wrong there
 --     IsFetched found result      it is the record, or no fault of the files
 --     IsBecause read result      the fault of the form says why.      Blames r result      what a fault says of the reference, whatever is told
---     Refers rec r result      what comes of a record that was read there
+--     Refers rec r result      what comes of a record that was read there.      IsFoundOf rec r result      so, or memory was refused for a copy of it
 --     ReadsOne read result      what reading the record at a place answers.      BlamesPlace at result      what a fault says of the place
 --     FindsRecord records at result      the record at a place, with its length, or that there is none
 --     IsReadFault result      of the bytes nothing is said
-use Rattle.std.specs.Prelude.{◌≡◌, ◌≢◌, ℕ, Option, Some, None, Result, Ok, Err}
+--     TellsDamage result      the fault is of the files
+use Rattle.std.specs.Prelude.{◌≡◌, ◌≢◌, ◌⊎◌, ℕ, Option, Some, None, Result, Ok, Err}
 use Rattle.ip_base.specs.declared.hash.Hash.{Hash}
 use Rattle.ip_spec.specs.declared.record.Record.{Record}
 use Rattle.ip_spec.specs.declared.record.Ref.{Ref}
@@ -79,6 +80,10 @@ Refers rec r (Err (Form at fault)) = (at ≡ r.at) × (fault ≡ RecordFault.Kin
 Refers rec r (Err (Name at want got)) = (at ≡ r.at) × (want ≡ r.name) × (got ≢ want) × (reference_kind rec ≡ r.kind) × (name_of rec ≡ Some got)
 Refers rec r (Err Memory) = ⊥
 
+-- a copy of it may want memory
+abbrev pub IsFoundOf : Record → Ref → Result Record FetchFault → Type 0
+IsFoundOf rec r result = Refers rec r result ⊎ ((result ≡ Err Memory) × Meets r rec)
+
 -- ---- without a reference
 
 abbrev pub ReadsOne : Result (Record × ℕ) RecordFault → Result (Record × ℕ) FetchFault → Type 0
@@ -108,3 +113,10 @@ IsReadFault (Err Ground) = Unit {0}
 IsReadFault (Err (Form at fault)) = ⊥
 IsReadFault (Err (Name at want got)) = ⊥
 IsReadFault (Err Memory) = Unit {0}
+
+abbrev pub TellsDamage : {A : Type 0} → Result A FetchFault → Type 0
+TellsDamage (Ok x) = ⊥
+TellsDamage (Err Ground) = ⊥
+TellsDamage (Err (Form at fault)) = Unit {0}
+TellsDamage (Err (Name at want got)) = Unit {0}
+TellsDamage (Err Memory) = ⊥

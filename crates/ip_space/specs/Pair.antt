@@ -3,11 +3,12 @@
 --     IsOwnPair told s      no child changes them
 --     IsBadPair image s file at      the first of their tests that fails, each resting on those before it
 --     HasNumbers s head      the numbers in front of a mapping are the layout's
+--     HasRowsLength image s      the mapping's file has the length of its rows
 --     FindsMapping, FindsPrefix, FindsPair, FindsSpace image s result      what reading them comes to
 use Rattle.std.specs.Prelude.{◌≡◌, ◌≢◌, ℕ, ◌+◌, ◌*◌, ◌<◌, ◌≤◌, List, [], ◌∷◌, ◌++◌, length, map, IsSomeAnd, Result, Ok, Err}
 use Rattle.ip_ground.specs.declared.names.FileName.{FileName}
 use Rattle.ip_ground.specs.declared.names.FileName.TheVariants.{Prefix, Mapping}
-use Rattle.ip_ground.specs.Contents.{Image}
+use Rattle.ip_ground.specs.Contents.{Image, size_of}
 use Rattle.ip_ground.specs.Told.{Told, IsForeign}
 use Rattle.ip_image.specs.declared.layout.Layout.{Layout}
 use Rattle.ip_image.specs.declared.run.Row.{Row}
@@ -47,12 +48,16 @@ pub record HasNumbers (s : Layout) (head : Head) : Type 0 where
   pub above : s.horizon < head.end
   pub inside : head.end ≤ s.end
 
--- want of memory and a failed call say nothing
+-- the mapping's file is as long as its rows
+abbrev pub HasRowsLength : Image → Layout → Type 0
+HasRowsLength image s = size_of (image (live_mapping s)) ≡ 32 + 24 * s.rows
+
+-- A failed call says nothing. Memory is wanted only for a mapping of the right length: any other is damage.
 abbrev pub FindsMapping : Image → Layout → Result Fields SpaceFault → Type 0
 FindsMapping image s (Ok m) = MappingIs image s m.rows × RowsFit s.horizon m.rows
 FindsMapping image s (Err Ground) = Unit {0}
 FindsMapping image s (Err (Damaged file at)) = IsBadPair image s file at
-FindsMapping image s (Err Memory) = Unit {0}
+FindsMapping image s (Err Memory) = HasRowsLength image s
 
 abbrev pub FindsPrefix : Image → Layout → Result (Unit {0}) SpaceFault → Type 0
 FindsPrefix image s (Ok u) = PrefixFits image s
@@ -64,10 +69,10 @@ abbrev pub FindsPair : Image → Layout → Result Fields SpaceFault → Type 0
 FindsPair image s (Ok m) = Generation image s m.rows
 FindsPair image s (Err Ground) = Unit {0}
 FindsPair image s (Err (Damaged file at)) = IsBadPair image s file at
-FindsPair image s (Err Memory) = Unit {0}
+FindsPair image s (Err Memory) = HasRowsLength image s
 
 abbrev pub FindsSpace : Image → Layout → Result SpaceView SpaceFault → Type 0
 FindsSpace image s (Ok space) = (rows : List Row) × Generation image s rows × (space.runs ≡ map run_of rows)
 FindsSpace image s (Err Ground) = Unit {0}
 FindsSpace image s (Err (Damaged file at)) = IsBadPair image s file at
-FindsSpace image s (Err Memory) = Unit {0}
+FindsSpace image s (Err Memory) = HasRowsLength image s

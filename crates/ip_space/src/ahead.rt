@@ -1,6 +1,6 @@
 // Bytes that were read ahead, and the record that they begin with.
 ghost use Rattle.std.specs.Prelude.{◌≡◌, ◌+◌, ◌-◌, ◌≤◌, [], length, take, drop, IsTrue, IfOk, OnOk, OnErr, IsErrOf};
-ghost use Rattle.ip_space.specs.Faults.{ground_fetch};
+ghost use Rattle.ip_space.specs.Faults.{counted_fetch};
 ghost use Rattle.ip_ground.specs.Counts.{Counts, CountsAs, FileFault};
 ghost use Rattle.ip_ground.specs.Told.{NoFile, ChangesOnly};
 ghost use Rattle.ip_spec.specs.Record.{Fits, spelling};
@@ -15,6 +15,7 @@ ghost use Rattle.ip_space.specs.Filling.{GoesOn, Fills};
 ghost use Rattle.ip_space.specs.declared.fault.FetchFault.TheVariants as FetchFault;
 
 use crate::FetchFault;
+use crate::noting::note;
 use crate::source::Source;
 use ip_base::limit::CONTENTS_MAX;
 use ip_base::{Cursor, Memory};
@@ -118,10 +119,12 @@ impl Ahead {
         ensures found { IfOk result (λ found. Fits newest_version found.0 × (found.1 ≡ length (spelling found.0)) × (found.1 ≤ length (held_in self.new))) }
         ensures spelled { IfOk result (λ found. BeginsWith (spelling found.0) (held_in self.new)) }
         ensures only { IsTrue G.tells → ChangesOnly NoFile (G.told outside.old) (G.told outside.new) }
-        ensures counts { Counts ground_fetch result (G.counts_of outside.old) (G.counts_of outside.new) }
+        ensures counts { Counts counted_fetch result (G.counts_of outside.old) (G.counts_of outside.new) }
     {
         self.fill(source, outside, at, stretch, to)?;
-        front_record(alloc, at, self.held())
+        let found = front_record(alloc, at, self.held());
+        note(outside, &found);
+        found
     }
 
     // Reads until the bytes tell the record that they begin with.
@@ -141,7 +144,7 @@ impl Ahead {
         ensures fills { IsTrue G.tells → IsReadable (G.told outside.old) (view_of source.now) → Fills at (view_of source.now) (held_in self.old) (held_in self.new) result (G.told outside.old) (G.told outside.new) }
         ensures only { IsTrue G.tells → ChangesOnly NoFile (G.told outside.old) (G.told outside.new) }
         ensures fault { IsReadFault result }
-        ensures counts { Counts ground_fetch result (G.counts_of outside.old) (G.counts_of outside.new) }
+        ensures counts { Counts counted_fetch result (G.counts_of outside.old) (G.counts_of outside.new) }
     {
         self.fill_head(source, outside, at, stretch, to)?;
         self.fill_body(source, outside, at, stretch, to)
@@ -164,7 +167,7 @@ impl Ahead {
         ensures goes { IsTrue G.tells → IsReadable (G.told outside.old) (view_of source.now) → GoesOn at 5 (view_of source.now) (held_in self.old) (held_in self.new) result (G.told outside.old) (G.told outside.new) }
         ensures only { IsTrue G.tells → ChangesOnly NoFile (G.told outside.old) (G.told outside.new) }
         ensures fault { IsReadFault result }
-        ensures counts { Counts ground_fetch result (G.counts_of outside.old) (G.counts_of outside.new) }
+        ensures counts { Counts counted_fetch result (G.counts_of outside.old) (G.counts_of outside.new) }
     {
         if self.stop - self.start >= HEAD {
             return Ok(());
@@ -190,7 +193,7 @@ impl Ahead {
         ensures goes { IsTrue G.tells → IsReadable (G.told outside.old) (view_of source.now) → GoesOn at (needed (held_in self.old)) (view_of source.now) (held_in self.old) (held_in self.new) result (G.told outside.old) (G.told outside.new) }
         ensures only { IsTrue G.tells → ChangesOnly NoFile (G.told outside.old) (G.told outside.new) }
         ensures fault { IsReadFault result }
-        ensures counts { Counts ground_fetch result (G.counts_of outside.old) (G.counts_of outside.new) }
+        ensures counts { Counts counted_fetch result (G.counts_of outside.old) (G.counts_of outside.new) }
     {
         let need = needed(self.held());
         if self.stop - self.start >= need {
@@ -229,7 +232,7 @@ impl Ahead {
         ensures goes { IsTrue G.tells → IsReadable (G.told outside.old) (view_of source.now) → GoesOn at want (view_of source.now) (held_in self.old) (held_in self.new) result (G.told outside.old) (G.told outside.new) }
         ensures only { IsTrue G.tells → ChangesOnly NoFile (G.told outside.old) (G.told outside.new) }
         ensures fault { IsReadFault result }
-        ensures counts { Counts ground_fetch result (G.counts_of outside.old) (G.counts_of outside.new) }
+        ensures counts { Counts counted_fetch result (G.counts_of outside.old) (G.counts_of outside.new) }
     {
         let want = want.min(source.layout.end.saturating_sub(at)) as usize;
         self.make_room(want)?;

@@ -6,7 +6,7 @@ use ip_ground::{FileName, GroundFault};
 use ip_spec::record::RecordFault;
 
 /// Why a record was not read. `Ground` and `Memory` say nothing of the files, and the call may be made again; the other two say that the
-/// files were changed, or that the reference is none of theirs.
+/// files were changed, or that the reference is none of theirs, and the ground's counts show them as damage.
 #[derive(Clone, Copy, Debug, PartialEq, Eq)]
 pub enum FetchFault {
     /// A call on the ground failed, as its counts show.

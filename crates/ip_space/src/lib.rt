@@ -29,6 +29,7 @@ mod cache;
 mod copied;
 mod fault;
 mod live;
+mod noting;
 mod scan;
 mod source;
 mod space;

@@ -1,6 +1,6 @@
 // The live mapping and prefix.
 ghost use Rattle.std.specs.Prelude.{◌≡◌, ◌≢◌, ◌↔◌, ◌+◌, ◌*◌, ℕ, IsTrue, IfOk, OnOk, IsErrOf};
-ghost use Rattle.ip_space.specs.Faults.{ground_space};
+ghost use Rattle.ip_space.specs.Faults.{counted_space};
 ghost use Rattle.ip_ground.specs.Counts.{Counts};
 ghost use Rattle.ip_ground.specs.Contents.{Image, bytes_of, size_of};
 ghost use Rattle.ip_ground.specs.Told.{IsForeign, NoFile, ChangesOnly};
@@ -8,6 +8,7 @@ ghost use Rattle.ip_space.specs.Pair.{live_mapping, live_prefix, IsOwnPair, Find
 ghost use Rattle.ip_space.specs.declared.fault.SpaceFault.TheVariants as SpaceFault;
 
 use crate::SpaceFault;
+use crate::noting::note_pair;
 use ip_ground::{FileName, Ground};
 use ip_image::layout::Layout;
 use ip_mapping::{Head, Mapping, MappingFault};
@@ -24,13 +25,14 @@ pub fn read_live<G: Ground>(
     ensures horizon { IfOk result (λ m. m.horizon ≡ layout.horizon) }
     ensures finds { IsTrue G.tells → IsOwnPair (G.told outside.old) layout → FindsPair (G.told outside.new).held layout result }
     ensures only { IsTrue G.tells → ChangesOnly NoFile (G.told outside.old) (G.told outside.new) }
-    ensures counts { Counts ground_space result (G.counts_of outside.old) (G.counts_of outside.new) }
+    ensures counts { Counts counted_space result (G.counts_of outside.old) (G.counts_of outside.new) }
 {
     let mapping = match read_mapping(alloc, outside, layout) {
         Ok(mapping) => mapping,
         Err(fault) => return Err(fault),
     };
     if !mapping.fills(layout.prefix_len) {
+        outside.note_damage();
         return Err(SpaceFault::Damaged {
             file: FileName::Mapping(layout.live),
             at: 0,
@@ -51,18 +53,21 @@ fn read_mapping<G: Ground>(
     ensures horizon { IfOk result (λ m. m.horizon ≡ layout.horizon) }
     ensures finds { IsTrue G.tells → ¬ IsForeign (G.told outside.old) (live_mapping layout) → FindsMapping (G.told outside.new).held layout result }
     ensures only { IsTrue G.tells → ChangesOnly NoFile (G.told outside.old) (G.told outside.new) }
-    ensures counts { Counts ground_space result (G.counts_of outside.old) (G.counts_of outside.new) }
+    ensures counts { Counts counted_space result (G.counts_of outside.old) (G.counts_of outside.new) }
 {
     let file = FileName::Mapping(layout.live);
     let size = outside.length(file)?.unwrap_or(0);
     if !has_rows(size, layout.rows) {
+        outside.note_damage();
         return Err(SpaceFault::Damaged { file, at: 0 });
     }
     let bytes = match read_file(alloc, outside, file, size) {
         Ok(bytes) => bytes,
         Err(fault) => return Err(fault),
     };
-    parse_live(alloc, layout, &bytes)
+    let found = parse_live(alloc, layout, &bytes);
+    note_pair(outside, &found);
+    found
 }
 
 // Whether a mapping's file of this length has this many rows.
@@ -83,7 +88,7 @@ fn read_file<G: Ground>(
         IfOk result (λ bytes. bytes.items ≡ bytes_of ((G.told outside.new).held file)) }
     ensures damaged { (place : FileName) (at : ℕ) → IsErrOf result (SpaceFault.Damaged place at) → ⊥ }
     ensures only { IsTrue G.tells → ChangesOnly NoFile (G.told outside.old) (G.told outside.new) }
-    ensures counts { Counts ground_space result (G.counts_of outside.old) (G.counts_of outside.new) }
+    ensures counts { Counts counted_space result (G.counts_of outside.old) (G.counts_of outside.new) }
 {
     let Ok(mut bytes) = vec![in alloc; 0; size as usize] else {
         return Err(SpaceFault::Memory);
@@ -125,10 +130,11 @@ fn has_numbers(head: &Head, layout: &Layout) -> bool
 fn test_prefix<G: Ground>(outside: &mut G, layout: Layout) -> Result<(), SpaceFault>
     ensures finds { IsTrue G.tells → ¬ IsForeign (G.told outside.old) (live_prefix layout) → FindsPrefix (G.told outside.new).held layout result }
     ensures only { IsTrue G.tells → ChangesOnly NoFile (G.told outside.old) (G.told outside.new) }
-    ensures counts { Counts ground_space result (G.counts_of outside.old) (G.counts_of outside.new) }
+    ensures counts { Counts counted_space result (G.counts_of outside.old) (G.counts_of outside.new) }
 {
     let file = FileName::Prefix(layout.live);
     if outside.length(file)? != Some(layout.prefix_len) {
+        outside.note_damage();
         return Err(SpaceFault::Damaged { file, at: 0 });
     }
     Ok(())

@@ -1,6 +1,6 @@
 // A walk over the records of a space.
 ghost use Rattle.std.specs.Prelude.{◌≡◌, ◌+◌, ◌-◌, ◌≤◌, [], length, IsTrue, IfOk, IfSome, IsErrOf};
-ghost use Rattle.ip_space.specs.Faults.{ground_fetch};
+ghost use Rattle.ip_space.specs.Faults.{counted_fetch};
 ghost use Rattle.ip_ground.specs.Counts.{Counts};
 ghost use Rattle.ip_spec.specs.Record.{Fits, spelling};
 ghost use Rattle.ip_image.specs.Slot.{newest_version};
@@ -79,7 +79,7 @@ impl Scan {
         ensures blames { BlamesPlace self.old.next result }
         ensures bounds { IfOk result (λ found. IfSome found (λ f. Fits newest_version f.1)) }
         ensures inside { IfOk result (λ found. IfSome found (λ f. f.0 + length (spelling f.1) ≤ space.now.layout.end)) }
-        ensures counts { Counts ground_fetch result (G.counts_of outside.old) (G.counts_of outside.new) }
+        ensures counts { Counts counted_fetch result (G.counts_of outside.old) (G.counts_of outside.new) }
     {
         let at = self.next;
         if at >= self.to {

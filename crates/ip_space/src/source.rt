@@ -1,11 +1,11 @@
 // Where the bytes of a space lie.
-ghost use Rattle.std.specs.Prelude.{◌≡◌, ◌+◌, ◌-◌, ◌<◌, ◌≤◌, ◌≢◌, IsTrue, IfOk, OnErr, Some, length, map};
+ghost use Rattle.std.specs.Prelude.{◌≡◌, ◌+◌, ◌-◌, ◌<◌, ◌≤◌, ◌≢◌, ◌^◌, IsTrue, IfOk, OnErr, Some, length, map};
 ghost use Rattle.ip_ground.specs.Counts.{CountsAs, FileFault};
 ghost use Rattle.ip_ground.specs.Told.{NoFile, ChangesOnly};
 ghost use Rattle.ip_mapping.specs.Parsing.{IsRowAt};
 ghost use Rattle.ip_space.specs.SpaceView.{IsReadable, byte_at};
 ghost use Rattle.ip_space.specs.Ahead.{ReadsBytes};
-ghost use Rattle.ip_space.specs.Viewed.{view_of, IsSource};
+ghost use Rattle.ip_space.specs.Viewed.{view_of, IsSource, IsBorder};
 
 use ip_chunks::Chunks;
 use ip_ground::{FileName, Ground, GroundFault};
@@ -24,6 +24,7 @@ impl Source {
     /// The first offset from `at` on at which another file begins, the live prefix being one and each chunk one.
     pub fn border(&self, at: u64) -> u64
         requires { IsSource self.now }
+        ensures { at + self.now.layout.chunk ≤ 2 ^ 64 → IsBorder self.now.layout at result }
     {
         let Layout { chunk, horizon, .. } = self.layout;
         if at <= horizon {

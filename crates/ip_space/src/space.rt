@@ -1,16 +1,17 @@
 // The space of a store's records.
 ghost use Rattle.std.specs.Prelude.{◌≡◌, ◌≢◌, ℕ, ◌+◌, ◌<◌, ◌≤◌, ◌^◌, ◌==◌, [], length, map, take, slice_get, None, Some, Ok, option_copied, IfSome, IsSome, IsTrue, IfOk, IsOk, IsErrOf, MatchResult, if◌then◌else◌};
-ghost use Rattle.ip_space.specs.Faults.{ground_fetch, ground_space};
+ghost use Rattle.ip_space.specs.Faults.{counted_fetch, counted_space};
 ghost use Rattle.ip_ground.specs.Counts.{Counts, CountsAs, FileFault};
 ghost use Rattle.ip_ground.specs.Told.{NoFile, ChangesOnly};
 ghost use Rattle.ip_base.specs.declared.limit.TheConstants.{OFFSET_MAX};
 ghost use Rattle.ip_spec.specs.declared.kind.TheConstants as kinds;
+ghost use Rattle.ip_spec.specs.declared.record.Record.{Record as Stored};
 ghost use Rattle.ip_spec.specs.Record.{Fits, name_of, spelling, reference_kind as kind_referred};
 ghost use Rattle.ip_image.specs.Slot.{newest_version, IsChunkSize};
 ghost use Rattle.ip_image.specs.Virtual.{run_of, placed, RowsFit, lies_at};
 ghost use Rattle.ip_space.specs.SpaceView.{grown, bare, kept_at, stretches_of, AreBelow, IsLayout, OnlyReads, IsReadable, records_of, read_at, byte_at};
 ghost use Rattle.ip_space.specs.Ahead.{ReadsBytes};
-ghost use Rattle.ip_space.specs.Fetching.{Blames, BlamesPlace, Fetches, FindsRecord, IsBecause, Meets, ReadsOne, Refers};
+ghost use Rattle.ip_space.specs.Fetching.{Blames, BlamesPlace, Fetches, FindsRecord, IsBecause, IsFoundOf, Meets, ReadsOne, Refers, TellsDamage};
 ghost use Rattle.ip_space.specs.Kept.{IsBounded, brought, GainsNone, GainsAtMost, IsKnown, answer_of, found_again};
 ghost use Rattle.ip_space.specs.Pair.{IsOwnPair, FindsSpace};
 ghost use Rattle.ip_space.specs.Scanning.{IsWhole};
@@ -22,6 +23,7 @@ use crate::ahead::Ahead;
 use crate::cache::{Cache, RECORD_BYTES_MAX};
 use crate::copied::copy_record;
 use crate::live::read_live;
+use crate::noting::note;
 use crate::source::Source;
 use crate::{FetchFault, Scan, SpaceFault};
 use ip_base::{Hash, Memory};
@@ -81,7 +83,7 @@ impl Space {
         ensures only { IsTrue G.tells → ChangesOnly NoFile (G.told outside.old) (G.told outside.new) }
         ensures readable { IsTrue G.tells → (layout.live ≢ 0 → IsOwnPair (G.told outside.old) layout) → IfOk result (λ space. IsReadable (G.told outside.new) space) }
         ensures unread { layout.live ≡ 0 → outside.new ≡ outside.old }
-        ensures counts { Counts ground_space result (G.counts_of outside.old) (G.counts_of outside.new) }
+        ensures counts { Counts counted_space result (G.counts_of outside.old) (G.counts_of outside.new) }
     {
         if layout.live == 0 {
             let mapping = Mapping::none(alloc, layout.horizon, layout.end);
@@ -201,8 +203,9 @@ impl Space {
         ensures layout { self.new.layout ≡ self.old.layout }
         ensures runs { self.new.runs ≡ self.old.runs }
         ensures kept { IsBounded self.new.kept }
-        ensures unread { IsSome (kept_at reference.at self.old.kept) → outside.new ≡ outside.old }
-        ensures counts { Counts ground_fetch result (G.counts_of outside.old) (G.counts_of outside.new) }
+        ensures known { (rec : Stored) → kept_at reference.at self.old.kept ≡ Some rec → IsFoundOf rec reference result }
+        ensures unread { IsSome (kept_at reference.at self.old.kept) → (TellsDamage result → ⊥) → outside.new ≡ outside.old }
+        ensures counts { Counts counted_fetch result (G.counts_of outside.old) (G.counts_of outside.new) }
     {
         let at = reference.at;
         match self.bring(outside, reference) {
@@ -213,8 +216,8 @@ impl Space {
     }
 
     /// Brings the record at a reference, of its kind and name, and keeps it: then `kept` lends it. One that is not kept, since it has too many
-    /// bytes or memory was refused, is handed out. What is kept is not read again; else it reads as `record_at` does. The kind is tried before the
-    /// name, also of what is kept.
+    /// bytes or memory was refused, is handed out. What is kept is not read again, so no want of memory hides that it is not the reference's; else it
+    /// reads as `record_at` does. The kind is tried before the name, also of what is kept.
     pub fn bring<G: Ground>(
         &mut self,
         outside: &mut G,
@@ -232,17 +235,22 @@ impl Space {
         ensures layout { self.new.layout ≡ self.old.layout }
         ensures runs { self.new.runs ≡ self.old.runs }
         ensures kept { IsBounded self.new.kept }
-        ensures unread { IsSome (kept_at reference.at self.old.kept) → outside.new ≡ outside.old }
-        ensures counts { Counts ground_fetch result (G.counts_of outside.old) (G.counts_of outside.new) }
+        ensures known { (rec : Stored) → kept_at reference.at self.old.kept ≡ Some rec → Refers rec reference (brought (kept_at reference.at self.new.kept) result) }
+        ensures unread { IsSome (kept_at reference.at self.old.kept) → (TellsDamage result → ⊥) → outside.new ≡ outside.old }
+        ensures counts { Counts counted_fetch result (G.counts_of outside.old) (G.counts_of outside.new) }
     {
         if let Some(answer) = self.known(&reference) {
-            return self.again(reference.at, answer);
+            let found = self.again(reference.at, answer);
+            note(outside, &found);
+            return found;
         }
         let (rec, length) = match self.record_at(outside, reference.at) {
             Ok(found) => found,
             Err(fault) => return Err(fault),
         };
-        self.take(&reference, rec, length)
+        let found = self.take(&reference, rec, length);
+        note(outside, &found);
+        found
     }
 
     // What is kept is used again.
@@ -365,7 +373,7 @@ impl Space {
         ensures layout { self.new.layout ≡ self.old.layout }
         ensures runs { self.new.runs ≡ self.old.runs }
         ensures kept { self.new.kept ≡ self.old.kept }
-        ensures counts { Counts ground_fetch result (G.counts_of outside.old) (G.counts_of outside.new) }
+        ensures counts { Counts counted_fetch result (G.counts_of outside.old) (G.counts_of outside.new) }
     {
         self.ahead.clear();
         let found = match self

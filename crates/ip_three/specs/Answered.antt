@@ -6,11 +6,12 @@
 --     IsMerge records rule b l r tree      the tree is their merge
 --     MergesTrees records rule b l r result      their merge; its least conflict; or a limit that it passes, that of contents before that of entries
 --     IsEditedTo, EditsTree, PutsPlan      the same of the parts of it
---     three_fault fault      a fault of a tree.      ground_three fault      it is the ground's.      IsMergeCause      what it says of the records that the space reads
+--     three_fault fault      a fault of a tree.      counted_three fault      it is the ground's.      IsMergeCause      what it says of the records that the space reads
 use Rattle.std.specs.Prelude.{◌≡◌, ◌<◌, ◌≤◌, ℕ, Bool, false, IsFalse, IsTrue, List, [], length, take, Option, Some, None, Result, Ok, Err}
+use Rattle.ip_ground.specs.Counts.{Counted, as_nothing}
 use Rattle.ip_base.specs.declared.limit.Limit.TheVariants.{Contents, Entries}
 use Rattle.ip_ground.specs.Told.{Told}
-use Rattle.ip_space.specs.Faults.{ground_fetch}
+use Rattle.ip_space.specs.Faults.{counted_fetch}
 use Rattle.ip_space.specs.SpaceView.{SpaceView}
 use Rattle.ip_spec.specs.Map.{get}
 use Rattle.ip_spec.specs.Merge.{Merges, Rule, conflict_at, merged, same_value}
@@ -113,11 +114,11 @@ three_fault (fault.Limit l) = Limit l
 three_fault (fault.Fetch f) = Fetch f
 three_fault fault.Memory = Memory
 
-abbrev pub ground_three : ThreeFault → Bool
-ground_three (Conflict p) = false
-ground_three (Limit l) = false
-ground_three (Fetch f) = ground_fetch f
-ground_three Memory = false
+abbrev pub counted_three : ThreeFault → Counted
+counted_three (Conflict p) = as_nothing
+counted_three (Limit l) = as_nothing
+counted_three (Fetch f) = counted_fetch f
+counted_three Memory = as_nothing
 
 abbrev pub IsMergeCause : Bool → Told → SpaceView → ThreeFault → Type 0
 IsMergeCause tells told space (Conflict p) = Unit {0}

@@ -7,7 +7,7 @@ ghost use Rattle.ip_spec.specs.View.{View};
 ghost use Rattle.ip_spec.specs.declared.record.Record.{Record};
 ghost use Rattle.ip_three.specs.Applying.{IsFound, IsFoundAt, Puts, PutsAll, as_coming, as_edits, node_of};
 ghost use Rattle.ip_three.specs.Merging.{less, less_at, more_at};
-ghost use Rattle.ip_tree.specs.Faults.{ground_tree};
+ghost use Rattle.ip_tree.specs.Faults.{counted_tree};
 ghost use Rattle.ip_tree.specs.Reads.{IsOver, IsFree, Looks, IsCause};
 ghost use Rattle.ip_tree.specs.Shown.{shown};
 ghost use Rattle.ip_tree.specs.TreeView.{IsView};
@@ -47,7 +47,7 @@ pub fn remove_all<G: Ground>(
     ensures removes { IsTrue G.tells → (records : ℕ → Option Record) (v : View) → IsOver (G.told outside.old) space.old records → IsView records tree.old v
         → MatchResult result (λ _. IsView records tree.new (less v gone.now)) IsFree }
     ensures looks { Looks G.tells (G.told outside.old) (G.told outside.new) space.old space.new }
-    ensures counts { Counts ground_tree result (G.counts_of outside.old) (G.counts_of outside.new) }
+    ensures counts { Counts counted_tree result (G.counts_of outside.old) (G.counts_of outside.new) }
     ensures causes { IfErr result (IsCause G.tells (G.told outside.old) space.old) }
 {
     for path in gone {
@@ -67,7 +67,7 @@ fn remove<G: Ground>(
     ensures removes { IsTrue G.tells → (records : ℕ → Option Record) (v : View) → IsOver (G.told outside.old) space.old records → IsView records tree.old v
         → MatchResult result (λ _. IsView records tree.new (less_at v path.now)) IsFree }
     ensures looks { Looks G.tells (G.told outside.old) (G.told outside.new) space.old space.new }
-    ensures counts { Counts ground_tree result (G.counts_of outside.old) (G.counts_of outside.new) }
+    ensures counts { Counts counted_tree result (G.counts_of outside.old) (G.counts_of outside.new) }
     ensures causes { IfErr result (IsCause G.tells (G.told outside.old) space.old) }
 {
     // The root of a merge stays.
@@ -89,7 +89,7 @@ pub fn put_all<G: Ground>(
     ensures puts { IsTrue G.tells → (records : ℕ → Option Record) (v r : View) (right : TheTree) → IsOver (G.told outside.old) space.old records → IsView records tree.old v → IsView records right r
         → All (IsFound records r) come.items → PutsAll records r v (as_edits come.items) tree.new result }
     ensures looks { Looks G.tells (G.told outside.old) (G.told outside.new) space.old space.new }
-    ensures counts { Counts ground_tree result (G.counts_of outside.old) (G.counts_of outside.new) }
+    ensures counts { Counts counted_tree result (G.counts_of outside.old) (G.counts_of outside.new) }
     ensures causes { IfErr result (IsCause G.tells (G.told outside.old) space.old) }
 {
     for edit in come {
@@ -111,7 +111,7 @@ fn put<G: Ground>(
     ensures puts { IsTrue G.tells → (records : ℕ → Option Record) (v r : View) (right : TheTree) → IsOver (G.told outside.old) space.old records → IsView records tree.old v → IsView records right r
         → IsPath path.now → IsFoundAt records r path.now coming → Puts records (more_at r v path.now (as_coming coming)) tree.new result }
     ensures looks { Looks G.tells (G.told outside.old) (G.told outside.new) space.old space.new }
-    ensures counts { Counts ground_tree result (G.counts_of outside.old) (G.counts_of outside.new) }
+    ensures counts { Counts counted_tree result (G.counts_of outside.old) (G.counts_of outside.new) }
     ensures causes { IfErr result (IsCause G.tells (G.told outside.old) space.old) }
 {
     // The root of a merge stays.

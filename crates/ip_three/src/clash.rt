@@ -9,7 +9,7 @@ ghost use Rattle.ip_spec.specs.declared.record.Record.{Record};
 ghost use Rattle.ip_three.specs.Applying.{as_coming, as_edits};
 ghost use Rattle.ip_three.specs.Clashes.{clash_above as above_of, clash_at as at_of, clash_of, front_of, gives_value as gives, is_at, is_clash_here, is_met, last_path};
 ghost use Rattle.ip_three.specs.Walking.{AreTaken, IsTakenAt};
-ghost use Rattle.ip_tree.specs.Faults.{ground_tree};
+ghost use Rattle.ip_tree.specs.Faults.{counted_tree};
 ghost use Rattle.ip_tree.specs.Reads.{IsOver, IsFree, Looks, IsCause};
 ghost use Rattle.ip_tree.specs.TreeView.{IsView};
 ghost use Rattle.ip_tree.specs.declared.tree.TreeFault.TheVariants as TreeFault;
@@ -35,7 +35,7 @@ pub fn clash<G: Ground>(
     ensures clash { IsTrue G.tells → (records : ℕ → Option Record) (v r : View) → IsOver (G.told outside.old) space.old records → IsView records tree.now v → AreTaken records r come.now
         → MatchResult result (λ found. found ≡ clash_of v.map r (as_edits come.now)) IsFree }
     ensures looks { Looks G.tells (G.told outside.old) (G.told outside.new) space.old space.new }
-    ensures counts { Counts ground_tree result (G.counts_of outside.old) (G.counts_of outside.new) }
+    ensures counts { Counts counted_tree result (G.counts_of outside.old) (G.counts_of outside.new) }
     ensures causes { IfErr result (IsCause G.tells (G.told outside.old) space.old) }
 {
     let mut last = None;
@@ -83,7 +83,7 @@ fn clash_at<G: Ground>(
         → MatchResult result (λ found. front_of edit.now.path found ≡ at_of v.map r (option_copied last.entry) edit.now.path (as_coming edit.now.coming)) IsFree }
     ensures within { IfOk result (λ found. IfSome found (λ n. n ≤ length edit.now.path)) }
     ensures looks { Looks G.tells (G.told outside.old) (G.told outside.new) space.old space.new }
-    ensures counts { Counts ground_tree result (G.counts_of outside.old) (G.counts_of outside.new) }
+    ensures counts { Counts counted_tree result (G.counts_of outside.old) (G.counts_of outside.new) }
     ensures causes { IfErr result (IsCause G.tells (G.told outside.old) space.old) }
 {
     let path = edit.path.steps();
@@ -108,7 +108,7 @@ fn clash_above<G: Ground>(
         → MatchResult result (λ found. front_of path.now found ≡ above_of v.map (option_copied last.entry) path.now) IsFree }
     ensures within { IfOk result (λ found. IfSome found (λ n. n ≤ length path.now)) }
     ensures looks { Looks G.tells (G.told outside.old) (G.told outside.new) space.old space.new }
-    ensures counts { Counts ground_tree result (G.counts_of outside.old) (G.counts_of outside.new) }
+    ensures counts { Counts counted_tree result (G.counts_of outside.old) (G.counts_of outside.new) }
     ensures causes { IfErr result (IsCause G.tells (G.told outside.old) space.old) }
 {
     for count in 0..path.len() {
@@ -130,7 +130,7 @@ fn has_contents<G: Ground>(
     ensures contents { IsTrue G.tells → (records : ℕ → Option Record) (v : View) → IsOver (G.told outside.old) space.old records → IsView records tree.now v
         → MatchResult result (λ found. found ≡ is_met v.map (option_copied last.entry) path.now) IsFree }
     ensures looks { Looks G.tells (G.told outside.old) (G.told outside.new) space.old space.new }
-    ensures counts { Counts ground_tree result (G.counts_of outside.old) (G.counts_of outside.new) }
+    ensures counts { Counts counted_tree result (G.counts_of outside.old) (G.counts_of outside.new) }
     ensures causes { IfErr result (IsCause G.tells (G.told outside.old) space.old) }
 {
     if is_last(last, path) {
@@ -153,7 +153,7 @@ fn clashes_here<G: Ground>(
     ensures clash { IsTrue G.tells → (records : ℕ → Option Record) (v r : View) → IsOver (G.told outside.old) space.old records → IsView records tree.now v → IsTakenAt records r edit.now.path edit.now.coming
         → MatchResult result (λ found. found ≡ is_clash_here v.map r (option_copied last.entry) edit.now.path (as_coming edit.now.coming)) IsFree }
     ensures looks { Looks G.tells (G.told outside.old) (G.told outside.new) space.old space.new }
-    ensures counts { Counts ground_tree result (G.counts_of outside.old) (G.counts_of outside.new) }
+    ensures counts { Counts counted_tree result (G.counts_of outside.old) (G.counts_of outside.new) }
     ensures causes { IfErr result (IsCause G.tells (G.told outside.old) space.old) }
 {
     let path = edit.path.steps();

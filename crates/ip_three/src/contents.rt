@@ -9,7 +9,7 @@ ghost use Rattle.ip_spec.specs.Path.{Bytes, Path};
 ghost use Rattle.ip_spec.specs.View.{View};
 ghost use Rattle.ip_spec.specs.declared.record.Record.{Record};
 ghost use Rattle.ip_three.specs.Walking.{HoldsContent, IsDecided, IsDecidedBy, IsSettled};
-ghost use Rattle.ip_tree.specs.Faults.{ground_tree};
+ghost use Rattle.ip_tree.specs.Faults.{counted_tree};
 ghost use Rattle.ip_tree.specs.Finding.{FindsIn, as_node};
 ghost use Rattle.ip_tree.specs.Reads.{IsOver, IsFree, Looks, IsCause};
 ghost use Rattle.ip_tree.specs.declared.tree.TreeFault.TheVariants as TreeFault;
@@ -63,7 +63,7 @@ pub fn decide<G: Ground, D: Decides>(
         → FindsIn records l path.now (option_map as_node left.now) → FindsIn records r path.now (option_map as_node right.now)
         → MatchResult result (IsDecided (D.rule rules.now) b l r path.now) IsFree }
     ensures looks { Looks G.tells (G.told outside.old) (G.told outside.new) space.old space.new }
-    ensures counts { Counts ground_tree result (G.counts_of outside.old) (G.counts_of outside.new) }
+    ensures counts { Counts counted_tree result (G.counts_of outside.old) (G.counts_of outside.new) }
     ensures causes { IfErr result (IsCause G.tells (G.told outside.old) space.old) }
 {
     let old = content_of(base);
@@ -89,7 +89,7 @@ fn ask<G: Ground, D: Decides>(
     ensures decided { IsTrue G.tells → (records : ℕ → Option Record) (o l r : Option Bytes) → IsOver (G.told outside.old) space.old records → HoldsContent records o base.now
         → HoldsContent records l left.now → HoldsContent records r right.now → MatchResult result (IsDecidedBy (D.rule rules.now) o l r path.now) IsFree }
     ensures looks { Looks G.tells (G.told outside.old) (G.told outside.new) space.old space.new }
-    ensures counts { Counts ground_tree result (G.counts_of outside.old) (G.counts_of outside.new) }
+    ensures counts { Counts counted_tree result (G.counts_of outside.old) (G.counts_of outside.new) }
     ensures causes { IfErr result (IsCause G.tells (G.told outside.old) space.old) }
 {
     let old = bytes_of(alloc, outside, space, base)?;
@@ -221,7 +221,7 @@ fn bytes_of<G: Ground>(
     ensures bytes { IsTrue G.tells → (records : ℕ → Option Record) (o : Option Bytes) → IsOver (G.told outside.old) space.old records → HoldsContent records o content.now
         → MatchResult result (λ found. found ≡ o) IsFree }
     ensures looks { Looks G.tells (G.told outside.old) (G.told outside.new) space.old space.new }
-    ensures counts { Counts ground_tree result (G.counts_of outside.old) (G.counts_of outside.new) }
+    ensures counts { Counts counted_tree result (G.counts_of outside.old) (G.counts_of outside.new) }
     ensures causes { IfErr result (IsCause G.tells (G.told outside.old) space.old) }
 {
     match content {

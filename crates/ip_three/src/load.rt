@@ -6,7 +6,7 @@ ghost use Rattle.ip_spec.specs.Tree.{Tree as Map};
 ghost use Rattle.ip_spec.specs.View.{View};
 ghost use Rattle.ip_spec.specs.declared.record.Record.{Record};
 ghost use Rattle.ip_tree.specs.Edits.{IsDirectory, IsSame};
-ghost use Rattle.ip_tree.specs.Faults.{ground_tree};
+ghost use Rattle.ip_tree.specs.Faults.{counted_tree};
 ghost use Rattle.ip_tree.specs.Meaning.{NodeIs};
 ghost use Rattle.ip_tree.specs.Reads.{IsOver, IsFree, Looks, IsCause};
 ghost use Rattle.ip_tree.specs.Shown.{shown, shown_directory};
@@ -34,7 +34,7 @@ pub fn load_path<G: Ground>(
     ensures same { IsTrue G.tells → (records : ℕ → Option Record) (v : View) → IsOver (G.told outside.old) space.old records → IsView records tree.old v
         → IsView records tree.new v × IfErr result IsFree }
     ensures looks { Looks G.tells (G.told outside.old) (G.told outside.new) space.old space.new }
-    ensures counts { Counts ground_tree result (G.counts_of outside.old) (G.counts_of outside.new) }
+    ensures counts { Counts counted_tree result (G.counts_of outside.old) (G.counts_of outside.new) }
     ensures causes { IfErr result (IsCause G.tells (G.told outside.old) space.old) }
 {
     tree.open_root(alloc, outside, space)?;
@@ -57,7 +57,7 @@ fn load_in<G: Ground>(
     ensures same { IsTrue G.tells → (records : ℕ → Option Record) (t : Map) → IsOver (G.told outside.old) space.old records → IsDirectory records (shown_directory dir.old) t
         → IsSame (IsDirectory records) records (shown_directory dir.old) (shown_directory dir.new) t × IfErr result IsFree }
     ensures looks { Looks G.tells (G.told outside.old) (G.told outside.new) space.old space.new }
-    ensures counts { Counts ground_tree result (G.counts_of outside.old) (G.counts_of outside.new) }
+    ensures counts { Counts counted_tree result (G.counts_of outside.old) (G.counts_of outside.new) }
     ensures causes { IfErr result (IsCause G.tells (G.told outside.old) space.old) }
 {
     load_way(alloc, outside, space, dir, &steps[0])?;
@@ -83,7 +83,7 @@ fn load_at<G: Ground>(
     ensures same { IsTrue G.tells → (records : ℕ → Option Record) (t : Map) → IsOver (G.told outside.old) space.old records → NodeIs records (shown node.old) t
         → IsSame (NodeIs records) records (shown node.old) (shown node.new) t × IfErr result IsFree }
     ensures looks { Looks G.tells (G.told outside.old) (G.told outside.new) space.old space.new }
-    ensures counts { Counts ground_tree result (G.counts_of outside.old) (G.counts_of outside.new) }
+    ensures counts { Counts counted_tree result (G.counts_of outside.old) (G.counts_of outside.new) }
     ensures causes { IfErr result (IsCause G.tells (G.told outside.old) space.old) }
 {
     if steps.is_empty() {

@@ -6,14 +6,14 @@ ghost use Rattle.ip_spec.specs.Merge.{IsOneAnswer};
 ghost use Rattle.ip_spec.specs.Path.{Path as ThePath};
 ghost use Rattle.ip_spec.specs.View.{View};
 ghost use Rattle.ip_spec.specs.declared.record.Record.{Record};
-ghost use Rattle.ip_three.specs.Answered.{EditsTree, IsMergeCause, MergesTrees, PutsPlan, ground_three};
+ghost use Rattle.ip_three.specs.Answered.{EditsTree, IsMergeCause, MergesTrees, PutsPlan, counted_three};
 ghost use Rattle.ip_three.specs.Applying.{IsFound};
 ghost use Rattle.ip_three.specs.Clashes.{lesser as lesser_of};
 ghost use Rattle.ip_differ.specs.Differing.{IsDirectoryAt};
 ghost use Rattle.ip_three.specs.Merging.{directory_side};
 ghost use Rattle.ip_three.specs.Outcomes.{AreMerging};
 ghost use Rattle.ip_three.specs.declared.merge.ThreeFault.TheVariants as ThreeFault;
-ghost use Rattle.ip_tree.specs.Faults.{ground_tree};
+ghost use Rattle.ip_tree.specs.Faults.{counted_tree};
 ghost use Rattle.ip_tree.specs.Finding.{as_node};
 ghost use Rattle.ip_tree.specs.Reads.{IsOver, Looks};
 ghost use Rattle.ip_tree.specs.TreeView.{IsView};
@@ -82,7 +82,7 @@ pub fn merge_trees<G: Ground, D: Decides>(
     ensures merges { IsTrue G.tells → (records : ℕ → Option Record) (b l r : View) → IsOver (G.told outside.old) space.old records → IsView records base.now b → IsView records left.now l → IsView records right.now r
         → ((p : ThePath) → IsOneAnswer (D.rule rules.now p)) → MergesTrees records (D.rule rules.now) b l r result }
     ensures looks { Looks G.tells (G.told outside.old) (G.told outside.new) space.old space.new }
-    ensures counts { Counts ground_three result (G.counts_of outside.old) (G.counts_of outside.new) }
+    ensures counts { Counts counted_three result (G.counts_of outside.old) (G.counts_of outside.new) }
     ensures causes { IfErr result (IsMergeCause G.tells (G.told outside.old) space.old) }
 {
     let roots = Places {
@@ -124,7 +124,7 @@ fn merge_entries<G: Ground, D: Decides>(
         → IsDirectoryAt records b [] (option_map as_node roots.now.base) → IsDirectoryAt records r [] (option_map as_node roots.now.right) → AreMerging (D.rule rules.now) b l r → directory_side b l r [] ≡ None
         → EditsTree records (D.rule rules.now) b l r merged.new result }
     ensures looks { Looks G.tells (G.told outside.old) (G.told outside.new) space.old space.new }
-    ensures counts { Counts ground_three result (G.counts_of outside.old) (G.counts_of outside.new) }
+    ensures counts { Counts counted_three result (G.counts_of outside.old) (G.counts_of outside.new) }
     ensures causes { IfErr result (IsMergeCause G.tells (G.told outside.old) space.old) }
 {
     let mut plan = Plan::new(alloc);
@@ -146,7 +146,7 @@ fn put_plan<G: Ground>(
     ensures puts { IsTrue G.tells → (records : ℕ → Option Record) (v r : View) (right : TheTree) → IsOver (G.told outside.old) space.old records → IsView records merged.old v → IsView records right r
         → (lesser_of plan.conflict clash ≡ None → IsFalse plan.is_long → All (IsFound records r) plan.come.items) → PutsPlan records v r plan clash merged.new result }
     ensures looks { Looks G.tells (G.told outside.old) (G.told outside.new) space.old space.new }
-    ensures counts { Counts ground_three result (G.counts_of outside.old) (G.counts_of outside.new) }
+    ensures counts { Counts counted_three result (G.counts_of outside.old) (G.counts_of outside.new) }
     ensures causes { IfErr result (IsMergeCause G.tells (G.told outside.old) space.old) }
 {
     let Plan {

@@ -7,7 +7,7 @@ ghost use Rattle.ip_spec.specs.Path.{Step as TheStep};
 ghost use Rattle.ip_spec.specs.Step.{contents_limit};
 ghost use Rattle.ip_spec.specs.View.{View, is_nil};
 ghost use Rattle.ip_spec.specs.declared.record.Record.{Record};
-ghost use Rattle.ip_tree.specs.Faults.{ground_tree};
+ghost use Rattle.ip_tree.specs.Faults.{counted_tree};
 ghost use Rattle.ip_tree.specs.Finding.{FindsIn, as_node};
 ghost use Rattle.ip_tree.specs.Reads.{IsOver, IsFree, Looks, IsCause};
 ghost use Rattle.ip_tree.specs.TreeView.{IsView};
@@ -164,7 +164,7 @@ pub fn plan_entries<G: Ground, D: Decides>(
         → ((s : TheStep) → IsTrue (is_merged b l r (path.now ++ s ∷ []))) → Begins (D.rule rules.now) records b l r plan.old → IsBehind path.now (as_plan plan.old)
         → MatchResult result (λ _. IsView records left.new l × Walked (PlansUnder (D.rule rules.now) b l r path.now) records r plan.old plan.new) IsFree }
     ensures looks { Looks G.tells (G.told outside.old) (G.told outside.new) space.old space.new }
-    ensures counts { Counts ground_tree result (G.counts_of outside.old) (G.counts_of outside.new) }
+    ensures counts { Counts counted_tree result (G.counts_of outside.old) (G.counts_of outside.new) }
     ensures causes { IfErr result (IsCause G.tells (G.told outside.old) space.old) }
 {
     // No path of a tree has more steps.
@@ -212,7 +212,7 @@ fn plan_step<G: Ground, D: Decides>(
         → IsTrue (is_merged b l r path.now) → Begins (D.rule rules.now) records b l r plan.old → IsLess path.now (as_plan plan.old)
         → MatchResult result (λ _. IsView records left.new l × Walked (PlansAt (D.rule rules.now) b l r path.now) records r plan.old plan.new) IsFree }
     ensures looks { Looks G.tells (G.told outside.old) (G.told outside.new) space.old space.new }
-    ensures counts { Counts ground_tree result (G.counts_of outside.old) (G.counts_of outside.new) }
+    ensures counts { Counts counted_tree result (G.counts_of outside.old) (G.counts_of outside.new) }
     ensures causes { IfErr result (IsCause G.tells (G.told outside.old) space.old) }
 {
     if is_one_place(&places.right, &places.base) {
@@ -241,7 +241,7 @@ fn plan_place<G: Ground, D: Decides>(
         → IsTrue (is_merged b l r path.now) → Begins (D.rule rules.now) records b l r plan.old → IsLess path.now (as_plan plan.old)
         → MatchResult result (λ side. (option_map as_side side ≡ directory_side b l r path.now) × Walked (PlansContents (D.rule rules.now) b l r path.now) records r plan.old plan.new) IsFree }
     ensures looks { Looks G.tells (G.told outside.old) (G.told outside.new) space.old space.new }
-    ensures counts { Counts ground_tree result (G.counts_of outside.old) (G.counts_of outside.new) }
+    ensures counts { Counts counted_tree result (G.counts_of outside.old) (G.counts_of outside.new) }
     ensures causes { IfErr result (IsCause G.tells (G.told outside.old) space.old) }
 {
     let here = match left.at(outside, space, path) {
@@ -268,7 +268,7 @@ fn plan_contents<G: Ground, D: Decides>(
         → IsTrue (is_merged b l r path.now) → Begins (D.rule rules.now) records b l r plan.old → IsLess path.now (as_plan plan.old)
         → MatchResult result (λ _. Walked (PlansContents (D.rule rules.now) b l r path.now) records r plan.old plan.new) IsFree }
     ensures looks { Looks G.tells (G.told outside.old) (G.told outside.new) space.old space.new }
-    ensures counts { Counts ground_tree result (G.counts_of outside.old) (G.counts_of outside.new) }
+    ensures counts { Counts counted_tree result (G.counts_of outside.old) (G.counts_of outside.new) }
     ensures causes { IfErr result (IsCause G.tells (G.told outside.old) space.old) }
 {
     match decide(

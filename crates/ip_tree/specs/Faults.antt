@@ -1,10 +1,10 @@
--- Which faults are the ground's.
-use Rattle.std.specs.Prelude.{Bool, false}
-use Rattle.ip_space.specs.Faults.{ground_fetch}
+-- As what faults are counted.
+use Rattle.ip_ground.specs.Counts.{Counted, as_nothing}
+use Rattle.ip_space.specs.Faults.{counted_fetch}
 use Rattle.ip_tree.specs.declared.tree.TreeFault.{TreeFault}
 use Rattle.ip_tree.specs.declared.tree.TreeFault.TheVariants.{Limit, Fetch, Memory}
 
-abbrev pub ground_tree : TreeFault → Bool
-ground_tree (Limit limit) = false
-ground_tree (Fetch fault) = ground_fetch fault
-ground_tree Memory = false
+abbrev pub counted_tree : TreeFault → Counted
+counted_tree (Limit limit) = as_nothing
+counted_tree (Fetch fault) = counted_fetch fault
+counted_tree Memory = as_nothing

@@ -3,7 +3,7 @@ ghost use Rattle.std.specs.Prelude.{◌≡◌, ◌+◌, ◌<◌, ℕ, Option, op
 ghost use Rattle.std.specs.FinMap.Entries.{find};
 ghost use Rattle.ip_ground.specs.Counts.{Counts};
 ghost use Rattle.ip_space.specs.declared.fault.FetchFault.TheVariants as FetchFault;
-ghost use Rattle.ip_tree.specs.Faults.{ground_tree};
+ghost use Rattle.ip_tree.specs.Faults.{counted_tree};
 ghost use Rattle.ip_space.specs.SpaceView.{IsReadable, records_of};
 ghost use Rattle.ip_spec.specs.Path.{Step as TheStep, bytes_cmp};
 ghost use Rattle.ip_spec.specs.Record.{Fits, are_rising};
@@ -43,7 +43,7 @@ pub fn entry_below<G: Ground>(
     ensures any { IsTrue G.tells → IsReadable (G.told outside.old) space.old →
         IfOk result (λ found. found ≡ entry_below (records_of (G.told outside.old) space.old) levels reference.now.at step.now) }
     ensures looks { Looks G.tells (G.told outside.old) (G.told outside.new) space.old space.new }
-    ensures counts { Counts ground_tree result (G.counts_of outside.old) (G.counts_of outside.new) }
+    ensures counts { Counts counted_tree result (G.counts_of outside.old) (G.counts_of outside.new) }
     ensures causes { IfErr result (IsCause G.tells (G.told outside.old) space.old) }
     ensures fault { IfErr result IsFetchFault }
 {
@@ -80,7 +80,7 @@ fn next_below<G: Ground>(
         IfOk result (λ next. LeadsThrough (records_of (G.told outside.old) space.old) levels reference.now.at step.now next) }
     ensures low { IfOk result (HasDepth levels) }
     ensures looks { Looks G.tells (G.told outside.old) (G.told outside.new) space.old space.new }
-    ensures counts { Counts ground_tree result (G.counts_of outside.old) (G.counts_of outside.new) }
+    ensures counts { Counts counted_tree result (G.counts_of outside.old) (G.counts_of outside.new) }
     ensures causes { IfErr result (IsCause G.tells (G.told outside.old) space.old) }
     ensures fault { IfErr result IsFetchFault }
 {
@@ -183,7 +183,7 @@ pub fn gather<G: Ground>(
     ensures gathered { IsTrue G.tells → (records : ℕ → Option Record) (depth : ℕ) (es : Entries) → IsOver (G.told outside.old) space.old records → depth + levels ≡ deepest
         → IsPartRef records depth reference.now es → MatchResult result (λ _. Adds es found.old.entries found.new.entries) IsFree }
     ensures looks { Looks G.tells (G.told outside.old) (G.told outside.new) space.old space.new }
-    ensures counts { Counts ground_tree result (G.counts_of outside.old) (G.counts_of outside.new) }
+    ensures counts { Counts counted_tree result (G.counts_of outside.old) (G.counts_of outside.new) }
     ensures causes { IfErr result (IsCause G.tells (G.told outside.old) space.old) }
 {
     match fetch_part(outside, space, reference)? {

@@ -2,7 +2,7 @@
 ghost use Rattle.std.specs.Prelude.{◌≡◌, ℕ, Option, Some, IsTrue, IfOk, IfErr, IsErrOf, MatchResult};
 ghost use Rattle.ip_ground.specs.Counts.{Counts};
 ghost use Rattle.ip_space.specs.declared.fault.FetchFault.TheVariants as FetchFault;
-ghost use Rattle.ip_tree.specs.Faults.{ground_tree};
+ghost use Rattle.ip_tree.specs.Faults.{counted_tree};
 ghost use Rattle.ip_space.specs.SpaceView.{IsReadable, records_of};
 ghost use Rattle.ip_spec.specs.Record.{Fits, reference_kind};
 ghost use Rattle.ip_spec.specs.Shape.{Entries};
@@ -67,7 +67,7 @@ pub fn bring_part<G: Ground>(
     ensures any { IsTrue G.tells → IsReadable (G.told outside.old) space.old → IfOk result (λ found. records_of (G.told outside.old) space.old reference.now.at ≡ lent_at space.new reference.now.at found) }
     ensures is { IfOk result (λ found. IsPartRecord (lent_at space.new reference.now.at found)) }
     ensures looks { Looks G.tells (G.told outside.old) (G.told outside.new) space.old space.new }
-    ensures counts { Counts ground_tree result (G.counts_of outside.old) (G.counts_of outside.new) }
+    ensures counts { Counts counted_tree result (G.counts_of outside.old) (G.counts_of outside.new) }
     ensures causes { IfErr result (IsCause G.tells (G.told outside.old) space.old) }
     ensures fault { IfErr result IsFetchFault }
 {
@@ -109,7 +109,7 @@ pub fn fetch_part<G: Ground>(
     ensures any { IsTrue G.tells → IsReadable (G.told outside.old) space.old → IfOk result (λ content. records_of (G.told outside.old) space.old reference.now.at ≡ Some (record_of content)) }
     ensures bounds { IfOk result (λ content. (version : ℕ) × Fits version (record_of content)) }
     ensures looks { Looks G.tells (G.told outside.old) (G.told outside.new) space.old space.new }
-    ensures counts { Counts ground_tree result (G.counts_of outside.old) (G.counts_of outside.new) }
+    ensures counts { Counts counted_tree result (G.counts_of outside.old) (G.counts_of outside.new) }
     ensures causes { IfErr result (IsCause G.tells (G.told outside.old) space.old) }
     ensures fault { IfErr result IsFetchFault }
 {
@@ -146,7 +146,7 @@ pub fn fetch_contents<G: Ground>(
     // over any records
     ensures any { IsTrue G.tells → IsReadable (G.told outside.old) space.old → IfOk result (λ bytes. records_of (G.told outside.old) space.old reference.now.at ≡ Some (Record.Contents bytes)) }
     ensures looks { Looks G.tells (G.told outside.old) (G.told outside.new) space.old space.new }
-    ensures counts { Counts ground_tree result (G.counts_of outside.old) (G.counts_of outside.new) }
+    ensures counts { Counts counted_tree result (G.counts_of outside.old) (G.counts_of outside.new) }
     ensures causes { IfErr result (IsCause G.tells (G.told outside.old) space.old) }
     ensures fault { IfErr result IsFetchFault }
 {

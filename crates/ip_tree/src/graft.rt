@@ -2,7 +2,7 @@
 ghost use Rattle.std.specs.Prelude.{◌≡◌, ℕ, [], Option, option_map, IsTrue, IfOk, IfErr, IsErrOf, MatchResult};
 ghost use Rattle.ip_ground.specs.Counts.{Counts};
 ghost use Rattle.ip_space.specs.declared.fault.FetchFault.TheVariants as FetchFault;
-ghost use Rattle.ip_tree.specs.Faults.{ground_tree};
+ghost use Rattle.ip_tree.specs.Faults.{counted_tree};
 ghost use Rattle.ip_spec.specs.Path.{IsPath};
 ghost use Rattle.ip_spec.specs.Tree.{Tree as Map};
 ghost use Rattle.ip_spec.specs.View.{View, least as least_of};
@@ -44,7 +44,7 @@ impl Tree {
         ensures grafts { IsTrue G.tells → (records : ℕ → Option Record) (v w : View) → IsOver (G.told outside.old) space.old records → IsView records self.old v → IsView records source.now w
             → Grafts records from.now to.now self.new v w result }
         ensures looks { Looks G.tells (G.told outside.old) (G.told outside.new) space.old space.new }
-        ensures counts { Counts ground_tree result (G.counts_of outside.old) (G.counts_of outside.new) }
+        ensures counts { Counts counted_tree result (G.counts_of outside.old) (G.counts_of outside.new) }
         ensures causes { IfErr result (IsCause G.tells (G.told outside.old) space.old) }
     {
         let place = match source.some_at(outside, space, from) {
@@ -72,7 +72,7 @@ impl Tree {
         ensures part { IsTrue G.tells → (records : ℕ → Option Record) (w : View) → IsOver (G.told outside.old) space.old records → IsView records self.now w
             → MatchResult result (λ found. FindsIn records w path.now (option_map as_node found)) IsFree }
         ensures looks { Looks G.tells (G.told outside.old) (G.told outside.new) space.old space.new }
-        ensures counts { Counts ground_tree result (G.counts_of outside.old) (G.counts_of outside.new) }
+        ensures counts { Counts counted_tree result (G.counts_of outside.old) (G.counts_of outside.new) }
         ensures causes { IfErr result (IsCause G.tells (G.told outside.old) space.old) }
     {
         if path.is_empty() {
@@ -90,7 +90,7 @@ impl Tree {
         ensures part { IsTrue G.tells → (records : ℕ → Option Record) (w : View) → IsOver (G.told outside.old) space.old records → IsView records self.now w
             → MatchResult result (λ found. FindsIn records w [] (option_map as_node found)) IsFree }
         ensures looks { Looks G.tells (G.told outside.old) (G.told outside.new) space.old space.new }
-        ensures counts { Counts ground_tree result (G.counts_of outside.old) (G.counts_of outside.new) }
+        ensures counts { Counts counted_tree result (G.counts_of outside.old) (G.counts_of outside.new) }
         ensures causes { IfErr result (IsCause G.tells (G.told outside.old) space.old) }
     {
         match &self.root {

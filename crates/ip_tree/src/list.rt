@@ -4,7 +4,7 @@ ghost use Rattle.std.specs.FinMap.Entries.{is_sorted};
 ghost use Rattle.ip_ground.specs.Counts.{Counts};
 ghost use Rattle.ip_spec.specs.Path.{bytes_cmp};
 ghost use Rattle.ip_space.specs.declared.fault.FetchFault.TheVariants as FetchFault;
-ghost use Rattle.ip_tree.specs.Faults.{ground_tree};
+ghost use Rattle.ip_tree.specs.Faults.{counted_tree};
 ghost use Rattle.ip_shape.specs.Loaded.{unread_in, way};
 ghost use Rattle.ip_shape.specs.Shape.{IsPart};
 ghost use Rattle.ip_spec.specs.Shape.{Entries, deepest, part_from};
@@ -48,7 +48,7 @@ impl Tree {
         ensures listed { IsTrue G.tells → (records : ℕ → Option Record) (v : View) → IsOver (G.told outside.old) space.old records → IsView records self.now v
             → MatchResult result (λ listed. listed ≡ listed_at v.map path.now) IsFree }
         ensures looks { Looks G.tells (G.told outside.old) (G.told outside.new) space.old space.new }
-        ensures counts { Counts ground_tree result (G.counts_of outside.old) (G.counts_of outside.new) }
+        ensures counts { Counts counted_tree result (G.counts_of outside.old) (G.counts_of outside.new) }
         ensures causes { IfErr result (IsCause G.tells (G.told outside.old) space.old) }
     {
         match self.at(outside, space, path) {
@@ -73,7 +73,7 @@ fn list_stored<G: Ground>(
     ensures listed { IsTrue G.tells → (records : ℕ → Option Record) (t : Map) → IsOver (G.told outside.old) space.old records → Reaches records reference.now t
         → MatchResult result (λ listed. listed ≡ listed_at t []) IsFree }
     ensures looks { Looks G.tells (G.told outside.old) (G.told outside.new) space.old space.new }
-    ensures counts { Counts ground_tree result (G.counts_of outside.old) (G.counts_of outside.new) }
+    ensures counts { Counts counted_tree result (G.counts_of outside.old) (G.counts_of outside.new) }
     ensures causes { IfErr result (IsCause G.tells (G.told outside.old) space.old) }
 {
     if reference.kind == kind::CONTENTS {
@@ -94,7 +94,7 @@ fn list_directory<G: Ground>(
     ensures listed { IsTrue G.tells → (records : ℕ → Option Record) (t : Map) → IsOver (G.told outside.old) space.old records → IsDirectory records (shown_directory dir.now) t
         → MatchResult result (λ listed. listed ≡ listed_at t []) IsFree }
     ensures looks { Looks G.tells (G.told outside.old) (G.told outside.new) space.old space.new }
-    ensures counts { Counts ground_tree result (G.counts_of outside.old) (G.counts_of outside.new) }
+    ensures counts { Counts counted_tree result (G.counts_of outside.old) (G.counts_of outside.new) }
     ensures causes { IfErr result (IsCause G.tells (G.told outside.old) space.old) }
 {
     let mut found = kinds_read(alloc, dir)?;
@@ -137,7 +137,7 @@ fn gather_unread<G: Ground>(
         → ((is : List ℕ) (x : Stored) → unread_in is part.now ≡ Some (x, []) → SpellsPart records (depth + length is) x (part_from depth es is))
         → MatchResult result (λ _. Adds (filter (λ e. is_some (unread_in (way (deepest - depth) depth e.0) part.now)) es) found.old.entries found.new.entries) IsFree }
     ensures looks { Looks G.tells (G.told outside.old) (G.told outside.new) space.old space.new }
-    ensures counts { Counts ground_tree result (G.counts_of outside.old) (G.counts_of outside.new) }
+    ensures counts { Counts counted_tree result (G.counts_of outside.old) (G.counts_of outside.new) }
     ensures causes { IfErr result (IsCause G.tells (G.told outside.old) space.old) }
 {
     match part {

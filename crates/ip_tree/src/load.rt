@@ -2,7 +2,7 @@
 ghost use Rattle.std.specs.Prelude.{◌≡◌, ◌+◌, ℕ, [], map, Option, Some, None, IsTrue, IsFalse, IfOk, IfErr, IsErrOf, MatchResult, min, sum_by, ◌-◌, ◌^◌};
 ghost use Rattle.ip_ground.specs.Counts.{Counts};
 ghost use Rattle.ip_space.specs.declared.fault.FetchFault.TheVariants as FetchFault;
-ghost use Rattle.ip_tree.specs.Faults.{ground_tree};
+ghost use Rattle.ip_tree.specs.Faults.{counted_tree};
 ghost use Rattle.ip_shape.specs.Directory.{root_of};
 ghost use Rattle.ip_shape.specs.Loaded.{unread_in};
 ghost use Rattle.ip_shape.specs.Reading.{IsNeeded};
@@ -45,7 +45,7 @@ pub fn load<G: Ground>(
     ensures loaded { IsTrue G.tells → (records : ℕ → Option Record) (t : Map) → IsOver (G.told outside.old) space.old records → Spells records reference.now t → IsFalse (is_contents t)
         → MatchResult result (λ dir. IsDirectory records (shown_directory dir) t × ((part : Part) → knows records (shown_directory dir) part ≡ stored_part records reference.now.at part.path part.indexes)) IsFree }
     ensures looks { Looks G.tells (G.told outside.old) (G.told outside.new) space.old space.new }
-    ensures counts { Counts ground_tree result (G.counts_of outside.old) (G.counts_of outside.new) }
+    ensures counts { Counts counted_tree result (G.counts_of outside.old) (G.counts_of outside.new) }
     ensures causes { IfErr result (IsCause G.tells (G.told outside.old) space.old) }
 {
     let content = fetch_part(outside, space, reference)?;
@@ -132,7 +132,7 @@ fn load_part<G: Ground>(
         → unread_in part.now.indexes.items (root_of dir.old) ≡ Some (part.now.record, [])
         → MatchResult result (λ _. IsSame (IsDirectory records) records (shown_directory dir.old) (shown_directory dir.new) t) (IsKept (IsDirectory records) records (shown_directory dir.old) (shown_directory dir.new) t) }
     ensures looks { Looks G.tells (G.told outside.old) (G.told outside.new) space.old space.new }
-    ensures counts { Counts ground_tree result (G.counts_of outside.old) (G.counts_of outside.new) }
+    ensures counts { Counts counted_tree result (G.counts_of outside.old) (G.counts_of outside.new) }
     ensures causes { IfErr result (IsCause G.tells (G.told outside.old) space.old) }
 {
     let content = fetch_part(outside, space, &part.record.reference)?;
@@ -154,7 +154,7 @@ pub fn load_way<G: Ground>(
     ensures opened { IsTrue G.tells → (records : ℕ → Option Record) (t : Map) → IsOver (G.told outside.old) space.old records → IsDirectory records (shown_directory dir.old) t
         → MatchResult result (λ _. IsOpened records step.now (shown_directory dir.old) (shown_directory dir.new) t) (IsKept (IsDirectory records) records (shown_directory dir.old) (shown_directory dir.new) t) }
     ensures looks { Looks G.tells (G.told outside.old) (G.told outside.new) space.old space.new }
-    ensures counts { Counts ground_tree result (G.counts_of outside.old) (G.counts_of outside.new) }
+    ensures counts { Counts counted_tree result (G.counts_of outside.old) (G.counts_of outside.new) }
     ensures causes { IfErr result (IsCause G.tells (G.told outside.old) space.old) }
 {
     for _ in 0..READS_MAX {
@@ -178,7 +178,7 @@ pub fn load_to_remove<G: Ground>(
         → MatchResult result (λ _. IsOpened records step.now (shown_directory dir.old) (shown_directory dir.new) t × IsNeeded step.now (steps_of (entries_of t).entries) (root_of dir.new) None)
         (IsKept (IsDirectory records) records (shown_directory dir.old) (shown_directory dir.new) t) }
     ensures looks { Looks G.tells (G.told outside.old) (G.told outside.new) space.old space.new }
-    ensures counts { Counts ground_tree result (G.counts_of outside.old) (G.counts_of outside.new) }
+    ensures counts { Counts counted_tree result (G.counts_of outside.old) (G.counts_of outside.new) }
     ensures causes { IfErr result (IsCause G.tells (G.told outside.old) space.old) }
 {
     for _ in 0..READS_MAX {
@@ -200,7 +200,7 @@ pub fn unfold<G: Ground>(
     ensures opened { IsTrue G.tells → (records : ℕ → Option Record) (t : Map) → IsOver (G.told outside.old) space.old records → NodeIs records (shown node.old) t
         → MatchResult result (λ _. IsUnfolded records (shown node.old) (shown node.new) t) (λ fault. (node.new ≡ node.old) × IsFree fault) }
     ensures looks { Looks G.tells (G.told outside.old) (G.told outside.new) space.old space.new }
-    ensures counts { Counts ground_tree result (G.counts_of outside.old) (G.counts_of outside.new) }
+    ensures counts { Counts counted_tree result (G.counts_of outside.old) (G.counts_of outside.new) }
     ensures causes { IfErr result (IsCause G.tells (G.told outside.old) space.old) }
 {
     let reference = match &*node {

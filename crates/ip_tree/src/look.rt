@@ -2,7 +2,7 @@
 ghost use Rattle.std.specs.Prelude.{◌≡◌, ◌<◌, ◌^◌, ◌++◌, ℕ, [], ◌∷◌, Option, Some, option_map, option_and_then, IsTrue, IsFalse, IsSome, IfSome, IfOk, IfErr, IsErrOf, MatchResult};
 ghost use Rattle.ip_ground.specs.Counts.{Counts};
 ghost use Rattle.ip_space.specs.declared.fault.FetchFault.TheVariants as FetchFault;
-ghost use Rattle.ip_tree.specs.Faults.{ground_tree};
+ghost use Rattle.ip_tree.specs.Faults.{counted_tree};
 ghost use Rattle.ip_space.specs.SpaceView.{IsReadable, records_of};
 ghost use Rattle.ip_spec.specs.Path.{Path};
 ghost use Rattle.ip_spec.specs.Tree.{Tree as Map, IsTree, got_at};
@@ -63,7 +63,7 @@ impl Tree {
         ensures any { IsTrue G.tells → IsReadable (G.told outside.old) space.old → (r : Ref) → self.now.root ≡ Root.Stored r
             → IfOk result (λ found. IsWalkTo (records_of (G.told outside.old) space.old) r path.now (option_map as_node found)) }
         ensures looks { Looks G.tells (G.told outside.old) (G.told outside.new) space.old space.new }
-        ensures counts { Counts ground_tree result (G.counts_of outside.old) (G.counts_of outside.new) }
+        ensures counts { Counts counted_tree result (G.counts_of outside.old) (G.counts_of outside.new) }
         ensures causes { IfErr result (IsCause G.tells (G.told outside.old) space.old) }
     {
         // By a loop and without `?`: a descent that takes a place by value gets no proof.
@@ -103,7 +103,7 @@ impl Tree {
         ensures got { IsTrue G.tells → (records : ℕ → Option Record) (v : View) → IsOver (G.told outside.old) space.old records → IsView records self.now v
             → MatchResult result (λ got. got ≡ got_at v.map path.now) IsFree }
         ensures looks { Looks G.tells (G.told outside.old) (G.told outside.new) space.old space.new }
-        ensures counts { Counts ground_tree result (G.counts_of outside.old) (G.counts_of outside.new) }
+        ensures counts { Counts counted_tree result (G.counts_of outside.old) (G.counts_of outside.new) }
         ensures causes { IfErr result (IsCause G.tells (G.told outside.old) space.old) }
     {
         match self.at(outside, space, path) {
@@ -141,7 +141,7 @@ fn step_down<'a, G: Ground>(
     // below a record nothing was read
     ensures stays { IsSome (ref_of (as_node place.now)) → IfOk result (λ found. IfSome found (λ next. IsSome (ref_of (as_node next)))) }
     ensures looks { Looks G.tells (G.told outside.old) (G.told outside.new) space.old space.new }
-    ensures counts { Counts ground_tree result (G.counts_of outside.old) (G.counts_of outside.new) }
+    ensures counts { Counts counted_tree result (G.counts_of outside.old) (G.counts_of outside.new) }
     ensures causes { IfErr result (IsCause G.tells (G.told outside.old) space.old) }
 {
     match place {
@@ -164,7 +164,7 @@ fn in_directory<'a, G: Ground>(
     ensures place { IsTrue G.tells → (records : ℕ → Option Record) (w : View) (p : Path) → IsOver (G.told outside.old) space.old records → IsTree w.map → IsPlaceOf records w p (shown_directory dir.now)
         → MatchResult result (λ found. FindsIn records w (p ++ step.now ∷ []) (option_map as_node found)) IsFree }
     ensures looks { Looks G.tells (G.told outside.old) (G.told outside.new) space.old space.new }
-    ensures counts { Counts ground_tree result (G.counts_of outside.old) (G.counts_of outside.new) }
+    ensures counts { Counts counted_tree result (G.counts_of outside.old) (G.counts_of outside.new) }
     ensures causes { IfErr result (IsCause G.tells (G.told outside.old) space.old) }
 {
     if let Some(node) = find(dir, step) {
@@ -191,7 +191,7 @@ fn stored_below<G: Ground>(
     ensures any { IsTrue G.tells → IsReadable (G.told outside.old) space.old
         → IfOk result (λ found. option_map (λ x. x.reference) found ≡ walk_to (records_of (G.told outside.old) space.old) (step.now ∷ []) reference.now) }
     ensures looks { Looks G.tells (G.told outside.old) (G.told outside.new) space.old space.new }
-    ensures counts { Counts ground_tree result (G.counts_of outside.old) (G.counts_of outside.new) }
+    ensures counts { Counts counted_tree result (G.counts_of outside.old) (G.counts_of outside.new) }
     ensures causes { IfErr result (IsCause G.tells (G.told outside.old) space.old) }
 {
     if reference.kind == kind::CONTENTS {
@@ -205,7 +205,7 @@ fn whole<G: Ground>(outside: &mut G, space: &mut Space, reference: &Ref) -> Resu
     ensures got { IsTrue G.tells → (records : ℕ → Option Record) (sub : Map) → IsOver (G.told outside.old) space.old records → Reaches records reference.now sub → IsNarrow sub
         → MatchResult result (λ got. got ≡ got_at sub []) IsFree }
     ensures looks { Looks G.tells (G.told outside.old) (G.told outside.new) space.old space.new }
-    ensures counts { Counts ground_tree result (G.counts_of outside.old) (G.counts_of outside.new) }
+    ensures counts { Counts counted_tree result (G.counts_of outside.old) (G.counts_of outside.new) }
     ensures causes { IfErr result (IsCause G.tells (G.told outside.old) space.old) }
 {
     if reference.kind == kind::CONTENTS {

@@ -3,7 +3,7 @@ ghost use Rattle.std.specs.Prelude.{◌≡◌, ◌<◌, ℕ, true, [], List, Opt
 ghost use Rattle.std.specs.FinMap.Entries.{find, put};
 ghost use Rattle.ip_ground.specs.Counts.{Counts};
 ghost use Rattle.ip_space.specs.declared.fault.FetchFault.TheVariants as FetchFault;
-ghost use Rattle.ip_tree.specs.Faults.{ground_tree};
+ghost use Rattle.ip_tree.specs.Faults.{counted_tree};
 ghost use Rattle.ip_shape.specs.Directory.{IsPartly, root_of};
 ghost use Rattle.ip_shape.specs.Loaded.{IsEdited};
 ghost use Rattle.ip_shape.specs.Shape.{ByTest};
@@ -46,7 +46,7 @@ impl Tree {
         ensures place { IsTrue G.tells → (records : ℕ → Option Record) (v : View) (sub : Map) → IsOver (G.told outside.old) space.old records → IsView records self.old v → NodeIs records (shown part) sub
             → PlacesTree records path.now (shown part) sub self.new v result }
         ensures looks { Looks G.tells (G.told outside.old) (G.told outside.new) space.old space.new }
-        ensures counts { Counts ground_tree result (G.counts_of outside.old) (G.counts_of outside.new) }
+        ensures counts { Counts counted_tree result (G.counts_of outside.old) (G.counts_of outside.new) }
         ensures causes { IfErr result (IsCause G.tells (G.told outside.old) space.old) }
     {
         self.open_root(alloc, outside, space)?;
@@ -71,7 +71,7 @@ fn place_in<G: Ground>(
     ensures place { IsTrue G.tells → (records : ℕ → Option Record) (t sub : Map) → IsOver (G.told outside.old) space.old records → IsDirectory records (shown_directory dir.old) t → NodeIs records (shown part) sub
         → Places (IsDirectory records) records steps.now (shown part) sub (shown_directory dir.old) (shown_directory dir.new) t result }
     ensures looks { Looks G.tells (G.told outside.old) (G.told outside.new) space.old space.new }
-    ensures counts { Counts ground_tree result (G.counts_of outside.old) (G.counts_of outside.new) }
+    ensures counts { Counts counted_tree result (G.counts_of outside.old) (G.counts_of outside.new) }
     ensures causes { IfErr result (IsCause G.tells (G.told outside.old) space.old) }
 {
     load_way(alloc, outside, space, dir, &steps[0])?;
@@ -98,7 +98,7 @@ fn place_at<G: Ground>(
     ensures place { IsTrue G.tells → (records : ℕ → Option Record) (t sub : Map) → IsOver (G.told outside.old) space.old records → NodeIs records (shown node.old) t → NodeIs records (shown part) sub
         → Places (NodeIs records) records steps.now (shown part) sub (shown node.old) (shown node.new) t result }
     ensures looks { Looks G.tells (G.told outside.old) (G.told outside.new) space.old space.new }
-    ensures counts { Counts ground_tree result (G.counts_of outside.old) (G.counts_of outside.new) }
+    ensures counts { Counts counted_tree result (G.counts_of outside.old) (G.counts_of outside.new) }
     ensures causes { IfErr result (IsCause G.tells (G.told outside.old) space.old) }
 {
     if steps.is_empty() {

@@ -2,7 +2,7 @@
 ghost use Rattle.std.specs.Prelude.{◌≡◌, ◌<◌, ◌≤◌, ◌&&◌, ◌==◌, ◌^◌, ℕ, suc, cond, Option, length, IsTrue, IsFalse, IfOk, IfErr, IsErrOf};
 ghost use Rattle.ip_ground.specs.Counts.{Counts};
 ghost use Rattle.ip_space.specs.declared.fault.FetchFault.TheVariants as FetchFault;
-ghost use Rattle.ip_tree.specs.Faults.{ground_tree};
+ghost use Rattle.ip_tree.specs.Faults.{counted_tree};
 ghost use Rattle.ip_spec.specs.Tree.{Tree as Map, is_empty, subtree};
 ghost use Rattle.ip_spec.specs.View.{View};
 ghost use Rattle.ip_spec.specs.declared.record.Record.{Record};
@@ -48,7 +48,7 @@ impl Tree {
         ensures removes { IsTrue G.tells → (records : ℕ → Option Record) (v : View) → IsOver (G.told outside.old) space.old records → IsView records self.old v
             → Removes records path.now self.new v result }
         ensures looks { Looks G.tells (G.told outside.old) (G.told outside.new) space.old space.new }
-        ensures counts { Counts ground_tree result (G.counts_of outside.old) (G.counts_of outside.new) }
+        ensures counts { Counts counted_tree result (G.counts_of outside.old) (G.counts_of outside.new) }
         ensures causes { IfErr result (IsCause G.tells (G.told outside.old) space.old) }
     {
         self.open_root(alloc, outside, space)?;
@@ -71,7 +71,7 @@ fn remove_from<G: Ground>(
     ensures removes { IsTrue G.tells → (records : ℕ → Option Record) (t : Map) → IsOver (G.told outside.old) space.old records → IsDirectory records (shown_directory dir.old) t
         → RemovesFrom records path.now (shown_directory dir.old) (shown_directory dir.new) t result }
     ensures looks { Looks G.tells (G.told outside.old) (G.told outside.new) space.old space.new }
-    ensures counts { Counts ground_tree result (G.counts_of outside.old) (G.counts_of outside.new) }
+    ensures counts { Counts counted_tree result (G.counts_of outside.old) (G.counts_of outside.new) }
     ensures causes { IfErr result (IsCause G.tells (G.told outside.old) space.old) }
 {
     match front_in(alloc, outside, space, dir, path)? {
@@ -97,7 +97,7 @@ fn front_in<G: Ground>(
         → FindsFront records steps.now (shown_directory dir.old) (shown_directory dir.new) t result }
     ensures within { IfOk result (λ front. (n : ℕ) → front ≡ Front.Steps n → (0 < n) × (n ≤ length steps.now)) }
     ensures looks { Looks G.tells (G.told outside.old) (G.told outside.new) space.old space.new }
-    ensures counts { Counts ground_tree result (G.counts_of outside.old) (G.counts_of outside.new) }
+    ensures counts { Counts counted_tree result (G.counts_of outside.old) (G.counts_of outside.new) }
     ensures causes { IfErr result (IsCause G.tells (G.told outside.old) space.old) }
 {
     load_way(alloc, outside, space, dir, &steps[0])?;
@@ -124,7 +124,7 @@ fn front_at<G: Ground>(
         → FindsFrontAt records steps.now (shown node.old) (shown node.new) t result }
     ensures within { IfOk result (λ front. (n : ℕ) → front ≡ Front.Steps n → (0 < n) × (n ≤ suc (length steps.now))) }
     ensures looks { Looks G.tells (G.told outside.old) (G.told outside.new) space.old space.new }
-    ensures counts { Counts ground_tree result (G.counts_of outside.old) (G.counts_of outside.new) }
+    ensures counts { Counts counted_tree result (G.counts_of outside.old) (G.counts_of outside.new) }
     ensures causes { IfErr result (IsCause G.tells (G.told outside.old) space.old) }
 {
     if steps.is_empty() {
@@ -164,7 +164,7 @@ fn take_in<G: Ground>(
     ensures taken { IsTrue G.tells → (records : ℕ → Option Record) (t : Map) → IsOver (G.told outside.old) space.old records → IsDirectory records (shown_directory dir.old) t
         → IsFalse (is_empty (subtree t steps.now)) → length steps.now ≡ taken_front t steps.now → Takes records steps.now (shown_directory dir.old) (shown_directory dir.new) t result }
     ensures looks { Looks G.tells (G.told outside.old) (G.told outside.new) space.old space.new }
-    ensures counts { Counts ground_tree result (G.counts_of outside.old) (G.counts_of outside.new) }
+    ensures counts { Counts counted_tree result (G.counts_of outside.old) (G.counts_of outside.new) }
     ensures causes { IfErr result (IsCause G.tells (G.told outside.old) space.old) }
 {
     if steps.len() == 1 {
@@ -196,7 +196,7 @@ fn take_at<G: Ground>(
     ensures taken { IsTrue G.tells → (records : ℕ → Option Record) (t : Map) → IsOver (G.told outside.old) space.old records → NodeIs records (shown node.old) t
         → IsFalse (is_empty (subtree t steps.now)) → length steps.now ≡ taken_front t steps.now → TakesAt records steps.now (shown node.old) (shown node.new) t result }
     ensures looks { Looks G.tells (G.told outside.old) (G.told outside.new) space.old space.new }
-    ensures counts { Counts ground_tree result (G.counts_of outside.old) (G.counts_of outside.new) }
+    ensures counts { Counts counted_tree result (G.counts_of outside.old) (G.counts_of outside.new) }
     ensures causes { IfErr result (IsCause G.tells (G.told outside.old) space.old) }
 {
     match node {

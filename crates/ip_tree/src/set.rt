@@ -3,7 +3,7 @@ ghost use Rattle.std.specs.Prelude.{◌≡◌, ◌<◌, ℕ, Option, Err, IsTrue
 ghost use Rattle.ip_base.specs.declared.limit.Limit.TheVariants as Limit;
 ghost use Rattle.ip_ground.specs.Counts.{Counts};
 ghost use Rattle.ip_space.specs.declared.fault.FetchFault.TheVariants as FetchFault;
-ghost use Rattle.ip_tree.specs.Faults.{ground_tree};
+ghost use Rattle.ip_tree.specs.Faults.{counted_tree};
 ghost use Rattle.ip_spec.specs.Path.{IsPath};
 ghost use Rattle.ip_spec.specs.Step.{contents_limit};
 ghost use Rattle.ip_spec.specs.View.{View};
@@ -37,7 +37,7 @@ impl Tree {
         // Contents that are too long are refused before anything is read or held.
         ensures long { contents_limit < length value.now → result ≡ Err (TreeFault.Limit Limit.Contents) }
         ensures looks { Looks G.tells (G.told outside.old) (G.told outside.new) space.old space.new }
-        ensures counts { Counts ground_tree result (G.counts_of outside.old) (G.counts_of outside.new) }
+        ensures counts { Counts counted_tree result (G.counts_of outside.old) (G.counts_of outside.new) }
         ensures causes { IfErr result (IsCause G.tells (G.told outside.old) space.old) }
     {
         if value.len() > CONTENTS_MAX {

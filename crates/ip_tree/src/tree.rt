@@ -2,7 +2,7 @@
 ghost use Rattle.std.specs.Prelude.{◌≡◌, ◌≤◌, ℕ, Option, IsTrue, IsFalse, IfErr, IsErrOf};
 ghost use Rattle.ip_ground.specs.Counts.{Counts};
 ghost use Rattle.ip_space.specs.declared.fault.FetchFault.TheVariants as FetchFault;
-ghost use Rattle.ip_tree.specs.Faults.{ground_tree};
+ghost use Rattle.ip_tree.specs.Faults.{counted_tree};
 ghost use Rattle.ip_spec.specs.declared.record.Record.{Record};
 ghost use Rattle.ip_spec.specs.Step.{entries_limit};
 ghost use Rattle.ip_spec.specs.Tree.{Tree as Map, is_contents, widest, IsTree};
@@ -107,7 +107,7 @@ impl Tree {
         ensures opened { IsTrue G.tells → (records : ℕ → Option Record) (v : View) → IsOver (G.told outside.old) space.old records → IsView records self.old v
             → IsView records self.new v × IfErr result IsFree }
         ensures looks { Looks G.tells (G.told outside.old) (G.told outside.new) space.old space.new }
-        ensures counts { Counts ground_tree result (G.counts_of outside.old) (G.counts_of outside.new) }
+        ensures counts { Counts counted_tree result (G.counts_of outside.old) (G.counts_of outside.new) }
         ensures causes { IfErr result (IsCause G.tells (G.told outside.old) space.old) }
     {
         let reference = match &self.root {

@@ -9,7 +9,7 @@ ghost use Rattle.ip_spawn.specs.Jobs.{IsValid as IsValidJob};
 ghost use Rattle.ip_image.specs.Virtual.{RowsFit, placed, total, mapping_bytes};
 ghost use Rattle.ip_space.specs.SpaceView.{AreBelow, byte_at};
 ghost use Rattle.ip_keep.specs.Runs.{joined};
-ghost use Rattle.ip_worker.specs.Faults.{ground_work};
+ghost use Rattle.ip_worker.specs.Faults.{counted_work};
 ghost use Rattle.ip_worker.specs.declared.fault.WorkFault.TheVariants as WorkFault;
 ghost use Rattle.ip_worker.specs.Steps.{IsFor, IsFree, IsPairFile, IsReady, Copies, CopiesRuns, IsCounted, WritesPair};
 
@@ -40,7 +40,7 @@ pub fn write_pair<G: Ground>(
         (G.told outside.old).held (Prefix job.now.attempt) ≡ None → (G.told outside.old).held (Mapping job.now.attempt) ≡ None →
         WritesPair (byte_at (G.told outside.old) keep.now.space) job.now (joined keep.now.kept) result (G.told outside.new) }
     ensures only { IsTrue G.tells → IsFree (G.told outside.old) job.now.attempt → ChangesOnly (IsPairFile job.now.attempt) (G.told outside.old) (G.told outside.new) }
-    ensures counts { CountsBy ground_work result (G.counts_of outside.old) (G.counts_of outside.new) }
+    ensures counts { CountsBy counted_work result (G.counts_of outside.old) (G.counts_of outside.new) }
 {
     let runs = list_runs(alloc, keep)?;
     let bytes = match write_files(alloc, job, outside, keep.space(), &runs) {
@@ -71,7 +71,7 @@ fn write_files<G: Ground>(
         (G.told outside.old).held (Prefix job.now.attempt) ≡ None → (G.told outside.old).held (Mapping job.now.attempt) ≡ None →
         WritesPair (byte_at (G.told outside.old) space.now) job.now runs.now result (G.told outside.new) }
     ensures only { IsTrue G.tells → IsFree (G.told outside.old) job.now.attempt → ChangesOnly (IsPairFile job.now.attempt) (G.told outside.old) (G.told outside.new) }
-    ensures counts { CountsBy ground_work result (G.counts_of outside.old) (G.counts_of outside.new) }
+    ensures counts { CountsBy counted_work result (G.counts_of outside.old) (G.counts_of outside.new) }
 {
     let bytes = match write_prefix(alloc, job.attempt, outside, space, runs) {
         Ok(bytes) => bytes,
@@ -99,7 +99,7 @@ fn write_mapping<G: Ground>(
         OnOk result ((G.told outside.new).held (Mapping job.now.attempt) ≡ Some (mapping_bytes job.now.horizon job.now.end runs.now)) }
     ensures whole { IsErrOf result WorkFault.Damaged → ⊥ }
     ensures only { IsTrue G.tells → ChangesOnly (Only (Mapping job.now.attempt)) (G.told outside.old) (G.told outside.new) }
-    ensures counts { CountsBy ground_work result (G.counts_of outside.old) (G.counts_of outside.new) }
+    ensures counts { CountsBy counted_work result (G.counts_of outside.old) (G.counts_of outside.new) }
 {
     let mapping = ip_mapping::build(alloc, job.horizon, job.end, runs)?;
     outside.write(FileName::Mapping(job.attempt), 0, mapping.as_slice())?;
@@ -121,7 +121,7 @@ fn write_prefix<G: Ground>(
     ensures copies { IsTrue G.tells → IsReady attempt space.now (G.told outside.old) → (G.told outside.old).held (Prefix attempt) ≡ None →
         CopiesRuns (byte_at (G.told outside.old) space.now) attempt runs.now result (G.told outside.new) }
     ensures only { IsTrue G.tells → ChangesOnly (Only (Prefix attempt)) (G.told outside.old) (G.told outside.new) }
-    ensures counts { CountsBy ground_work result (G.counts_of outside.old) (G.counts_of outside.new) }
+    ensures counts { CountsBy counted_work result (G.counts_of outside.old) (G.counts_of outside.new) }
 {
     let mut buffer = zeros(alloc, room_for(total_of(runs)))?;
     outside.write(FileName::Prefix(attempt), 0, &[])?;
@@ -173,7 +173,7 @@ fn copy_runs<G: Ground>(
     ensures copies { IsTrue G.tells → IsReady attempt space.now (G.told outside.old) → (G.told outside.old).held (Prefix attempt) ≡ Some [] →
         CopiesRuns (byte_at (G.told outside.old) space.now) attempt runs.now result (G.told outside.new) }
     ensures only { IsTrue G.tells → ChangesOnly (Only (Prefix attempt)) (G.told outside.old) (G.told outside.new) }
-    ensures counts { CountsBy ground_work result (G.counts_of outside.old) (G.counts_of outside.new) }
+    ensures counts { CountsBy counted_work result (G.counts_of outside.old) (G.counts_of outside.new) }
 {
     let mut place = 0;
     for run in runs {
@@ -202,7 +202,7 @@ fn copy_run<G: Ground>(
     ensures copies { IsTrue G.tells → IsReady attempt space.now (G.told outside.old) → (before : Bytes) → (G.told outside.old).held (Prefix attempt) ≡ Some before →
         length before ≡ place → Copies (byte_at (G.told outside.old) space.now) attempt run.now.at run.now.length before result (G.told outside.new) }
     ensures only { IsTrue G.tells → ChangesOnly (Only (Prefix attempt)) (G.told outside.old) (G.told outside.new) }
-    ensures counts { CountsBy ground_work result (G.counts_of outside.old) (G.counts_of outside.new) }
+    ensures counts { CountsBy counted_work result (G.counts_of outside.old) (G.counts_of outside.new) }
 {
     let mut done = 0;
     while done < run.length {
@@ -217,7 +217,7 @@ fn copy_run<G: Ground>(
     Ok(())
 }
 
-// Copies as many bytes as the piece takes.
+// Copies as many bytes as the piece takes. Where one is missing damage is noted.
 fn copy_piece<G: Ground>(
     attempt: u64,
     outside: &mut G,
@@ -230,10 +230,11 @@ fn copy_piece<G: Ground>(
     ensures copies { IsTrue G.tells → IsReady attempt space.now (G.told outside.old) → (before : Bytes) → (G.told outside.old).held (Prefix attempt) ≡ Some before →
         length before ≡ place → Copies (byte_at (G.told outside.old) space.now) attempt at (length piece.old) before result (G.told outside.new) }
     ensures only { IsTrue G.tells → ChangesOnly (Only (Prefix attempt)) (G.told outside.old) (G.told outside.new) }
-    ensures counts { CountsBy ground_work result (G.counts_of outside.old) (G.counts_of outside.new) }
+    ensures counts { CountsBy counted_work result (G.counts_of outside.old) (G.counts_of outside.new) }
 {
     let count = space.read(outside, at, piece)?;
     if count < piece.len() {
+        outside.note_damage();
         return Err(WorkFault::Damaged);
     }
     outside.write(FileName::Prefix(attempt), place, piece)?;

@@ -10,7 +10,7 @@ ghost use Rattle.ip_image.specs.Virtual.{RowsFit, placed};
 ghost use Rattle.ip_space.specs.SpaceView.{IsReadable, byte_at};
 ghost use Rattle.ip_keep.specs.Keeping.{IsKeep};
 ghost use Rattle.ip_keep.specs.Runs.{AreHeld, joined};
-ghost use Rattle.ip_worker.specs.Faults.{ground_work};
+ghost use Rattle.ip_worker.specs.Faults.{counted_work};
 ghost use Rattle.ip_worker.specs.Steps.{IsFor, Opens, Finds};
 ghost use Rattle.ip_worker.specs.Whole.{AreWhole, layout_of_job};
 ghost use Rattle.ip_worker.specs.Working.{NothingLent};
@@ -33,7 +33,7 @@ pub fn find<G: Ground>(alloc: Global, job: &Job, outside: &mut G) -> Result<Keep
     // Over any files: no byte of what is kept is missing.
     ensures held { IsTrue G.tells → NothingLent (G.told outside.old) → IfOk result (λ keep. AreHeld (byte_at (G.told outside.new) keep.space) keep.kept) }
     ensures only { IsTrue G.tells → ChangesOnly NoFile (G.told outside.old) (G.told outside.new) }
-    ensures counts { Counts ground_work result (G.counts_of outside.old) (G.counts_of outside.new) }
+    ensures counts { Counts counted_work result (G.counts_of outside.old) (G.counts_of outside.new) }
 {
     let space = match open(alloc, job, outside) {
         Ok(space) => space,
@@ -56,7 +56,7 @@ fn open<G: Ground>(alloc: Global, job: &Job, outside: &mut G) -> Result<Space, W
         Opens job.now rows result }
     ensures readable { IsTrue G.tells → NothingLent (G.told outside.old) → IfOk result (λ space. IsReadable (G.told outside.new) space) }
     ensures only { IsTrue G.tells → ChangesOnly NoFile (G.told outside.old) (G.told outside.new) }
-    ensures counts { Counts ground_work result (G.counts_of outside.old) (G.counts_of outside.new) }
+    ensures counts { Counts counted_work result (G.counts_of outside.old) (G.counts_of outside.new) }
 {
     let layout = Layout {
         chunk: job.chunk,

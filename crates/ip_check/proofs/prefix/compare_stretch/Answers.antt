@@ -37,3 +37,6 @@ returns-clause-says g c told readable own bytes whole long stands piece so_far =
 
 pub returns-clause-only : goal.returns-clause-only
 returns-clause-only g c told = only_on _ _ _ NoFile (c.in_ok-count.ensures.only told) (c.compare.ensures.only told)
+
+pub returns-then-count-len-clause-only : goal.returns-then-count-len-clause-only
+returns-then-count-len-clause-only g c told = only_on _ _ _ NoFile (c.in_ok-count.ensures.only told) (c.note_damage.ensures.does told)

@@ -1,7 +1,9 @@
 use Rattle.std.proofs.Common.{sym, ap, ◌∙◌}
 use Rattle.ip_space.specs.SpaceView.{records_of}
 use Rattle.std.specs.Prelude.{Err}
-use Rattle.ip_keep.proofs.Reading.{read_damaged, counted_as}
+use Rattle.ip_ground.specs.Told.{NoFile}
+use Rattle.ip_ground.proofs.Spans.{only_on}
+use Rattle.ip_keep.proofs.Reading.{read_damaged, counted_as, unread_blames}
 use Rattle.ip_keep.proofs.read.record_below.Goals as goal
 
 pub returns-in-Err-clause-damaged : goal.returns-in-Err-clause-damaged
@@ -10,3 +12,9 @@ returns-in-Err-clause-damaged g c told readable place is rec there below =
 
 pub returns-in-Err-clause-counts : goal.returns-in-Err-clause-counts
 returns-in-Err-clause-counts g c = counted_as c.args.at c.in-Err.fault c.unread.result _ _ c.unread.ensures c.in-Err.ensures.counts
+
+pub returns-in-Err-clause-blames : goal.returns-in-Err-clause-blames
+returns-in-Err-clause-blames g c place is = unread_blames c.args.at c.in-Err.fault place (sym (ap Err c.unread.ensures) ∙ is)
+
+pub returns-then-at-length-clause-only : goal.returns-then-at-length-clause-only
+returns-then-at-length-clause-only g c told = only_on _ _ _ NoFile (c.record_at.ensures.reads told).only (c.note_damage.ensures.does told)

@@ -1,7 +1,6 @@
 use Rattle.std.proofs.Common.{rules, ◌≡◌, [], List, refl, ap, sym, subst, ◌∙◌}
 use Rattle.std.specs.Prelude.{MatchResult}
-use Rattle.ip_ground.specs.Counts.{CountsIf, FileFault}
-use Rattle.ip_ground.specs.declared.names.GroundCounts.{GroundCounts}
+use Rattle.ip_ground.specs.Counts.{CountsIf, Noted}
 use Rattle.ip_shape.specs.Directory.{root_of}
 use Rattle.ip_spec.specs.Path.{Step}
 use Rattle.ip_tree.specs.Node as view
@@ -11,7 +10,7 @@ use Rattle.ip_tree.specs.declared.node.Node.{Node}
 use Rattle.ip_tree.proofs.Looking.{looks_nothing, looks_on}
 use Rattle.ip_tree.proofs.Nodes.{stored_shown, directory_shown}
 use Rattle.ip_save.specs.Laid.{BeginsWith, fresh, fresh_among, longest, nodes_in, tallies, tallies_among}
-use Rattle.ip_save.specs.Reused.{IsDirectoryThere, IsFound, IsLost, again, entry_at, ground_save}
+use Rattle.ip_save.specs.Reused.{IsDirectoryThere, IsFound, IsLost, again, entry_at, counted_save}
 use Rattle.ip_save.proofs.Finding.{SoFar, all_found, directory_later, empty, failed, none_found, none_yet, one_more}
 use Rattle.ip_save.proofs.Rests.{rest_of}
 use Rattle.ip_save.proofs.Tallies.{inside_first, new_first, own_behind, own_first}
@@ -81,7 +80,7 @@ find_in-returns-in-Err g t c =
           failed ground.tells told mid (ground.told c.find_at.new.outside) c.args.space.now c.loop-step.space c.find_at.new.space c.args.other.now s n rest all c.args.out.now.items c.loop-step.out.items so c.in-Err.fault
           (c.in-Err.ensures.found (own_first s n rest c.loop-step.left.now below));
       looks = looks_on ground.tells _ _ _ _ _ _ c.loop-step.invariant.3 c.in-Err.ensures.looks;
-      counts = subst (λ (k : GroundCounts). CountsIf FileFault (ground_save c.in-Err.fault) k (ground.counts_of c.find_at.new.outside)) c.loop-step.invariant.4 c.in-Err.ensures.counts;
+      counts = subst (λ (k : Noted). CountsIf (counted_save c.in-Err.fault) k (ground.counts_of c.find_at.new.outside)) c.loop-step.invariant.4 c.in-Err.ensures.counts;
       alone = λ alone.
           let so_far = c.loop-step.invariant.5 alone in
           let now = c.in-Err.ensures.alone alone in

@@ -3,7 +3,7 @@ use Rattle.std.proofs.lemmas.Bool.{false≢true}
 use Rattle.ip_mapping.specs.Parsing.{IsMapping, Parses}
 use Rattle.ip_mapping.specs.declared.fault.MappingFault.{MappingFault}
 use Rattle.ip_mapping.proofs.Outcomes.{IsSmall}
-use Rattle.ip_space.proofs.LivePair.{IsSmallLayout, no_front, bad_numbers, parsed, parsed_horizon, parse_failed}
+use Rattle.ip_space.proofs.LivePair.{IsSmallLayout, no_front, bad_numbers, parsed, parsed_horizon, parse_failed, parse_wants}
 use Rattle.ip_space.proofs.live.parse_live.Goals as goal
 use Rattle.ip_space.proofs.live.parse_live.Goals.{in_default-via-in-Some+else-has_numbers, in_default-via-in_default}
 
@@ -32,3 +32,8 @@ returns-in-Err-Form-clause-finds c image here =
     let small : IsSmall c.in-Some.head = search rules in
     let layout : IsSmallLayout c.args.layout = search rules in
     parse_failed image c.args.layout c.args.bytes.now here layout c.in-Some.head small c.in-Some.ensures (c.if-has_numbers.ensures.0 refl) c.in-Err-Form.at (subst (λ (e : MappingFault). Parses c.args.bytes.now (Err e)) c.in-Err-Form.field-0-is c.in-Err-Form.ensures)
+
+pub returns-in-Err-Memory-clause-finds : goal.returns-in-Err-Memory-clause-finds
+returns-in-Err-Memory-clause-finds c image here =
+    let small : IsSmall c.in-Some.head = search rules in
+    parse_wants image c.args.layout c.args.bytes.now here c.in-Some.head small c.in-Some.ensures (c.if-has_numbers.ensures.0 refl) (subst (λ (e : MappingFault). Parses c.args.bytes.now (Err e)) c.in-Err-Memory.field-0-is c.in-Err-Memory.ensures)

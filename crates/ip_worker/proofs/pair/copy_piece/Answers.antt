@@ -1,6 +1,6 @@
 use Rattle.std.proofs.Common.{◌≡◌, length, arith}
 use Rattle.ip_ground.specs.declared.names.FileName.TheVariants.{Prefix}
-use Rattle.ip_ground.specs.Told.{Only}
+use Rattle.ip_ground.specs.Told.{NoFile, Only}
 use Rattle.ip_ground.proofs.Spans.{only_on}
 use Rattle.ip_worker.proofs.Copying.{of_none, now_held, reaches_end, piece_copied}
 use Rattle.ip_worker.proofs.pair.copy_piece.Goals as goal
@@ -25,3 +25,6 @@ returns-clause-copies g c told ready before held size =
 
 pub returns-clause-only : goal.returns-clause-only
 returns-clause-only g c told = only_on _ _ _ (Only (Prefix c.args.attempt)) (of_none (Only (Prefix c.args.attempt)) _ _ (c.in_ok-count.ensures.only told)) (c.write.ensures.only told)
+
+pub returns-then-count-piece-clause-only : goal.returns-then-count-piece-clause-only
+returns-then-count-piece-clause-only g c told = of_none (Only (Prefix c.args.attempt)) _ _ (only_on _ _ _ NoFile (c.in_ok-count.ensures.only told) (c.note_damage.ensures.does told))

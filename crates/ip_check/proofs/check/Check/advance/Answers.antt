@@ -1,8 +1,8 @@
-use Rattle.std.proofs.Common.{◌∙◌, Err}
+use Rattle.std.proofs.Common.{◌∙◌, ℕ, Err}
 use Rattle.ip_ground.specs.Told.{NoFile}
 use Rattle.ip_ground.proofs.Spans.{only_on}
 use Rattle.ip_check.specs.declared.check.Outcome.{Outcome}
-use Rattle.ip_check.proofs.Stages.{keeps_on, says_of, undamaged_as}
+use Rattle.ip_check.proofs.Stages.{blamed_as, keeps_on, says_of, undamaged_as}
 use Rattle.ip_check.proofs.check.Check.advance.Goals as goal
 
 pub returns-in-Ok-compare_prefix-clause-checking : goal.returns-in-Ok-compare_prefix-clause-checking
@@ -30,3 +30,15 @@ returns-in-Ok-compare_prefix-clause-only g c told = only_on _ _ _ NoFile (c.find
 
 pub returns-in-Err-compare_prefix-clause-only : goal.returns-in-Err-compare_prefix-clause-only
 returns-in-Err-compare_prefix-clause-only g c told = only_on _ _ _ NoFile (c.find.ensures.only told) (c.compare_prefix.ensures.only told)
+
+pub returns-in-Err-clause-blames : goal.returns-in-Err-clause-blames
+returns-in-Err-clause-blames g c at is = c.in-Err.ensures.blames at (blamed_as {A = Outcome} {B = ℕ} c.in-Err.fault at is)
+
+pub returns-in-Err-clause-through : goal.returns-in-Err-clause-through
+returns-in-Err-clause-through g c told is = let t = c.in-Err.ensures.through told is in t.0
+
+pub returns-in-Err-compare_prefix-clause-blames : goal.returns-in-Err-compare_prefix-clause-blames
+returns-in-Err-compare_prefix-clause-blames g c at is = c.in-Err-compare_prefix.ensures.blames at (blamed_as {A = Outcome} {B = Unit {0}} c.in-Err-compare_prefix.fault at is)
+
+pub returns-in-Err-compare_prefix-clause-through : goal.returns-in-Err-compare_prefix-clause-through
+returns-in-Err-compare_prefix-clause-through g c told is = let t = c.find.ensures.through told is in c.in-Err-compare_prefix.ensures.through told t.1

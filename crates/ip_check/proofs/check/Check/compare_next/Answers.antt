@@ -1,17 +1,19 @@
-use Rattle.std.proofs.Common.{◌≡◌, ℕ, ◌+◌, ◌≤◌, List, sym, ap, subst, ◌∙◌, drop, arith, Option, Ok}
+use Rattle.std.proofs.Common.{◌≡◌, inr, ℕ, ◌+◌, ◌≤◌, List, sym, ap, subst, ◌∙◌, drop, arith, Option, Ok}
 use Rattle.ip_base.specs.declared.limit.TheConstants.{OFFSET_MAX}
 use Rattle.ip_spec.specs.declared.reply.Difference.{Difference}
 use Rattle.ip_image.specs.declared.run.Run.{Run}
 use Rattle.ip_image.specs.Virtual.{Stands}
 use Rattle.ip_space.specs.SpaceView.{SpaceView, IsReadable, byte_at}
+use Rattle.std.specs.Prelude.{Contains}
+use Rattle.ip_keep.specs.Keeping.{offsets}
 use Rattle.ip_keep.proofs.RunsApart.{ends_fit}
 use Rattle.ip_check.specs.declared.check.Stage.{Stage}
 use Rattle.ip_check.specs.CheckView.{CheckView}
 use Rattle.ip_check.specs.Checking.{IsCheck, IsChecking}
 use Rattle.ip_check.specs.Going.{Goes, IsOver, KeepsTrue, found_of}
 use Rattle.ip_check.specs.Stretching.{IsStretch}
-use Rattle.ip_check.proofs.Linked.{stretch_ends}
-use Rattle.ip_check.proofs.Stages.{behind_stretch, goes_stretch, is_next, keeps_stretch, place_fits, undamaged_as, undone}
+use Rattle.ip_check.proofs.Linked.{stretch_ends, stretch_kept}
+use Rattle.ip_check.proofs.Stages.{behind_stretch, blamed_as, goes_stretch, is_next, keeps_stretch, place_fits, undamaged_as, undone}
 use Rattle.ip_check.proofs.check.Check.compare_next.Goals as goal
 
 pub stretch_from-stretch-requires-clause-fit : goal.stretch_from-stretch-requires-clause-fit
@@ -98,3 +100,11 @@ returns-clause-keeps g c told =
     let readable = subst (IsReadable now) (sym c.space-space.ensures) over.readable in
     let stands = subst (λ (x : SpaceView). Stands (byte_at now x) s.at n.piece.bytes) (sym c.space-space.ensures) n.piece.stands in
     (keeps_stretch now records v c.args.place s c.in-Ok.found keeping n (c.in-Ok.ensures.says told readable over.fixed.prefix n.piece.bytes n.comparing.pair.prefix n.piece.long stands n.piece.piece n.comparing.prefix), λ at e. undone s.records at e)))
+
+pub returns-in-Err-clause-blames : goal.returns-in-Err-clause-blames
+returns-in-Err-clause-blames g c at is =
+    let v : CheckView = record { job = c.self.inside.job; keep = c.self.inside.keep; stage = c.self.inside.stage; compared = c.self.inside.compared } in
+    let s = c.stretch_from-stretch.result in
+    let st : IsStretch (drop v.compared v.keep.kept) c.args.most s = subst (λ (l : List Run). IsStretch (drop v.compared l) c.args.most s) c.kept.ensures.kept c.stretch_from-stretch.ensures in
+    let here : at ≡ s.at = c.in-Err.ensures.blames at (blamed_as {A = ℕ} {B = Option Difference} c.in-Err.fault at is) in
+    inr (subst (λ (w : CheckView). Contains (offsets w.keep.kept) at) c.self.view_is (subst (Contains (offsets v.keep.kept)) (sym here) (stretch_kept v.keep.kept v.compared c.args.most s st)))

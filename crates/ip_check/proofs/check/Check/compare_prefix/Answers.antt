@@ -1,7 +1,7 @@
 use Rattle.std.proofs.Common.{ℕ, ◌∙◌, Ok, Err, arith}
 use Rattle.ip_ground.specs.Told.{NoFile}
 use Rattle.ip_ground.proofs.Spans.{only_on}
-use Rattle.ip_check.proofs.Stages.{all_looked, goes_on, keeps_on, undamaged_as, undone}
+use Rattle.ip_check.proofs.Stages.{all_looked, blamed_as, goes_on, keeps_on, undamaged_as, undone}
 use Rattle.ip_check.proofs.check.Check.compare_prefix.Goals as goal
 
 pub returns-in-Err-clause-keeps : goal.returns-in-Err-clause-keeps
@@ -22,6 +22,10 @@ loop-place-preserved g c =
       goes = goes_on c.args.most c.loop-place.left c.args.most _ _ _ kept.goes c.compare_next.ensures.goes (omega (arith, kept.exact));
       exact = omega (arith, kept.exact, some.0, some.1, some.2);
       found = λ e. absurd (c.compare_next.ensures.stage e);
+      through = λ verdict e.
+          let there = kept.through verdict e in
+          let comparing = c.in-Some.ensures.some.stage in
+          absurd (cc (there, comparing));
       keeps = λ told records over keeping.
           let r = keeps_on _ _ c.args.most _ _ _ (Ok tt) (Ok c.in-Ok.count) (kept.only told) kept.goes (kept.keeps told) (c.in-Ok.ensures.keeps told) records over keeping in
           (r.0, λ at e. undone tt at e);
@@ -41,3 +45,15 @@ pub returns-clause-all : goal.returns-clause-all
 returns-clause-all g c =
     let kept = c.loop-place.invariant in
     all_looked (Unit {0}) c.args.most c.loop-place.left c.args.self.now c.loop-place.self c.compare_last.new.self c.compare_last.result kept.exact kept.found c.in_default.ensures.none c.compare_last.ensures.goes c.compare_last.ensures.same c.compare_last.ensures.all
+
+pub returns-in-Err-clause-blames : goal.returns-in-Err-clause-blames
+returns-in-Err-clause-blames g c at is = c.in-Err.ensures.blames at (blamed_as {A = Unit {0}} {B = ℕ} c.in-Err.fault at is)
+
+pub returns-in-Err-clause-through : goal.returns-in-Err-clause-through
+returns-in-Err-clause-through g c told is =
+    let there = c.loop-place.invariant.through told is in
+    let comparing = c.in-Some.ensures.some.stage in
+    absurd (cc (there, comparing))
+
+pub returns-clause-through : goal.returns-clause-through
+returns-clause-through g c told is = c.compare_last.ensures.through told (c.loop-place.invariant.through told is)

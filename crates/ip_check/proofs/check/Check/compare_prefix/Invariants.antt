@@ -1,6 +1,7 @@
 use Rattle.std.proofs.Common.{◌≡◌, ◌+◌, ◌≤◌}
-use Rattle.std.specs.Prelude.{IsTrue, Ok}
+use Rattle.std.specs.Prelude.{IsTrue, Option, Ok}
 use Rattle.ip_ground.specs.Told.{NoFile, ChangesOnly}
+use Rattle.ip_spec.specs.declared.reply.Difference.{Difference}
 use Rattle.ip_check.specs.declared.check.Stage.TheVariants as Stage
 use Rattle.ip_check.specs.Checking.{looked_by}
 use Rattle.ip_check.specs.Going.{Goes, KeepsTrue}
@@ -14,6 +15,7 @@ invariant-loop-place g l =
       goes : Goes l.most l.fn.self l.self;
       exact : looked_by l.self + l.left ≡ looked_by l.fn.self + l.most;
       found : l.self.stage ≡ Stage.Keeping → l.left ≡ 0;
+      through : (told : Option Difference) → l.fn.self.stage ≡ Stage.Through told → l.self.stage ≡ Stage.Through told;
       keeps : IsTrue ground.tells → KeepsTrue {A = Unit {0}} (ground.told l.fn.outside) l.fn.self l.self (Ok tt);
       only : IsTrue ground.tells → ChangesOnly NoFile (ground.told l.fn.outside) (ground.told l.outside);
       counts : ground.counts_of l.outside ≡ ground.counts_of l.fn.outside;

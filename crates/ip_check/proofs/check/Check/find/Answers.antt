@@ -1,11 +1,13 @@
-use Rattle.std.proofs.Common.{ℕ, rules, sym, subst, Ok}
+use Rattle.std.proofs.Common.{inl, ℕ, rules, sym, subst, ap, Ok, Option}
+use Rattle.std.specs.Prelude.{Err}
+use Rattle.ip_spec.specs.declared.reply.Difference.{Difference}
 use Rattle.ip_keep.specs.Keeping.{IsThrough}
 use Rattle.ip_keep.specs.Runs.{left_of}
 use Rattle.ip_check.specs.declared.check.Stage.{Stage}
 use Rattle.ip_check.specs.CheckView.{CheckView}
 use Rattle.ip_check.specs.Checking.{IsCheck}
 use Rattle.ip_check.specs.Going.{KeepsTrue, found_of, next_stage}
-use Rattle.ip_check.proofs.Stages.{goes_kept, keeping_kept, keeps_mapping, keeps_on, undone, with_keep, with_stage}
+use Rattle.ip_check.proofs.Stages.{blamed_as, goes_kept, keeping_kept, keeps_mapping, keeps_on, undone, with_keep, with_stage}
 use Rattle.ip_ground.specs.Told.{NoFile}
 use Rattle.ip_ground.proofs.Spans.{only_on}
 use Rattle.ip_check.proofs.check.Check.find.Goals as goal
@@ -33,3 +35,9 @@ returns-clause-keeps g c told =
     subst (λ (t : Stage). KeepsTrue {A = ℕ} old c.args.self.now (record { job = v.job; keep = k; stage = t; compared = v.compared }) (Ok left)) (sym c.next_stage-self-inside.ensures)
     (subst (λ (w : CheckView). KeepsTrue {A = ℕ} old w (with_stage (with_keep v k) (next_stage found 0)) (Ok left)) c.self.view_is
     (keeps_on old mid c.args.most v (with_keep v k) (with_stage (with_keep v k) (next_stage found 0)) (Ok left) (Ok left) (c.advance.ensures.only told) goes first second))
+
+pub returns-in-Err-clause-blames : goal.returns-in-Err-clause-blames
+returns-in-Err-clause-blames g c at is = inl (c.in-Err.ensures.blames at (ap Err (c.fault_of.ensures.damaged at (cc (is)))))
+
+pub returns-in-Err-compare_mapping-clause-blames : goal.returns-in-Err-compare_mapping-clause-blames
+returns-in-Err-compare_mapping-clause-blames g c at is = absurd (c.in-Err-compare_mapping.ensures.undamaged at (blamed_as {A = ℕ} {B = Option Difference} c.in-Err-compare_mapping.fault at is))

@@ -3,7 +3,7 @@ use Rattle.ip_ground.specs.Counts.{Counts}
 use Rattle.ip_ground.specs.Told.{NoFile}
 use Rattle.ip_ground.proofs.Spans.{only_on}
 use Rattle.ip_keep.specs.Runs.{left_of}
-use Rattle.ip_check.specs.Faults.{ground_check}
+use Rattle.ip_check.specs.Faults.{counted_check}
 use Rattle.ip_check.proofs.Going.{goes_begun, goes_on, goes_end, found_here, row_fits, sum_fits, falls}
 use Rattle.ip_check.proofs.mapping.Pieces.put_rows.Goals as goal
 
@@ -30,7 +30,7 @@ returns-in_err-found-clause-only g c told = only_on _ _ _ NoFile (c.loop-run.inv
 
 pub returns-in_err-found-clause-counts : goal.returns-in_err-found-clause-counts
 returns-in_err-found-clause-counts g c =
-    subst (λ n. Counts ground_check c.from_residual.result n (g.G.Ground.counts_of c.put.new.outside)) c.loop-run.invariant.counts (search rules)
+    subst (λ n. Counts counted_check c.from_residual.result n (g.G.Ground.counts_of c.put.new.outside)) c.loop-run.invariant.counts (search rules)
 
 pub returns-in-Some-2-clause-file : goal.returns-in-Some-2-clause-file
 returns-in-Some-2-clause-file g c = c.in_ok-found.ensures.file ∙ c.loop-run.invariant.file

@@ -1,5 +1,5 @@
 use Rattle.ip_space.proofs.Stayed.{readable_stays}
-use Rattle.ip_keep.proofs.Goings.{goes_on, blames_later}
+use Rattle.ip_keep.proofs.Goings.{goes_on, blames_later, breaks_later}
 use Rattle.ip_keep.proofs.keep.Keep.advance.Goals as goal
 
 pub returns-clause-keeping : goal.returns-clause-keeping
@@ -22,3 +22,6 @@ returns-clause-held g c = (goes_on g.G.Ground.tells _ _ _ c.args.self.now c.go_u
 
 pub returns-in-Err-clause-held : goal.returns-in-Err-clause-held
 returns-in-Err-clause-held g c = c.in-Err.ensures.goes.held
+
+pub returns-clause-broken : goal.returns-clause-broken
+returns-clause-broken g c = breaks_later g.G.Ground.tells _ _ c.args.self.now c.go_up.new.self c.go_down.new.self c.go_down.result c.in-Ok.ensures.goes c.go_down.ensures.broken

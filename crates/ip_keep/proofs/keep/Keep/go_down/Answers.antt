@@ -1,5 +1,5 @@
 use Rattle.std.proofs.Common.{◌∙◌, refl, arith}
-use Rattle.ip_keep.proofs.Goings.{goes_nowhere, goes_on, blames_later, blames_as}
+use Rattle.ip_keep.proofs.Goings.{goes_nowhere, goes_on, blames_later, blames_as, blamed_as, breaks_later, breaks_as}
 use Rattle.ip_keep.proofs.keep.Keep.go_down.Goals as goal
 
 pub loop-left-init : goal.loop-left-init
@@ -32,3 +32,10 @@ returns-in-Err-clause-goes g c = goes_on g.G.Ground.tells _ _ _ c.args.self.now 
 pub returns-in-Err-clause-undamaged : goal.returns-in-Err-clause-undamaged
 returns-in-Err-clause-undamaged g c =
     blames_as g.G.Ground.tells _ c.args.self.now c.in-Err.fault (blames_later g.G.Ground.tells _ _ c.args.self.now c.loop-left.self _ c.loop-left.invariant.goes c.in-Err.ensures.undamaged)
+
+pub returns-in-Err-clause-blames : goal.returns-in-Err-clause-blames
+returns-in-Err-clause-blames g c = blamed_as {A = Unit {0}} c.look_down.new.self c.in-Err.fault c.in-Err.ensures.blames
+
+pub returns-in-Err-clause-broken : goal.returns-in-Err-clause-broken
+returns-in-Err-clause-broken g c =
+    breaks_as {A = Unit {0}} g.G.Ground.tells _ c.args.self.now c.look_down.new.self c.in-Err.fault (breaks_later g.G.Ground.tells _ _ c.args.self.now c.loop-left.self c.look_down.new.self _ c.loop-left.invariant.goes c.in-Err.ensures.broken)
