@@ -24,7 +24,8 @@ use Rattle.ip_held.specs.declared.held.Held.{Held}
 use Rattle.ip_held.specs.declared.step.Entry.{Entry}
 use Rattle.ip_held.specs.declared.step.Step.{Step}
 use Rattle.ip_held.specs.Answers.{IsCut, IsLeaving, RefusesBy, fault_reply, met_of}
-use Rattle.ip_held.specs.Changes.{Appends, IsNextSlot, IsUndamaged, LimitsSpace, next_slot}
+use Rattle.ip_held.specs.Changes.{Appends, HasAnswer, IsNextSlot, IsUndamaged, LimitsSpace, next_slot}
+use Rattle.ip_held.specs.Clear.{KeepsClear}
 use Rattle.ip_held.specs.Collecting.{IsAbove, carried, not_leaving_in, phase_of}
 use Rattle.ip_held.specs.Held.{IsOf, Holds}
 use Rattle.ip_held.specs.Step.{Grew, IsStep, MayTake, Took, entered}
@@ -50,6 +51,7 @@ module _ (tells : Bool) (x : Record) (store : Held) (told : Told) where
     appends = λ tells. tt;
     grew = λ tells r held. refused_grew (λ done. true) fault held;
     took = λ tells r held may. refused_took (λ done. true) fault held (renamed r x) ((store.slot.end, x) ∷ []);
+    clear = λ tells has r held clear. clear;
     undamaged = undamaged;
   }
 
@@ -113,14 +115,15 @@ module _ (tells : Bool) (x : Record) (fits : Fits 1 x) (served : IsServedKind x)
     }
     appends_by q known may (Err fault) taken took = tt
 
-    pub record_taken : (q : Repository) → IsOf store q → MayName q x → now.collection ≡ store.collection → (IsTrue tells → (r : Repository) (held : Holds store old r) → Grew (λ (u : Unit {0}). true) held result now new) → AppendsRecord tells x result store now old new
-    record_taken q known may same grew = record {
+    pub record_taken : (q : Repository) → IsOf store q → MayName q x → now.collection ≡ store.collection → (IsTrue tells → (r : Repository) (held : Holds store old r) → Grew (λ (u : Unit {0}). true) held result now new) → (IsTrue tells → HasAnswer result → (r : Repository) → Holds store old r → KeepsClear store now old new) → AppendsRecord tells x result store now old new
+    record_taken q known may same grew clear = record {
       tables = tables_by result taken refused cut;
       same_collection = same;
       limits = limits_by result cut;
       appends = λ tells. appends_by q known may result taken (λ r held may. took tells r (renamed r x) more held (step_taken r held.tables may held));
       grew = grew;
       took = λ tells r held may. took tells r (renamed r x) more held (step_taken r held.tables may held);
+      clear = clear;
       undamaged = undamaged_by result cut;
     }
 
@@ -130,12 +133,16 @@ module _ (tells : Bool) (name : Bytes) (number : ℕ) (store : Held) (told : Tol
   abbrev set_end : ℕ
   set_end = store.slot.end + length (spelling (Record.BranchSet number name))
 
-  set_undone : (fault : StoreFault) → fault ≢ StoreFault.Ground → ((r : Repository) → IsOf store r → IfSome (branch_reply (Err fault)) (AnswersSet r (phase_of store.collection) name number (met_of fault) store))
+  abbrev May : Repository → Type 0
+  May r = (not_leaving_in (phase_of store.collection) (Some number) ≡ Ok tt) × (room_for_branch r name ≡ Ok tt)
+
+  set_undone : (fault : StoreFault) → fault ≢ StoreFault.Ground → (fault ≡ StoreFault.Memory → (r : Repository) → IsOf store r → May r) → ((r : Repository) → IsOf store r → IfSome (branch_reply (Err fault)) (AnswersSet r (phase_of store.collection) name number (met_of fault) store))
       → LimitsSpace {A = Unit {0}} set_end (Err fault) store → IsUndamaged {A = Unit {0}} (Err fault) → SetsBranch tells name number (Err fault) store store told told
-  set_undone fault ground answered limits undamaged = record {
+  set_undone fault ground wanted answered limits undamaged = record {
     answered = λ r of retained. answered r of;
     same_collection = refl;
     begun = λ r of e. absurd (ground (cc e));
+    wanted = λ r of e. wanted (cc e) r of;
     limits = limits;
     appends = λ tells. tt;
     grew = λ tells r held. refused_grew (λ done. true) fault held;
@@ -144,7 +151,7 @@ module _ (tells : Bool) (name : Bytes) (number : ℕ) (store : Held) (told : Tol
   }
 
   pub set_left : (fault : StoreFault) → RefusesBy (Err fault) (not_leaving_in (phase_of store.collection) (Some number)) → IsLeaving {A = Unit {0}} (Err fault) → SetsBranch tells name number (Err fault) store store told told
-  set_left (StoreFault.Leaving n) leaves cause = set_undone (StoreFault.Leaving n) (λ e. cc e) (λ r of. set_leaving r (phase_of store.collection) name number store (StoreFault.Leaving n) leaves of)
+  set_left (StoreFault.Leaving n) leaves cause = set_undone (StoreFault.Leaving n) (λ e. cc e) (λ e r of. absurd (cc e)) (λ r of. set_leaving r (phase_of store.collection) name number store (StoreFault.Leaving n) leaves of)
       (none_met set_end (StoreFault.Leaving n) store (λ e. cc e) (λ e. cc e)) tt
   set_left _ leaves cause = absurd cause
 
@@ -164,14 +171,14 @@ module _ (tells : Bool) (name : Bytes) (number : ℕ) (store : Held) (told : Tol
 
   pub set_full : (q : Repository) → IsOf store q → (fault : StoreFault) → not_leaving_in (phase_of store.collection) (Some number) ≡ Ok tt → ((r : Repository) → IsOf store r → RefusesBy (Err fault) (room_for_branch r name)) → SetsBranch tells name number (Err fault) store store told told
   set_full q known fault stays full =
-      set_undone fault (λ e. absurd (cc (e, is))) (λ r of. set_refused r (phase_of store.collection) name number store fault stays (full r of) of)
+      set_undone fault (λ e. absurd (cc (e, is))) (λ e r of. absurd (cc (e, is))) (λ r of. set_refused r (phase_of store.collection) name number store fault stays (full r of) of)
       (none_met set_end fault store (λ e. absurd (cc (e, is))) (λ e. absurd (cc (e, is)))) (subst (λ (f : StoreFault). IsUndamaged {A = Unit {0}} (Err f)) (sym is) tt)
     where
       is : fault ≡ StoreFault.Limit Limit.Branches
       is = full_is fault (each_reply (λ (reply : Reply). room_for_branch q name ≡ Err reply) (λ (reply : Reply). reply ≡ Reply.Limit Limit.Branches) (fault_reply fault) (λ reply e. full_by _ reply e) (full q known))
 
-  pub set_short : SetsBranch tells name number (Err StoreFault.Memory) store store told told
-  set_short = set_undone StoreFault.Memory (λ e. cc e) (λ r of. set_memory r (phase_of store.collection) name number store of) (none_met set_end StoreFault.Memory store (λ e. cc e) (λ e. cc e)) tt
+  pub set_short : ((r : Repository) → IsOf store r → May r) → SetsBranch tells name number (Err StoreFault.Memory) store store told told
+  set_short may = set_undone StoreFault.Memory (λ e. cc e) (λ e. may) (λ r of. set_memory r (phase_of store.collection) name number store of) (none_met set_end StoreFault.Memory store (λ e. cc e) (λ e. cc e)) tt
 
   pub set_done : not_leaving_in (phase_of store.collection) (Some number) ≡ Ok tt → ((r : Repository) → IsOf store r → room_for_branch r name ≡ Ok tt)
       → (result : Result (Unit {0}) StoreFault) (now : Held) (new : Told) → AppendsRecord tells (Record.BranchSet number name) result store now told new → SetsBranch tells name number result store now told new
@@ -179,6 +186,7 @@ module _ (tells : Bool) (name : Bytes) (number : ℕ) (store : Held) (told : Tol
     answered = λ r of retained. set_answers r (phase_of store.collection) name number now result stays (room r of) (does.tables r of (set_may r name number store of retained (room r of)));
     same_collection = does.same_collection;
     begun = λ r of ground. (stays, room r of);
+    wanted = λ r of memory. (stays, room r of);
     limits = does.limits;
     appends = does.appends;
     grew = does.grew;
@@ -194,6 +202,7 @@ module _ (tells : Bool) (name : Bytes) (store : Held) (told : Told) where
     answered = λ r of. remove_none r (phase_of store.collection) name store of (none r of);
     same_collection = refl;
     begun = λ r of e. absurd (cc e);
+    wanted = λ r of e. absurd (cc e);
     limits = λ some. absurd (some refl);
     appends = λ tells e. absurd (cc e);
     grew = λ tells r held. still_grew (λ removed. removed) false refl held;
@@ -202,27 +211,29 @@ module _ (tells : Bool) (name : Bytes) (store : Held) (told : Told) where
     undamaged = tt;
   }
 
-  pub removed_short : RemovesBranch tells name (Err StoreFault.Memory) store store told told
-  removed_short = record {
-    answered = λ r of. remove_memory r (phase_of store.collection) name store of;
-    same_collection = refl;
-    begun = λ r of e. absurd (cc e);
-    limits = λ some. none_met (store.slot.end + length (spelling (Record.BranchRemove name))) StoreFault.Memory store (λ e. cc e) (λ e. cc e);
-    appends = λ tells e. absurd (cc e);
-    grew = λ tells r held. refused_grew (λ removed. removed) StoreFault.Memory held;
-    took = λ tells r held. refused_took (λ removed. removed) StoreFault.Memory held (without_branch r name) ((store.slot.end, Record.BranchRemove name) ∷ []);
-    undamaged = tt;
-  }
-
-  module _ (there : (r : Repository) → IsOf store r → (n : ℕ) × (head r name ≡ Some n)) (now : Held) (new : Told) where
+  module _ (there : (r : Repository) → IsOf store r → (n : ℕ) × (head r name ≡ Some n)) where
     begun_there : (r : Repository) → IsOf store r → IsSome (head r name)
     begun_there r of = (let (n, is) = there r of in subst (λ (o : Option ℕ). IsSome o) (sym is) refl)
 
-    pub removed_cut : (fault : StoreFault) → AppendsRecord tells (Record.BranchRemove name) (Err fault) store now told new → RemovesBranch tells name (Err fault) store now told new
-    removed_cut fault does = record {
+    pub removed_short : RemovesBranch tells name (Err StoreFault.Memory) store store told told
+    removed_short = record {
+      answered = λ r of. remove_memory r (phase_of store.collection) name store of;
+      same_collection = refl;
+      begun = λ r of e. absurd (cc e);
+      wanted = λ r of e. begun_there r of;
+      limits = λ some. none_met (store.slot.end + length (spelling (Record.BranchRemove name))) StoreFault.Memory store (λ e. cc e) (λ e. cc e);
+      appends = λ tells e. absurd (cc e);
+      grew = λ tells r held. refused_grew (λ removed. removed) StoreFault.Memory held;
+      took = λ tells r held. refused_took (λ removed. removed) StoreFault.Memory held (without_branch r name) ((store.slot.end, Record.BranchRemove name) ∷ []);
+      undamaged = tt;
+    }
+
+    pub removed_cut : (now : Held) (new : Told) (fault : StoreFault) → AppendsRecord tells (Record.BranchRemove name) (Err fault) store now told new → RemovesBranch tells name (Err fault) store now told new
+    removed_cut now new fault does = record {
       answered = λ r of. let (n, is) = there r of in remove_cut r (phase_of store.collection) name now n fault is (does.tables r of tt);
       same_collection = does.same_collection;
       begun = λ r of e. begun_there r of;
+      wanted = λ r of e. begun_there r of;
       limits = λ some. record { space = λ e. does.limits.space (err_of fault (StoreFault.Limit Limit.Space) e); sequence = λ e. does.limits.sequence (err_of fault (StoreFault.Limit Limit.Sequence) e); enough = tt };
       appends = λ tells e. absurd (cc e);
       grew = λ tells r held. fault_grew (λ done. true) (λ removed. removed) fault held now (does.grew tells r held);
@@ -234,11 +245,12 @@ module _ (tells : Bool) (name : Bytes) (store : Held) (told : Told) where
         undamaged_of (StoreFault.Damaged at names) is = absurd is
         undamaged_of _ is = tt
 
-    pub removed_done : AppendsRecord tells (Record.BranchRemove name) (Ok tt) store now told new → RemovesBranch tells name (Ok true) store now told new
-    removed_done does = record {
+    pub removed_done : (now : Held) (new : Told) → AppendsRecord tells (Record.BranchRemove name) (Ok tt) store now told new → RemovesBranch tells name (Ok true) store now told new
+    removed_done now new does = record {
       answered = λ r of. let (n, is) = there r of in remove_done r (phase_of store.collection) name now n is (does.tables r of tt);
       same_collection = does.same_collection;
       begun = λ r of e. begun_there r of;
+      wanted = λ r of e. begun_there r of;
       limits = λ some. record { space = λ e. absurd (cc e); sequence = λ e. absurd (cc e); enough = does.limits.enough };
       appends = λ tells e. does.appends tells;
       grew = λ tells r held. value_grew (λ removed. removed) true refl held now (does.grew tells r held);

@@ -21,9 +21,10 @@ use Rattle.ip_held.specs.declared.collection.Collection.{Collection}
 use Rattle.ip_held.specs.declared.fault.StoreFault.{StoreFault}
 use Rattle.ip_held.specs.declared.held.Held.{Held}
 use Rattle.ip_held.specs.declared.work.Work.{Work}
-use Rattle.ip_held.specs.Answers.{Answers, GoesOn, IsCut, IsRefusal, IsSaved, fault_reply, first_parent, met_nothing, met_of}
+use Rattle.ip_held.specs.Answers.{Answers, GoesOn, IsCut, IsRefusal, IsSaved, fault_reply, first_parent, first_refusal, met_nothing, met_of}
 use Rattle.ip_held.specs.Causes.{IsStoreCause}
-use Rattle.ip_held.specs.Changes.{Appends, IsUndamaged, KeepsNumbers, next_slot}
+use Rattle.ip_held.specs.Changes.{Appends, HasAnswer, IsUndamaged, KeepsNumbers, next_slot}
+use Rattle.ip_held.specs.Clear.{KeepsClear}
 use Rattle.ip_held.specs.Collecting.{carried, phase_of}
 use Rattle.ip_held.specs.Held.{IsOf, Holds, SameTables, image_records}
 use Rattle.ip_held.specs.Step.{Grew, IsStep, Took, entered}
@@ -32,7 +33,8 @@ use Rattle.ip_held.specs.Work.{AreParents, IsAt, IsThere, session}
 use Rattle.ip_held.proofs.Causing.{cut_cause}
 use Rattle.ip_held.proofs.Machine.{refused_memory}
 use Rattle.ip_held.proofs.Room.{err_of}
-use Rattle.ip_held.proofs.Stepping.{same_tables}
+use Rattle.ip_held.proofs.Clearing.{looked_clear}
+use Rattle.ip_held.proofs.Stepping.{same_tables, with_answer}
 use Rattle.ip_held.proofs.Taking.{behind_grew, behind_took, fault_grew, fault_took, looked_grew, looked_took, value_grew, value_took}
 use Rattle.ip_appends.specs.declared.committing.Plan.{Plan}
 use Rattle.ip_appends.specs.Commits.{CommitsWork, IsNext, IsPlan, end_of, records_of, repository_after}
@@ -43,12 +45,16 @@ same_numbers : (store mid : Held) → SameTables store mid → KeepsNumbers stor
 same_numbers store mid same = (ap (λ (s : Slot). s.floor) same.slot, (let is = ap (λ (s : Slot). s.next) same.slot in omega (arith, is)))
 
 module _ (tells : Bool) (branch : Bytes) (info : Info) (store mid : Held) (work : Work) (a b : Told) (same : SameTables store mid) (looks : IsTrue tells → OnlyLooks a b store mid) where
+  clear_mid : IsTrue tells → KeepsClear store mid a b
+  clear_mid told = looked_clear store mid a b same.slot same.unswept (looks told).reads.only
+
   pub commit_refused : (fault : StoreFault) → (IsTrue tells → (r : Repository) (v : View) → IsAt a store r work v → IsRefusal r (phase_of store.collection) work v branch info fault)
       → (IsTrue tells → (r : Repository) (v : View) (at : IsAt a store r work v) → IsErrOf {T = Plan} (Err fault) (StoreFault.Limit Limit.Space) → 2 ^ 62 < end_of r work v (first_parent at) branch info store)
       → (IsTrue tells → (r : Repository) (v : View) (at : IsAt a store r work v) → IsErrOf {T = Plan} (Err fault) (StoreFault.Limit Limit.Sequence) → (end_of r work v (first_parent at) branch info store ≤ 2 ^ 62) × (store.slot.sequence ≡ 2 ^ 62))
       → IsStoreCause tells a store.space fault → (IsTrue tells → (r : Repository) (v : View) → IsAt a store r work v → IsUndamaged {A = Plan} (Err fault)) → (work.parents ≡ [] → IsUndamaged {A = Plan} (Err fault))
+      → ((r : Repository) → IsOf store r → IsErrOf {T = Plan} (Err fault) StoreFault.Memory → first_refusal r (phase_of store.collection) work.least work.parents branch ≡ Ok tt)
       → CommitsWork tells branch info (Err fault) store mid work work a b
-  commit_refused fault refused space sequence cause undamaged alone = record {
+  commit_refused fault refused space sequence cause undamaged alone wanted = record {
     numbers = same_numbers store mid same;
     tables = λ r of are has. record { repository = r; tables = same_tables store mid same r of; parents = are };
     same_collection = same.collection;
@@ -64,15 +70,22 @@ module _ (tells : Bool) (branch : Bytes) (info : Info) (store mid : Held) (work 
     took = λ told r v at. looked_took (λ (name : Hash). true) fault same (looks told) at.holds (repository_after r (phase_of store.collection) work v branch info) (records_of r work v (first_parent at) branch info store);
     causes = cause;
     undamaged = λ told r v at. undamaged_as Plan Hash fault (undamaged told r v at);
+    untouched = λ told damaged. (looks told).reads.only;
+    wanted = λ r of e. wanted r of (err_of fault StoreFault.Memory e);
+    clear = λ told has r held. clear_mid told;
     alone = λ none. undamaged_as Plan Hash fault (alone none);
   }
 
   -- ---- behind a plan
 
   module _ (plan : Plan) (coming : (r : Repository) → IsOf store r → IsNext r work.parents branch store plan) (planned : IsTrue tells → (r : Repository) (v : View) (at : IsAt a store r work v) → IsPlan r work v (first_parent at) branch info store plan)
-      (there : (r : Repository) → IsOf store r → IsThere r work.least) (now : Held) (c : Told) (res : Result (Unit {0}) StoreFault) (numbers : KeepsNumbers mid now) (collection : now.collection ≡ mid.collection)
+      (there : (r : Repository) → IsOf store r → IsThere r work.least) (passed : (r : Repository) → IsOf store r → first_refusal r (phase_of store.collection) work.least work.parents branch ≡ Ok tt) (now : Held) (c : Told) (res : Result (Unit {0}) StoreFault) (numbers : KeepsNumbers mid now) (collection : now.collection ≡ mid.collection)
       (grows : IsTrue tells → (r : Repository) (held : Holds mid b r) → Grew (λ (done : Unit {0}). true) held res now c)
-      (takes : IsTrue tells → (r after : Repository) (more : Records) (held : Holds mid b r) → IsStep held after more plan.batch.bytes.items plan.step → Took (λ (done : Unit {0}). true) held after more res now c) where
+      (takes : IsTrue tells → (r after : Repository) (more : Records) (held : Holds mid b r) → IsStep held after more plan.batch.bytes.items plan.step → Took (λ (done : Unit {0}). true) held after more res now c)
+      (clears : IsTrue tells → HasAnswer res → (r : Repository) → Holds mid b r → KeepsClear mid now b c) where
+    clear_now : IsTrue tells → HasAnswer res → (r : Repository) → Holds store a r → KeepsClear store now a c
+    clear_now told has r held clear = clears told has r ((looks told).holds r held) (clear_mid told clear)
+
     kept : KeepsNumbers store now
     kept =
         let first = same_numbers store mid same in
@@ -135,6 +148,9 @@ module _ (tells : Bool) (branch : Bytes) (info : Info) (store mid : Held) (work 
           (subst (λ (x : Result (Unit {0}) StoreFault). Took (λ (done : Unit {0}). true) at.holds (after told r v at) (all told r v at) x now c) is (took_step told r v at));
       causes = cut_cause tells a store.space (Err fault) cut;
       undamaged = λ told r v at. cut_undamaged (Err fault) cut;
+      untouched = λ told damaged. absurd (damaged (cut_undamaged (Err fault) cut));
+      wanted = λ r of e. passed r of;
+      clear = λ told has. clear_now told (subst HasAnswer (sym is) (with_answer (Unit {0}) Hash fault has));
       alone = λ none. cut_undamaged (Err fault) cut;
     }
 
@@ -198,5 +214,8 @@ module _ (tells : Bool) (branch : Bytes) (info : Info) (store mid : Held) (work 
         took = λ told r v at. value_took (λ (name : Hash). true) name refl at.holds (after told r v at) (all told r v at) now (took_all told r v at);
         causes = tt;
         undamaged = λ told r v at. tt;
+        untouched = λ told damaged. absurd (damaged tt);
+        wanted = λ r of e. absurd (cc (e));
+        clear = λ told has. clear_now told (subst HasAnswer (sym is) tt);
         alone = λ none. tt;
       }

@@ -30,6 +30,7 @@ use Rattle.ip_appends.proofs.BranchTurns.{set_may}
 use Rattle.ip_appends.proofs.MergeExits.{goes_itself}
 use Rattle.ip_held.proofs.Phases.{ahead_above}
 use Rattle.ip_held.proofs.Room.{err_of}
+use Rattle.ip_held.proofs.Stepping.{with_answer}
 use Rattle.ip_held.proofs.Taking.{refused_took, refused_grew, value_took, value_grew, fault_took, fault_grew}
 
 module _ (branch : Bytes) (number : ℕ) (store : Held) where
@@ -90,6 +91,7 @@ module _ (branch : Bytes) (number : ℕ) (store : Held) where
     appends = did.appends;
     grew = λ told r held. value_grew moves (Merge.Forward name) refl held now (did.grew told r held);
     took = λ told r held is. value_took moves (Merge.Forward name) refl held (with_branch r branch number) ((store.slot.end, one) ∷ []) now (did.took told r held (forward_may r held.tables is));
+    clear = λ told has. did.clear told tt;
     undamaged = tt;
   }
   forward_done tells name (Err fault) now a b named did = record {
@@ -100,6 +102,7 @@ module _ (branch : Bytes) (number : ℕ) (store : Held) where
     appends = λ told. tt;
     grew = λ told r held. fault_grew (λ (u : Unit {0}). true) moves fault held now (did.grew told r held);
     took = λ told r held is. fault_took (λ (u : Unit {0}). true) moves fault held (with_branch r branch number) ((store.slot.end, one) ∷ []) now (did.took told r held (forward_may r held.tables is));
+    clear = λ told has. did.clear told (with_answer (Unit {0}) Merge fault has);
     undamaged = undamaged fault did.undamaged;
   }
 
@@ -112,5 +115,6 @@ module _ (branch : Bytes) (number : ℕ) (store : Held) where
     appends = λ told. tt;
     grew = λ told r held. refused_grew moves StoreFault.Memory held;
     took = λ told r held is. refused_took moves StoreFault.Memory held (with_branch r branch number) ((store.slot.end, one) ∷ []);
+    clear = λ told has r held clear. clear;
     undamaged = tt;
   }

@@ -4,7 +4,8 @@ use Rattle.std.proofs.Common.{◌≡◌, ℕ, Bool, true, List, [], ◌∷◌, O
 use Rattle.std.specs.Prelude.{Result, Ok, Err, OnOk, IfSome, IfErr, IsTrue, min}
 use Rattle.std.proofs.lemmas.Result.{on_ok_weaker}
 use Rattle.ip_base.specs.declared.info.Info.{Info}
-use Rattle.ip_ground.specs.Told.{Told}
+use Rattle.ip_ground.specs.Told.{Told, NoFile}
+use Rattle.ip_ground.proofs.Spans.{only_on}
 use Rattle.ip_spec.specs.declared.command.Command.TheVariants as Command
 use Rattle.ip_spec.specs.declared.record.Record.{Record}
 use Rattle.ip_spec.specs.Machine.{Phase}
@@ -36,6 +37,7 @@ use Rattle.ip_appends.proofs.JoinedCalls.{causes_behind}
 use Rattle.ip_appends.proofs.JoinedTrees.{join_outcome, join_good, join_view, join_lawful, join_parents, join_there, goes_on_from}
 use Rattle.ip_appends.proofs.BehindPlan.{first_same}
 use Rattle.ip_appends.proofs.FirstTree.{first_left}
+use Rattle.ip_held.proofs.Clearing.{looked_clear}
 use Rattle.ip_held.proofs.Phases.{retained_parents, stays_least}
 use Rattle.ip_held.proofs.LookedUp.{appends_behind}
 use Rattle.ip_appends.proofs.MergeExits.{slot_still}
@@ -153,4 +155,6 @@ module _ (tells : Bool) (rule : Rule) (branch : Bytes) (info : Info) (sides : Si
         (subst (λ (o : Option Collection). Took (λ (name : Hash). true) ((looks told).holds r held) (repository_after r (phase_of o) work view branch info) (records_of r work view (first_parent here) branch info mid) result now c) same.collection (commits.took told r view here))))
         (undamaged_merged result (commits.undamaged told r view here));
     causes = causes_merged result (causes_behind looked result commits.causes);
+    untouched = λ told damaged. only_on a b c NoFile (looks told).reads.only (commits.untouched told (λ is. damaged (undamaged_merged result is)));
+    clear = λ told has r held clear. commits.clear told (has_merged result has) r ((looks told).holds r held) (looked_clear store mid a b same.slot same.unswept (looks told).reads.only clear);
   }

@@ -10,8 +10,8 @@ use Rattle.std.specs.List.{list_any}
 use Rattle.std.proofs.lemmas.List.Elements.{All-from_recursion}
 use Rattle.std.proofs.lemmas.Bool.Decides.{nat_tests}
 use Rattle.ip_base.specs.declared.limit.Limit.{Limit}
-use Rattle.ip_ground.specs.declared.names.GroundCounts.{GroundCounts}
-use Rattle.ip_ground.specs.Counts.{Counts, CountsIf, FileFault}
+use Rattle.ip_ground.specs.Counts.{Noted}
+use Rattle.ip_ground.specs.Counts.{Counts, CountsIf}
 use Rattle.ip_ground.specs.Files.{number_itself}
 use Rattle.ip_history.proofs.LeastAlone.{ancestor_meets, proper_meets}
 use Rattle.ip_history.proofs.Parents.{parents_first}
@@ -32,7 +32,7 @@ use Rattle.ip_spec.specs.View.{View, no_view, least}
 use Rattle.ip_save.specs.Batches.{HasShortContents}
 use Rattle.ip_tree.specs.TreeView.{IsView, stored_view}
 use Rattle.ip_tree.specs.declared.tree.Tree as lazy
-use Rattle.ip_three.specs.Answered.{MergesTrees, MergedView, ground_three, whole, edited}
+use Rattle.ip_three.specs.Answered.{MergesTrees, MergedView, counted_three, whole, edited}
 use Rattle.ip_three.specs.declared.merge.ThreeFault.{ThreeFault}
 use Rattle.ip_three.specs.declared.merge.ThreeFault.TheVariants as three
 use Rattle.ip_held.specs.declared.fault.StoreFault.{StoreFault}
@@ -42,7 +42,7 @@ use Rattle.ip_appends.specs.declared.merging.Sides.{Sides}
 use Rattle.ip_held.specs.declared.held.Held.{Held}
 use Rattle.ip_held.specs.declared.work.Work.{Work}
 use Rattle.ip_held.specs.Changes.{KeepsNumbers}
-use Rattle.ip_held.specs.Faults.{ground_store}
+use Rattle.ip_held.specs.Faults.{counted_store}
 use Rattle.ip_appends.specs.Merging.{GoesOnFrom, IsStoredAs, IsBase, IsMergeView, IsCourseBy, IsCourse, IsApart, IsStaying, course_in, unless_leaving, bases_of, IsForward, IsJoin, IsBaseTree, IsOutcome, IsJoinedTree, IsJoined, stopped_by}
 use Rattle.ip_held.specs.Held.{IsOf}
 use Rattle.ip_held.specs.Trees.{IsTreeOf}
@@ -120,7 +120,7 @@ abbrev pub joined_of : Result lazy.Tree ThreeFault → Result Joined StoreFault
 joined_of (Ok tree) = Ok (Joined.Tree tree)
 joined_of (Err fault) = stopped_by fault
 
-pub counts_stopped : (fault : ThreeFault) (old new : GroundCounts) → CountsIf FileFault (ground_three fault) old new → Counts ground_store (stopped_by fault) old new
+pub counts_stopped : (fault : ThreeFault) (old new : Noted) → CountsIf (counted_three fault) old new → Counts counted_store (stopped_by fault) old new
 counts_stopped (three.Conflict path) old new is = is
 counts_stopped (three.Limit limit) old new is = is
 counts_stopped (three.Fetch fetch.Ground) old new is = is

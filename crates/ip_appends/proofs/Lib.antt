@@ -16,3 +16,4 @@ pub mod MergeTurns
 pub mod MergedMaps
 pub mod Planning
 pub mod MergedViews
+pub mod Unwanted

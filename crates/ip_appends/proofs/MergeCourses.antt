@@ -1,8 +1,8 @@
 -- A merge by how the commit stands to the branch's.
 --     into_none, into_memory      there is no such branch, or that could not be told.      into_current, into_leaving, into_bases      nothing is merged
---     course_may      the branch's commit is there.      forward_at, join_at      the branch moves on, or the trees are merged
+--     head_there, course_may      there is the branch, and its commit.      forward_at, join_at      the branch moves on, or the trees are merged
 use Rattle.std.proofs.Common.{◌≡◌, ℕ, Bool, false, Option, Some, None, refl, sym, ◌∙◌, ap, subst}
-use Rattle.std.specs.Prelude.{Result, Ok, Err, IsTrue}
+use Rattle.std.specs.Prelude.{Result, Ok, Err, IsSome, IsTrue}
 use Rattle.ip_base.specs.declared.info.Info.{Info}
 use Rattle.ip_ground.specs.Told.{Told}
 use Rattle.ip_spec.specs.declared.reply.Reply.{Reply}
@@ -35,12 +35,8 @@ module _ (tells : Bool) (rule : Rule) (number : ℕ) (branch : Bytes) (info : In
   Into result = MergesInto tells rule number branch info result store store a a
 
   still : (x : Merge) → moves x ≡ false → ((r : Repository) → IsOf store r → There r → (reply : Reply) × (merge_reply branch (Ok x) ≡ Some reply) × IsQuiet rule r phase number branch info reply r) → Into (Ok x)
-  still x none quiet = into tells rule number branch info There (Ok x) store store a a (λ r of here. here)
+  still x none quiet = into tells rule number branch info There (Ok x) store store a a (λ r of here. here) (λ r of e. absurd (cc (e)))
       (looked_value tells rule number branch info There store store a a (looked_nothing tells store a) x none (λ told decides r held here. quiet r held.tables here))
-
-  pub into_memory : Into (Err StoreFault.Memory)
-  into_memory = into tells rule number branch info There (Err StoreFault.Memory) store store a a (λ r of here. here)
-      (looked_fault tells rule number branch info There store store a a (looked_nothing tells store a) StoreFault.Memory (λ told decides r held here. record { turns = turn_memory rule r phase number branch info; limits = tt; undamaged = tt }) tt)
 
   module _ (found : Option ℕ) (is_found : (r : Repository) → IsOf store r → found ≡ head r branch) where
     pub into_none : found ≡ None → Into (Ok Merge.NoBranch)
@@ -49,6 +45,13 @@ module _ (tells : Bool) (rule : Rule) (number : ℕ) (branch : Bytes) (info : In
     module _ (at : ℕ) (some : found ≡ Some at) where
       is_head : (r : Repository) → IsOf store r → head r branch ≡ Some at
       is_head r of = sym (is_found r of) ∙ some
+
+      pub head_there : (r : Repository) → IsOf store r → IsSome (head r branch)
+      head_there r of = subst (λ (o : Option ℕ). IsSome o) (sym (is_head r of)) refl
+
+      pub into_memory : Into (Err StoreFault.Memory)
+      into_memory = into tells rule number branch info There (Err StoreFault.Memory) store store a a (λ r of here. here) (λ r of e. head_there r of)
+          (looked_fault tells rule number branch info There store store a a (looked_nothing tells store a) StoreFault.Memory (λ told decides r held here. record { turns = turn_memory rule r phase number branch info; limits = tt; undamaged = tt }) tt)
 
       pub course_may : (r : Repository) → IsOf store r → IsTrue (is_retained r at)
       course_may r of = head_retained store r of branch at (is_head r of)
@@ -65,7 +68,7 @@ module _ (tells : Bool) (rule : Rule) (number : ℕ) (branch : Bytes) (info : In
         ))
 
         pub into_leaving : course ≡ Course.Leaving → Into (Err (StoreFault.Leaving number))
-        into_leaving is = into tells rule number branch info There (Err (StoreFault.Leaving number)) store store a a (λ r of here. here)
+        into_leaving is = into tells rule number branch info There (Err (StoreFault.Leaving number)) store store a a (λ r of here. here) (λ r of e. head_there r of)
             (looked_fault tells rule number branch info There store store a a (looked_nothing tells store a) (StoreFault.Leaving number) (λ told decides r held here.
             let taken = by Course.Leaving is r held.tables here in
             record { turns = (turn_leaving rule r phase number branch info at (is_head r held.tables) taken.0.0 taken.0.1 (Reply.Leaving number) taken.1).turns; limits = tt; undamaged = tt }) tt)

@@ -5,7 +5,7 @@
 --     join_failed, join_limits, join_undamaged, conflict      the trees were not merged
 --     forward_into      the branch moved on
 use Rattle.std.proofs.Common.{◌≡◌, ℕ, ◌+◌, ◌^◌, ◌<◌, ◌≤◌, Bool, false, [], ◌∷◌, length, Option, Some, None, inl, refl, sym, ◌∙◌, ap, subst, append-nil}
-use Rattle.std.specs.Prelude.{Result, Ok, Err, OnOk, IfSome, IsTrue}
+use Rattle.std.specs.Prelude.{Result, Ok, Err, OnOk, IfSome, IsErrOf, IsSome, IsTrue}
 use Rattle.ip_base.specs.declared.info.Info.{Info}
 use Rattle.ip_base.specs.declared.limit.Limit.{Limit}
 use Rattle.ip_ground.specs.declared.names.FileName.TheVariants.{Control}
@@ -20,7 +20,7 @@ use Rattle.ip_spec.specs.Machine.{Phase}
 use Rattle.ip_spec.specs.Merge.{Rule, conflict_at}
 use Rattle.ip_spec.specs.Path.{Bytes, Path}
 use Rattle.ip_spec.specs.Record.{spelling, spelling_of}
-use Rattle.ip_spec.specs.Repository.{Repository, is_retained, name_at}
+use Rattle.ip_spec.specs.Repository.{Repository, head, is_retained, name_at}
 use Rattle.ip_spec.specs.Step.{with_branch}
 use Rattle.ip_spec.specs.TreeAt.{Records}
 use Rattle.ip_held.specs.declared.fault.StoreFault.{StoreFault}
@@ -29,6 +29,7 @@ use Rattle.ip_appends.specs.declared.merging.Sides.{Sides}
 use Rattle.ip_held.specs.declared.held.Held.{Held}
 use Rattle.ip_held.specs.Causes.{IsStoreCause}
 use Rattle.ip_held.specs.Changes.{Changes, Appends, IsUndamaged, LimitsSpace}
+use Rattle.ip_held.specs.Clear.{KeepsClear}
 use Rattle.ip_held.specs.Collecting.{phase_of}
 use Rattle.ip_held.specs.Answers.{fault_reply, met_by, met_nothing, met_of}
 use Rattle.ip_appends.specs.Merging.{merge_reply, IsTurn, GoesOnFrom, AnswersMerge, MergeAppends, AppendsMerge, LimitsMerge, IsUnmoved, IsForward, IsForwarded, IsJoin, IsOutcome, IsJoined, Forwards, MergesInto, MergesWhere, StoreLooks, moves}
@@ -37,6 +38,7 @@ use Rattle.ip_held.specs.Trees.{OnlyLooks}
 use Rattle.ip_appends.proofs.JoinedTrees.{within_long, within_wide}
 use Rattle.ip_appends.proofs.MergeTurns.{IsQuiet, some_turn, turn_memory, turn_forward, forward_space, forward_sequence, turn_conflict, refused_tree}
 use Rattle.ip_held.proofs.Causing.{undamaged_causes}
+use Rattle.ip_held.proofs.Clearing.{looked_clear}
 use Rattle.ip_held.proofs.Recovering.{held_has}
 use Rattle.ip_held.proofs.Stepping.{same_tables}
 use Rattle.ip_held.proofs.Taking.{looked_took, looked_grew, looked_still_took, looked_still_grew}
@@ -50,13 +52,16 @@ pub goes_itself : (r : Repository) (store : Held) → IsOf store r → GoesOnFro
 goes_itself r store of = record { tables = of; parents = λ least ns are. are }
 
 module _ (tells : Bool) (rule : Rule) (number : ℕ) (branch : Bytes) (info : Info) (Is : Repository → Type 0) where
-  pub into : (result : Result Merge StoreFault) (store now : Held) (a b : Told) → ((r : Repository) → IsOf store r → IsTrue (is_retained r number) → Is r) → MergesWhere Is tells rule number branch info result store now a b → MergesInto tells rule number branch info result store now a b
-  into result store now a b is all = record {
+  pub into : (result : Result Merge StoreFault) (store now : Held) (a b : Told) → ((r : Repository) → IsOf store r → IsTrue (is_retained r number) → Is r) → ((r : Repository) → IsOf store r → IsErrOf result StoreFault.Memory → IsSome (head r branch)) → MergesWhere Is tells rule number branch info result store now a b → MergesInto tells rule number branch info result store now a b
+  into result store now a b is wanted all = record {
     tables = λ r of here has. all.tables r of (is r of here) has;
     same_collection = all.same_collection;
     grew = all.grew;
     merges = λ told decides r held here. all.merges told decides r held (is r held.tables here);
     causes = all.causes;
+    untouched = all.untouched;
+    clear = all.clear;
+    wanted = wanted;
   }
 
   -- ---- where the store only looked
@@ -70,6 +75,9 @@ module _ (tells : Bool) (rule : Rule) (number : ℕ) (branch : Bytes) (info : In
 
     abbrev looks : IsTrue tells → OnlyLooks a b store mid
     looks = looked.looks
+
+    clear_mid : IsTrue tells → KeepsClear store mid a b
+    clear_mid told = looked_clear store mid a b same.slot same.unswept (looks told).reads.only
 
     -- who answers so leaves the repository as it is
     abbrev Quiet : Repository → Merge → Type 0
@@ -111,6 +119,8 @@ module _ (tells : Bool) (rule : Rule) (number : ℕ) (branch : Bytes) (info : In
             undamaged = tt;
           };
       causes = tt;
+      untouched = λ told damaged. absurd (damaged tt);
+      clear = λ told has r held. clear_mid told;
     }
 
     -- what the machine refuses so
@@ -145,6 +155,8 @@ module _ (tells : Bool) (rule : Rule) (number : ℕ) (branch : Bytes) (info : In
             undamaged = refused.undamaged;
           };
       causes = cause;
+      untouched = λ told damaged. (looks told).reads.only;
+      clear = λ told has r held. clear_mid told;
     }
       where
         each : (o : Option Reply) (r : Repository) → Holds mid b r → (met : Met) → IfSome o (λ reply. IsTurn rule r phase number branch info met reply r) → IfSome o (λ reply. AnswersMerge rule b r phase number branch info met reply mid)
@@ -281,4 +293,6 @@ forward_into tells rule number branch info result store now a b forwards = recor
         undamaged = forwards.undamaged;
       };
   causes = undamaged_causes tells a store.space result forwards.undamaged;
+  untouched = λ told damaged. absurd (damaged forwards.undamaged);
+  clear = forwards.clear;
 }

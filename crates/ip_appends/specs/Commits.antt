@@ -4,10 +4,10 @@
 --     IsNext r from branch store plan, IsPlan r work v first branch info store plan      what a commit will do, whatever is told, and where the tree's records are
 --     repository_after r phase work v branch info      what the machine gives
 --     CommitsWork tells branch info result store now work after old new      all that is promised of the call, but for the ground's counts
-use Rattle.std.specs.Prelude.{◌≡◌, ℕ, ◌+◌, ◌<◌, ◌≤◌, Bool, true, List, [], ◌∷◌, length, Option, Result, Ok, Err, IsTrue, IfErr, IfSome, OnOk}
+use Rattle.std.specs.Prelude.{◌≡◌, ℕ, ◌+◌, ◌<◌, ◌≤◌, Bool, true, List, [], ◌∷◌, length, Option, Result, Ok, Err, IsTrue, IfErr, IfSome, IsErrOf, OnOk}
 use Rattle.ip_base.specs.declared.limit.TheConstants.{OFFSET_MAX, BRANCHES_MAX}
 use Rattle.ip_base.specs.declared.info.Info.{Info}
-use Rattle.ip_ground.specs.Told.{Told}
+use Rattle.ip_ground.specs.Told.{Told, NoFile, ChangesOnly}
 use Rattle.ip_spec.specs.Batch.{batch, batch_end, batch_root, reusing_sources}
 use Rattle.ip_spec.specs.Batch as Batches
 use Rattle.ip_spec.specs.Map.{insert, len}
@@ -34,10 +34,11 @@ use Rattle.ip_held.specs.declared.fault.StoreFault.{StoreFault}
 use Rattle.ip_held.specs.declared.step.Entry.{Entry}
 use Rattle.ip_held.specs.Causes.{IsStoreCause}
 use Rattle.ip_held.specs.Changes.{Appends, HasAnswer, IsUndamaged, KeepsNumbers, LimitsSpace, next_slot}
+use Rattle.ip_held.specs.Clear.{KeepsClear}
 use Rattle.ip_held.specs.Collecting.{carried, phase_of, not_leaving_in}
 use Rattle.ip_held.specs.Placed.{places_in}
 use Rattle.ip_held.specs.Work.{AreParents, IsAt, IsThere, session}
-use Rattle.ip_held.specs.Answers.{met_nothing, met_by, conditions_of, committed, first_parent, reply_to, Answers, GoesOn, IsSaved}
+use Rattle.ip_held.specs.Answers.{met_nothing, met_by, conditions_of, committed, first_parent, first_refusal, reply_to, Answers, GoesOn, IsSaved}
 use Rattle.ip_held.specs.Held.{IsOf, Holds, image_records}
 use Rattle.ip_held.specs.Step.{Grew, Took}
 
@@ -110,5 +111,11 @@ pub record CommitsWork (tells : Bool) (branch : Bytes) (info : Info) (result : R
       Took (λ name. true) here.holds (repository_after r (phase_of store.collection) work v branch info) (records_of r work v (first_parent here) branch info store) result now new
   pub causes : IfErr result (IsStoreCause tells old store.space)
   pub undamaged : IsTrue tells → (r : Repository) (v : View) → IsAt old store r work v → IsUndamaged result
+  -- behind files that others changed nothing is written
+  pub untouched : IsTrue tells → ¬ IsUndamaged result → ChangesOnly NoFile old new
+  -- Memory is asked for only where none of the refusals that come before the name is met.
+  pub wanted : (r : Repository) → IsOf store r → IsErrOf result StoreFault.Memory → first_refusal r (phase_of store.collection) work.least work.parents branch ≡ Ok tt
+  -- whatever the work's tree is
+  pub clear : IsTrue tells → HasAnswer result → (r : Repository) → Holds store old r → KeepsClear store now old new
   -- a work without parents has no tree to look into, over any ground
   pub alone : work.parents ≡ [] → IsUndamaged result

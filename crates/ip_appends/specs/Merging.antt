@@ -15,7 +15,7 @@
 --     IsCourse r phase head number course      how two commits stand to each other, by the tests of ancestors, and whether a collection gives the one up.      unless_leaving, course_in      the course where none does, or not.           IsCourseBy      by their least common ancestors
 --     IsForward r branch number, IsJoin r phase branch sides      a branch moves on to a commit, or the trees of three commits are merged
 --     IsForwarded r number result, IsJoined rule records r sides result      what comes of that.      stopped_by fault      of trees that were not merged
-use Rattle.std.specs.Prelude.{◌≡◌, ◌≢◌, ◌⊎◌, ℕ, ◌+◌, ◌<◌, ◌≤◌, true, false, List, [], ◌∷◌, length, Option, Some, None, Result, Ok, Err, OnOk, IfErr, IfSome, IsTrue, nat_lt, if◌then◌else◌, Bool}
+use Rattle.std.specs.Prelude.{◌≡◌, ◌≢◌, ◌⊎◌, ℕ, ◌+◌, ◌<◌, ◌≤◌, true, false, List, [], ◌∷◌, length, Option, Some, None, Result, Ok, Err, OnOk, IfErr, IfSome, IsErrOf, IsSome, IsTrue, nat_lt, if◌then◌else◌, Bool}
 use Rattle.ip_base.specs.declared.limit.TheConstants.{OFFSET_MAX}
 use Rattle.ip_base.specs.declared.info.Info.{Info}
 use Rattle.ip_base.specs.declared.limit.Limit.TheVariants as Limit
@@ -47,6 +47,7 @@ use Rattle.ip_three.specs.declared.merge.ThreeFault.{ThreeFault}
 use Rattle.ip_three.specs.declared.merge.ThreeFault.TheVariants as three
 use Rattle.ip_held.specs.Causes.{IsStoreCause}
 use Rattle.ip_held.specs.Changes.{Appends, HasAnswer, IsUndamaged, LimitsSpace}
+use Rattle.ip_held.specs.Clear.{KeepsClear}
 use Rattle.ip_held.specs.Collecting.{not_leaving_in, phase_of}
 use Rattle.ip_held.specs.Answers.{conditions_of, fault_reply, met_by, met_nothing}
 use Rattle.ip_held.specs.Showing.{fault_from}
@@ -220,6 +221,7 @@ pub record Forwards (tells : Bool) (number : ℕ) (branch : Bytes) (result : Res
   pub appends : IsTrue tells → OnOk result (Appends ((store.slot.end, Record.BranchSet number branch) ∷ []) 0 store now old new)
   pub grew : IsTrue tells → (r : Repository) (held : Holds store old r) → Grew moves held result now new
   pub took : IsTrue tells → (r : Repository) (held : Holds store old r) → IsForward r branch number → Took moves held (with_branch r branch number) ((store.slot.end, Record.BranchSet number branch) ∷ []) result now new
+  pub clear : IsTrue tells → HasAnswer result → (r : Repository) → Holds store old r → KeepsClear store now old new
   pub undamaged : IsUndamaged result
 
 -- of a repository that the store holds, by a rule that is decisive
@@ -243,6 +245,10 @@ pub record MergesWhere (Is : Repository → Type 0) (tells : Bool) (rule : Rule)
   pub grew : IsTrue tells → (r : Repository) (held : Holds store old r) → Grew moves held result now new
   pub merges : IsTrue tells → IsDecisive rule → (r : Repository) (held : Holds store old r) → Is r → MergesBy rule held (phase_of store.collection) number branch info result now new
   pub causes : IfErr result (IsStoreCause tells old store.space)
+  -- behind files that others changed nothing is written
+  pub untouched : IsTrue tells → ¬ IsUndamaged result → ChangesOnly NoFile old new
+  -- whatever the rules are
+  pub clear : IsTrue tells → HasAnswer result → (r : Repository) → Holds store old r → KeepsClear store now old new
 
 pub record MergesInto (tells : Bool) (rule : Rule) (number : ℕ) (branch : Bytes) (info : Info) (result : Result Merge StoreFault) (store now : Held) (old new : Told) : Type 0 where
   pub tables : (r : Repository) → IsOf store r → IsTrue (is_retained r number) → HasAnswer result → (after : Repository) × GoesOnFrom r now after
@@ -250,6 +256,12 @@ pub record MergesInto (tells : Bool) (rule : Rule) (number : ℕ) (branch : Byte
   pub grew : IsTrue tells → (r : Repository) (held : Holds store old r) → Grew moves held result now new
   pub merges : IsTrue tells → IsDecisive rule → (r : Repository) (held : Holds store old r) → IsTrue (is_retained r number) → MergesBy rule held (phase_of store.collection) number branch info result now new
   pub causes : IfErr result (IsStoreCause tells old store.space)
+  -- behind files that others changed nothing is written
+  pub untouched : IsTrue tells → ¬ IsUndamaged result → ChangesOnly NoFile old new
+  -- whatever the rules are
+  pub clear : IsTrue tells → HasAnswer result → (r : Repository) → Holds store old r → KeepsClear store now old new
+  -- Memory is asked for only where there is such a branch.
+  pub wanted : (r : Repository) → IsOf store r → IsErrOf result StoreFault.Memory → IsSome (head r branch)
 
 -- ---- how the commits stand to each other
 

@@ -21,7 +21,8 @@ use Rattle.ip_held.specs.declared.fault.StoreFault.{StoreFault}
 use Rattle.ip_held.specs.declared.held.Held.{Held}
 use Rattle.ip_spec.specs.Machine.{Phase, Work}
 use Rattle.ip_held.specs.Answers.{fault_reply, met_by, Turns}
-use Rattle.ip_held.specs.Changes.{Appends, IsUndamaged, LimitsSpace}
+use Rattle.ip_held.specs.Changes.{Appends, HasAnswer, IsUndamaged, LimitsSpace}
+use Rattle.ip_held.specs.Clear.{KeepsClear}
 use Rattle.ip_held.specs.Collecting.{not_leaving_in, phase_of}
 use Rattle.ip_held.specs.Held.{IsOf, Holds}
 use Rattle.ip_held.specs.Step.{Grew, Took}
@@ -72,13 +73,16 @@ pub record AppendsRecord (tells : Bool) (x : Record) (result : Result (Unit {0})
   pub appends : IsTrue tells → OnOk result (Appends ((store.slot.end, x) ∷ []) 0 store now old new)
   pub grew : IsTrue tells → (r : Repository) (held : Holds store old r) → Grew (λ done. true) held result now new
   pub took : IsTrue tells → (r : Repository) (held : Holds store old r) → MayName r x → Took (λ done. true) held (renamed r x) ((store.slot.end, x) ∷ []) result now new
+  -- whatever the record does to the branches
+  pub clear : IsTrue tells → HasAnswer result → (r : Repository) → Holds store old r → KeepsClear store now old new
   pub undamaged : IsUndamaged result
 
 pub record SetsBranch (tells : Bool) (name : Bytes) (number : ℕ) (result : Result (Unit {0}) StoreFault) (store now : Held) (old new : Told) : Type 0 where
   pub answered : (r : Repository) → IsOf store r → IsTrue (is_retained r number) → IfSome (branch_reply result) (AnswersSet r (phase_of store.collection) name number (met_by result) now)
   pub same_collection : now.collection ≡ store.collection
-  -- Files are only touched where no collection gives up the commit, and there is room for the branch.
+  -- Files are only touched, and memory is only asked for, where no collection gives up the commit, and there is room for the branch.
   pub begun : (r : Repository) → IsOf store r → IsErrOf result StoreFault.Ground → (not_leaving_in (phase_of store.collection) (Some number) ≡ Ok tt) × (room_for_branch r name ≡ Ok tt)
+  pub wanted : (r : Repository) → IsOf store r → IsErrOf result StoreFault.Memory → (not_leaving_in (phase_of store.collection) (Some number) ≡ Ok tt) × (room_for_branch r name ≡ Ok tt)
   pub limits : LimitsSpace (store.slot.end + length (spelling (Record.BranchSet number name))) result store
   pub appends : IsTrue tells → OnOk result (Appends ((store.slot.end, Record.BranchSet number name) ∷ []) 0 store now old new)
   pub grew : IsTrue tells → (r : Repository) (held : Holds store old r) → Grew (λ done. true) held result now new
@@ -88,8 +92,9 @@ pub record SetsBranch (tells : Bool) (name : Bytes) (number : ℕ) (result : Res
 pub record RemovesBranch (tells : Bool) (name : Bytes) (result : Result Bool StoreFault) (store now : Held) (old new : Told) : Type 0 where
   pub answered : (r : Repository) → IsOf store r → IfSome (removed_reply name result) (AnswersRemove r (phase_of store.collection) name (met_by result) now)
   pub same_collection : now.collection ≡ store.collection
-  -- Files are only touched where there is such a branch.
+  -- Files are only touched, and memory is only asked for, where there is such a branch.
   pub begun : (r : Repository) → IsOf store r → IsErrOf result StoreFault.Ground → IsSome (head r name)
+  pub wanted : (r : Repository) → IsOf store r → IsErrOf result StoreFault.Memory → IsSome (head r name)
   pub limits : result ≢ Ok false → LimitsSpace (store.slot.end + length (spelling (Record.BranchRemove name))) result store
   pub appends : IsTrue tells → result ≡ Ok true → Appends ((store.slot.end, Record.BranchRemove name) ∷ []) 0 store now old new
   pub grew : IsTrue tells → (r : Repository) (held : Holds store old r) → Grew (λ removed. removed) held result now new

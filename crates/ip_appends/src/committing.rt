@@ -1,8 +1,8 @@
 // Committing a work: its refusals, its records, and the step.
-ghost use Rattle.std.specs.Prelude.{◌≡◌, ◌+◌, [], ◌∷◌, ◌≤◌, ◌<◌, Option, Ok, Err, None, true, map, All, length, IsTrue, IfOk, IfErr, IsErrOf};
+ghost use Rattle.std.specs.Prelude.{◌≡◌, ◌+◌, [], ◌∷◌, ◌≤◌, ◌<◌, Option, Ok, Err, None, map, All, length, IsTrue, IfOk, IfErr, IsErr, IsErrOf};
 ghost use Rattle.ip_base.specs.declared.limit.TheConstants.{OFFSET_MAX, PARENTS_MAX};
 ghost use Rattle.ip_held.specs.Causes.{IsFaultFrom, IsStoreCause};
-ghost use Rattle.ip_held.specs.Faults.{ground_store};
+ghost use Rattle.ip_held.specs.Faults.{counted_store};
 ghost use Rattle.ip_ground.specs.Counts.{Counts};
 ghost use Rattle.ip_base.specs.declared.limit.Limit.TheVariants as Limit;
 ghost use Rattle.ip_spec.specs.Record.{IsBranchName, IsInfo, IsHash, IsU64};
@@ -11,11 +11,11 @@ ghost use Rattle.ip_spec.specs.Step.{not_existing};
 ghost use Rattle.ip_image.specs.Slot.{IsSlot};
 ghost use Rattle.ip_image.specs.Appending.{fields_of};
 ghost use Rattle.ip_save.specs.Batches.{fields_told, AreFields, HasShortContents, IsFirst};
-ghost use Rattle.ip_save.specs.Reused.{ground_save};
+ghost use Rattle.ip_save.specs.Reused.{counted_save};
 ghost use Rattle.ip_spec.specs.View.{View};
 ghost use Rattle.ip_tree.specs.TreeView.{IsView};
 ghost use Rattle.ip_held.specs.declared.fault.StoreFault.TheVariants as StoreFault;
-ghost use Rattle.ip_held.specs.Answers.{parent_named, IsRefusal, first_parent, first_view};
+ghost use Rattle.ip_held.specs.Answers.{parent_named, IsRefusal, first_parent, first_refusal, first_view};
 ghost use Rattle.ip_appends.specs.Commits.{CommitsWork, IsNewBatch, IsNext, IsNotMade, IsPlan, end_of};
 ghost use Rattle.ip_held.specs.Changes.{IsUndamaged};
 ghost use Rattle.ip_held.specs.Showing.{IsFetchedOr};
@@ -90,7 +90,9 @@ pub fn commit<G: Ground>(
     requires info { IsInfo info }
     requires tables { (r : Repository) × IsOf store.old r × AreParents r work.old.least work.old.parents }
     ensures commits { CommitsWork G.tells branch.now info result store.old store.new work.old work.new (G.told outside.old) (G.told outside.new) }
-    ensures counts { Counts ground_store result (G.counts_of outside.old) (G.counts_of outside.new) }
+    // Over any ground the work is as it was where nothing was committed.
+    ensures spared { IsErr result → work.new ≡ work.old }
+    ensures counts { Counts counted_store result (G.counts_of outside.old) (G.counts_of outside.new) }
 {
     let plan = plan_commit(store, alloc, outside, work, branch, info)?;
     let step = plan.step;
@@ -115,6 +117,8 @@ fn plan_commit<G: Ground>(
     requires tables { (r : Repository) × IsOf store.old r × AreParents r work.now.least work.now.parents }
     ensures coming { (r : Repository) → IsOf store.old r → IfOk result (IsNext r work.now.parents branch.now store.old) }
     ensures there { (r : Repository) → IsOf store.old r → IfOk result (λ plan. IsThere r work.now.least) }
+    ensures passed { (r : Repository) → IsOf store.old r → IfOk result (λ plan. first_refusal r (phase_of store.old.collection) work.now.least work.now.parents branch.now ≡ Ok tt) }
+    ensures wanted { (r : Repository) → IsOf store.old r → IsErrOf result StoreFault.Memory → first_refusal r (phase_of store.old.collection) work.now.least work.now.parents branch.now ≡ Ok tt }
     ensures refused { IsTrue G.tells → (r : Repository) (v : View) → IsAt (G.told outside.old) store.old r work.now v → IfErr result (IsRefusal r (phase_of store.old.collection) work.now v branch.now info) }
     ensures planned { IsTrue G.tells → (r : Repository) (v : View) (here : IsAt (G.told outside.old) store.old r work.now v) → IfOk result (IsPlan r work.now v (first_parent here) branch.now info store.old) }
     ensures space { IsTrue G.tells → (r : Repository) (v : View) (here : IsAt (G.told outside.old) store.old r work.now v) → IsErrOf result (StoreFault.Limit Limit.Space) →
@@ -123,7 +127,7 @@ fn plan_commit<G: Ground>(
         (end_of r work.now v (first_parent here) branch.now info store.old ≤ OFFSET_MAX) × (store.old.slot.sequence ≡ OFFSET_MAX) }
     ensures same { SameTables store.old store.new }
     ensures looks { IsTrue G.tells → OnlyLooks (G.told outside.old) (G.told outside.new) store.old store.new }
-    ensures counts { Counts ground_store result (G.counts_of outside.old) (G.counts_of outside.new) }
+    ensures counts { Counts counted_store result (G.counts_of outside.old) (G.counts_of outside.new) }
     ensures causes { IfErr result (IsStoreCause G.tells (G.told outside.old) store.old.space) }
     ensures undamaged { IsTrue G.tells → (r : Repository) (v : View) → IsAt (G.told outside.old) store.old r work.now v → IsUndamaged result }
     ensures alone { work.now.parents ≡ [] → (outside.new ≡ outside.old) × IsUndamaged result }
@@ -176,7 +180,7 @@ fn batch_of<G: Ground>(
     ensures fresh { (r : Repository) → IsOf store.old r → IfOk result (λ b. not_existing r b.name ≡ Ok tt) }
     ensures same { SameTables store.old store.new }
     ensures looks { IsTrue G.tells → OnlyLooks (G.told outside.old) (G.told outside.new) store.old store.new }
-    ensures counts { Counts ground_store result (G.counts_of outside.old) (G.counts_of outside.new) }
+    ensures counts { Counts counted_store result (G.counts_of outside.old) (G.counts_of outside.new) }
     ensures causes { IfErr result (IsStoreCause G.tells (G.told outside.old) store.old.space) }
     ensures alone { parents.now ≡ [] → (outside.new ≡ outside.old) × IsUndamaged result }
 {
@@ -197,7 +201,7 @@ fn first_root<G: Ground>(
         IsFetchedOr (λ root. IsFirst (image_records held) root (first_view (image_records held) store.old r parents.now)) result }
     ensures same { SameTables store.old store.new }
     ensures looks { IsTrue G.tells → OnlyLooks (G.told outside.old) (G.told outside.new) store.old store.new }
-    ensures counts { Counts ground_store result (G.counts_of outside.old) (G.counts_of outside.new) }
+    ensures counts { Counts counted_store result (G.counts_of outside.old) (G.counts_of outside.new) }
     ensures causes { IfErr result (IsStoreCause G.tells (G.told outside.old) store.old.space) }
     ensures alone { parents.now ≡ [] → (result ≡ Ok None) × (outside.new ≡ outside.old) }
 {
@@ -254,7 +258,7 @@ fn new_batch<G: Ground>(
     ensures fresh { (r : Repository) → IsOf store.old r → IfOk result (λ b. not_existing r b.name ≡ Ok tt) }
     ensures same { SameTables store.old store.new }
     ensures looks { IsTrue G.tells → OnlyLooks (G.told outside.old) (G.told outside.new) store.old store.new }
-    ensures counts { Counts ground_store result (G.counts_of outside.old) (G.counts_of outside.new) }
+    ensures counts { Counts counted_store result (G.counts_of outside.old) (G.counts_of outside.new) }
     ensures causes { IfErr result (IsStoreCause G.tells (G.told outside.old) store.old.space) }
     ensures alone { first ≡ None → (outside.new ≡ outside.old) × IsUndamaged result }
 {
@@ -274,7 +278,7 @@ fn new_batch<G: Ground>(
 fn not_made(store: &Held, fault: SaveFault) -> StoreFault
     ensures made { (r : Repository) → IsOf store.now r → IsNotMade r fault result }
     ensures comes { IsFaultFrom fault result }
-    ensures ground { (result ≡ StoreFault.Ground → ground_save fault ≡ true) × (ground_save fault ≡ true → result ≡ StoreFault.Ground) }
+    ensures counted { counted_store result ≡ counted_save fault }
 {
     match fault {
         SaveFault::Space(name) => match store.is_new(name) {

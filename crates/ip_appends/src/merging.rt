@@ -6,7 +6,7 @@ ghost use Rattle.ip_spec.specs.Record.{IsBranchName, IsInfo};
 ghost use Rattle.ip_spec.specs.Repository.{Repository, is_retained};
 ghost use Rattle.ip_held.specs.Collecting.{phase_of};
 ghost use Rattle.ip_held.specs.Causes.{IsStoreCause};
-ghost use Rattle.ip_held.specs.Faults.{ground_store};
+ghost use Rattle.ip_held.specs.Faults.{counted_store};
 ghost use Rattle.ip_held.specs.Held.{IsOf, Holds, image_records};
 ghost use Rattle.ip_held.specs.Showing.{IsFetchedOr};
 ghost use Rattle.ip_appends.specs.Merging.{Forwards, JoinsTrees, MergesInto, MergesWhere, StoreLooks, IsCourse, IsCourseBy, IsBaseTree, IsJoin, IsForward, course_in, stopped_by, unless_leaving};
@@ -132,7 +132,7 @@ pub fn merge_into<G: Ground, D: Decides>(
     requires info { IsInfo info }
     requires tables { (r : Repository) × IsOf store.old r × IsTrue (is_retained r number) }
     ensures merges { MergesInto G.tells (D.rule rules.now) number branch.now info result store.old store.new (G.told outside.old) (G.told outside.new) }
-    ensures counts { Counts ground_store result (G.counts_of outside.old) (G.counts_of outside.new) }
+    ensures counts { Counts counted_store result (G.counts_of outside.old) (G.counts_of outside.new) }
 {
     let head = match store.head(branch) {
         Some(head) => head,
@@ -194,7 +194,7 @@ fn forward<G: Ground>(
     requires branch { IsBranchName branch.now }
     requires tables { (r : Repository) × IsOf store.old r × IsForward r branch.now number }
     ensures forwards { Forwards G.tells number branch.now result store.old store.new (G.told outside.old) (G.told outside.new) }
-    ensures counts { Counts ground_store result (G.counts_of outside.old) (G.counts_of outside.new) }
+    ensures counts { Counts counted_store result (G.counts_of outside.old) (G.counts_of outside.new) }
 {
     let name = store.retained_name(number);
     let rec = set_record(alloc, branch, number)?;
@@ -216,7 +216,7 @@ fn join<G: Ground, D: Decides>(
     requires info { IsInfo info }
     requires tables { (r : Repository) × IsOf store.old r × IsJoin r (phase_of store.old.collection) branch.now sides.now }
     ensures joins { MergesWhere (λ r. IsJoin r (phase_of store.old.collection) branch.now sides.now) G.tells (D.rule rules.now) sides.now.number branch.now info result store.old store.new (G.told outside.old) (G.told outside.new) }
-    ensures counts { Counts ground_store result (G.counts_of outside.old) (G.counts_of outside.new) }
+    ensures counts { Counts counted_store result (G.counts_of outside.old) (G.counts_of outside.new) }
 {
     let tree = match join_trees(store, alloc, outside, sides, rules)? {
         Joined::Tree(tree) => tree,
@@ -241,7 +241,7 @@ fn join_trees<G: Ground, D: Decides>(
 ) -> Result<Joined, StoreFault>
     requires tables { (r : Repository) × (branch : Bytes) × IsOf store.old r × IsJoin r (phase_of store.old.collection) branch sides.now }
     ensures joins { JoinsTrees G.tells (D.rule rules.now) sides.now result store.old store.new (G.told outside.old) (G.told outside.new) }
-    ensures counts { Counts ground_store result (G.counts_of outside.old) (G.counts_of outside.new) }
+    ensures counts { Counts counted_store result (G.counts_of outside.old) (G.counts_of outside.new) }
 {
     let base = base_tree(store, alloc, outside, sides.base)?;
     let left = tree_of(store, outside, sides.head)?;
@@ -271,7 +271,7 @@ fn base_tree<G: Ground>(
     ensures tree { IsTrue G.tells → (r : Repository) (held : Holds store.old (G.told outside.old) r) → IfSome base (λ n. IsTrue (is_retained r n)) →
         IsFetchedOr (IsBaseTree (image_records held) r base) result }
     ensures looked { StoreLooks G.tells store.old store.new (G.told outside.old) (G.told outside.new) }
-    ensures counts { Counts ground_store result (G.counts_of outside.old) (G.counts_of outside.new) }
+    ensures counts { Counts counted_store result (G.counts_of outside.old) (G.counts_of outside.new) }
     ensures causes { IfErr result (IsStoreCause G.tells (G.told outside.old) store.old.space) }
 {
     match base {

@@ -2,7 +2,7 @@
 ghost use Rattle.std.specs.Prelude.{◌≡◌, false, IfOk, IsTrue, Ok};
 ghost use Rattle.ip_appends.specs.Naming.{RemovesBranch, SetsBranch, AppendsRecord};
 ghost use Rattle.ip_held.specs.Collecting.{IsAbove};
-ghost use Rattle.ip_held.specs.Faults.{ground_store};
+ghost use Rattle.ip_held.specs.Faults.{counted_store};
 ghost use Rattle.ip_held.specs.Held.{IsOf};
 ghost use Rattle.ip_ground.specs.Counts.{Counts};
 ghost use Rattle.ip_image.specs.Appending.{MayName};
@@ -48,7 +48,7 @@ pub(crate) fn append_branch_record<G: Ground>(
     requires fits { Fits 1 rec }
     requires served { IsServedKind rec }
     ensures appends { AppendsRecord G.tells rec result store.old store.new (G.told outside.old) (G.told outside.new) }
-    ensures counts { Counts ground_store result (G.counts_of outside.old) (G.counts_of outside.new) }
+    ensures counts { Counts counted_store result (G.counts_of outside.old) (G.counts_of outside.new) }
 {
     let bytes = spelled(alloc, &rec)?;
     let slot = store.next_slot(bytes.len(), 0)?;
@@ -67,7 +67,7 @@ pub fn set_branch<G: Ground>(
     requires name { IsBranchName name.now }
     requires tables { (r : Repository) × IsOf store.old r × IsTrue (is_retained r number) }
     ensures sets { SetsBranch G.tells name.now number result store.old store.new (G.told outside.old) (G.told outside.new) }
-    ensures counts { Counts ground_store result (G.counts_of outside.old) (G.counts_of outside.new) }
+    ensures counts { Counts counted_store result (G.counts_of outside.old) (G.counts_of outside.new) }
 {
     store.staying(Some(number))?;
     store.room_for(name)?;
@@ -87,7 +87,7 @@ pub fn remove_branch<G: Ground>(
     requires tables { (r : Repository) × IsOf store.old r }
     ensures removes { RemovesBranch G.tells name.now result store.old store.new (G.told outside.old) (G.told outside.new) }
     ensures absent { result ≡ Ok false → outside.new ≡ outside.old }
-    ensures counts { Counts ground_store result (G.counts_of outside.old) (G.counts_of outside.new) }
+    ensures counts { Counts counted_store result (G.counts_of outside.old) (G.counts_of outside.new) }
 {
     if store.head(name).is_none() {
         return Ok(false);

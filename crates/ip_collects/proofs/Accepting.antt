@@ -1,6 +1,6 @@
 -- A collection that is accepted.
 --     runs_through, check_through      the collection, and its check that is through
---     refused_so, refused_tables, refused_counts      why no swap was planned, and what becomes of the tables and of counts then.      undamaged      a commit's record never lies at 0
+--     refused_so, refused_tables, refused_counts      why no swap was planned, and what becomes of the tables and of counts then.      turned_safe, refused_blames      whether damage was found, and where.      undamaged      a commit's record never lies at 0
 --     accepts_tables, slot_of_swap      the tables of a swap that was made, and its slot
 --     going_on      once its pair was synced the store holds what it held
 --     accepts_none, sync_cut, swap_cut, accepts      what each way out does to what is told
@@ -11,10 +11,9 @@ use Rattle.ip_base.specs.declared.limit.TheConstants.{OFFSET_MAX}
 use Rattle.ip_base.specs.declared.limit.Limit.{Limit}
 use Rattle.ip_ground.specs.declared.names.FileName.{FileName}
 use Rattle.ip_ground.specs.declared.names.FileName.TheVariants.{Control, Chunk, Prefix, Mapping}
-use Rattle.ip_ground.specs.declared.names.GroundCounts.{GroundCounts}
 use Rattle.ip_ground.specs.declared.names.GroundFault.{GroundFault}
 use Rattle.ip_base.specs.declared.exit.Reaped.{Reaped}
-use Rattle.ip_ground.specs.Counts.{CountsIf, FileFault}
+use Rattle.ip_ground.specs.Counts.{Noted, CountsIf, DamageFound, FileFault}
 use Rattle.ip_ground.specs.Contents.{Content, Image}
 use Rattle.ip_ground.specs.Told.{Told, IsForeign, IsLoose, IsSynced, IsPossibleNow, IsSettledAs, KeepsFile, NoFile, Only}
 use Rattle.ip_ground.proofs.Lending.{own_settled, settled_stays}
@@ -52,14 +51,14 @@ use Rattle.ip_held.specs.declared.held.Held.{Held}
 use Rattle.ip_collects.specs.declared.swapping.Swap.{Swap}
 use Rattle.ip_held.specs.Collecting.{IsPhase, HasEnded, IsOfChild, Collects, until}
 use Rattle.ip_held.specs.Control.{control_in}
-use Rattle.ip_collects.specs.CollectFaults.{ground_finish}
+use Rattle.ip_collects.specs.CollectFaults.{counted_finish}
 use Rattle.ip_collects.specs.Finishing.{IsUndamaged, Serves}
-use Rattle.ip_collects.specs.Judging.{IsThrough, IsCheckOf}
+use Rattle.ip_collects.specs.Judging.{IsBlamedIn, IsThrough, IsCheckOf}
 use Rattle.ip_held.specs.Placed.{places_in, AreRising}
 use Rattle.ip_publish.specs.Publishing.{TurnsGate}
 use Rattle.ip_held.specs.StandsBy.{LeavesStill, LeavesSwapped, StandsBy}
 use Rattle.ip_held.specs.Held.{IsOf, OwnsPair, Holds}
-use Rattle.ip_collects.specs.Swapping.{Accepts, AcceptsAs, IsSwap, IsSwapFault, RefusesSwap, SwapsTables, SyncsPair, turned_down}
+use Rattle.ip_collects.specs.Swapping.{Accepts, AcceptsAs, IsSwap, IsSwapFault, IsTurnedDown, RefusesSwap, SwapsTables, SyncsPair, turned_down}
 use Rattle.ip_held.specs.Sweeping.{IsApart, EndsFor, KeepsFiles}
 use Rattle.ip_held.proofs.Apart.{holds_apart, list_apart, live_apart, recovers_apart, pending_apart, flushed_apart, leaves_apart}
 use Rattle.ip_collects.proofs.Cancels.{over, held_idle, other, below}
@@ -121,14 +120,26 @@ refused_tables store r c FinishFault.Ground refused = refl
 refused_tables store r c FinishFault.Memory refused = refl
 
 -- and of what is counted
-pub refused_counts : (store : Held) (c : Collection) (fault : FinishFault) (k : GroundCounts) → RefusesSwap store c fault → CountsIf FileFault (ground_finish fault) k k
-refused_counts store c FinishFault.Idle k refused = refl
-refused_counts store c FinishFault.Wait k refused = refl
-refused_counts store c (FinishFault.Rejected rejection) k refused = refl
-refused_counts store c (FinishFault.Limit limit) k refused = refl
-refused_counts store c (FinishFault.Damaged at) k refused = refl
-refused_counts store c FinishFault.Ground k refused = absurd refused
-refused_counts store c FinishFault.Memory k refused = refl
+pub refused_counts : (store : Held) (c : Collection) (fault : FinishFault) (k l : Noted) → RefusesSwap store c fault → (IsUndamaged {A = Unit {0}} (Err fault) → l ≡ k) → ((¬ IsUndamaged {A = Unit {0}} (Err fault)) → DamageFound k l) → CountsIf (counted_finish fault) k l
+refused_counts store c FinishFault.Idle k l refused same found = same tt
+refused_counts store c FinishFault.Wait k l refused same found = same tt
+refused_counts store c (FinishFault.Rejected rejection) k l refused same found = same tt
+refused_counts store c (FinishFault.Limit limit) k l refused same found = same tt
+refused_counts store c (FinishFault.Damaged at) k l refused same found = found (λ none. none)
+refused_counts store c FinishFault.Ground k l refused same found = absurd refused
+refused_counts store c FinishFault.Memory k l refused same found = same tt
+
+-- where nothing was called no damage was found
+pub turned_safe : (fault : FinishFault) → IsTurnedDown (Err fault) → IsUndamaged {A = Unit {0}} (Err fault)
+turned_safe (FinishFault.Damaged at) is = is
+turned_safe _ is = tt
+
+-- damage that is found here is that of the commit's record
+pub refused_blames : (store now : Held) (c : Collection) (fault : FinishFault) → store.collection ≡ Some c → now ≡ turned_down fault store → RefusesSwap store c fault → (at : ℕ) → fault ≡ FinishFault.Damaged at → IsBlamedIn now.collection at
+refused_blames store now c fault runs is refused at damaged =
+    let (zero, horizon) = subst (RefusesSwap store c) damaged refused in
+    let still : now ≡ store = is ∙ ap (λ (f : FinishFault). turned_down f store) damaged in
+    subst (λ (o : Option Collection). IsBlamedIn o at) (sym (ap (λ (s : Held). s.collection) still ∙ runs)) (inl (horizon ∙ sym zero))
 
 -- ---- the swap was made
 
@@ -203,7 +214,7 @@ module _ (store : Held) (r : Repository) (a : Told) (held : Holds store a r) (c 
   -- nothing was called
   pub accepts_none : (fault : FinishFault) (now : Held) → AcceptsAs held.stands.standing.records r c (Err fault) now a a
   accepts_none fault now = record {
-    only = ends_only n (Only Control) a a (only_nowhere a (Only Control));
+    only = ends_only n (Only Control) a a (only_nowhere a (Only Control)) (keeps_itself a);
     files = keeps_itself a;
     holds = tt;
     serves = tt;
@@ -474,11 +485,14 @@ module _ (store : Held) (r : Repository) (a : Told) (held : Holds store a r) (c 
       (pair_held store r a held c runs check kept stage verdict swap is)
 
   module _ (d : Told) (res : Result (Unit {0}) GroundFault) (gate : TurnsGate (1 - store.index) swap.slot res b d) where
+    gate_files : KeepsFiles b d
+    gate_files = keeps_store b d (Only Control) (λ file same. inl same) gate.only
+
     only : EndsFor c.job.attempt (Only Control) a d
-    only = ends_on c.job.attempt (Only Control) a b d (ends_more c.job.attempt NoFile a b (Only Control) (λ file none. absurd none) sync.only) (ends_only c.job.attempt (Only Control) b d gate.only)
+    only = ends_on c.job.attempt (Only Control) a b d (ends_more c.job.attempt NoFile a b (Only Control) (λ file none. absurd none) sync.only) (ends_only c.job.attempt (Only Control) b d gate.only gate_files)
 
     files : KeepsFiles a d
-    files = keeps_on a b d sync.files (keeps_store b d (Only Control) (λ file same. inl same) gate.only)
+    files = keeps_on a b d sync.files gate_files
 
     atomic : NothingPending a → IsAtomic a d r (collected_at r c.commit)
     atomic pending = atomic_front r (collected_at r c.commit) a b d gate.only.goes (recovers_at store r a held c runs b sync.only pending)

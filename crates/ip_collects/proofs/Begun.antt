@@ -230,7 +230,7 @@ module _ (r : Repository) (store : Held) (number : ℕ) (start : Start) (of : Is
     -- a fault cut the step short
     pub starts_cut : (now : Held) (b : Told) (res : Result (Unit {0}) StoreFault) → res ≡ Err StoreFault.Ground → Took (λ (done : Unit {0}). true) held r ((store.slot.end, table_of r) ∷ []) res now b → StartsCollection {A = Unit {0}} r start.job.attempt (Err CollectFault.Ground) now a b
     starts_cut now b res cut step = (let took : TookBy (Err StoreFault.Ground) now b = subst (λ (x : Result (Unit {0}) StoreFault). TookBy x now b) cut step in record {
-      only = for_only n (MayChange a.held) a b took.changes.only;
+      only = for_only n (MayChange a.held) a b took.changes.only (keeps_store a b (MayChange a.held) (of_store a.held) took.changes.only);
       files = keeps_store a b (MayChange a.held) (of_store a.held) took.changes.only;
       holds = λ begins. absurd begins;
       lent = λ begins. absurd begins;
@@ -239,6 +239,7 @@ module _ (r : Repository) (store : Held) (number : ℕ) (start : Start) (of : Is
       nothing_pending = λ pending begins. absurd begins;
       flushed = took.changes.flushed;
       space = took.changes.space;
+      table = λ pending begins. absurd begins;
     })
 
     module _ (mid : Held) (b : Told) (done : Result (Unit {0}) StoreFault) (ok : done ≡ Ok tt) (taken : OnOk done (mid ≡ begun store start)) (step : Took (λ (done : Unit {0}). true) held r ((store.slot.end, table_of r) ∷ []) done mid b) (possible : IsPossibleNow b) where
@@ -316,9 +317,26 @@ module _ (r : Repository) (store : Held) (number : ℕ) (start : Start) (of : Is
           | inr early ↦ took.fronts pending core seen t after early image (λ file. lends.goes.left t file (image file) early (left file))
         ]
 
-        pub starts_lent : (result : Result (Unit {0}) CollectFault) → (IsBegun result → lending c start.job.attempt ≡ lent) → StartsCollection r start.job.attempt result mid a c
-        starts_lent result is_lent = subst (λ (m : Held). StartsCollection r start.job.attempt result m a c) (sym same) (record {
-          only = for_behind n (MayChange a.held) a b c took.changes.only (for_more n NoFile (MayChange a.held) b c (λ file none. absurd none) only);
+        -- what the child reads is what a crash leaves from the step on
+        table_on : IsPossibleNow c → NothingPending a → (t : ℕ) → a.moment < t → t ≤ c.moment → c.lending_at t n ≡ lent → (image : Image) → Possible (c.may_leave t) image → SameSpace start.slot c.held image
+        table_on now pending t after le is_lent image left = elim (cases_lt b.moment t) [
+          | inl late ↦
+              let keeps = space_apart here r b holds idle n other below NoFile apart c beside (pending_here pending) start.slot (held_has here r b holds) in
+              let last = keeps c.moment (omega (arith, late, le)) (omega arith) c.held now in
+              let then = keeps t late le image left in
+              record {
+                chunks = λ at low high. then.chunks at low high ∙ sym (last.chunks at low high);
+                mapping = λ live. then.mapping live ∙ sym (last.mapping live);
+                prefix = λ live. then.prefix live ∙ sym (last.prefix live);
+              }
+          | inr early ↦
+              let both : lent ≡ own = sym is_lent ∙ lends.goes.lending t n early ∙ took.changes.only.lending n t after early ∙ fresh pending in
+              absurd (cc (both))
+        ]
+
+        pub starts_lent : IsPossibleNow c → (result : Result (Unit {0}) CollectFault) → (IsBegun result → lending c start.job.attempt ≡ lent) → StartsCollection r start.job.attempt result mid a c
+        starts_lent now result is_lent = subst (λ (m : Held). StartsCollection r start.job.attempt result m a c) (sym same) (record {
+          only = for_behind n (MayChange a.held) a b c took.changes.only (keeps_store a b (MayChange a.held) (of_store a.held) took.changes.only) (for_more n NoFile (MayChange a.held) b c (λ file none. absurd none) only);
           files = keeps_on a b c (keeps_store a b (MayChange a.held) (of_store a.held) took.changes.only) (keeps_lent b c n res lends);
           holds = λ begins. holds_apart here r b holds idle n other below NoFile apart c beside;
           lent = is_lent;
@@ -327,6 +345,7 @@ module _ (r : Repository) (store : Held) (number : ℕ) (start : Start) (of : Is
           nothing_pending = λ pending begins. pending_apart here r b holds idle n other below NoFile apart c beside (pending_here pending);
           flushed = λ pending. flushed_apart here r b holds idle n other below NoFile apart c beside (pending_here pending);
           space = keeps;
+          table = λ pending begins. table_on now pending;
         })
 
         -- whichever proof says that the image stands

@@ -193,6 +193,7 @@ pub for_settle : (n : ℕ) (these : FileName → Type 0) (u : Unit {0}) (a b : T
 for_settle n these u a b settles = record {
   goes = settles.goes;
   others = λ file other not. settles.files file;
+  unwritten = λ file of. (settles.files file).unwritten;
   turns = settles.turns;
   lending = settles.others;
   said = settles.said;
@@ -267,7 +268,7 @@ module _ (store : Held) (r : Repository) (a : Told) (holds : Holds store a r) (c
     not_done not = cancels (λ done. absurd (not done)) (λ done. absurd (not done)) (λ done. absurd (not done))
 
   nowhere : ChangesFor n these a a
-  nowhere = for_only n these a a (only_nowhere a these)
+  nowhere = for_only n these a a (only_nowhere a these) (keeps_itself a)
 
   -- the kill failed
   pub orphan_left : Cancels r c (Ok Cancelled.Orphan) store.unswept 0 (over store store.unswept) a a
@@ -279,7 +280,7 @@ module _ (store : Held) (r : Repository) (a : Told) (holds : Holds store a r) (c
   -- the attempt could not be settled
   module _ (e : GroundFault) (b : Told) (settles : Settles n (Err e) a b) where
     cut_changes : ChangesFor n these a b
-    cut_changes = for_only n these a b (only_more a b NoFile these (λ file none. absurd none) settles.refused)
+    cut_changes = for_only n these a b (only_more a b NoFile these (λ file none. absurd none) settles.refused) (keeps_ended a b n (Err e) settles)
 
     pub cut_leaves : NothingPending a → LeavesStill holds.stands.standing.records a b
     cut_leaves = leaves_after b cut_changes
@@ -293,7 +294,7 @@ module _ (store : Held) (r : Repository) (a : Told) (holds : Holds store a r) (c
     theirs file own foreign = own (foreign_on b d sweeps.only.goes sweeps.only.lending file foreign)
 
     changes : ChangesFor n these a d
-    changes = for_before n these a b d (for_settle n these tt a b settles) sweeps.only
+    changes = for_before n these a b d (for_settle n these tt a b settles) sweeps.only (keeps_swept b d these left sweeps)
 
     pub swept_away : Cancels r c (Ok Cancelled.Done) store.unswept left (over store (unswept_now store left)) a d
     swept_away = cancels (Ok Cancelled.Done) d changes (keeps_on a b d (keeps_ended a b n (Ok tt) settles) (keeps_swept b d these left sweeps)) (unswept_now store left) left (unswept_is store r left holds.tables)

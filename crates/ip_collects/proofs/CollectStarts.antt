@@ -45,6 +45,7 @@ module _ (tells : Bool) (store : Held) (number : ℕ) (p : Repository) (of : IsO
       same_collection = λ err. refl;
       turned_down = λ down. refl;
       begun = λ r is cut. (let same : fault ≡ CollectFault.Ground = cc (cut) in absurd (subst (RefusesStart r number store) same (refusal r is)));
+      wanted = λ r is want. (let same : fault ≡ CollectFault.Memory = cc (want) in subst (RefusesStart r number store) same (refusal r is));
       limits = λ r is. refused_limits r store number fault (refusal r is);
       begins = λ told begins. absurd (not_begun begins);
       any_moment = λ told r held. starts_none r store store a fault not_begun held;
@@ -88,9 +89,10 @@ module _ (tells : Bool) (store : Held) (number : ℕ) (p : Repository) (of : IsO
       same_collection = λ err. same;
       turned_down = λ down. absurd down;
       begun = λ r is cut. (free r is, (plan r is).attempt);
+      wanted = λ r is want. absurd (cc (want));
       limits = enough (Err CollectFault.Ground) (λ limit e. absurd (cc (e)));
       begins = λ told begins. absurd begins;
-      any_moment = λ told r held. starts_with r start.job.attempt store.slot.next_attempt (Err CollectFault.Ground) (Err CollectFault.Ground) now now a b (sym (plan r held.tables).job.attempt) (λ begins. begins) (λ begins now. now) (moment told r number held (plan r held.tables));
+      any_moment = λ told r held. starts_with r start.job.attempt store.slot.next_attempt (Err CollectFault.Ground) (Err CollectFault.Ground) now now a b (sym (plan r held.tables).job.attempt) (λ begins. begins) (λ begins now. now) refl (moment told r number held (plan r held.tables));
       stay = λ told begins. absurd begins;
       clear = λ told answered. absurd (answered refl);
       tied = λ told answered. absurd (answered refl);
@@ -126,6 +128,7 @@ module _ (tells : Bool) (store : Held) (number : ℕ) (p : Repository) (of : IsO
         same_collection = λ err. refl;
         turned_down = λ down. absurd down;
         begun = λ r is cut. absurd (cc (cut));
+        wanted = λ r is want. absurd (cc (want));
         limits = enough (Err CollectFault.Start) (λ limit e. absurd (cc (e)));
         begins = λ told begins. begins_at store.collection told;
         any_moment = starts;
@@ -138,7 +141,7 @@ module _ (tells : Bool) (store : Held) (number : ℕ) (p : Repository) (of : IsO
       }
         where
           starts : IsTrue tells → (r : Repository) → Holds store a r → StartsCollection {A = Hash} r store.slot.next_attempt (Err CollectFault.Start) here a b
-          starts told r held = starts_with r start.job.attempt store.slot.next_attempt (Err CollectFault.Start) (Err CollectFault.Start) here here a b (sym (plan r held.tables).job.attempt) (λ begins. begins) (λ begins now. now) (moment told r number held (plan r held.tables))
+          starts told r held = starts_with r start.job.attempt store.slot.next_attempt (Err CollectFault.Start) (Err CollectFault.Start) here here a b (sym (plan r held.tables).job.attempt) (λ begins. begins) (λ begins now. now) refl (moment told r number held (plan r held.tables))
 
       failed_begins : (now : Held) → now ≡ begun store start → Moment (Err CollectFault.Start) now → BeginsCollecting tells number (Err CollectFault.Start) store now a b
       failed_begins now is moment = subst (λ (s : Held). BeginsCollecting tells number (Err CollectFault.Start) store s a b) (sym is) (failed_here (subst (λ (s : Held). Moment (Err CollectFault.Start) s) is moment))
@@ -155,6 +158,7 @@ module _ (tells : Bool) (store : Held) (number : ℕ) (p : Repository) (of : IsO
         same_collection = λ err. absurd (cc (err));
         turned_down = λ down. absurd down;
         begun = λ r is cut. absurd (cc (cut));
+        wanted = λ r is want. absurd (cc (want));
         limits = enough (Ok name) (λ limit e. absurd (cc (e)));
         begins = λ told begins. begins_at some told;
         any_moment = starts;
@@ -175,7 +179,7 @@ module _ (tells : Bool) (store : Held) (number : ℕ) (p : Repository) (of : IsO
               (λ begins now. running_holds here r some b (started_phase r store number start (kept r held.tables) (free r held.tables).1 is) (begun_going r store number start held.tables is) now
               (begins_collecting here b r now number (kept r held.tables) (free r held.tables).1 start.job (begun_going r store number start held.tables is).placed is.job.end held.stands.standing.records store.slot.end (list told r number held is now.stands.standing)
               low (lent.lent tt)))
-              lent
+              refl lent
 
       pub started_begins : (now : Held) → now ≡ begun store start → (name : Hash) → ((r : Repository) → IsOf store r → IsTrue (is_retained r number) → name ≡ name_at r number) → Moment (Ok tt) now
           → BeginsCollecting tells number (Ok name) store (record now { collection = Some (new_collection number start.job) }) a b

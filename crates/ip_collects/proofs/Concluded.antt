@@ -1,9 +1,9 @@
 -- What is promised of the end of a collection, put together of what was heard of its child and of what came of that.
 --     asked_by      a finish waits, and makes the whole check.      concludes_as      all that is promised
 use Rattle.std.proofs.Common.{◌≡◌, ◌≢◌, ℕ, Bool, true, false, Some, refl}
-use Rattle.std.specs.Prelude.{Result, IsTrue}
+use Rattle.std.specs.Prelude.{Result, IsErrOf, IsTrue}
 use Rattle.ip_base.specs.declared.exit.Reaped.{Reaped}
-use Rattle.ip_ground.specs.Told.{Told}
+use Rattle.ip_ground.specs.Told.{Told, NoFile}
 use Rattle.ip_spec.specs.declared.command.Command.{Command}
 use Rattle.ip_spec.specs.declared.met.Child.{Child}
 use Rattle.ip_spec.specs.declared.met.Met.{Met}
@@ -11,11 +11,13 @@ use Rattle.ip_spec.specs.Repository.{Repository}
 use Rattle.ip_held.specs.declared.collection.Collection.{Collection}
 use Rattle.ip_held.specs.declared.held.Held.{Held}
 use Rattle.ip_held.specs.Held.{Holds}
+use Rattle.ip_held.specs.Sweeping.{EndsFor}
 use Rattle.ip_collects.specs.declared.finishing.FinishFault.{FinishFault}
 use Rattle.ip_collects.specs.declared.finishing.Looked.{Looked}
 use Rattle.ip_collects.specs.Concluding.{ConcludesAs, asking, most_of}
 use Rattle.ip_collects.specs.Ending.{Goes}
 use Rattle.ip_collects.specs.Finishing.{FinishesBy, HasAnswer, IsAsked, IsQuiet, IsUndamaged, WorksStay, met_by_finish}
+use Rattle.ip_collects.specs.Judging.{IsBlamedIn}
 use Rattle.ip_collects.proofs.ClearEnds.{finish_clear}
 use Rattle.ip_collects.proofs.EndFronts.{finish_fronts}
 use Rattle.ip_collects.proofs.EndTied.{finish_tied, finishes_leaves, quiet_list}
@@ -28,6 +30,8 @@ module _ (tells wait : Bool) (child : Child) (result : Result Looked FinishFault
     (goes : Goes child (most_of wait) result (met_by_finish child result left) store now) (ended : wait ≡ true → child ≢ Child.Running) (quiet : IsQuiet result → b ≡ a)
     (moments : IsTrue tells → (r : Repository) (held : Holds store a r) (c : Collection) (reaped : Reaped) → store.collection ≡ Some c → child ≡ Child.Ended reaped → (command : Command) → IsAsked command result → FinishesBy held.stands.standing.records r c command result store.unswept (met_by_finish child result left) now a b)
     (undamaged : IsTrue tells → (r : Repository) → Holds store a r → IsUndamaged result)
+    (untouched : IsTrue tells → ¬ IsUndamaged result → (c : Collection) → store.collection ≡ Some c → EndsFor c.job.attempt NoFile a b)
+    (blames : (at : ℕ) → IsErrOf result (FinishFault.Damaged at) → IsBlamedIn now.collection at)
     (works : IsTrue tells → HasAnswer result → (r q : Repository) (held : Holds store a r) (still : Holds now b q) → WorksStay held still) where
   abbrev met : Met
   met = met_by_finish child result left
@@ -45,6 +49,8 @@ module _ (tells wait : Bool) (child : Child) (result : Result Looked FinishFault
     asked = asked;
     any_moment = finishes;
     undamaged = undamaged;
+    untouched = untouched;
+    blames = blames;
     works_stay = works;
     clear = λ told has r held. finish_clear child (most_of wait) result met store now goes r a b held quiet (λ c reaped runs is. (_, (finishes told r held c reaped runs is).does)) has;
     tied = λ told has r q held still. finish_tied child (most_of wait) met store now a.held held.stands.standing still.stands.standing.records result (record {

@@ -17,7 +17,7 @@ use Rattle.ip_ground.specs.Files.{same_number}
 use Rattle.ip_ground.specs.Told.{Told, lending, IsForeign, IsLoose, IsSettledAs, IsSynced, KeepsPast, KeepsCustody, TurnsCustody, NoFile, ChangesOnly}
 use Rattle.ip_ground.proofs.Lending.{own_settled, settled_syncs}
 use Rattle.ip_ground.proofs.Spans.{each_synced, left_now}
-use Rattle.ip_held.specs.Sweeping.{EndsTo, EndsCustody, EndsFor}
+use Rattle.ip_held.specs.Sweeping.{EndsTo, EndsCustody, EndsFor, KeepsFiles}
 use Rattle.ip_collects.specs.Swapping.{SyncsPair}
 use Rattle.ip_held.proofs.Apart.{beside_only, beside_on}
 use Rattle.ip_held.proofs.KeptFiles.{keeps_on, keeps_synced}
@@ -99,8 +99,8 @@ module _ (n : ℕ) (these : FileName → Type 0) (a b : Told) where
       let now : lending b n ≡ lending a n = keeps b.moment (omega (arith, after, le)) (omega arith) in
       (ends_as (lending a n) (lending a n) (b.lending_at t n) was (ends_self (lending a n)), ends_as (b.lending_at t n) (lending a n) (lending b n) now (as_ends (lending a n) (lending a n) (b.lending_at t n) was (ends_self (lending a n))))
 
-  pub ends_only : ChangesOnly these a b → EndsFor n these a b
-  ends_only only = record { beside = beside_only n these a b only; ends = stays_so only.goes (only.lending n) }
+  pub ends_only : ChangesOnly these a b → KeepsFiles a b → EndsFor n these a b
+  ends_only only files = record { beside = beside_only n these a b only files; ends = stays_so only.goes (only.lending n) }
 
   -- from before to now
   ends_over : EndsFor n these a b → EndsTo (lending a n) (lending b n)
@@ -123,13 +123,13 @@ module _ (n : ℕ) (these : FileName → Type 0) (a b : Told) where
 
   pub ends_settled : (u : Unit {0}) → Settles n (Ok u) a b → EndsFor n these a b
   ends_settled u settles = record {
-    beside = record { goes = settles.goes; others = λ file other not. settles.files file; lending = settles.others; said = settles.said };
+    beside = record { goes = settles.goes; others = λ file other not. settles.files file; unwritten = λ file of. (settles.files file).unwritten; lending = settles.others; said = settles.said };
     ends = turned settles.turns (ends_as (lending a n) (after_settle b.held (lending a n)) (lending b n) settles.ok (settles_on b.held (lending a n)));
   }
 
   pub ends_more : (those : FileName → Type 0) → ((file : FileName) → these file → those file) → EndsFor n these a b → EndsFor n those a b
   ends_more those more is = record {
-    beside = (let was = is.beside in record { goes = was.goes; others = λ file other not. was.others file (λ this. other (more file this)) not; lending = was.lending; said = was.said });
+    beside = (let was = is.beside in record { goes = was.goes; others = λ file other not. was.others file (λ this. other (more file this)) not; unwritten = was.unwritten; lending = was.lending; said = was.said });
     ends = is.ends;
   }
 
@@ -147,7 +147,7 @@ module _ (n : ℕ) (one : FileName) (of : IsOfAttempt n one) (a b : Told) where
 
   pub ends_synced : (res : Result (Unit {0}) GroundFault) → Syncs one res a b → EndsFor n NoFile a b
   ends_synced res syncs = record {
-    beside = record { goes = syncs.goes; others = λ file none not. syncs.others file (λ is. not (subst (IsOfAttempt n) (sym is) of)); lending = others_on res syncs; said = syncs.said };
+    beside = record { goes = syncs.goes; others = λ file none not. syncs.others file (λ is. not (subst (IsOfAttempt n) (sym is) of)); unwritten = λ file this. (syncs.files file).unwritten; lending = others_on res syncs; said = syncs.said };
     ends = this_on res syncs;
   }
 

@@ -3,13 +3,13 @@
 --     end_goes, end_loud, end_finishes, end_works      the child has ended
 --     goes_idle, goes_wait, goes_runs      nothing was heard of its end
 --     goes_cut, cut_finishes      it was heard, and its attempt could not be settled
---     goes_on, on_finishes, on_works, on_counts      it was, whether it was heard now or before
+--     goes_on, on_finishes, on_works, on_untouched, on_counts      it was, whether it was heard now or before
 use Rattle.std.proofs.Common.{◌≡◌, ◌≢◌, ◌≤◌, ◌⊎◌, inl, inr, ℕ, true, false, Some, None, Option, refl, sym, ◌∙◌, ap, subst}
 use Rattle.std.specs.Prelude.{Result, Ok, Err, OnErr, IfSome, is_some}
 use Rattle.ip_base.specs.declared.exit.Exit.{Exit}
 use Rattle.ip_ground.specs.declared.names.FileName.{FileName}
 use Rattle.ip_ground.specs.declared.names.FileName.TheVariants.{Control}
-use Rattle.ip_ground.specs.declared.names.GroundCounts.{GroundCounts}
+use Rattle.ip_ground.specs.Counts.{Noted}
 use Rattle.ip_ground.specs.declared.names.GroundFault.{GroundFault}
 use Rattle.ip_base.specs.declared.exit.Reaped.{Reaped}
 use Rattle.ip_ground.specs.Custody.{lent}
@@ -34,8 +34,10 @@ use Rattle.ip_collects.specs.declared.finishing.Looked.{Looked}
 use Rattle.ip_held.specs.declared.held.Held.{Held}
 use Rattle.ip_held.specs.Collecting.{Collects, IsOfChild, phase_of, child_of}
 use Rattle.ip_collects.specs.Ending.{Ends, EndsBy, FitsEnd, Goes, GoesOnAs, IsHeardIn, Listens, MayBeHeard, after_by, after_with}
+use Rattle.ip_collects.specs.Judging.{is_zero}
 use Rattle.ip_collects.specs.Finishing.{Concludes, CountsFinish, FinishesAs, FinishesBy, HasAnswer, IsAsked, IsCollected, IsKept, IsOver, IsQuiet, KeepsCollection, LookReplies, MayTouch, Slices, SlotBy, TurnsBy, WorksStay, conditions_by, difference_in, looked_at, looked_of, met_by_finish, repository_after}
 use Rattle.ip_held.specs.Held.{IsOf, Holds, image_records}
+use Rattle.ip_held.specs.Sweeping.{EndsFor}
 use Rattle.ip_held.specs.Work.{IsLawful, state_at}
 use Rattle.ip_held.proofs.Apart.{beside_only}
 use Rattle.ip_collects.proofs.Cancels as Over
@@ -43,7 +45,7 @@ use Rattle.ip_collects.proofs.FinishEnds.{no_limit}
 use Rattle.ip_collects.proofs.FinishSpans.{Spared, atomic_front, atomic_still, spared_by}
 use Rattle.ip_collects.proofs.Ended.{ends_more, ends_on, ends_only}
 use Rattle.ip_collects.proofs.FinishTurns.{IsEnding, each_look, met_heard, met_of, repository_is, told_difference, turn_of, turned_heard, turns_end, turns_none, turns_runs, turns_wait}
-use Rattle.ip_held.proofs.KeptFiles.{keeps_on, keeps_store}
+use Rattle.ip_held.proofs.KeptFiles.{keeps_on, keeps_store, nothing_else}
 use Rattle.ip_held.proofs.LeftImages.{swapped_front, swapped_still}
 use Rattle.ip_collects.proofs.WorksRemain.{works_remain}
 
@@ -153,6 +155,7 @@ module _ (store : Held) (c : Collection) (runs : store.collection ≡ Some c) (r
     runs = (λ none. (let both = sym none ∙ runs in absurd (cc (both))), λ is. absurd (no_quiet {X = ⊥} reaped.exit c left (Err FinishFault.Idle) (subst (FitsEnd reaped.exit c left) is ends.fits) tt));
     quiet = λ is. no_quiet reaped.exit c left result ends.fits is;
     ended = inr (reaped, refl);
+    wanted = λ is other heard. subst (λ (x : Reaped). is_zero x.exit) (same_reaped reaped other heard) (subst (FitsEnd reaped.exit c left) is ends.fits);
     held = child_behind reaped.exit reaped c left result now.collection kept ends.fits ends.goes_on;
     goes_on = λ is d other here heard.
         subst (λ (x : Collection). KeepsCollection x other now.collection) (same_running store.collection c d runs here)
@@ -249,6 +252,7 @@ module _ (store : Held) (most : ℕ) where
     runs = (λ is. refl, λ is. none);
     quiet = λ is. refl;
     ended = inl tt;
+    wanted = λ is. absurd (cc (is));
     held = refl;
     goes_on = λ is. absurd is;
     sliced = λ d here. tt;
@@ -282,6 +286,7 @@ module _ (store : Held) (most : ℕ) where
       runs = (λ is. (let both = sym is ∙ runs in absurd (cc (both))), λ is. absurd (cc (is)));
       quiet = λ is. refl;
       ended = inl tt;
+      wanted = λ is. absurd (cc (is));
       held = refl;
       goes_on = λ is. absurd is;
       sliced = λ d here. tt;
@@ -305,6 +310,7 @@ module _ (store : Held) (most : ℕ) where
       runs = (λ is. (let both = sym is ∙ runs in absurd (cc (both))), λ is. absurd (cc (is)));
       quiet = λ is. refl;
       ended = inl tt;
+      wanted = λ is. absurd (cc (is));
       held = refl;
       goes_on = λ is. absurd is;
       sliced = λ d here. tt;
@@ -353,6 +359,7 @@ module _ (store : Held) (c : Collection) (runs : store.collection ≡ Some c) (r
     runs = (λ is. (let both = sym is ∙ runs in absurd (cc (both))), λ is. absurd (cc (is)));
     quiet = λ is. absurd is;
     ended = inr (reaped, refl);
+    wanted = λ is. absurd (cc (is));
     held = refl;
     goes_on = λ is. absurd is;
     sliced = λ d here. tt;
@@ -407,6 +414,7 @@ module _ (store : Held) (c : Collection) (runs : store.collection ≡ Some c) (r
           runs = (λ none. (let both = sym none ∙ runs in absurd (cc (both))), λ is. absurd (loud (subst IsQuiet (sym is) tt)));
           quiet = λ is. absurd (loud is);
           ended = inr (reaped, refl);
+          wanted = goes.wanted;
           held = goes.held;
           goes_on = λ is d other here heard.
               subst (λ (x : Collection). KeepsCollection x other now.collection) (same_running store.collection c d runs here)
@@ -485,6 +493,10 @@ module _ (store : Held) (c : Collection) (runs : store.collection ≡ Some c) (r
           pub on_works : (q : Repository) (here : Holds now d q) → WorksStay held_b here → WorksStay held here
           on_works q here stay work v lawful = stay work v (subst (λ (rs : Records). IsLawful (present rs) r work v) (sym (span.same held_b.stands.standing)) lawful)
 
+  -- nothing changes behind damage, but that the attempt is settled
+  pub on_untouched : (a b d : Told) → Listens c.job.attempt a b → ChangesOnly NoFile b d → EndsFor c.job.attempt NoFile a d
+  on_untouched a b d listens only = ends_on c.job.attempt NoFile a b d listens.only (ends_only c.job.attempt NoFile b d only (nothing_else b d only))
+
   -- the attempt could not be settled
   module _ (r : Repository) (a : Told) (held : Holds store a r) (none : c.exit ≡ None) (b : Told) (only : ChangesOnly NoFile a b) (now : Held) where
     still_lent : lending b c.job.attempt ≡ lent
@@ -494,7 +506,7 @@ module _ (store : Held) (c : Collection) (runs : store.collection ≡ Some c) (r
 
     cut_span : Spared r held.stands.standing.records a b
     cut_span = spared_by (Over.idle store r a held c runs) r a (Over.held_idle store r a held c runs) refl c.job.attempt (Over.other store r a held c runs) (Over.below store r a held c runs) NoFile (λ file none. absurd none) b
-        (beside_only c.job.attempt NoFile a b only)
+        (beside_only c.job.attempt NoFile a b only (keeps_store a b NoFile (λ file none. absurd none) only))
 
     pub cut_finishes : (command : Command) → FinishesBy held.stands.standing.records r c command (Err FinishFault.Ground) store.unswept (met_by_finish (Child.Ended reaped) (Err FinishFault.Ground) 0) now a b
     cut_finishes command = record {
@@ -503,7 +515,7 @@ module _ (store : Held) (c : Collection) (runs : store.collection ≡ Some c) (r
       judged = λ pair settled. (let both = sym settled.1 ∙ still_lent in absurd (cc (both)));
       turns = tt;
       does = record {
-        only = ends_only c.job.attempt (λ (file : FileName). file ≡ Control) a b (only_more a b NoFile (λ (file : FileName). file ≡ Control) (λ file none. absurd none) only);
+        only = ends_only c.job.attempt (λ (file : FileName). file ≡ Control) a b (only_more a b NoFile (λ (file : FileName). file ≡ Control) (λ file none. absurd none) only) (keeps_store a b NoFile (λ file none. absurd none) only);
         files = keeps_store a b NoFile (λ file none. absurd none) only;
         holds = λ has. absurd has;
         serves = λ has. absurd has;
@@ -523,8 +535,8 @@ module _ (store : Held) (c : Collection) (runs : store.collection ≡ Some c) (r
 -- ---- how it ended is heard
 
 -- where the end is heard nothing is counted
-pub on_counts : (result : Result Looked FinishFault) (left : ℕ) (a b d : GroundCounts) → b ≡ a → CountsFinish result left b d → CountsFinish result left a d
-on_counts result left a b d same is = subst (λ (x : GroundCounts). CountsFinish result left x d) same is
+pub on_counts : (result : Result Looked FinishFault) (left : ℕ) (a b d : Noted) → b ≡ a → CountsFinish result left b d → CountsFinish result left a d
+on_counts result left a b d same is = subst (λ (x : Noted). CountsFinish result left x d) same is
 
 pub some_heard : (o : Option Collection) (child : Child) (reaped : Reaped) → child ≡ Child.Ended reaped → IsHeardIn o child → (c : Collection) × (o ≡ Some c) × MayBeHeard c.exit c.job.attempt (Child.Ended reaped)
 some_heard None child reaped e is = (let both = sym is ∙ e in absurd (cc (both)))

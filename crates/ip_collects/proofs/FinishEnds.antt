@@ -7,7 +7,7 @@ use Rattle.std.proofs.Common.{◌≡◌, ℕ, ◌<◌, ◌≤◌, Some, None, Op
 use Rattle.std.specs.Prelude.{IsSome, Result, Ok, Err, if◌then◌else◌, ◌==◌, ◌^◌, ◌-◌}
 use Rattle.ip_base.specs.declared.limit.TheConstants.{OFFSET_MAX}
 use Rattle.ip_base.specs.declared.limit.Limit.{Limit}
-use Rattle.ip_ground.specs.declared.names.GroundCounts.{GroundCounts}
+use Rattle.ip_ground.specs.Counts.{Noted}
 use Rattle.ip_base.specs.declared.exit.Reaped.{Reaped}
 use Rattle.ip_ground.specs.Counts.{Counts, CountsLeft}
 use Rattle.ip_ground.specs.Told.{Told}
@@ -23,7 +23,7 @@ use Rattle.ip_collects.specs.declared.finishing.Looked.{Looked}
 use Rattle.ip_collects.specs.declared.finishing.Rejection.{Rejection}
 use Rattle.ip_held.specs.declared.held.Held.{Held}
 use Rattle.ip_collects.specs.Ending.{Ends}
-use Rattle.ip_collects.specs.CollectFaults.{ground_finish}
+use Rattle.ip_collects.specs.CollectFaults.{counted_finish}
 use Rattle.ip_collects.specs.Finishing.{CountsFinish, IsCollected, IsUndamaged, LimitsFinish, looked_at, looked_of, swapped_slot}
 use Rattle.ip_collects.specs.Judging.{FitsExit, IsCut, IsOpen, SlicesBy, is_zero, with_check}
 use Rattle.ip_held.specs.Held.{IsOf}
@@ -33,7 +33,7 @@ use Rattle.ip_collects.proofs.Cancels.{over, over_tables, unswept_is, unswept_no
 
 -- ---- counts, and damage
 
-pub counts_cut : (fault : FinishFault) (a b : GroundCounts) → IsCut fault → Counts {A = Verdict} ground_finish (Err fault) a b → CountsFinish (Err fault) 0 a b
+pub counts_cut : (fault : FinishFault) (a b : Noted) → IsCut fault → Counts {A = Verdict} counted_finish (Err fault) a b → CountsFinish (Err fault) 0 a b
 counts_cut FinishFault.Ground a b cut is = is
 counts_cut (FinishFault.Damaged at) a b cut is = is
 counts_cut FinishFault.Memory a b cut is = is
@@ -42,21 +42,25 @@ counts_cut FinishFault.Wait a b cut is = absurd cut
 counts_cut (FinishFault.Rejected rejection) a b cut is = absurd cut
 counts_cut (FinishFault.Limit limit) a b cut is = absurd cut
 
-pub counts_refused : (fault : FinishFault) (a b d : GroundCounts) → IsSwapFault fault → b ≡ a → Counts {A = Unit {0}} ground_finish (Err fault) b d → CountsFinish (Err fault) 0 a d
-counts_refused FinishFault.Ground a b d may same is = subst (λ (g : GroundCounts). CountsFinish (Err FinishFault.Ground) 0 g d) same is
-counts_refused (FinishFault.Damaged at) a b d may same is = is ∙ same
+pub counts_refused : (fault : FinishFault) (a b d : Noted) → IsSwapFault fault → b ≡ a → Counts {A = Unit {0}} counted_finish (Err fault) b d → CountsFinish (Err fault) 0 a d
+counts_refused FinishFault.Ground a b d may same is = subst (λ (g : Noted). CountsFinish (Err FinishFault.Ground) 0 g d) same is
+counts_refused (FinishFault.Damaged at) a b d may same is = subst (λ (g : Noted). CountsFinish (Err (FinishFault.Damaged at)) 0 g d) same is
 counts_refused FinishFault.Memory a b d may same is = is ∙ same
 counts_refused (FinishFault.Limit limit) a b d may same is = is ∙ same
 counts_refused FinishFault.Idle a b d may same is = absurd may
 counts_refused FinishFault.Wait a b d may same is = absurd may
 counts_refused (FinishFault.Rejected rejection) a b d may same is = absurd may
 
-pub counts_swept : (left : ℕ) (a b d : GroundCounts) → b ≡ a → CountsLeft left b d → CountsLeft left a d
-counts_swept left a b d same is = subst (λ (g : GroundCounts). CountsLeft left g d) same is
+pub counts_swept : (left : ℕ) (a b d : Noted) → b ≡ a → CountsLeft left b d → CountsLeft left a d
+counts_swept left a b d same is = subst (λ (g : Noted). CountsLeft left g d) same is
 
 pub undamaged_as : (A B : Type 0) (fault : FinishFault) → IsUndamaged {A = A} (Err fault) → IsUndamaged {A = B} (Err fault)
 undamaged_as A B (FinishFault.Damaged at) is = is
 undamaged_as A B _ is = tt
+
+-- the same damage, by another answer
+pub as_fault_of : (A B : Type 0) (fault : FinishFault) (at : ℕ) → ◌≡◌ {A = Result B FinishFault} (Err fault) (Err (FinishFault.Damaged at)) → ◌≡◌ {A = Result A FinishFault} (Err fault) (Err (FinishFault.Damaged at))
+as_fault_of A B fault at is = (let same : fault ≡ FinishFault.Damaged at = cc (is) in ap (λ (f : FinishFault). Err f) same)
 
 -- ---- the store before and behind a sweep
 

@@ -38,7 +38,7 @@ use Rattle.ip_collects.specs.declared.finishing.Rejection.{Rejection}
 use Rattle.ip_held.specs.declared.held.Held.{Held}
 use Rattle.ip_held.specs.Collecting.{HasEnded, IsOfChild, Collects, IsUnswept, until}
 use Rattle.ip_collects.specs.Ending.{EndsBy, TellsDifference, after_with, after_cut}
-use Rattle.ip_collects.specs.Finishing.{HasAnswer, IsCollected, IsSweptBehind, MayTouch, Serves, swapped_slot}
+use Rattle.ip_collects.specs.Finishing.{HasAnswer, IsCollected, IsSweptBehind, IsUndamaged, MayTouch, Serves, swapped_slot}
 use Rattle.ip_collects.specs.Judging.{IsCut, TellsVerdict, with_check}
 use Rattle.ip_held.specs.StandsBy.{LeavesSwapped}
 use Rattle.ip_held.specs.Held.{Holds}
@@ -148,14 +148,14 @@ module _ (store : Held) (r : Repository) (a : Told) (held : Holds store a r) (c 
   -- ---- no file changes
 
   module _ (b : Told) (only : ChangesOnly NoFile a b) where
-    span_still : Spared r records a b
-    span_still = spared NoFile (λ file none. absurd none) b (beside_only n NoFile a b only)
-
     files_still : KeepsFiles a b
     files_still = keeps_store a b NoFile (λ file none. absurd none) only
 
+    span_still : Spared r records a b
+    span_still = spared NoFile (λ file none. absurd none) b (beside_only n NoFile a b only files_still)
+
     ends_still : (these : FileName → Type 0) → EndsFor n these a b
-    ends_still these = ends_only n these a b (only_more a b NoFile these (λ file none. absurd none) only)
+    ends_still these = ends_only n these a b (only_more a b NoFile these (λ file none. absurd none) only) files_still
 
     -- and so the verdict stays
     verdict_on : (B : Standing b.held) (told : Option Difference) → IsVerdict (until c.job.end records) c.job (found_in a.held n) told → IsVerdict (until c.job.end B.records) c.job (found_in b.held n) told
@@ -188,11 +188,14 @@ module _ (store : Held) (r : Repository) (a : Told) (held : Holds store a r) (c 
       all_only : ChangesOnly these a d
       all_only = only_on a b d these (only_more a b NoFile these (λ file none. absurd none) only) sweeps.only
 
+      all_files : KeepsFiles a d
+      all_files = keeps_on a b d files_still (keeps_swept b d these left sweeps)
+
       apart : (file : FileName) → these file → IsApart store.slot file
       apart file is = swept_apart store.slot store.unswept file is
 
       held_swept : Holds (Over.idle store r a held c runs) d r
-      held_swept = holds_apart (Over.idle store r a held c runs) r a (Over.held_idle store r a held c runs) refl n (Over.other store r a held c runs) (Over.below store r a held c runs) these apart d (beside_only n these a d all_only)
+      held_swept = holds_apart (Over.idle store r a held c runs) r a (Over.held_idle store r a held c runs) refl n (Over.other store r a held c runs) (Over.below store r a held c runs) these apart d (beside_only n these a d all_only all_files)
 
       theirs : (file : FileName) → ¬ IsForeign d file → ¬ IsForeign b file
       theirs file own foreign = own (foreign_on b d sweeps.only.goes sweeps.only.lending file foreign)
@@ -204,7 +207,7 @@ module _ (store : Held) (r : Repository) (a : Told) (held : Holds store a r) (c 
       there = over store (unswept_now store left)
 
       swept_store : TellsDifference rejected truth → EndsBy records r c rejected store.unswept left there a d
-      swept_store tells = stays_by d there rejected left (ends_only n these a d all_only) (keeps_on a b d files_still (keeps_swept b d these left sweeps)) (spared these apart d (beside_only n these a d all_only))
+      swept_store tells = stays_by d there rejected left (ends_only n these a d all_only all_files) all_files (spared these apart d (beside_only n these a d all_only all_files))
           (λ has. over_holds (Over.idle store r a held c runs) r (unswept_now store left) d (unswept_is store r left held.tables) held_swept)
           (λ no. no) tells (λ has. refl)
           (λ swept zero file this own. sweeps.gone zero file this (theirs file own))
@@ -273,21 +276,19 @@ module _ (store : Held) (r : Repository) (a : Told) (held : Holds store a r) (c 
               leaves = λ pending. leaves_begun d pending is.only.beside.goes (is.leaves (span_still.pending pending));
             }
 
-        pub refused_by : (fault : FinishFault) → IsSwapFault fault → Accepts (Err fault) r c mid now → (IsTurnedDown (Err fault) → d ≡ b) → AcceptsAs records_b r c (Err fault) now b d
+        pub refused_by : (fault : FinishFault) → IsSwapFault fault → IsUndamaged {A = Unit {0}} (Err fault) → Accepts (Err fault) r c mid now → (IsTurnedDown (Err fault) → d ≡ b) → AcceptsAs records_b r c (Err fault) now b d
             → EndsBy records r c (Err fault) store.unswept 0 now a d
-        refused_by FinishFault.Ground may accepts still is = cut_ground is
-        refused_by (FinishFault.Limit limit) may accepts still is =
+        refused_by FinishFault.Ground may safe accepts still is = cut_ground is
+        refused_by (FinishFault.Limit limit) may safe accepts still is =
             subst (λ (t : Told). EndsBy records r c (Err (FinishFault.Limit limit)) store.unswept 0 now a t) (sym (still tt))
             (kept_on now (Err (FinishFault.Limit limit)) (λ has. over_now accepts.0) (λ no. no) (λ no. no) none_differs (λ has. refl))
-        refused_by (FinishFault.Damaged at) may accepts still is =
-            subst (λ (t : Told). EndsBy records r c (Err (FinishFault.Damaged at)) store.unswept 0 now a t) (sym (still tt))
-            (kept_on now (Err (FinishFault.Damaged at)) (λ has. absurd has) (λ no. no) (λ no. no) tt (λ has. absurd has))
-        refused_by FinishFault.Memory may accepts still is =
+        refused_by (FinishFault.Damaged at) may safe accepts still is = absurd safe
+        refused_by FinishFault.Memory may safe accepts still is =
             subst (λ (t : Told). EndsBy records r c (Err FinishFault.Memory) store.unswept 0 now a t) (sym (still tt))
             (kept_on now (Err FinishFault.Memory) (λ has. same_now accepts) (λ no. no) (λ no. no) tt (λ has. refl))
-        refused_by FinishFault.Idle may accepts still is = absurd may
-        refused_by FinishFault.Wait may accepts still is = absurd may
-        refused_by (FinishFault.Rejected rejection) may accepts still is = absurd may
+        refused_by FinishFault.Idle may safe accepts still is = absurd may
+        refused_by FinishFault.Wait may safe accepts still is = absurd may
+        refused_by (FinishFault.Rejected rejection) may safe accepts still is = absurd may
 
         -- ---- the store went over to the pair
 
@@ -312,7 +313,7 @@ module _ (store : Held) (r : Repository) (a : Told) (held : Holds store a r) (c 
 
           span_swept : Spared q is.holds.stands.standing.records d f
           span_swept = spared_by now q d is.holds accepts.1 0 (λ same. (let low = (Over.phase store r a held c runs).told.valid.attempt in absurd (omega (arith, same, low, live_is)))) (let next = next_is in omega (arith, next))
-              swept_files (λ file this. swept_apart now.slot now.unswept file this) f (beside_only 0 swept_files d f sweeps.only)
+              swept_files (λ file this. swept_apart now.slot now.unswept file this) f (beside_only 0 swept_files d f sweeps.only (keeps_swept d f swept_files left sweeps))
 
           theirs_then : (file : FileName) → ¬ IsForeign f file → ¬ IsForeign d file
           theirs_then file own foreign = own (foreign_on d f sweeps.only.goes sweeps.only.lending file foreign)
@@ -345,7 +346,7 @@ module _ (store : Held) (r : Repository) (a : Told) (held : Holds store a r) (c 
           changes_all =
               ends_on n Touched a b f (ends_still Touched)
               (ends_on n Touched b d f (ends_more n (Only Control) b d Touched (λ file this. inl this) is.only)
-              (ends_only n Touched d f (only_more d f swept_files Touched (λ file this. inr (to_old file this)) sweeps.only)))
+              (ends_only n Touched d f (only_more d f swept_files Touched (λ file this. inr (to_old file this)) sweeps.only) (keeps_swept d f swept_files left sweeps)))
 
           -- and the records are those that remain
           list_then : (kept : Records) × AreKept records c.job.horizon c.job.end kept × (is.holds.stands.standing.records ≡ remaining c.job.horizon kept records)
@@ -368,7 +369,7 @@ module _ (store : Held) (r : Repository) (a : Told) (held : Holds store a r) (c 
             done_holds = subst (λ (o : Option Collection). Holds (record now { collection = o; unswept = unswept }) f q) (sym accepts.1)
                 (over_holds now q unswept f unswept_of
                 (holds_apart now q d is.holds accepts.1 0 (λ same. (let low = (Over.phase store r a held c runs).told.valid.attempt in absurd (omega (arith, same, low, live_is)))) (let next = next_is in omega (arith, next))
-                swept_files (λ file this. swept_apart now.slot now.unswept file this) f (beside_only 0 swept_files d f sweeps.only)))
+                swept_files (λ file this. swept_apart now.slot now.unswept file this) f (beside_only 0 swept_files d f sweeps.only (keeps_swept d f swept_files left sweeps))))
 
             done_by : EndsBy records r c collected store.unswept left done a f
             done_by = record {

@@ -32,13 +32,13 @@ use Rattle.ip_held.proofs.LookedUp.{recovers_less}
 
 listens : (n : ℕ) (a b : Told) (res : Result (Unit {0}) GroundFault) → Settles n res a b → Listens n a b
 listens n a b (Ok u) settles = record { only = ends_settled n NoFile a b u settles; files = keeps_ended a b n (Ok u) settles }
-listens n a b (Err e) settles = record { only = ends_only n NoFile a b settles.refused; files = keeps_ended a b n (Err e) settles }
+listens n a b (Err e) settles = record { only = ends_only n NoFile a b settles.refused (keeps_ended a b n (Err e) settles); files = keeps_ended a b n (Err e) settles }
 
 pub listens_at : (m n : ℕ) (a b : Told) (res : Result (Unit {0}) GroundFault) → m ≡ n → Settles m res a b → Listens n a b
 listens_at m n a b res same settles = subst (λ (k : ℕ). Listens k a b) same (listens m a b res settles)
 
 pub listens_none : (n : ℕ) (a : Told) → Listens n a a
-listens_none n a = record { only = ends_only n NoFile a a (only_nowhere a NoFile); files = keeps_itself a }
+listens_none n a = record { only = ends_only n NoFile a a (only_nowhere a NoFile) (keeps_itself a); files = keeps_itself a }
 
 -- ---- a span over which the repository stays
 

@@ -8,12 +8,12 @@
 --     zero_fits, ends_through, not_open, no_damage, counts_check      what an answer of it says
 use Rattle.std.proofs.Common.{◌≡◌, ◌≢◌, ◌⊎◌, inl, inr, ℕ, ◌+◌, ◌-◌, ◌^◌, ◌<◌, ◌≤◌, pos, [], Option, Some, None, true, refl, sym, ◌∙◌, ap, subst, arith}
 use Rattle.std.proofs.lemmas.Bool.{false≢true}
-use Rattle.std.specs.Prelude.{Result, Ok, Err, IsSome, IfSome, IfOk, OnOk, is_some}
+use Rattle.std.specs.Prelude.{Result, Ok, Err, IsErrOf, IsSome, IfSome, IfOk, OnOk, is_some}
 use Rattle.ip_base.specs.declared.memory.Memory.{Memory}
 use Rattle.ip_ground.specs.declared.names.FileName.{FileName}
 use Rattle.ip_ground.specs.declared.names.FileName.TheVariants.{Mapping, Prefix}
 use Rattle.ip_base.specs.declared.exit.Exit.TheVariants as Exit
-use Rattle.ip_ground.specs.declared.names.GroundCounts.{GroundCounts}
+use Rattle.ip_ground.specs.Counts.{Noted}
 use Rattle.ip_ground.specs.declared.names.GroundFault.{GroundFault}
 use Rattle.ip_base.specs.declared.exit.Reaped.{Reaped}
 use Rattle.ip_ground.specs.Calls.{Settles}
@@ -35,17 +35,18 @@ use Rattle.ip_space.specs.SpaceView.{SpaceView, IsReadable, bare, grown, records
 use Rattle.ip_keep.specs.Whole.{AreRecords}
 use Rattle.ip_keep.proofs.RunsApart.{apart_few, apart_total}
 use Rattle.ip_check.specs.CheckView.{CheckView}
-use Rattle.ip_check.specs.Checking.{Advances, EndsAs, IsCheck, IsChecking, IsSpaceOf, IsVerdict, SameCheck, Says, begun, looked_by}
-use Rattle.ip_check.specs.Faults.{IsUndamaged as IsCheckUndamaged, ground_check}
+use Rattle.ip_check.specs.Checking.{Advances, EndsAs, IsBlamed, IsCheck, IsChecking, IsSpaceOf, IsVerdict, SameCheck, Says, begun, looked_by}
+use Rattle.ip_check.specs.Faults.{IsUndamaged as IsCheckUndamaged, counted_check}
 use Rattle.ip_check.specs.Going.{IsOver}
 use Rattle.ip_check.specs.declared.check.Outcome.{Outcome}
 use Rattle.ip_check.specs.declared.fault.CheckFault.{CheckFault}
 use Rattle.ip_held.specs.declared.collection.Collection.{Collection}
 use Rattle.ip_held.specs.declared.held.Held.{Held}
 use Rattle.ip_held.specs.Collecting.{Collects, HasEnded, IsGoing, IsOfChild, IsPhase, until}
-use Rattle.ip_collects.specs.CollectFaults.{ground_finish}
+use Rattle.ip_collects.specs.CollectFaults.{counted_finish}
 use Rattle.ip_collects.specs.Finishing.{IsUndamaged, looked_at, looked_of}
-use Rattle.ip_collects.specs.Judging.{EndsCheck, FitsExit, IsCheckOf, IsNextCheck, IsOpen, SlicesBy, TellsVerdict, verdict_by, with_check}
+use Rattle.ip_collects.specs.declared.finishing.FinishFault.{FinishFault}
+use Rattle.ip_collects.specs.Judging.{EndsCheck, FitsExit, IsBlamedIn, IsCheckOf, IsNextCheck, IsOpen, SlicesBy, TellsVerdict, verdict_by, with_check}
 use Rattle.ip_held.specs.Held.{IsOf, Holds}
 use Rattle.ip_held.specs.Sweeping.{IsApart, ChangesBeside}
 use Rattle.ip_held.proofs.Apart.{beside_for, holds_apart, list_apart}
@@ -318,7 +319,16 @@ no_damage (Err CheckFault.Ground) left none = tt
 no_damage (Err (CheckFault.Damaged at)) left none = none at refl
 no_damage (Err CheckFault.Memory) left none = tt
 
-pub counts_check : (result : Result Outcome CheckFault) (left : ℕ) (d e : GroundCounts) → Counts ground_check result d e → Counts ground_finish (verdict_by result left) d e
+-- damage is where the check found it
+pub blames_check : (c : Collection) (now : CheckView) (result : Result Outcome CheckFault) (left : ℕ) → ((at : ℕ) → IsErrOf result (CheckFault.Damaged at) → IsBlamed now at) → (at : ℕ) → IsErrOf (verdict_by result left) (FinishFault.Damaged at) → IsBlamedIn (Some (record c { check = Some now })) at
+blames_check c now (Ok Outcome.More) left blames at is = absurd (cc (is))
+blames_check c now (Ok Outcome.Valid) left blames at is = absurd (cc (is))
+blames_check c now (Ok (Outcome.Differs difference)) left blames at is = absurd (cc (is))
+blames_check c now (Err CheckFault.Ground) left blames at is = absurd (cc (is))
+blames_check c now (Err (CheckFault.Damaged place)) left blames at is = inr (blames at (let same : place ≡ at = cc (is) in ap (λ (n : ℕ). Err (CheckFault.Damaged n)) same))
+blames_check c now (Err CheckFault.Memory) left blames at is = absurd (cc (is))
+
+pub counts_check : (result : Result Outcome CheckFault) (left : ℕ) (d e : Noted) → Counts counted_check result d e → Counts counted_finish (verdict_by result left) d e
 counts_check (Ok Outcome.More) left d e counts = counts
 counts_check (Ok Outcome.Valid) left d e counts = counts
 counts_check (Ok (Outcome.Differs difference)) left d e counts = counts

@@ -19,6 +19,8 @@ use Rattle.ip_spec.specs.Repository.{Repository, next, name_at, is_retained}
 use Rattle.ip_spec.specs.Record.{Hash, spelling}
 use Rattle.ip_spec.specs.TreeAt.{Records, present}
 use Rattle.ip_spec.specs.Step.{IsMet, MayBeShort, Refused, Turned, outcome, resolve, held_branch, phase_at, enough, unless_some, refuse_if, ◌>>◌, ◌>>=◌}
+use Rattle.ip_image.specs.declared.slot.Slot.{Slot}
+use Rattle.ip_image.specs.Pending.{SameSpace}
 use Rattle.ip_image.proofs.SpelledCommits.{present_front}
 use Rattle.ip_held.specs.declared.collection.Collection.{Collection}
 use Rattle.ip_collects.specs.declared.starting.CollectFault.{CollectFault}
@@ -259,7 +261,7 @@ started_phase r store number start retained free is = record { retained = retain
 -- nothing
 pub starts_none : {A : Type 0} (r : Repository) (store store' : Held) (told : Told) (fault : CollectFault) → ¬ (IsBegun {A = A} (Err fault)) → Holds store told r → StartsCollection {A = A} r store.slot.next_attempt (Err fault) store' told told
 starts_none r store store' told fault not held = record {
-  only = for_only store.slot.next_attempt (MayChange told.held) told told (only_nowhere told (MayChange told.held));
+  only = for_only store.slot.next_attempt (MayChange told.held) told told (only_nowhere told (MayChange told.held)) (keeps_itself told);
   files = keeps_itself told;
   holds = λ begins. absurd (not begins);
   lent = λ begins. absurd (not begins);
@@ -268,11 +270,12 @@ starts_none r store store' told fault not held = record {
   nothing_pending = λ pending begins. pending;
   flushed = λ pending. (recovers_now store r told held pending).flushed;
   space = λ pending u has t after le. absurd (omega (arith, after, le));
+  table = λ pending begins. absurd (not begins);
 }
 
 -- the same by another answer, and of the store with a collection
-pub starts_with : {A B : Type 0} (r : Repository) (n m : ℕ) (res : Result A CollectFault) (out : Result B CollectFault) (store now : Held) (old new : Told) → m ≡ n → (IsBegun out → IsBegun res) → (IsBegun res → Holds store new r → Holds now new r) → StartsCollection r n res store old new → StartsCollection r m out now old new
-starts_with r n m res out store now old new same begun holds is = subst (λ (k : ℕ). StartsCollection r k out now old new) (sym same) (record {
+pub starts_with : {A B : Type 0} (r : Repository) (n m : ℕ) (res : Result A CollectFault) (out : Result B CollectFault) (store now : Held) (old new : Told) → m ≡ n → (IsBegun out → IsBegun res) → (IsBegun res → Holds store new r → Holds now new r) → now.slot ≡ store.slot → StartsCollection r n res store old new → StartsCollection r m out now old new
+starts_with r n m res out store now old new same begun holds slot is = subst (λ (k : ℕ). StartsCollection r k out now old new) (sym same) (record {
   only = is.only;
   files = is.files;
   holds = λ begins. holds (begun begins) (is.holds (begun begins));
@@ -282,6 +285,7 @@ starts_with r n m res out store now old new same begun holds is = subst (λ (k :
   nothing_pending = λ pending begins. is.nothing_pending pending (begun begins);
   flushed = is.flushed;
   space = is.space;
+  table = λ pending begins t after le is_lent image left. subst (λ (s : Slot). SameSpace s new.held image) (sym slot) (is.table pending (begun begins) t after le is_lent image left);
 })
 
 -- they stand in front of the table

@@ -17,6 +17,8 @@ use Rattle.ip_ground.specs.Custody.{IsOfAttempt}
 use Rattle.ip_ground.specs.Told.{Told, IsForeign, KeepsPast, KeepsCustody, Only}
 use Rattle.ip_ground.proofs.Spans.{only_more, only_on}
 use Rattle.ip_chunks.specs.Places.{IsChunkNumbered}
+use Rattle.ip_image.specs.Virtual.{chunk_of}
+use Rattle.ip_publish.specs.Publishing.{IsOfStore}
 use Rattle.ip_chunks.specs.Effects.{Sweeps}
 use Rattle.ip_image.specs.declared.slot.Slot.{Slot}
 use Rattle.ip_held.specs.declared.collection.Unswept.{Unswept}
@@ -205,13 +207,16 @@ module _ (s : Slot) (u : Unswept) where
   cases_chunk (Mapping n) = inr (λ is. cc (is.2))
   cases_chunk (Done n) = inr (λ is. cc (is.2))
 
+  chunk_of_store : (n : ℕ) → IsOfStore (Chunk n)
+  chunk_of_store n = inr (1, n, ap Chunk (omega arith))
+
   chunks_swept : (l : ℕ) (a b : Told) → Sweeps u.chunk (s.horizon / s.chunk) l a b → SweepsFiles Chunks l a b
   chunks_swept l a b sweeps = record {
     only = sweeps.only;
     gone = λ zero file is own. subst (λ (f : FileName). b.held f ≡ None) (sym is.2) (sweeps.none_left zero is.0 is.1);
     all_but = λ few. (map Chunk those, omega (arith, sweeps.all_but.1, length-map those Chunk), λ file is own. subst (λ (f : FileName). (b.held f ≡ None) ⊎ Contains (map Chunk those) f) (sym is.2) (by is.0 (sweeps.all_but.2 is.0 is.1)));
     each = λ file. elim (cases_chunk file) [
-      | inl is ↦ subst (StaysOrGoes a b) (sym is.2) (record { held = λ own. sweeps.same is.0 is.1; left = λ firm. sweeps.crash is.0 is.1 })
+      | inl is ↦ subst (StaysOrGoes a b) (sym is.2) (record { unwritten = λ not. absurd (not (chunk_of_store is.0)); held = λ own. sweeps.same is.0 is.1; left = λ firm. sweeps.crash is.0 is.1 })
       | inr not ↦ stays_goes a b file (sweeps.only.others file not)
     ];
   }

@@ -1,5 +1,5 @@
 -- How a collection is cancelled.
---     ground_cancel fault      it is the ground's
+--     counted_cancel fault      it is the ground's
 --     CancelReplies result P      the reply has this; a fault of the ground has none.      met_by_cancel result left      what was met
 --     IsKilled c result end      how the child ended that was killed; None: the kill failed, and it may go on
 --     CountsCancel result left old new      removals that failed are counted.      unswept_after result left s u      and then what was unswept is so still
@@ -7,7 +7,7 @@
 --     Cancels r c result u left store old new      what it does to what a ground tells, and what the store holds then
 use Rattle.std.specs.Prelude.{◌≡◌, ◌↔◌, ◌==◌, if◌then◌else◌, ℕ, ◌<◌, ◌≤◌, Bool, true, [], ◌∷◌, Option, Some, None, Result, Ok, Err, IsErrOf, IsOk, IsTrue, IfSome}
 use Rattle.ip_ground.specs.declared.names.FileName.{FileName}
-use Rattle.ip_ground.specs.declared.names.GroundCounts.{GroundCounts}
+use Rattle.ip_ground.specs.Counts.{Counted, Noted}
 use Rattle.ip_base.specs.declared.exit.Reaped.{Reaped}
 use Rattle.ip_ground.specs.Counts.{CountsLeft, FileFault}
 use Rattle.ip_ground.specs.Custody.{lent}
@@ -53,7 +53,7 @@ pub record IsKilled (c : Collection) (result : Result Cancelled CancelFault) (en
   pub orphan : (result ≡ Ok Cancelled.Orphan) ↔ (end ≡ None)
 
 -- faults of removals do not end it
-abbrev pub CountsCancel : Result Cancelled CancelFault → ℕ → GroundCounts → GroundCounts → Type 0
+abbrev pub CountsCancel : Result Cancelled CancelFault → ℕ → Noted → Noted → Type 0
 CountsCancel (Ok Cancelled.Done) left old new = CountsLeft left old new
 CountsCancel (Ok Cancelled.Orphan) left old new = new ≡ old
 CountsCancel (Err CancelFault.Idle) left old new = new ≡ old

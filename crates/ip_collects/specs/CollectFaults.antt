@@ -1,23 +1,23 @@
--- Which faults of the calls of a collection are the ground's.
-use Rattle.std.specs.Prelude.{Bool, true, false}
+-- As what faults of the calls of a collection are counted.
+use Rattle.ip_ground.specs.Counts.{Counted, as_nothing, as_fault, as_damage}
 use Rattle.ip_collects.specs.declared.starting.CollectFault.{CollectFault}
 use Rattle.ip_collects.specs.declared.starting.CollectFault.TheVariants as starting
 use Rattle.ip_collects.specs.declared.finishing.FinishFault.{FinishFault}
 use Rattle.ip_collects.specs.declared.finishing.FinishFault.TheVariants as finishing
 
-abbrev pub ground_start : CollectFault → Bool
-ground_start starting.Ground = true
-ground_start (starting.Busy name) = false
-ground_start (starting.Held place) = false
-ground_start (starting.Limit limit) = false
-ground_start starting.Start = false
-ground_start starting.Memory = false
+abbrev pub counted_start : CollectFault → Counted
+counted_start starting.Ground = as_fault
+counted_start (starting.Busy name) = as_nothing
+counted_start (starting.Held place) = as_nothing
+counted_start (starting.Limit limit) = as_nothing
+counted_start starting.Start = as_nothing
+counted_start starting.Memory = as_nothing
 
-abbrev pub ground_finish : FinishFault → Bool
-ground_finish finishing.Ground = true
-ground_finish finishing.Idle = false
-ground_finish finishing.Wait = false
-ground_finish (finishing.Rejected rejection) = false
-ground_finish (finishing.Limit limit) = false
-ground_finish (finishing.Damaged at) = false
-ground_finish finishing.Memory = false
+abbrev pub counted_finish : FinishFault → Counted
+counted_finish finishing.Ground = as_fault
+counted_finish finishing.Idle = as_nothing
+counted_finish finishing.Wait = as_nothing
+counted_finish (finishing.Rejected rejection) = as_nothing
+counted_finish (finishing.Limit limit) = as_nothing
+counted_finish (finishing.Damaged at) = as_damage
+counted_finish finishing.Memory = as_nothing

@@ -2,9 +2,9 @@
 --     asking wait      the command.      most_of wait      so many records are looked at, at most
 --     AsksChild wait attempt child tells x y m n      what is asked of the spawner, and what it tells and counts then
 --     ConcludesAs tells wait result met store now old new      all that is promised of the call, but for the child and the ground's counts
-use Rattle.std.specs.Prelude.{◌≡◌, ◌-◌, ◌^◌, ℕ, Bool, true, false, [], ◌∷◌, ◌++◌, Some, Result, IsTrue}
+use Rattle.std.specs.Prelude.{◌≡◌, ◌-◌, ◌^◌, ℕ, Bool, true, false, [], ◌∷◌, ◌++◌, Some, Result, IsErrOf, IsTrue}
 use Rattle.ip_base.specs.declared.exit.Reaped.{Reaped}
-use Rattle.ip_ground.specs.Told.{Told}
+use Rattle.ip_ground.specs.Told.{Told, NoFile}
 use Rattle.ip_spawn.specs.Children as spawn
 use Rattle.ip_spawn.specs.declared.spawner.SpawnCounts.{SpawnCounts}
 use Rattle.ip_spec.specs.declared.command.Command.{Command}
@@ -18,10 +18,12 @@ use Rattle.ip_held.specs.declared.held.Held.{Held}
 use Rattle.ip_held.specs.Clear.{KeepsClear, ClearsAll}
 use Rattle.ip_held.specs.Fronts.{LeavesFront}
 use Rattle.ip_held.specs.Held.{IsOf, Holds}
+use Rattle.ip_held.specs.Sweeping.{EndsFor}
 use Rattle.ip_held.specs.Tie.{IsTied}
 use Rattle.ip_collects.specs.CollectEvents.{ending, finish_events}
 use Rattle.ip_collects.specs.Ending.{AwaitsChild, Goes, SeesChild}
 use Rattle.ip_collects.specs.Finishing.{Concludes, FinishesBy, HasAnswer, IsAsked, IsSweptBehind, IsUndamaged, LookReplies, WorksStay, conditions_by}
+use Rattle.ip_collects.specs.Judging.{IsBlamedIn}
 use Rattle.ip_collects.specs.declared.finishing.FinishFault.{FinishFault}
 use Rattle.ip_collects.specs.declared.finishing.Looked.{Looked}
 use Rattle.ip_collects.specs.declared.finishing.TheConstants.{LOOKS}
@@ -46,6 +48,9 @@ pub record ConcludesAs (tells wait : Bool) (result : Result Looked FinishFault) 
   pub any_moment : IsTrue tells → (r : Repository) (held : Holds store old r) (c : Collection) (reaped : Reaped) → store.collection ≡ Some c → met.child ≡ Child.Ended reaped →
       FinishesBy held.stands.standing.records r c (asking wait) result store.unswept met now old new
   pub undamaged : IsTrue tells → (r : Repository) → Holds store old r → IsUndamaged result
+  -- Behind damage no file changes, and where it was found is known.
+  pub untouched : IsTrue tells → ¬ IsUndamaged result → (c : Collection) → store.collection ≡ Some c → EndsFor c.job.attempt NoFile old new
+  pub blames : (at : ℕ) → IsErrOf result (FinishFault.Damaged at) → IsBlamedIn now.collection at
   pub works_stay : IsTrue tells → HasAnswer result → (r q : Repository) (held : Holds store old r) (still : Holds now new q) → WorksStay held still
   -- What was cleared stays so, and behind a sweep that left nothing all is.
   pub clear : IsTrue tells → HasAnswer result → (r : Repository) → Holds store old r → KeepsClear store now old new × ClearsAll (IsSweptBehind result) met.left store now old new

@@ -149,6 +149,8 @@ pub record Goes (child : Child) (most : ℕ) (result : Result Looked FinishFault
   pub quiet : IsQuiet result → now ≡ store
   pub ended : IsQuiet result ⊎ ((reaped : Reaped) × (child ≡ Child.Ended reaped))
   pub held : child_of now.collection ≡ held_behind child (child_of store.collection)
+  -- memory is wanted only where what it wrote is looked at
+  pub wanted : result ≡ Err FinishFault.Memory → (reaped : Reaped) → child ≡ Child.Ended reaped → is_zero reaped.exit
   -- how the child ended is kept where it is not over, and so is the check
   pub goes_on : IsKept result → (c : Collection) (reaped : Reaped) → store.collection ≡ Some c → child ≡ Child.Ended reaped → KeepsCollection c reaped now.collection
   pub sliced : (c : Collection) → store.collection ≡ Some c → Slices most c result now.collection

@@ -8,7 +8,7 @@
 --     swapped_slot s u c length rows      the slot of the swap
 --     looked_of check, looked_at c      how many records were looked at.      KeepsCollection c reaped now      it is the same; how its child ended is kept, and its check
 --     IsSliced most c left now      a check that is not through, behind a slice of it.      Slices most c result now      so it is where an answer says so.      fault_by fault      a fault of the check
---     CountsFinish result left old new      removals that failed are counted.      unswept_by result left s u      what is unswept then
+--     CountsFinish result left old new      removals that failed are counted, and damage that was found.      unswept_by result left s u      what is unswept then
 --     Judges records c met told      the difference is that of the settled pair.      WorksStay held now      works are lawful, or given up
 --     FinishesAs r after c result u left store old new      what it does to what a ground tells, and what the store holds then
 --     FinishesBy records r c command result u said store old new      and that it is the machine's
@@ -17,10 +17,9 @@ use Rattle.ip_base.specs.declared.limit.TheConstants.{OFFSET_MAX}
 use Rattle.ip_base.specs.declared.limit.Limit.{Limit}
 use Rattle.ip_ground.specs.declared.names.FileName.{FileName}
 use Rattle.ip_ground.specs.declared.names.FileName.TheVariants.{Control, Prefix, Mapping}
-use Rattle.ip_ground.specs.declared.names.GroundCounts.{GroundCounts}
 use Rattle.ip_base.specs.declared.exit.Reaped.{Reaped}
 use Rattle.ip_ground.specs.Contents.{Image}
-use Rattle.ip_ground.specs.Counts.{CountsLeft, FileFault}
+use Rattle.ip_ground.specs.Counts.{Noted, CountsLeft, DamageFound, FileFault}
 use Rattle.ip_ground.specs.Told.{Told, IsForeign, IsSettledAs}
 use Rattle.ip_spawn.specs.declared.spawner.Look.{Look}
 use Rattle.ip_spawn.specs.declared.spawner.SpawnFault.{SpawnFault}
@@ -212,10 +211,11 @@ Slices most c (Ok (Looked.Checking left)) now = IsSliced most c left now
 Slices most c result now = Unit {0}
 
 -- faults of removals do not end it
-abbrev pub CountsFinish : Result Looked FinishFault → ℕ → GroundCounts → GroundCounts → Type 0
+abbrev pub CountsFinish : Result Looked FinishFault → ℕ → Noted → Noted → Type 0
 CountsFinish (Ok (Looked.Collected collected)) left old new = CountsLeft left old new
 CountsFinish (Err (FinishFault.Rejected rejection)) left old new = CountsLeft left old new
 CountsFinish (Err FinishFault.Ground) left old new = FileFault old new
+CountsFinish (Err (FinishFault.Damaged at)) left old new = DamageFound old new
 CountsFinish result left old new = new ≡ old
 
 abbrev pub unswept_by : Result Looked FinishFault → ℕ → Slot → Unswept → Unswept

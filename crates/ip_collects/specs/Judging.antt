@@ -4,10 +4,10 @@
 --     IsThrough now      a check is kept that has found the pair valid
 --     SlicesBy most c result now      what a slice leaves that is not the last.      IsOpen result      the check is not through
 --     TellsVerdict records c told result      what the verdict says of the files
---     IsCut result      the call was not answered by a verdict
+--     IsCut result      the call was not answered by a verdict.      IsBlamedIn now at      where damage may be found: at the commit's record, or at one that its check looks at
 --     verdict_by outcome left      what an answer of the check says
 --     IsCheckOf c over k      a check of a collection's files, over a store's space.      IsNextCheck c over k      the one that goes on
-use Rattle.std.specs.Prelude.{◌≡◌, ℕ, pos, Option, Some, None, Result, Ok, Err, IsSomeAnd, IfSome}
+use Rattle.std.specs.Prelude.{◌≡◌, ◌⊎◌, ℕ, pos, Option, Some, None, Result, Ok, Err, IsSomeAnd, IfSome}
 use Rattle.ip_base.specs.declared.exit.Exit.{Exit}
 use Rattle.ip_base.specs.declared.exit.Exit.TheVariants as Exit
 use Rattle.ip_ground.specs.Contents.{Image}
@@ -17,7 +17,7 @@ use Rattle.ip_image.specs.Collection.{Found, found_in}
 use Rattle.ip_space.specs.SpaceView.{SpaceView, bare, grown}
 use Rattle.ip_keep.specs.Whole.{AreRecords}
 use Rattle.ip_check.specs.CheckView.{CheckView}
-use Rattle.ip_check.specs.Checking.{IsCheck, IsChecking, IsVerdict, looked_by}
+use Rattle.ip_check.specs.Checking.{IsBlamed, IsCheck, IsChecking, IsVerdict, looked_by}
 use Rattle.ip_check.specs.declared.check.Outcome.{Outcome}
 use Rattle.ip_check.specs.declared.check.Outcome.TheVariants as Outcome
 use Rattle.ip_check.specs.declared.fault.CheckFault.{CheckFault}
@@ -40,6 +40,10 @@ IsCut FinishFault.Ground = Unit {0}
 IsCut (FinishFault.Damaged at) = Unit {0}
 IsCut FinishFault.Memory = Unit {0}
 IsCut fault = ⊥
+
+-- the collection that is kept, and the check that it keeps
+abbrev pub IsBlamedIn : Option Collection → ℕ → Type 0
+IsBlamedIn now at = IsSomeAnd now (λ c. (c.job.horizon ≡ at) ⊎ IsSomeAnd c.check (λ k. IsBlamed k at))
 
 abbrev pub FitsRejection : Exit → Rejection → Type 0
 FitsRejection exit (Rejection.Exit e) = (e ≡ exit) × ¬ is_zero exit

@@ -8,7 +8,7 @@
 --     IsBegun result      the attempt was drawn, whether a child was started or not.      IsTurnedDown result      nothing was done
 --     LimitsStart end result store      which limit is met.      IsFree r number store      nothing stands against a collection there.      RefusesStart r number store fault      or this
 --     begun_slot s length      the slot behind the record of branches
---     IsJobAt store number now job      the job that the child is given.      started_by job result      the jobs that were started
+--     IsJobAt store number now job      the job that the child is given.      started_by dir job result      the children that were started, in this folder
 --     IsStart r store number start      what will be done, whatever is told.      begun store start      the store behind the step
 --     Begins r store now old new      the record stands behind those that there were, and the slot says so
 --     StartsCollection r attempt result store old new      what it does to what a ground tells, and what the store holds then
@@ -16,8 +16,11 @@
 use Rattle.std.specs.Prelude.{◌≡◌, ℕ, ◌+◌, ◌-◌, ◌<◌, ◌≤◌, List, [], ◌∷◌, ◌++◌, length, Bool, true, Option, Some, None, option_map, Result, Ok, Err, IfOk, IsErr, IsErrOf, IsSomeAnd, IsTrue, slice_get}
 use Rattle.ip_base.specs.declared.limit.TheConstants.{OFFSET_MAX}
 use Rattle.ip_base.specs.declared.limit.Limit.{Limit}
+use Rattle.ip_ground.specs.Custody as custody
 use Rattle.ip_ground.specs.Custody.{own, lent}
-use Rattle.ip_ground.specs.Told.{Told, lending}
+use Rattle.ip_ground.specs.Contents.{Image}
+use Rattle.ip_ground.specs.Told.{Told, lending, IsPossible}
+use Rattle.ip_spawn.specs.Children as spawn
 use Rattle.ip_spawn.specs.declared.job.Job.{Job}
 use Rattle.ip_spec.specs.declared.command.Command.{Command}
 use Rattle.ip_spec.specs.declared.command.Target.{Target}
@@ -30,7 +33,7 @@ use Rattle.ip_spec.specs.Repository.{Repository, is_retained, name_at}
 use Rattle.ip_spec.specs.Step.{resolve, held_branch}
 use Rattle.ip_image.specs.declared.slot.Slot.{Slot}
 use Rattle.ip_image.specs.Headline.{RecoversTo}
-use Rattle.ip_image.specs.Pending.{HasLive, crash_at, crash_now, NothingPending, AllFlushed, KeepsSpace}
+use Rattle.ip_image.specs.Pending.{HasLive, SameSpace, crash_at, crash_now, NothingPending, AllFlushed, KeepsSpace}
 use Rattle.ip_space.specs.SpaceView.{grown}
 use Rattle.ip_held.specs.declared.collection.Collection.{Collection}
 use Rattle.ip_collects.specs.declared.starting.CollectFault.{CollectFault}
@@ -114,7 +117,7 @@ RefusesStart r number store (CollectFault.Held place) = (store.collection ≡ No
 RefusesStart r number store (CollectFault.Limit Limit.Attempt) = IsFree r number store × (store.slot.next_attempt ≡ OFFSET_MAX)
 RefusesStart r number store (CollectFault.Limit Limit.Space) = IsFree r number store × (store.slot.next_attempt < OFFSET_MAX) × (OFFSET_MAX < store.slot.end + length (spelling (table_of r)))
 RefusesStart r number store (CollectFault.Limit Limit.Sequence) = IsFree r number store × (store.slot.next_attempt < OFFSET_MAX) × (store.slot.end + length (spelling (table_of r)) ≤ OFFSET_MAX) × (store.slot.sequence ≡ OFFSET_MAX)
-RefusesStart r number store CollectFault.Memory = IsFree r number store
+RefusesStart r number store CollectFault.Memory = IsFree r number store × (store.slot.next_attempt < OFFSET_MAX)
 RefusesStart r number store fault = ⊥
 
 -- ---- the job
@@ -130,9 +133,9 @@ pub record IsJobAt (store : Held) (number : ℕ) (now : Slot) (job : Job) : Type
   pub horizon : place_of_commit store number ≡ Some job.horizon
   pub end : job.end ≡ now.end
 
-abbrev pub started_by : {A : Type 0} → Job → Result A CollectFault → List Job
-started_by job (Ok name) = job ∷ []
-started_by job (Err fault) = []
+abbrev pub started_by : {A : Type 0} → List ℕ → Job → Result A CollectFault → List spawn.Start
+started_by dir job (Ok name) = record { dir = dir; job = job } ∷ []
+started_by dir job (Err fault) = []
 
 pub record IsStart (r : Repository) (store : Held) (number : ℕ) (start : Start) : Type 0 where
   pub bytes : start.bytes.items ≡ spelling (table_of r)
@@ -165,6 +168,8 @@ pub record StartsCollection {A : Type 0} (r : Repository) (attempt : ℕ) (resul
   pub flushed : NothingPending old → AllFlushed (crash_now new)
   -- the child may read what the slot's records lie in
   pub space : NothingPending old → (s : Slot) → HasLive s old.held → KeepsSpace s old new
+  -- So it may the new slot's, and the table among them: at each moment at which the attempt is lent a crash leaves these as they read now.
+  pub table : NothingPending old → IsBegun result → (t : ℕ) → old.moment < t → t ≤ new.moment → new.lending_at t attempt ≡ custody.lent → (image : Image) → IsPossible new t image → SameSpace store.slot new.held image
 
 pub record BeginsCollecting (tells : Bool) (number : ℕ) (result : Result Hash CollectFault) (store now : Held) (old new : Told) : Type 0 where
   pub answered : (r : Repository) → IsOf store r → IsTrue (is_retained r number) → Replies r result (AnswersStart r number store.collection (met_by_start result) now)
@@ -173,6 +178,8 @@ pub record BeginsCollecting (tells : Bool) (number : ℕ) (result : Result Hash 
   pub turned_down : IsTurnedDown result → now ≡ store
   -- Files are only touched where no collection runs, no branch is below the commit, and there is an attempt left.
   pub begun : (r : Repository) → IsOf store r → IsErrOf result CollectFault.Ground → IsFree r number store × (store.slot.next_attempt < OFFSET_MAX)
+  -- So is memory wanted there alone.
+  pub wanted : (r : Repository) → IsOf store r → IsErrOf result CollectFault.Memory → IsFree r number store × (store.slot.next_attempt < OFFSET_MAX)
   pub limits : (r : Repository) → IsOf store r → LimitsStart (store.slot.end + length (spelling (table_of r))) result store
   pub begins : IsTrue tells → IsBegun result → (r : Repository) → IsOf store r → Begins r store now old new
   pub any_moment : IsTrue tells → (r : Repository) → Holds store old r → StartsCollection r store.slot.next_attempt result now old new

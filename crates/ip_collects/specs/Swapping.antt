@@ -1,6 +1,6 @@
 -- The swap to the pair of a collection.
 --     IsSwap store c check swap      what will be done, whatever is told: the slot, the space and the names that stay
---     RefusesSwap store c fault      why it is not done.      turned_down fault store      the store then.      IsSwapFault fault, IsTurnedDown result      which faults there are; nothing was done
+--     RefusesSwap store c fault      why it is not done.      turned_down fault store      the store then.      IsSwapFault fault, IsTurnedDown result      which faults there are; nothing was done, and no damage found
 --     SwapsTables swap store now      the tables go without the commits that are given up
 --     SyncsPair attempt result old new      what syncing the pair of a settled attempt does
 --     Accepts result r store now      what becomes of the tables.      AcceptsAs records r c result store old new      and what it does to what a ground tells
@@ -60,6 +60,7 @@ IsSwapFault fault = ⊥
 abbrev pub IsTurnedDown : Result (Unit {0}) FinishFault → Type 0
 IsTurnedDown (Ok x) = ⊥
 IsTurnedDown (Err FinishFault.Ground) = ⊥
+IsTurnedDown (Err (FinishFault.Damaged at)) = ⊥
 IsTurnedDown (Err fault) = Unit {0}
 
 pub record SwapsTables (swap : Swap) (store now : Held) : Type 0 where

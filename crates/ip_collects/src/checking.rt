@@ -1,5 +1,5 @@
 // The verdict on what a child wrote.
-ghost use Rattle.std.specs.Prelude.{◌≡◌, ◌-◌, ◌≤◌, ◌^◌, pos, Option, Some, None, IsTrue, IsSome, IfSome, IfOk, IsErr};
+ghost use Rattle.std.specs.Prelude.{◌≡◌, ℕ, ◌-◌, ◌≤◌, ◌^◌, pos, Option, Some, None, IsTrue, IsSome, IfSome, IfOk, IsErr, IsErrOf};
 ghost use Rattle.ip_ground.specs.Counts.{Counts};
 ghost use Rattle.ip_ground.specs.Told.{NoFile, ChangesOnly};
 ghost use Rattle.ip_base.specs.declared.exit.Exit.TheVariants as Exit;
@@ -7,9 +7,10 @@ ghost use Rattle.ip_spawn.specs.Jobs.{IsValid as IsValidJob};
 ghost use Rattle.ip_check.specs.CheckView.{CheckView};
 ghost use Rattle.ip_check.specs.Checking.{IsSpaceOf};
 ghost use Rattle.ip_spec.specs.Repository.{Repository};
-ghost use Rattle.ip_collects.specs.CollectFaults.{ground_finish};
+ghost use Rattle.ip_collects.specs.CollectFaults.{counted_finish};
+ghost use Rattle.ip_collects.specs.declared.finishing.FinishFault.TheVariants as FinishFault;
 ghost use Rattle.ip_collects.specs.Finishing.{IsUndamaged, looked_at, looked_of};
-ghost use Rattle.ip_collects.specs.Judging.{FitsExit, EndsCheck, IsCheckOf, IsNextCheck, IsOpen, SlicesBy, TellsVerdict, verdict_by, with_check};
+ghost use Rattle.ip_collects.specs.Judging.{FitsExit, EndsCheck, IsBlamedIn, IsCheckOf, IsNextCheck, IsOpen, SlicesBy, TellsVerdict, verdict_by, with_check};
 ghost use Rattle.ip_held.specs.Held.{IsOf, Holds};
 ghost use Rattle.ip_held.specs.declared.collection.Collection.{Collection as CollectionValue};
 
@@ -51,8 +52,9 @@ pub(crate) fn judge<G: Ground>(
     ensures holds { IsTrue G.tells → (r : Repository) → Holds store.old (G.told outside.old) r → Holds store.new (G.told outside.new) r }
     ensures says { IsTrue G.tells → (r : Repository) (held : Holds store.old (G.told outside.old) r) (c : CollectionValue) → store.old.collection ≡ Some c → TellsVerdict held.stands.standing.records c (G.told outside.old) result }
     ensures undamaged { IsTrue G.tells → (r : Repository) → Holds store.old (G.told outside.old) r → IsUndamaged result }
+    ensures blames { (at : ℕ) → IsErrOf result (FinishFault.Damaged at) → IsBlamedIn store.new.collection at }
     ensures only { IsTrue G.tells → ChangesOnly NoFile (G.told outside.old) (G.told outside.new) }
-    ensures counts { Counts ground_finish result (G.counts_of outside.old) (G.counts_of outside.new) }
+    ensures counts { Counts counted_finish result (G.counts_of outside.old) (G.counts_of outside.new) }
 {
     match exit {
         Exit::Code(0) => check(store, alloc, outside, most),
@@ -79,8 +81,9 @@ fn check<G: Ground>(
     ensures holds { IsTrue G.tells → (r : Repository) → Holds store.old (G.told outside.old) r → Holds store.new (G.told outside.new) r }
     ensures says { IsTrue G.tells → (r : Repository) (held : Holds store.old (G.told outside.old) r) (c : CollectionValue) → store.old.collection ≡ Some c → TellsVerdict held.stands.standing.records c (G.told outside.old) result }
     ensures undamaged { IsTrue G.tells → (r : Repository) → Holds store.old (G.told outside.old) r → IsUndamaged result }
+    ensures blames { (at : ℕ) → IsErrOf result (FinishFault.Damaged at) → IsBlamedIn store.new.collection at }
     ensures only { IsTrue G.tells → ChangesOnly NoFile (G.told outside.old) (G.told outside.new) }
-    ensures counts { Counts ground_finish result (G.counts_of outside.old) (G.counts_of outside.new) }
+    ensures counts { Counts counted_finish result (G.counts_of outside.old) (G.counts_of outside.new) }
 {
     let Some(collection) = &mut store.collection else {
         unreachable!();

@@ -1,5 +1,5 @@
 // The end of a collection: its child is asked, what it wrote is checked, and where that is the valid pair the store goes over to it.
-ghost use Rattle.std.specs.Prelude.{◌≡◌, ◌≢◌, ◌≤◌, true, false, Some, None, Result, Ok, Err, IsTrue, IsErrOf, OnOk, OnErr, is_some};
+ghost use Rattle.std.specs.Prelude.{◌≡◌, ◌≢◌, ℕ, ◌≤◌, true, false, Some, None, Result, Ok, Err, IsTrue, IsErrOf, OnOk, OnErr, is_some};
 ghost use Rattle.ip_ground.specs.Calls.{Settles};
 ghost use Rattle.ip_ground.specs.Counts.{CountsAs, FileFault};
 ghost use Rattle.ip_ground.specs.Told.{NoFile, ChangesOnly};
@@ -11,7 +11,9 @@ ghost use Rattle.ip_held.specs.Collecting.{child_of};
 ghost use Rattle.ip_collects.specs.Concluding.{AsksChild, ConcludesAs};
 ghost use Rattle.ip_collects.specs.Ending.{Ends, EndsBy, Goes, IsHeardIn, Listens, MayBeHeard, held_behind};
 ghost use Rattle.ip_collects.specs.Finishing.{fault_by, met_by_finish, HasAnswer, IsAsked, IsUndamaged, IsQuiet, CountsFinish, FinishesBy, WorksStay};
+ghost use Rattle.ip_collects.specs.Judging.{IsBlamedIn};
 ghost use Rattle.ip_held.specs.Held.{IsOf, Holds};
+ghost use Rattle.ip_held.specs.Sweeping.{EndsFor};
 ghost use Rattle.ip_collects.specs.declared.finishing.FinishFault.TheVariants as FinishFault;
 ghost use Rattle.ip_collects.specs.declared.finishing.Looked.TheVariants as Looked;
 ghost use Rattle.ip_held.specs.declared.collection.Collection.{Collection};
@@ -193,6 +195,8 @@ fn judged<G: Ground>(
     ensures any_moment { IsTrue G.tells → (r : Repository) (held : Holds store.old (G.told outside.old) r) (c : Collection) → store.old.collection ≡ Some c →
         EndsBy held.stands.standing.records r c result.0 store.old.unswept result.1 store.new (G.told outside.old) (G.told outside.new) }
     ensures undamaged { IsTrue G.tells → (r : Repository) → Holds store.old (G.told outside.old) r → IsUndamaged result.0 }
+    ensures untouched { IsTrue G.tells → ¬ IsUndamaged result.0 → ChangesOnly NoFile (G.told outside.old) (G.told outside.new) }
+    ensures blames { (at : ℕ) → IsErrOf result.0 (FinishFault.Damaged at) → IsBlamedIn store.new.collection at }
     ensures counts { CountsFinish result.0 result.1 (G.counts_of outside.old) (G.counts_of outside.new) }
 {
     match judge(store, alloc, outside, reaped.exit, most) {
@@ -230,6 +234,8 @@ fn goes<G: Ground>(
     ensures any_moment { IsTrue G.tells → (r : Repository) (held : Holds store.old (G.told outside.old) r) (c : Collection) (reaped : ReapedValue) → store.old.collection ≡ Some c → child ≡ Heard.Ended reaped → (command : CommandValue) → IsAsked command result.0 →
         FinishesBy held.stands.standing.records r c command result.0 store.old.unswept (met_by_finish child result.0 result.1) store.new (G.told outside.old) (G.told outside.new) }
     ensures undamaged { IsTrue G.tells → (r : Repository) → Holds store.old (G.told outside.old) r → IsUndamaged result.0 }
+    ensures untouched { IsTrue G.tells → ¬ IsUndamaged result.0 → (c : Collection) → store.old.collection ≡ Some c → EndsFor c.job.attempt NoFile (G.told outside.old) (G.told outside.new) }
+    ensures blames { (at : ℕ) → IsErrOf result.0 (FinishFault.Damaged at) → IsBlamedIn store.new.collection at }
     ensures works_stay { IsTrue G.tells → HasAnswer result.0 → (r q : Repository) (held : Holds store.old (G.told outside.old) r) (now : Holds store.new (G.told outside.new) q) → WorksStay held now }
     ensures counts { CountsFinish result.0 result.1 (G.counts_of outside.old) (G.counts_of outside.new) }
 {

@@ -11,7 +11,7 @@ ghost use Rattle.ip_spec.specs.Step.{held_branch};
 ghost use Rattle.ip_image.specs.Pending.{NothingPending};
 ghost use Rattle.ip_image.specs.Standing.{Standing};
 ghost use Rattle.ip_held.specs.Collecting.{child_of};
-ghost use Rattle.ip_collects.specs.CollectFaults.{ground_start};
+ghost use Rattle.ip_collects.specs.CollectFaults.{counted_start};
 ghost use Rattle.ip_held.specs.Fronts.{LeavesFront};
 ghost use Rattle.ip_collects.specs.Starting.{begun, new_collection, branch_name_at, met_by_start, BeginsCollecting, IsBegun, IsTurnedDown, IsJobAt, IsFree, RefusesStart, started_by, IsStart, StartsCollection};
 ghost use Rattle.ip_held.specs.TableRecord.{table_of, branch_row};
@@ -174,7 +174,7 @@ fn begin<G: Ground, P: Spawner>(
     ensures fault { IsErr result → (result ≡ Err CollectFault.Start) ⊎ (result ≡ Err CollectFault.Ground) }
     ensures child { P.held spawner.new ≡ (if is_ok result then Some start.now.job.attempt else None) }
     ensures unasked { IsErrOf result CollectFault.Ground → spawner.new ≡ spawner.old }
-    ensures asked { IsBegun result → (IsTrue P.tells → P.told spawner.new ≡ record { started = (P.told spawner.old).started ++ started_by start.now.job result; reaped = (P.told spawner.old).reaped })
+    ensures asked { IsBegun result → (IsTrue P.tells → P.told spawner.new ≡ record { started = (P.told spawner.old).started ++ started_by dir.now start.now.job result; reaped = (P.told spawner.old).reaped })
         × spawn.Counts false false false (is_err result) (P.counts_of spawner.old) (P.counts_of spawner.new) }
     ensures any_moment { IsTrue G.tells → (r : Repository) (number : ℕ) → Holds store.old (G.told outside.old) r → IsStart r store.old number start.now →
         StartsCollection r start.now.job.attempt result store.new (G.told outside.old) (G.told outside.new) }
@@ -183,7 +183,7 @@ fn begin<G: Ground, P: Spawner>(
         image.records ≡ held.stands.standing.records ++ (store.old.slot.end, table_of r) ∷ [] }
     ensures fronts { IsTrue G.tells → (r : Repository) (number : ℕ) (held : Holds store.old (G.told outside.old) r) → IsStart r store.old number start.now → NothingPending (G.told outside.old) →
         LeavesFront store.old held.stands.standing.records (appending ((store.old.slot.end, table_of r) ∷ [])) (G.told outside.old) (G.told outside.new) }
-    ensures counts { Counts ground_start result (G.counts_of outside.old) (G.counts_of outside.new) }
+    ensures counts { Counts counted_start result (G.counts_of outside.old) (G.counts_of outside.new) }
 {
     let step = Step {
         slot: start.slot,
@@ -215,11 +215,11 @@ pub fn start_collect<G: Ground, P: Spawner>(
     ensures child { P.held spawner.new ≡ child_of store.new.collection }
     ensures turned_down { IsTurnedDown result → outside.new ≡ outside.old }
     ensures unasked { IsTurnedDown result ⊎ IsErrOf result CollectFault.Ground → spawner.new ≡ spawner.old }
-    // One child was started, or its start failed.
+    // One child was started, in the folder of this name, or its start failed.
     ensures asked { IsBegun result → (job : Job) × IsJobAt store.old number store.new.slot job × OnOk result (store.new.collection ≡ Some (new_collection number job))
-        × (IsTrue P.tells → P.told spawner.new ≡ record { started = (P.told spawner.old).started ++ started_by job result; reaped = (P.told spawner.old).reaped })
+        × (IsTrue P.tells → P.told spawner.new ≡ record { started = (P.told spawner.old).started ++ started_by dir.now job result; reaped = (P.told spawner.old).reaped })
         × spawn.Counts false false false (is_err result) (P.counts_of spawner.old) (P.counts_of spawner.new) }
-    ensures counts { Counts ground_start result (G.counts_of outside.old) (G.counts_of outside.new) }
+    ensures counts { Counts counted_start result (G.counts_of outside.old) (G.counts_of outside.new) }
 {
     let name = store.retained_name(number);
     let begun = plan_collect(store, alloc, number)?;

@@ -3,11 +3,11 @@
 //   2. Both files of the pair are synced. No slot refers to them yet.
 //   3. The slot that is not live is made ready, and its gate is opened, as in any durable step. From there on the pair is live.
 //   4. The tables go without the commits that were given up. No memory is taken there.
-ghost use Rattle.std.specs.Prelude.{◌≡◌, ◌<◌, ◌≤◌, length, Some, None, IsTrue, IfOk, IfErr, OnOk, IsErr, ◌-◌};
+ghost use Rattle.std.specs.Prelude.{◌≡◌, ℕ, ◌<◌, ◌≤◌, length, Some, None, Err, IsTrue, IfOk, IfErr, OnOk, IsErr, IsErrOf, ◌-◌};
 ghost use Rattle.ip_base.specs.declared.limit.TheConstants.{OFFSET_MAX};
 ghost use Rattle.ip_ground.specs.Contents.{Image};
-ghost use Rattle.ip_ground.specs.Counts.{Counts, CountsAs, FileFault};
-ghost use Rattle.ip_ground.specs.Told.{IsSettledAs};
+ghost use Rattle.ip_ground.specs.Counts.{Counts, CountsAs, DamageFound, FileFault};
+ghost use Rattle.ip_ground.specs.Told.{IsSettledAs, NoFile, ChangesOnly};
 ghost use Rattle.ip_spec.specs.Repository.{Repository};
 ghost use Rattle.ip_spec.specs.Step.{collected_at};
 ghost use Rattle.ip_image.specs.Collection.{found_in};
@@ -16,9 +16,9 @@ ghost use Rattle.ip_keep.specs.Runs.{joined};
 ghost use Rattle.ip_check.specs.CheckView.{CheckView};
 ghost use Rattle.ip_check.specs.Checking.{IsCheck, IsVerdict};
 ghost use Rattle.ip_held.specs.Collecting.{until};
-ghost use Rattle.ip_collects.specs.CollectFaults.{ground_finish};
+ghost use Rattle.ip_collects.specs.CollectFaults.{counted_finish};
 ghost use Rattle.ip_collects.specs.Finishing.{IsUndamaged, swapped_slot};
-ghost use Rattle.ip_collects.specs.Judging.{IsThrough};
+ghost use Rattle.ip_collects.specs.Judging.{IsBlamedIn, IsThrough};
 ghost use Rattle.ip_publish.specs.Publishing.{TurnsGate};
 ghost use Rattle.ip_held.specs.Held.{IsOf, Holds};
 ghost use Rattle.ip_collects.specs.Swapping.{Accepts, AcceptsAs, IsSwap, IsSwapFault, IsTurnedDown, RefusesSwap, SwapsTables, SyncsPair, turned_down};
@@ -163,6 +163,18 @@ fn turn_down(store: &mut Held, fault: &FinishFault)
     store.collection = None;
 }
 
+// Damage that the plan of a swap has found is noted: none else has seen it. Of another fault nothing is.
+fn note_fault<G: Ground>(outside: &mut G, fault: &FinishFault)
+    ensures damaged { ¬ IsUndamaged {A = Unit {0}} (Err fault.now) → DamageFound (G.counts_of outside.old) (G.counts_of outside.new) }
+    ensures undamaged { IsUndamaged {A = Unit {0}} (Err fault.now) → outside.new ≡ outside.old }
+    ensures only { IsTrue G.tells → ChangesOnly NoFile (G.told outside.old) (G.told outside.new) }
+{
+    let FinishFault::Damaged(_) = fault else {
+        return;
+    };
+    outside.note_damage();
+}
+
 // The store goes over to the pair that was checked. Where the sequence ends the collection is over, and nothing else is done.
 pub(crate) fn accept<G: Ground>(
     store: &mut Held,
@@ -177,11 +189,14 @@ pub(crate) fn accept<G: Ground>(
         IsVerdict (until c.job.end held.stands.standing.records) c.job (found_in (G.told outside.old).held c.job.attempt) None → AcceptsAs held.stands.standing.records r c result store.new (G.told outside.old) (G.told outside.new) }
     ensures unchanged { IsTurnedDown result → outside.new ≡ outside.old }
     ensures undamaged { IsTrue G.tells → (r : Repository) → Holds store.old (G.told outside.old) r → IsUndamaged result }
-    ensures counts { Counts ground_finish result (G.counts_of outside.old) (G.counts_of outside.new) }
+    ensures untouched { IsTrue G.tells → ¬ IsUndamaged result → ChangesOnly NoFile (G.told outside.old) (G.told outside.new) }
+    ensures blames { (at : ℕ) → IsErrOf result (FinishFault.Damaged at) → IsBlamedIn store.new.collection at }
+    ensures counts { Counts counted_finish result (G.counts_of outside.old) (G.counts_of outside.new) }
 {
     let swap = match plan_swap(store, alloc) {
         Ok(swap) => swap,
         Err(fault) => {
+            note_fault(outside, &fault);
             turn_down(store, &fault);
             return Err(fault);
         }

@@ -27,7 +27,8 @@ use Rattle.ip_held.specs.declared.collection.Collection.{Collection}
 use Rattle.ip_held.specs.Collecting.{Collects}
 use Rattle.ip_held.specs.StandsBy.{LeavesStill, StandsBy}
 use Rattle.ip_held.specs.Held.{Holds, OwnsPair}
-use Rattle.ip_held.specs.Sweeping.{IsApart, ChangesBeside, ChangesFor}
+use Rattle.ip_held.specs.Sweeping.{IsApart, ChangesBeside, ChangesFor, KeepsFiles}
+use Rattle.ip_held.proofs.KeptFiles.{files_unwritten}
 use Rattle.ip_held.proofs.LeftImages.{by_same}
 use Rattle.ip_held.proofs.Listed.{same_list, holds_on}
 use Rattle.ip_held.proofs.Recovering.{LeavesPairOf, held_has, pair_left, pair_now, pair_alike, pending_of, recovers_now}
@@ -35,23 +36,25 @@ use Rattle.ip_held.proofs.Recovering.{LeavesPairOf, held_has, pair_left, pair_no
 -- ---- changes
 
 pub beside_for : (n : ℕ) (these : FileName → Type 0) (a b : Told) → ChangesFor n these a b → ChangesBeside n these a b
-beside_for n these a b changes = record { goes = changes.goes; others = changes.others; lending = changes.lending; said = changes.said }
+beside_for n these a b changes = record { goes = changes.goes; others = changes.others; unwritten = changes.unwritten; lending = changes.lending; said = changes.said }
 
-pub beside_only : (n : ℕ) (these : FileName → Type 0) (a b : Told) → ChangesOnly these a b → ChangesBeside n these a b
-beside_only n these a b only = record { goes = only.goes; others = λ file other not. only.others file other; lending = λ other not. only.lending other; said = only.said }
+pub beside_only : (n : ℕ) (these : FileName → Type 0) (a b : Told) → ChangesOnly these a b → KeepsFiles a b → ChangesBeside n these a b
+beside_only n these a b only files = record { goes = only.goes; others = λ file other not. only.others file other; unwritten = files_unwritten n a b files; lending = λ other not. only.lending other; said = only.said }
 
 pub beside_on : (n : ℕ) (these : FileName → Type 0) (a b c : Told) → ChangesBeside n these a b → ChangesBeside n these b c → ChangesBeside n these a c
 beside_on n these a b c first next = record {
   goes = goes_on a b c first.goes next.goes;
   others = λ file other not. stays_on a b c file first.goes next.goes (first.others file other not) (next.others file other not);
+  unwritten = λ file of. next.unwritten file of ∙ first.unwritten file of;
   lending = λ other not. custody_on a b c other first.goes next.goes (first.lending other not) (next.lending other not);
   said = said_on a b c first.goes next.goes first.said next.said;
 }
 
-pub for_only : (n : ℕ) (these : FileName → Type 0) (a b : Told) → ChangesOnly these a b → ChangesFor n these a b
-for_only n these a b only = record {
+pub for_only : (n : ℕ) (these : FileName → Type 0) (a b : Told) → ChangesOnly these a b → KeepsFiles a b → ChangesFor n these a b
+for_only n these a b only files = record {
   goes = only.goes;
   others = λ file other not. only.others file other;
+  unwritten = files_unwritten n a b files;
   turns = λ t after le. inl (only.lending n t after le);
   lending = λ other not. only.lending other;
   said = only.said;
@@ -61,6 +64,7 @@ pub for_lend : (n : ℕ) (res : Result (Unit {0}) GroundFault) (a b : Told) → 
 for_lend n res a b lends = record {
   goes = lends.goes;
   others = λ file none other. lends.files file other;
+  unwritten = λ file of. lends.unwritten file;
   turns = lends.turns;
   lending = lends.others;
   said = lends.said;
@@ -70,16 +74,18 @@ pub for_more : (n : ℕ) (these those : FileName → Type 0) (a b : Told) → ((
 for_more n these those a b more changes = record {
   goes = changes.goes;
   others = λ file other not. changes.others file (λ this. other (more file this)) not;
+  unwritten = changes.unwritten;
   turns = changes.turns;
   lending = changes.lending;
   said = changes.said;
 }
 
 module _ (n : ℕ) (these : FileName → Type 0) (a b c : Told) where
-  pub for_behind : ChangesOnly these a b → ChangesFor n these b c → ChangesFor n these a c
-  for_behind only changes = record {
+  pub for_behind : ChangesOnly these a b → KeepsFiles a b → ChangesFor n these b c → ChangesFor n these a c
+  for_behind only files changes = record {
     goes = goes_on a b c only.goes changes.goes;
     others = λ file other not. stays_on a b c file only.goes changes.goes (only.others file other) (changes.others file other not);
+    unwritten = λ file of. changes.unwritten file of ∙ files_unwritten n a b files file of;
     turns = turns;
     lending = λ other not. custody_on a b c other only.goes changes.goes (only.lending other) (changes.lending other not);
     said = said_on a b c only.goes changes.goes only.said changes.said;
@@ -91,10 +97,11 @@ module _ (n : ℕ) (these : FileName → Type 0) (a b c : Told) where
         | inr early ↦ inl (changes.goes.lending t n early ∙ only.lending n t after early)
       ]
 
-  pub for_before : ChangesFor n these a b → ChangesOnly these b c → ChangesFor n these a c
-  for_before changes only = record {
+  pub for_before : ChangesFor n these a b → ChangesOnly these b c → KeepsFiles b c → ChangesFor n these a c
+  for_before changes only files = record {
     goes = goes_on a b c changes.goes only.goes;
     others = λ file other not. stays_on a b c file changes.goes only.goes (changes.others file other not) (only.others file other);
+    unwritten = λ file of. files_unwritten n b c files file of ∙ changes.unwritten file of;
     turns = turns;
     lending = λ other not. custody_on a b c other changes.goes only.goes (changes.lending other not) (only.lending other);
     said = said_on a b c changes.goes only.goes changes.said only.said;

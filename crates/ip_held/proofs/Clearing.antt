@@ -28,8 +28,9 @@ use Rattle.ip_publish.specs.Publishing.{MayChange}
 use Rattle.ip_held.specs.Held.{Holds}
 use Rattle.ip_held.specs.Sweeping.{ChangesBeside, IsSwept, swept_to}
 use Rattle.ip_held.proofs.Apart.{beside_only}
-use Rattle.ip_held.proofs.KeptFiles.{one_attempt}
+use Rattle.ip_held.proofs.KeptFiles.{one_attempt, keeps_store, nothing_else}
 use Rattle.ip_held.proofs.Recovering.{held_has}
+use Rattle.ip_held.proofs.Stepping.{of_store}
 
 -- ---- files
 
@@ -169,7 +170,7 @@ stays_clear store now n a b slot same drawn changes clear =
     (still_clear store.slot store.slot store.unswept n NoFile a b clear (spares_none store.unswept) drawn changes clear.chunk clear.attempt))
 
 pub looked_clear : (store now : Held) (a b : Told) → now.slot ≡ store.slot → now.unswept ≡ store.unswept → ChangesOnly NoFile a b → KeepsClear store now a b
-looked_clear store now a b slot same only = stays_clear store now store.unswept.attempt a b slot same (omega arith) (beside_only store.unswept.attempt NoFile a b only)
+looked_clear store now a b slot same only = stays_clear store now store.unswept.attempt a b slot same (omega arith) (beside_only store.unswept.attempt NoFile a b only (nothing_else a b only))
 
 module _ (store : Held) (r : Repository) (a b : Told) (held : Holds store a r) (t : Slot) (v : Unswept) (carries : IsCarrying store.unswept t) (same : v ≡ store.unswept) where
   pub carried_clear : (n : ℕ) → store.unswept.attempt ≤ n → ChangesBeside n (MayChange a.held) a b → IsCleared store a → IsClearTo t v b.held (lending b)
@@ -178,4 +179,4 @@ module _ (store : Held) (r : Repository) (a b : Told) (held : Holds store a r) (
       (still_clear store.slot t store.unswept n (MayChange a.held) a b clear (spares_step store r a held) drawn changes (at_least t.first_chunk store.unswept.chunk carries.0) (at_least t.first_attempt store.unswept.attempt carries.1))
 
   pub changed_clear : ChangesOnly (MayChange a.held) a b → IsCleared store a → IsClearTo t v b.held (lending b)
-  changed_clear only = carried_clear store.unswept.attempt (omega arith) (beside_only store.unswept.attempt (MayChange a.held) a b only)
+  changed_clear only = carried_clear store.unswept.attempt (omega arith) (beside_only store.unswept.attempt (MayChange a.held) a b only (keeps_store a b (MayChange a.held) (of_store a.held) only))

@@ -1,8 +1,8 @@
 -- What is kept over a span of the files of attempts.
 --     custody_still      whose a file is, while no attempt is lent or settled
 --     stays_goes, goes_both      a file that stays, and that stays or is removed in each of two spans behind one another.      each_removed      of any file, where one is removed
---     one_attempt      a file is one attempt's
---     keeps_itself, keeps_on      what is kept over no time, and over two spans behind one another
+--     one_attempt      a file is one attempt's.      files_unwritten      no write is asked for of a file of an attempt
+--     keeps_itself, nothing_else, keeps_on      what is kept over no time, where no file changes, and over two spans behind one another
 --     keeps_custody      where each file but those of the store stays or is removed, and no custody changes.      keeps_store, keeps_swept      so where files of the store alone change, and where files are removed
 --     keeps_lent, keeps_ended, keeps_synced      where an attempt is lent, where it is settled, and where a file is synced
 use Rattle.std.proofs.Common.{◌≡◌, ◌≢◌, ◌⊎◌, inl, inr, ℕ, ◌≤◌, refl, sym, ◌∙◌, ap, subst, arith}
@@ -68,20 +68,21 @@ left_on a b c file first next one other t x after le left = elim (cases_lt b.mom
     From y = (before : Content) × a.may_leave a.moment file before × IsSameOrGone before y
 
 synced_goes : (a b : Told) (file : FileName) → SyncsAtMost a b file → StaysOrGoes a b file
-synced_goes a b file stays = record { held = λ mine. inl (stays.held mine); left = λ firm t x after le left. (x, stays.left firm t x after le left, inl refl) }
+synced_goes a b file stays = record { unwritten = λ not. stays.unwritten; held = λ mine. inl (stays.held mine); left = λ firm t x after le left. (x, stays.left firm t x after le left, inl refl) }
 
 pub stays_goes : (a b : Told) (file : FileName) → KeepsFile a b file → StaysOrGoes a b file
 stays_goes a b file stays = synced_goes a b file (at_most a b file stays)
 
 pub goes_both : (a b c : Told) (file : FileName) → KeepsPast a b → KeepsPast b c → custody_of (lending b) file ≡ custody_of (lending a) file → StaysOrGoes a b file → StaysOrGoes b c file → StaysOrGoes a c file
 goes_both a b c file first next same one other = record {
+  unwritten = λ not. other.unwritten not ∙ one.unwritten not;
   held = λ mine. gone_both (a.held file) (b.held file) (c.held file) (one.held mine) (other.held (λ foreign. mine (subst custody.IsForeign same foreign)));
   left = λ firm. left_on a b c file first next (one.left firm) (other.left (λ loose. firm (subst (λ (k : Custody). custody.IsLoose k file) same loose)));
 }
 
 pub each_removed : (one : FileName) (res : Result (Unit {0}) GroundFault) (a b : Told) → Removes one res a b → (file : FileName) → StaysOrGoes a b file
 each_removed one res a b removes file = elim (cases_file file one) [
-  | inl same ↦ subst (StaysOrGoes a b) (sym same.1) (record { held = by res removes; left = removes.left })
+  | inl same ↦ subst (StaysOrGoes a b) (sym same.1) (record { unwritten = λ not. removes.unwritten; held = by res removes; left = removes.left })
   | inr other ↦ stays_goes a b file (removes.only.others file (λ is. no_true (sym other ∙ ap (λ (f : FileName). is_same_file f one) is ∙ file_itself one)))
 ]
   where
@@ -112,6 +113,9 @@ cases_attempt n (Prefix k) = cases_eq k n
 cases_attempt n (Mapping k) = cases_eq k n
 cases_attempt n (Done k) = cases_eq k n
 
+pub files_unwritten : (n : ℕ) (a b : Told) → KeepsFiles a b → (file : FileName) → IsOfAttempt n file → b.writes file ≡ a.writes file
+files_unwritten n a b files file of = files.unwritten file (no_store n file of)
+
 -- ---- over one call
 
 module _ (a b : Told) where
@@ -134,6 +138,7 @@ module _ (a b : Told) where
   pub keeps_custody : KeepsPast a b → ((n : ℕ) → lending b n ≡ lending a n) → ((file : FileName) → ¬ IsOfStore file → StaysOrGoes a b file) → KeepsFiles a b
   keeps_custody goes same each = record {
     goes = goes;
+    unwritten = λ file not. (each file not).unwritten not;
     written = λ file not. written_by file goes (each file not);
     settled = λ kept n pair synced is. still_kept n pair synced kept (same n) is (λ file of. each file (no_store n file of));
   }
@@ -145,12 +150,12 @@ module _ (a b : Told) where
   pub keeps_swept : (these : FileName → Type 0) (left : ℕ) → SweepsFiles these left a b → KeepsFiles a b
   keeps_swept these left sweeps = keeps_custody sweeps.only.goes (λ n. lending_now a b sweeps.only.goes n (sweeps.only.lending n)) (λ file not. sweeps.each file)
 
-  nothing_else : ChangesOnly NoFile a b → KeepsFiles a b
+  pub nothing_else : ChangesOnly NoFile a b → KeepsFiles a b
   nothing_else only = keeps_store NoFile (λ file none. absurd none) only
 
   -- ---- an attempt is lent
 
-  module _ (n : ℕ) (goes : KeepsPast a b) (others : (file : FileName) → ¬ IsOfAttempt n file → KeepsFile a b file) (elsewhere : (m : ℕ) → m ≢ n → KeepsCustody a b m) where
+  module _ (n : ℕ) (goes : KeepsPast a b) (others : (file : FileName) → ¬ IsOfAttempt n file → KeepsFile a b file) (unwritten : (file : FileName) → b.writes file ≡ a.writes file) (elsewhere : (m : ℕ) → m ≢ n → KeepsCustody a b m) where
     -- another than this one
     other_kept : (m : ℕ) (pair : Image) (synced : FileName → Bool) → m ≢ n → KeepsSettled a → lending b m ≡ settled pair synced → IsKeptAs m pair
     other_kept m pair synced differ kept is =
@@ -159,6 +164,7 @@ module _ (a b : Told) where
     is_lent : lending b n ≡ lent → KeepsFiles a b
     is_lent now = record {
       goes = goes;
+      unwritten = λ file not. unwritten file;
       written = λ file not. elim (cases_attempt n file) [
         | inl of ↦
             let theirs : custody_of (lending b) file ≡ lent = of_attempt (lending b) n file of ∙ now in
@@ -175,8 +181,8 @@ module _ (a b : Told) where
     }
 
   pub keeps_lent : (n : ℕ) (res : Result (Unit {0}) GroundFault) → Lends n res a b → KeepsFiles a b
-  keeps_lent n (Ok u) lends = is_lent n lends.goes lends.files lends.others lends.ok
-  keeps_lent n (Err e) lends = elim lends.err [ inl now ↦ is_lent n lends.goes lends.files lends.others now | inr only ↦ nothing_else only ]
+  keeps_lent n (Ok u) lends = is_lent n lends.goes lends.files lends.unwritten lends.others lends.ok
+  keeps_lent n (Err e) lends = elim lends.err [ inl now ↦ is_lent n lends.goes lends.files lends.unwritten lends.others now | inr only ↦ nothing_else only ]
 
   -- ---- an attempt is settled
 
@@ -194,10 +200,11 @@ module _ (a b : Told) where
   keeps_ended n (Err e) settles = nothing_else settles.refused
   keeps_ended n (Ok u) settles = record {
     goes = settles.goes;
+    unwritten = λ file not. (settles.files file).unwritten;
     written = λ file not. written_by file settles.goes (stays_goes a b file (settles.files file));
     settled = λ kept m pair synced is. elim (cases_eq m n) [
       | inl same ↦ subst (λ (k : ℕ). IsKeptAs k pair) (sym same) (ends_kept n u settles kept (lending a n) refl pair synced (subst (λ (k : ℕ). lending b k ≡ settled pair synced) same is))
-      | inr differ ↦ other_kept n settles.goes (λ file apart. settles.files file) settles.others m pair synced differ kept is
+      | inr differ ↦ other_kept n settles.goes (λ file apart. settles.files file) (λ file. (settles.files file).unwritten) settles.others m pair synced differ kept is
     ];
   }
 
@@ -230,6 +237,7 @@ module _ (a b : Told) where
   keeps_synced one (Err e) syncs = nothing_else syncs.refused
   keeps_synced one (Ok u) syncs = record {
     goes = syncs.goes;
+    unwritten = λ file not. (syncs.files file).unwritten;
     written = λ file not. written_by file syncs.goes (synced_goes a b file (syncs.files file));
     settled = λ kept n pair synced is. synced_kept one u syncs kept n (lending a n) refl pair synced is;
   }
@@ -240,6 +248,7 @@ keeps_itself a = nothing_else a a (only_nowhere a NoFile)
 pub keeps_on : (a b c : Told) → KeepsFiles a b → KeepsFiles b c → KeepsFiles a c
 keeps_on a b c first next = record {
   goes = goes_on a b c first.goes next.goes;
+  unwritten = λ file not. next.unwritten file not ∙ first.unwritten file not;
   written = λ file not.
       let one = first.written file not in
       let other = next.written file not in

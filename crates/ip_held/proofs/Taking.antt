@@ -4,7 +4,7 @@
 --     looked_took, looked_grew, looked_still_took, looked_still_grew      a call that only looked.      looked_stays      each record stays
 --     behind_took, behind_grew      a call behind one that only looked
 --     entered_keeps      what a step leaves of the tables.      entered_is      what the store holds behind it
---     may_take      what the durable step asks.      taken_took, cut_took, taken_grew, cut_grew      what taking a step does, and what a fault of the ground leaves
+--     may_take      what the durable step asks.      taken_clear, cut_clear, taken_took, cut_took, taken_grew, cut_grew      what taking a step does, and what a fault of the ground leaves
 use Rattle.std.proofs.Common.{◌≡◌, ℕ, ◌-◌, Bool, true, false, ◌++◌, length, Option, Some, refl, sym, ◌∙◌, ap, subst, arith}
 use Rattle.std.specs.Prelude.{IfSome, Result, Ok, Err}
 use Rattle.ip_ground.specs.declared.names.GroundFault.{GroundFault}
@@ -26,7 +26,8 @@ use Rattle.ip_held.specs.declared.fault.StoreFault.{StoreFault}
 use Rattle.ip_held.specs.declared.held.Held.{Held}
 use Rattle.ip_held.specs.declared.step.Entry.{Entry}
 use Rattle.ip_held.specs.declared.step.Step.{Step}
-use Rattle.ip_held.specs.Changes.{Changes}
+use Rattle.ip_held.specs.Changes.{Changes, HasAnswer}
+use Rattle.ip_held.specs.Clear.{KeepsClear}
 use Rattle.ip_held.specs.Collecting.{Collects, IsPhaseOf}
 use Rattle.ip_held.specs.Fronts.{LeavesFront}
 use Rattle.ip_held.specs.Held.{IsOf, Holds, SameTables, image_records}
@@ -40,7 +41,7 @@ use Rattle.ip_held.proofs.CoreAppends.{answer_seen, is_appended, sees_back, sees
 use Rattle.ip_held.proofs.Listed.{same_records}
 use Rattle.ip_held.proofs.LookedUp.{changes_behind, changes_looked, pending_on, stays_behind}
 use Rattle.ip_held.proofs.StepFronts.{leaves_behind, leaves_looked, leaves_none, leaves_step}
-use Rattle.ip_held.proofs.Stepping.{changed, changes_none, changes_still, cut_short, itself, list_after, may_step, more_made, same_can_step, same_step, stays_made, stays_still, still_list, with_answer, with_fault, with_value}
+use Rattle.ip_held.proofs.Stepping.{changed, changes_none, changes_still, cut_short, itself, list_after, only_changes, may_step, more_made, same_can_step, same_step, stays_made, stays_still, still_list, with_answer, with_fault, with_value}
 
 -- ---- nothing was done
 
@@ -72,6 +73,9 @@ none_grew {A = A} made fault {store = store} {a = a} held res now is same =
 -- a fault of the ground: each record that there was is unknown till the store is opened anew
 pub cut_grew : {A : Type 0} (made : A → Bool) {store : Held} {r : Repository} {a : Told} (held : Holds store a r) (res : Result A StoreFault) (now : Held) (b : Told) → res ≡ Err StoreFault.Ground → Grew made held res now b
 cut_grew {A = A} made held res now b is = subst (λ (res : Result A StoreFault). Grew made held res now b) (sym is) (record { stay = λ has. absurd has; tied = λ q still. tt })
+
+pub cut_clear : (res : Result (Unit {0}) StoreFault) (store now : Held) (a b : Told) → res ≡ Err StoreFault.Ground → HasAnswer res → KeepsClear store now a b
+cut_clear res store now a b is has clear = absurd (subst (λ (res : Result (Unit {0}) StoreFault). HasAnswer res) is has)
 
 module _ {A : Type 0} (made : A → Bool) (x : A) (none : made x ≡ false) {store : Held} {r : Repository} {a : Told} (held : Holds store a r) where
   pub still_took : (more : Records) → Took made held r more (Ok x) store a
@@ -257,6 +261,10 @@ module _ (store : Held) (bytes : Bytes) (step : Step) (may : MayTake store bytes
             is_appended store (entered store step) a b r q held still collection (ap (λ (s : Slot). s.horizon) may.slot) list.0 list.1
             (subst (λ (s : Slot). AreEndToEnd store.slot.end list.0 s.end) (sym may.slot) list.2);
       }
+
+      pub taken_clear : KeepsClear store (entered store step) a b
+      taken_clear = changed_clear store r a b held step.slot (entered store step).unswept (ap (λ (s : Slot). s.first_chunk) may.slot, ap (λ (s : Slot). s.first_attempt) may.slot) (entered_keeps step.entry store).unswept
+          (only_changes r r store may.attempt may.commits bytes of may.room a held b (Ok tt) made)
 
       module _ (after : Repository) (more : Records) (is : IsStep held after more bytes step) where
         list : (B : Standing b.held) → B.records ≡ held.stands.standing.records ++ more

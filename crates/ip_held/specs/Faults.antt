@@ -1,14 +1,14 @@
--- Which faults are the ground's.
-use Rattle.std.specs.Prelude.{Bool, true, false}
+-- As what faults are counted.
+use Rattle.ip_ground.specs.Counts.{Counted, as_nothing, as_fault, as_damage}
 use Rattle.ip_held.specs.declared.fault.StoreFault.{StoreFault}
 use Rattle.ip_held.specs.declared.fault.StoreFault.TheVariants as store
 
-abbrev pub ground_store : StoreFault → Bool
-ground_store store.Ground = true
-ground_store (store.HeadMoved name) = false
-ground_store (store.Existing name) = false
-ground_store (store.Limit limit) = false
-ground_store (store.Damaged at names) = false
-ground_store store.Memory = false
-ground_store (store.GivenUp number) = false
-ground_store (store.Leaving number) = false
+abbrev pub counted_store : StoreFault → Counted
+counted_store store.Ground = as_fault
+counted_store (store.HeadMoved name) = as_nothing
+counted_store (store.Existing name) = as_nothing
+counted_store (store.Limit limit) = as_nothing
+counted_store (store.Damaged at names) = as_damage
+counted_store store.Memory = as_nothing
+counted_store (store.GivenUp number) = as_nothing
+counted_store (store.Leaving number) = as_nothing

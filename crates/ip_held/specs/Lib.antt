@@ -19,3 +19,4 @@ pub mod TieAppends
 pub mod Trees
 pub mod Views
 pub mod Work
+pub mod Staying

@@ -49,8 +49,9 @@ AllBut these left old new = left < 2 ^ 64 - 1 → (those : List FileName) × (le
 abbrev pub IsSameOrGone : Content → Content → Type 0
 IsSameOrGone before content = (content ≡ before) ⊎ (content ≡ None)
 
--- By what a read gives and by what a crash may leave, as far as no child changes it.
+-- By what a read gives and by what a crash may leave, as far as no child changes it. No write is asked for of a file that is not the store's.
 pub record StaysOrGoes (old new : Told) (file : FileName) : Type 0 where
+  pub unwritten : ¬ IsOfStore file → new.writes file ≡ old.writes file
   pub held : ¬ IsForeign old file → IsSameOrGone (old.held file) (new.held file)
   pub left : ¬ IsLoose old file → ChangesLeft IsSameOrGone old new file
 
@@ -68,10 +69,11 @@ IsApart s (Prefix n) = n ≢ s.live
 IsApart s (Mapping n) = n ≢ s.live
 IsApart s (Done n) = Unit {0}
 
--- Nothing is said. The attempt's files are whoever's they are.
+-- Nothing is said. The attempt's files are whoever's they are, and no write of them is asked for.
 pub record ChangesBeside (attempt : ℕ) (these : FileName → Type 0) (old new : Told) : Type 0 where
   pub goes : KeepsPast old new
   pub others : (file : FileName) → ¬ these file → ¬ IsOfAttempt attempt file → KeepsFile old new file
+  pub unwritten : (file : FileName) → IsOfAttempt attempt file → new.writes file ≡ old.writes file
   pub lending : (other : ℕ) → other ≢ attempt → KeepsCustody old new other
   pub said : KeepsSaid old new
 
@@ -79,6 +81,7 @@ pub record ChangesBeside (attempt : ℕ) (these : FileName → Type 0) (old new 
 pub record ChangesFor (attempt : ℕ) (these : FileName → Type 0) (old new : Told) : Type 0 where
   pub goes : KeepsPast old new
   pub others : (file : FileName) → ¬ these file → ¬ IsOfAttempt attempt file → KeepsFile old new file
+  pub unwritten : (file : FileName) → IsOfAttempt attempt file → new.writes file ≡ old.writes file
   pub turns : TurnsCustody old new attempt
   pub lending : (other : ℕ) → other ≢ attempt → KeepsCustody old new other
   pub said : KeepsSaid old new
@@ -115,8 +118,9 @@ pub record NeverWritten (old new : Told) (file : FileName) : Type 0 where
 abbrev pub KeepsSettled : Told → Type 0
 KeepsSettled told = (attempt : ℕ) (pair : Image) (synced : FileName → Bool) → lending told attempt ≡ settled pair synced → (file : FileName) → IsOfAttempt attempt file → IsSameOrGone (pair file) (told.held file)
 
--- No file of an attempt is written by anyone but its child. Once that has ended it is what it was then, or gone.
+-- No file of an attempt is written by anyone but its child: no write of it is asked for, whoever it is lent to. Once that has ended it is what it was then, or gone.
 pub record KeepsFiles (old new : Told) : Type 0 where
   pub goes : KeepsPast old new
+  pub unwritten : (file : FileName) → ¬ IsOfStore file → new.writes file ≡ old.writes file
   pub written : (file : FileName) → ¬ IsOfStore file → NeverWritten old new file
   pub settled : KeepsSettled old → KeepsSettled new

@@ -4,9 +4,10 @@ ghost use Rattle.std.specs.Prelude.{◌≡◌, ◌+◌, ◌++◌, [], ◌∷◌,
 ghost use Rattle.ip_base.specs.declared.limit.TheConstants.{OFFSET_MAX};
 ghost use Rattle.ip_ground.specs.Counts.{Counts};
 ghost use Rattle.ip_held.specs.Answers.{IsCut};
-ghost use Rattle.ip_held.specs.Changes.{IsNextSlot, KeepsNumbers};
+ghost use Rattle.ip_held.specs.Changes.{HasAnswer, IsNextSlot, KeepsNumbers};
+ghost use Rattle.ip_held.specs.Clear.{KeepsClear};
 ghost use Rattle.ip_held.specs.Collecting.{carried};
-ghost use Rattle.ip_held.specs.Faults.{ground_store};
+ghost use Rattle.ip_held.specs.Faults.{counted_store};
 ghost use Rattle.ip_held.specs.Held.{IsOf, Holds};
 ghost use Rattle.ip_held.specs.Step.{Grew, IsStep, MayEnter, MayTake, Took, entered, entered_tables};
 ghost use Rattle.ip_held.specs.declared.fault.StoreFault.TheVariants as StoreFault;
@@ -202,7 +203,9 @@ impl Held {
         // Whichever repository the step leads to: this is all that is told of what a crash leaves.
         ensures took { IsTrue G.tells → (r after : Repository) (more : Records) (held : Holds self.old (G.told outside.old) r) → IsStep held after more bytes.now step →
             Took (λ done. true) held after more result self.new (G.told outside.new) }
-        ensures counts { Counts ground_store result (G.counts_of outside.old) (G.counts_of outside.new) }
+        // What was cleared away stays so, whichever repository the step leads to.
+        ensures clear { IsTrue G.tells → HasAnswer result → (r : Repository) → Holds self.old (G.told outside.old) r → KeepsClear self.old self.new (G.told outside.old) (G.told outside.new) }
+        ensures counts { Counts counted_store result (G.counts_of outside.old) (G.counts_of outside.new) }
     {
         let Step { slot, entry } = step;
         self.enter(alloc, entry)?;

@@ -1,5 +1,6 @@
 pub mod ClearOpens
 pub mod MadeStores
+pub mod Noting
 pub mod OpenedImages
 pub mod OpenedStores
 pub mod RecordSteps

@@ -26,7 +26,7 @@ use Rattle.ip_image.specs.declared.slot.Slot.{Slot}
 use Rattle.ip_image.specs.Slot.{IsSlot, IsLive, live_index, layout_of}
 use Rattle.ip_image.specs.declared.run.Row.{Row}
 use Rattle.ip_image.specs.Virtual.{run_of}
-use Rattle.ip_image.specs.Standing.{RunByRun, AreRetained, Generation, WholeFits, DamagedAt, commits_in}
+use Rattle.ip_image.specs.Standing.{RunByRun, AreRetained, Generation, WholeFits, DamagedAt, NoStore, commits_in}
 use Rattle.ip_image.specs.Pending.{HasLive, NothingPending}
 use Rattle.ip_image.proofs.HeadlineLaws.{pending_synced}
 use Rattle.ip_control.specs.declared.fault.ControlFault.{ControlFault}
@@ -228,6 +228,7 @@ opens_none fault (Err other) a b is slot = record {
   only = slot.only;
   no_store = λ none. subst (λ (f : OpenFault). FoundIn b.held (Err f)) (sym is.1 ∙ same_fault other OpenFault.NoStore none) slot.finds;
   damaged = λ owns file at damaged. subst (λ (f : OpenFault). FoundIn b.held (Err f)) (sym is.1 ∙ same_fault other (OpenFault.Damaged file at) damaged) slot.finds;
+  memory = λ memory. absurd (subst (λ (f : OpenFault). FoundIn b.held (Err f)) (sym is.1 ∙ same_fault other OpenFault.Memory memory) slot.finds);
   holds = λ owns. tt;
   opening = record {
     since = slot.since;
@@ -280,12 +281,19 @@ module _ (index : ℕ) (s : Slot) (below : index < 2) (is : IsSlot s) (a b : Tol
         let pair = owns s (record { control = has.control; index = has.index; held = sym ((only_now.files Control).held (λ x. x)) ∙ has.held; live = has.live }) live in
         record { mapping = (only_now.files (Mapping s.live)).own pair.mapping; prefix = (only_now.files (Prefix s.live)).own pair.prefix }
 
+    some_store : ¬ NoStore c.held
+    some_store none =
+        let has : HasLive s c.held = has_live c.held index s live_now in
+        let shut : live_index has.control ≡ None = subst (λ (content : Content). IfSome content (λ control. live_index control ≡ None)) has.held none in
+        absurd (cc (shut, has.live.index))
+
     -- an answer without a store
     opens_without : (fault : OpenFault) → (fault ≡ OpenFault.NoStore → ⊥) → (OwnsLive a → (file : FileName) (at : ℕ) → fault ≡ OpenFault.Damaged file at → DamagedAt c.held file at) → Opens (Err fault) a c
     opens_without fault there damaged = record {
       only = only_now;
       no_store = λ none. absurd (there (same_fault fault OpenFault.NoStore none));
       damaged = λ owns file at is. damaged owns file at (same_fault fault (OpenFault.Damaged file at) is);
+      memory = λ memory. some_store;
       holds = λ owns. tt;
       opening = opening_now;
       reached = λ answered some. reached_now some;
@@ -333,6 +341,7 @@ module _ (index : ℕ) (s : Slot) (below : index < 2) (is : IsSlot s) (a b : Tol
       only = only_now c reads;
       no_store = λ none. absurd (cc (none));
       damaged = λ owns file at damaged. absurd (cc (damaged));
+      memory = λ memory. absurd (cc (memory));
       holds = λ owns. (
         repository_of s covers.records covers.true_of.good,
         holds_of index s is below found store covers.records covers.true_of (within_slot s space covers.records of covers.within) finished c (live_now c reads) (finds (owned owns)).0 (generation_now owns) space of (finds (owned owns)).2

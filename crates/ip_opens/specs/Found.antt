@@ -24,13 +24,13 @@ use Rattle.ip_tables.specs.Histories.{history_in}
 use Rattle.ip_held.specs.Placed.{places_in, IsSpaceOf}
 use Rattle.ip_opens.specs.Walk.{Tells}
 
--- a fault of the ground apart, the slot that is live, or why there is none
+-- a fault of the ground apart, the slot that is live, or why there is none: it takes no memory
 abbrev pub FoundIn : Image → Result (ℕ × Slot) OpenFault → Type 0
 FoundIn image (Ok live) = IsLive (control_in image) live.0 live.1
 FoundIn image (Err OpenFault.NoStore) = NoStore image
 FoundIn image (Err (OpenFault.Damaged file at)) = DamagedAt image file at
 FoundIn image (Err OpenFault.Ground) = Unit {0}
-FoundIn image (Err OpenFault.Memory) = Unit {0}
+FoundIn image (Err OpenFault.Memory) = ⊥
 
 -- every answer but a fault of the ground comes after the sync
 abbrev pub IsReached : {A : Type 0} → Result A OpenFault → Type 0

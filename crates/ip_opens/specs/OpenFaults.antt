@@ -1,16 +1,16 @@
--- Which faults of making and of opening a store are the ground's.
-use Rattle.std.specs.Prelude.{Bool, true, false}
+-- As what faults of making and of opening a store are counted.
+use Rattle.ip_ground.specs.Counts.{Counted, as_nothing, as_fault, as_damage}
 use Rattle.ip_opens.specs.declared.making.InitFault.{InitFault}
 use Rattle.ip_opens.specs.declared.making.InitFault.TheVariants as init
 use Rattle.ip_opens.specs.declared.opening.OpenFault.{OpenFault}
 use Rattle.ip_opens.specs.declared.opening.OpenFault.TheVariants as opening
 
-abbrev pub ground_init : InitFault → Bool
-ground_init init.Ground = true
-ground_init init.Existing = false
+abbrev pub counted_init : InitFault → Counted
+counted_init init.Ground = as_fault
+counted_init init.Existing = as_nothing
 
-abbrev pub ground_open : OpenFault → Bool
-ground_open opening.Ground = true
-ground_open opening.NoStore = false
-ground_open (opening.Damaged file at) = false
-ground_open opening.Memory = false
+abbrev pub counted_open : OpenFault → Counted
+counted_open opening.Ground = as_fault
+counted_open opening.NoStore = as_nothing
+counted_open (opening.Damaged file at) = as_damage
+counted_open opening.Memory = as_nothing

@@ -46,6 +46,8 @@ pub record Opens (result : Result Held OpenFault) (old new : Told) : Type 0 wher
   pub no_store : IsErrOf result OpenFault.NoStore → NoStore new.held
   -- where no child changes the live pair
   pub damaged : OwnsLive old → (file : FileName) (at : ℕ) → IsErrOf result (OpenFault.Damaged file at) → DamagedAt new.held file at
+  -- want of memory comes only where some slot is live
+  pub memory : IsErrOf result OpenFault.Memory → ¬ NoStore new.held
   pub holds : OwnsLive old → IfOk result (λ store. IsSound store new)
   -- every answer but a fault of the ground comes after the sync, where there is a control file
   pub opening : RecoversOnceOpen old new

@@ -1,7 +1,7 @@
 -- What is found while a store's records are read, stretch by stretch, and in each one behind the other.
 --     MayStand s at r      by its kind a record may stand at the offset
 --     Tells s found before      what was found is true of these records, and they are good
---     TakesOne      what taking a record does
+--     IsPassed, IsRefused s at r found      behind what was found the record is good, or is none.      TakesOne      what taking a record does
 --     IsPlaced space at fault      the fault shows the place where the offset lies.      IsUnread      why none was read.      TakesRead      what taking one that was read does
 --     Filled s tells told space number found      records of which it was found fill so many stretches
 --     Walks s tells told space walk found      they do, and those behind them stand up to where the walk is in its stretch
@@ -54,10 +54,14 @@ TellsSome at found = (s : Slot) × (before : Records) × IsSlot s × Tells s fou
 abbrev pub IsRefused : Slot → ℕ → Record → Found → Type 0
 IsRefused s at r found = (before : Records) → Tells s found before → IsBeyond at before → ¬ IsGood s before (at, r)
 
+-- behind what was found it is good: want of memory hides no fault of a record
+abbrev pub IsPassed : Slot → ℕ → Record → Found → Type 0
+IsPassed s at r found = (before : Records) → Tells s found before → IsBeyond at before → IsGood s before (at, r)
+
 abbrev pub TakesOne : ℕ → Record → Found → Found → Result (Unit {0}) AuditFault → Type 0
 TakesOne at r old new (Ok u) = (s : Slot) (before : Records) → IsSlot s → Fits s.version r → MayStand s at r → Tells s old before → IsBeyond at before → IsGood s before (at, r) × Tells s new (before ++ (at, r) ∷ [])
 TakesOne at r old new (Err AuditFault.Fails) = (s : Slot) → IsSlot s → IsRefused s at r old
-TakesOne at r old new (Err AuditFault.Memory) = Unit {0}
+TakesOne at r old new (Err AuditFault.Memory) = (s : Slot) → IsSlot s → Fits s.version r → MayStand s at r → IsPassed s at r old
 
 -- it shows the place where this offset lies
 abbrev pub IsPlaced : SpaceView → ℕ → OpenFault → Type 0
@@ -77,7 +81,7 @@ TakesRead s space at r old new (Ok u) = (before : Records) → Tells s old befor
 TakesRead s space at r old new (Err (OpenFault.Damaged file place)) = IsPlaced space at (OpenFault.Damaged file place) × IsRefused s at r old
 TakesRead s space at r old new (Err OpenFault.NoStore) = ⊥
 TakesRead s space at r old new (Err OpenFault.Ground) = ⊥
-TakesRead s space at r old new (Err OpenFault.Memory) = Unit {0}
+TakesRead s space at r old new (Err OpenFault.Memory) = IsPassed s at r old
 
 pub record Filled (s : Slot) (tells : Bool) (told : Told) (space : SpaceView) (number : ℕ) (found : Found) : Type 0 where
   pub records : Records

@@ -2,7 +2,7 @@
 ghost use Rattle.std.specs.Prelude.{◌≡◌, IsTrue, is_some, length, ◌+◌, ◌≤◌, nat_le, ◌&&◌, ◌==◌, slice_index};
 ghost use Rattle.ip_ground.specs.Counts.{Counts};
 ghost use Rattle.ip_image.specs.Slot.{IsChunkSize, live_index, fresh_control};
-ghost use Rattle.ip_opens.specs.OpenFaults.{ground_init};
+ghost use Rattle.ip_opens.specs.OpenFaults.{counted_init};
 ghost use Rattle.ip_opens.specs.Opening.{Makes};
 
 use ip_control::GATE_OPEN;
@@ -31,7 +31,7 @@ impl From<GroundFault> for InitFault {
 pub fn init<G: Ground>(outside: &mut G, chunk: u64) -> Result<(), InitFault>
     requires { IsChunkSize chunk }
     ensures does { IsTrue G.tells → Makes chunk result (G.told outside.old) (G.told outside.new) }
-    ensures counts { Counts ground_init result (G.counts_of outside.old) (G.counts_of outside.new) }
+    ensures counts { Counts counted_init result (G.counts_of outside.old) (G.counts_of outside.new) }
 {
     let mut room = [0; 256];
     let count = outside.read(FileName::Control, 0, &mut room)?;

@@ -1,6 +1,6 @@
 // Opening a store: its control file is read, and then each of its records, once.
 ghost use Rattle.std.specs.Prelude.{◌≡◌, ◌↔◌, ◌+◌, ◌*◌, ◌<◌, length, None, IsTrue, IfOk, IsErrOf};
-ghost use Rattle.ip_opens.specs.OpenFaults.{ground_open};
+ghost use Rattle.ip_opens.specs.OpenFaults.{counted_open};
 ghost use Rattle.ip_ground.specs.Counts.{Counts};
 ghost use Rattle.ip_spec.specs.Repository.{Repository};
 ghost use Rattle.ip_image.specs.Slot.{IsSlot, layout_of};
@@ -68,19 +68,25 @@ pub fn open_at<G: Ground>(alloc: Global, outside: &mut G) -> Result<Held, OpenFa
     ensures idle { IfOk result (λ store. store.collection ≡ None) }
     ensures unswept { IfOk result (λ store. store.unswept ≡ unswept_in store.slot) }
     ensures does { IsTrue G.tells → Opens result (G.told outside.old) (G.told outside.new) }
-    ensures counts { Counts ground_open result (G.counts_of outside.old) (G.counts_of outside.new) }
+    ensures counts { Counts counted_open result (G.counts_of outside.old) (G.counts_of outside.new) }
 {
     let (index, slot) = find_slot(outside)?;
     let space = space_of(alloc, outside, &slot)?;
     let found = read_records(alloc, outside, &slot, &space)?;
-    finish(index, slot, found, space)
+    match finish(index, slot, found, space) {
+        Ok(store) => Ok(store),
+        Err(fault) => {
+            outside.note_damage();
+            Err(fault)
+        }
+    }
 }
 
 // The live slot, and which one it is. From the sync on, what is read of the control file is what a crash leaves.
 fn find_slot<G: Ground>(outside: &mut G) -> Result<(u8, Slot), OpenFault>
     ensures order { IfOk result (λ live. (live.0 < 2) × IsSlot live.1) }
     ensures does { IsTrue G.tells → FindsSlot result (G.told outside.old) (G.told outside.new) }
-    ensures counts { Counts ground_open result (G.counts_of outside.old) (G.counts_of outside.new) }
+    ensures counts { Counts counted_open result (G.counts_of outside.old) (G.counts_of outside.new) }
 {
     if outside.length(FileName::Control)?.is_none() {
         return Err(OpenFault::NoStore);
@@ -89,7 +95,10 @@ fn find_slot<G: Ground>(outside: &mut G) -> Result<(u8, Slot), OpenFault>
     match read_live(outside) {
         Ok(Some(live)) => Ok(live),
         Ok(None) => Err(OpenFault::NoStore),
-        Err(ControlFault::Form(index)) => Err(slot_damaged(index)),
+        Err(ControlFault::Form(index)) => {
+            outside.note_damage();
+            Err(slot_damaged(index))
+        }
         Err(ControlFault::Ground) => Err(OpenFault::Ground),
     }
 }
@@ -112,7 +121,7 @@ fn space_of<G: Ground>(alloc: Global, outside: &mut G, slot: &Slot) -> Result<Sp
     ensures readable { IsTrue G.tells → OwnsPair (G.told outside.old) slot.now → IfOk result (λ space. IsReadable (G.told outside.new) space) }
     ensures there { IsErrOf result OpenFault.NoStore → ⊥ }
     ensures only { IsTrue G.tells → ChangesOnly NoFile (G.told outside.old) (G.told outside.new) }
-    ensures counts { Counts ground_open result (G.counts_of outside.old) (G.counts_of outside.new) }
+    ensures counts { Counts counted_open result (G.counts_of outside.old) (G.counts_of outside.new) }
 {
     match Space::of(alloc, outside, layout_of(slot)) {
         Ok(space) => Ok(space),

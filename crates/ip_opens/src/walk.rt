@@ -1,7 +1,7 @@
 // The walk over a store's records: each is read once, in the order of the offsets, and tested behind those before it.
-ghost use Rattle.std.specs.Prelude.{◌≡◌, ◌↔◌, ℕ, [], ◌∷◌, ◌++◌, ◌+◌, ◌^◌, ◌<◌, ◌≤◌, length, map, Option, Err, IsSome, IsTrue, IsFalse, IfOk, OnOk, OnErr, IsErrOf};
-ghost use Rattle.ip_opens.specs.OpenFaults.{ground_open};
-ghost use Rattle.ip_ground.specs.Counts.{Counts};
+ghost use Rattle.std.specs.Prelude.{◌≡◌, ◌≢◌, ◌↔◌, ℕ, [], ◌∷◌, ◌++◌, ◌+◌, ◌^◌, ◌<◌, ◌≤◌, length, map, Option, Err, IsSome, IsTrue, IsFalse, IfOk, OnOk, OnErr, IsErrOf};
+ghost use Rattle.ip_opens.specs.OpenFaults.{counted_open};
+ghost use Rattle.ip_ground.specs.Counts.{Counts, CountsIf};
 ghost use Rattle.ip_ground.specs.Told.{NoFile, ChangesOnly};
 ghost use Rattle.ip_spec.specs.Record.{Names, Fits};
 ghost use Rattle.ip_spec.specs.declared.record.Record.{Record};
@@ -205,6 +205,24 @@ fn take_read(
     }
 }
 
+// The fault that taking a record gave; that it found damage is noted.
+fn noted<G: Ground>(outside: &mut G, fault: OpenFault) -> OpenFault
+    requires { fault ≢ OpenFault.Ground }
+    ensures same { result ≡ fault }
+    ensures only { IsTrue G.tells → ChangesOnly NoFile (G.told outside.old) (G.told outside.new) }
+    ensures counts { CountsIf (counted_open fault) (G.counts_of outside.old) (G.counts_of outside.new) }
+{
+    match fault {
+        OpenFault::NoStore => fault,
+        OpenFault::Damaged { .. } => {
+            outside.note_damage();
+            fault
+        }
+        OpenFault::Ground => fault,
+        OpenFault::Memory => fault,
+    }
+}
+
 /// The walk through one stretch of the space.
 #[derive(Drop)]
 struct Walk {
@@ -233,17 +251,18 @@ fn take_next<G: Ground>(
         BadRecord slot.now (G.told outside.new) space.now file at }
     ensures there { IsErrOf result OpenFault.NoStore → ⊥ }
     ensures only { IsTrue G.tells → ChangesOnly NoFile (G.told outside.old) (G.told outside.new) }
-    ensures counts { Counts ground_open result (G.counts_of outside.old) (G.counts_of outside.new) }
+    ensures counts { Counts counted_open result (G.counts_of outside.old) (G.counts_of outside.new) }
 {
     match walk.scan.step(outside, space) {
         Ok(None) => Ok(false),
         Ok(Some((at, rec))) => {
             if walk.scan.next() > walk.stretch.at + walk.stretch.length {
+                outside.note_damage();
                 return Err(damaged_at(space, at));
             }
             match take_read(alloc, slot, space, at, rec, found) {
                 Ok(()) => Ok(true),
-                Err(fault) => Err(fault),
+                Err(fault) => Err(noted(outside, fault)),
             }
         }
         Err(fault) => Err(unread(space, fault)),
@@ -269,7 +288,7 @@ fn read_stretch<G: Ground>(
         BadRecord slot.now (G.told outside.new) space.now file at }
     ensures there { IsErrOf result OpenFault.NoStore → ⊥ }
     ensures only { IsTrue G.tells → ChangesOnly NoFile (G.told outside.old) (G.told outside.new) }
-    ensures counts { Counts ground_open result (G.counts_of outside.old) (G.counts_of outside.new) }
+    ensures counts { Counts counted_open result (G.counts_of outside.old) (G.counts_of outside.new) }
 {
     let Some(stretch) = space.stretch_at(number) else {
         return Ok(false);
@@ -297,7 +316,7 @@ pub fn read_records<G: Ground>(
         BadRecord slot.now (G.told outside.new) space.now file at }
     ensures there { IsErrOf result OpenFault.NoStore → ⊥ }
     ensures only { IsTrue G.tells → ChangesOnly NoFile (G.told outside.old) (G.told outside.new) }
-    ensures counts { Counts ground_open result (G.counts_of outside.old) (G.counts_of outside.new) }
+    ensures counts { Counts counted_open result (G.counts_of outside.old) (G.counts_of outside.new) }
 {
     let mut found = Found::new(alloc, slot);
     let mut number = 0;

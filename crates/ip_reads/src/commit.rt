@@ -1,7 +1,7 @@
 // What the store tells of one commit: its record is fetched from where it lies.
 ghost use Rattle.std.specs.Prelude.{◌≡◌, map, IsTrue, IfErr, IfOk};
 ghost use Rattle.ip_held.specs.Causes.{IsStoreCause};
-ghost use Rattle.ip_held.specs.Faults.{ground_store};
+ghost use Rattle.ip_held.specs.Faults.{counted_store};
 ghost use Rattle.ip_ground.specs.Counts.{Counts};
 ghost use Rattle.ip_spec.specs.declared.kind.TheConstants as kinds;
 ghost use Rattle.ip_spec.specs.declared.record.Parent.{Parent};
@@ -62,7 +62,7 @@ pub fn show<G: Ground>(
     ensures damages { IsTrue G.tells → IsReadable (G.told outside.old) store.old.space → Damages (records_of (G.told outside.old) store.old.space) result }
     ensures same { SameTables store.old store.new }
     ensures looks { IsTrue G.tells → OnlyLooks (G.told outside.old) (G.told outside.new) store.old store.new }
-    ensures counts { Counts ground_store result (G.counts_of outside.old) (G.counts_of outside.new) }
+    ensures counts { Counts counted_store result (G.counts_of outside.old) (G.counts_of outside.new) }
 {
     let name = store.retained_name(number);
     let commit = match commit_record(store, outside, number) {
@@ -86,7 +86,7 @@ pub fn root_of<G: Ground>(
     ensures same { SameTables store.old store.new }
     ensures reads { IsTrue G.tells → OnlyReads (G.told outside.old) (G.told outside.new) store.old.space store.new.space }
     ensures holds { IsTrue G.tells → (r : Repository) → Holds store.old (G.told outside.old) r → Holds store.new (G.told outside.new) r }
-    ensures counts { Counts ground_store result (G.counts_of outside.old) (G.counts_of outside.new) }
+    ensures counts { Counts counted_store result (G.counts_of outside.old) (G.counts_of outside.new) }
     ensures causes { IfErr result (IsStoreCause G.tells (G.told outside.old) store.old.space) }
 {
     match commit_record(store, outside, number) {
@@ -113,7 +113,7 @@ fn commit_record<G: Ground>(
     ensures same { SameTables store.old store.new }
     ensures reads { IsTrue G.tells → OnlyReads (G.told outside.old) (G.told outside.new) store.old.space store.new.space }
     ensures holds { IsTrue G.tells → (r : Repository) → Holds store.old (G.told outside.old) r → Holds store.new (G.told outside.new) r }
-    ensures counts { Counts ground_store result (G.counts_of outside.old) (G.counts_of outside.new) }
+    ensures counts { Counts counted_store result (G.counts_of outside.old) (G.counts_of outside.new) }
     ensures causes { IfErr result (IsStoreCause G.tells (G.told outside.old) store.old.space) }
 {
     let reference = reference_to(store, number);

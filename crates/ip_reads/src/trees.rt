@@ -1,15 +1,15 @@
 // Trees over a store's records.
 ghost use Rattle.std.specs.Prelude.{◌≡◌, IfErr, IsTrue, MatchResult};
 ghost use Rattle.ip_held.specs.Causes.{IsStoreCause};
-ghost use Rattle.ip_held.specs.Faults.{ground_store};
-ghost use Rattle.ip_tree.specs.Faults.{ground_tree};
+ghost use Rattle.ip_held.specs.Faults.{counted_store};
+ghost use Rattle.ip_tree.specs.Faults.{counted_tree};
 ghost use Rattle.ip_ground.specs.Counts.{Counts};
 ghost use Rattle.ip_space.specs.SpaceView.{IsReadable, records_of};
 ghost use Rattle.ip_spec.specs.Path.{IsPath};
 ghost use Rattle.ip_spec.specs.Repository.{Repository, is_retained, name_at};
 ghost use Rattle.ip_spec.specs.Tree.{got_at, listed_at};
 ghost use Rattle.ip_spec.specs.View.{View};
-ghost use Rattle.ip_tree.specs.Reads.{IsFree};
+ghost use Rattle.ip_tree.specs.Reads.{IsCause, IsFree};
 ghost use Rattle.ip_tree.specs.TreeView.{IsView, Sets, Removes, Grafts};
 ghost use Rattle.ip_tree.specs.declared.tree.TreeFault.TheVariants as TreeFault;
 ghost use Rattle.ip_held.specs.Showing.{IsFetchedOr, BlamesCommit, Damages};
@@ -38,7 +38,8 @@ pub fn get<G: Ground>(
         → MatchResult result (λ got. got ≡ got_at v.map path.now) IsFree }
     ensures same { SameTables store.old store.new }
     ensures looks { IsTrue G.tells → OnlyLooks (G.told outside.old) (G.told outside.new) store.old store.new }
-    ensures counts { Counts ground_tree result (G.counts_of outside.old) (G.counts_of outside.new) }
+    ensures counts { Counts counted_tree result (G.counts_of outside.old) (G.counts_of outside.new) }
+    ensures causes { IfErr result (IsCause G.tells (G.told outside.old) store.old.space) }
 {
     tree.get(alloc, outside, &mut store.space, path)
 }
@@ -55,7 +56,8 @@ pub fn list<G: Ground>(
         → MatchResult result (λ listed. listed ≡ listed_at v.map path.now) IsFree }
     ensures same { SameTables store.old store.new }
     ensures looks { IsTrue G.tells → OnlyLooks (G.told outside.old) (G.told outside.new) store.old store.new }
-    ensures counts { Counts ground_tree result (G.counts_of outside.old) (G.counts_of outside.new) }
+    ensures counts { Counts counted_tree result (G.counts_of outside.old) (G.counts_of outside.new) }
+    ensures causes { IfErr result (IsCause G.tells (G.told outside.old) store.old.space) }
 {
     tree.list(alloc, outside, &mut store.space, path)
 }
@@ -75,7 +77,8 @@ pub fn set<G: Ground>(
         → Sets (image_records held) path.now value.now tree.new v result }
     ensures same { SameTables store.old store.new }
     ensures looks { IsTrue G.tells → OnlyLooks (G.told outside.old) (G.told outside.new) store.old store.new }
-    ensures counts { Counts ground_tree result (G.counts_of outside.old) (G.counts_of outside.new) }
+    ensures counts { Counts counted_tree result (G.counts_of outside.old) (G.counts_of outside.new) }
+    ensures causes { IfErr result (IsCause G.tells (G.told outside.old) store.old.space) }
 {
     tree.set(alloc, outside, &mut store.space, path, value)
 }
@@ -94,7 +97,8 @@ pub fn remove<G: Ground>(
         → Removes (image_records held) path.now tree.new v result }
     ensures same { SameTables store.old store.new }
     ensures looks { IsTrue G.tells → OnlyLooks (G.told outside.old) (G.told outside.new) store.old store.new }
-    ensures counts { Counts ground_tree result (G.counts_of outside.old) (G.counts_of outside.new) }
+    ensures counts { Counts counted_tree result (G.counts_of outside.old) (G.counts_of outside.new) }
+    ensures causes { IfErr result (IsCause G.tells (G.told outside.old) store.old.space) }
 {
     tree.remove(alloc, outside, &mut store.space, path)
 }
@@ -115,7 +119,8 @@ pub fn graft<G: Ground>(
         → Grafts (image_records held) from.now to.now tree.new v w result }
     ensures same { SameTables store.old store.new }
     ensures looks { IsTrue G.tells → OnlyLooks (G.told outside.old) (G.told outside.new) store.old store.new }
-    ensures counts { Counts ground_tree result (G.counts_of outside.old) (G.counts_of outside.new) }
+    ensures counts { Counts counted_tree result (G.counts_of outside.old) (G.counts_of outside.new) }
+    ensures causes { IfErr result (IsCause G.tells (G.told outside.old) store.old.space) }
 {
     tree.graft(alloc, outside, &mut store.space, source, from, to)
 }
@@ -133,7 +138,7 @@ pub fn tree_of<G: Ground>(
     ensures damages { IsTrue G.tells → IsReadable (G.told outside.old) store.old.space → Damages (records_of (G.told outside.old) store.old.space) result }
     ensures same { SameTables store.old store.new }
     ensures looks { IsTrue G.tells → OnlyLooks (G.told outside.old) (G.told outside.new) store.old store.new }
-    ensures counts { Counts ground_store result (G.counts_of outside.old) (G.counts_of outside.new) }
+    ensures counts { Counts counted_store result (G.counts_of outside.old) (G.counts_of outside.new) }
     ensures causes { IfErr result (IsStoreCause G.tells (G.told outside.old) store.old.space) }
 {
     match root_of(store, outside, number) {

@@ -1,5 +1,5 @@
 // The store: what it holds, what the last call has met that may change it, and all of its calls.
-ghost use Rattle.std.specs.Prelude.{◌≡◌, IsTrue, IfOk, slice_get, map, option_map, MatchOption, None, Some, IfErr, reverse, MatchResult, false, Ok, ◌+◌, Option, true, IsErrOf, ◌⊎◌, ◌++◌, OnOk, is_err, IsSome, is_some, not};
+ghost use Rattle.std.specs.Prelude.{◌≡◌, IsTrue, IfOk, slice_get, map, option_map, MatchOption, None, Some, IfErr, IsErr, reverse, MatchResult, false, Ok, ◌+◌, Option, true, IsErrOf, ◌⊎◌, ◌++◌, OnOk, is_err, IsSome, is_some, not};
 ghost use Rattle.ip_spec.specs.Map.{len};
 ghost use Rattle.ip_spec.specs.Repository.{Repository, next, head, number_named, commit_at, is_retained, name_at};
 ghost use Rattle.ip_spec.specs.Machine.{phase_told};
@@ -7,7 +7,7 @@ ghost use Rattle.ip_spec.specs.Step.{below, head_of};
 ghost use Rattle.ip_held.specs.Collecting.{phase_of, child_of};
 ghost use Rattle.ip_held.specs.Held.{IsOf, place_of_commit, Holds, SameTables, image_records};
 ghost use Rattle.ip_held.specs.Causes.{IsStoreCause};
-ghost use Rattle.ip_held.specs.Faults.{ground_store};
+ghost use Rattle.ip_held.specs.Faults.{counted_store};
 ghost use Rattle.ip_ground.specs.Counts.{Counts};
 ghost use Rattle.ip_spec.specs.Record.{IsBranchName, IsInfo};
 ghost use Rattle.ip_space.specs.SpaceView.{IsReadable, records_of};
@@ -15,11 +15,11 @@ ghost use Rattle.ip_held.specs.Showing.{IsFetchedOr, BlamesCommit, Damages};
 ghost use Rattle.ip_reads.specs.Shown.{IsShown};
 ghost use Rattle.ip_held.specs.Trees.{OnlyLooks, IsTreeOf};
 ghost use Rattle.ip_spec.specs.History.{ancestors, lcas};
-ghost use Rattle.ip_tree.specs.Faults.{ground_tree};
+ghost use Rattle.ip_tree.specs.Faults.{counted_tree};
 ghost use Rattle.ip_spec.specs.Path.{IsPath};
 ghost use Rattle.ip_spec.specs.Tree.{got_at, listed_at};
 ghost use Rattle.ip_spec.specs.View.{View};
-ghost use Rattle.ip_tree.specs.Reads.{IsFree};
+ghost use Rattle.ip_tree.specs.Reads.{IsCause, IsFree};
 ghost use Rattle.ip_tree.specs.TreeView.{IsView, Sets, Removes, Grafts};
 ghost use Rattle.ip_appends.specs.Naming.{RemovesBranch, SetsBranch};
 ghost use Rattle.ip_image.specs.Slot.{IsChunkSize};
@@ -29,7 +29,7 @@ ghost use Rattle.ip_held.specs.Work.{AreParents};
 ghost use Rattle.ip_appends.specs.Merging.{MergesInto};
 ghost use Rattle.ip_spawn.specs.declared.job.Job.{Job};
 ghost use Rattle.ip_held.specs.Clear.{unswept_in};
-ghost use Rattle.ip_collects.specs.CollectFaults.{ground_start};
+ghost use Rattle.ip_collects.specs.CollectFaults.{counted_start};
 ghost use Rattle.ip_collects.specs.Starting.{new_collection, met_by_start, BeginsCollecting, IsBegun, IsTurnedDown, IsJobAt, started_by};
 ghost use Rattle.ip_base.specs.declared.exit.Reaped.{Reaped, Reaped as ReapedValue};
 ghost use Rattle.ip_spawn.specs.Children.{told_after};
@@ -37,7 +37,7 @@ ghost use Rattle.ip_collects.specs.Cancelling.{CancelsCollecting, IsKilled, Coun
 ghost use Rattle.ip_held.specs.declared.collection.Collection.{Collection};
 ghost use Rattle.ip_collects.specs.Concluding.{AsksChild, ConcludesAs};
 ghost use Rattle.ip_collects.specs.Finishing.{IsQuiet, CountsFinish};
-ghost use Rattle.ip_opens.specs.OpenFaults.{ground_init, ground_open};
+ghost use Rattle.ip_opens.specs.OpenFaults.{counted_init, counted_open};
 ghost use Rattle.ip_opens.specs.Opening.{Makes, Opens};
 ghost use Rattle.ip_store.specs.Opened.{held_of};
 ghost use Rattle.ip_spawn.specs.Counts as spawn;
@@ -75,7 +75,7 @@ impl Store {
     pub fn init<G: Ground>(outside: &mut G, chunk: u64) -> Result<(), InitFault>
         requires { IsChunkSize chunk }
         ensures does { IsTrue G.tells → Makes chunk result (G.told outside.old) (G.told outside.new) }
-        ensures counts { Counts ground_init result (G.counts_of outside.old) (G.counts_of outside.new) }
+        ensures counts { Counts counted_init result (G.counts_of outside.old) (G.counts_of outside.new) }
     {
         ip_opens::init(outside, chunk)
     }
@@ -90,7 +90,7 @@ impl Store {
         ensures idle { IfOk result (λ store. store.held.collection ≡ None) }
         ensures unswept { IfOk result (λ store. store.held.unswept ≡ unswept_in store.held.slot) }
         ensures does { IsTrue G.tells → Opens (held_of result) (G.told outside.old) (G.told outside.new) }
-        ensures counts { Counts ground_open result (G.counts_of outside.old) (G.counts_of outside.new) }
+        ensures counts { Counts counted_open result (G.counts_of outside.old) (G.counts_of outside.new) }
     {
         match ip_opens::open_at(alloc, outside) {
             Ok(held) => Ok(Store {
@@ -210,7 +210,7 @@ impl Store {
         ensures same { SameTables self.old.held self.new.held }
         ensures looks { IsTrue G.tells → OnlyLooks (G.told outside.old) (G.told outside.new) self.old.held self.new.held }
         ensures met { self.new.met ≡ self.old.met }
-        ensures counts { Counts ground_store result (G.counts_of outside.old) (G.counts_of outside.new) }
+        ensures counts { Counts counted_store result (G.counts_of outside.old) (G.counts_of outside.new) }
     {
         ip_reads::show(&mut self.held, alloc, outside, number)
     }
@@ -246,7 +246,8 @@ impl Store {
         ensures same { SameTables self.old.held self.new.held }
         ensures looks { IsTrue G.tells → OnlyLooks (G.told outside.old) (G.told outside.new) self.old.held self.new.held }
         ensures met { self.new.met ≡ self.old.met }
-        ensures counts { Counts ground_tree result (G.counts_of outside.old) (G.counts_of outside.new) }
+        ensures counts { Counts counted_tree result (G.counts_of outside.old) (G.counts_of outside.new) }
+        ensures causes { IfErr result (IsCause G.tells (G.told outside.old) self.old.held.space) }
     {
         ip_reads::get(&mut self.held, alloc, outside, tree, path)
     }
@@ -264,7 +265,8 @@ impl Store {
         ensures same { SameTables self.old.held self.new.held }
         ensures looks { IsTrue G.tells → OnlyLooks (G.told outside.old) (G.told outside.new) self.old.held self.new.held }
         ensures met { self.new.met ≡ self.old.met }
-        ensures counts { Counts ground_tree result (G.counts_of outside.old) (G.counts_of outside.new) }
+        ensures counts { Counts counted_tree result (G.counts_of outside.old) (G.counts_of outside.new) }
+        ensures causes { IfErr result (IsCause G.tells (G.told outside.old) self.old.held.space) }
     {
         ip_reads::list(&mut self.held, alloc, outside, tree, path)
     }
@@ -285,7 +287,8 @@ impl Store {
         ensures same { SameTables self.old.held self.new.held }
         ensures looks { IsTrue G.tells → OnlyLooks (G.told outside.old) (G.told outside.new) self.old.held self.new.held }
         ensures met { self.new.met ≡ self.old.met }
-        ensures counts { Counts ground_tree result (G.counts_of outside.old) (G.counts_of outside.new) }
+        ensures counts { Counts counted_tree result (G.counts_of outside.old) (G.counts_of outside.new) }
+        ensures causes { IfErr result (IsCause G.tells (G.told outside.old) self.old.held.space) }
     {
         ip_reads::set(&mut self.held, alloc, outside, tree, path, value)
     }
@@ -305,7 +308,8 @@ impl Store {
         ensures same { SameTables self.old.held self.new.held }
         ensures looks { IsTrue G.tells → OnlyLooks (G.told outside.old) (G.told outside.new) self.old.held self.new.held }
         ensures met { self.new.met ≡ self.old.met }
-        ensures counts { Counts ground_tree result (G.counts_of outside.old) (G.counts_of outside.new) }
+        ensures counts { Counts counted_tree result (G.counts_of outside.old) (G.counts_of outside.new) }
+        ensures causes { IfErr result (IsCause G.tells (G.told outside.old) self.old.held.space) }
     {
         ip_reads::remove(&mut self.held, alloc, outside, tree, path)
     }
@@ -327,7 +331,8 @@ impl Store {
         ensures same { SameTables self.old.held self.new.held }
         ensures looks { IsTrue G.tells → OnlyLooks (G.told outside.old) (G.told outside.new) self.old.held self.new.held }
         ensures met { self.new.met ≡ self.old.met }
-        ensures counts { Counts ground_tree result (G.counts_of outside.old) (G.counts_of outside.new) }
+        ensures counts { Counts counted_tree result (G.counts_of outside.old) (G.counts_of outside.new) }
+        ensures causes { IfErr result (IsCause G.tells (G.told outside.old) self.old.held.space) }
     {
         ip_reads::graft(&mut self.held, alloc, outside, tree, source, from, to)
     }
@@ -346,7 +351,7 @@ impl Store {
         ensures same { SameTables self.old.held self.new.held }
         ensures looks { IsTrue G.tells → OnlyLooks (G.told outside.old) (G.told outside.new) self.old.held self.new.held }
         ensures met { self.new.met ≡ self.old.met }
-        ensures counts { Counts ground_store result (G.counts_of outside.old) (G.counts_of outside.new) }
+        ensures counts { Counts counted_store result (G.counts_of outside.old) (G.counts_of outside.new) }
         ensures causes { IfErr result (IsStoreCause G.tells (G.told outside.old) self.old.held.space) }
     {
         ip_reads::tree_of(&mut self.held, outside, number)
@@ -367,7 +372,7 @@ impl Store {
         requires tables { (r : Repository) × IsOf self.old.held r × IsTrue (is_retained r number) }
         ensures sets { SetsBranch G.tells name.now number result self.old.held self.new.held (G.told outside.old) (G.told outside.new) }
         ensures met { self.new.met ≡ met_by result }
-        ensures counts { Counts ground_store result (G.counts_of outside.old) (G.counts_of outside.new) }
+        ensures counts { Counts counted_store result (G.counts_of outside.old) (G.counts_of outside.new) }
     {
         let answer = ip_appends::set_branch(&mut self.held, alloc, outside, name, number);
         self.met = met_by(&answer);
@@ -387,7 +392,7 @@ impl Store {
         ensures removes { RemovesBranch G.tells name.now result self.old.held self.new.held (G.told outside.old) (G.told outside.new) }
         ensures absent { result ≡ Ok false → outside.new ≡ outside.old }
         ensures met { self.new.met ≡ met_by result }
-        ensures counts { Counts ground_store result (G.counts_of outside.old) (G.counts_of outside.new) }
+        ensures counts { Counts counted_store result (G.counts_of outside.old) (G.counts_of outside.new) }
     {
         let answer = ip_appends::remove_branch(&mut self.held, alloc, outside, name);
         self.met = met_by(&answer);
@@ -410,7 +415,9 @@ impl Store {
         requires tables { (r : Repository) × IsOf self.old.held r × AreParents r work.old.least work.old.parents }
         ensures commits { CommitsWork G.tells branch.now info result self.old.held self.new.held work.old work.new (G.told outside.old) (G.told outside.new) }
         ensures met { self.new.met ≡ met_by result }
-        ensures counts { Counts ground_store result (G.counts_of outside.old) (G.counts_of outside.new) }
+        ensures counts { Counts counted_store result (G.counts_of outside.old) (G.counts_of outside.new) }
+        // What is not done leaves the work as it was, over any ground.
+        ensures spared { IsErr result → work.new ≡ work.old }
     {
         let answer = ip_appends::commit(&mut self.held, alloc, outside, work, branch, info);
         self.met = met_by(&answer);
@@ -434,7 +441,7 @@ impl Store {
         requires tables { (r : Repository) × IsOf self.old.held r × IsTrue (is_retained r number) }
         ensures merges { MergesInto G.tells (D.rule rules.now) number branch.now info result self.old.held self.new.held (G.told outside.old) (G.told outside.new) }
         ensures met { self.new.met ≡ met_by result }
-        ensures counts { Counts ground_store result (G.counts_of outside.old) (G.counts_of outside.new) }
+        ensures counts { Counts counted_store result (G.counts_of outside.old) (G.counts_of outside.new) }
     {
         let answer = ip_appends::merge_into(
             &mut self.held,
@@ -467,10 +474,10 @@ impl Store {
         ensures unasked { IsTurnedDown result ⊎ IsErrOf result CollectFault.Ground → spawner.new ≡ spawner.old }
         // One child was started, or its start failed.
         ensures asked { IsBegun result → (job : Job) × IsJobAt self.old.held number self.new.held.slot job × OnOk result (self.new.held.collection ≡ Some (new_collection number job))
-            × (IsTrue P.tells → P.told spawner.new ≡ record { started = (P.told spawner.old).started ++ started_by job result; reaped = (P.told spawner.old).reaped })
+            × (IsTrue P.tells → P.told spawner.new ≡ record { started = (P.told spawner.old).started ++ started_by dir.now job result; reaped = (P.told spawner.old).reaped })
             × spawn.Counts false false false (is_err result) (P.counts_of spawner.old) (P.counts_of spawner.new) }
         ensures met { self.new.met ≡ met_by_start result }
-        ensures counts { Counts ground_start result (G.counts_of outside.old) (G.counts_of outside.new) }
+        ensures counts { Counts counted_start result (G.counts_of outside.old) (G.counts_of outside.new) }
     {
         let answer = ip_collects::start_collect(
             &mut self.held,

@@ -1,8 +1,9 @@
 use Rattle.std.proofs.Common.{◌≡◌, ℕ, List, rules, refl, sym, ◌∙◌, subst, length}
-use Rattle.std.specs.Prelude.{All, Ok, Err, IsTrue}
+use Rattle.std.specs.Prelude.{All, Ok, Err, IsTrue, is_some, nat_le, not, ◌&&◌}
 use Rattle.ip_spec.specs.declared.reply.Reply.{Reply}
 use Rattle.ip_spec.specs.Repository.{head, is_retained, name_at}
-use Rattle.ip_spec.specs.Step.{moved_head, unless_some, room_for_branch, not_existing, new_commit}
+use Rattle.ip_spec.specs.Map.{len}
+use Rattle.ip_spec.specs.Step.{below, branches_limit, moved_head, unless_some, room_for_branch, not_existing, new_commit}
 use Rattle.ip_held.specs.declared.fault.StoreFault.TheVariants as StoreFault
 use Rattle.ip_image.specs.Appending.{fields_of}
 use Rattle.ip_image.specs.Slot.{IsSlot}
@@ -19,6 +20,7 @@ use Rattle.ip_held.specs.declared.step.Entry.{Entry}
 use Rattle.ip_appends.proofs.BehindPlan.{looks_nothing, slot_behind, undamaged_as, undamaged_batch, undamaged_slot}
 use Rattle.ip_held.proofs.Causing.{cause_of, undamaged_cause}
 use Rattle.ip_appends.proofs.Planning.{told_from, name_from, refused_batch, batch_limits, slot_limits, coming, passed, planned}
+use Rattle.ip_appends.proofs.Unwanted.{none_full, none_given_up, none_leaving, none_moved}
 use Rattle.ip_held.proofs.Machine.{if_err_is, Given, Moved, Leaves, by_given, by_moved, by_leaves, by_room, First, first_there, first_room, refused_first, refused_short, refused_memory}
 use Rattle.ip_held.proofs.Phases.{retained_parents}
 use Rattle.ip_appends.proofs.committing.plan_commit.Goals as goal
@@ -365,3 +367,47 @@ returns-in_err-copy_of-clause-alone g c none =
 
 pub returns-clause-alone : goal.returns-clause-alone
 returns-clause-alone g c none = ((c.in_ok-batch.ensures.alone (c.as_slice-3.ensures ∙ none)).0, tt)
+
+-- ---- memory is asked for behind the refusals
+
+pub returns-in_err-there-clause-wanted : goal.returns-in_err-there-clause-wanted
+returns-in_err-there-clause-wanted g c r of e =
+    let fault = c.in_err-there.field-0.0 in
+    let is : c.from_residual.result ≡ Err fault = search rules in
+    absurd (none_given_up (below r.floor c.args.work.now.least) fault (c.in_err-there.ensures.refused r of) (sym is ∙ e))
+
+pub returns-in_err-head_among-clause-wanted : goal.returns-in_err-head_among-clause-wanted
+returns-in_err-head_among-clause-wanted g c r of e =
+    let fault = c.in_err-head_among.field-0.0 in
+    let is : c.from_residual-in_err-head_among.result ≡ Err fault = search rules in
+    absurd (none_moved r (moved_head (head r c.args.branch.now) c.as_slice.result.now) fault (c.in_err-head_among.ensures.refused r of) (sym is ∙ e))
+
+pub returns-in_err-staying-clause-wanted : goal.returns-in_err-staying-clause-wanted
+returns-in_err-staying-clause-wanted g c r of e =
+    let fault = c.in_err-staying.field-0.0 in
+    let is : c.from_residual-in_err-staying.result ≡ Err fault = search rules in
+    absurd (none_leaving (phase_of c.args.store.now.collection) c.args.work.now.least fault c.in_err-staying.ensures.refused (sym is ∙ e))
+
+pub returns-in_err-room_for-clause-wanted : goal.returns-in_err-room_for-clause-wanted
+returns-in_err-room_for-clause-wanted g c r of e =
+    let fault = c.in_err-room_for.field-0.0 in
+    let is : c.from_residual-in_err-room_for.result ≡ Err fault = search rules in
+    absurd (none_full (not (is_some (head r c.args.branch.now)) && nat_le branches_limit (len r.branches)) fault (c.in_err-room_for.ensures.refused r of) (sym is ∙ e))
+
+pub returns-in_err-fields-clause-wanted : goal.returns-in_err-fields-clause-wanted
+returns-in_err-fields-clause-wanted g c r of e = passed r (phase_of c.args.store.now.collection) c.args.work.now.least c.args.work.now.parents c.args.branch.now c.as_slice.result.now c.as_slice.ensures (c.in_ok-there.ensures.refused r of) (c.in_ok-head_among.ensures.refused r of) c.in_ok-staying.ensures.refused (c.in_ok-room_for.ensures.refused r of)
+
+pub returns-in_err-batch-clause-wanted : goal.returns-in_err-batch-clause-wanted
+returns-in_err-batch-clause-wanted g c r of e = passed r (phase_of c.args.store.now.collection) c.args.work.now.least c.args.work.now.parents c.args.branch.now c.as_slice.result.now c.as_slice.ensures (c.in_ok-there.ensures.refused r of) (c.in_ok-head_among.ensures.refused r of) c.in_ok-staying.ensures.refused (c.in_ok-room_for.ensures.refused r of)
+
+pub returns-in_err-slot-clause-wanted : goal.returns-in_err-slot-clause-wanted
+returns-in_err-slot-clause-wanted g c r of e = passed r (phase_of c.args.store.now.collection) c.args.work.now.least c.args.work.now.parents c.args.branch.now c.as_slice.result.now c.as_slice.ensures (c.in_ok-there.ensures.refused r of) (c.in_ok-head_among.ensures.refused r of) c.in_ok-staying.ensures.refused (c.in_ok-room_for.ensures.refused r of)
+
+pub returns-in_err-parents-clause-wanted : goal.returns-in_err-parents-clause-wanted
+returns-in_err-parents-clause-wanted g c r of e = passed r (phase_of c.args.store.now.collection) c.args.work.now.least c.args.work.now.parents c.args.branch.now c.as_slice.result.now c.as_slice.ensures (c.in_ok-there.ensures.refused r of) (c.in_ok-head_among.ensures.refused r of) c.in_ok-staying.ensures.refused (c.in_ok-room_for.ensures.refused r of)
+
+pub returns-in_err-copy_of-clause-wanted : goal.returns-in_err-copy_of-clause-wanted
+returns-in_err-copy_of-clause-wanted g c r of e = passed r (phase_of c.args.store.now.collection) c.args.work.now.least c.args.work.now.parents c.args.branch.now c.as_slice.result.now c.as_slice.ensures (c.in_ok-there.ensures.refused r of) (c.in_ok-head_among.ensures.refused r of) c.in_ok-staying.ensures.refused (c.in_ok-room_for.ensures.refused r of)
+
+pub returns-clause-passed : goal.returns-clause-passed
+returns-clause-passed g c r of = passed r (phase_of c.args.store.now.collection) c.args.work.now.least c.args.work.now.parents c.args.branch.now c.as_slice.result.now c.as_slice.ensures (c.in_ok-there.ensures.refused r of) (c.in_ok-head_among.ensures.refused r of) c.in_ok-staying.ensures.refused (c.in_ok-room_for.ensures.refused r of)

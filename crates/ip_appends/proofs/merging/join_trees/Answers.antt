@@ -1,10 +1,10 @@
 use Rattle.std.proofs.Common.{◌≡◌, rules, sym, ◌∙◌, subst}
 use Rattle.std.specs.Prelude.{Err, IfSome, IsTrue, Ok}
 use Rattle.ip_spec.specs.Repository.{is_retained}
-use Rattle.ip_ground.specs.Counts.{Counts, CountsIf, FileFault}
-use Rattle.ip_three.specs.Answered.{ground_three}
+use Rattle.ip_ground.specs.Counts.{Counts, CountsIf}
+use Rattle.ip_three.specs.Answered.{counted_three}
 use Rattle.ip_held.specs.declared.held.Held.{Held}
-use Rattle.ip_held.specs.Faults.{ground_store}
+use Rattle.ip_held.specs.Faults.{counted_store}
 use Rattle.ip_appends.specs.Merging.{IsBaseTree, JoinsTrees}
 use Rattle.ip_held.specs.Held.{SameTables, image_records}
 use Rattle.ip_held.specs.Trees.{IsTreeOf}
@@ -71,5 +71,5 @@ returns-clause-counts g c =
     let before = g.G.Ground.counts_of c.args.outside.now in
     let after = g.G.Ground.counts_of c.merge_trees.new.outside in
     let same : g.G.Ground.counts_of c.tree_of-2.new.outside ≡ before = c.in_ok-right.ensures.counts ∙ c.in_ok-left.ensures.counts ∙ c.in_ok-base.ensures.counts in
-    subst (λ res. Counts ground_store res before after) (sym c.stopped_by.ensures)
-    (counts_stopped c.in-Err.fault before after (subst (λ n. CountsIf FileFault (ground_three c.in-Err.fault) n after) same c.in-Err.ensures.counts))
+    subst (λ res. Counts counted_store res before after) (sym c.stopped_by.ensures)
+    (counts_stopped c.in-Err.fault before after (subst (λ n. CountsIf (counted_three c.in-Err.fault) n after) same c.in-Err.ensures.counts))

@@ -3,7 +3,7 @@ use Rattle.std.specs.Prelude.{Err}
 use Rattle.ip_held.specs.declared.fault.StoreFault.TheVariants as StoreFault
 use Rattle.ip_held.specs.Collecting.{phase_of}
 use Rattle.ip_appends.specs.Merging.{IsForward, IsJoin, MergesInto}
-use Rattle.ip_appends.proofs.MergeCourses.{course_may, forward_at, into_bases, into_current, into_leaving, into_memory, into_none, join_at}
+use Rattle.ip_appends.proofs.MergeCourses.{course_may, forward_at, head_there, into_bases, into_current, into_leaving, into_memory, into_none, join_at}
 use Rattle.ip_appends.proofs.MergeExits.{forward_into, into}
 use Rattle.ip_appends.proofs.merging.merge_into.Goals as goal
 
@@ -20,7 +20,7 @@ pub returns-in_err-course_of-clause-merges : goal.returns-in_err-course_of-claus
 returns-in_err-course_of-clause-merges g c =
     let same : c.from_residual.result ≡ Err StoreFault.Memory = search rules in
     subst (λ res. MergesInto g.G.Ground.tells (g.D.Decides.rule c.args.rules.now) c.args.number c.args.branch.now c.args.info res c.args.store.now c.args.store.now (g.G.Ground.told c.args.outside.now) (g.G.Ground.told c.args.outside.now)) (sym same)
-    (into_memory g.G.Ground.tells (g.D.Decides.rule c.args.rules.now) c.args.number c.args.branch.now c.args.info c.args.store.now (g.G.Ground.told c.args.outside.now))
+    (into_memory g.G.Ground.tells (g.D.Decides.rule c.args.rules.now) c.args.number c.args.branch.now c.args.info c.args.store.now (g.G.Ground.told c.args.outside.now) c.head.result c.head.ensures c.in-Some.head c.in-Some.is)
 
 pub retained_name-requires : goal.retained_name-requires
 retained_name-requires g c =
@@ -53,6 +53,7 @@ returns-in-Forward-clause-merges g c =
     let rule = g.D.Decides.rule c.args.rules.now in
     into g.G.Ground.tells rule c.args.number c.args.branch.now c.args.info (λ r. IsForward r c.args.branch.now c.args.number) c.forward.result c.args.store.now c.forward.new.store (g.G.Ground.told c.args.outside.now) (g.G.Ground.told c.forward.new.outside)
     (forward_at g.G.Ground.tells rule c.args.number c.args.branch.now c.args.info c.args.store.now (g.G.Ground.told c.args.outside.now) c.head.result c.head.ensures c.in-Some.head c.in-Some.is c.in_ok-course_of.field-0 c.in_ok-course_of.ensures c.in-Forward.is)
+    (λ r of e. head_there g.G.Ground.tells rule c.args.number c.args.branch.now c.args.info c.args.store.now (g.G.Ground.told c.args.outside.now) c.head.result c.head.ensures c.in-Some.head c.in-Some.is r of)
     (forward_into g.G.Ground.tells rule c.args.number c.args.branch.now c.args.info c.forward.result c.args.store.now c.forward.new.store (g.G.Ground.told c.args.outside.now) (g.G.Ground.told c.forward.new.outside) c.forward.ensures.forwards)
 
 -- ---- the trees are merged
@@ -68,4 +69,5 @@ returns-in-Join-clause-merges g c =
     let rule = g.D.Decides.rule c.args.rules.now in
     into g.G.Ground.tells rule c.args.number c.args.branch.now c.args.info (λ r. IsJoin r (phase_of c.args.store.now.collection) c.args.branch.now (record { base = c.in-Join.base; head = c.in-Some.head; number = c.args.number })) c.join.result c.args.store.now c.join.new.store (g.G.Ground.told c.args.outside.now) (g.G.Ground.told c.join.new.outside)
     (join_at g.G.Ground.tells rule c.args.number c.args.branch.now c.args.info c.args.store.now (g.G.Ground.told c.args.outside.now) c.head.result c.head.ensures c.in-Some.head c.in-Some.is c.in_ok-course_of.field-0 c.in_ok-course_of.ensures c.in-Join.base c.in-Join.is)
+    (λ r of e. head_there g.G.Ground.tells rule c.args.number c.args.branch.now c.args.info c.args.store.now (g.G.Ground.told c.args.outside.now) c.head.result c.head.ensures c.in-Some.head c.in-Some.is r of)
     c.join.ensures.joins

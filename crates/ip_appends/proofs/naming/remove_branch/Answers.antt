@@ -20,8 +20,9 @@ returns-then-is_none-clause-removes g c =
 pub returns-in_err-rec-clause-removes : goal.returns-in_err-rec-clause-removes
 returns-in_err-rec-clause-removes g c =
     let is : c.from_residual.result ≡ Err StoreFault.Memory = search rules in
+    let there = some_in c.head.result (search rules) in
     let told = g.G.Ground.told c.args.outside.now in
-    subst (λ res. RemovesBranch g.G.Ground.tells c.args.name.now res c.args.store.now c.args.store.now told told) (sym is) (removed_short g.G.Ground.tells c.args.name.now c.args.store.now told)
+    subst (λ res. RemovesBranch g.G.Ground.tells c.args.name.now res c.args.store.now c.args.store.now told told) (sym is) (removed_short g.G.Ground.tells c.args.name.now c.args.store.now told (λ r of. (there.0, sym (c.head.ensures r of) ∙ there.1)))
 
 -- the record is appended
 pub append_branch_record-requires-clause-tables : goal.append_branch_record-requires-clause-tables

@@ -36,8 +36,10 @@ returns-in_err-room_for-clause-sets g c =
 pub returns-in_err-rec-clause-sets : goal.returns-in_err-rec-clause-sets
 returns-in_err-rec-clause-sets g c =
     let is : c.from_residual-in_err-rec.result ≡ Err StoreFault.Memory = search rules in
+    let stays : not_leaving_in (phase_of c.args.store.now.collection) (Some c.args.number) ≡ Ok tt = search rules in
+    let room : (r : Repository) → IsOf c.args.store.now r → room_for_branch r c.args.name.now ≡ Ok tt = λ r of. search rules in
     let told = g.G.Ground.told c.args.outside.now in
-    subst (λ res. SetsBranch g.G.Ground.tells c.args.name.now c.args.number res c.args.store.now c.args.store.now told told) (sym is) (set_short g.G.Ground.tells c.args.name.now c.args.number c.args.store.now told)
+    subst (λ res. SetsBranch g.G.Ground.tells c.args.name.now c.args.number res c.args.store.now c.args.store.now told told) (sym is) (set_short g.G.Ground.tells c.args.name.now c.args.number c.args.store.now told (λ r of. (stays, room r of)))
 
 -- the record is appended, or a limit or a fault came
 pub append_branch_record-requires-clause-tables : goal.append_branch_record-requires-clause-tables

@@ -5,12 +5,12 @@ use Rattle.ip_held.specs.declared.collection.Collection.{Collection}
 use Rattle.ip_held.specs.declared.held.Held.{Held}
 use Rattle.ip_held.specs.Collecting.{until}
 use Rattle.ip_check.specs.Checking.{looked_by}
-use Rattle.ip_collects.specs.CollectFaults.{ground_finish}
+use Rattle.ip_collects.specs.CollectFaults.{counted_finish}
 use Rattle.ip_collects.specs.Finishing.{IsUndamaged, looked_at}
 use Rattle.ip_collects.specs.Judging.{EndsCheck, FitsExit, IsOpen, SlicesBy, TellsVerdict}
 use Rattle.ip_held.specs.Held.{Holds, IsOf}
 use Rattle.ip_held.proofs.Going.{phase_here}
-use Rattle.ip_collects.proofs.Judged.{begins_checking, begins_over, counts_check, ends_through, has_exit, job_space, kept_check, looks_on, no_damage, none_looked, not_open, put_check, same_one, sliced_holds, sliced_says, sliced_tables, slices, with_holds, zero_fits}
+use Rattle.ip_collects.proofs.Judged.{begins_checking, begins_over, blames_check, counts_check, ends_through, has_exit, job_space, kept_check, looks_on, no_damage, none_looked, not_open, put_check, same_one, sliced_holds, sliced_says, sliced_tables, slices, with_holds, zero_fits}
 use Rattle.ip_collects.proofs.checking.check.Goals as goal
 
 pub returns-in_err-check-clause-holds : goal.returns-in_err-check-clause-holds
@@ -116,9 +116,13 @@ returns-clause-ends g c =
     subst (λ verdict. EndsCheck verdict (Some (record c.take_check.new.collection { check = Some c.advance-outcome.new.self }))) (sym c.verdict_of.ensures)
     (ends_through c.take_check.new.collection c.advance-outcome.new.self c.advance-outcome.result c.left-left.result c.advance-outcome.ensures.advances.ends)
 
+pub returns-clause-blames : goal.returns-clause-blames
+returns-clause-blames g c at is =
+    blames_check c.take_check.new.collection c.advance-outcome.new.self c.advance-outcome.result c.left-left.result c.advance-outcome.ensures.blames at (sym c.verdict_of.ensures ∙ is)
+
 pub returns-clause-counts : goal.returns-clause-counts
 returns-clause-counts g c =
-    subst (λ verdict. Counts ground_finish verdict (g.G.Ground.counts_of c.args.outside.now) (g.G.Ground.counts_of c.advance-outcome.new.outside)) (sym c.verdict_of.ensures)
+    subst (λ verdict. Counts counted_finish verdict (g.G.Ground.counts_of c.args.outside.now) (g.G.Ground.counts_of c.advance-outcome.new.outside)) (sym c.verdict_of.ensures)
     (counts_check c.advance-outcome.result c.left-left.result (g.G.Ground.counts_of c.args.outside.now) (g.G.Ground.counts_of c.advance-outcome.new.outside) c.advance-outcome.ensures.counts)
 
 pub returns-clause-sliced : goal.returns-clause-sliced

@@ -6,7 +6,7 @@ use Rattle.ip_collects.specs.declared.finishing.FinishFault.{FinishFault}
 use Rattle.ip_held.specs.declared.held.Held.{Held}
 use Rattle.ip_collects.specs.Ending.{Goes}
 use Rattle.ip_collects.specs.Finishing.{FinishesBy, met_by_finish}
-use Rattle.ip_collects.proofs.FinishCalls.{cut_finishes, end_finishes, end_goes, end_loud, end_works, goes_cut, goes_idle, goes_on, goes_runs, goes_wait, may_hear, on_counts, on_finishes, on_works, quiet_works, some_heard}
+use Rattle.ip_collects.proofs.FinishCalls.{cut_finishes, end_finishes, end_goes, end_loud, end_works, goes_cut, goes_idle, goes_on, goes_runs, goes_wait, may_hear, on_counts, on_finishes, on_untouched, on_works, quiet_works, some_heard}
 use Rattle.ip_collects.proofs.finishing.goes.Goals as goal
 
 pub heard-requires : goal.heard-requires
@@ -54,6 +54,10 @@ returns-in-Ok-clause-any_moment g c told r held x other runs ended command asked
 
 pub returns-in-Ok-clause-undamaged : goal.returns-in-Ok-clause-undamaged
 returns-in-Ok-clause-undamaged g c told r held = c.judged.ensures.undamaged told r (c.in-Ok.ensures.holds told r held)
+
+pub returns-in-Ok-clause-untouched : goal.returns-in-Ok-clause-untouched
+returns-in-Ok-clause-untouched g c told not x runs =
+    on_untouched c.args.store.now x runs c.in-Ended.reaped c.args.most _ _ _ (c.heard.ensures.does told x runs) (c.judged.ensures.untouched told not)
 
 pub returns-in-Ok-clause-works_stay : goal.returns-in-Ok-clause-works_stay
 returns-in-Ok-clause-works_stay g c told has r q held now =

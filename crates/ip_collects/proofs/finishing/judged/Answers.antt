@@ -1,11 +1,13 @@
 use Rattle.std.proofs.Common.{◌≡◌, [], None, refl, sym, ◌∙◌, ap, subst}
 use Rattle.std.specs.Prelude.{Ok, Err, ◌-◌, ◌^◌}
+use Rattle.ip_ground.specs.Told.{NoFile}
+use Rattle.ip_ground.proofs.Spans.{only_on}
 use Rattle.ip_image.specs.Slot.{IsSlot}
 use Rattle.ip_collects.specs.declared.checking.Verdict.{Verdict}
 use Rattle.ip_collects.specs.declared.finishing.Looked.{Looked}
 use Rattle.ip_held.specs.declared.held.Held.{Held}
 use Rattle.ip_collects.specs.Judging.{EndsCheck, FitsExit, IsOpen, SlicesBy, TellsVerdict, with_check}
-use Rattle.ip_collects.proofs.FinishEnds.{counts_cut, counts_refused, counts_swept, ends_collected, ends_cut, ends_open, ends_refused, ends_rejected, given_up, same_exit, some_exit, sweeps_on, swept_on, undamaged_as}
+use Rattle.ip_collects.proofs.FinishEnds.{as_fault_of, counts_cut, counts_refused, counts_swept, ends_collected, ends_cut, ends_open, ends_refused, ends_rejected, given_up, same_exit, some_exit, sweeps_on, swept_on, undamaged_as}
 use Rattle.ip_collects.proofs.FinishMoments.{accepts_as, accepts_checked, asked_of, collected_by, cut_by, kept_on, refused_by, swept_out}
 use Rattle.ip_collects.proofs.finishing.judged.Goals as goal
 
@@ -95,11 +97,19 @@ returns-in-Err-accept-clause-any_moment g c told r held x runs =
     let says = subst (λ (v : Verdict). TellsVerdict held.stands.standing.records x (g.G.Ground.told c.args.outside.now) (Ok v)) c.in-Ok-Valid.field-0-is (c.in-Ok-Valid.ensures.says told r held x runs) in
     let it = ap (λ (s : Held). s.collection) k.1 in
     refused_by c.args.store.now r _ held x runs c.args.reaped exit _ (c.judge.ensures.only told) c.judge.new.store here k.0 k.1 says c.accept.new.store _ c.in-Err-accept.fault c.in-Err-accept.ensures.faults
+    (c.in-Err-accept.ensures.undamaged told r here)
     (accepts_checked [] r x k.0 c.in-Err-accept.fault c.judge.new.store c.accept.new.store (c.in-Err-accept.ensures.tables r (record x { check = k.0 }) here.tables it)) (λ t. ap g.G.Ground.told (c.in-Err-accept.ensures.unchanged t))
     (accepts_as here.stands.standing.records r x k.0 (Err c.in-Err-accept.fault) c.accept.new.store _ _ (c.in-Err-accept.ensures.does told r here (record x { check = k.0 }) it (asked_of c.args.store.now r _ held x runs c.args.reaped exit _ (c.judge.ensures.only told) c.judge.new.store here k.0 k.1 says)))
 
 pub returns-in-Err-accept-clause-undamaged : goal.returns-in-Err-accept-clause-undamaged
 returns-in-Err-accept-clause-undamaged g c told r held = undamaged_as (Unit {0}) Looked c.in-Err-accept.fault (c.in-Err-accept.ensures.undamaged told r (c.judge.ensures.holds told r held))
+
+pub returns-in-Err-accept-clause-untouched : goal.returns-in-Err-accept-clause-untouched
+returns-in-Err-accept-clause-untouched g c told not =
+    only_on _ _ _ NoFile (c.judge.ensures.only told) (c.in-Err-accept.ensures.untouched told (λ safe. not (undamaged_as (Unit {0}) Looked c.in-Err-accept.fault safe)))
+
+pub returns-in-Err-accept-clause-blames : goal.returns-in-Err-accept-clause-blames
+returns-in-Err-accept-clause-blames g c at is = c.in-Err-accept.ensures.blames at (as_fault_of (Unit {0}) Looked c.in-Err-accept.fault at is)
 
 pub returns-in-Err-accept-clause-counts : goal.returns-in-Err-accept-clause-counts
 returns-in-Err-accept-clause-counts g c = counts_refused c.in-Err-accept.fault _ _ _ c.in-Err-accept.ensures.faults c.in-Ok-Valid.ensures.counts c.in-Err-accept.ensures.counts
@@ -116,6 +126,12 @@ returns-in-Err-clause-any_moment g c told r held x runs =
 
 pub returns-in-Err-clause-undamaged : goal.returns-in-Err-clause-undamaged
 returns-in-Err-clause-undamaged g c told r held = undamaged_as Verdict Looked c.in-Err.fault (c.in-Err.ensures.undamaged told r held)
+
+pub returns-in-Err-clause-untouched : goal.returns-in-Err-clause-untouched
+returns-in-Err-clause-untouched g c told not = c.judge.ensures.only told
+
+pub returns-in-Err-clause-blames : goal.returns-in-Err-clause-blames
+returns-in-Err-clause-blames g c at is = c.in-Err.ensures.blames at (as_fault_of Verdict Looked c.in-Err.fault at is)
 
 pub returns-in-Err-clause-counts : goal.returns-in-Err-clause-counts
 returns-in-Err-clause-counts g c = counts_cut c.in-Err.fault _ _ c.in-Err.ensures.fits.1 c.in-Err.ensures.counts

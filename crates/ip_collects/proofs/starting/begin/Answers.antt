@@ -30,7 +30,7 @@ returns-in_err-lend-clause-any_moment g c told r number held is =
     subst (λ res. StartsCollection {A = Unit {0}} r c.args.start.now.job.attempt res c.take.new.self (g.G.Ground.told c.args.outside.now) (g.G.Ground.told c.lend.new.self)) (sym e)
     (starts_lent r c.args.store.now number c.args.start.now held.tables is c.requires.idle (g.G.Ground.told c.args.outside.now) held c.take.new.self (g.G.Ground.told c.take.new.outside) c.take.result ok c.take.ensures.taken
     (c.take.ensures.took told r r ((c.args.store.now.slot.end, table_of r) ∷ []) held (begun_step r c.args.store.now number c.args.start.now held.tables is c.requires.idle c.as_slice.result.now c.as_slice.ensures.value (g.G.Ground.told c.args.outside.now) held))
-    (g.met.G.Ground.possible _ told) (g.G.Ground.told c.lend.new.self) c.lend.result (c.lend.ensures.does told) (Err CollectFault.Ground) (λ begins. absurd begins))
+    (g.met.G.Ground.possible _ told) (g.G.Ground.told c.lend.new.self) c.lend.result (c.lend.ensures.does told) (g.met.G.Ground.possible _ told) (Err CollectFault.Ground) (λ begins. absurd begins))
 
 pub returns-in_err-lend-clause-fronts : goal.returns-in_err-lend-clause-fronts
 returns-in_err-lend-clause-fronts g c told r number held is =
@@ -46,7 +46,7 @@ returns-in-Ok-clause-any_moment g c told r number held is =
     let ok : c.take.result ≡ Ok tt = search rules in
     starts_lent r c.args.store.now number c.args.start.now held.tables is c.requires.idle (g.G.Ground.told c.args.outside.now) held c.take.new.self (g.G.Ground.told c.take.new.outside) c.take.result ok c.take.ensures.taken
     (c.take.ensures.took told r r ((c.args.store.now.slot.end, table_of r) ∷ []) held (begun_step r c.args.store.now number c.args.start.now held.tables is c.requires.idle c.as_slice.result.now c.as_slice.ensures.value (g.G.Ground.told c.args.outside.now) held))
-    (g.met.G.Ground.possible _ told) (g.G.Ground.told c.lend.new.self) c.lend.result (c.lend.ensures.does told) (Ok tt) (λ begins. (c.in_ok-lend.ensures.does told).ok)
+    (g.met.G.Ground.possible _ told) (g.G.Ground.told c.lend.new.self) c.lend.result (c.lend.ensures.does told) (g.met.G.Ground.possible _ told) (Ok tt) (λ begins. (c.in_ok-lend.ensures.does told).ok)
 
 pub returns-in-Ok-clause-fronts : goal.returns-in-Ok-clause-fronts
 returns-in-Ok-clause-fronts g c told r number held is =
@@ -62,7 +62,7 @@ returns-in-Err-start-clause-any_moment g c told r number held is =
     let ok : c.take.result ≡ Ok tt = search rules in
     starts_lent r c.args.store.now number c.args.start.now held.tables is c.requires.idle (g.G.Ground.told c.args.outside.now) held c.take.new.self (g.G.Ground.told c.take.new.outside) c.take.result ok c.take.ensures.taken
     (c.take.ensures.took told r r ((c.args.store.now.slot.end, table_of r) ∷ []) held (begun_step r c.args.store.now number c.args.start.now held.tables is c.requires.idle c.as_slice.result.now c.as_slice.ensures.value (g.G.Ground.told c.args.outside.now) held))
-    (g.met.G.Ground.possible _ told) (g.G.Ground.told c.lend.new.self) c.lend.result (c.lend.ensures.does told) (Err CollectFault.Start) (λ begins. (c.in_ok-lend.ensures.does told).ok)
+    (g.met.G.Ground.possible _ told) (g.G.Ground.told c.lend.new.self) c.lend.result (c.lend.ensures.does told) (g.met.G.Ground.possible _ told) (Err CollectFault.Start) (λ begins. (c.in_ok-lend.ensures.does told).ok)
 
 pub returns-in-Err-start-clause-fronts : goal.returns-in-Err-start-clause-fronts
 returns-in-Err-start-clause-fronts g c told r number held is =

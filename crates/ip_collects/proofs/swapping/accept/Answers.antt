@@ -1,9 +1,10 @@
-use Rattle.std.proofs.Common.{sym, subst}
+use Rattle.std.proofs.Common.{sym, ap, subst}
 use Rattle.std.specs.Prelude.{Err}
 use Rattle.ip_collects.specs.Judging.{IsThrough}
-use Rattle.ip_collects.specs.Swapping.{Accepts}
+use Rattle.ip_ground.specs.Told.{Told}
+use Rattle.ip_collects.specs.Swapping.{Accepts, AcceptsAs}
 use Rattle.ip_held.specs.declared.held.Held.{Held}
-use Rattle.ip_collects.proofs.Accepting.{runs_through, check_through, refused_so, refused_tables, refused_counts, accepts_tables, slot_of_swap, undamaged, accepts_none, pair_syncs, sync_cut, going_on, swap_cut, accepts}
+use Rattle.ip_collects.proofs.Accepting.{runs_through, check_through, refused_so, refused_tables, refused_counts, refused_blames, turned_safe, accepts_tables, slot_of_swap, undamaged, accepts_none, pair_syncs, sync_cut, going_on, swap_cut, accepts}
 use Rattle.ip_collects.proofs.swapping.accept.Goals as goal
 
 pub returns-in-Err-clause-tables : goal.returns-in-Err-clause-tables
@@ -14,13 +15,29 @@ pub returns-in-Err-clause-faults : goal.returns-in-Err-clause-faults
 returns-in-Err-clause-faults g c = (let t = runs_through c.args.store.now.collection c.requires.through in refused_so c.args.store.now t.0 c.in-Err.fault (c.in-Err.ensures.refused t.0 t.1))
 
 pub returns-in-Err-clause-does : goal.returns-in-Err-clause-does
-returns-in-Err-clause-does g c told r held x runs verdict = accepts_none c.args.store.now r _ held x runs c.in-Err.fault _
+returns-in-Err-clause-does g c told r held x runs verdict =
+    let safe = undamaged c.args.store.now r _ held x runs c.in-Err.fault (c.in-Err.ensures.refused x runs) in
+    subst (λ (b : Told). AcceptsAs held.stands.standing.records r x (Err c.in-Err.fault) c.turn_down.new.store (g.G.Ground.told c.args.outside.now) b) (sym (ap g.G.Ground.told (c.note_fault.ensures.undamaged safe)))
+    (accepts_none c.args.store.now r _ held x runs c.in-Err.fault _)
 
 pub returns-in-Err-clause-undamaged : goal.returns-in-Err-clause-undamaged
 returns-in-Err-clause-undamaged g c told r held = (let t = runs_through c.args.store.now.collection c.requires.through in undamaged c.args.store.now r _ held t.0 t.1 c.in-Err.fault (c.in-Err.ensures.refused t.0 t.1))
 
 pub returns-in-Err-clause-counts : goal.returns-in-Err-clause-counts
-returns-in-Err-clause-counts g c = (let t = runs_through c.args.store.now.collection c.requires.through in refused_counts c.args.store.now t.0 c.in-Err.fault _ (c.in-Err.ensures.refused t.0 t.1))
+returns-in-Err-clause-counts g c =
+    let t = runs_through c.args.store.now.collection c.requires.through in
+    refused_counts c.args.store.now t.0 c.in-Err.fault _ _ (c.in-Err.ensures.refused t.0 t.1) (λ safe. ap g.G.Ground.counts_of (c.note_fault.ensures.undamaged safe)) c.note_fault.ensures.damaged
+
+pub returns-in-Err-clause-unchanged : goal.returns-in-Err-clause-unchanged
+returns-in-Err-clause-unchanged g c is = c.note_fault.ensures.undamaged (turned_safe c.in-Err.fault is)
+
+pub returns-in-Err-clause-untouched : goal.returns-in-Err-clause-untouched
+returns-in-Err-clause-untouched g c told not = c.note_fault.ensures.only told
+
+pub returns-in-Err-clause-blames : goal.returns-in-Err-clause-blames
+returns-in-Err-clause-blames g c at is =
+    let t = runs_through c.args.store.now.collection c.requires.through in
+    refused_blames c.args.store.now c.turn_down.new.store t.0 c.in-Err.fault t.1 c.turn_down.ensures (c.in-Err.ensures.refused t.0 t.1) at (cc (is))
 
 pub returns-in_err-sync_pair-clause-does : goal.returns-in_err-sync_pair-clause-does
 returns-in_err-sync_pair-clause-does g c told r held x runs verdict =

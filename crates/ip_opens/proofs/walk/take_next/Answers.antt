@@ -1,5 +1,5 @@
-use Rattle.std.proofs.Common.{◌≡◌, ◌+◌, ◌≤◌, ℕ, Some, subst, arith}
-use Rattle.std.specs.Prelude.{Ok, IfSome, IsSome, slice_get}
+use Rattle.std.proofs.Common.{◌≡◌, ◌+◌, ◌≤◌, ◌∙◌, ℕ, Some, ap, sym, subst, arith}
+use Rattle.std.specs.Prelude.{Ok, Err, IfSome, IsSome, slice_get}
 use Rattle.ip_image.specs.declared.run.Run.{Run}
 use Rattle.ip_image.specs.Virtual.{lies_at}
 use Rattle.ip_spec.specs.declared.record.Record.{Record}
@@ -9,7 +9,14 @@ use Rattle.ip_space.specs.ScanView.{ScanView}
 use Rattle.ip_space.specs.SpaceView.{SpaceView, byte_at, stretches_of}
 use Rattle.ip_space.proofs.StretchRows.{stretch_lies}
 use Rattle.ip_space.specs.Scanning.{Moves, Steps, FindsWhole}
-use Rattle.ip_opens.proofs.RecordSteps.{stays_there, goes_on, further, too_long, bad_taken_as, bad_unread}
+use Rattle.ip_ground.specs.Counts.{CountsIf, DamageFound}
+use Rattle.ip_ground.specs.Told.{NoFile}
+use Rattle.ip_ground.proofs.Spans.{only_on}
+use Rattle.ip_space.proofs.Stayed.{readable_stays}
+use Rattle.ip_opens.specs.OpenFaults.{counted_open}
+use Rattle.ip_opens.specs.declared.opening.OpenFault.{OpenFault}
+use Rattle.ip_opens.proofs.Noting.{bad_later, counts_placed, counts_unread, none_ground, none_missing}
+use Rattle.ip_opens.proofs.RecordSteps.{same_fault, stays_there, goes_on, further, too_long, bad_taken_as, bad_unread}
 use Rattle.ip_opens.proofs.walk.take_next.Goals as goal
 
 -- a record that was found lies in its stretch
@@ -74,9 +81,18 @@ returns-then-next-walk-clause-damaged g c told readable file at damaged =
     let walk = c.args.walk.now in
     let steps = subst (λ o. Moves walk.scan c.step.new.self (Ok o)) c.in-Ok-Some.field-0-is c.in-Ok-Some.ensures.moves in
     let fits = subst (λ o. IfSome o (λ f. Fits newest_version f.1)) c.in-Ok-Some.field-0-is c.in-Ok-Some.ensures.bounds in
-    too_long c.args.slot.now c.requires.slot space g.G.Ground.tells _ now walk c.args.found.now walks (λ t. (c.step.ensures.reads t).only) c.step.new.self c.in-Ok-Some.at c.in-Ok-Some.rec fits steps
+    bad_later c.args.slot.now space now (g.G.Ground.told c.note_damage.new.self) (c.note_damage.ensures.does told) (readable_stays (g.G.Ground.told c.args.outside.now) now (c.step.ensures.reads told).only space readable) file at
+    (too_long c.args.slot.now c.requires.slot space g.G.Ground.tells _ now walk c.args.found.now walks (λ t. (c.step.ensures.reads t).only) c.step.new.self c.in-Ok-Some.at c.in-Ok-Some.rec fits steps
     (λ t readable. subst (λ o. FindsWhole (byte_at now space) space.layout.end walk.scan.next (Ok o)) c.in-Ok-Some.field-0-is (c.in-Ok-Some.ensures.whole t readable (walks.current t readable)))
-    told readable (let behind = c.if-next-walk.true in let next = c.next.ensures in omega (arith, behind, next)) c.damaged_at.result file at damaged c.damaged_at.ensures
+    told readable (let behind = c.if-next-walk.true in let next = c.next.ensures in omega (arith, behind, next)) c.damaged_at.result file at damaged c.damaged_at.ensures)
+
+pub returns-then-next-walk-clause-only : goal.returns-then-next-walk-clause-only
+returns-then-next-walk-clause-only g c told = only_on _ _ _ NoFile (c.step.ensures.reads told).only (c.note_damage.ensures.does told)
+
+pub returns-then-next-walk-clause-counts : goal.returns-then-next-walk-clause-counts
+returns-then-next-walk-clause-counts g c =
+    let after = g.G.Ground.counts_of c.note_damage.new.self in
+    counts_placed c.args.space.now c.in-Ok-Some.at c.damaged_at.result (g.G.Ground.counts_of c.args.outside.now) after c.damaged_at.ensures (subst (λ n. DamageFound n after) c.in-Ok-Some.ensures.counts c.note_damage.ensures.counts)
 
 pub returns-in-Err-take_read-clause-damaged : goal.returns-in-Err-take_read-clause-damaged
 returns-in-Err-take_read-clause-damaged g c told readable file at damaged =
@@ -86,12 +102,32 @@ returns-in-Err-take_read-clause-damaged g c told readable file at damaged =
     let walk = c.args.walk.now in
     let steps = subst (λ o. Moves walk.scan c.step.new.self (Ok o)) c.in-Ok-Some.field-0-is c.in-Ok-Some.ensures.moves in
     let fits = subst (λ o. IfSome o (λ f. Fits newest_version f.1)) c.in-Ok-Some.field-0-is c.in-Ok-Some.ensures.bounds in
-    bad_taken_as c.args.slot.now c.requires.slot space g.G.Ground.tells _ now walk c.args.found.now walks (λ t. (c.step.ensures.reads t).only) c.step.new.self c.in-Ok-Some.at c.in-Ok-Some.rec fits steps
+    bad_later c.args.slot.now space now (g.G.Ground.told c.noted.new.outside) (c.noted.ensures.only told) (readable_stays (g.G.Ground.told c.args.outside.now) now (c.step.ensures.reads told).only space readable) file at
+    (bad_taken_as c.args.slot.now c.requires.slot space g.G.Ground.tells _ now walk c.args.found.now walks (λ t. (c.step.ensures.reads t).only) c.step.new.self c.in-Ok-Some.at c.in-Ok-Some.rec fits steps
     (λ t readable. subst (λ o. FindsWhole (byte_at now space) space.layout.end walk.scan.next (Ok o)) c.in-Ok-Some.field-0-is (c.in-Ok-Some.ensures.whole t readable (walks.current t readable)))
-    c.take_read.new.found told readable c.in-Err-take_read.fault file at damaged c.in-Err-take_read.ensures
+    c.take_read.new.found told readable c.in-Err-take_read.fault file at (ap (λ (fault : OpenFault). Err fault) (sym c.noted.ensures.same) ∙ damaged) c.in-Err-take_read.ensures)
+
+pub noted-requires : goal.noted-requires
+noted-requires g c = none_ground c.args.slot.now c.args.space.now c.in-Ok-Some.at c.in-Ok-Some.rec c.args.found.now c.take_read.new.found c.in-Err-take_read.fault c.in-Err-take_read.ensures
+
+pub returns-in-Err-take_read-clause-only : goal.returns-in-Err-take_read-clause-only
+returns-in-Err-take_read-clause-only g c told = only_on _ _ _ NoFile (c.step.ensures.reads told).only (c.noted.ensures.only told)
+
+pub returns-in-Err-take_read-clause-counts : goal.returns-in-Err-take_read-clause-counts
+returns-in-Err-take_read-clause-counts g c =
+    let after = g.G.Ground.counts_of c.noted.new.outside in
+    subst (λ fault. CountsIf (counted_open fault) (g.G.Ground.counts_of c.args.outside.now) after) (sym c.noted.ensures.same)
+    (subst (λ n. CountsIf (counted_open c.in-Err-take_read.fault) n after) c.in-Ok-Some.ensures.counts c.noted.ensures.counts)
+
+pub returns-in-Err-take_read-clause-there : goal.returns-in-Err-take_read-clause-there
+returns-in-Err-take_read-clause-there g c none =
+    none_missing c.args.slot.now c.args.space.now c.in-Ok-Some.at c.in-Ok-Some.rec c.args.found.now c.take_read.new.found c.in-Err-take_read.fault c.in-Err-take_read.ensures (same_fault c.in-Err-take_read.fault OpenFault.NoStore (ap (λ (fault : OpenFault). Err fault) (sym c.noted.ensures.same) ∙ none))
 
 pub returns-in-Err-clause-damaged : goal.returns-in-Err-clause-damaged
 returns-in-Err-clause-damaged g c told readable file at damaged =
     let walks = c.requires.walks in
     bad_unread c.args.slot.now c.requires.slot c.args.space.now g.G.Ground.tells _ _ c.args.walk.now c.args.found.now walks (λ t. (c.step.ensures.reads t).only) told readable file at c.in-Err.ensures.moves.0
     (c.step.ensures.reads told) c.in-Err.fault c.unread.result damaged c.unread.ensures (c.in-Err.ensures.found told readable (walks.current told readable)) c.in-Err.ensures.blames
+
+pub returns-in-Err-clause-counts : goal.returns-in-Err-clause-counts
+returns-in-Err-clause-counts g c = counts_unread c.args.space.now c.in-Err.fault c.unread.result (g.G.Ground.counts_of c.args.outside.now) (g.G.Ground.counts_of c.step.new.outside) c.unread.ensures c.in-Err.ensures.counts

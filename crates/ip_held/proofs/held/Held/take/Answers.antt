@@ -2,8 +2,9 @@ use Rattle.std.proofs.Common.{◌≡◌, rules, sym, subst}
 use Rattle.std.specs.Prelude.{true, Result, Ok, Err}
 use Rattle.ip_held.specs.declared.fault.StoreFault.{StoreFault}
 use Rattle.ip_held.specs.declared.held.Held.{Held}
+use Rattle.ip_held.specs.Clear.{KeepsClear}
 use Rattle.ip_held.specs.Step.{Grew, Took}
-use Rattle.ip_held.proofs.Taking.{cut_grew, cut_took, entered_is, may_take, none_grew, none_took, step_from, taken_grew, taken_took}
+use Rattle.ip_held.proofs.Taking.{cut_clear, cut_grew, cut_took, entered_is, may_take, none_grew, none_took, step_from, taken_clear, taken_grew, taken_took}
 use Rattle.ip_held.proofs.held.Held.take.Goals as goal
 
 -- ---- memory was refused
@@ -66,3 +67,27 @@ returns-clause-took g c told r after more held step =
     let makes = step_from store c.args.bytes.now c.args.step may r held.tables a held mid same b (Ok tt) (c.in_ok-durable_step.ensures.does told (may_take store c.args.bytes.now c.args.step may r held.tables a held mid same)) in
     subst (λ (now : Held). Took {A = Unit {0}} (λ done. true) held after more (Ok tt) now b) (sym (entered_is store c.args.step mid same c.grow.new.self c.grow.ensures))
     (taken_took store c.args.bytes.now c.args.step may r held.tables a held b makes after more step)
+
+-- ---- what was cleared away
+
+pub returns-in_err-enter-clause-clear : goal.returns-in_err-enter-clause-clear
+returns-in_err-enter-clause-clear g c told has r held =
+    let a = g.G.Ground.told c.args.outside.now in
+    subst (λ (now : Held). KeepsClear c.args.self.now now a a) (sym c.in_err-enter.ensures.err) (λ clear. clear)
+
+pub returns-in_err-durable_step-clause-clear : goal.returns-in_err-durable_step-clause-clear
+returns-in_err-durable_step-clause-clear g c told has r held =
+    let is : c.from_residual-in_err-durable_step.result ≡ Err StoreFault.Ground = search rules in
+    cut_clear c.from_residual-in_err-durable_step.result c.args.self.now c.enter.new.self (g.G.Ground.told c.args.outside.now) (g.G.Ground.told c.durable_step.new.outside) is has
+
+pub returns-clause-clear : goal.returns-clause-clear
+returns-clause-clear g c told has r held =
+    let store = c.args.self.now in
+    let may = c.requires.may in
+    let a = g.G.Ground.told c.args.outside.now in
+    let b = g.G.Ground.told c.durable_step.new.outside in
+    let mid = c.enter.new.self in
+    let same = c.in_ok-enter.ensures.ok in
+    let makes = step_from store c.args.bytes.now c.args.step may r held.tables a held mid same b (Ok tt) (c.in_ok-durable_step.ensures.does told (may_take store c.args.bytes.now c.args.step may r held.tables a held mid same)) in
+    subst (λ (now : Held). KeepsClear store now a b) (sym (entered_is store c.args.step mid same c.grow.new.self c.grow.ensures))
+    (taken_clear store c.args.bytes.now c.args.step may r held.tables a held b makes)
