@@ -8,8 +8,7 @@ use Rattle.std.proofs.Common.{◌≡◌, ◌≢◌, inl, inr, ℕ, ◌+◌, ◌-
 use Rattle.std.specs.Prelude.{◌⊎◌, if◌then◌else◌, IsSomeAnd}
 use Rattle.std.proofs.lemmas.Bool.{cases_lt}
 use Rattle.std.proofs.lemmas.List.{flat_map_more}
-use Rattle.ip_ground.specs.Counts.{Rose, RoseBy}
-use Rattle.ip_ground.specs.declared.names.GroundCounts.{GroundCounts}
+use Rattle.ip_ground.specs.Counts.{Noted, Rose, RoseBy}
 use Rattle.ip_base.specs.declared.exit.Reaped.{Reaped}
 use Rattle.ip_spawn.specs.Children as spawn
 use Rattle.ip_spawn.specs.declared.job.Job.{Job}
@@ -33,11 +32,11 @@ use Rattle.ip_held.specs.Collecting.{phase_of, IsJobOf, IsPhaseOf}
 use Rattle.ip_collects.specs.Starting.{IsJobAt}
 use Rattle.ip_session.specs.declared.session.Session.{Session}
 use Rattle.ip_session.specs.declared.session.SessionEnd.{SessionEnd}
-use Rattle.ip_session.specs.Asking.{HasStarted, MayReap, HeardOf, Asked, AskedIn, LetsGo}
+use Rattle.ip_session.specs.Asking.{HasStarted, MayReap, HeardOf, Asked, AskedIn, LetsGo, starts_in}
 use Rattle.ip_session.specs.Session.{IsServing, conditions_with, CountsBy, CountsIn}
 use Rattle.std.specs.Prelude.{Result}
 use Rattle.ip_app.specs.Exchanges.{Exchange, after_all}
-use Rattle.ip_app.specs.Happening.{HappensBy, Happens, AllHappen, jobs_in, ends_in}
+use Rattle.ip_app.specs.Happening.{HappensBy, Happens, AllHappen, started_in, ends_in}
 use Rattle.ip_app.specs.Turns.{turn_counts, SpawnsLater}
 use Rattle.ip_app.proofs.Counting.{risen}
 
@@ -56,19 +55,19 @@ heard_of : (collection : Option Collection) (reaped : Reaped) (ends : List Reape
 heard_of None reaped ends p q h = absurd h
 heard_of (Some c) reaped ends p q h = h.1
 
-left_of : (command : Command) (reply : Reply) (met : Met) (a b : GroundCounts) → MayReap command → CountsBy (Ok reply) command met a b → RoseBy met.left a.remove_faults b.remove_faults
+left_of : (command : Command) (reply : Reply) (met : Met) (a b : Noted) → MayReap command → CountsBy (Ok reply) command met a b → RoseBy met.left a.remove_faults b.remove_faults
 left_of Command.Look reply met a b may counts = counts.rose
 left_of Command.Finish reply met a b may counts = counts.rose
 left_of Command.Cancel reply met a b may counts = counts.rose
 left_of _ reply met a b may counts = absurd may
 
-none_left_of : (command : Command) (reply : Reply) (met : Met) (a b : GroundCounts) → (MayReap command → met.left ≡ 0) → CountsBy (Ok reply) command met a b → b.remove_faults ≡ a.remove_faults
-none_left_of Command.Look reply met a b none counts = ap (λ (c : GroundCounts). c.remove_faults) (counts.none (none tt))
-none_left_of Command.Finish reply met a b none counts = ap (λ (c : GroundCounts). c.remove_faults) (counts.none (none tt))
-none_left_of Command.Cancel reply met a b none counts = ap (λ (c : GroundCounts). c.remove_faults) (counts.none (none tt))
-none_left_of _ reply met a b none counts = ap (λ (c : GroundCounts). c.remove_faults) counts
+none_left_of : (command : Command) (reply : Reply) (met : Met) (a b : Noted) → (MayReap command → met.left ≡ 0) → CountsBy (Ok reply) command met a b → b.remove_faults ≡ a.remove_faults
+none_left_of Command.Look reply met a b none counts = ap (λ (c : Noted). c.remove_faults) (counts.none (none tt))
+none_left_of Command.Finish reply met a b none counts = ap (λ (c : Noted). c.remove_faults) (counts.none (none tt))
+none_left_of Command.Cancel reply met a b none counts = ap (λ (c : Noted). c.remove_faults) (counts.none (none tt))
+none_left_of _ reply met a b none counts = ap (λ (c : Noted). c.remove_faults) counts
 
-module _ (s s' : Session) (reply : Reply) (difference : Option Difference) (jobs : List Job) (ends : List Reaped) (after : State) (a b : GroundCounts) (p q : SpawnCounts) where
+module _ (s s' : Session) (reply : Reply) (difference : Option Difference) (jobs : List Job) (ends : List Reaped) (after : State) (a b : Noted) (p q : SpawnCounts) where
   abbrev plain : Bytes → Exchange
   plain line = exchange_of line s'.met (turn_counts a p) (turn_counts b q) difference jobs ends reply after
 
@@ -92,7 +91,7 @@ module _ (s s' : Session) (reply : Reply) (difference : Option Difference) (jobs
   plainly : (line : Bytes) → AskedIn s s' line (Ok reply) jobs ends p q → CountsIn line (Ok reply) s'.met a b → Happens (phase_of s.store.held.collection) (plain line)
   plainly line asked counts = record {
     command = λ command served. by_command line command (asked.command command served) (counts.command command served);
-    none = λ no. let it = asked.none no in (it.0, it.1, it.2, ap (λ (c : GroundCounts). c.remove_faults) (counts.none no));
+    none = λ no. let it = asked.none no in (it.0, it.1, it.2, ap (λ (c : Noted). c.remove_faults) (counts.none no));
   }
 
   pub happens_of : (line read : Bytes) (met : Met) (before later : TurnCounts) → read ≡ line → met ≡ s'.met → before ≡ turn_counts a p → later ≡ turn_counts b q → AskedIn s s' read (Ok reply) jobs ends p q → CountsIn read (Ok reply) s'.met a b
@@ -178,9 +177,9 @@ happen_more first [] x h now = (now, tt)
 happen_more first (y ∷ xs) x h now = (h.0, happen_more y.after xs x h.1 now)
 
 -- what a spawner tells that started and reaped these
-abbrev pub told_with : List Job → List Reaped → spawn.Told
-told_with jobs ends = record { started = jobs; reaped = ends }
+abbrev pub told_with : List spawn.Start → List Reaped → spawn.Told
+told_with starts ends = record { started = starts; reaped = ends }
 
-pub spawned_more : (old mid new : spawn.Told) (xs : List Exchange) (x : Exchange) → mid ≡ told_with (old.started ++ jobs_in xs) (old.reaped ++ ends_in xs) → new ≡ told_with (mid.started ++ x.started) (mid.reaped ++ x.reaped) → new ≡ told_with (old.started ++ jobs_in (xs ++ x ∷ [])) (old.reaped ++ ends_in (xs ++ x ∷ []))
-spawned_more old mid new xs x first next =
-    next ∙ ap₂ told_with (ap (λ (t : spawn.Told). t.started ++ x.started) first ∙ flat_map_more (λ x. x.started) old.started xs x) (ap (λ (t : spawn.Told). t.reaped ++ x.reaped) first ∙ flat_map_more (λ x. x.reaped) old.reaped xs x)
+pub spawned_more : (dir : Bytes) (old mid new : spawn.Told) (xs : List Exchange) (x : Exchange) → mid ≡ told_with (old.started ++ started_in dir xs) (old.reaped ++ ends_in xs) → new ≡ told_with (mid.started ++ starts_in dir x.started) (mid.reaped ++ x.reaped) → new ≡ told_with (old.started ++ started_in dir (xs ++ x ∷ [])) (old.reaped ++ ends_in (xs ++ x ∷ []))
+spawned_more dir old mid new xs x first next =
+    next ∙ ap₂ told_with (ap (λ (t : spawn.Told). t.started ++ starts_in dir x.started) first ∙ flat_map_more (λ x. starts_in dir x.started) old.started xs x) (ap (λ (t : spawn.Told). t.reaped ++ x.reaped) first ∙ flat_map_more (λ x. x.reaped) old.reaped xs x)

@@ -9,6 +9,7 @@ use Rattle.std.proofs.lemmas.List.{map-append}
 use Rattle.ip_ground.specs.declared.names.FileName.TheVariants.{Control}
 use Rattle.ip_spawn.specs.Children as spawn
 use Rattle.ip_spawn.specs.declared.spawner.SpawnCounts.{SpawnCounts}
+use Rattle.ip_ground.specs.Counts.{as_nothing}
 use Rattle.ip_ground.specs.Told.{said, SyncsOnly, Only}
 use Rattle.ip_ground.proofs.Spans.{said_now}
 use Rattle.ip_image.specs.declared.counts.TurnCounts.{TurnCounts}
@@ -39,14 +40,14 @@ use Rattle.ip_app.specs.Exchanges.{Exchange, answer_of, lines_in, texts_in}
 use Rattle.ip_app.specs.Exchanging.{is_cut_short, CountsServing, Exchanged, Replied, CutShort, CutsShort}
 use Rattle.ip_app.specs.Loading.{load_script, replies_in, load_text, LoadHeadline, LoadRow, Loads, LoadsWhereAllIsWell}
 use Rattle.ip_app.specs.Loaded.{Loaded, Summed, FinishesLoad}
-use Rattle.ip_app.specs.Outside.{Outside, Tells, Knows, GoesOn, IsUnasked}
+use Rattle.ip_app.specs.Outside.{Outside, Tells, Knows, GoesOn, IsBound, IsUnasked}
 use Rattle.ip_app.specs.Judged.{Watches, IsWatchedTo, texts_by, says_nothing}
 use Rattle.ip_app.specs.Places.{PlacesIn}
 use Rattle.ip_app.specs.Turns.{turn_counts}
 use Rattle.ip_app.specs.Run.{CouldNotOpen, IsUntouched, Begins, IsBehindOpening, AsksChildren}
 use Rattle.ip_app.specs.Serving.{CountsOf}
 use Rattle.ip_app.proofs.Cleared.{clear_synced, cleared_at}
-use Rattle.ip_app.proofs.Counting.{removals_on, removals_same, serving_of, serving_on}
+use Rattle.ip_app.proofs.Counting.{removals_bound, removals_on, serving_of, serving_on, bound_to, bound_counts, IsNoDamage}
 use Rattle.ip_app.proofs.Judging.{none_said, watched_none, watched_unbegun, watched_next, watched_cut, watched_all}
 use Rattle.ip_app.proofs.LivePair.{owns_pending}
 use Rattle.ip_app.proofs.Moments.{headline_none}
@@ -67,7 +68,7 @@ drop_front (x ∷ xs) ys = drop_front xs ys
 
 pub loaded_first : (rule : Rule) (decisive : Bool) → (IsTrue decisive → IsDecisive rule) → (seed : ℕ) (old now : Outside) (counts : TurnCounts) (s : Session) (summary : Summary) (r : Repository) (v : View) → v ≡ no_view → (known : (b : Bool) × (Knows decisive old → IsTrue b) × (IsTrue b → Knows decisive old)) → IsServing s → state_in s r v ≡ opened r
     → (Tells old → IsWorking now.told s r v) → (Tells old → IsClearAt old.told → IsCleared s.store.held now.told) → (Tells old → StandsFor old.told.held r) → (opening : IsTrue old.ground_tells → RecoversOnceOpen old.told now.told) → ((tells : Tells old) → (opening tells.0).since ≤ now.told.moment)
-    → counts ≡ turn_counts old.counts old.spawns → now.counts ≡ old.counts → IsUnasked old now → s.store.held.collection ≡ None → old.held ≡ None → now.read_faults ≡ old.read_faults → GoesOn old now → (IsTrue old.ground_tells → SyncsOnly (Only Control) old.told now.told) → now.turns ≡ old.turns → now.left ≡ old.left → Tallies summary []
+    → counts ≡ turn_counts old.counts old.spawns → now.counts ≡ bound_to old.dir old.counts → IsUnasked old now → s.store.held.collection ≡ None → old.held ≡ None → now.read_faults ≡ old.read_faults → GoesOn old now → (IsTrue old.ground_tells → SyncsOnly (Only Control) old.told now.told) → now.turns ≡ old.turns → now.left ≡ old.left → Tallies summary []
     → Loaded rule decisive seed seed 0 old now counts s summary
 loaded_first rule decisive by_rule seed old now counts s summary r v none_known known serving begun working cleared began opening over counted no_fault unasked idle alone reads g f turns left tallies = record {
   known = known.0;
@@ -78,7 +79,7 @@ loaded_first rule decisive by_rule seed old now counts s summary r v none_known 
   slot = s.store.held.slot;
   ran = ran_first rule decisive by_rule old now counts s r v none_known known serving begun working cleared began opening counted no_fault unasked idle alone reads g f turns;
   watched = λ is. watched_none says_nothing old.told now.told (opened r) s.store.held.collection idle refl;
-  no_fault = removals_same old.counts now.counts no_fault;
+  no_fault = removals_bound old.counts now.counts (bound_counts old.dir old.counts now.counts as_nothing no_fault);
   lines_then = λ more. let n : 0 + more ≡ more = omega arith in ap (lines_from seed 1) n;
   count = refl;
   tallies = tallies;
@@ -300,8 +301,8 @@ module _ (rule : Rule) (decisive : Bool) (seed state number : ℕ) (old mid : Ou
 -- ---- no line was run
 
 loads_none : (rule : Rule) (decisive : Bool) (seed count : ℕ) (old new : Outside) (s : Status) → GoesOn old new → (IsTrue old.ground_tells → SyncsOnly (Only Control) old.told new.told) → (IsTrue old.ground_tells → RecoversOnceOpen old.told new.told) → new.left ≡ old.left → new.turns ≡ old.turns → IsUnasked old new → new.read_faults ≡ old.read_faults
-    → (IsBehindOpening s [] → ⊥) → (s ≡ status.Done → ⊥) → Begins s old (opened no_repository) [] → CountsOf s old.counts new.counts → LoadRow decisive s old new → Loads rule decisive seed count old new s
-loads_none rule decisive seed count old new s g f opening left turns unasked reads unopened undone begins counted row =
+    → (IsBehindOpening s [] → ⊥) → (s ≡ status.Done → ⊥) → Begins s old (opened no_repository) [] → IsBound old.dir s old.counts new.counts → IsNoDamage s → CountsOf s old.counts new.counts → LoadRow decisive s old new → Loads rule decisive seed count old new s
+loads_none rule decisive seed count old new s g f opening left turns unasked reads unopened undone begins bound sound counted row =
     let first = opened no_repository in
     let quiet : IsTrue old.ground_tells → said new.told ≡ said old.told = λ b. said_now old.told new.told (f b).changes.goes (f b).changes.said in
     record {
@@ -326,7 +327,7 @@ loads_none rule decisive seed count old new s g f opening left turns unasked rea
           clear = λ b whole. clear_synced old.told new.told (f b.0.0);
           files = λ b. keeps_unchanged old.told new.told (f b.0.0);
         };
-        notes = notes_none s old new turns reads unopened (serving_of s old.counts new.counts counted);
+        notes = notes_none s old new turns reads unopened bound (serving_of s old.counts new.counts sound counted);
         row = row;
       };
       children = asks_none (is_cut_short s) old new unasked;
@@ -334,27 +335,27 @@ loads_none rule decisive seed count old new s g f opening left turns unasked rea
 
 -- the store could not be opened
 pub loads_unopened : (rule : Rule) (decisive : Bool) (seed count : ℕ) (old new : Outside) (s : Status) → GoesOn old new → (IsTrue old.ground_tells → SyncsOnly (Only Control) old.told new.told) → (IsTrue old.ground_tells → RecoversOnceOpen old.told new.told) → new.left ≡ old.left → new.turns ≡ old.turns → IsUnasked old new → new.read_faults ≡ old.read_faults
-    → CouldNotOpen s old.ground_tells old.told → CountsOf s old.counts new.counts → Loads rule decisive seed count old new s
-loads_unopened rule decisive seed count old new s g f opening left turns unasked reads could_not counted = by_status s could_not counted
+    → CouldNotOpen s old.ground_tells old.told → IsBound old.dir s old.counts new.counts → CountsOf s old.counts new.counts → Loads rule decisive seed count old new s
+loads_unopened rule decisive seed count old new s g f opening left turns unasked reads could_not bound counted = by_status s could_not bound counted
   where
     untouched : IsUntouched old new []
     untouched = record { none_taken = refl; left = left; said_nothing = λ told. said_now old.told new.told (f told).changes.goes (f told).changes.said; only = f; turns = turns; unasked = unasked }
 
-    by_status : (s : Status) → CouldNotOpen s old.ground_tells old.told → CountsOf s old.counts new.counts → Loads rule decisive seed count old new s
-    by_status status.NoStore h n = loads_none rule decisive seed count old new status.NoStore g f opening left turns unasked reads (λ b. b) (λ e. absurd (cc e)) refl n (untouched, h)
-    by_status (status.Damaged file at) h n = loads_none rule decisive seed count old new (status.Damaged file at) g f opening left turns unasked reads (λ b. b) (λ e. absurd (cc e)) refl n (untouched, λ tells. h tells.0 tells.1)
-    by_status status.GroundFault h n = loads_none rule decisive seed count old new status.GroundFault g f opening left turns unasked reads (λ some. some refl) (λ e. absurd (cc e)) (inl refl) n tt
-    by_status status.Memory h n = loads_none rule decisive seed count old new status.Memory g f opening left turns unasked reads (λ b. b) (λ e. absurd (cc e)) refl n untouched
-    by_status status.Done h n = absurd h
-    by_status status.Usage h n = absurd h
-    by_status (status.DamagedRecord at) h n = absurd h
-    by_status (status.DamagedName at want got) h n = absurd h
-    by_status status.DamagedJob h n = absurd h
-    by_status status.ReadFault h n = absurd h
-    by_status status.SayFault h n = absurd h
-    by_status (status.Limit bound) h n = absurd h
-    by_status status.Unfinished h n = absurd h
-    by_status status.Exists h n = absurd h
+    by_status : (s : Status) → CouldNotOpen s old.ground_tells old.told → IsBound old.dir s old.counts new.counts → CountsOf s old.counts new.counts → Loads rule decisive seed count old new s
+    by_status status.NoStore h b n = loads_none rule decisive seed count old new status.NoStore g f opening left turns unasked reads (λ behind. behind) (λ e. absurd (cc e)) refl b tt n (untouched, h)
+    by_status (status.Damaged file at) h b n = loads_none rule decisive seed count old new (status.Damaged file at) g f opening left turns unasked reads (λ behind. behind) (λ e. absurd (cc e)) refl b tt n (untouched, λ tells. h tells.0 tells.1)
+    by_status status.GroundFault h b n = loads_none rule decisive seed count old new status.GroundFault g f opening left turns unasked reads (λ some. some refl) (λ e. absurd (cc e)) (inl refl) b tt n tt
+    by_status status.Memory h b n = loads_none rule decisive seed count old new status.Memory g f opening left turns unasked reads (λ behind. behind) (λ e. absurd (cc e)) refl b tt n untouched
+    by_status status.Done h b n = absurd h
+    by_status status.Usage h b n = absurd h
+    by_status (status.DamagedRecord at) h b n = absurd h
+    by_status (status.DamagedName at want got) h b n = absurd h
+    by_status status.DamagedJob h b n = absurd h
+    by_status status.ReadFault h b n = absurd h
+    by_status status.SayFault h b n = absurd h
+    by_status (status.Limit bound) h b n = absurd h
+    by_status status.Unfinished h b n = absurd h
+    by_status status.Exists h b n = absurd h
 
 -- its row, or what was counted, excludes each status but two
 pub load_ends : (decisive : Bool) → IsTrue decisive → (s : Status) (old new : Outside) → LoadRow decisive s old new → CountsServing s old.counts new.counts → LoadsWhereAllIsWell old new s

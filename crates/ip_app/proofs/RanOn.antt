@@ -4,12 +4,13 @@
 --     trace_more, ran_more      one exchange more.      ran_first      none yet.      said_along      a reply is said behind it
 --     let_go_as, LetsGoAs, goes_on_gone      the child that is held is let go.      notes_of, asks_of      what was noted, and asked of the spawner.      notes_none, asks_none      where no command was begun
 --     places_in      where its records came to lie, from the slot that was live
-use Rattle.std.proofs.Common.{true, ◌≡◌, inl, ℕ, ◌≤◌, Bool, List, [], ◌∷◌, ◌++◌, length, refl, sym, ap, ap₂, ◌∙◌, subst, arith, append_assoc, IsTrue, Option, None}
+use Rattle.std.proofs.Common.{true, ◌≡◌, inl, ℕ, ◌≤◌, Bool, List, [], ◌∷◌, ◌++◌, length, refl, sym, ap, ap₂, ◌∙◌, subst, arith, append_assoc, IsTrue, Option, None, Some}
 use Rattle.std.proofs.lemmas.List.{map-append}
 use Rattle.ip_ground.specs.declared.names.FileName.TheVariants.{Control}
 use Rattle.ip_base.specs.declared.exit.Reaped.{Reaped}
 use Rattle.ip_spawn.specs.Children as spawn
 use Rattle.ip_spawn.specs.declared.spawner.SpawnCounts.{SpawnCounts}
+use Rattle.ip_ground.specs.Counts.{Noted}
 use Rattle.ip_ground.specs.Told.{Told, SyncsOnly, Only}
 use Rattle.ip_ground.proofs.Rising.{none_falls_on}
 use Rattle.ip_image.specs.declared.counts.TurnCounts.{TurnCounts}
@@ -18,6 +19,7 @@ use Rattle.ip_image.specs.Standing.{StandsFor}
 use Rattle.ip_image.specs.Pending.{HasLive}
 use Rattle.ip_image.proofs.HeadlineLaws.{one_slot}
 use Rattle.ip_spec.specs.Merge.{Rule}
+use Rattle.ip_spec.specs.Path.{Bytes}
 use Rattle.ip_spec.specs.View.{View, no_view}
 use Rattle.ip_spec.specs.Repository.{Repository}
 use Rattle.ip_spec.specs.Machine.{State, Phase, opened}
@@ -39,11 +41,12 @@ use Rattle.ip_app.specs.Exchanges.{Exchange, conditions, Run, after_all, turns_i
 use Rattle.ip_session.specs.Placing.{PlacedIn}
 use Rattle.ip_session.specs.Session.{IsViewIn}
 use Rattle.ip_app.specs.Places.{Places, PlacesIn, StartsAt, HearsAt}
-use Rattle.ip_app.specs.Happening.{Happens, AllHappen, HappenIn, jobs_in, ends_in}
+use Rattle.ip_app.specs.Happening.{Happens, AllHappen, HappenIn, started_in, ends_in}
+use Rattle.ip_session.specs.Asking.{starts_in}
 use Rattle.ip_app.specs.Turns.{turn_counts, SpawnsLater, Follow}
-use Rattle.ip_app.specs.Outside.{Outside, Tells, Knows, GoesOn, IsUnasked}
+use Rattle.ip_app.specs.Outside.{Outside, Tells, Knows, GoesOn, IsBound, IsUnasked}
 use Rattle.ip_app.specs.Run.{IsBehindOpening, Notes, AsksChildren}
-use Rattle.ip_app.proofs.Counting.{spawns_on, still_at, follow_more}
+use Rattle.ip_app.proofs.Counting.{bound_to, spawns_on, still_at, follow_more}
 use Rattle.ip_app.proofs.Happened.{happen_more, told_with, spawned_more}
 use Rattle.ip_app.proofs.LivePair.{live_before}
 use Rattle.ip_app.specs.Exchanging.{OnlyRemovals, CountsServing, Begun, Exchanged, Trace, Ran}
@@ -65,6 +68,7 @@ told_before a b e h = subst IsTrue (sym e) h
 
 pub goes_on_then : (a b c : Outside) → GoesOn a b → GoesOn b c → GoesOn a c
 goes_on_then a b c g h = record {
+  dir = h.dir ∙ g.dir;
   source_tells = h.source_tells ∙ g.source_tells;
   ground_tells = h.ground_tells ∙ g.ground_tells;
   spawner_tells = h.spawner_tells ∙ g.spawner_tells;
@@ -97,10 +101,11 @@ trace_more rule decisive known xs first old mid new counts counts' state x h no_
   began = h.began;
   run = λ g. run_more rule (opened first) state xs x (at g) (h.run g) (t.step g);
   noted = λ l. t.noted l ∙ (ap (λ u. u ++ x.turn ∷ []) (h.noted (t.goes_on.log_tells l)) ∙ (append_assoc old.turns (turns_in xs) (x.turn ∷ []) ∙ ap (λ u. old.turns ++ u) (sym (map-append (λ x. x.turn) xs (x ∷ [])))));
-  spawned = λ b. spawned_more old.spawned mid.spawned new.spawned xs x (h.spawned b) (t.spawned (told_before _ _ h.goes_on.spawner_tells b));
+  spawned = λ b. spawned_more old.dir old.spawned mid.spawned new.spawned xs x (h.spawned b) (subst (λ (dir : Bytes). new.spawned ≡ told_with (mid.spawned.started ++ starts_in dir x.started) (mid.spawned.reaped ++ x.reaped)) h.goes_on.dir (t.spawned (told_before _ _ h.goes_on.spawner_tells b)));
   counts_now = t.until;
   follow = follow;
   reads = t.reads ∙ h.reads;
+  bound = t.bound ∙ h.bound;
 }
   where
     follow : Follow (turn_counts old.counts old.spawns) (turns_in (xs ++ x ∷ [])) counts'
@@ -136,7 +141,7 @@ told_none told = ap₂ told_with (sym (append_nil told.started)) (sym (append_ni
 -- no line was run yet
 pub ran_first : (rule : Rule) (decisive : Bool) → (IsTrue decisive → IsDecisive rule) → (old now : Outside) (counts : TurnCounts) (s : Session) (r : Repository) (v : View) → v ≡ no_view → (known : (b : Bool) × (Knows decisive old → IsTrue b) × (IsTrue b → Knows decisive old)) → IsServing s → state_in s r v ≡ opened r
     → (Tells old → IsWorking now.told s r v) → (Tells old → IsClearAt old.told → IsCleared s.store.held now.told) → (Tells old → StandsFor old.told.held r) → (IsTrue old.ground_tells → RecoversOnceOpen old.told now.told)
-    → counts ≡ turn_counts old.counts old.spawns → now.counts ≡ old.counts → IsUnasked old now → s.store.held.collection ≡ None → old.held ≡ None → now.read_faults ≡ old.read_faults → GoesOn old now → (IsTrue old.ground_tells → SyncsOnly (Only Control) old.told now.told) → now.turns ≡ old.turns
+    → counts ≡ turn_counts old.counts old.spawns → now.counts ≡ bound_to old.dir old.counts → IsUnasked old now → s.store.held.collection ≡ None → old.held ≡ None → now.read_faults ≡ old.read_faults → GoesOn old now → (IsTrue old.ground_tells → SyncsOnly (Only Control) old.told now.told) → now.turns ≡ old.turns
     → Ran rule decisive known.0 [] r r v s.store.held.slot old now counts s
 ran_first rule decisive by_rule old now counts s r v none_known known serving begun working cleared began opening counted no_fault unasked idle alone reads g f turns = record {
   trace = record {
@@ -152,6 +157,7 @@ ran_first rule decisive by_rule old now counts s r v none_known known serving be
     counts_now = counted ∙ ap₂ turn_counts (sym no_fault) (sym unasked.spawns);
     follow = counted;
     reads = reads;
+    bound = ap (λ (n : Noted). n.bound) no_fault;
   };
   now_at = λ is. begun;
   live = λ is. live_before old.told now.told (f (known.2 is).0.0).files s.store.held.slot (held_has s.store.held r now.told (working (known.2 is).0).holds);
@@ -180,6 +186,7 @@ pub record LetsGoAs (new : Outside) (spawned : spawn.Told) (held : Option ℕ) (
 
 pub goes_on_gone : (old new : Outside) (spawned : spawn.Told) (held : Option ℕ) (spawns : SpawnCounts) → SpawnsLater new.spawns spawns → GoesOn old new → GoesOn old (let_go_as new spawned held spawns)
 goes_on_gone old new spawned held spawns later g = record {
+  dir = g.dir;
   source_tells = g.source_tells;
   ground_tells = g.ground_tells;
   spawner_tells = g.spawner_tells;
@@ -190,8 +197,8 @@ goes_on_gone old new spawned held spawns later g = record {
 }
 
 -- what was started and reaped in these exchanges, and then
-pub told_gone : (old new : Outside) (spawned : spawn.Told) (xs : List Exchange) (ends : List Reaped) → new.spawned ≡ told_with (old.spawned.started ++ jobs_in xs) (old.spawned.reaped ++ ends_in xs) → spawned ≡ told_with new.spawned.started (new.spawned.reaped ++ ends)
-    → spawned ≡ told_with (old.spawned.started ++ jobs_in xs) ((old.spawned.reaped ++ ends_in xs) ++ ends)
+pub told_gone : (old new : Outside) (spawned : spawn.Told) (xs : List Exchange) (ends : List Reaped) → new.spawned ≡ told_with (old.spawned.started ++ started_in old.dir xs) (old.spawned.reaped ++ ends_in xs) → spawned ≡ told_with new.spawned.started (new.spawned.reaped ++ ends)
+    → spawned ≡ told_with (old.spawned.started ++ started_in old.dir xs) ((old.spawned.reaped ++ ends_in xs) ++ ends)
 told_gone old new spawned xs ends so then_gone = then_gone ∙ ap (λ (t : spawn.Told). told_with t.started (t.reaped ++ ends)) so
 
 -- what was noted
@@ -202,6 +209,8 @@ notes_of rule decisive known xs first end old new counts h counted spawned held 
   follow = λ behind. (new.spawns, gone.later, subst (λ (e : TurnCounts). Follow (turn_counts old.counts old.spawns) (turns_in xs) e) h.counts_now h.follow);
   counted = counted;
   reads = λ other. h.reads;
+  bound = inl h.bound;
+  bound_first = λ some. h.bound;
 }
 
 -- what was asked of the spawner
@@ -214,12 +223,14 @@ asks_of rule decisive known xs first cut_off old new counts h happen spawned hel
 }
 
 -- where no command was begun
-pub notes_none : (end : Status) (old new : Outside) → new.turns ≡ old.turns → new.read_faults ≡ old.read_faults → (IsBehindOpening end [] → ⊥) → CountsServing end old.counts new.counts → Notes old new end []
-notes_none end old new turns reads unopened counted = record {
+pub notes_none : (end : Status) (old new : Outside) → new.turns ≡ old.turns → new.read_faults ≡ old.read_faults → (IsBehindOpening end [] → ⊥) → IsBound old.dir end old.counts new.counts → CountsServing end old.counts new.counts → Notes old new end []
+notes_none end old new turns reads unopened bound counted = record {
   noted = λ b. turns ∙ sym (append_nil old.turns);
   follow = λ behind. absurd (unopened behind);
   counted = counted;
   reads = λ other. reads;
+  bound = bound;
+  bound_first = λ some. absurd (some refl);
 }
 
 pub asks_none : (cut_off : Bool) (old new : Outside) → IsUnasked old new → AsksChildren cut_off old new []

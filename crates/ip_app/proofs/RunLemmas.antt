@@ -8,7 +8,7 @@ use Rattle.ip_ground.specs.declared.names.FileName.TheVariants.{Control}
 use Rattle.ip_ground.specs.declared.names.GroundFault.{GroundFault}
 use Rattle.ip_spawn.specs.Children as spawn
 use Rattle.ip_spawn.specs.declared.spawner.SpawnCounts.{SpawnCounts}
-use Rattle.ip_ground.specs.Counts.{Rose}
+use Rattle.ip_ground.specs.Counts.{Noted, Rose, as_nothing}
 use Rattle.ip_ground.specs.Told.{Told, said, ChangesOnly, SyncsOnly, Only, NoFile}
 use Rattle.ip_ground.specs.Calls.{Says}
 use Rattle.ip_ground.proofs.Spans.{said_now, lending_now}
@@ -48,12 +48,12 @@ use Rattle.ip_app.specs.Exchanges.{Exchange, answer_of, lines_in, turns_in, text
 use Rattle.ip_app.specs.Places.{PlacesIn}
 use Rattle.ip_app.specs.Judged.{Watches}
 use Rattle.ip_app.specs.Turns.{turn_counts, Follow}
-use Rattle.ip_app.specs.Outside.{Outside, Tells, Knows, GoesOn, IsUnasked}
+use Rattle.ip_app.specs.Outside.{Outside, Tells, Knows, GoesOn, IsBound, IsUnasked}
 use Rattle.ip_app.specs.Serving.{is_cut_short, SaysPart, TurnedIn, Stopped, Unsaid, CountsOf, OnlyRemovals, CountsServing, Stops, Served}
 use Rattle.ip_app.proofs.RanOn.{append_nil, after_more, told_before, goes_on_then, keeps_unchanged, trace_more, ran_more, ran_first, let_go_as, LetsGoAs, goes_on_gone, told_gone, notes_of, asks_of, notes_none, asks_none, happen_all, happen_cut, placed_all, placed_cut}
 use Rattle.ip_app.specs.Run.{CouldNotOpen, IsUntouched, IsOpened, Begins, is_cut_off, Row, IsBehindOpening, AsksChildren, Serves, EndsWhereAllIsWell}
 use Rattle.ip_app.proofs.Cleared.{clear_synced, cleared_same}
-use Rattle.ip_app.proofs.Counting.{removals_same, removals_on, serving_of, serving_on}
+use Rattle.ip_app.proofs.Counting.{removals_bound, removals_on, serving_of, serving_on, bound_to, bound_counts, IsNoDamage}
 use Rattle.ip_app.proofs.Judging.{texts_same, watched_none, watched_unbegun, watched_next, watched_along, watched_cut, ended_same}
 use Rattle.ip_app.proofs.LivePair.{owns_pending}
 use Rattle.ip_app.proofs.SameFiles.{stands_after}
@@ -121,7 +121,7 @@ served_more rule decisive old mid new lines lines' counts counts' s s' h turned 
 -- no line was served yet
 pub served_first : (rule : Rule) (decisive : Bool) → (IsTrue decisive → IsDecisive rule) → (old now : Outside) (lines : Lines) (counts : TurnCounts) (s : Session) (r : Repository) (v : View) → v ≡ no_view → (known : (b : Bool) × (Knows decisive old → IsTrue b) × (IsTrue b → Knows decisive old)) → IsServing s → state_in s r v ≡ opened r → (Tells old → IsWorking now.told s r v) → (Tells old → IsClearAt old.told → IsCleared s.store.held now.told) → (Tells old → StandsFor old.told.held r)
     → (opening : IsTrue old.ground_tells → RecoversOnceOpen old.told now.told) → ((tells : Tells old) → (opening tells.0).since ≤ now.told.moment)
-    → counts ≡ turn_counts old.counts old.spawns → now.counts ≡ old.counts → IsUnasked old now → s.store.held.collection ≡ None → old.held ≡ None → now.read_faults ≡ old.read_faults → GoesOn old now → (IsTrue old.ground_tells → SyncsOnly (Only Control) old.told now.told) → now.left ≡ old.left → now.turns ≡ old.turns → pending lines ≡ [] → lines.taken ≡ 0 → Served rule decisive old now lines counts s
+    → counts ≡ turn_counts old.counts old.spawns → now.counts ≡ bound_to old.dir old.counts → IsUnasked old now → s.store.held.collection ≡ None → old.held ≡ None → now.read_faults ≡ old.read_faults → GoesOn old now → (IsTrue old.ground_tells → SyncsOnly (Only Control) old.told now.told) → now.left ≡ old.left → now.turns ≡ old.turns → pending lines ≡ [] → lines.taken ≡ 0 → Served rule decisive old now lines counts s
 served_first rule decisive by_rule old now lines counts s r v none_known known serving begun working cleared began opening over counted no_fault unasked idle alone reads g f left turns none zero =
     record {
       known = known.0;
@@ -132,7 +132,7 @@ served_first rule decisive by_rule old now lines counts s r v none_known known s
       view = v;
       slot = s.store.held.slot;
       ran = ran_first rule decisive by_rule old now counts s r v none_known known serving begun working cleared began opening counted no_fault unasked idle alone reads g f turns;
-      no_fault = removals_same old.counts now.counts no_fault;
+      no_fault = removals_bound old.counts now.counts (bound_counts old.dir old.counts now.counts as_nothing no_fault);
       bytes = λ b. sym left ∙ ap (λ (u : Bytes). u ++ now.left) (sym none);
       lines_then = λ tail. refl;
       rest_then = λ tail. refl;
@@ -147,8 +147,8 @@ served_first rule decisive by_rule old now lines counts s r v none_known known s
 
 -- no line was served at all
 pub serves_none : (rule : Rule) (decisive : Bool) (old new : Outside) (s : Status) → GoesOn old new → (IsTrue old.ground_tells → SyncsOnly (Only Control) old.told new.told) → (IsTrue old.ground_tells → RecoversOnceOpen old.told new.told) → new.left ≡ old.left → new.turns ≡ old.turns → IsUnasked old new → new.read_faults ≡ old.read_faults
-    → (IsBehindOpening s [] → ⊥) → Begins s old (opened no_repository) [] → CountsOf s old.counts new.counts → Row decisive s old new [] → Serves rule decisive old new s
-serves_none rule decisive old new s g f opening left turns unasked reads unopened begins counted row =
+    → (IsBehindOpening s [] → ⊥) → Begins s old (opened no_repository) [] → IsBound old.dir s old.counts new.counts → IsNoDamage s → CountsOf s old.counts new.counts → Row decisive s old new [] → Serves rule decisive old new s
+serves_none rule decisive old new s g f opening left turns unasked reads unopened begins bound sound counted row =
     let first = opened no_repository in
     let quiet : IsTrue old.ground_tells → said new.told ≡ said old.told = λ b. said_now old.told new.told (f b).changes.goes (f b).changes.said in
     record {
@@ -175,34 +175,34 @@ serves_none rule decisive old new s g f opening left turns unasked reads unopene
         clear = λ b whole. clear_synced old.told new.told (f b.0.0);
         files = λ b. keeps_unchanged old.told new.told (f b.0.0);
       };
-      notes = notes_none s old new turns reads unopened (serving_of s old.counts new.counts counted);
+      notes = notes_none s old new turns reads unopened bound (serving_of s old.counts new.counts sound counted);
       children = asks_none (is_cut_off s) old new unasked;
       row = row;
     }
 
 -- the store could not be opened
 pub begins_unopened : (rule : Rule) (decisive : Bool) (old new : Outside) (s : Status) → GoesOn old new → (IsTrue old.ground_tells → SyncsOnly (Only Control) old.told new.told) → (IsTrue old.ground_tells → RecoversOnceOpen old.told new.told) → new.left ≡ old.left → new.turns ≡ old.turns → IsUnasked old new → new.read_faults ≡ old.read_faults
-    → CouldNotOpen s old.ground_tells old.told → CountsOf s old.counts new.counts → Serves rule decisive old new s
-begins_unopened rule decisive old new s g f opening left turns unasked reads could_not counted = by_status s could_not counted
+    → CouldNotOpen s old.ground_tells old.told → IsBound old.dir s old.counts new.counts → CountsOf s old.counts new.counts → Serves rule decisive old new s
+begins_unopened rule decisive old new s g f opening left turns unasked reads could_not bound counted = by_status s could_not bound counted
   where
     untouched : IsUntouched old new []
     untouched = record { none_taken = refl; left = left; said_nothing = λ told. said_now old.told new.told (f told).changes.goes (f told).changes.said; only = f; turns = turns; unasked = unasked }
 
-    by_status : (s : Status) → CouldNotOpen s old.ground_tells old.told → CountsOf s old.counts new.counts → Serves rule decisive old new s
-    by_status status.NoStore h n = serves_none rule decisive old new status.NoStore g f opening left turns unasked reads (λ b. b) refl n (untouched, h)
-    by_status (status.Damaged file at) h n = serves_none rule decisive old new (status.Damaged file at) g f opening left turns unasked reads (λ b. b) refl n (untouched, λ tells. h tells.0 tells.1)
-    by_status status.GroundFault h n = serves_none rule decisive old new status.GroundFault g f opening left turns unasked reads (λ some. some refl) (inl refl) n tt
-    by_status status.Done h n = absurd h
-    by_status status.Usage h n = absurd h
-    by_status (status.DamagedRecord at) h n = absurd h
-    by_status (status.DamagedName at want got) h n = absurd h
-    by_status status.DamagedJob h n = absurd h
-    by_status status.ReadFault h n = absurd h
-    by_status status.SayFault h n = absurd h
-    by_status status.Memory h n = serves_none rule decisive old new status.Memory g f opening left turns unasked reads (λ b. b) refl n untouched
-    by_status (status.Limit bound) h n = absurd h
-    by_status status.Unfinished h n = absurd h
-    by_status status.Exists h n = absurd h
+    by_status : (s : Status) → CouldNotOpen s old.ground_tells old.told → IsBound old.dir s old.counts new.counts → CountsOf s old.counts new.counts → Serves rule decisive old new s
+    by_status status.NoStore h b n = serves_none rule decisive old new status.NoStore g f opening left turns unasked reads (λ behind. behind) refl b tt n (untouched, h)
+    by_status (status.Damaged file at) h b n = serves_none rule decisive old new (status.Damaged file at) g f opening left turns unasked reads (λ behind. behind) refl b tt n (untouched, λ tells. h tells.0 tells.1)
+    by_status status.GroundFault h b n = serves_none rule decisive old new status.GroundFault g f opening left turns unasked reads (λ some. some refl) (inl refl) b tt n tt
+    by_status status.Done h b n = absurd h
+    by_status status.Usage h b n = absurd h
+    by_status (status.DamagedRecord at) h b n = absurd h
+    by_status (status.DamagedName at want got) h b n = absurd h
+    by_status status.DamagedJob h b n = absurd h
+    by_status status.ReadFault h b n = absurd h
+    by_status status.SayFault h b n = absurd h
+    by_status status.Memory h b n = serves_none rule decisive old new status.Memory g f opening left turns unasked reads (λ behind. behind) refl b tt n untouched
+    by_status (status.Limit bound) h b n = absurd h
+    by_status status.Unfinished h b n = absurd h
+    by_status status.Exists h b n = absurd h
 
 pub ends_along : (s : Status) (r r' t t' : ℕ) (A B : Type 0) → EndsReading s r t A → r ≡ r' → t ≡ t' → (A → B) → EndsReading s r' t' B
 ends_along status.Done r r' t t' A B h e f k = (k h.0, sym e ∙ h.1, omega arith)
@@ -264,6 +264,7 @@ serves_stopped rule decisive s old mid new lines lines' counts counts' session h
     let end = row_of decisive s old mid (let_go_as new spawned held spawns) taken first h.exchanges h.ran.trace.began (ends_along s (length t.rest) (length (last_piece taken)) lines'.taken (length taken) _ _ t.ends (ap length (sym rest)) long (λ e b. e (told_before _ _ h.ran.trace.goes_on.source_tells b))) (subst (OnlyRemovals old.counts) (sym t.no_fault) h.no_fault) h.ran.trace.reads t.cause in
     let known : IsTrue old.ground_tells → IsTrue decisive → NothingPending old.told → IsTrue h.known = λ b d order. h.ran.trace.known_so ((b, owns_pending old.told order), d) in
     let quiet : Knows decisive old → said new.told ≡ said old.told ++ texts_in h.exchanges = λ b. t.same_said ∙ h.said (h.ran.trace.known_so b) in
+    let bound : new.counts.bound ≡ Some old.dir = ap (λ (n : Noted). n.bound) t.no_fault ∙ h.ran.trace.bound in
     record {
       taken = taken;
       exchanges = h.exchanges;
@@ -295,6 +296,8 @@ serves_stopped rule decisive s old mid new lines lines' counts counts' session h
         follow = λ behind. (new.spawns, gone.later, subst (λ (e : TurnCounts). Follow (turn_counts old.counts old.spawns) (turns_in h.exchanges) e) (h.ran.trace.counts_now ∙ ap₂ turn_counts (sym t.no_fault) (sym t.unasked.spawns)) h.ran.trace.follow);
         counted = end.counted;
         reads = end.reads;
+        bound = inl bound;
+        bound_first = λ some. bound;
       };
       children = record {
         happen = happen_all (is_cut_off s) h.exchanges h.ran.phases;

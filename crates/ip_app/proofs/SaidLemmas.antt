@@ -1,7 +1,7 @@
 -- One line of a script whose command was run and noted: its reply was said, or a part of it.
 --     took_of      the line that was taken.      turned_in      the reply was said.      left_unsaid      or not, or not all of it
 use Rattle.std.proofs.Common.{◌≡◌, ℕ, ◌+◌, ◌-◌, ◌^◌, ◌≤◌, ◌++◌, length, sym, ◌∙◌, ap, subst, Bool, Ok, Err, Result, IsTrue}
-use Rattle.ip_ground.specs.declared.names.GroundCounts.{GroundCounts}
+use Rattle.ip_ground.specs.Counts.{Noted}
 use Rattle.ip_ground.specs.declared.names.GroundFault.{GroundFault}
 use Rattle.ip_ground.specs.Counts.{SayFault}
 use Rattle.ip_ground.specs.Told.{Told}
@@ -30,7 +30,7 @@ use Rattle.ip_app.specs.Reading.{GetsLine}
 use Rattle.ip_app.specs.Serving.{Took, TurnedIn, Unsaid}
 use Rattle.ip_app.specs.Turns.{turn_counts}
 use Rattle.ip_app.proofs.Cleared.{clear_along, cleared_at}
-use Rattle.ip_app.proofs.Counting.{serving_of, serving_on, say_falls, falls_same, removals_on, removals_same, counts_same}
+use Rattle.ip_app.proofs.Counting.{say_counts, serving_on, say_falls, falls_same, removals_on, removals_same, counts_same}
 use Rattle.ip_app.proofs.Moments.{order_says, turned_moments}
 use Rattle.ip_app.proofs.RunLemmas.{keeps_said}
 use Rattle.ip_app.proofs.SameFiles.{working_along}
@@ -40,7 +40,7 @@ pub took_of : (old new : Outside) (lines lines' : Lines) (line : Bytes) → Gets
 took_of old new lines lines' line gets count = record { front = gets.front; no_line_feed = gets.no_line_feed; short = gets.short; count = count }
 
 module _ (rule : Rule) (known : Bool) (old mid : Outside) (read text shown : Bytes) (c c' : TurnCounts) (s s' : Session) (r : Repository) (v : View) (h : Replied rule known old mid read text c c' s s' r v) (same : shown ≡ text) (line : Bytes) (read_is : read ≡ line)
-    (left : Bytes) (read_faults : ℕ) (told : Told) (counts : GroundCounts) (lines lines' : Lines) (took : Took old (told_as mid left read_faults told counts) lines lines' line) (reads : read_faults ≡ mid.read_faults) where
+    (left : Bytes) (read_faults : ℕ) (told : Told) (counts : Noted) (lines lines' : Lines) (took : Took old (told_as mid left read_faults told counts) lines lines' line) (reads : read_faults ≡ mid.read_faults) where
   new : Outside
   new = told_as mid left read_faults told counts
 
@@ -66,7 +66,7 @@ module _ (rule : Rule) (known : Bool) (old mid : Outside) (read text shown : Byt
     after = h.after;
     view = h.view;
     took = took_it;
-    exchanged = exchanged_along rule known old mid c c' left read_faults told counts reads (files (Ok tt) says) (falls_same mid.counts counts still) (ap (λ (n : GroundCounts). turn_counts n mid.spawns) (sym still)) s s' r v h.exchange h.after h.view (works (Ok tt) says) (order (Ok tt) says) (λ is. (says is).files) (λ is. (says is).lending) h.exchanged;
+    exchanged = exchanged_along rule known old mid c c' left read_faults told counts reads (files (Ok tt) says) (falls_same mid.counts counts still) (ap (λ (n : Noted). turn_counts n mid.spawns) (sym still)) (ap (λ (n : Noted). n.bound) still) s s' r v h.exchange h.after h.view (works (Ok tt) says) (order (Ok tt) says) (λ is. (says is).files) (λ is. (says is).lending) h.exchanged;
     no_fault = removals_on old.counts mid.counts counts h.no_fault (removals_same mid.counts counts still);
     said = λ is. said_of old.told mid.told told (h.exchanged.begun.files is) (h.quiet is) shown (Ok tt) (says is) _ (same ∙ h.text_is);
     turning = λ is none. turned_moments mid.told told shown (Ok tt) (says is) old.told (h.exchanged.begun.files is).goes (h.quiet is) _ (same ∙ h.text_is) r h.after (h.atomic is none) s'.store.held (h.exchanged.working is).holds (h.exchanged.nothing_pending is none);
@@ -77,8 +77,8 @@ module _ (rule : Rule) (known : Bool) (old mid : Outside) (read text shown : Byt
   left_unsaid fault says small counted = record {
     exchange = h.exchange;
     took = took_it;
-    begun = begun_along rule known old mid c c' left read_faults told counts reads (files (Err fault) says) (say_falls mid.counts counts small counted) (counts_same mid.counts counts mid.spawns counted.file_faults counted.remove_faults) (state_in s r v) h.exchange h.exchanged.begun;
-    counted = serving_on status.SayFault old.counts mid.counts counts h.no_fault (serving_of status.SayFault mid.counts counts counted);
+    begun = begun_along rule known old mid c c' left read_faults told counts reads (files (Err fault) says) (say_falls mid.counts counts small counted) (counts_same mid.counts counts mid.spawns counted.file_faults counted.remove_faults) counted.bound (state_in s r v) h.exchange h.exchanged.begun;
+    counted = serving_on status.SayFault old.counts mid.counts counts h.no_fault (say_counts mid.counts counts counted);
     part = λ is. part_of old.told mid.told told (h.exchanged.begun.files is) (h.quiet is) shown (Err fault) (says is) _ (same ∙ h.text_is);
     silent = λ is cut_short. absurd (cc cut_short);
     space = λ is cut_short. absurd (cc cut_short);

@@ -4,7 +4,7 @@
 --     finish_cut      `stat` was cut short.      summed_done, summed_fault      all was said, or not all
 use Rattle.std.proofs.Common.{◌≡◌, ℕ, zero, suc, ◌-◌, ◌^◌, ◌+◌, ◌<◌, ◌≤◌, List, [], ◌∷◌, ◌++◌, codes, length, take, refl, sym, ap, ◌∙◌, subst, arith, inl, inr, Bool, Ok, Err, Result, IsTrue, OnOk, append_assoc, length-append}
 use Rattle.std.proofs.lemmas.Bool.{cases_lt}
-use Rattle.ip_ground.specs.declared.names.GroundCounts.{GroundCounts}
+use Rattle.ip_ground.specs.Counts.{Noted}
 use Rattle.ip_ground.specs.declared.names.GroundFault.{GroundFault}
 use Rattle.ip_ground.specs.Counts.{SayFault}
 use Rattle.ip_ground.specs.Told.{Told, said}
@@ -27,7 +27,7 @@ use Rattle.ip_app.specs.Exchanging.{Replied, CutsShort}
 use Rattle.ip_app.specs.Loaded.{Summed, FinishesLoad}
 use Rattle.ip_app.specs.Outside.{Outside}
 use Rattle.ip_app.specs.Turns.{turn_counts}
-use Rattle.ip_app.proofs.Counting.{serving_of, serving_on, say_falls, falls_same, removals_on, removals_same, counts_same}
+use Rattle.ip_app.proofs.Counting.{say_counts, serving_on, say_falls, falls_same, removals_on, removals_same, counts_same}
 use Rattle.ip_app.proofs.Moments.{order_says, turned_moments}
 use Rattle.ip_app.proofs.RanOn.{append_nil}
 use Rattle.ip_app.proofs.RunLemmas.{keeps_said}
@@ -61,7 +61,7 @@ finish_cut rule status.Unfinished known old new line c c' s s' r v h = absurd h
 finish_cut rule status.Exists known old new line c c' s s' r v h = absurd h
 
 module _ (rule : Rule) (known : Bool) (old mid : Outside) (text line first second : Bytes) (c c' : TurnCounts) (s s' : Session) (r : Repository) (v : View) (h : Replied rule known old mid (codes "stat") text c c' s s' r v) (first_is : first ≡ line) (second_is : second ≡ text)
-    (told : Told) (counts : GroundCounts) where
+    (told : Told) (counts : Noted) where
   all_is : first ++ second ≡ line ++ reply_text h.exchange.reply
   all_is = ap (λ (t : Bytes). t ++ second) first_is ∙ ap (λ (t : Bytes). line ++ t) (second_is ∙ h.text_is)
 
@@ -81,7 +81,7 @@ module _ (rule : Rule) (known : Bool) (old mid : Outside) (text line first secon
     after = h.after;
     view = h.view;
     line_is = h.line_is;
-    exchanged = exchanged_along rule known old mid c c' mid.left mid.read_faults told counts refl (files (Ok tt) says) (falls_same mid.counts counts still) (ap (λ (n : GroundCounts). turn_counts n mid.spawns) (sym still)) s s' r v h.exchange h.after h.view (works (Ok tt) says) (order (Ok tt) says) (λ is. (says is).files) (λ is. (says is).lending) h.exchanged;
+    exchanged = exchanged_along rule known old mid c c' mid.left mid.read_faults told counts refl (files (Ok tt) says) (falls_same mid.counts counts still) (ap (λ (n : Noted). turn_counts n mid.spawns) (sym still)) (ap (λ (n : Noted). n.bound) still) s s' r v h.exchange h.after h.view (works (Ok tt) says) (order (Ok tt) says) (λ is. (says is).files) (λ is. (says is).lending) h.exchanged;
     counted = removals_on old.counts mid.counts counts h.no_fault (removals_same mid.counts counts still);
     part = λ is. (line ++ reply_text h.exchange.reply, [], append_nil (line ++ reply_text h.exchange.reply), said_of old.told mid.told told (h.exchanged.begun.files is) (h.quiet is) (first ++ second) (Ok tt) (says is) _ all_is);
     whole = λ is done. refl;
@@ -94,8 +94,8 @@ module _ (rule : Rule) (known : Bool) (old mid : Outside) (text line first secon
     after = h.after;
     view = h.view;
     line_is = h.line_is;
-    exchanged = exchanged_along rule known old mid c c' mid.left mid.read_faults told counts refl (files (Err fault) says) (say_falls mid.counts counts small counted) (counts_same mid.counts counts mid.spawns counted.file_faults counted.remove_faults) s s' r v h.exchange h.after h.view (works (Err fault) says) (order (Err fault) says) (λ is. (says is).files) (λ is. (says is).lending) h.exchanged;
-    counted = serving_on status.SayFault old.counts mid.counts counts h.no_fault (serving_of status.SayFault mid.counts counts counted);
+    exchanged = exchanged_along rule known old mid c c' mid.left mid.read_faults told counts refl (files (Err fault) says) (say_falls mid.counts counts small counted) (counts_same mid.counts counts mid.spawns counted.file_faults counted.remove_faults) counted.bound s s' r v h.exchange h.after h.view (works (Err fault) says) (order (Err fault) says) (λ is. (says is).files) (λ is. (says is).lending) h.exchanged;
+    counted = serving_on status.SayFault old.counts mid.counts counts h.no_fault (say_counts mid.counts counts counted);
     part = λ is. part_of old.told mid.told told (h.exchanged.begun.files is) (h.quiet is) (first ++ second) (Err fault) (says is) _ all_is;
     whole = λ is done. absurd (cc done);
     turning = λ is none. turned_moments mid.told told (first ++ second) (Err fault) (says is) old.told (h.exchanged.begun.files is).goes (h.quiet is) _ all_is r h.after (h.atomic is none) s'.store.held (h.exchanged.working is).holds (h.exchanged.nothing_pending is none);

@@ -4,7 +4,7 @@
 --     settled      what is there in any case, and so where it is known.      went_to, cut_to      what a session did with a line, where it is known to work
 --     stops_reading      why a source is read no further.      ended_short, cuts_short, short_of, stops_short      the session has ended
 use Rattle.std.proofs.Common.{◌≡◌, ℕ, ◌++◌, arith, List, [], ◌∷◌, refl, sym, ◌∙◌, subst, Bool, true, false, Option, None, Some, OnOk, Result, IsTrue}
-use Rattle.ip_ground.specs.declared.names.GroundCounts.{GroundCounts}
+use Rattle.ip_ground.specs.Counts.{Noted}
 use Rattle.ip_ground.specs.declared.names.GroundFault.{GroundFault}
 use Rattle.ip_base.specs.declared.exit.Reaped.{Reaped}
 use Rattle.ip_spawn.specs.declared.job.Job.{Job}
@@ -33,6 +33,7 @@ use Rattle.ip_app.specs.declared.statuses.Status.TheVariants as status
 use Rattle.ip_app.specs.Exchanges.{Exchange}
 use Rattle.ip_app.specs.Outside.{Outside, GoesOn}
 use Rattle.ip_session.specs.declared.session.Session.{Session}
+use Rattle.ip_session.specs.Asking.{starts_in}
 use Rattle.ip_session.specs.Session.{state_in, IsWorking, conditions_with, EndsBy, IsViewIn, IsJudgedIn, IsSettledIn, KeepsSpaceIn, GoesIn, CutIn}
 use Rattle.ip_image.specs.Pending.{NothingPending}
 use Rattle.ip_image.specs.Headline.{IsAtomic}
@@ -54,9 +55,9 @@ pub begun_of : (rule : Rule) (known : Bool) (old new : Outside) (counts counts' 
     → (IsTrue known → LineStep IsLineOf rule state line (conditions_with met difference) reply after) → told_met ≡ met
     → (IsTrue new.log_tells → new.turns ≡ old.turns ++ record { met = told_met; before = counts; after = counts' } ∷ [])
     → counts' ≡ turn_counts new.counts new.spawns → counts ≡ turn_counts old.counts old.spawns
-    → (IsTrue old.spawner_tells → new.spawned ≡ record { started = old.spawned.started ++ jobs; reaped = old.spawned.reaped ++ ends }) → (IsTrue known → IsPossibleNow old.told)
+    → new.counts.bound ≡ old.counts.bound → (IsTrue old.spawner_tells → new.spawned ≡ record { started = old.spawned.started ++ starts_in old.dir jobs; reaped = old.spawned.reaped ++ ends }) → (IsTrue known → IsPossibleNow old.told)
     → Begun rule known old new counts counts' state (exchange_of line told_met counts counts' difference jobs ends reply after)
-begun_of rule known old new counts counts' state after line met told_met difference jobs ends reply g files reads step same_met noted counted before spawned possible = record {
+begun_of rule known old new counts counts' state after line met told_met difference jobs ends reply g files reads step same_met noted counted before bound spawned possible = record {
   goes_on = g;
   files = files;
   step = λ is. subst (λ (m : Met). LineStep IsLineOf rule state line (conditions_with m difference) reply after) (sym same_met) (step is);
@@ -66,20 +67,22 @@ begun_of rule known old new counts counts' state after line met told_met differe
   rises = subst (λ (t : TurnCounts). IsLater counts t) (sym counted) (subst (λ (t : TurnCounts). IsLater t (turn_counts new.counts new.spawns)) (sym before) (later_of old.counts new.counts old.spawns new.spawns g.counts g.spawns));
   until = counted;
   reads = reads;
+  bound = bound;
   spawned = spawned;
   possible = possible;
 }
 
 -- ---- behind the reading of its line, and the saying of its reply
 
-abbrev pub told_as : Outside → Bytes → ℕ → Told → GroundCounts → Outside
+abbrev pub told_as : Outside → Bytes → ℕ → Told → Noted → Outside
 told_as mid left read_faults told counts = record mid { left = left; read_faults = read_faults; told = told; counts = counts }
 
-module _ (rule : Rule) (known : Bool) (old mid : Outside) (c c' : TurnCounts) (left : Bytes) (read_faults : ℕ) (told : Told) (counts : GroundCounts) (same_reads : read_faults ≡ mid.read_faults) (files : IsTrue known → KeepsFiles mid.told told) (falls : NoneFalls mid.counts counts)
-    (still : turn_counts mid.counts mid.spawns ≡ turn_counts counts mid.spawns) where
+module _ (rule : Rule) (known : Bool) (old mid : Outside) (c c' : TurnCounts) (left : Bytes) (read_faults : ℕ) (told : Told) (counts : Noted) (same_reads : read_faults ≡ mid.read_faults) (files : IsTrue known → KeepsFiles mid.told told) (falls : NoneFalls mid.counts counts)
+    (still : turn_counts mid.counts mid.spawns ≡ turn_counts counts mid.spawns) (still_bound : counts.bound ≡ mid.counts.bound) where
   pub begun_along : (state : State) (x : Exchange) → Begun rule known old mid c c' state x → Begun rule known old (told_as mid left read_faults told counts) c c' state x
   begun_along state x h = record {
     goes_on = record {
+      dir = h.goes_on.dir;
       source_tells = h.goes_on.source_tells;
       ground_tells = h.goes_on.ground_tells;
       spawner_tells = h.goes_on.spawner_tells;
@@ -96,6 +99,7 @@ module _ (rule : Rule) (known : Bool) (old mid : Outside) (c c' : TurnCounts) (l
     rises = h.rises;
     until = h.until ∙ still;
     reads = same_reads ∙ h.reads;
+    bound = still_bound ∙ h.bound;
     spawned = h.spawned;
     possible = h.possible;
   }
@@ -185,7 +189,7 @@ stops_short rule s known old new line read lines lines' counts counts' store sta
     whole s is_short u = record {
       exchange = u.exchange;
       took = subst (λ (l : Bytes). Took old (told_as new left read_faults new.told new.counts) lines lines' l) (sym (u.line_is ∙ read_is)) took;
-      begun = begun_along rule known old new counts counts' left read_faults new.told new.counts same (λ is. keeps_itself new.told) (falls_itself new.counts) refl state u.exchange u.begun;
+      begun = begun_along rule known old new counts counts' left read_faults new.told new.counts same (λ is. keeps_itself new.told) (falls_itself new.counts) refl refl state u.exchange u.begun;
       counted = u.counted;
       part = λ is. nothing_said _ _ _ (u.begun.files is).goes (u.quiet is);
       silent = λ is cut_off. refl;

@@ -3,19 +3,19 @@
 --     writes_on      the files that change.      counts_work, work_falls      what is counted
 --     collects_of, collects_none      the whole of the call, and where nothing was done
 use Rattle.std.specs.Prelude.{◌⊎◌, IsErrOf}
-use Rattle.std.proofs.Common.{◌≡◌, inl, inr, ℕ, ◌-◌, ◌^◌, ◌<◌, ◌≤◌, Bool, refl, sym, ◌∙◌, subst, arith, IsTrue, None, Result, Ok, Err}
+use Rattle.std.proofs.Common.{◌≡◌, inl, inr, ℕ, ◌-◌, ◌^◌, ◌<◌, ◌≤◌, Bool, refl, sym, ◌∙◌, subst, arith, IsTrue, None, Some, Result, Ok, Err}
 use Rattle.std.proofs.Math.Nat.{le_refl}
 use Rattle.std.proofs.lemmas.Bool.{cases_lt}
 use Rattle.ip_ground.specs.declared.names.FileName.{FileName}
 use Rattle.ip_ground.specs.declared.names.FileName.TheVariants.{Control, Chunk, Prefix, Mapping, Done}
-use Rattle.ip_ground.specs.declared.names.GroundCounts.{GroundCounts}
 use Rattle.ip_ground.specs.Contents.{Content, Image}
 use Rattle.ip_ground.specs.Custody as custody
 use Rattle.ip_ground.specs.Custody.{Custody, IsOfAttempt}
-use Rattle.ip_ground.specs.Counts.{Rose, FileFault, RemoveFault, NoneFalls}
+use Rattle.ip_ground.specs.Counts.{Noted, as_nothing, as_fault, as_damage, Rose, FileFault, RemoveFault, NoneFalls}
 use Rattle.ip_ground.specs.Told.{Told, IsForeign, IsLoose, KeepsPast, ChangesOnly, NoFile}
 use Rattle.ip_ground.proofs.Spans.{only_on, only_more, only_nowhere, lending_now}
 use Rattle.ip_ground.proofs.Rising.{falls_itself}
+use Rattle.ip_spec.specs.Path.{Bytes}
 use Rattle.ip_spec.specs.TreeAt.{Records}
 use Rattle.ip_spawn.specs.declared.job.Job.{Job}
 use Rattle.ip_worker.specs.Faults.{CountsWork}
@@ -27,9 +27,9 @@ use Rattle.ip_worker.specs.declared.fault.WorkFault.{WorkFault}
 use Rattle.ip_worker.specs.declared.worker.Counts.{Counts}
 use Rattle.ip_app.specs.declared.statuses.Status.{Status}
 use Rattle.ip_app.specs.declared.statuses.Status.TheVariants as status
-use Rattle.ip_app.specs.Outside.{Outside, GoesOn, IsUnasked}
+use Rattle.ip_app.specs.Outside.{Outside, GoesOn, IsBound, IsUnasked, but_bound}
 use Rattle.ip_app.specs.Working.{worked_status, WorksAs, CountsWorking, RunsJob}
-use Rattle.ip_app.proofs.Counting.{risen, falls_same, spawns_itself}
+use Rattle.ip_app.proofs.Counting.{risen, bound_to, bound_counts, bound_still, damage_falls, falls_bound, falls_same, file_falls, spawns_itself}
 
 -- ---- where nothing was ever lent
 
@@ -111,37 +111,48 @@ works_as tells job old mid new s worked e passes writes works refuses spares = r
 
 -- ---- what is counted
 
-pub counts_work : (worked : Result Counts WorkFault) (s : Status) (a mid b : GroundCounts) → s ≡ worked_status worked → mid ≡ a → CountsWork worked mid b → CountsWorking s a b
-counts_work worked s a mid b e same counted = subst (λ (t : Status). CountsWorking t a b) (sym e) (by_answer worked (subst (λ (n : GroundCounts). CountsWork worked n b) same counted))
+-- whichever folder is bound
+pub counts_work : (dir : Bytes) (worked : Result Counts WorkFault) (s : Status) (a mid b : Noted) → s ≡ worked_status worked → mid ≡ bound_to dir a → CountsWork worked mid b → CountsWorking s a b
+counts_work dir worked s a mid b e same counted = subst (λ (t : Status). CountsWorking t a b) (sym e) (by_answer worked (subst (λ (n : Noted). CountsWork worked n b) same counted))
   where
-    by_answer : (worked : Result Counts WorkFault) → CountsWork worked a b → CountsWorking (worked_status worked) a b
-    by_answer (Ok counts) h = h
-    by_answer (Err WorkFault.Ground) h = h
-    by_answer (Err WorkFault.Damaged) h = h
-    by_answer (Err WorkFault.Memory) h = h
+    by_answer : (worked : Result Counts WorkFault) → CountsWork worked (bound_to dir a) b → CountsWorking (worked_status worked) a b
+    by_answer (Ok counts) h = bound_counts dir a b as_nothing h
+    by_answer (Err WorkFault.Ground) (inl h) = inl (bound_counts dir a b as_fault h)
+    by_answer (Err WorkFault.Ground) (inr h) = inr (record { rose = h.rose; file_faults = h.file_faults; say_faults = h.say_faults; damages = h.damages; bound = refl })
+    by_answer (Err WorkFault.Damaged) h = bound_counts dir a b as_damage h
+    by_answer (Err WorkFault.Memory) h = bound_counts dir a b as_nothing h
 
-fault_falls : (a b : GroundCounts) → a.file_faults ≤ 2 ^ 64 - 1 → a.remove_faults ≤ 2 ^ 64 - 1 → FileFault a b ⊎ RemoveFault a b → NoneFalls a b
-fault_falls a b files removals (inl h) = let removed = h.remove_faults in let said = h.say_faults in
-    record { file_faults = risen a.file_faults b.file_faults files h.rose; remove_faults = omega (arith, removed); say_faults = omega (arith, said) }
-fault_falls a b files removals (inr h) = let held = h.file_faults in let said = h.say_faults in
-    record { file_faults = omega (arith, held); remove_faults = risen a.remove_faults b.remove_faults removals h.rose; say_faults = omega (arith, said) }
-
-pub work_falls : (worked : Result Counts WorkFault) (s : Status) (a b : GroundCounts) → s ≡ worked_status worked → a.file_faults ≤ 2 ^ 64 - 1 → a.remove_faults ≤ 2 ^ 64 - 1 → CountsWorking s a b → NoneFalls a b
-work_falls worked s a b e files removals counted = by_answer worked (subst (λ (t : Status). CountsWorking t a b) e counted)
+pub bound_work : (dir : Bytes) (worked : Result Counts WorkFault) (a mid b : Noted) → mid ≡ bound_to dir a → CountsWork worked mid b → b.bound ≡ Some dir
+bound_work dir worked a mid b same counted = by_answer worked (subst (λ (n : Noted). CountsWork worked n b) same counted)
   where
-    by_answer : (worked : Result Counts WorkFault) → CountsWorking (worked_status worked) a b → NoneFalls a b
-    by_answer (Ok counts) h = falls_same a b h
-    by_answer (Err WorkFault.Ground) h = fault_falls a b files removals h
-    by_answer (Err WorkFault.Damaged) h = falls_same a b h
-    by_answer (Err WorkFault.Memory) h = falls_same a b h
+    by_answer : (worked : Result Counts WorkFault) → CountsWork worked (bound_to dir a) b → b.bound ≡ Some dir
+    by_answer (Ok counts) h = bound_still dir a b as_nothing h
+    by_answer (Err WorkFault.Ground) (inl h) = h.bound
+    by_answer (Err WorkFault.Ground) (inr h) = h.bound
+    by_answer (Err WorkFault.Damaged) h = h.bound
+    by_answer (Err WorkFault.Memory) h = bound_still dir a b as_nothing h
+
+fault_falls : (a b : Noted) → a.file_faults ≤ 2 ^ 64 - 1 → a.remove_faults ≤ 2 ^ 64 - 1 → FileFault a b ⊎ RemoveFault a b → NoneFalls a b
+fault_falls a b files removals (inl h) = file_falls a b files h
+fault_falls a b files removals (inr h) = let held = h.file_faults in let said = h.say_faults in let harmed = h.damages in
+    record { file_faults = omega (arith, held); remove_faults = risen a.remove_faults b.remove_faults removals h.rose; say_faults = omega (arith, said); damages = omega (arith, harmed) }
+
+pub work_falls : (worked : Result Counts WorkFault) (s : Status) (a b : Noted) → s ≡ worked_status worked → a.file_faults ≤ 2 ^ 64 - 1 → a.remove_faults ≤ 2 ^ 64 - 1 → a.damages ≤ 2 ^ 64 - 1 → CountsWorking s a b → NoneFalls a b
+work_falls worked s a b e files removals harms counted = falls_bound a b (by_answer worked (subst (λ (t : Status). CountsWorking t a b) e counted))
+  where
+    by_answer : (worked : Result Counts WorkFault) → CountsWorking (worked_status worked) a b → NoneFalls (but_bound a b) b
+    by_answer (Ok counts) h = falls_same (but_bound a b) b h
+    by_answer (Err WorkFault.Ground) h = fault_falls (but_bound a b) b files removals h
+    by_answer (Err WorkFault.Damaged) h = damage_falls (but_bound a b) b harms h
+    by_answer (Err WorkFault.Memory) h = falls_same (but_bound a b) b h
 
 -- ---- the whole call
 
-ends_well : (worked : Result Counts WorkFault) (s : Status) (a b : GroundCounts) (records : Records) (job : Job) (old new : Told) → s ≡ worked_status worked → Works records job worked old new → CountsWorking s a b → ¬ Rose a.file_faults b.file_faults → ¬ Rose a.remove_faults b.remove_faults
+ends_well : (worked : Result Counts WorkFault) (s : Status) (a b : Noted) (records : Records) (job : Job) (old new : Told) → s ≡ worked_status worked → Works records job worked old new → CountsWorking s a b → ¬ Rose a.file_faults b.file_faults → ¬ Rose a.remove_faults b.remove_faults
     → (s ≡ status.Done) ⊎ (s ≡ status.Memory)
 ends_well worked s a b records job old new e works counted files removals = subst (λ (t : Status). (t ≡ status.Done) ⊎ (t ≡ status.Memory)) (sym e) (by_answer worked works (subst (λ (t : Status). CountsWorking t a b) e counted))
   where
-    none : FileFault a b ⊎ RemoveFault a b → ⊥
+    none : FileFault (but_bound a b) b ⊎ RemoveFault (but_bound a b) b → ⊥
     none (inl h) = files h.rose
     none (inr h) = removals h.rose
 
@@ -152,8 +163,8 @@ ends_well worked s a b records job old new e works counted files removals = subs
     by_answer (Err WorkFault.Memory) w h = inr refl
 
 pub collects_of : (job : Job) (old new : Outside) (s : Status) → GoesOn old new → new.left ≡ old.left → new.read_faults ≡ old.read_faults → new.turns ≡ old.turns → IsUnasked old new → (IsTrue old.ground_tells → IsFree old.told job.attempt → WritesAttempt job old.told new.told)
-    → WorksAs old.ground_tells job old.told new.told s → CountsWorking s old.counts new.counts → RunsJob job old new s
-collects_of job old new s goes left reads turns unasked only works counted = record {
+    → WorksAs old.ground_tells job old.told new.told s → CountsWorking s old.counts new.counts → IsBound old.dir s old.counts new.counts → RunsJob job old new s
+collects_of job old new s goes left reads turns unasked only works counted bound = record {
   goes_on = goes;
   left = left;
   read_faults = reads;
@@ -162,13 +173,14 @@ collects_of job old new s goes left reads turns unasked only works counted = rec
   only = only;
   works = works;
   counted = counted;
+  bound = bound;
   complete = λ tells records whole nothing other files removals. ends_well works.worked s old.counts new.counts records job old.told new.told works.status_is (works.works tells records whole nothing other) counted files removals;
 }
 
 -- memory was wanting at once
 pub collects_none : (job : Job) (old : Outside) → RunsJob job old old status.Memory
 collects_none job old = collects_of job old old status.Memory
-    (record { source_tells = refl; ground_tells = refl; spawner_tells = refl; log_tells = λ t. t; read_faults = le_refl old.read_faults; counts = falls_itself old.counts; spawns = spawns_itself old.spawns })
+    (record { dir = refl; source_tells = refl; ground_tells = refl; spawner_tells = refl; log_tells = λ t. t; read_faults = le_refl old.read_faults; counts = falls_itself old.counts; spawns = spawns_itself old.spawns })
     refl refl refl (record { spawned = refl; held = refl; spawns = refl }) (λ tells free. only_nowhere old.told (IsOfAttempt job.attempt))
     (record {
       worked = Err WorkFault.Memory;
@@ -176,4 +188,4 @@ collects_none job old = collects_of job old old status.Memory
       works = λ told records whole nothing other. record { ok = tt; whole = λ is. absurd (cc is); last = λ none pair valid t done mapping prefix after le left some in_mapping in_prefix. absurd (omega (arith, after, le)) };
       served = λ told is. record { undone = λ done. absurd (cc done); only = only_nowhere old.told NoFile };
       spared = λ told nothing is. only_nowhere old.told NoFile;
-    }) refl
+    }) refl (inr (inr (refl, refl)))

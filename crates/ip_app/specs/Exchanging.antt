@@ -1,5 +1,5 @@
 -- What a session does with one line: it is run and noted, and its reply's text stands there to be said or counted.
---     OnlyRemovals old new      no fault was counted but of removals.      CountsServing status old new      what is counted where a run ends so
+--     OnlyRemovals old new      nothing was counted but faults of removals.      CountsServing status old new      what is counted where a run ends so
 --     ended_status end      the status of a session's end.      is_cut_short status      a fault of the ground or of its files cut the last command short
 --     Works rule tells told s r v      the ground tells its content, the session works over it, and the rule of merges is decisive
 --     Begun      a line was begun, and noted.      Exchanged      and the session goes on behind it
@@ -7,8 +7,7 @@
 --     Trace      so far: a run of the machine.      Ran      and the repository and the view that the session is in
 -- Of what a session does most is said where it is known to work: where `known` is true. It is for a whole run, from what the ground told at first.
 use Rattle.std.specs.Prelude.{◌≤◌, ◌≡◌, ◌≢◌, Bool, true, false, IsTrue, List, [], ◌∷◌, ◌++◌, Some, None}
-use Rattle.ip_ground.specs.declared.names.GroundCounts.{GroundCounts}
-use Rattle.ip_ground.specs.Counts.{Rose}
+use Rattle.ip_ground.specs.Counts.{Noted, Rose}
 use Rattle.ip_base.specs.declared.exit.Reaped.{Reaped}
 use Rattle.ip_ground.specs.Told.{Told, KeepsSaid, IsPossibleNow}
 use Rattle.ip_image.specs.declared.counts.TurnCounts.{TurnCounts}
@@ -31,12 +30,12 @@ use Rattle.ip_held.specs.Collecting.{phase_of, child_of}
 use Rattle.ip_held.specs.Sweeping.{KeepsFiles}
 use Rattle.ip_session.specs.declared.session.Session.{Session}
 use Rattle.ip_session.specs.declared.session.SessionEnd.{SessionEnd}
-use Rattle.ip_session.specs.Asking.{GoesOnBy}
+use Rattle.ip_session.specs.Asking.{GoesOnBy, starts_in}
 use Rattle.ip_session.specs.Placing.{PlacedIn}
 use Rattle.ip_session.specs.Session.{IsServing, IsWorking, state_in, IsViewIn}
 use Rattle.ip_app.specs.declared.statuses.Status.{Status}
 use Rattle.ip_app.specs.Exchanges.{Exchange, conditions, Run, turns_in, after_all}
-use Rattle.ip_app.specs.Happening.{Happens, AllHappen, jobs_in, ends_in}
+use Rattle.ip_app.specs.Happening.{Happens, AllHappen, started_in, ends_in}
 use Rattle.ip_app.specs.Judged.{Watches}
 use Rattle.ip_app.specs.Places.{Places, StartsAt, HearsAt}
 use Rattle.ip_app.specs.Turns.{turn_counts, IsLater, Follow}
@@ -63,26 +62,39 @@ is_cut_short _ = false
 
 -- ---- what is counted
 
--- no fault but of removals, which a sweep passes over
-pub record OnlyRemovals (old new : GroundCounts) : Type 0 where
+-- nothing but removals that failed, which a sweep passes over
+pub record OnlyRemovals (old new : Noted) : Type 0 where
   pub file_faults : new.file_faults ≡ old.file_faults
   pub say_faults : new.say_faults ≡ old.say_faults
+  pub damages : new.damages ≡ old.damages
   pub remove_faults : old.remove_faults ≤ new.remove_faults
 
--- besides those of removals, one of a file, or of output
-pub record AFileFault (old new : GroundCounts) : Type 0 where
+-- besides those of removals, a fault of a file, or of output, or damage
+pub record AFileFault (old new : Noted) : Type 0 where
   pub rose : Rose old.file_faults new.file_faults
   pub say_faults : new.say_faults ≡ old.say_faults
+  pub damages : new.damages ≡ old.damages
   pub remove_faults : old.remove_faults ≤ new.remove_faults
 
-pub record ASayFault (old new : GroundCounts) : Type 0 where
+pub record ASayFault (old new : Noted) : Type 0 where
   pub rose : Rose old.say_faults new.say_faults
   pub file_faults : new.file_faults ≡ old.file_faults
+  pub damages : new.damages ≡ old.damages
   pub remove_faults : old.remove_faults ≤ new.remove_faults
 
-abbrev pub CountsServing : Status → GroundCounts → GroundCounts → Type 0
+pub record ADamage (old new : Noted) : Type 0 where
+  pub rose : Rose old.damages new.damages
+  pub file_faults : new.file_faults ≡ old.file_faults
+  pub say_faults : new.say_faults ≡ old.say_faults
+  pub remove_faults : old.remove_faults ≤ new.remove_faults
+
+-- Damage that was found is told by the status, and by no other one.
+abbrev pub CountsServing : Status → Noted → Noted → Type 0
 CountsServing Status.GroundFault old new = AFileFault old new
 CountsServing Status.SayFault old new = ASayFault old new
+CountsServing (Status.Damaged file at) old new = ADamage old new
+CountsServing (Status.DamagedRecord at) old new = ADamage old new
+CountsServing (Status.DamagedName at want got) old new = ADamage old new
 CountsServing _ old new = OnlyRemovals old new
 
 -- ---- one line
@@ -98,8 +110,9 @@ pub record Begun (rule : Rule) (known : Bool) (old new : Outside) (counts counts
   pub rises : IsLater x.turn.before x.turn.after
   pub until : counts' ≡ turn_counts new.counts new.spawns
   pub reads : new.read_faults ≡ old.read_faults
-  -- what was started and reaped in it
-  pub spawned : IsTrue old.spawner_tells → new.spawned ≡ record { started = old.spawned.started ++ x.started; reaped = old.spawned.reaped ++ x.reaped }
+  pub bound : new.counts.bound ≡ old.counts.bound
+  -- what was started in the folder, and reaped
+  pub spawned : IsTrue old.spawner_tells → new.spawned ≡ record { started = old.spawned.started ++ starts_in old.dir x.started; reaped = old.spawned.reaped ++ x.reaped }
   -- what the files read as when it began is one of the things that a crash might have left
   pub possible : IsTrue known → IsPossibleNow old.told
 
@@ -139,7 +152,7 @@ pub record CutShort (rule : Rule) (status : Status) (known : Bool) (old new : Ou
   pub exchange : Exchange
   pub line_is : exchange.line ≡ line
   pub begun : Begun rule known old new counts counts' state exchange
-  -- of the ground a fault was counted, where the status says so, and of no other kind
+  -- of the ground a fault was counted, or damage, where the status says so, and nothing of another kind
   pub counted : CountsServing status old.counts new.counts
   pub quiet : IsTrue known → KeepsSaid old.told new.told
   pub atomic : IsTrue known → NothingPending old.told → IsAtomic old.told new.told state.repository exchange.after.repository
@@ -166,10 +179,11 @@ pub record Trace (rule : Rule) (decisive known : Bool) (exchanges : List Exchang
   pub began : Tells old → StandsFor old.told.held first
   pub run : IsTrue known → Run rule (opened first) exchanges
   pub noted : IsTrue now.log_tells → now.turns ≡ old.turns ++ turns_in exchanges
-  pub spawned : IsTrue old.spawner_tells → now.spawned ≡ record { started = old.spawned.started ++ jobs_in exchanges; reaped = old.spawned.reaped ++ ends_in exchanges }
+  pub spawned : IsTrue old.spawner_tells → now.spawned ≡ record { started = old.spawned.started ++ started_in old.dir exchanges; reaped = old.spawned.reaped ++ ends_in exchanges }
   pub counts_now : counts ≡ turn_counts now.counts now.spawns
   pub follow : Follow (turn_counts old.counts old.spawns) (turns_in exchanges) counts
   pub reads : now.read_faults ≡ old.read_faults
+  pub bound : now.counts.bound ≡ Some old.dir
 
 -- none was, and the session goes on
 pub record Ran (rule : Rule) (decisive known : Bool) (exchanges : List Exchange) (first repository : Repository) (view : View) (slot : Slot) (old now : Outside) (counts : TurnCounts) (session : Session) : Type 0 where

@@ -3,17 +3,19 @@
 --     HappensBy command phase x, Happens phase x      so of an exchange that began in this phase, by its command, and by its line
 --     AllHappen phase exchanges      of each of them
 --     HappenIn is_cut_off exchanges      of all exchanges of a run, or of all but the last one
---     jobs_in, ends_in      the children that were started in them, and how those ended that were reaped
+--     started_in dir exchanges      the children that were started in them, in the folder of this name.      ends_in exchanges      how those ended that were reaped
 use Rattle.std.specs.Prelude.{◌≡◌, ◌≢◌, ◌⊎◌, ◌≤◌, Bool, false, List, [], ◌∷◌, ◌++◌, length, flat_map, Some, None, IsTrue, IsSome, Ok}
 use Rattle.ip_ground.specs.Counts.{Rose, RoseBy}
 use Rattle.ip_base.specs.declared.exit.Reaped.{Reaped}
+use Rattle.ip_spawn.specs.Children.{Start}
 use Rattle.ip_spawn.specs.declared.job.Job.{Job}
 use Rattle.ip_spec.specs.declared.command.Command.{Command}
 use Rattle.ip_spec.specs.declared.met.Child.TheVariants as Child
 use Rattle.ip_spec.specs.declared.reply.Reply.TheVariants as Reply
 use Rattle.ip_spec.specs.Machine.{Phase, exit_kept}
+use Rattle.ip_spec.specs.Path.{Bytes}
 use Rattle.ip_spec.specs.Line.{IsLineOf}
-use Rattle.ip_session.specs.Asking.{HasStarted, MayReap}
+use Rattle.ip_session.specs.Asking.{HasStarted, MayReap, starts_in}
 use Rattle.ip_app.specs.Exchanges.{Exchange}
 
 -- in an exchange that began in this phase
@@ -56,8 +58,8 @@ pub record HappenIn (is_cut_off : Bool) (exchanges : List Exchange) : Type 0 whe
   pub none : is_cut_off ≡ false → cut ≡ []
   pub happen : AllHappen Phase.Idle whole
 
-abbrev pub jobs_in : List Exchange → List Job
-jobs_in = flat_map (λ x. x.started)
+abbrev pub started_in : Bytes → List Exchange → List Start
+started_in dir = flat_map (λ x. starts_in dir x.started)
 
 abbrev pub ends_in : List Exchange → List Reaped
 ends_in = flat_map (λ x. x.reaped)

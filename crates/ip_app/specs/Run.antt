@@ -1,10 +1,10 @@
 -- What a call of the program does, from what is told when it begins to what is told when it returns.
 --     Inits, Serves      one record for each call; its last field is the row of the status. Of replies and states it is said where the rules of merges are known to be
 --         decisive, for what such a merge makes of the files is one thing alone: where `decisive` is true
---     Replies, Reopens, Notes, AsksChildren      of a serving call: its replies, what its files stand for, its log and counts, and its children
+--     Replies, Reopens, Notes, AsksChildren      of a serving call: its replies, what its files stand for, its log, its counts and its folder, and its children
 --     EndsAsBytes, EndsWhereAllIsWell      of a serving call: the source's bytes give the status; and which statuses need a fault
 --     LeavesAll      of a call that is refused: nothing changes
-use Rattle.std.specs.Prelude.{ℕ, ◌≤◌, ◌≡◌, ◌≢◌, ◌⊎◌, Bool, true, false, IsTrue, List, [], ◌++◌, length, map, All, None, IsSome, Result, Ok, Err}
+use Rattle.std.specs.Prelude.{ℕ, ◌≤◌, ◌≡◌, ◌≢◌, ◌⊎◌, Bool, true, false, IsTrue, List, [], ◌++◌, length, map, All, None, Some, IsSome, Result, Ok, Err}
 use Rattle.ip_ground.specs.declared.names.FileName.TheVariants.{Control}
 use Rattle.ip_base.specs.declared.exit.Reaped.{Reaped}
 use Rattle.ip_ground.specs.Counts.{Rose}
@@ -34,13 +34,13 @@ use Rattle.ip_app.specs.Lines.{longest_line, last_piece}
 use Rattle.ip_app.specs.Reading.{EndsReading}
 use Rattle.ip_app.specs.Ending.{ending_of, IsOfBytes}
 use Rattle.ip_app.specs.Exchanges.{Exchange, answer_of, Run, lines_in, turns_in, texts_in, after_all}
-use Rattle.ip_app.specs.Happening.{HappenIn, jobs_in, ends_in}
+use Rattle.ip_app.specs.Happening.{HappenIn, started_in, ends_in}
 use Rattle.ip_app.specs.Serving.{is_cut_short, CountsOf, CountsServing}
 use Rattle.ip_app.specs.Judged.{WatchedIn}
 use Rattle.ip_spec.specs.Text.{reply_text}
 use Rattle.ip_app.specs.Places.{PlacesIn}
 use Rattle.ip_app.specs.Turns.{turn_counts, SpawnsLater, Follow}
-use Rattle.ip_app.specs.Outside.{Outside, Tells, Knows, GoesOn, IsUnasked}
+use Rattle.ip_app.specs.Outside.{Outside, Tells, Knows, GoesOn, IsBound, IsUnasked}
 
 -- ---- opening
 
@@ -179,16 +179,19 @@ pub record Notes (old new : Outside) (status : Status) (exchanges : List Exchang
   -- the log has their turns, each beginning with the counts that the one before it ended with, from those of the call's begin to those of its end
   pub noted : IsTrue new.log_tells → new.turns ≡ old.turns ++ turns_in exchanges
   pub follow : IsBehindOpening status exchanges → (last : SpawnCounts) × SpawnsLater last new.spawns × Follow (turn_counts old.counts old.spawns) (turns_in exchanges) (turn_counts new.counts last)
-  -- a fault of the ground or of output ends the call: it was counted, and no other was
+  -- A fault of the ground or of output ends the call, and so does damage: it was counted, and no other was.
   pub counted : CountsServing status old.counts new.counts
   pub reads : status ≢ Status.ReadFault → new.read_faults ≡ old.read_faults
+  -- the folder of the words is bound; where it could not be, no command was begun
+  pub bound : IsBound old.dir status old.counts new.counts
+  pub bound_first : exchanges ≢ [] → new.counts.bound ≡ Some old.dir
 
 -- What was asked of the spawner.
 pub record AsksChildren (cut_off : Bool) (old new : Outside) (exchanges : List Exchange) : Type 0 where
   -- what each command met of it is what happened, but of the last one where that was cut off
   pub happen : HappenIn cut_off exchanges
-  -- it has started what the commands started, and reaped what they reaped, and at the end it was let go of one more at most
-  pub spawned : IsTrue old.spawner_tells → (ends : List Reaped) × (length ends ≤ 1) × (new.spawned ≡ record { started = old.spawned.started ++ jobs_in exchanges; reaped = (old.spawned.reaped ++ ends_in exchanges) ++ ends })
+  -- it has started what the commands started, in the folder of the words, and reaped what they reaped, and at the end it was let go of one more at most
+  pub spawned : IsTrue old.spawner_tells → (ends : List Reaped) × (length ends ≤ 1) × (new.spawned ≡ record { started = old.spawned.started ++ started_in old.dir exchanges; reaped = (old.spawned.reaped ++ ends_in exchanges) ++ ends })
   pub none_held : old.held ≡ None → new.held ≡ None
 
 -- Of these bytes taken, and these exchanges from this state on.
@@ -267,6 +270,7 @@ pub record Inits (chunk : ℕ) (old new : Outside) (status : Status) : Type 0 wh
   pub only : IsTrue old.ground_tells → ChangesOnly (Only Control) old.told new.told
   -- a fault of the ground was counted, where the status says so, and of no other kind
   pub counted : CountsOf status old.counts new.counts
+  pub bound : IsBound old.dir status old.counts new.counts
   pub row : InitRow chunk status old.ground_tells old.told new.told
 
 -- ---- a call that is refused

@@ -1,11 +1,10 @@
 -- How serving a script goes on, line by line.
 --     Took      a line was taken.      TurnedIn      its command was run and noted, and its reply said
---     CountsOf      the faults that are counted where a store is made or opened.      Stops      why there is no further line
+--     CountsOf      what is counted where a store is made or opened.      Stops      why there is no further line
 --     Served      so far: the whole lines that were taken, and what came of them
 -- Of what a session does most is said where it is known to work: where `known` is true. It is for a whole run, from what the ground told at first.
 use Rattle.std.specs.Prelude.{ℕ, ◌+◌, ◌≤◌, ◌≡◌, ◌≢◌, Bool, true, false, IsTrue, List, [], ◌∷◌, ◌++◌, length, map, All}
-use Rattle.ip_ground.specs.declared.names.GroundCounts.{GroundCounts}
-use Rattle.ip_ground.specs.Counts.{FileFault, SayFault}
+use Rattle.ip_ground.specs.Counts.{Noted, FileFault, SayFault, DamageFound}
 use Rattle.ip_base.specs.declared.exit.Reaped.{Reaped}
 use Rattle.ip_ground.specs.Told.{said, lending}
 use Rattle.ip_image.specs.declared.counts.TurnCounts.{TurnCounts}
@@ -32,8 +31,8 @@ use Rattle.ip_app.specs.Pending.{pending}
 use Rattle.ip_app.specs.Reading.{EndsReading, IsCaused}
 use Rattle.ip_app.specs.Exchanges.{Exchange, answer_of, lines_in, texts_in}
 use Rattle.ip_app.specs.Judged.{IsWatchedTo}
-use Rattle.ip_app.specs.Outside.{Outside, GoesOn, IsUnasked}
-pub use Rattle.ip_app.specs.Exchanging.{Works, OnlyRemovals, ended_status, is_cut_short, AFileFault, ASayFault, CountsServing, Begun, Exchanged, Ran}
+use Rattle.ip_app.specs.Outside.{Outside, GoesOn, IsUnasked, but_bound}
+pub use Rattle.ip_app.specs.Exchanging.{Works, OnlyRemovals, ended_status, is_cut_short, AFileFault, ASayFault, ADamage, CountsServing, Begun, Exchanged, Ran}
 
 -- what was said grew by a part from the front of the bytes
 abbrev pub SaysPart : Bytes → Bytes → Bytes → Type 0
@@ -77,11 +76,12 @@ pub record Stopped (status : Status) (known : Bool) (old new : Outside) (lines l
   pub no_fault : new.counts ≡ old.counts
   pub unasked : IsUnasked old new
 
--- what a call that ends so has counted of the ground's faults, where it makes a store
-abbrev pub CountsOf : Status → GroundCounts → GroundCounts → Type 0
-CountsOf Status.GroundFault old new = FileFault old new
-CountsOf Status.SayFault old new = SayFault old new
-CountsOf _ old new = new ≡ old
+-- what a call that ends so has counted, where it makes or opens a store: which folder is bound is another thing
+abbrev pub CountsOf : Status → Noted → Noted → Type 0
+CountsOf Status.GroundFault old new = FileFault (but_bound old new) new
+CountsOf Status.SayFault old new = SayFault (but_bound old new) new
+CountsOf (Status.Damaged file at) old new = DamageFound (but_bound old new) new
+CountsOf _ old new = new ≡ but_bound old new
 
 -- The line was the last: its reply was not said, or only a part of it. Of a command that a fault of the ground or of its
 -- files cuts short, the reply and the state are those that it has where none of its writes fails.
@@ -89,7 +89,7 @@ pub record Unsaid (rule : Rule) (status : Status) (known : Bool) (old new : Outs
   pub exchange : Exchange
   pub took : Took old new lines lines' exchange.line
   pub begun : Begun rule known old new counts counts' state exchange
-  -- of the ground a fault was counted, where the status says so, and of no other kind
+  -- of the ground a fault was counted, or damage, where the status says so, and nothing of another kind
   pub counted : CountsServing status old.counts new.counts
   pub part : IsTrue known → SaysPart (reply_text exchange.reply) (said old.told) (said new.told)
   -- a command that was cut short says nothing

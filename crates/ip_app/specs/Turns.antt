@@ -1,15 +1,19 @@
 -- The counts of turns.
---     turn_counts counts spawns      what a turn tells of what a ground and a spawner counted.      SpawnsLater earlier later      none of a spawner's counts fell
+--     turn_counts noted spawns      what a turn tells of what a ground and a spawner counted.      turn_of counts spawns      so of the counts alone.      SpawnsLater earlier later      none of a spawner's counts fell
 --     IsLater earlier later      no count fell
 --     Follow first turns last      each turn begins with the counts that the one before it ended with; no fault of the ground was counted in any but the last
 use Rattle.std.specs.Prelude.{◌≡◌, ◌≢◌, ◌≤◌, List, [], ◌∷◌}
+use Rattle.ip_ground.specs.Counts.{Noted, counts_in}
 use Rattle.ip_ground.specs.declared.names.GroundCounts.{GroundCounts}
 use Rattle.ip_spawn.specs.declared.spawner.SpawnCounts.{SpawnCounts}
 use Rattle.ip_image.specs.declared.counts.TurnCounts.{TurnCounts}
 use Rattle.ip_app.specs.declared.turn_log.Turn.{Turn}
 
-abbrev pub turn_counts : GroundCounts → SpawnCounts → TurnCounts
-turn_counts counts spawns = record { file_faults = counts.file_faults; remove_faults = counts.remove_faults; spawner = spawns }
+abbrev pub turn_of : GroundCounts → SpawnCounts → TurnCounts
+turn_of counts spawns = record { file_faults = counts.file_faults; remove_faults = counts.remove_faults; spawner = spawns }
+
+abbrev pub turn_counts : Noted → SpawnCounts → TurnCounts
+turn_counts noted spawns = turn_of (counts_in noted) spawns
 
 pub record SpawnsLater (earlier later : SpawnCounts) : Type 0 where
   pub running : earlier.running ≤ later.running

@@ -1,10 +1,9 @@
 -- What a call does that collects, as the child of a collection.
 --     worked_status worked      the status of what the collector answered.      WorksAs      it is that, over what was told
---     CountsWorking status old new      the faults that are counted then
+--     CountsWorking status old new      what is counted then
 --     RunsJob job old new status      from what is told when it begins to what is told when it returns
 use Rattle.std.specs.Prelude.{◌≡◌, ◌⊎◌, Bool, IsTrue, Result, Ok, Err, IsErrOf}
-use Rattle.ip_ground.specs.declared.names.GroundCounts.{GroundCounts}
-use Rattle.ip_ground.specs.Counts.{Rose, FileFault, RemoveFault}
+use Rattle.ip_ground.specs.Counts.{Noted, Rose, FileFault, RemoveFault, DamageFound}
 use Rattle.ip_ground.specs.Told.{Told, NoFile, ChangesOnly}
 use Rattle.ip_spec.specs.TreeAt.{Records}
 use Rattle.ip_spawn.specs.declared.job.Job.{Job}
@@ -14,7 +13,7 @@ use Rattle.ip_worker.specs.Steps.{IsFree}
 use Rattle.ip_worker.specs.Whole.{AreWhole}
 use Rattle.ip_worker.specs.Working.{NothingLent, IsServed, WritesAttempt, Works, Refuses}
 use Rattle.ip_app.specs.declared.statuses.Status.{Status}
-use Rattle.ip_app.specs.Outside.{Outside, GoesOn, IsUnasked}
+use Rattle.ip_app.specs.Outside.{Outside, GoesOn, IsBound, IsUnasked, but_bound}
 
 abbrev pub worked_status : Result Counts WorkFault → Status
 worked_status (Ok counts) = Status.Done
@@ -33,9 +32,11 @@ pub record WorksAs (tells : Bool) (job : Job) (old new : Told) (status : Status)
   -- where nothing is lent and the job is found damaged, no file has changed
   pub spared : IsTrue tells → NothingLent old → IsErrOf worked WorkFault.Damaged → ChangesOnly NoFile old new
 
-abbrev pub CountsWorking : Status → GroundCounts → GroundCounts → Type 0
-CountsWorking Status.GroundFault old new = FileFault old new ⊎ RemoveFault old new
-CountsWorking _ old new = new ≡ old
+-- which folder is bound is another thing
+abbrev pub CountsWorking : Status → Noted → Noted → Type 0
+CountsWorking Status.GroundFault old new = FileFault (but_bound old new) new ⊎ RemoveFault (but_bound old new) new
+CountsWorking Status.DamagedJob old new = DamageFound (but_bound old new) new
+CountsWorking _ old new = new ≡ but_bound old new
 
 pub record RunsJob (job : Job) (old new : Outside) (status : Status) : Type 0 where
   pub goes_on : GoesOn old new
@@ -46,8 +47,9 @@ pub record RunsJob (job : Job) (old new : Outside) (status : Status) : Type 0 wh
   -- at no moment does a file change that is not of the job's attempt, and nothing is said
   pub only : IsTrue old.ground_tells → IsFree old.told job.attempt → WritesAttempt job old.told new.told
   pub works : WorksAs old.ground_tells job old.told new.told status
-  -- a fault of a file or of a removal was counted, where the status says so, and of no other kind
+  -- a fault of a file or of a removal was counted, or damage, where the status says so, and nothing of another kind
   pub counted : CountsWorking status old.counts new.counts
+  pub bound : IsBound old.dir status old.counts new.counts
   -- where no fault is counted, the job's files are whole and its attempt is not the live one, it is done, or memory was wanting
   pub complete : IsTrue old.ground_tells → (records : Records) → AreWhole old.told.held job records → NothingLent old.told → ¬ IsServed old.told.held job.attempt
       → ¬ Rose old.counts.file_faults new.counts.file_faults → ¬ Rose old.counts.remove_faults new.counts.remove_faults → (status ≡ Status.Done) ⊎ (status ≡ Status.Memory)

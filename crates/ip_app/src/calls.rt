@@ -1,5 +1,5 @@
 // The program's calls.
-ghost use Rattle.std.specs.Prelude.{◌≡◌, ◌⊎◌, ℕ, Bool, None, IsTrue};
+ghost use Rattle.std.specs.Prelude.{◌≡◌, ◌⊎◌, [], ℕ, Bool, None, IsTrue};
 ghost use Rattle.ip_ground.specs.declared.names.FileName.TheVariants.{Control};
 ghost use Rattle.ip_ground.specs.Counts.{NoneFalls};
 ghost use Rattle.ip_ground.specs.Told.{ChangesOnly, Only};
@@ -9,7 +9,7 @@ ghost use Rattle.ip_spec.specs.Path.{Bytes};
 ghost use Rattle.ip_image.specs.Slot.{IsChunkSize};
 ghost use Rattle.ip_words.specs.Words.{Asked, making, serving, working, loading, Asks, AsksNothing, texts_of};
 ghost use Rattle.ip_app.specs.Loading.{Loads, LoadsWhereAllIsWell};
-ghost use Rattle.ip_app.specs.Outside.{outside};
+ghost use Rattle.ip_app.specs.Outside.{outside, IsBound};
 ghost use Rattle.ip_app.specs.Working.{RunsJob};
 ghost use Rattle.ip_app.specs.Serving.{CountsOf};
 ghost use Rattle.ip_app.specs.Run.{init_status, InitRow, Inits, Serves, EndsAsBytes, EndsWhereAllIsWell, LeavesAll};
@@ -44,6 +44,7 @@ fn init<G: Ground>(folder: &str, chunk: u64, ground: &mut G) -> Status
     ensures only { IsTrue G.tells → ChangesOnly (Only Control) (G.told ground.old) (G.told ground.new) }
     ensures row { InitRow chunk result G.tells (G.told ground.old) (G.told ground.new) }
     ensures counted { CountsOf result (G.counts_of ground.old) (G.counts_of ground.new) }
+    ensures bound { IsBound folder.now result (G.counts_of ground.old) (G.counts_of ground.new) }
     ensures counts { NoneFalls (G.counts_of ground.old) (G.counts_of ground.new) }
 {
     // A count's range is that of its type, so one that stands at its last value has not fallen.
@@ -72,32 +73,32 @@ pub fn run<S: Source, G: Ground, P: Spawner, D: Decides, L: Log>(
     // Only where the words ask for nothing that the program does; and where they do, it is this, or want of memory, and nothing is changed.
     ensures usage { result ≡ Status.Usage → AsksNothing (texts_of words.now) }
     ensures refused { AsksNothing (texts_of words.now) → (result ≡ Status.Usage) ⊎ (result ≡ Status.Memory) }
-    ensures nothing { let told = outside S.tells S.left S.read_faults G.tells G.told G.counts_of P.tells P.told P.held P.counts_of L.tells L.turns in
+    ensures nothing { let told = outside [] S.tells S.left S.read_faults G.tells G.told G.counts_of P.tells P.told P.held P.counts_of L.tells L.turns in
         AsksNothing (texts_of words.now) → LeavesAll (told source.old ground.old spawner.old log.old) (told source.new ground.new spawner.new log.new) }
-    ensures init { let told = outside S.tells S.left S.read_faults G.tells G.told G.counts_of P.tells P.told P.held P.counts_of L.tells L.turns in
-        (folder : Bytes) (chunk : ℕ) → Asks (texts_of words.now) (making folder chunk) →
+    ensures init { (folder : Bytes) → let told = outside folder S.tells S.left S.read_faults G.tells G.told G.counts_of P.tells P.told P.held P.counts_of L.tells L.turns in
+        (chunk : ℕ) → Asks (texts_of words.now) (making folder chunk) →
         Inits chunk (told source.old ground.old spawner.old log.old) (told source.new ground.new spawner.new log.new) result }
     // Of replies and states it speaks where the rules are known to be decisive, which `decisive` says.
-    ensures serve { let told = outside S.tells S.left S.read_faults G.tells G.told G.counts_of P.tells P.told P.held P.counts_of L.tells L.turns in
-        (folder : Bytes) → Asks (texts_of words.now) (serving folder) → (decisive : Bool) → (IsTrue decisive → IsDecisive (D.rule rules.now)) →
+    ensures serve { (folder : Bytes) → let told = outside folder S.tells S.left S.read_faults G.tells G.told G.counts_of P.tells P.told P.held P.counts_of L.tells L.turns in
+        Asks (texts_of words.now) (serving folder) → (decisive : Bool) → (IsTrue decisive → IsDecisive (D.rule rules.now)) →
         Serves (D.rule rules.now) decisive (told source.old ground.old spawner.old log.old) (told source.new ground.new spawner.new log.new) result }
     // Where the source tells its bytes, these alone give the status, in whatever pieces they came.
-    ensures bytes { let told = outside S.tells S.left S.read_faults G.tells G.told G.counts_of P.tells P.told P.held P.counts_of L.tells L.turns in
-        (folder : Bytes) → Asks (texts_of words.now) (serving folder) →
+    ensures bytes { (folder : Bytes) → let told = outside folder S.tells S.left S.read_faults G.tells G.told G.counts_of P.tells P.told P.held P.counts_of L.tells L.turns in
+        Asks (texts_of words.now) (serving folder) →
         EndsAsBytes (told source.old ground.old spawner.old log.old) result }
     // Where no fault is counted and the store stands, it ends by the script, or for want of memory.
-    ensures complete { let told = outside S.tells S.left S.read_faults G.tells G.told G.counts_of P.tells P.told P.held P.counts_of L.tells L.turns in
-        (folder : Bytes) → Asks (texts_of words.now) (serving folder) → IsDecisive (D.rule rules.now) →
+    ensures complete { (folder : Bytes) → let told = outside folder S.tells S.left S.read_faults G.tells G.told G.counts_of P.tells P.told P.held P.counts_of L.tells L.turns in
+        Asks (texts_of words.now) (serving folder) → IsDecisive (D.rule rules.now) →
         EndsWhereAllIsWell (told source.old ground.old spawner.old log.old) (told source.new ground.new spawner.new log.new) result }
-    ensures worker { let told = outside S.tells S.left S.read_faults G.tells G.told G.counts_of P.tells P.told P.held P.counts_of L.tells L.turns in
-        (folder : Bytes) (job : Job) → Asks (texts_of words.now) (working folder job) →
+    ensures worker { (folder : Bytes) → let told = outside folder S.tells S.left S.read_faults G.tells G.told G.counts_of P.tells P.told P.held P.counts_of L.tells L.turns in
+        (job : Job) → Asks (texts_of words.now) (working folder job) →
         RunsJob job (told source.old ground.old spawner.old log.old) (told source.new ground.new spawner.new log.new) result }
-    ensures load { let told = outside S.tells S.left S.read_faults G.tells G.told G.counts_of P.tells P.told P.held P.counts_of L.tells L.turns in
-        (folder : Bytes) (seed count : ℕ) → Asks (texts_of words.now) (loading folder seed count) → (decisive : Bool) → (IsTrue decisive → IsDecisive (D.rule rules.now)) →
+    ensures load { (folder : Bytes) → let told = outside folder S.tells S.left S.read_faults G.tells G.told G.counts_of P.tells P.told P.held P.counts_of L.tells L.turns in
+        (seed count : ℕ) → Asks (texts_of words.now) (loading folder seed count) → (decisive : Bool) → (IsTrue decisive → IsDecisive (D.rule rules.now)) →
         Loads (D.rule rules.now) decisive seed count (told source.old ground.old spawner.old log.old) (told source.new ground.new spawner.new log.new) result }
     // Where no fault is counted and the store stands, all lines are run and the summary is said, or memory was wanting before them.
-    ensures load_complete { let told = outside S.tells S.left S.read_faults G.tells G.told G.counts_of P.tells P.told P.held P.counts_of L.tells L.turns in
-        (folder : Bytes) (seed count : ℕ) → Asks (texts_of words.now) (loading folder seed count) → IsDecisive (D.rule rules.now) →
+    ensures load_complete { (folder : Bytes) → let told = outside folder S.tells S.left S.read_faults G.tells G.told G.counts_of P.tells P.told P.held P.counts_of L.tells L.turns in
+        (seed count : ℕ) → Asks (texts_of words.now) (loading folder seed count) → IsDecisive (D.rule rules.now) →
         LoadsWhereAllIsWell (told source.old ground.old spawner.old log.old) (told source.new ground.new spawner.new log.new) result }
 {
     let call = match asked(alloc, words) {

@@ -50,6 +50,7 @@ pub fn exchange<G: Ground, P: Spawner, D: Decides, L: Log>(
     requires counted { counts.old ≡ turn_counts (G.counts_of ground.old) (P.counts_of spawner.old) }
     requires small { counts.old.file_faults ≤ 2 ^ 64 - 1 }
     requires removals { counts.old.remove_faults ≤ 2 ^ 64 - 1 }
+    requires damages { (G.counts_of ground.old).damages ≤ 2 ^ 64 - 1 }
     requires running { counts.old.spawner.running ≤ 2 ^ 64 - 1 }
     requires tables { IsServing session.old }
     requires child { P.held spawner.old ≡ child_of session.old.store.held.collection }
@@ -59,10 +60,10 @@ pub fn exchange<G: Ground, P: Spawner, D: Decides, L: Log>(
     ensures sayable { (G.counts_of ground.new).say_faults ≤ 2 ^ 64 - 1 }
     ensures child { P.held spawner.new ≡ child_of session.new.store.held.collection }
     // Whatever a source tells meanwhile.
-    ensures replied { (source_tells : Bool) (left : Bytes) (read_faults : ℕ) → let told = outside_of source_tells left read_faults G.tells G.told G.counts_of P.tells P.told P.held P.counts_of L.tells L.turns in
+    ensures replied { (source_tells : Bool) (left : Bytes) (read_faults : ℕ) → let told = outside_of folder.now source_tells left read_faults G.tells G.told G.counts_of P.tells P.told P.held P.counts_of L.tells L.turns in
         (known : Bool) (r : Repository) (v : View) → (IsTrue known → Works (D.rule rules.now) G.tells (G.told ground.old) session.old r v) →
         OnOk result (Replied (D.rule rules.now) known (told ground.old spawner.old log.old) (told ground.new spawner.new log.new) line.now text.new.items counts.old counts.new session.old session.new r v) }
-    ensures cut { (source_tells : Bool) (left : Bytes) (read_faults : ℕ) → let told = outside_of source_tells left read_faults G.tells G.told G.counts_of P.tells P.told P.held P.counts_of L.tells L.turns in
+    ensures cut { (source_tells : Bool) (left : Bytes) (read_faults : ℕ) → let told = outside_of folder.now source_tells left read_faults G.tells G.told G.counts_of P.tells P.told P.held P.counts_of L.tells L.turns in
         (known : Bool) (r : Repository) (v : View) → (IsTrue known → Works (D.rule rules.now) G.tells (G.told ground.old) session.old r v) →
         IfErr result (λ status. CutsShort (D.rule rules.now) status known (told ground.old spawner.old log.old) (told ground.new spawner.new log.new) line.now counts.old counts.new (state_in session.old r v)) }
 {

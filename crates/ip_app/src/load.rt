@@ -70,6 +70,7 @@ impl LoadRoom {
         requires counted { counts.old ≡ turn_counts (G.counts_of ground.old) (P.counts_of spawner.old) }
         requires small { counts.old.file_faults ≤ 2 ^ 64 - 1 }
         requires removals { counts.old.remove_faults ≤ 2 ^ 64 - 1 }
+        requires damages { (G.counts_of ground.old).damages ≤ 2 ^ 64 - 1 }
         requires running { counts.old.spawner.running ≤ 2 ^ 64 - 1 }
         requires tables { IsServing session.old }
         requires child { P.held spawner.old ≡ child_of session.old.store.held.collection }
@@ -79,10 +80,10 @@ impl LoadRoom {
         ensures child { P.held spawner.new ≡ child_of session.new.store.held.collection }
         ensures state { state.new ≡ (load_line state.old number).1 }
         ensures tallies { OnOk result ((replies : List Reply) (reply : Reply) → self.new.text.items ≡ reply_text reply → length replies < 2 ^ 64 - 1 → Tallies self.old.summary replies → Tallies self.new.summary (replies ++ reply ∷ [])) }
-        ensures replied { (source_tells : Bool) (left : Bytes) (read_faults : ℕ) → let told = outside_of source_tells left read_faults G.tells G.told G.counts_of P.tells P.told P.held P.counts_of L.tells L.turns in
+        ensures replied { (source_tells : Bool) (left : Bytes) (read_faults : ℕ) → let told = outside_of folder.now source_tells left read_faults G.tells G.told G.counts_of P.tells P.told P.held P.counts_of L.tells L.turns in
             (known : Bool) (r : Repository) (v : View) → (IsTrue known → Works (D.rule rules.now) G.tells (G.told ground.old) session.old r v) →
             OnOk result (Replied (D.rule rules.now) known (told ground.old spawner.old log.old) (told ground.new spawner.new log.new) (load_line state.old number).0 self.new.text.items counts.old counts.new session.old session.new r v) }
-        ensures cut { (source_tells : Bool) (left : Bytes) (read_faults : ℕ) → let told = outside_of source_tells left read_faults G.tells G.told G.counts_of P.tells P.told P.held P.counts_of L.tells L.turns in
+        ensures cut { (source_tells : Bool) (left : Bytes) (read_faults : ℕ) → let told = outside_of folder.now source_tells left read_faults G.tells G.told G.counts_of P.tells P.told P.held P.counts_of L.tells L.turns in
             (known : Bool) (r : Repository) (v : View) → (IsTrue known → Works (D.rule rules.now) G.tells (G.told ground.old) session.old r v) →
             IfErr result (λ status. CutsShort (D.rule rules.now) status known (told ground.old spawner.old log.old) (told ground.new spawner.new log.new) (load_line state.old number).0 counts.old counts.new (state_in session.old r v)) }
     {
@@ -122,12 +123,13 @@ impl LoadRoom {
         requires counted { counts.old ≡ turn_counts (G.counts_of ground.old) (P.counts_of spawner.old) }
         requires small { counts.old.file_faults ≤ 2 ^ 64 - 1 }
         requires removals { counts.old.remove_faults ≤ 2 ^ 64 - 1 }
+        requires damages { (G.counts_of ground.old).damages ≤ 2 ^ 64 - 1 }
         requires running { counts.old.spawner.running ≤ 2 ^ 64 - 1 }
         requires tables { IsServing session.old }
         requires child { P.held spawner.old ≡ child_of session.old.store.held.collection }
         requires tallied { (replies : List Reply) × Tallies self.summary replies }
         ensures child { P.held spawner.new ≡ child_of session.new.store.held.collection }
-        ensures finishes { (source_tells : Bool) (left : Bytes) (read_faults : ℕ) → let told = outside_of source_tells left read_faults G.tells G.told G.counts_of P.tells P.told P.held P.counts_of L.tells L.turns in
+        ensures finishes { (source_tells : Bool) (left : Bytes) (read_faults : ℕ) → let told = outside_of folder.now source_tells left read_faults G.tells G.told G.counts_of P.tells P.told P.held P.counts_of L.tells L.turns in
             (known : Bool) (r : Repository) (v : View) → (IsTrue known → Works (D.rule rules.now) G.tells (G.told ground.old) session.old r v) →
             (replies : List Reply) → Tallies self.summary replies →
             FinishesLoad (D.rule rules.now) result known (told ground.old spawner.old log.old) (told ground.new spawner.new log.new) (summary count replies) counts.old counts.new session.old session.new r v }
@@ -180,11 +182,11 @@ pub fn load<G: Ground, P: Spawner, D: Decides, L: Log>(
     requires child { P.held spawner.old ≡ None }
     ensures none_held { P.held spawner.new ≡ None }
     // Whatever a source tells meanwhile.
-    ensures loads { (source_tells : Bool) (left : Bytes) (read_faults : ℕ) → let told = outside_of source_tells left read_faults G.tells G.told G.counts_of P.tells P.told P.held P.counts_of L.tells L.turns in
+    ensures loads { (source_tells : Bool) (left : Bytes) (read_faults : ℕ) → let told = outside_of folder.now source_tells left read_faults G.tells G.told G.counts_of P.tells P.told P.held P.counts_of L.tells L.turns in
         (decisive : Bool) → (IsTrue decisive → IsDecisive (D.rule rules.now)) →
         Loads (D.rule rules.now) decisive seed count (told ground.old spawner.old log.old) (told ground.new spawner.new log.new) result }
     // Where no fault is counted and the store stands, all lines are run and the summary is said, or memory was wanting before them.
-    ensures complete { let told = outside_of false [] 0 G.tells G.told G.counts_of P.tells P.told P.held P.counts_of L.tells L.turns in
+    ensures complete { let told = outside_of folder.now false [] 0 G.tells G.told G.counts_of P.tells P.told P.held P.counts_of L.tells L.turns in
         IsDecisive (D.rule rules.now) → LoadsWhereAllIsWell (told ground.old spawner.old log.old) (told ground.new spawner.new log.new) result }
 {
     let mut counts = turn_counts(ground.counts(), spawner.counts());

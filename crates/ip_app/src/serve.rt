@@ -1,5 +1,5 @@
 // Serving a script: line by line, one reply each.
-ghost use Rattle.std.specs.Prelude.{◌≡◌, ◌-◌, ◌^◌, ◌≤◌, [], None, Bool, IsTrue, OnOk, IfOk, IfErr};
+ghost use Rattle.std.specs.Prelude.{◌≡◌, ◌-◌, ◌^◌, ◌≤◌, [], None, Some, Bool, IsTrue, OnOk, IfOk, IfErr};
 ghost use Rattle.ip_ground.specs.Told.{SyncsOnly, Only};
 ghost use Rattle.ip_ground.specs.declared.names.FileName.TheVariants.{Control};
 ghost use Rattle.ip_merge.specs.Rules.{IsDecisive};
@@ -7,7 +7,7 @@ ghost use Rattle.ip_spec.specs.Repository.{Repository};
 ghost use Rattle.ip_spec.specs.View.{View};
 ghost use Rattle.ip_held.specs.Collecting.{child_of};
 ghost use Rattle.ip_opens.specs.Opening.{RecoversOnceOpen};
-ghost use Rattle.ip_app.specs.Outside.{outside};
+ghost use Rattle.ip_app.specs.Outside.{outside, IsBound};
 ghost use Rattle.ip_app.specs.Turns.{turn_counts};
 ghost use Rattle.ip_app.specs.Serving.{CountsOf, Works, TurnedIn, Stops};
 ghost use Rattle.ip_app.specs.Run.{opening_status, CouldNotOpen, OpensAs, Serves, EndsWhereAllIsWell, EndsAsBytes};
@@ -69,6 +69,7 @@ impl LineRoom {
         requires counted { counts.old ≡ turn_counts (G.counts_of ground.old) (P.counts_of spawner.old) }
         requires small { counts.old.file_faults ≤ 2 ^ 64 - 1 }
         requires removals { counts.old.remove_faults ≤ 2 ^ 64 - 1 }
+        requires damages { (G.counts_of ground.old).damages ≤ 2 ^ 64 - 1 }
         requires running { counts.old.spawner.running ≤ 2 ^ 64 - 1 }
         requires tables { IsServing session.old }
         requires child { P.held spawner.old ≡ child_of session.old.store.held.collection }
@@ -76,10 +77,10 @@ impl LineRoom {
         ensures removals { counts.new.remove_faults ≤ 2 ^ 64 - 1 }
         ensures running { counts.new.spawner.running ≤ 2 ^ 64 - 1 }
         ensures child { P.held spawner.new ≡ child_of session.new.store.held.collection }
-        ensures turned { let told = outside S.tells S.left S.read_faults G.tells G.told G.counts_of P.tells P.told P.held P.counts_of L.tells L.turns in
+        ensures turned { let told = outside folder.now S.tells S.left S.read_faults G.tells G.told G.counts_of P.tells P.told P.held P.counts_of L.tells L.turns in
             (known : Bool) (r : Repository) (v : View) → (IsTrue known → Works (D.rule rules.now) G.tells (G.told ground.old) session.old r v) →
             OnOk result (TurnedIn (D.rule rules.now) known (told source.old ground.old spawner.old log.old) (told source.new ground.new spawner.new log.new) self.old.lines self.new.lines counts.old counts.new session.old session.new r v) }
-        ensures stops { let told = outside S.tells S.left S.read_faults G.tells G.told G.counts_of P.tells P.told P.held P.counts_of L.tells L.turns in
+        ensures stops { let told = outside folder.now S.tells S.left S.read_faults G.tells G.told G.counts_of P.tells P.told P.held P.counts_of L.tells L.turns in
             (known : Bool) (r : Repository) (v : View) → (IsTrue known → Works (D.rule rules.now) G.tells (G.told ground.old) session.old r v) →
             IfErr result (λ status. Stops (D.rule rules.now) status known (told source.old ground.old spawner.old log.old) (told source.new ground.new spawner.new log.new) self.old.lines self.new.lines counts.old counts.new session.old.store.held (state_in session.old r v)) }
     {
@@ -132,7 +133,8 @@ pub(crate) fn open_in<G: Ground>(
     ensures idle { IfOk result (λ store. store.held.collection ≡ None) }
     ensures refused { IfErr result (λ status. CouldNotOpen status G.tells (G.told ground.old)) }
     ensures counted { IfErr result (λ status. CountsOf status (G.counts_of ground.old) (G.counts_of ground.new)) }
-    ensures no_fault { OnOk result (G.counts_of ground.new ≡ G.counts_of ground.old) }
+    ensures bound { IfErr result (λ status. IsBound folder.now status (G.counts_of ground.old) (G.counts_of ground.new)) }
+    ensures no_fault { OnOk result (G.counts_of ground.new ≡ record (G.counts_of ground.old) { bound = Some folder.now }) }
 {
     if ground.attach(folder).is_err() {
         return Err(Status::GroundFault);
@@ -155,14 +157,14 @@ pub fn serve<S: Source, G: Ground, P: Spawner, D: Decides, L: Log>(
 ) -> Status
     requires child { P.held spawner.old ≡ None }
     ensures none_held { P.held spawner.new ≡ None }
-    ensures serves { let told = outside S.tells S.left S.read_faults G.tells G.told G.counts_of P.tells P.told P.held P.counts_of L.tells L.turns in
+    ensures serves { let told = outside folder.now S.tells S.left S.read_faults G.tells G.told G.counts_of P.tells P.told P.held P.counts_of L.tells L.turns in
         (decisive : Bool) → (IsTrue decisive → IsDecisive (D.rule rules.now)) →
         Serves (D.rule rules.now) decisive (told source.old ground.old spawner.old log.old) (told source.new ground.new spawner.new log.new) result }
     // Where the source tells its bytes, these alone give the status, in whatever pieces they came.
-    ensures bytes { let told = outside S.tells S.left S.read_faults G.tells G.told G.counts_of P.tells P.told P.held P.counts_of L.tells L.turns in
+    ensures bytes { let told = outside folder.now S.tells S.left S.read_faults G.tells G.told G.counts_of P.tells P.told P.held P.counts_of L.tells L.turns in
         EndsAsBytes (told source.old ground.old spawner.old log.old) result }
     // Where no fault is counted and the store stands, it ends by the script, or for want of memory.
-    ensures complete { let told = outside S.tells S.left S.read_faults G.tells G.told G.counts_of P.tells P.told P.held P.counts_of L.tells L.turns in
+    ensures complete { let told = outside folder.now S.tells S.left S.read_faults G.tells G.told G.counts_of P.tells P.told P.held P.counts_of L.tells L.turns in
         IsDecisive (D.rule rules.now) → EndsWhereAllIsWell (told source.old ground.old spawner.old log.old) (told source.new ground.new spawner.new log.new) result }
 {
     let mut counts = turn_counts(ground.counts(), spawner.counts());

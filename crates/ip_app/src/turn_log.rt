@@ -2,7 +2,7 @@
 ghost use Rattle.std.specs.Prelude.{◌≡◌, ◌++◌, ◌<◌, [], ◌∷◌, List, Bool, not, false, length, IsTrue, IfOk, ◌≤◌};
 ghost use Rattle.std.specs.Vec.{vec_capacity};
 ghost use Rattle.ip_app.specs.declared.turn_log.Turn.{Turn};
-ghost use Rattle.ip_app.specs.Turns.{turn_counts};
+ghost use Rattle.ip_app.specs.Turns.{turn_of};
 
 use ip_base::Memory;
 use ip_ground::GroundCounts;
@@ -13,7 +13,7 @@ use std::alloc::Global;
 
 /// What a ground and a spawner counted, as a turn tells it.
 pub fn turn_counts(counts: GroundCounts, spawner: SpawnCounts) -> TurnCounts
-    ensures { result ≡ turn_counts counts spawner }
+    ensures { result ≡ turn_of counts spawner }
 {
     TurnCounts {
         file_faults: counts.file_faults,

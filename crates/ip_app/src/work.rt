@@ -4,6 +4,7 @@ ghost use Rattle.ip_ground.specs.Counts.{NoneFalls};
 ghost use Rattle.ip_spawn.specs.Jobs.{IsValid as IsValidJob};
 ghost use Rattle.ip_worker.specs.Steps.{IsFree};
 ghost use Rattle.ip_worker.specs.Working.{WritesAttempt};
+ghost use Rattle.ip_app.specs.Outside.{IsBound};
 ghost use Rattle.ip_app.specs.Working.{worked_status, WorksAs, CountsWorking};
 
 use crate::statuses::Status;
@@ -30,6 +31,7 @@ pub fn work<G: Ground>(alloc: Global, folder: &str, job: &Job, ground: &mut G) -
     ensures only { IsTrue G.tells → IsFree (G.told ground.old) job.now.attempt → WritesAttempt job.now (G.told ground.old) (G.told ground.new) }
     ensures works { WorksAs G.tells job.now (G.told ground.old) (G.told ground.new) result }
     ensures counted { CountsWorking result (G.counts_of ground.old) (G.counts_of ground.new) }
+    ensures bound { IsBound folder.now result (G.counts_of ground.old) (G.counts_of ground.new) }
     ensures counts { NoneFalls (G.counts_of ground.old) (G.counts_of ground.new) }
 {
     // A count's range is that of its type, so one that stands at its last value has not fallen.

@@ -1,16 +1,15 @@
 -- What a command asks of the spawner, and what is counted meanwhile.
 --     goes_itself, goes_same, goes_none      a collection goes on that ran before, or none does
 --     nothing_asked      it asks nothing.      plain_asked      so for a command that has to do with no child.      nothing_spawned      for a line
---     none_met, faulted      no child was met.      start_asked      a collection was to begin.      start_quiet, start_counts      what was counted of the ground.      start_ends      how the session may end
---     cancel_asked, cancel_counts, cancel_quiet      so of one that was to end
+--     none_met, faulted      no child was met.      start_asked      a collection was to begin.      start_quiet, start_counts      what was counted of the ground.      start_ends      how the session may end.      start_sound      by no damage
+--     cancel_asked, cancel_counts, cancel_quiet, cancel_sound      so of one that was to end
 --     plain_counts, plain_quiet      so of the others
 --     lined_asked, lined_counts      so of the line that spells a command.      any_counts, none_counts      of any line, and of one that is none
 --     whole_asked, unwritten      a reply's text was written, or there was no memory for it
 use Rattle.std.proofs.Common.{◌≡◌, ◌≢◌, ◌↔◌, ◌⊎◌, inl, inr, ℕ, ◌-◌, ◌^◌, ◌≤◌, ◌++◌, Bool, true, false, List, [], ◌∷◌, refl, sym, ap, ◌∙◌, subst, arith, Option, Some, None, Ok, Err, IsTrue, length, append-nil}
 use Rattle.std.specs.Prelude.{Result, IfOk, OnOk, IfErr, IsErr, IsErrOf, IsSome, IsSomeAnd, is_err, is_some, not}
-use Rattle.ip_ground.specs.declared.names.GroundCounts.{GroundCounts}
 use Rattle.ip_base.specs.declared.exit.Reaped.{Reaped}
-use Rattle.ip_ground.specs.Counts.{Counts, CountsLeft, Rose}
+use Rattle.ip_ground.specs.Counts.{Noted, Counts, CountsLeft, Rose}
 use Rattle.ip_spawn.proofs.Rising.{rose_counted}
 use Rattle.ip_spawn.specs.Children.{told_after}
 use Rattle.ip_spawn.specs.Children as spawn
@@ -38,13 +37,13 @@ use Rattle.ip_collects.specs.Cancelling.{CancelReplies, met_by_cancel, CountsCan
 use Rattle.ip_held.specs.Collecting.{phase_of}
 use Rattle.ip_held.specs.Answers as commits
 use Rattle.ip_held.specs.Answers.{met_by}
-use Rattle.ip_collects.specs.CollectFaults.{ground_start}
+use Rattle.ip_collects.specs.CollectFaults.{counted_start}
 use Rattle.ip_collects.specs.Starting.{AnswersCall, branch_name_at, met_by_start, IsBegun, IsTurnedDown, IsJobAt, started_by}
 use Rattle.ip_held.specs.Work.{work_at, state_at}
 use Rattle.ip_session.specs.declared.session.Session.{Session}
 use Rattle.ip_session.specs.declared.session.SessionEnd.{SessionEnd}
-use Rattle.ip_session.specs.Asking.{HasStarted, HandlesNone, TellsNone, MeetsNone, QuietIfLong, GoesOnBy, Asked, Spawns}
-use Rattle.ip_session.specs.Session.{met_only, IsLong, CountsBy, CountsAny, CountsIn, EndsBy, ground_end}
+use Rattle.ip_session.specs.Asking.{HasStarted, HandlesNone, TellsNone, MeetsNone, QuietIfLong, GoesOnBy, Asked, Spawns, starts_in}
+use Rattle.ip_session.specs.Session.{met_only, IsLong, CountsBy, CountsAny, CountsIn, EndsBy, MetDamage, counted_end}
 use Rattle.ip_session.specs.Starting.{HeldReplies, StartReplies, cancel_answer}
 use Rattle.ip_session.proofs.SessionLemmas.{started_is_short, cancelled_is_short, orphan_is_short, idle_is_short}
 use Rattle.ip_store.specs.declared.store.Store.{Store}
@@ -70,8 +69,8 @@ goes_none (Err end) jobs before now is = tt
 
 -- ---- nothing is asked
 
-abbrev pub AskedSo : (tells : Bool) (x y : spawn.Told) (s s' : Session) (command : Command) (result : Result Reply SessionEnd) (m n : SpawnCounts) → Type 0
-AskedSo tells x y s s' command result m n = (jobs : List Job) × (ends : List Reaped) × (IsTrue tells → y ≡ record { started = x.started ++ jobs; reaped = x.reaped ++ ends }) × Asked s s' command result jobs ends m n
+abbrev pub AskedSo : (tells : Bool) (dir : Bytes) (x y : spawn.Told) (s s' : Session) (command : Command) (result : Result Reply SessionEnd) (m n : SpawnCounts) → Type 0
+AskedSo tells dir x y s s' command result m n = (jobs : List Job) × (ends : List Reaped) × (IsTrue tells → y ≡ record { started = x.started ++ starts_in dir jobs; reaped = x.reaped ++ ends }) × Asked s s' command result jobs ends m n
 
 -- and nothing was added to what is told
 pub none_added : (x : spawn.Told) → x ≡ record { started = x.started ++ []; reaped = x.reaped ++ [] }
@@ -99,8 +98,8 @@ asks_nothing s s' command result m never over met goes_on = record {
   kill = λ failed. never_failed s'.met.kill_failed met.1 failed;
 }
 
-pub nothing_asked : (tells : Bool) (x y : spawn.Told) (s s' : Session) (command : Command) (result : Result Reply SessionEnd) (m n : SpawnCounts) → y ≡ x → n ≡ m → ¬ HasStarted result → result ≢ Ok Reply.Cancelled → MeetsNone s'.met → IfOk result (λ reply. GoesOnBy [] s.store.held.collection s'.store.held.collection) → AskedSo tells x y s s' command result m n
-nothing_asked tells x y s s' command result m n same still never over met goes_on =
+pub nothing_asked : (tells : Bool) (dir : Bytes) (x y : spawn.Told) (s s' : Session) (command : Command) (result : Result Reply SessionEnd) (m n : SpawnCounts) → y ≡ x → n ≡ m → ¬ HasStarted result → result ≢ Ok Reply.Cancelled → MeetsNone s'.met → IfOk result (λ reply. GoesOnBy [] s.store.held.collection s'.store.held.collection) → AskedSo tells dir x y s s' command result m n
+nothing_asked tells dir x y s s' command result m n same still never over met goes_on =
     ([], [], λ _. same ∙ none_added x, subst (λ (k : SpawnCounts). Asked s s' command result [] [] m k) (sym still) (asks_nothing s s' command result m never over met goes_on))
 
 tells_start : (result : Result Reply SessionEnd) → IfOk result TellsNone → ¬ HasStarted result
@@ -111,8 +110,8 @@ tells_start (Err end) none has = has
 tells_over : (result : Result Reply SessionEnd) → IfOk result TellsNone → result ≢ Ok Reply.Cancelled
 tells_over result none is = subst (λ (x : Result Reply SessionEnd). IfOk x TellsNone) is none
 
-pub plain_asked : (tells : Bool) (x : spawn.Told) (s s' : Session) (command : Command) (result : Result Reply SessionEnd) (m : SpawnCounts) → IfOk result TellsNone → MeetsNone s'.met → s'.store.held.collection ≡ s.store.held.collection → AskedSo tells x x s s' command result m m
-plain_asked tells x s s' command result m none met same = nothing_asked tells x x s s' command result m m refl refl (tells_start result none) (tells_over result none) met (goes_same result s.store.held.collection s'.store.held.collection same)
+pub plain_asked : (tells : Bool) (dir : Bytes) (x : spawn.Told) (s s' : Session) (command : Command) (result : Result Reply SessionEnd) (m : SpawnCounts) → IfOk result TellsNone → MeetsNone s'.met → s'.store.held.collection ≡ s.store.held.collection → AskedSo tells dir x x s s' command result m m
+plain_asked tells dir x s s' command result m none met same = nothing_asked tells dir x x s s' command result m m refl refl (tells_start result none) (tells_over result none) met (goes_same result s.store.held.collection s'.store.held.collection same)
 
 pub none_met : (met : Met) (refused : Bool) → met ≡ met_only refused → MeetsNone met
 none_met met refused is = (ap (λ (m : Met). m.start_failed) is, ap (λ (m : Met). m.kill_failed) is, ap (λ (m : Met). m.child) is)
@@ -127,35 +126,35 @@ faulted (Err _) = (refl, refl, refl)
 -- ---- a collection is to begin
 
 -- none did
-module _ (tells : Bool) (x y : spawn.Told) (s s' : Session) (target : Target) (m n : SpawnCounts) (same : (y ≡ x) × (n ≡ m)) (stays : s'.store.held.collection ≡ s.store.held.collection) where
+module _ (tells : Bool) (dir : Bytes) (x y : spawn.Told) (s s' : Session) (target : Target) (m n : SpawnCounts) (same : (y ≡ x) × (n ≡ m)) (stays : s'.store.held.collection ≡ s.store.held.collection) where
   abbrev None_of : Result Reply SessionEnd → Type 0
-  None_of result = AskedSo tells x y s s' (Command.Collect target) result m n
+  None_of result = AskedSo tells dir x y s s' (Command.Collect target) result m n
 
   unstarted : (result : Result Reply SessionEnd) (reply : Reply) → result ≡ Ok reply → TellsNone reply → MeetsNone s'.met → None_of result
-  unstarted result reply is none met = subst None_of (sym is) (nothing_asked tells x y s s' (Command.Collect target) (Ok reply) m n same.0 same.1 (tells_start (Ok reply) none) (tells_over (Ok reply) none) met (goes_same (Ok reply) s.store.held.collection s'.store.held.collection stays))
+  unstarted result reply is none met = subst None_of (sym is) (nothing_asked tells dir x y s s' (Command.Collect target) (Ok reply) m n same.0 same.1 (tells_start (Ok reply) none) (tells_over (Ok reply) none) met (goes_same (Ok reply) s.store.held.collection s'.store.held.collection stays))
 
   unended : (result : Result Reply SessionEnd) (end : SessionEnd) → result ≡ Err end → MeetsNone s'.met → None_of result
-  unended result end is met = subst None_of (sym is) (nothing_asked tells x y s s' (Command.Collect target) (Err end) m n same.0 same.1 (λ h. h) (λ e. absurd (cc e)) met tt)
+  unended result end is met = subst None_of (sym is) (nothing_asked tells dir x y s s' (Command.Collect target) (Err end) m n same.0 same.1 (λ h. h) (λ e. absurd (cc e)) met tt)
 
 meets : (m m' : Met) → m ≡ m' → MeetsNone m' → MeetsNone m
 meets m m' is none = subst MeetsNone (sym is) none
 
-module _ (tells : Bool) (x y : spawn.Told) (s : Session) (store : Store) (r : Repository) (target : Target) (number : ℕ) (met : Met) (result : Result Reply SessionEnd) (m n : SpawnCounts) where
+module _ (tells : Bool) (dir : Bytes) (x y : spawn.Told) (s : Session) (store : Store) (r : Repository) (target : Target) (number : ℕ) (met : Met) (result : Result Reply SessionEnd) (m n : SpawnCounts) where
   abbrev now : Session
   now = record s { store = store; met = met }
 
   abbrev Begun : Result Hash CollectFault → Type 0
   Begun begun = (job : Job) × IsJobAt s.store.held number store.held.slot job × OnOk begun (store.held.collection ≡ Some (record { commit = number; job = job; exit = None; check = None }))
-      × (IsTrue tells → y ≡ record { started = x.started ++ started_by job begun; reaped = x.reaped }) × spawned.Counts false false false (is_err begun) m n
+      × (IsTrue tells → y ≡ record { started = x.started ++ started_by dir job begun; reaped = x.reaped }) × spawned.Counts false false false (is_err begun) m n
 
   pub start_asked : (begun : Result Hash CollectFault) → StartReplies r begun store.met met result → store.met ≡ met_by_start begun → (IsTurnedDown begun ⊎ IsErrOf begun CollectFault.Ground → (y ≡ x) × (n ≡ m)) → (IsErr begun → store.held.collection ≡ s.store.held.collection) → (IsBegun begun → Begun begun)
-      → AskedSo tells x y s now (Command.Collect target) result m n
+      → AskedSo tells dir x y s now (Command.Collect target) result m n
   start_asked (Ok name) says is_met still stays asked =
       let (job, at, runs, told, counts) = asked tt in
       let none : MeetsNone met = meets met (met_by_start (Ok name)) (says.1 ∙ is_met) (refl, refl, refl) in (
         job ∷ [],
         [],
-        λ t. told t ∙ (λ i. record { started = x.started ++ job ∷ []; reaped = sym (append-nil x.reaped) i }),
+        λ t. told t ∙ (λ i. record { started = x.started ++ starts_in dir (job ∷ []); reaped = sym (append-nil x.reaped) i }),
         record {
           started = λ _. subst (λ (o : Option Collection). IsSomeAnd o (λ c. (job ∷ [] ≡ c.job ∷ []) × (c.exit ≡ None) × IsJobAt s.store.held c.commit store.held.slot c.job)) (sym runs) (refl, refl, at);
           none_started = λ not. absurd (not (subst HasStarted (sym says.0) tt));
@@ -198,22 +197,22 @@ module _ (tells : Bool) (x y : spawn.Told) (s : Session) (store : Store) (r : Re
           kill = λ failed. never_failed met.kill_failed (ap (λ (k : Met). k.kill_failed) (says.1 ∙ is_met)) failed;
         },
       )
-  start_asked (Err (CollectFault.Busy name)) says is_met still stays asked = unstarted tells x y s now target m n (still (inl tt)) (stays refl) result (Reply.Busy name) says.0 tt (meets met commits.met_nothing (says.1 ∙ is_met) (refl, refl, refl))
-  start_asked (Err (CollectFault.Limit limit)) says is_met still stays asked = unstarted tells x y s now target m n (still (inl tt)) (stays refl) result (Reply.Limit limit) says.0 tt (meets met (met_by_start (Err (CollectFault.Limit limit))) (says.1 ∙ is_met) (refl, refl, refl))
-  start_asked (Err CollectFault.Memory) says is_met still stays asked = unstarted tells x y s now target m n (still (inl tt)) (stays refl) result Reply.Memory says.0 tt (meets met (met_by_start (Err CollectFault.Memory)) (says.1 ∙ is_met) (refl, refl, refl))
-  start_asked (Err CollectFault.Ground) says is_met still stays asked = unended tells x y s now target m n (still (inr refl)) (stays refl) result SessionEnd.Ground says.0 (meets met commits.met_nothing (says.1 ∙ is_met) (refl, refl, refl))
-  start_asked (Err (CollectFault.Held place)) says is_met still stays asked = both_some (branch_name_at r place) _ _ (AskedSo tells x y s now (Command.Collect target) result m n) each says says
+  start_asked (Err (CollectFault.Busy name)) says is_met still stays asked = unstarted tells dir x y s now target m n (still (inl tt)) (stays refl) result (Reply.Busy name) says.0 tt (meets met commits.met_nothing (says.1 ∙ is_met) (refl, refl, refl))
+  start_asked (Err (CollectFault.Limit limit)) says is_met still stays asked = unstarted tells dir x y s now target m n (still (inl tt)) (stays refl) result (Reply.Limit limit) says.0 tt (meets met (met_by_start (Err (CollectFault.Limit limit))) (says.1 ∙ is_met) (refl, refl, refl))
+  start_asked (Err CollectFault.Memory) says is_met still stays asked = unstarted tells dir x y s now target m n (still (inl tt)) (stays refl) result Reply.Memory says.0 tt (meets met (met_by_start (Err CollectFault.Memory)) (says.1 ∙ is_met) (refl, refl, refl))
+  start_asked (Err CollectFault.Ground) says is_met still stays asked = unended tells dir x y s now target m n (still (inr refl)) (stays refl) result SessionEnd.Ground says.0 (meets met commits.met_nothing (says.1 ∙ is_met) (refl, refl, refl))
+  start_asked (Err (CollectFault.Held place)) says is_met still stays asked = both_some (branch_name_at r place) _ _ (AskedSo tells dir x y s now (Command.Collect target) result m n) each says says
     where
-      each : (name : Bytes) → (reply : Reply) × (result ≡ Ok reply) × HeldReplies name store.met met reply → (reply : Reply) × (result ≡ Ok reply) × HeldReplies name store.met met reply → AskedSo tells x y s now (Command.Collect target) result m n
-      each name (reply, is, inl told) other = unstarted tells x y s now target m n (still (inl tt)) (stays refl) result (Reply.Held name) (is ∙ ap Ok told.0) tt (meets met commits.met_nothing (told.1 ∙ is_met) (refl, refl, refl))
-      each name (reply, is, inr short) other = unstarted tells x y s now target m n (still (inl tt)) (stays refl) result Reply.Memory (is ∙ ap Ok short.0) tt (meets met (met_only true) short.1 (refl, refl, refl))
+      each : (name : Bytes) → (reply : Reply) × (result ≡ Ok reply) × HeldReplies name store.met met reply → (reply : Reply) × (result ≡ Ok reply) × HeldReplies name store.met met reply → AskedSo tells dir x y s now (Command.Collect target) result m n
+      each name (reply, is, inl told) other = unstarted tells dir x y s now target m n (still (inl tt)) (stays refl) result (Reply.Held name) (is ∙ ap Ok told.0) tt (meets met commits.met_nothing (told.1 ∙ is_met) (refl, refl, refl))
+      each name (reply, is, inr short) other = unstarted tells dir x y s now target m n (still (inl tt)) (stays refl) result Reply.Memory (is ∙ ap Ok short.0) tt (meets met (met_only true) short.1 (refl, refl, refl))
 
 -- what was counted of the ground
-module _ (r : Repository) (before met : Met) (result : Result Reply SessionEnd) (target : Target) (old new : GroundCounts) where
+module _ (r : Repository) (before met : Met) (result : Result Reply SessionEnd) (target : Target) (old new : Noted) where
   counts_ok : (reply : Reply) → result ≡ Ok reply → new ≡ old → CountsBy result (Command.Collect target) met old new
   counts_ok reply is same = subst (λ (x : Result Reply SessionEnd). CountsBy x (Command.Collect target) met old new) (sym is) same
 
-  pub start_counts : (begun : Result Hash CollectFault) → StartReplies r begun before met result → Counts ground_start begun old new → CountsBy result (Command.Collect target) met old new
+  pub start_counts : (begun : Result Hash CollectFault) → StartReplies r begun before met result → Counts counted_start begun old new → CountsBy result (Command.Collect target) met old new
   start_counts (Ok name) says counts = counts_ok (Reply.Started name) says.0 counts
   start_counts (Err CollectFault.Start) says counts = counts_ok Reply.StartFault says.0 counts
   start_counts (Err (CollectFault.Busy name)) says counts = counts_ok (Reply.Busy name) says.0 counts
@@ -280,22 +279,37 @@ start_ends r before met result held begun says = by begun says
     by (Err CollectFault.Ground) says = subst Ends (sym says.0) tt
     by (Err (CollectFault.Held place)) says = both_some (branch_name_at r place) _ _ (Ends result) (λ name h other. told h.0 h.1) says says
 
+-- and it meets no damage
+pub start_sound : (r : Repository) (before met : Met) (result : Result Reply SessionEnd) (begun : Result Hash CollectFault) → StartReplies r begun before met result → ¬ MetDamage result
+start_sound r before met result begun says = by result (start_ends r before met result (Unit {0}) begun says)
+  where
+    by : (result : Result Reply SessionEnd) → IfErr result (EndsBy (Unit {0})) → ¬ MetDamage result
+    by (Ok reply) ends damaged = damaged
+    by (Err SessionEnd.Ground) ends damaged = damaged
+    by (Err (SessionEnd.Damaged at names)) ends damaged = ends tt
+
 -- ---- one is to end
 
-pub none_left : (c : GroundCounts) → CountsLeft 0 c c
-none_left c = record { rose = inl (omega arith); none = λ _. refl; file_faults = refl; say_faults = refl }
+pub none_left : (c : Noted) → CountsLeft 0 c c
+none_left c = record { rose = inl (omega arith); none = λ _. refl; file_faults = refl; say_faults = refl; damages = refl; bound = refl }
 
-pub cancel_counts : (done : Result Cancelled CancelFault) (met : Met) (left : ℕ) (old new : GroundCounts) → met ≡ met_by_cancel done left → CountsCancel done met.left old new → CountsBy (cancel_answer done) Command.Cancel met old new
+pub cancel_counts : (done : Result Cancelled CancelFault) (met : Met) (left : ℕ) (old new : Noted) → met ≡ met_by_cancel done left → CountsCancel done met.left old new → CountsBy (cancel_answer done) Command.Cancel met old new
 cancel_counts (Ok Cancelled.Done) met left old new is counts = counts
 cancel_counts (Ok Cancelled.Orphan) met left old new is counts = subst (λ (k : ℕ). CountsLeft k old new) (sym (ap (λ (m : Met). m.left) is)) (subst (CountsLeft 0 old) (sym counts) (none_left old))
 cancel_counts (Err CancelFault.Idle) met left old new is counts = subst (λ (k : ℕ). CountsLeft k old new) (sym (ap (λ (m : Met). m.left) is)) (subst (CountsLeft 0 old) (sym counts) (none_left old))
 cancel_counts (Err CancelFault.Ground) met left old new is counts = counts
 
-pub cancel_quiet : (done : Result Cancelled CancelFault) (met : Met) (old new : GroundCounts) → IfOk (cancel_answer done) (QuietIfLong met old new)
+pub cancel_quiet : (done : Result Cancelled CancelFault) (met : Met) (old new : Noted) → IfOk (cancel_answer done) (QuietIfLong met old new)
 cancel_quiet (Ok Cancelled.Done) met old new = λ long. absurd (cancelled_is_short long)
 cancel_quiet (Ok Cancelled.Orphan) met old new = λ long. absurd (orphan_is_short long)
 cancel_quiet (Err CancelFault.Idle) met old new = λ long. absurd (idle_is_short long)
 cancel_quiet (Err CancelFault.Ground) met old new = tt
+
+pub cancel_sound : (done : Result Cancelled CancelFault) → ¬ MetDamage (cancel_answer done)
+cancel_sound (Ok Cancelled.Done) damaged = damaged
+cancel_sound (Ok Cancelled.Orphan) damaged = damaged
+cancel_sound (Err CancelFault.Idle) damaged = damaged
+cancel_sound (Err CancelFault.Ground) damaged = damaged
 
 pub cancel_ends : (done : Result Cancelled CancelFault) (held : Type 0) → IfErr (cancel_answer done) (EndsBy held)
 cancel_ends (Ok Cancelled.Done) held = tt
@@ -303,9 +317,9 @@ cancel_ends (Ok Cancelled.Orphan) held = tt
 cancel_ends (Err CancelFault.Idle) held = tt
 cancel_ends (Err CancelFault.Ground) held = tt
 
-module _ (tells : Bool) (x y : spawn.Told) (s : Session) (store : Store) (met : Met) (done : Result Cancelled CancelFault) (left : ℕ) (is_met : met ≡ met_by_cancel done left) (over : store.held.collection ≡ None) (m n : SpawnCounts) where
+module _ (tells : Bool) (dir : Bytes) (x y : spawn.Told) (s : Session) (store : Store) (met : Met) (done : Result Cancelled CancelFault) (left : ℕ) (is_met : met ≡ met_by_cancel done left) (over : store.held.collection ≡ None) (m n : SpawnCounts) where
   abbrev Over : Type 0
-  Over = AskedSo tells x y s (record s { store = store; met = met }) Command.Cancel (cancel_answer done) m n
+  Over = AskedSo tells dir x y s (record s { store = store; met = met }) Command.Cancel (cancel_answer done) m n
 
   abbrev Killed : Collection → Type 0
   Killed c = (end : Option Reaped) × IsKilled c done end × (IsTrue tells → y ≡ told_after end x) × spawned.Counts false false (is_some end) (not (is_some end)) m n
@@ -349,7 +363,7 @@ module _ (tells : Bool) (x y : spawn.Told) (s : Session) (store : Store) (met : 
 
   -- none runs
   pub idle_asked : done ≡ Err CancelFault.Idle → y ≡ x → n ≡ m → Over
-  idle_asked is same still = nothing_asked tells x y s (record s { store = store; met = met }) Command.Cancel (cancel_answer done) m n same still (never_started done) (λ cancelled. absurd (cc (sym (done_of done cancelled) ∙ is))) (no_start, no_kill (λ orphan. absurd (cc (sym orphan ∙ is))), no_child) (goes_none (cancel_answer done) [] s.store.held.collection store.held.collection over)
+  idle_asked is same still = nothing_asked tells dir x y s (record s { store = store; met = met }) Command.Cancel (cancel_answer done) m n same still (never_started done) (λ cancelled. absurd (cc (sym (done_of done cancelled) ∙ is))) (no_start, no_kill (λ orphan. absurd (cc (sym orphan ∙ is))), no_child) (goes_none (cancel_answer done) [] s.store.held.collection store.held.collection over)
 
   -- its child had been reaped
   pub kept_asked : (c : Collection) → s.store.held.collection ≡ Some c → IsSome c.exit → done ≢ Ok Cancelled.Orphan → y ≡ x → n ≡ m → Over
@@ -450,22 +464,22 @@ module _ (tells : Bool) (x y : spawn.Told) (s : Session) (store : Store) (met : 
 
 -- ---- the other commands
 
-pub plain_counts : (command : Command) (result : Result Reply SessionEnd) (met : Met) (old new : GroundCounts) → HandlesNone command → Counts ground_end result old new → CountsBy result command met old new
+pub plain_counts : (command : Command) (result : Result Reply SessionEnd) (met : Met) (old new : Noted) → HandlesNone command → Counts counted_end result old new → CountsBy result command met old new
 plain_counts command (Err end) met old new handles counts = counts
 plain_counts Command.Look (Ok reply) met old new handles counts = absurd handles
 plain_counts Command.Finish (Ok reply) met old new handles counts = absurd handles
 plain_counts Command.Cancel (Ok reply) met old new handles counts = absurd handles
 plain_counts _ (Ok reply) met old new handles counts = counts
 
-pub plain_quiet : (result : Result Reply SessionEnd) (met : Met) (old new : GroundCounts) → IfOk result TellsNone → MeetsNone met → Counts ground_end result old new → IfOk result (QuietIfLong met old new)
+pub plain_quiet : (result : Result Reply SessionEnd) (met : Met) (old new : Noted) → IfOk result TellsNone → MeetsNone met → Counts counted_end result old new → IfOk result (QuietIfLong met old new)
 plain_quiet (Ok reply) met old new none meets counts = λ long. (tells_start (Ok reply) none, meets.2, counts)
 plain_quiet (Err end) met old new none meets counts = tt
 
 -- ---- lines
 
-pub lined_asked : (tells : Bool) (x y : spawn.Told) (s s' : Session) (met : Met) (command : Command) (line : Bytes) (result : Result Reply SessionEnd) (m n : SpawnCounts) → IsLineOf command line → ((other : Command) → IsLineOf other line → other ≡ command)
-    → AskedSo tells x y (record s { met = met }) s' command result m n → Spawns tells x y s s' line result m n
-lined_asked tells x y s s' met command line result m n served one (jobs, ends, told, asked) = record {
+pub lined_asked : (tells : Bool) (dir : Bytes) (x y : spawn.Told) (s s' : Session) (met : Met) (command : Command) (line : Bytes) (result : Result Reply SessionEnd) (m n : SpawnCounts) → IsLineOf command line → ((other : Command) → IsLineOf other line → other ≡ command)
+    → AskedSo tells dir x y (record s { met = met }) s' command result m n → Spawns tells dir x y s s' line result m n
+lined_asked tells dir x y s s' met command line result m n served one (jobs, ends, told, asked) = record {
   jobs = jobs;
   ends = ends;
   told = told;
@@ -492,8 +506,8 @@ lined_asked tells x y s s' met command line result m n served one (jobs, ends, t
   };
 }
 
-pub nothing_spawned : (tells : Bool) (x : spawn.Told) (s s' : Session) (line : Bytes) (reply : Reply) (m : SpawnCounts) → TellsNone reply → MeetsNone s'.met → s'.store.held.collection ≡ s.store.held.collection → Spawns tells x x s s' line (Ok reply) m m
-nothing_spawned tells x s s' line reply m none met same = record {
+pub nothing_spawned : (tells : Bool) (dir : Bytes) (x : spawn.Told) (s s' : Session) (line : Bytes) (reply : Reply) (m : SpawnCounts) → TellsNone reply → MeetsNone s'.met → s'.store.held.collection ≡ s.store.held.collection → Spawns tells dir x x s s' line (Ok reply) m m
+nothing_spawned tells dir x s s' line reply m none met same = record {
   jobs = [];
   ends = [];
   told = λ _. none_added x;
@@ -504,27 +518,27 @@ nothing_spawned tells x s s' line reply m none met same = record {
   };
 }
 
-any_counts : (command : Command) (result : Result Reply SessionEnd) (met : Met) (old new : GroundCounts) → CountsBy result command met old new → CountsAny result old new
+any_counts : (command : Command) (result : Result Reply SessionEnd) (met : Met) (old new : Noted) → CountsBy result command met old new → CountsAny result old new
 any_counts command (Err end) met old new counts = counts
 any_counts Command.Look (Ok reply) met old new counts = (met.left, counts)
 any_counts Command.Finish (Ok reply) met old new counts = (met.left, counts)
 any_counts Command.Cancel (Ok reply) met old new counts = (met.left, counts)
 any_counts _ (Ok reply) met old new counts = (0, subst (CountsLeft 0 old) (sym counts) (none_left old))
 
-pub lined_counts : (command : Command) (line : Bytes) (result : Result Reply SessionEnd) (met : Met) (old new : GroundCounts) → IsLineOf command line → ((other : Command) → IsLineOf other line → other ≡ command) → CountsBy result command met old new → CountsIn line result met old new
+pub lined_counts : (command : Command) (line : Bytes) (result : Result Reply SessionEnd) (met : Met) (old new : Noted) → IsLineOf command line → ((other : Command) → IsLineOf other line → other ≡ command) → CountsBy result command met old new → CountsIn line result met old new
 lined_counts command line result met old new is one counts = record {
   command = λ other spelled. subst (λ (c : Command). CountsBy result c met old new) (sym (one other spelled)) counts;
   any = any_counts command result met old new counts;
   none = λ no. absurd (no command is);
 }
 
-nothing_counted : (command : Command) (reply : Reply) (met : Met) (c : GroundCounts) → met.left ≡ 0 → CountsBy (Ok reply) command met c c
+nothing_counted : (command : Command) (reply : Reply) (met : Met) (c : Noted) → met.left ≡ 0 → CountsBy (Ok reply) command met c c
 nothing_counted Command.Look reply met c zero = subst (λ (k : ℕ). CountsLeft k c c) (sym zero) (none_left c)
 nothing_counted Command.Finish reply met c zero = subst (λ (k : ℕ). CountsLeft k c c) (sym zero) (none_left c)
 nothing_counted Command.Cancel reply met c zero = subst (λ (k : ℕ). CountsLeft k c c) (sym zero) (none_left c)
 nothing_counted _ reply met c zero = refl
 
-pub none_counts : (line : Bytes) (reply : Reply) (met : Met) (c : GroundCounts) → met.left ≡ 0 → CountsIn line (Ok reply) met c c
+pub none_counts : (line : Bytes) (reply : Reply) (met : Met) (c : Noted) → met.left ≡ 0 → CountsIn line (Ok reply) met c c
 none_counts line reply met c zero = record {
   command = λ command served. nothing_counted command reply met c zero;
   any = (0, none_left c);
@@ -533,15 +547,15 @@ none_counts line reply met c zero = record {
 
 -- ---- texts
 
-module _ (tells : Bool) (x y : spawn.Told) (s s' : Session) (met : Met) (line : Bytes) (reply : Reply) (m n : SpawnCounts) (old new : GroundCounts) where
+module _ (tells : Bool) (dir : Bytes) (x y : spawn.Told) (s s' : Session) (met : Met) (line : Bytes) (reply : Reply) (m n : SpawnCounts) (old new : Noted) where
   abbrev Told_so : Met → Reply → Type 0
-  Told_so now written = Spawns tells x y s (record s' { met = now }) line (Ok written) m n × CountsIn line (Ok written) now old new
+  Told_so now written = Spawns tells dir x y s (record s' { met = now }) line (Ok written) m n × CountsIn line (Ok written) now old new
 
-  pub whole_asked : Spawns tells x y s s' line (Ok reply) m n → CountsIn line (Ok reply) s'.met old new → met ≡ s'.met → Told_so met reply
+  pub whole_asked : Spawns tells dir x y s s' line (Ok reply) m n → CountsIn line (Ok reply) s'.met old new → met ≡ s'.met → Told_so met reply
   whole_asked spawns counts is = subst (λ (k : Met). Told_so k reply) (sym is) (spawns, counts)
 
   -- there was no memory for a long text
-  pub unwritten : Spawns tells x y s s' line (Ok reply) m n → IsLong reply → QuietIfLong s'.met old new reply → met ≡ met_only true → Told_so met Reply.Memory
+  pub unwritten : Spawns tells dir x y s s' line (Ok reply) m n → IsLong reply → QuietIfLong s'.met old new reply → met ≡ met_only true → Told_so met Reply.Memory
   unwritten spawns long quiet is = subst (λ (k : Met). Told_so k Reply.Memory) (sym is) (
     record {
       jobs = spawns.jobs;

@@ -22,14 +22,17 @@ use Rattle.ip_collects.proofs.Ended.{ends_only}
 use Rattle.ip_held.proofs.KeptFiles.{keeps_store}
 use Rattle.ip_session.specs.Session.{attempt_of, hears, is_durable, IsDurable, ChangesBy, ChangedBy, TouchedBy, OnlyIn}
 
-pub changed_by : (heard : Bool) (attempt : Option ℕ) (these : FileName → Type 0) (a b : Told) → ChangesOnly these a b → ChangesBy heard attempt these a b
-changed_by false None these a b only = only
-changed_by true None these a b only = only
-changed_by false (Some n) these a b only = for_only n these a b only
-changed_by true (Some n) these a b only = ends_only n these a b only
+pub keeps_nothing : (a b : Told) → ChangesOnly NoFile a b → KeepsFiles a b
+keeps_nothing a b only = keeps_store a b NoFile (λ file none. absurd none) only
+
+pub changed_by : (heard : Bool) (attempt : Option ℕ) (these : FileName → Type 0) (a b : Told) → ChangesOnly these a b → KeepsFiles a b → ChangesBy heard attempt these a b
+changed_by false None these a b only files = only
+changed_by true None these a b only files = only
+changed_by false (Some n) these a b only files = for_only n these a b only files
+changed_by true (Some n) these a b only files = ends_only n these a b only files
 
 pub nothing_by : (heard : Bool) (attempt : Option ℕ) (these : FileName → Type 0) (a b : Told) → ChangesOnly NoFile a b → ChangesBy heard attempt these a b
-nothing_by heard attempt these a b only = changed_by heard attempt these a b (only_more a b NoFile these (λ file none. absurd none) only)
+nothing_by heard attempt these a b only = changed_by heard attempt these a b (only_more a b NoFile these (λ file none. absurd none) only) (keeps_nothing a b only)
 
 -- by a command that is none
 pub none_durable : (reply : Reply) (command : Command) → is_durable command ≡ false → ¬ IsDurable reply command
@@ -41,9 +44,6 @@ none_durable Reply.Accepted (Command.BranchRm name) e h = absurd (cc e)
 none_durable (Reply.Started hash) (Command.Collect target) e h = absurd (cc e)
 none_durable Reply.StartFault (Command.Collect target) e h = absurd (cc e)
 none_durable _ _ e h = absurd h
-
-pub keeps_nothing : (a b : Told) → ChangesOnly NoFile a b → KeepsFiles a b
-keeps_nothing a b only = keeps_store a b NoFile (λ file none. absurd none) only
 
 pub changed_so : (store : Held) (image : Image) (command : Command) (reply : Reply) (file : FileName) → IsDurable reply command → MayChange image file → ChangedBy store image command reply file
 changed_so store image Command.Look reply file done may = absurd (none_durable reply Command.Look refl done)

@@ -6,11 +6,10 @@
 --     reply_so      of an answer that there is
 --     floor_stays      an answered call gives no commits up
 --     answered      a fault that has a reply
---     by_answer      a call of the store has a reply, or why the session ends: by fault_ends.      fault_ground, fault_met      by a fault that is none of the files, by which nothing was met.      answer_counts      which faults were counted
+--     by_answer      a call of the store has a reply, or why the session ends: by fault_ends.      fault_ground, fault_met      by a fault that is none of the files, by which nothing was met.      damage_of      by damage.      answer_counts      which faults were counted
 use Rattle.std.proofs.Common.{◌≡◌, inl, ℕ, Bool, true, false, refl, sym, ap, ◌∙◌, subst, arith, Option, Some, None, Ok, Err}
 use Rattle.std.specs.Prelude.{Result, IfSome, IsErrAnd, IsErrOf, MatchBool, if◌then◌else◌}
-use Rattle.ip_ground.specs.declared.names.GroundCounts.{GroundCounts}
-use Rattle.ip_ground.specs.Counts.{FileFault, CountsIf, Counts}
+use Rattle.ip_ground.specs.Counts.{Noted, CountsIf, Counts}
 use Rattle.ip_ground.specs.Told.{Told, NoFile, ChangesOnly}
 use Rattle.ip_ground.proofs.Spans.{only_more}
 use Rattle.ip_image.specs.Pending.{NothingPending}
@@ -31,7 +30,7 @@ use Rattle.ip_held.specs.declared.fault.StoreFault.{StoreFault}
 use Rattle.ip_held.specs.Changes.{HasAnswer, IsUndamaged, Changes}
 use Rattle.ip_held.specs.Collecting.{phase_of}
 use Rattle.ip_held.specs.Answers.{fault_reply, met_by, met_of}
-use Rattle.ip_held.specs.Faults.{ground_store}
+use Rattle.ip_held.specs.Faults.{counted_store}
 use Rattle.ip_held.specs.Answers as commits
 use Rattle.ip_held.specs.Held.{IsOf, Holds}
 use Rattle.ip_held.specs.Views.{IsViewAfter}
@@ -43,7 +42,7 @@ use Rattle.ip_held.proofs.Recovering.{recovers_since}
 use Rattle.ip_held.proofs.Stepping.{of_store}
 use Rattle.ip_session.specs.declared.session.Session.{Session}
 use Rattle.ip_session.specs.declared.session.SessionEnd.{SessionEnd}
-use Rattle.ip_session.specs.Session.{unasked, attempt_of, hears, IsWorking, state_in, met_only, conditions_of, IsLong, is_durable, IsDurable, ChangedBy, TouchedBy, GoesBy, CutBy, EndsBy, IsAnswer, fault_answer, ground_end}
+use Rattle.ip_session.specs.Session.{unasked, attempt_of, hears, IsWorking, state_in, met_only, conditions_of, IsLong, is_durable, IsDurable, ChangedBy, TouchedBy, GoesBy, CutBy, EndsBy, IsAnswer, MetDamage, fault_answer, counted_end}
 use Rattle.ip_session.proofs.Changing.{changed_by, nothing_by, nothing_space, changed_so, touched_so, keeps_nothing}
 use Rattle.ip_session.proofs.SessionLemmas.{at, heard_none, unjudged, unsettled, nothing_kept, plainly, Refusable}
 use Rattle.ip_store.specs.declared.store.Store.{Store}
@@ -173,7 +172,7 @@ module _ (a b : Told) (s : Session) (store : Store) (work : Work) (r after : Rep
         settled = unsettled b s after_it reply (heard_as T);
         is_at = T.is_at (subst (Holds store.held b) (sym repository) does.ok);
         seen = T.seen;
-        only = changed_by (hears command) (attempt_of s.store.held command) (ChangedBy s.store.held a.held command reply) a b (only_more a b _ (ChangedBy s.store.held a.held command reply) (λ file changed. changed_so s.store.held a.held command reply file done changed) does.only);
+        only = changed_by (hears command) (attempt_of s.store.held command) (ChangedBy s.store.held a.held command reply) a b (only_more a b _ (ChangedBy s.store.held a.held command reply) (λ file changed. changed_so s.store.held a.held command reply file done changed) does.only) (keeps_store a b (MayChange a.held) (of_store a.held) does.only);
         files = keeps_store a b (MayChange a.held) (of_store a.held) does.only;
         said = does.only.said;
         space = λ order none slot live. does.space order slot live;
@@ -199,7 +198,7 @@ module _ (a b : Told) (s : Session) (store : Store) (work : Work) (r after : Rep
         difference = None;
         gives = subst (λ (m : Met). Step unasked (state_in s r v) command (conditions_of m) t.0 t.1) (sym e) (plainly r (phase_of s.store.held.collection) (work_at s.work v) command false t.0 (durable_asks command durable) (λ h. absurd (cc h)), whole.plain (conditions_of (met_only false)) t refl);
         judged = unjudged a b s (record s { store = store; work = work; met = met }) r v (ap (λ (m : Met). m.child) e);
-        only = changed_by (hears command) (attempt_of s.store.held command) (TouchedBy s.store.held a.held command) a b (only_more a b (MayChange a.held) (TouchedBy s.store.held a.held command) (λ file changed. touched_so s.store.held a.held command file durable changed) does.only);
+        only = changed_by (hears command) (attempt_of s.store.held command) (TouchedBy s.store.held a.held command) a b (only_more a b (MayChange a.held) (TouchedBy s.store.held a.held command) (λ file changed. touched_so s.store.held a.held command file durable changed) does.only) (keeps_store a b (MayChange a.held) (of_store a.held) does.only);
         files = keeps_store a b (MayChange a.held) (of_store a.held) does.only;
         said = does.only.said;
         space = λ order none slot live. does.space order slot live;
@@ -250,21 +249,26 @@ pub fault_ground : {A : Type 0} (made : Result A StoreFault) (end : SessionEnd) 
 fault_ground (Ok x) end is sound = absurd is
 fault_ground {A = A} (Err fault) end is sound = ap Err (by_end (λ f e. IsUndamaged {A = A} (Err f) → f ≡ StoreFault.Ground) fault end is (λ s. refl) (λ at_ names s. absurd s) sound)
 
+-- damage ends it only where the call met it
+pub damage_of : {A : Type 0} (made : Result A StoreFault) (end : SessionEnd) → EndsBecause made end → MetDamage {A = Reply} (Err end) → ¬ IsUndamaged made
+damage_of (Ok x) end is met sound = is
+damage_of {A = A} (Err fault) end is met sound = by_end (λ f e. MetDamage {A = Reply} (Err e) → IsUndamaged {A = A} (Err f) → ⊥) fault end is (λ m s. m) (λ at_ names m s. s) met sound
+
 -- nothing was met by it
 pub fault_met : {A : Type 0} (made : Result A StoreFault) (end : SessionEnd) → EndsBecause made end → met_by made ≡ met_only false
 fault_met (Ok x) end is = absurd is
 fault_met (Err fault) end is = by_end (λ f e. met_of f ≡ met_only false) fault end is refl (λ at_ names. refl)
 
--- a fault of the ground was counted, and of all else none
-pub answer_counts : {A : Type 0} (replied : Option Reply) (made : Result A StoreFault) (result : Result Reply SessionEnd) (old new : GroundCounts) → IsAnswer replied made result → ((reply : Reply) → replied ≡ Some reply → HasAnswer made) → Counts ground_store made old new → Counts ground_end result old new
-answer_counts {A = A} replied made result old new is has counts = by_answer replied made result (λ x. Counts ground_end x old new) is (λ reply e. still made (has reply e) counts) (λ end e. counted made end e counts)
+-- a fault of the ground was counted, or damage, and of all else nothing
+pub answer_counts : {A : Type 0} (replied : Option Reply) (made : Result A StoreFault) (result : Result Reply SessionEnd) (old new : Noted) → IsAnswer replied made result → ((reply : Reply) → replied ≡ Some reply → HasAnswer made) → Counts counted_store made old new → Counts counted_end result old new
+answer_counts {A = A} replied made result old new is has counts = by_answer replied made result (λ x. Counts counted_end x old new) is (λ reply e. still made (has reply e) counts) (λ end e. counted made end e counts)
   where
-    still : (made : Result A StoreFault) → HasAnswer made → Counts ground_store made old new → new ≡ old
+    still : (made : Result A StoreFault) → HasAnswer made → Counts counted_store made old new → new ≡ old
     still (Ok x) has counts = counts
     still (Err StoreFault.Ground) has counts = absurd has
     still (Err (StoreFault.Damaged at_ names)) has counts = absurd has
     still (Err _) has counts = counts
 
-    counted : (made : Result A StoreFault) (end : SessionEnd) → EndsBecause made end → Counts ground_store made old new → CountsIf FileFault (ground_end end) old new
+    counted : (made : Result A StoreFault) (end : SessionEnd) → EndsBecause made end → Counts counted_store made old new → CountsIf (counted_end end) old new
     counted (Ok x) end e counts = absurd e
-    counted (Err fault) end e counts = by_end (λ f e. CountsIf FileFault (ground_store f) old new → CountsIf FileFault (ground_end e) old new) fault end e (λ c. c) (λ at_ names c. c) counts
+    counted (Err fault) end e counts = by_end (λ f e. CountsIf (counted_store f) old new → CountsIf (counted_end e) old new) fault end e (λ c. c) (λ at_ names c. c) counts

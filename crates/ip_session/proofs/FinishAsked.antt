@@ -1,14 +1,13 @@
 -- What a look and a finish ask of the spawner, what is counted meanwhile, and all that the session does then.
 --     Sees child end ran failed      what was answered of a child: how it ended, whether it runs, and whether the call failed.      seen_so, reaped_so      so by a look and by a wait
 --     Answered c      the child of a collection was asked.      finish_asked      what the command asks
---     finish_counts, finish_quiet      what was counted.      finish_ends      how the session may end
+--     finish_counts, finish_quiet      what was counted.      finish_ends      how the session may end.      finish_still      and what has changed where it ends by damage
 --     Knows a b before store command looked r held      what the store says besides where the ground tells what it holds.      finish_ran      all that the session does
 use Rattle.std.proofs.Common.{◌≡◌, ◌≢◌, ◌⊎◌, inl, inr, ℕ, zero, suc, ◌-◌, ◌^◌, ◌<◌, ◌≤◌, ◌++◌, Bool, true, false, List, [], ◌∷◌, refl, sym, ap, ◌∙◌, subst, arith, Option, Some, None, Ok, Err, IsTrue, append-nil}
-use Rattle.std.specs.Prelude.{Result, IfOk, IfErr, IfSome, IsSomeAnd, is_some, is_ok, is_err}
-use Rattle.ip_ground.specs.declared.names.GroundCounts.{GroundCounts}
+use Rattle.std.specs.Prelude.{◌↔◌, Result, IfOk, IfErr, IfSome, IsErrOf, IsSomeAnd, is_some, is_ok, is_err, option_map}
 use Rattle.ip_base.specs.declared.exit.Reaped.{Reaped}
-use Rattle.ip_ground.specs.Counts.{CountsLeft, Rose}
-use Rattle.ip_ground.specs.Told.{Told}
+use Rattle.ip_ground.specs.Counts.{Noted, CountsLeft, Rose}
+use Rattle.ip_ground.specs.Told.{Told, NoFile}
 use Rattle.ip_spawn.proofs.Rising.{rose_counted}
 use Rattle.ip_spawn.specs.Children.{told_after, end_seen, end_reaped, is_running}
 use Rattle.ip_spawn.specs.Children as spawn
@@ -21,6 +20,7 @@ use Rattle.ip_spec.specs.declared.met.Child.{Child}
 use Rattle.ip_spec.specs.declared.met.Met.{Met}
 use Rattle.ip_spec.specs.declared.reply.Reply.{Reply}
 use Rattle.ip_spec.specs.Machine.{Phase, empty_work}
+use Rattle.ip_spec.specs.Path.{Bytes}
 use Rattle.ip_spec.specs.Repository.{Repository}
 use Rattle.ip_spec.specs.Step.{MayHear}
 use Rattle.ip_spec.specs.Step as Machine
@@ -33,12 +33,13 @@ use Rattle.ip_held.specs.Clear.{KeepsClear, ClearsAll}
 use Rattle.ip_held.specs.Collecting.{child_of, phase_of, IsPhaseOf}
 use Rattle.ip_collects.specs.Finishing.{LookReplies, child_seen, child_reaped, CountsFinish, FinishesBy, HasAnswer, IsKept, IsOver, IsQuiet, IsSweptBehind, IsUndamaged, WorksStay}
 use Rattle.ip_held.specs.Held.{IsOf, Holds}
+use Rattle.ip_held.specs.Sweeping.{EndsFor}
 use Rattle.ip_collects.proofs.FinishTurns.{IsEnding}
 use Rattle.ip_session.specs.declared.session.Session.{Session}
 use Rattle.ip_session.specs.declared.session.SessionEnd.{SessionEnd}
 use Rattle.ip_session.specs.Asking.{HasStarted, HeardOf, GoesOnBy, QuietIfLong}
 use Rattle.ip_session.specs.Running.{IsKnown, Ran}
-use Rattle.ip_session.specs.Session.{unasked, CountsBy, EndsBy, IsLong, IsServing}
+use Rattle.ip_session.specs.Session.{unasked, ChangesBy, CountsBy, EndsBy, IsLong, IsServing, MetDamage, StillBy}
 use Rattle.ip_session.specs.Starting.{look_answer}
 use Rattle.ip_session.proofs.Asking.{AskedSo, nothing_asked, goes_same, goes_none, none_added, never_failed, none_left}
 use Rattle.ip_session.proofs.ClearGoes.{finish_clear}
@@ -112,12 +113,12 @@ none_heard Command.Look is child may = may
 none_heard Command.Finish is child may = may
 none_heard _ is child may = absurd is
 
-module _ (tells : Bool) (x y : spawn.Told) (s : Session) (store : Store) (met : Met) (command : Command) (ending : IsEnding command) (looked : Result Looked FinishFault) (is_met : met ≡ store.met) (says : Says s store command looked) (m n : SpawnCounts) where
+module _ (tells : Bool) (dir : Bytes) (x y : spawn.Told) (s : Session) (store : Store) (met : Met) (command : Command) (ending : IsEnding command) (looked : Result Looked FinishFault) (is_met : met ≡ store.met) (says : Says s store command looked) (m n : SpawnCounts) where
   abbrev after_it : Session
   after_it = record s { store = store; met = met }
 
   abbrev Asks : Type 0
-  Asks = AskedSo tells x y s after_it command (look_answer looked) m n
+  Asks = AskedSo tells dir x y s after_it command (look_answer looked) m n
 
   no_start : met.start_failed ≡ false
   no_start = ap (λ (k : Met). k.start_failed) (is_met ∙ says.goes.told)
@@ -167,7 +168,7 @@ module _ (tells : Bool) (x y : spawn.Told) (s : Session) (store : Store) (met : 
   idle_asked r tables none is same =
       let says_idle = concluded s store met command ending looked is_met says r tables Reply.Idle (ap look_answer is) in
       let heard : MayHear Phase.Idle command store.met.child = subst (λ (o : Option Collection). MayHear (phase_of o) command store.met.child) none (says_idle.turns empty_work).0.child in
-      nothing_asked tells x y s after_it command (look_answer looked) m n same.0 same.1 (never_started looked) (never_over looked) (no_start, no_kill, child_is ∙ none_heard command ending store.met.child heard) goes_on
+      nothing_asked tells dir x y s after_it command (look_answer looked) m n same.0 same.1 (never_started looked) (never_over looked) (no_start, no_kill, child_is ∙ none_heard command ending store.met.child heard) goes_on
 
   -- its child had been reaped
   kept_asked : (r : Repository) → IsOf s.store.held r → (c : Collection) (kept : Reaped) → s.store.held.collection ≡ Some c → c.exit ≡ Some kept → (y ≡ x) × (n ≡ m) → Asks
@@ -264,17 +265,17 @@ module _ (tells : Bool) (x y : spawn.Told) (s : Session) (store : Store) (met : 
 
 -- ---- what is counted
 
-left_by : (command : Command) → IsEnding command → (reply : Reply) (met : Met) (old new : GroundCounts) → CountsLeft met.left old new → CountsBy (Ok reply) command met old new
+left_by : (command : Command) → IsEnding command → (reply : Reply) (met : Met) (old new : Noted) → CountsLeft met.left old new → CountsBy (Ok reply) command met old new
 left_by Command.Look is reply met old new counts = counts
 left_by Command.Finish is reply met old new counts = counts
 left_by _ is reply met old new counts = absurd is
 
 -- no sweep, so none failed
-none_by : (left : ℕ) (old new : GroundCounts) → ¬ (0 < left) → new ≡ old → CountsLeft left old new
+none_by : (left : ℕ) (old new : Noted) → ¬ (0 < left) → new ≡ old → CountsLeft left old new
 none_by zero old new none same = subst (CountsLeft 0 old) (sym same) (none_left old)
 none_by (suc k) old new none same = absurd (none (omega arith))
 
-counts_so : (command : Command) → IsEnding command → (met : Met) (old new : GroundCounts) (looked : Result Looked FinishFault) → LookReplies looked (λ reply. 0 < met.left → Machine.IsSwept reply) → CountsFinish looked met.left old new → CountsBy (look_answer looked) command met old new
+counts_so : (command : Command) → IsEnding command → (met : Met) (old new : Noted) (looked : Result Looked FinishFault) → LookReplies looked (λ reply. 0 < met.left → Machine.IsSwept reply) → CountsFinish looked met.left old new → CountsBy (look_answer looked) command met old new
 counts_so command is met old new (Ok Looked.Running) left counts = left_by command is Reply.Running met old new (none_by met.left old new left counts)
 counts_so command is met old new (Ok (Looked.Checking k)) left counts = left_by command is (Reply.Checking k) met old new (none_by met.left old new left counts)
 counts_so command is met old new (Ok (Looked.Collected collected)) left counts = left_by command is (Reply.Collected collected.floor collected.left) met old new counts
@@ -301,13 +302,13 @@ replies_weaker P Q by (Err FinishFault.Memory) says = by Reply.Memory says
 replies_weaker P Q by (Err FinishFault.Ground) says = tt
 replies_weaker P Q by (Err (FinishFault.Damaged at)) says = tt
 
-pub finish_counts : (s : Session) (store : Store) (met : Met) (command : Command) (ending : IsEnding command) (looked : Result Looked FinishFault) → met ≡ store.met → Says s store command looked → (r : Repository) → IsOf s.store.held r → (old new : GroundCounts)
+pub finish_counts : (s : Session) (store : Store) (met : Met) (command : Command) (ending : IsEnding command) (looked : Result Looked FinishFault) → met ≡ store.met → Says s store command looked → (r : Repository) → IsOf s.store.held r → (old new : Noted)
     → CountsFinish looked store.met.left old new → CountsBy (look_answer looked) command met old new
 finish_counts s store met command ending looked is_met says r tables old new counts =
     subst (λ (k : Met). CountsBy (look_answer looked) command k old new) (sym is_met) (counts_so command ending store.met old new looked
     (replies_weaker _ (λ reply. 0 < store.met.left → Machine.IsSwept reply) (λ reply C. (C.turns empty_work).0.left) looked (says.answered r tables)) counts)
 
-pub finish_quiet : (result : Result Reply SessionEnd) (met : Met) (old new : GroundCounts) → IfOk result (λ reply. ¬ IsLong reply) → IfOk result (QuietIfLong met old new)
+pub finish_quiet : (result : Result Reply SessionEnd) (met : Met) (old new : Noted) → IfOk result (λ reply. ¬ IsLong reply) → IfOk result (QuietIfLong met old new)
 finish_quiet (Ok reply) met old new short = λ long. absurd (short long)
 finish_quiet (Err end) met old new short = tt
 
@@ -324,6 +325,33 @@ finish_ends (Err FinishFault.Memory) held whole = tt
 finish_ends (Err FinishFault.Ground) held whole = tt
 finish_ends (Err (FinishFault.Damaged at)) held whole = whole
 
+-- damage ends it only where the call met it, and then of all files the child's alone may have changed
+damage_looked : (looked : Result Looked FinishFault) → MetDamage (look_answer looked) → ¬ IsUndamaged looked
+damage_looked looked damaged sound = by (look_answer looked) (finish_ends looked (Unit {0}) (λ _. sound)) damaged
+  where
+    by : (result : Result Reply SessionEnd) → IfErr result (EndsBy (Unit {0})) → ¬ MetDamage result
+    by (Ok reply) ends damaged = damaged
+    by (Err SessionEnd.Ground) ends damaged = damaged
+    by (Err (SessionEnd.Damaged at names)) ends damaged = ends tt
+
+finish_still : (before : Held) (store : Store) (command : Command) → IsEnding command → (looked : Result Looked FinishFault) (a b : Told) → (before.collection ≡ None) ↔ IsErrOf looked FinishFault.Idle → (¬ IsUndamaged looked → (c : Collection) → before.collection ≡ Some c → EndsFor c.job.attempt NoFile a b)
+    → MetDamage (look_answer looked) → StillBy before a b command
+finish_still before store command ending looked a b runs untouched damaged = by before.collection refl
+  where
+    idle : (looked : Result Looked FinishFault) → IsErrOf looked FinishFault.Idle → MetDamage (look_answer looked) → ⊥
+    idle (Err FinishFault.Idle) is met = met
+    idle (Ok _) is met = absurd (cc is)
+    idle (Err _) is met = absurd (cc is)
+
+    each : (command : Command) → IsEnding command → (o : Option Collection) → before.collection ≡ o → ChangesBy true (option_map (λ (c : Collection). c.job.attempt) o) NoFile a b → StillBy before a b command
+    each Command.Look ending o is still = subst (λ (o : Option Collection). ChangesBy true (option_map (λ (c : Collection). c.job.attempt) o) NoFile a b) (sym is) still
+    each Command.Finish ending o is still = subst (λ (o : Option Collection). ChangesBy true (option_map (λ (c : Collection). c.job.attempt) o) NoFile a b) (sym is) still
+    each _ ending o is still = absurd ending
+
+    by : (o : Option Collection) → before.collection ≡ o → StillBy before a b command
+    by None is = absurd (idle looked (runs.0 is) damaged)
+    by (Some c) is = each command ending (Some c) is (untouched (damage_looked looked damaged) c is)
+
 -- ---- all that the session does
 
 pub record Knows (a b : Told) (before : Held) (store : Store) (command : Command) (looked : Result Looked FinishFault) (r : Repository) (held : Holds before a r) : Type 0 where
@@ -332,13 +360,13 @@ pub record Knows (a b : Told) (before : Held) (store : Store) (command : Command
   pub works_stay : HasAnswer looked → (q : Repository) (now : Holds store.held b q) → WorksStay held now
   pub clear : HasAnswer looked → KeepsClear before store.held a b × ClearsAll (IsSweptBehind looked) store.met.left before store.held a b
 
-module _ (tells : Bool) (a b : Told) (p q : GroundCounts) (spawns : Bool) (held : Option ℕ) (x y : spawn.Told) (m n : SpawnCounts) (s : Session) (store : Store) (met : Met) (command : Command) (ending : IsEnding command) (looked : Result Looked FinishFault) (is_met : met ≡ store.met) (says : Says s store command looked) where
+module _ (tells : Bool) (a b : Told) (p q : Noted) (spawns : Bool) (held : Option ℕ) (dir : Bytes) (x y : spawn.Told) (m n : SpawnCounts) (s : Session) (store : Store) (met : Met) (command : Command) (ending : IsEnding command) (looked : Result Looked FinishFault) (is_met : met ≡ store.met) (says : Says s store command looked) where
   abbrev Does : Result Reply SessionEnd → Type 0
-  Does = Ran (IsTrue tells) unasked a b p q spawns held x y m n s (record s { store = store; met = met }) command
+  Does = Ran (IsTrue tells) (IsTrue tells) unasked a b p q spawns held dir x y m n s (record s { store = store; met = met }) command
 
-  pub finish_ran : (result : Result Reply SessionEnd) → result ≡ look_answer looked → IfOk result (λ reply. ¬ IsLong reply) → IsServing s → (IsTrue tells → (r : Repository) (here : Holds s.store.held a r) → Knows a b s.store.held store command looked r here) → (IsQuiet looked → b ≡ a) → CountsFinish looked store.met.left p q
-      → held ≡ child_of store.held.collection → AskedSo spawns x y s (record s { store = store; met = met }) command (look_answer looked) m n → Does result
-  finish_ran result is brief (r0, of) known still counts child asked =
+  pub finish_ran : (result : Result Reply SessionEnd) → result ≡ look_answer looked → IfOk result (λ reply. ¬ IsLong reply) → IsServing s → (IsTrue tells → (r : Repository) (here : Holds s.store.held a r) → Knows a b s.store.held store command looked r here) → (IsTrue tells → ¬ IsUndamaged looked → (c : Collection) → s.store.held.collection ≡ Some c → EndsFor c.job.attempt NoFile a b) → (IsQuiet looked → b ≡ a) → CountsFinish looked store.met.left p q
+      → held ≡ child_of store.held.collection → AskedSo spawns dir x y s (record s { store = store; met = met }) command (look_answer looked) m n → Does result
+  finish_ran result is brief (r0, of) known untouched still counts child asked =
       let short = subst (λ (z : Result Reply SessionEnd). IfOk z (λ reply. ¬ IsLong reply)) is brief in
       subst Does (sym is) (record {
         runs = record {
@@ -348,6 +376,7 @@ module _ (tells : Bool) (a b : Told) (p q : GroundCounts) (spawns : Bool) (held 
           clear = λ t r v here. finish_clear a b s store met is_met command looked (known t r here.holds).clear;
           cut = λ t r v here. let K = known t r here.holds in finish_cuts s store met command ending looked is_met says a b r v here K.any_moment K.undamaged;
           cause = finish_ends looked (IsKnown (IsTrue tells) a s) (λ (t, (r, v, here)). (known t r here.holds).undamaged);
+          untouched = λ t damaged. finish_still s.store.held store command ending looked a b says.goes.runs (untouched t) damaged;
         };
         child = child;
         asked = asked;

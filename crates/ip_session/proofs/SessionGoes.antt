@@ -4,7 +4,7 @@
 --     written_goes      what was written of its reply
 use Rattle.std.proofs.Common.{◌≡◌, inl, inr, ℕ, ◌^◌, ◌<◌, Bool, true, false, refl, sym, ap, subst, arith, None, Ok, Err, IsTrue, length}
 use Rattle.std.specs.Prelude.{Result, IfOk, OnErr}
-use Rattle.ip_ground.specs.declared.names.GroundCounts.{GroundCounts}
+use Rattle.ip_ground.specs.Counts.{Noted}
 use Rattle.ip_ground.specs.Told.{Told, NoFile, ChangesOnly}
 use Rattle.ip_ground.proofs.Spans.{no_moment, only_nowhere}
 use Rattle.ip_spawn.specs.Children as spawn
@@ -146,35 +146,39 @@ Tells tells rule a b s s' line reply = IsTrue tells → IsDecisive rule → (r :
 abbrev Places : (tells : Bool) (rule : Rule) (a : Told) (s s' : Session) (line : Bytes) (reply : Reply) → Type 0
 Places tells rule a s s' line reply = IsTrue tells → IsDecisive rule → (r : Repository) (v : View) → IsWorking a s r v → PlacedIn rule s.store.held.slot s.store.held.unswept s'.store.held.slot (state_in s r v) v line reply
 
-abbrev Clears : (tells : Bool) (rule : Rule) (a b : Told) (s s' : Session) (line : Bytes) (reply : Reply) → Type 0
-Clears tells rule a b s s' line reply = IsTrue tells → IsDecisive rule → (r : Repository) (v : View) → IsWorking a s r v → ClearIn a b s s' line reply
+abbrev Clears : (tells : Bool) (a b : Told) (s s' : Session) (line : Bytes) (reply : Reply) → Type 0
+Clears tells a b s s' line reply = IsTrue tells → (r : Repository) (v : View) → IsWorking a s r v → ClearIn a b s s' line reply
 
 -- what was written of its reply
 module _ (tells : Bool) (rule : Rule) (a b : Told) (s s' : Session) (met : Met) (line : Bytes) (reply : Reply) where
   abbrev Written : Reply → Type 0
-  Written written = IsTrue tells → IsDecisive rule → (r : Repository) (v : View) → IsWorking a s r v → GoesIn rule a b s (record s' { met = met }) r v line written × PlacedIn rule s.store.held.slot s.store.held.unswept s'.store.held.slot (state_in s r v) v line written × ClearIn a b s (record s' { met = met }) line written
+  Written written = (IsTrue tells → IsDecisive rule → (r : Repository) (v : View) → IsWorking a s r v → GoesIn rule a b s (record s' { met = met }) r v line written × PlacedIn rule s.store.held.slot s.store.held.unswept s'.store.held.slot (state_in s r v) v line written)
+      × (IsTrue tells → (r : Repository) (v : View) → IsWorking a s r v → ClearIn a b s (record s' { met = met }) line written)
 
-  whole_goes : met ≡ s'.met → Tells tells rule a b s s' line reply → Places tells rule a s s' line reply → Clears tells rule a b s s' line reply → Written reply
-  whole_goes is goes placed clears told decisive r v here = (
-    subst (λ (m : Met). GoesIn rule a b s (record s' { met = m }) r v line reply) (sym is) (goes told decisive r v here),
-    placed told decisive r v here,
-    subst (λ (m : Met). ClearIn a b s (record s' { met = m }) line reply) (sym is) (clears told decisive r v here),
+  whole_goes : met ≡ s'.met → Tells tells rule a b s s' line reply → Places tells rule a s s' line reply → Clears tells a b s s' line reply → Written reply
+  whole_goes is goes placed clears = (
+    λ told decisive r v here. (subst (λ (m : Met). GoesIn rule a b s (record s' { met = m }) r v line reply) (sym is) (goes told decisive r v here), placed told decisive r v here),
+    λ told r v here. subst (λ (m : Met). ClearIn a b s (record s' { met = m }) line reply) (sym is) (clears told r v here),
   )
 
-  memory_goes : IsLong reply → met ≡ met_only true → Tells tells rule a b s s' line reply → Clears tells rule a b s s' line reply → Written Reply.Memory
-  memory_goes long is goes clears told decisive r v here =
-      let went = goes told decisive r v here in (
-        memory_instead a b s s' met r v (OnlyIn s.store.held a b line) (LineStep IsLineOf rule (state_in s r v) line) (IsViewIn r v line) reply went long is (refused_in r v line) (nothing_only s.store.held a b line Reply.Memory),
-        quiet_placed rule s.store.held.slot s.store.held.unswept s'.store.held.slot (state_in s r v) v line Reply.Memory (λ command h. h) (λ command h. h) (λ l is. absurd (cc is)) tt (still_slot s.store.held s'.store.held r went.after a b here.holds went.is_at.holds (went.still long)),
-        quiet_clear a b s (record s' { met = met }) line Reply.Memory (λ h. h) (clears told decisive r v here).keeps,
-      )
+  memory_goes : IsLong reply → met ≡ met_only true → Tells tells rule a b s s' line reply → Clears tells a b s s' line reply → Written Reply.Memory
+  memory_goes long is goes clears = (
+    λ told decisive r v here.
+        let went = goes told decisive r v here in (
+          memory_instead a b s s' met r v (OnlyIn s.store.held a b line) (LineStep IsLineOf rule (state_in s r v) line) (IsViewIn r v line) reply went long is (refused_in r v line) (nothing_only s.store.held a b line Reply.Memory),
+          quiet_placed rule s.store.held.slot s.store.held.unswept s'.store.held.slot (state_in s r v) v line Reply.Memory (λ command h. h) (λ command h. h) (λ l is. absurd (cc is)) tt (still_slot s.store.held s'.store.held r went.after a b here.holds went.is_at.holds (went.still long)),
+        ),
+    λ told r v here. quiet_clear a b s (record s' { met = met }) line Reply.Memory (λ h. h) (clears told r v here).keeps,
+  )
 
-  module _ (spawner_tells : Bool) (x y : spawn.Told) (m n : SpawnCounts) (old new : GroundCounts) (text : Bytes) where
-    pub written_goes : Tells tells rule a b s s' line reply → Writes reply s'.met met text → Places tells rule a s s' line reply → Clears tells rule a b s s' line reply → Spawns spawner_tells x y s s' line (Ok reply) m n → CountsIn line (Ok reply) s'.met old new → QuietIfLong s'.met old new reply
-        → (written : Reply) × (text ≡ reply_text written) × Spawns spawner_tells x y s (record s' { met = met }) line (Ok written) m n × CountsIn line (Ok written) met old new × Written written
+  module _ (spawner_tells : Bool) (dir : Bytes) (x y : spawn.Told) (m n : SpawnCounts) (old new : Noted) (text : Bytes) where
+    pub written_goes : Tells tells rule a b s s' line reply → Writes reply s'.met met text → Places tells rule a s s' line reply → Clears tells a b s s' line reply → Spawns spawner_tells dir x y s s' line (Ok reply) m n → CountsIn line (Ok reply) s'.met old new → QuietIfLong s'.met old new reply
+        → (written : Reply) × (text ≡ reply_text written) × Spawns spawner_tells dir x y s (record s' { met = met }) line (Ok written) m n × CountsIn line (Ok written) met old new
+        × (IsTrue tells → IsDecisive rule → (r : Repository) (v : View) → IsWorking a s r v → GoesIn rule a b s (record s' { met = met }) r v line written × PlacedIn rule s.store.held.slot s.store.held.unswept s'.store.held.slot (state_in s r v) v line written)
+        × (IsTrue tells → (r : Repository) (v : View) → IsWorking a s r v → ClearIn a b s (record s' { met = met }) line written)
     written_goes goes (inl whole) placed clears spawns counts quiet =
-        let told = whole_asked spawner_tells x y s s' met line reply m n old new spawns counts whole.0 in
-        (reply, whole.1, told.0, told.1, whole_goes whole.0 goes placed clears)
+        let told = whole_asked spawner_tells dir x y s s' met line reply m n old new spawns counts whole.0 in
+        (let goes = whole_goes whole.0 goes placed clears in (reply, whole.1, told.0, told.1, goes.0, goes.1))
     written_goes goes (inr refused) placed clears spawns counts quiet =
-        let told = unwritten spawner_tells x y s s' met line reply m n old new spawns refused.0 quiet refused.1 in
-        (Reply.Memory, refused.2, told.0, told.1, memory_goes refused.0 refused.1 goes clears)
+        let told = unwritten spawner_tells dir x y s s' met line reply m n old new spawns refused.0 quiet refused.1 in
+        (let went = memory_goes refused.0 refused.1 goes clears in (Reply.Memory, refused.2, told.0, told.1, went.0, went.1))

@@ -2,17 +2,17 @@
 --     HasStarted result      the answer that a child was started
 --     GoesOnBy jobs before now      a collection that goes on is that of the child that was started, or the one that ran before
 --     Asked s s' command result jobs ends before after      these jobs were started, and children reaped that ended so
+--     starts_in dir jobs      their starts, each in the folder of this name
 --     AskedIn s s' line result jobs ends before after      so by a line
 --     LetsGo before after      what is counted while one is let go
 --     HandlesNone command      it has to do with no child.      MayReap command      it may reap one.      TellsNone reply, MeetsNone met      no child is told by the reply, and none was met
 --     HeardOf c kept reaped ends before after      how the child ended that was heard of: it was reaped now, or its exit was kept
 --     QuietIfLong met old new reply      a long reply tells of no child, none was met, and no fault was counted before it
---     Spawns tells old new s s' line result before after      some were, and the spawner tells it
-use Rattle.std.specs.Prelude.{◌≡◌, ◌≢◌, ◌⊎◌, ◌≤◌, List, [], ◌∷◌, ◌++◌, Bool, false, Option, Some, None, IsSome, IfSome, IsSomeAnd, IsTrue, IfOk, Result, Ok}
-use Rattle.ip_ground.specs.Counts.{Rose}
-use Rattle.ip_ground.specs.declared.names.GroundCounts.{GroundCounts}
+--     Spawns tells dir old new s s' line result before after      some were, in this folder, and the spawner tells it
+use Rattle.std.specs.Prelude.{◌≡◌, ◌≢◌, ◌⊎◌, ◌≤◌, List, [], ◌∷◌, ◌++◌, map, Bool, false, Option, Some, None, IsSome, IfSome, IsSomeAnd, IsTrue, IfOk, Result, Ok}
+use Rattle.ip_ground.specs.Counts.{Noted, Rose}
 use Rattle.ip_base.specs.declared.exit.Reaped.{Reaped}
-use Rattle.ip_spawn.specs.Children.{Told}
+use Rattle.ip_spawn.specs.Children.{Start, Told}
 use Rattle.ip_spawn.specs.declared.job.Job.{Job}
 use Rattle.ip_spawn.specs.declared.spawner.SpawnCounts.{SpawnCounts}
 use Rattle.ip_spec.specs.declared.command.Command.{Command}
@@ -55,7 +55,7 @@ abbrev pub MeetsNone : Met → Type 0
 MeetsNone met = (met.start_failed ≡ false) × (met.kill_failed ≡ false) × (met.child ≡ Child.NotAsked)
 
 -- so want of memory may be told in its place
-abbrev pub QuietIfLong : Met → GroundCounts → GroundCounts → Reply → Type 0
+abbrev pub QuietIfLong : Met → Noted → Noted → Reply → Type 0
 QuietIfLong met old new reply = IsLong reply → (¬ HasStarted (Ok reply)) × (met.child ≡ Child.NotAsked) × (new ≡ old)
 
 -- by a command that began while the collection ran
@@ -95,10 +95,13 @@ pub record AskedIn (s s' : Session) (line : Bytes) (result : Result Reply Sessio
   -- whichever line it is
   pub goes_on : IfOk result (λ reply. GoesOnBy jobs s.store.held.collection s'.store.held.collection)
 
-pub record Spawns (tells : Bool) (old new : Told) (s s' : Session) (line : Bytes) (result : Result Reply SessionEnd) (before after : SpawnCounts) : Type 0 where
+abbrev pub starts_in : Bytes → List Job → List Start
+starts_in dir jobs = map (λ job. record { dir = dir; job = job }) jobs
+
+pub record Spawns (tells : Bool) (dir : Bytes) (old new : Told) (s s' : Session) (line : Bytes) (result : Result Reply SessionEnd) (before after : SpawnCounts) : Type 0 where
   pub jobs : List Job
   pub ends : List Reaped
-  pub told : IsTrue tells → new ≡ record { started = old.started ++ jobs; reaped = old.reaped ++ ends }
+  pub told : IsTrue tells → new ≡ record { started = old.started ++ starts_in dir jobs; reaped = old.reaped ++ ends }
   pub asked : AskedIn s s' line result jobs ends before after
 
 -- no child is looked at, waited for or started

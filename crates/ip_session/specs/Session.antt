@@ -9,7 +9,8 @@
 --     ChangesBy heard attempt these old new      no file changes but these and that attempt's
 --     ChangedAtEnd store reply file      a file that one changes which hears of a child.      ChangedBy store image command reply      the files that a command with this reply may have changed.      OnlyBy store old new command reply, OnlyIn store old new line reply      none but these, by a command or a line
 --     TouchedBy store image command, TouchesBy store old new command, TouchesIn store old new line      and where it was cut short
---     CountsBy result command met old new, CountsIn line result met old new      the faults that were counted
+--     MetDamage result      the session has ended by damage.      StillBy store old new command, StillIn store old new line      then no file has changed, by a command or a line
+--     CountsBy result command met old new, CountsIn line result met old new      the faults that were counted, and the damage
 --     IsAnswered records s s' r v command reply      a command was run that changes no file
 --     HasRead tells old new s s' command result      and it may have read records
 --     IsViewIn r v line reply view      the view of the work's tree after a line with this reply
@@ -20,7 +21,7 @@
 --     Cut old new s s' r v Touches Gives      a fault of the ground or of its files cut it short
 --     GoesBy, CutBy rule .. command, GoesIn, CutIn rule .. line      so of a command, and of a line, by the rules of merges
 --     IsHeld tells told session      the ground tells what the store holds, and the session works over it
---     EndsBy held end      why a session has ended.      ground_end end      by a fault of the ground
+--     EndsBy held end      why a session has ended.      counted_end end      as what it is counted
 --     fault_answer fault      what a call of the store is answered with that failed, or why the session ends.      Fails fault met met' result      and what is met by it
 --     IsAnswer replied made result      the reply that a call has, or why the session ends by it.      tree_fault fault      a call on a tree fails as one of the store
 --     IsLong reply      the text of such a reply may take memory.      Writes reply met met' text      it was written, or want of it
@@ -29,8 +30,7 @@ use Rattle.ip_ground.specs.declared.names.FileName.{FileName}
 use Rattle.ip_ground.specs.declared.names.FileName.TheVariants.{Control}
 use Rattle.ip_base.specs.declared.exit.Reaped.{Reaped}
 use Rattle.ip_ground.specs.Contents.{Image}
-use Rattle.ip_ground.specs.declared.names.GroundCounts.{GroundCounts}
-use Rattle.ip_ground.specs.Counts.{CountsIf, CountsLeft, FileFault}
+use Rattle.ip_ground.specs.Counts.{Counted, Noted, as_damage, as_fault, CountsIf, CountsLeft}
 use Rattle.ip_ground.specs.Told.{Told, NoFile, KeepsSaid, ChangesOnly, IsSettledAs}
 use Rattle.ip_spec.specs.Repository.{Repository}
 use Rattle.ip_spec.specs.View.{View}
@@ -180,6 +180,17 @@ TouchesBy store old new command = ChangesBy (hears command) (attempt_of store co
 abbrev pub TouchesIn : Held → Told → Told → Bytes → Type 0
 TouchesIn store old new line = (command : Command) × IsLineOf command line × TouchesBy store old new command
 
+abbrev pub MetDamage : {A : Type 0} → Result A SessionEnd → Type 0
+MetDamage (Err (SessionEnd.Damaged at names)) = Unit {0}
+MetDamage result = ⊥
+
+-- no file has changed at any moment, and no custody but that of a child that was heard of
+abbrev pub StillBy : Held → Told → Told → Command → Type 0
+StillBy store old new command = ChangesBy (hears command) (attempt_of store command) NoFile old new
+
+abbrev pub StillIn : Held → Told → Told → Bytes → Type 0
+StillIn store old new line = (command : Command) × IsLineOf command line × StillBy store old new command
+
 -- nothing was changed, and memory may be refused instead
 pub record IsSpared (s s' : State) (v view : View) (Gives : Conditions → Reply → State → Type 0) : Type 0 where
   pub same : s' ≡ s
@@ -284,25 +295,25 @@ abbrev pub EndsBy : (held : Type 0) → SessionEnd → Type 0
 EndsBy held SessionEnd.Ground = Unit {0}
 EndsBy held (SessionEnd.Damaged at names) = ¬ held
 
--- the one end at which a fault of a file was counted
-abbrev pub ground_end : SessionEnd → Bool
-ground_end SessionEnd.Ground = true
-ground_end (SessionEnd.Damaged at names) = false
+-- by a fault of a file, or by damage: each is counted, and nothing else is
+abbrev pub counted_end : SessionEnd → Counted
+counted_end SessionEnd.Ground = as_fault
+counted_end (SessionEnd.Damaged at names) = as_damage
 
 -- Of a command: at each answer the counts are as they were, want of memory among them, but for the removals of a sweep that failed.
-abbrev pub CountsBy : Result Reply SessionEnd → Command → Met → GroundCounts → GroundCounts → Type 0
-CountsBy (Err end) command met old new = CountsIf FileFault (ground_end end) old new
+abbrev pub CountsBy : Result Reply SessionEnd → Command → Met → Noted → Noted → Type 0
+CountsBy (Err end) command met old new = CountsIf (counted_end end) old new
 CountsBy (Ok reply) Command.Look met old new = CountsLeft met.left old new
 CountsBy (Ok reply) Command.Finish met old new = CountsLeft met.left old new
 CountsBy (Ok reply) Command.Cancel met old new = CountsLeft met.left old new
 CountsBy (Ok reply) command met old new = new ≡ old
 
-abbrev pub CountsAny : Result Reply SessionEnd → GroundCounts → GroundCounts → Type 0
-CountsAny (Err end) old new = CountsIf FileFault (ground_end end) old new
+abbrev pub CountsAny : Result Reply SessionEnd → Noted → Noted → Type 0
+CountsAny (Err end) old new = CountsIf (counted_end end) old new
 CountsAny (Ok reply) old new = (left : ℕ) × CountsLeft left old new
 
 -- of a line, whichever it is
-pub record CountsIn (line : Bytes) (result : Result Reply SessionEnd) (met : Met) (old new : GroundCounts) : Type 0 where
+pub record CountsIn (line : Bytes) (result : Result Reply SessionEnd) (met : Met) (old new : Noted) : Type 0 where
   pub command : (command : Command) → IsLineOf command line → CountsBy result command met old new
   pub any : CountsAny result old new
   -- one that is no command counts nothing

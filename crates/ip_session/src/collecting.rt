@@ -3,6 +3,7 @@ ghost use Rattle.std.specs.Prelude.{◌≡◌, ◌≤◌, ◌++◌, List, length
 ghost use Rattle.ip_base.specs.declared.exit.Reaped.{Reaped};
 ghost use Rattle.ip_spec.specs.declared.command.Command.TheVariants as Command;
 ghost use Rattle.ip_spec.specs.declared.reply.Reply.TheVariants as Reply;
+ghost use Rattle.ip_spec.specs.Path.{Bytes};
 ghost use Rattle.ip_spec.specs.Repository.{Repository};
 ghost use Rattle.ip_held.specs.Collecting.{child_of};
 ghost use Rattle.ip_collects.specs.Starting.{branch_name_at};
@@ -108,7 +109,7 @@ impl Session {
         requires met { self.old.met ≡ met_only false }
         requires tables { IsServing self.old }
         requires child { P.held spawner.old ≡ child_of self.old.store.held.collection }
-        ensures { Ran (IsTrue G.tells) unasked (G.told ground.old) (G.told ground.new) (G.counts_of ground.old) (G.counts_of ground.new) P.tells (P.held spawner.new) (P.told spawner.old) (P.told spawner.new)
+        ensures { Ran (IsTrue G.tells) (IsTrue G.tells) unasked (G.told ground.old) (G.told ground.new) (G.counts_of ground.old) (G.counts_of ground.new) P.tells (P.held spawner.new) dir.now (P.told spawner.old) (P.told spawner.new)
             (P.counts_of spawner.old) (P.counts_of spawner.new) self.old self.new (Command.Collect target) result }
     {
         if let Phase::Collecting { commit, .. } = self.store.phase() {
@@ -134,7 +135,7 @@ impl Session {
         requires met { self.old.met ≡ met_only false }
         requires tables { IsServing self.old }
         requires child { P.held spawner.old ≡ child_of self.old.store.held.collection }
-        ensures { Ran (IsTrue G.tells) unasked (G.told ground.old) (G.told ground.new) (G.counts_of ground.old) (G.counts_of ground.new) P.tells (P.held spawner.new) (P.told spawner.old) (P.told spawner.new)
+        ensures { (dir : Bytes) → Ran (IsTrue G.tells) (IsTrue G.tells) unasked (G.told ground.old) (G.told ground.new) (G.counts_of ground.old) (G.counts_of ground.new) P.tells (P.held spawner.new) dir (P.told spawner.old) (P.told spawner.new)
             (P.counts_of spawner.old) (P.counts_of spawner.new) self.old self.new Command.Look result }
     {
         // It says that each count is one of 64 bits.
@@ -153,7 +154,7 @@ impl Session {
         requires met { self.old.met ≡ met_only false }
         requires tables { IsServing self.old }
         requires child { P.held spawner.old ≡ child_of self.old.store.held.collection }
-        ensures { Ran (IsTrue G.tells) unasked (G.told ground.old) (G.told ground.new) (G.counts_of ground.old) (G.counts_of ground.new) P.tells (P.held spawner.new) (P.told spawner.old) (P.told spawner.new)
+        ensures { (dir : Bytes) → Ran (IsTrue G.tells) (IsTrue G.tells) unasked (G.told ground.old) (G.told ground.new) (G.counts_of ground.old) (G.counts_of ground.new) P.tells (P.held spawner.new) dir (P.told spawner.old) (P.told spawner.new)
             (P.counts_of spawner.old) (P.counts_of spawner.new) self.old self.new Command.Finish result }
     {
         // It says that each count is one of 64 bits.
@@ -172,7 +173,7 @@ impl Session {
         requires met { self.old.met ≡ met_only false }
         requires tables { IsServing self.old }
         requires child { P.held spawner.old ≡ child_of self.old.store.held.collection }
-        ensures { Ran (IsTrue G.tells) unasked (G.told ground.old) (G.told ground.new) (G.counts_of ground.old) (G.counts_of ground.new) P.tells (P.held spawner.new) (P.told spawner.old) (P.told spawner.new)
+        ensures { (dir : Bytes) → Ran (IsTrue G.tells) (IsTrue G.tells) unasked (G.told ground.old) (G.told ground.new) (G.counts_of ground.old) (G.counts_of ground.new) P.tells (P.held spawner.new) dir (P.told spawner.old) (P.told spawner.new)
             (P.counts_of spawner.old) (P.counts_of spawner.new) self.old self.new Command.Cancel result }
     {
         // It says that each count is one of 64 bits.

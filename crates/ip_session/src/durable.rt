@@ -7,7 +7,7 @@ ghost use Rattle.ip_spec.specs.Record.{IsBranchName, IsInfo};
 ghost use Rattle.ip_merge.specs.Rules.{IsDecisive};
 ghost use Rattle.ip_session.specs.Asking.{MeetsNone, TellsNone};
 ghost use Rattle.ip_session.specs.Running.{Runs};
-ghost use Rattle.ip_session.specs.Session.{ground_end, met_only, unasked};
+ghost use Rattle.ip_session.specs.Session.{counted_end, met_only, unasked};
 
 use crate::replies::{branch_answer, commit_answer, merge_answer, removed_answer};
 use crate::session::{Session, SessionEnd, resolve};
@@ -30,11 +30,11 @@ impl Session {
         requires info { IsInfo info }
         requires met { self.old.met ≡ met_only false }
         requires tables { IsServing self.old }
-        ensures runs { Runs (IsTrue G.tells) unasked (G.told ground.old) (G.told ground.new) self.old self.new (Command.Commit branch info) result }
+        ensures runs { Runs (IsTrue G.tells) (IsTrue G.tells) unasked (G.told ground.old) (G.told ground.new) self.old self.new (Command.Commit branch info) result }
         ensures same_collection { self.new.store.held.collection ≡ self.old.store.held.collection }
         ensures meets_none { MeetsNone self.new.met }
         ensures tells_none { IfOk result TellsNone }
-        ensures counts { Counts ground_end result (G.counts_of ground.old) (G.counts_of ground.new) }
+        ensures counts { Counts counted_end result (G.counts_of ground.old) (G.counts_of ground.new) }
     {
         let made = self.store.commit(self.alloc, ground, &mut self.work, branch.as_slice(), info);
         self.met = self.store.met();
@@ -54,11 +54,11 @@ impl Session {
         requires info { IsInfo info }
         requires met { self.old.met ≡ met_only false }
         requires tables { IsServing self.old }
-        ensures runs { Runs (IsTrue G.tells × IsDecisive (D.rule rules.now)) (D.rule rules.now) (G.told ground.old) (G.told ground.new) self.old self.new (Command.Merge target branch info) result }
+        ensures runs { Runs (IsTrue G.tells) (IsTrue G.tells × IsDecisive (D.rule rules.now)) (D.rule rules.now) (G.told ground.old) (G.told ground.new) self.old self.new (Command.Merge target branch info) result }
         ensures same_collection { self.new.store.held.collection ≡ self.old.store.held.collection }
         ensures meets_none { MeetsNone self.new.met }
         ensures tells_none { IfOk result TellsNone }
-        ensures counts { Counts ground_end result (G.counts_of ground.old) (G.counts_of ground.new) }
+        ensures counts { Counts counted_end result (G.counts_of ground.old) (G.counts_of ground.new) }
     {
         let number = match resolve(&self.store, target) {
             Ok(number) => number,
@@ -81,11 +81,11 @@ impl Session {
         requires name { IsBranchName name }
         requires met { self.old.met ≡ met_only false }
         requires tables { IsServing self.old }
-        ensures runs { Runs (IsTrue G.tells) unasked (G.told ground.old) (G.told ground.new) self.old self.new (Command.Branch name target) result }
+        ensures runs { Runs (IsTrue G.tells) (IsTrue G.tells) unasked (G.told ground.old) (G.told ground.new) self.old self.new (Command.Branch name target) result }
         ensures same_collection { self.new.store.held.collection ≡ self.old.store.held.collection }
         ensures meets_none { MeetsNone self.new.met }
         ensures tells_none { IfOk result TellsNone }
-        ensures counts { Counts ground_end result (G.counts_of ground.old) (G.counts_of ground.new) }
+        ensures counts { Counts counted_end result (G.counts_of ground.old) (G.counts_of ground.new) }
     {
         let number = match resolve(&self.store, target) {
             Ok(number) => number,
@@ -107,11 +107,11 @@ impl Session {
         requires name { IsBranchName name }
         requires met { self.old.met ≡ met_only false }
         requires tables { IsServing self.old }
-        ensures runs { Runs (IsTrue G.tells) unasked (G.told ground.old) (G.told ground.new) self.old self.new (Command.BranchRm name) result }
+        ensures runs { Runs (IsTrue G.tells) (IsTrue G.tells) unasked (G.told ground.old) (G.told ground.new) self.old self.new (Command.BranchRm name) result }
         ensures same_collection { self.new.store.held.collection ≡ self.old.store.held.collection }
         ensures meets_none { MeetsNone self.new.met }
         ensures tells_none { IfOk result TellsNone }
-        ensures counts { Counts ground_end result (G.counts_of ground.old) (G.counts_of ground.new) }
+        ensures counts { Counts counted_end result (G.counts_of ground.old) (G.counts_of ground.new) }
     {
         let made = self
             .store

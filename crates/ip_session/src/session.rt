@@ -1,7 +1,7 @@
 // A session: one line, one reply.
 ghost use Rattle.std.specs.Prelude.{◌≡◌, ◌≤◌, [], false, ℕ, Option, IsTrue, IfOk, IfErr, OnOk, OnErr, None, Ok};
 ghost use Rattle.std.specs.Vec.{vec_capacity};
-ghost use Rattle.ip_ground.specs.Counts.{CountsIf, FileFault};
+ghost use Rattle.ip_ground.specs.Counts.{CountsIf};
 ghost use Rattle.ip_spec.specs.Map.{len};
 ghost use Rattle.ip_spec.specs.View.{View, no_view};
 ghost use Rattle.ip_spec.specs.declared.record.Record.{Record};
@@ -23,7 +23,7 @@ ghost use Rattle.ip_session.specs.Asking.{QuietIfLong, MeetsNone, Spawns, TellsN
 ghost use Rattle.ip_session.specs.Placing.{PlacedIn};
 ghost use Rattle.ip_session.specs.Running.{Ran};
 ghost use Rattle.ip_session.specs.declared.session.TheConstants.{REPLY_ROOM};
-ghost use Rattle.ip_session.specs.Session.{ground_end, met_only, CountsIn, IsHeld, EndsBy};
+ghost use Rattle.ip_session.specs.Session.{counted_end, met_only, CountsIn, IsHeld, EndsBy, MetDamage, StillIn};
 
 use crate::replies::{met_only, put_reply, refuse};
 use ip_base::limit::PARENTS_MAX;
@@ -253,7 +253,7 @@ impl Session {
         requires met { self.old.met ≡ met_only false }
         requires tables { IsServing self.old }
         requires child { P.held spawner.old ≡ child_of self.old.store.held.collection }
-        ensures { Ran (IsTrue G.tells × IsDecisive (D.rule rules.now)) (D.rule rules.now) (G.told ground.old) (G.told ground.new) (G.counts_of ground.old) (G.counts_of ground.new) P.tells (P.held spawner.new) (P.told spawner.old) (P.told spawner.new)
+        ensures { Ran (IsTrue G.tells) (IsTrue G.tells × IsDecisive (D.rule rules.now)) (D.rule rules.now) (G.told ground.old) (G.told ground.new) (G.counts_of ground.old) (G.counts_of ground.new) P.tells (P.held spawner.new) dir.now (P.told spawner.old) (P.told spawner.new)
             (P.counts_of spawner.old) (P.counts_of spawner.new) self.old self.new command result }
     {
         match command {
@@ -295,6 +295,7 @@ impl Session {
     }
 
     /// Runs a line's command, a merge by these rules, and a child of a collection for the store in this folder. At `Err` a fault of the ground or of its files cut it short, and the session has ended.
+    /// Damage that it met ends it as `Damaged`, and was counted by the ground; at any other end, and at each answer, the count of damages is what it was.
     pub fn step<G: Ground, P: Spawner, D: Decides>(
         &mut self,
         dir: &str,
@@ -306,19 +307,21 @@ impl Session {
         requires tables { IsServing self.old }
         requires child { P.held spawner.old ≡ child_of self.old.store.held.collection }
         ensures child { P.held spawner.new ≡ child_of self.new.store.held.collection }
-        ensures asked { Spawns P.tells (P.told spawner.old) (P.told spawner.new) self.old self.new line.now result (P.counts_of spawner.old) (P.counts_of spawner.new) }
+        ensures asked { Spawns P.tells dir.now (P.told spawner.old) (P.told spawner.new) self.old self.new line.now result (P.counts_of spawner.old) (P.counts_of spawner.new) }
         ensures tables { IfOk result (λ reply. IsServing self.new) }
         ensures goes { IsTrue G.tells → IsDecisive (D.rule rules.now) → (r : Repository) (v : View) → IsWorking (G.told ground.old) self.old r v →
             IfOk result (GoesIn (D.rule rules.now) (G.told ground.old) (G.told ground.new) self.old self.new r v line.now) }
         ensures placed { IsTrue G.tells → IsDecisive (D.rule rules.now) → (r : Repository) (v : View) → IsWorking (G.told ground.old) self.old r v →
             IfOk result (PlacedIn (D.rule rules.now) self.old.store.held.slot self.old.store.held.unswept self.new.store.held.slot (state_in self.old r v) v line.now) }
-        ensures clear { IsTrue G.tells → IsDecisive (D.rule rules.now) → (r : Repository) (v : View) → IsWorking (G.told ground.old) self.old r v →
+        ensures clear { IsTrue G.tells → (r : Repository) (v : View) → IsWorking (G.told ground.old) self.old r v →
             IfOk result (ClearIn (G.told ground.old) (G.told ground.new) self.old self.new line.now) }
         ensures cut { IsTrue G.tells → IsDecisive (D.rule rules.now) → (r : Repository) (v : View) → IsWorking (G.told ground.old) self.old r v →
             OnErr result (CutIn (D.rule rules.now) (G.told ground.old) (G.told ground.new) self.old self.new r v line.now) }
         ensures quiet { IfOk result (QuietIfLong self.new.met (G.counts_of ground.old) (G.counts_of ground.new)) }
         ensures counts { CountsIn line.now result self.new.met (G.counts_of ground.old) (G.counts_of ground.new) }
         ensures cause { IsDecisive (D.rule rules.now) → IfErr result (EndsBy (IsHeld G.tells (G.told ground.old) self.old)) }
+        // Behind damage no file has changed: at most a child that was heard of is settled.
+        ensures untouched { IsTrue G.tells → MetDamage result → StillIn self.old.store.held (G.told ground.old) (G.told ground.new) line.now }
     {
         self.met = met_only(false);
         match read_line(self.alloc, line) {
@@ -349,16 +352,18 @@ impl Session {
         ensures silent { OnErr result (text.new.items ≡ []) }
         ensures tables { OnOk result (IsServing self.new) }
         ensures goes { OnOk result ((reply : Reply) × (text.new.items ≡ reply_text reply)
-            × Spawns P.tells (P.told spawner.old) (P.told spawner.new) self.old self.new line.now (Ok reply) (P.counts_of spawner.old) (P.counts_of spawner.new)
+            × Spawns P.tells dir.now (P.told spawner.old) (P.told spawner.new) self.old self.new line.now (Ok reply) (P.counts_of spawner.old) (P.counts_of spawner.new)
             × CountsIn line.now (Ok reply) self.new.met (G.counts_of ground.old) (G.counts_of ground.new) × (IsTrue G.tells → IsDecisive (D.rule rules.now) → (r : Repository) (v : View) → IsWorking (G.told ground.old) self.old r v →
             GoesIn (D.rule rules.now) (G.told ground.old) (G.told ground.new) self.old self.new r v line.now reply
-            × PlacedIn (D.rule rules.now) self.old.store.held.slot self.old.store.held.unswept self.new.store.held.slot (state_in self.old r v) v line.now reply
-            × ClearIn (G.told ground.old) (G.told ground.new) self.old self.new line.now reply)) }
+            × PlacedIn (D.rule rules.now) self.old.store.held.slot self.old.store.held.unswept self.new.store.held.slot (state_in self.old r v) v line.now reply)
+            × (IsTrue G.tells → (r : Repository) (v : View) → IsWorking (G.told ground.old) self.old r v → ClearIn (G.told ground.old) (G.told ground.new) self.old self.new line.now reply)) }
         ensures cut { IsTrue G.tells → IsDecisive (D.rule rules.now) → (r : Repository) (v : View) → IsWorking (G.told ground.old) self.old r v →
             OnErr result (CutIn (D.rule rules.now) (G.told ground.old) (G.told ground.new) self.old self.new r v line.now) }
-        ensures ended { IfErr result (λ end. Spawns P.tells (P.told spawner.old) (P.told spawner.new) self.old self.new line.now (Err end) (P.counts_of spawner.old) (P.counts_of spawner.new)
-            × CountsIf FileFault (ground_end end) (G.counts_of ground.old) (G.counts_of ground.new)) }
+        ensures ended { IfErr result (λ end. Spawns P.tells dir.now (P.told spawner.old) (P.told spawner.new) self.old self.new line.now (Err end) (P.counts_of spawner.old) (P.counts_of spawner.new)
+            × CountsIf (counted_end end) (G.counts_of ground.old) (G.counts_of ground.new)) }
         ensures cause { IsDecisive (D.rule rules.now) → IfErr result (EndsBy (IsHeld G.tells (G.told ground.old) self.old)) }
+        // Behind damage no file has changed: at most a child that was heard of is settled.
+        ensures untouched { IsTrue G.tells → MetDamage result → StillIn self.old.store.held (G.told ground.old) (G.told ground.new) line.now }
     {
         match self.step(dir, ground, spawner, line, rules) {
             Err(end) => Err(end),

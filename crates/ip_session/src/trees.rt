@@ -4,7 +4,7 @@ ghost use Rattle.ip_ground.specs.Counts.{Counts};
 ghost use Rattle.ip_spec.specs.declared.command.Command.TheVariants as Command;
 ghost use Rattle.ip_spec.specs.Path.{IsPath};
 ghost use Rattle.ip_session.specs.Asking.{MeetsNone, TellsNone};
-ghost use Rattle.ip_session.specs.Session.{ground_end, met_only, HasRead, IsHeld, EndsBy};
+ghost use Rattle.ip_session.specs.Session.{counted_end, met_only, HasRead, IsHeld, EndsBy};
 
 use crate::replies::{failed, got_reply, listed_reply, refuse, shown_reply, tree_fault};
 use crate::session::{Session, SessionEnd, least_with, resolve};
@@ -28,7 +28,7 @@ impl Session {
         ensures same_collection { self.new.store.held.collection ≡ self.old.store.held.collection }
         ensures meets_none { MeetsNone self.new.met }
         ensures tells_none { IfOk result TellsNone }
-        ensures counts { Counts ground_end result (G.counts_of ground.old) (G.counts_of ground.new) }
+        ensures counts { Counts counted_end result (G.counts_of ground.old) (G.counts_of ground.new) }
         ensures cause { IfErr result (EndsBy (IsHeld G.tells (G.told ground.old) self.old)) }
     {
         let number = match resolve(&self.store, target) {
@@ -65,7 +65,7 @@ impl Session {
         ensures same_collection { self.new.store.held.collection ≡ self.old.store.held.collection }
         ensures meets_none { MeetsNone self.new.met }
         ensures tells_none { IfOk result TellsNone }
-        ensures counts { Counts ground_end result (G.counts_of ground.old) (G.counts_of ground.new) }
+        ensures counts { Counts counted_end result (G.counts_of ground.old) (G.counts_of ground.new) }
         ensures cause { IfErr result (EndsBy (IsHeld G.tells (G.told ground.old) self.old)) }
     {
         if let Some(number) = self.store.given_up(self.work.least) {
@@ -91,7 +91,7 @@ impl Session {
         ensures same_collection { self.new.store.held.collection ≡ self.old.store.held.collection }
         ensures meets_none { MeetsNone self.new.met }
         ensures tells_none { IfOk result TellsNone }
-        ensures counts { Counts ground_end result (G.counts_of ground.old) (G.counts_of ground.new) }
+        ensures counts { Counts counted_end result (G.counts_of ground.old) (G.counts_of ground.new) }
         ensures cause { IfErr result (EndsBy (IsHeld G.tells (G.told ground.old) self.old)) }
     {
         if let Some(number) = self.store.given_up(self.work.least) {
@@ -120,7 +120,7 @@ impl Session {
         ensures same_collection { self.new.store.held.collection ≡ self.old.store.held.collection }
         ensures meets_none { MeetsNone self.new.met }
         ensures tells_none { IfOk result TellsNone }
-        ensures counts { Counts ground_end result (G.counts_of ground.old) (G.counts_of ground.new) }
+        ensures counts { Counts counted_end result (G.counts_of ground.old) (G.counts_of ground.new) }
         ensures cause { IfErr result (EndsBy (IsHeld G.tells (G.told ground.old) self.old)) }
     {
         if let Some(number) = self.store.given_up(self.work.least) {
@@ -153,7 +153,7 @@ impl Session {
         ensures same_collection { self.new.store.held.collection ≡ self.old.store.held.collection }
         ensures meets_none { MeetsNone self.new.met }
         ensures tells_none { IfOk result TellsNone }
-        ensures counts { Counts ground_end result (G.counts_of ground.old) (G.counts_of ground.new) }
+        ensures counts { Counts counted_end result (G.counts_of ground.old) (G.counts_of ground.new) }
         ensures cause { IfErr result (EndsBy (IsHeld G.tells (G.told ground.old) self.old)) }
     {
         if let Some(number) = self.store.given_up(self.work.least) {
@@ -180,7 +180,7 @@ impl Session {
         ensures same_collection { self.new.store.held.collection ≡ self.old.store.held.collection }
         ensures meets_none { MeetsNone self.new.met }
         ensures tells_none { IfOk result TellsNone }
-        ensures counts { Counts ground_end result (G.counts_of ground.old) (G.counts_of ground.new) }
+        ensures counts { Counts counted_end result (G.counts_of ground.old) (G.counts_of ground.new) }
         ensures cause { IfErr result (EndsBy (IsHeld G.tells (G.told ground.old) self.old)) }
     {
         if let Some(number) = self.store.given_up(self.work.least) {
@@ -208,7 +208,7 @@ impl Session {
         ensures same_collection { self.new.store.held.collection ≡ self.old.store.held.collection }
         ensures meets_none { MeetsNone self.new.met }
         ensures tells_none { IfOk result TellsNone }
-        ensures counts { Counts ground_end result (G.counts_of ground.old) (G.counts_of ground.new) }
+        ensures counts { Counts counted_end result (G.counts_of ground.old) (G.counts_of ground.new) }
         ensures cause { IfErr result (EndsBy (IsHeld G.tells (G.told ground.old) self.old)) }
     {
         let number = match resolve(&self.store, target) {
@@ -237,7 +237,7 @@ impl Session {
         ensures same_collection { self.new.store.held.collection ≡ self.old.store.held.collection }
         ensures meets_none { MeetsNone self.new.met }
         ensures tells_none { IfOk result TellsNone }
-        ensures counts { Counts ground_end result (G.counts_of ground.old) (G.counts_of ground.new) }
+        ensures counts { Counts counted_end result (G.counts_of ground.old) (G.counts_of ground.new) }
         ensures cause { IfErr result (EndsBy (IsHeld G.tells (G.told ground.old) self.old)) }
     {
         let number = match resolve(&self.store, target) {

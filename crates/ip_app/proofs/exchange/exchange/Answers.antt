@@ -3,9 +3,9 @@ use Rattle.std.proofs.Math.Nat.{le_refl}
 use Rattle.ip_ground.specs.declared.names.GroundCounts.{GroundCounts}
 use Rattle.ip_image.specs.declared.counts.TurnCounts.{TurnCounts}
 use Rattle.ip_spec.specs.declared.met.Met.{Met}
-use Rattle.ip_session.specs.Session.{conditions_with, ground_end, state_in}
-use Rattle.ip_app.specs.Turns.{turn_counts}
-use Rattle.ip_app.proofs.Counting.{falls_removals, removals_any, falls_if, ended_counts}
+use Rattle.ip_session.specs.Session.{conditions_with, counted_end, state_in}
+use Rattle.ip_app.specs.Turns.{turn_of}
+use Rattle.ip_app.proofs.Counting.{falls_removals, removals_any, bound_any, bound_if, falls_if, ended_counts}
 use Rattle.ip_app.proofs.Concluding.{concluded_line, unheld}
 use Rattle.ip_app.proofs.Judging.{heard_by, watches_of}
 use Rattle.ip_app.proofs.Happened.{exchange_of, starts_of, hears_of, happens_of, later_in}
@@ -25,7 +25,7 @@ returns-in-Ok-clause-replied g c source_tells left read_faults known r v works =
     let seen = subst (λ (n : TurnCounts). n.spawner.running ≤ 2 ^ 64 - 1) c.requires.counted c.requires.running in
     let small = subst (λ (n : TurnCounts). n.remove_faults ≤ 2 ^ 64 - 1) c.requires.counted c.requires.removals in
     let removals = removals_any answered.0 _ _ small answered.3.any in
-    let counted = c.turn_counts.ensures ∙ ap₂ turn_counts c.counts.ensures c.counts-2.ensures in
+    let counted = c.turn_counts.ensures ∙ ap₂ turn_of c.counts.ensures c.counts-2.ensures in
     record {
       exchange = exchange_of line c.met.result c.args.counts.now c.turn_counts.result went.0.2 asked.jobs asked.ends answered.0 (state_in s' went.0.0 went.0.1);
       after = went.0.0;
@@ -34,8 +34,8 @@ returns-in-Ok-clause-replied g c source_tells left read_faults known r v works =
       text_is = answered.1;
       exchanged = record {
         begun = begun_of _ known _ _ _ _ _ _ line _ _ went.0.2 asked.jobs asked.ends answered.0
-            (record { source_tells = refl; ground_tells = refl; spawner_tells = refl; log_tells = c.note.ensures.told; read_faults = le_refl read_faults; counts = falls_removals _ _ removals; spawns = later_in _ _ _ _ _ _ _ _ asked.asked seen })
-            (λ is. (goes is).files) refl (λ is. (goes is).gives) c.met.ensures c.note.ensures.noted counted c.requires.counted asked.told (λ is. g.met.G.Ground.possible c.args.ground.now (works is).0);
+            (record { dir = refl; source_tells = refl; ground_tells = refl; spawner_tells = refl; log_tells = c.note.ensures.told; read_faults = le_refl read_faults; counts = falls_removals _ _ removals; spawns = later_in _ _ _ _ _ _ _ _ asked.asked seen })
+            (λ is. (goes is).files) refl (λ is. (goes is).gives) c.met.ensures c.note.ensures.noted counted c.requires.counted (bound_any answered.0 _ _ answered.3.any) asked.told (λ is. g.met.G.Ground.possible c.args.ground.now (works is).0);
         now_at = λ is. refl;
         seen = λ is. (goes is).seen;
         placed = λ is. let w = works is in (answered.4 w.0 w.2 r v w.1).1;
@@ -50,8 +50,8 @@ returns-in-Ok-clause-replied g c source_tells left read_faults known r v works =
             (heard_by (g.D.Decides.rule c.args.rules.now) s s' (state_in s r v) after line went.0.2 answered.0 asked.jobs asked.ends _ _ asked.asked gone.gives)
             (λ reaped ended. (concluded_line (g.D.Decides.rule c.args.rules.now) (state_in s r v) (conditions_with s'.met went.0.2) reaped ended answered.0 after line gone.gives).0)
             (λ held reaped ended. unheld (g.D.Decides.rule c.args.rules.now) (state_in s r v) (conditions_with s'.met went.0.2) reaped ended answered.0 after line gone.gives held)
-            gone.judged gone.settled (let w = works is in (answered.4 w.0 w.2 r v w.1).2) gone.space gone.nothing_pending went.0.0 went.0.1 refl gone.working;
-        clear = λ is. let w = works is in (answered.4 w.0 w.2 r v w.1).2.keeps;
+            gone.judged gone.settled (let w = works is in (answered.5 w.0 r v w.1)) gone.space gone.nothing_pending went.0.0 went.0.1 refl gone.working;
+        clear = λ is. let w = works is in (answered.5 w.0 r v w.1).keeps;
         happens = happens_of s s' answered.0 went.0.2 asked.jobs asked.ends _ _ _ _ _ line line c.met.result c.args.counts.now c.turn_counts.result refl c.met.ensures c.requires.counted counted asked.asked answered.3;
         phase = refl;
         child = c.answer-answered.ensures.child;
@@ -72,13 +72,13 @@ returns-in-Err-clause-cut g c source_tells left read_faults known r v works =
     let cut = ended.1 in
     let asked = c.in-Err.ensures.ended.0 in
     let seen = subst (λ (n : TurnCounts). n.spawner.running ≤ 2 ^ 64 - 1) c.requires.counted c.requires.running in
-    let falls = falls_if (ground_end c.in-Err.end) _ _ (subst (λ (n : TurnCounts). n.file_faults ≤ 2 ^ 64 - 1) c.requires.counted c.requires.small) c.in-Err.ensures.ended.1 in
+    let falls = falls_if (counted_end c.in-Err.end) _ _ (subst (λ (n : TurnCounts). n.file_faults ≤ 2 ^ 64 - 1) c.requires.counted c.requires.small) c.requires.damages c.in-Err.ensures.ended.1 in
     cuts_short _ c.in-Err.end _ known _ _ _ line _ _ (state_in s r v) c.ended_status.ensures (record {
       exchange = exchange_of line c.met.result c.args.counts.now c.turn_counts.result ended.0.2 asked.jobs asked.ends ended.0.0 ended.0.1;
       line_is = refl;
       begun = begun_of _ known _ _ _ _ _ _ line _ _ ended.0.2 asked.jobs asked.ends ended.0.0
-          (record { source_tells = refl; ground_tells = refl; spawner_tells = refl; log_tells = c.note.ensures.told; read_faults = le_refl read_faults; counts = falls; spawns = later_in _ _ _ _ _ _ _ _ asked.asked seen })
-          (λ is. (cut is).files) refl (λ is. (cut is).gives) c.met.ensures c.note.ensures.noted (c.turn_counts.ensures ∙ ap₂ turn_counts c.counts.ensures c.counts-2.ensures) c.requires.counted asked.told (λ is. g.met.G.Ground.possible c.args.ground.now (works is).0);
+          (record { dir = refl; source_tells = refl; ground_tells = refl; spawner_tells = refl; log_tells = c.note.ensures.told; read_faults = le_refl read_faults; counts = falls; spawns = later_in _ _ _ _ _ _ _ _ asked.asked seen })
+          (λ is. (cut is).files) refl (λ is. (cut is).gives) c.met.ensures c.note.ensures.noted (c.turn_counts.ensures ∙ ap₂ turn_of c.counts.ensures c.counts-2.ensures) c.requires.counted (bound_if (counted_end c.in-Err.end) _ _ c.in-Err.ensures.ended.1) asked.told (λ is. g.met.G.Ground.possible c.args.ground.now (works is).0);
       counted = ended_counts c.in-Err.end _ _ c.in-Err.ensures.ended.1;
       quiet = λ is. (cut is).said;
       atomic = λ is order. (cut is).atomic order;

@@ -1,6 +1,7 @@
 use Rattle.std.proofs.lemmas.List.{length-map}
-use Rattle.std.proofs.Common.{rules, true, false, IsTrue, ℕ, [], length, ◌≡◌, ◌-◌, ◌^◌, ◌<◌, ◌≤◌, arith, refl, sym, ap, ap₂, ◌∙◌, subst}
+use Rattle.std.proofs.Common.{rules, true, false, IsTrue, inl, ℕ, [], length, ◌≡◌, ◌-◌, ◌^◌, ◌<◌, ◌≤◌, arith, refl, sym, ap, ap₂, ◌∙◌, subst}
 use Rattle.std.proofs.Math.Nat.{le_refl}
+use Rattle.ip_ground.specs.Counts.{Noted, as_nothing}
 use Rattle.ip_ground.specs.declared.names.GroundCounts.{GroundCounts}
 use Rattle.ip_image.specs.declared.counts.TurnCounts.{TurnCounts}
 use Rattle.ip_spawn.specs.declared.spawner.SpawnCounts.{SpawnCounts}
@@ -13,8 +14,8 @@ use Rattle.ip_merge.specs.Rules.{IsDecisive}
 use Rattle.ip_session.proofs.Beginning.{begins_working}
 use Rattle.ip_app.specs.declared.statuses.Status.TheVariants as status
 use Rattle.ip_app.specs.Loading.{replies_in}
-use Rattle.ip_app.specs.Turns.{turn_counts}
-use Rattle.ip_app.proofs.Counting.{spawns_itself, falls_same, falls_of}
+use Rattle.ip_app.specs.Turns.{turn_of}
+use Rattle.ip_app.proofs.Counting.{spawns_itself, bound_counts, falls_bound, falls_same, falls_of}
 use Rattle.ip_app.proofs.Happened.{later_gone}
 use Rattle.ip_app.proofs.LivePair.{live_in, known_or_not, with_flag}
 use Rattle.ip_app.proofs.LoadLemmas.{loaded_first, loaded_more, script_here, loads_unopened, loads_cut, loads_said, load_ends}
@@ -28,13 +29,14 @@ pub returns-in-Err-clause-loads : goal.returns-in-Err-clause-loads
 returns-in-Err-clause-loads g c source_tells left read_faults decisive by_rule =
     let files : c.counts.result.file_faults ≤ 2 ^ 64 - 1 = search rules in
     let says : c.counts.result.say_faults ≤ 2 ^ 64 - 1 = search rules in
-    let falls = falls_of c.in-Err.status _ _ (subst (λ (n : GroundCounts). n.file_faults ≤ 2 ^ 64 - 1) c.counts.ensures files) (subst (λ (n : GroundCounts). n.say_faults ≤ 2 ^ 64 - 1) c.counts.ensures says) c.in-Err.ensures.counted in
-    loads_unopened _ decisive _ _ _ _ _ (record { source_tells = refl; ground_tells = refl; spawner_tells = refl; log_tells = λ t. t; read_faults = le_refl read_faults; counts = falls; spawns = spawns_itself (g.P.Spawner.counts_of c.args.spawner.now) })
-    c.open_in.ensures.only c.open_in.ensures.opening refl refl (record { spawned = refl; held = refl; spawns = refl }) refl c.in-Err.ensures.refused c.in-Err.ensures.counted
+    let harms : c.counts.result.damages ≤ 2 ^ 64 - 1 = search rules in
+    let falls = falls_of c.in-Err.status _ _ (subst (λ (n : GroundCounts). n.file_faults ≤ 2 ^ 64 - 1) c.counts.ensures files) (subst (λ (n : GroundCounts). n.say_faults ≤ 2 ^ 64 - 1) c.counts.ensures says) (subst (λ (n : GroundCounts). n.damages ≤ 2 ^ 64 - 1) c.counts.ensures harms) c.in-Err.ensures.counted in
+    loads_unopened _ decisive _ _ _ _ _ (record { dir = refl; source_tells = refl; ground_tells = refl; spawner_tells = refl; log_tells = λ t. t; read_faults = le_refl read_faults; counts = falls; spawns = spawns_itself (g.P.Spawner.counts_of c.args.spawner.now) })
+    c.open_in.ensures.only c.open_in.ensures.opening refl refl (record { spawned = refl; held = refl; spawns = refl }) refl c.in-Err.ensures.refused c.in-Err.ensures.bound c.in-Err.ensures.counted
 
 pub returns-in_default-clause-loads : goal.returns-in_default-clause-loads
-returns-in_default-clause-loads g c source_tells left read_faults decisive by_rule = loads_unopened _ decisive _ _ _ _ status.Memory (record { source_tells = refl; ground_tells = refl; spawner_tells = refl; log_tells = λ t. t; read_faults = le_refl read_faults; counts = falls_same _ _ c.in-Ok.ensures.no_fault; spawns = spawns_itself (g.P.Spawner.counts_of c.args.spawner.now) })
-    c.open_in.ensures.only c.open_in.ensures.opening refl refl (record { spawned = refl; held = refl; spawns = refl }) refl tt c.in-Ok.ensures.no_fault
+returns-in_default-clause-loads g c source_tells left read_faults decisive by_rule = loads_unopened _ decisive _ _ _ _ status.Memory (record { dir = refl; source_tells = refl; ground_tells = refl; spawner_tells = refl; log_tells = λ t. t; read_faults = le_refl read_faults; counts = falls_bound (g.G.Ground.counts_of c.args.ground.now) (g.G.Ground.counts_of c.open_in.new.ground) (falls_same _ _ (bound_counts c.args.folder.now (g.G.Ground.counts_of c.args.ground.now) (g.G.Ground.counts_of c.open_in.new.ground) as_nothing c.in-Ok.ensures.no_fault)); spawns = spawns_itself (g.P.Spawner.counts_of c.args.spawner.now) })
+    c.open_in.ensures.only c.open_in.ensures.opening refl refl (record { spawned = refl; held = refl; spawns = refl }) refl tt (inl (ap (λ (n : Noted). n.bound) c.in-Ok.ensures.no_fault)) (bound_counts c.args.folder.now (g.G.Ground.counts_of c.args.ground.now) (g.G.Ground.counts_of c.open_in.new.ground) as_nothing c.in-Ok.ensures.no_fault)
 
 pub loop-done-init : goal.loop-done-init
 loop-done-init g c =
@@ -45,12 +47,12 @@ loop-done-init g c =
     let running : c.counts-2.result.running ≤ 2 ^ 64 - 1 = search rules in
     record {
       roomy = c.in-Ok-new.ensures.roomy;
-      removals = subst (λ (n : ℕ). n ≤ 2 ^ 64 - 1) (sym (ap (λ (t : TurnCounts). t.remove_faults) (c.turn_counts-counts.ensures ∙ ap₂ turn_counts c.counts.ensures c.counts-2.ensures))) (subst (λ (n : GroundCounts). n.remove_faults ≤ 2 ^ 64 - 1) c.counts.ensures removals);
-      running = subst (λ (n : ℕ). n ≤ 2 ^ 64 - 1) (sym (ap (λ (t : TurnCounts). t.spawner.running) (c.turn_counts-counts.ensures ∙ ap₂ turn_counts c.counts.ensures c.counts-2.ensures))) (subst (λ (n : SpawnCounts). n.running ≤ 2 ^ 64 - 1) c.counts-2.ensures running);
+      removals = subst (λ (n : ℕ). n ≤ 2 ^ 64 - 1) (sym (ap (λ (t : TurnCounts). t.remove_faults) (c.turn_counts-counts.ensures ∙ ap₂ turn_of c.counts.ensures c.counts-2.ensures))) (subst (λ (n : GroundCounts). n.remove_faults ≤ 2 ^ 64 - 1) c.counts.ensures removals);
+      running = subst (λ (n : ℕ). n ≤ 2 ^ 64 - 1) (sym (ap (λ (t : TurnCounts). t.spawner.running) (c.turn_counts-counts.ensures ∙ ap₂ turn_of c.counts.ensures c.counts-2.ensures))) (subst (λ (n : SpawnCounts). n.running ≤ 2 ^ 64 - 1) c.counts-2.ensures running);
       child = child;
       loaded = λ source_tells left read_faults decisive by_rule. loaded_first _ decisive by_rule c.args.seed _ _ c.turn_counts-counts.result c.new-session.result c.in-Ok-new.room.summary opened.repository no_view refl (with_flag _ decisive (known_or_not g.G.Ground.tells _ (λ told owns. live_in _ _ (opened.stands told owns)))) (opened.repository, c.new-session.ensures.is_in opened.repository opened.tables) (c.new-session.ensures.state c.in-Ok.ensures.idle opened.repository)
-          (λ tells. begins_working _ c.new-session.result _ opened.repository (ap (λ (store : Store). store.held) c.new-session.ensures.store) c.new-session.ensures.lawful (opened.holds tells.0 tells.1)) (λ tells clear. subst (λ (store : Store). IsCleared store.held (g.G.Ground.told c.open_in.new.ground)) (sym c.new-session.ensures.store) (opened.clear tells.0 tells.1 clear)) (λ tells. opened.stands tells.0 tells.1) opened.opening (λ tells. opened.over tells.0 tells.1) (c.turn_counts-counts.ensures ∙ ap₂ turn_counts c.counts.ensures c.counts-2.ensures) c.in-Ok.ensures.no_fault (record { spawned = refl; held = refl; spawns = refl }) idle c.requires.child refl
-          (record { source_tells = refl; ground_tells = refl; spawner_tells = refl; log_tells = λ t. t; read_faults = le_refl read_faults; counts = falls_same _ _ c.in-Ok.ensures.no_fault; spawns = spawns_itself (g.P.Spawner.counts_of c.args.spawner.now) })
+          (λ tells. begins_working _ c.new-session.result _ opened.repository (ap (λ (store : Store). store.held) c.new-session.ensures.store) c.new-session.ensures.lawful (opened.holds tells.0 tells.1)) (λ tells clear. subst (λ (store : Store). IsCleared store.held (g.G.Ground.told c.open_in.new.ground)) (sym c.new-session.ensures.store) (opened.clear tells.0 tells.1 clear)) (λ tells. opened.stands tells.0 tells.1) opened.opening (λ tells. opened.over tells.0 tells.1) (c.turn_counts-counts.ensures ∙ ap₂ turn_of c.counts.ensures c.counts-2.ensures) c.in-Ok.ensures.no_fault (record { spawned = refl; held = refl; spawns = refl }) idle c.requires.child refl
+          (record { dir = refl; source_tells = refl; ground_tells = refl; spawner_tells = refl; log_tells = λ t. t; read_faults = le_refl read_faults; counts = falls_bound (g.G.Ground.counts_of c.args.ground.now) (g.G.Ground.counts_of c.open_in.new.ground) (falls_same _ _ (bound_counts c.args.folder.now (g.G.Ground.counts_of c.args.ground.now) (g.G.Ground.counts_of c.open_in.new.ground) as_nothing c.in-Ok.ensures.no_fault)); spawns = spawns_itself (g.P.Spawner.counts_of c.args.spawner.now) })
           c.open_in.ensures.only refl refl c.in-Ok-new.ensures.tallies;
     }
 
@@ -58,11 +60,13 @@ pub turn-requires : goal.turn-requires
 turn-requires g c =
     let loaded = c.loop-done.invariant.loaded false [] 0 false (undecided _) in
     let told : c.counts.result.file_faults ≤ 2 ^ 64 - 1 = search rules in
+    let harms : c.counts.result.damages ≤ 2 ^ 64 - 1 = search rules in
     record {
       roomy = c.loop-done.invariant.roomy;
       counted = loaded.ran.trace.counts_now;
       small = subst (λ (n : ℕ). n ≤ 2 ^ 64 - 1) (sym (ap (λ (t : TurnCounts). t.file_faults) loaded.ran.trace.counts_now ∙ loaded.no_fault.file_faults)) (subst (λ (n : GroundCounts). n.file_faults ≤ 2 ^ 64 - 1) c.counts.ensures told);
       removals = c.loop-done.invariant.removals;
+      damages = subst (λ (n : ℕ). n ≤ 2 ^ 64 - 1) (sym loaded.no_fault.damages) (subst (λ (n : GroundCounts). n.damages ≤ 2 ^ 64 - 1) c.counts.ensures harms);
       running = c.loop-done.invariant.running;
       tables = loaded.ran.serving;
       child = c.loop-done.invariant.child;
@@ -97,11 +101,13 @@ pub finish-status-requires : goal.finish-status-requires
 finish-status-requires g c =
     let loaded = c.loop-done.invariant.loaded false [] 0 false (undecided _) in
     let told : c.counts.result.file_faults ≤ 2 ^ 64 - 1 = search rules in
+    let harms : c.counts.result.damages ≤ 2 ^ 64 - 1 = search rules in
     record {
       roomy = c.loop-done.invariant.roomy;
       counted = loaded.ran.trace.counts_now;
       small = subst (λ (n : ℕ). n ≤ 2 ^ 64 - 1) (sym (ap (λ (t : TurnCounts). t.file_faults) loaded.ran.trace.counts_now ∙ loaded.no_fault.file_faults)) (subst (λ (n : GroundCounts). n.file_faults ≤ 2 ^ 64 - 1) c.counts.ensures told);
       removals = c.loop-done.invariant.removals;
+      damages = subst (λ (n : ℕ). n ≤ 2 ^ 64 - 1) (sym loaded.no_fault.damages) (subst (λ (n : GroundCounts). n.damages ≤ 2 ^ 64 - 1) c.counts.ensures harms);
       running = c.loop-done.invariant.running;
       tables = loaded.ran.serving;
       child = c.loop-done.invariant.child;

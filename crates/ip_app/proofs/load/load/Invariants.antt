@@ -14,6 +14,6 @@ invariant-loop-done g l =
       running : l.counts.spawner.running ≤ 2 ^ 64 - 1;
       child : g.P.Spawner.held l.spawner ≡ child_of l.session.store.held.collection;
       loaded : (source_tells : Bool) (left : Bytes) (read_faults : ℕ) →
-          let told = outside_of source_tells left read_faults g.G.Ground.tells g.G.Ground.told g.G.Ground.counts_of g.P.Spawner.tells g.P.Spawner.told g.P.Spawner.held g.P.Spawner.counts_of g.L.Log.tells g.L.Log.turns in
+          let told = outside_of l.fn.folder source_tells left read_faults g.G.Ground.tells g.G.Ground.told g.G.Ground.counts_of g.P.Spawner.tells g.P.Spawner.told g.P.Spawner.held g.P.Spawner.counts_of g.L.Log.tells g.L.Log.turns in
           (decisive : Bool) → (IsTrue decisive → IsDecisive (g.D.Decides.rule l.fn.rules)) → Loaded (g.D.Decides.rule l.fn.rules) decisive l.fn.seed l.state l.done (told l.fn.ground l.fn.spawner l.fn.log) (told l.ground l.spawner l.log) l.counts l.session l.room.summary;
     }

@@ -1,10 +1,10 @@
-use Rattle.std.proofs.Common.{refl, ◌≡◌, sym, ap, ◌∙◌, subst, IsTrue, Bool, Ok, Err}
+use Rattle.std.proofs.Common.{inl, inr, Some, refl, ◌≡◌, sym, ap, ◌∙◌, subst, IsTrue, Bool, Ok, Err}
 use Rattle.std.specs.Prelude.{is_some}
 use Rattle.ip_ground.specs.declared.names.FileName.TheVariants.{Control}
-use Rattle.ip_ground.specs.declared.names.GroundCounts.{GroundCounts}
-use Rattle.ip_ground.specs.Counts.{FileFault, CountsIf}
+use Rattle.ip_ground.specs.Counts.{Noted, CountsIf}
 use Rattle.ip_ground.specs.Told.{Told, ChangesOnly, NoFile, Only, SyncsOnly}
 use Rattle.ip_ground.proofs.Spans.{at_most, syncs_none, syncs_on}
+use Rattle.ip_spec.specs.Path.{Bytes}
 use Rattle.ip_spec.specs.Repository.{Repository}
 use Rattle.ip_image.specs.Standing.{StandsFor}
 use Rattle.ip_held.specs.Clear.{unswept_in}
@@ -14,11 +14,12 @@ use Rattle.ip_held.specs.Held.{IsOf, OwnsLive, Holds, IsSound}
 use Rattle.ip_held.specs.declared.held.Held.{Held}
 use Rattle.ip_opens.specs.declared.opening.OpenFault.{OpenFault}
 use Rattle.ip_app.specs.declared.statuses.Status.{Status}
-use Rattle.ip_opens.specs.OpenFaults.{ground_open}
+use Rattle.ip_opens.specs.OpenFaults.{counted_open}
+use Rattle.ip_app.specs.Outside.{but_bound}
 use Rattle.ip_app.specs.Serving.{CountsOf}
 use Rattle.ip_app.specs.Run.{opening_status, CouldNotOpen, OpensAs}
 use Rattle.ip_app.proofs.Cleared.{cleared_opened}
-use Rattle.ip_app.proofs.Counting.{attach_counts, attached_same}
+use Rattle.ip_app.proofs.Counting.{attach_counts, attach_none, attached_same, bound_to, bound_counts, bound_still}
 use Rattle.ip_app.proofs.Moments.{opening_none, opening_after}
 use Rattle.ip_app.proofs.LivePair.{owns_on, live_in, known_or_not}
 use Rattle.ip_app.proofs.SameFiles.{stands_before, none_before, damaged_before}
@@ -95,20 +96,31 @@ returns-in-Err-clause-refused g c = could_not_open c.in-Err.fault _ _ _ _ _ c.op
 
 -- ---- what was counted
 
-open_counts : (f : OpenFault) (s : Status) (a mid b : GroundCounts) → s ≡ opening_status f → mid ≡ a → CountsIf FileFault (ground_open f) mid b → CountsOf s a b
-open_counts f s a mid b e same counted = subst (λ (t : Status). CountsOf t a b) (sym e) (by_fault f (subst (λ (n : GroundCounts). CountsIf FileFault (ground_open f) n b) same counted))
+open_counts : (dir : Bytes) (f : OpenFault) (s : Status) (a mid b : Noted) → s ≡ opening_status f → mid ≡ bound_to dir a → CountsIf (counted_open f) mid b → CountsOf s a b
+open_counts dir f s a mid b e same counted = subst (λ (t : Status). CountsOf t a b) (sym e) (by_fault f (bound_counts dir a b (counted_open f) (subst (λ (n : Noted). CountsIf (counted_open f) n b) same counted)))
   where
-    by_fault : (f : OpenFault) → CountsIf FileFault (ground_open f) a b → CountsOf (opening_status f) a b
+    by_fault : (f : OpenFault) → CountsIf (counted_open f) (but_bound a b) b → CountsOf (opening_status f) a b
     by_fault OpenFault.NoStore h = h
     by_fault (OpenFault.Damaged file at) h = h
     by_fault OpenFault.Ground h = h
     by_fault OpenFault.Memory h = h
 
+open_bound : (dir : Bytes) (f : OpenFault) (a mid b : Noted) → mid ≡ bound_to dir a → CountsIf (counted_open f) mid b → b.bound ≡ Some dir
+open_bound dir f a mid b same counted = bound_still dir a b (counted_open f) (subst (λ (n : Noted). CountsIf (counted_open f) n b) same counted)
+
 pub returns-then-is_err-clause-counted : goal.returns-then-is_err-clause-counted
-returns-then-is_err-clause-counted g c = attach_counts c.attach.result _ _ (sym c.is_err.ensures.value ∙ c.if-is_err.true) c.attach.ensures.counts
+returns-then-is_err-clause-counted g c = attach_counts c.args.folder.now c.attach.result _ _ (sym c.is_err.ensures.value ∙ c.if-is_err.true) c.attach.ensures.counts
 
 pub returns-in-Err-clause-counted : goal.returns-in-Err-clause-counted
-returns-in-Err-clause-counted g c = open_counts c.in-Err.fault _ _ _ _ c.opening_status.ensures (attached_same c.attach.result _ _ (sym c.is_err.ensures.value ∙ c.if-is_err.false) c.attach.ensures.counts) c.in-Err.ensures.counts
+returns-in-Err-clause-counted g c = open_counts c.args.folder.now c.in-Err.fault _ _ _ _ c.opening_status.ensures (attached_same c.args.folder.now c.attach.result _ _ (sym c.is_err.ensures.value ∙ c.if-is_err.false) c.attach.ensures.counts) c.in-Err.ensures.counts
 
 pub returns-in-Ok-clause-no_fault : goal.returns-in-Ok-clause-no_fault
-returns-in-Ok-clause-no_fault g c = c.in-Ok.ensures.counts ∙ attached_same c.attach.result _ _ (sym c.is_err.ensures.value ∙ c.if-is_err.false) c.attach.ensures.counts
+returns-in-Ok-clause-no_fault g c = c.in-Ok.ensures.counts ∙ attached_same c.args.folder.now c.attach.result _ _ (sym c.is_err.ensures.value ∙ c.if-is_err.false) c.attach.ensures.counts
+
+-- ---- the folder that is bound
+
+pub returns-then-is_err-clause-bound : goal.returns-then-is_err-clause-bound
+returns-then-is_err-clause-bound g c = inr (inl (attach_none c.args.folder.now c.attach.result _ _ (sym c.is_err.ensures.value ∙ c.if-is_err.true) c.attach.ensures.counts, refl))
+
+pub returns-in-Err-clause-bound : goal.returns-in-Err-clause-bound
+returns-in-Err-clause-bound g c = inl (open_bound c.args.folder.now c.in-Err.fault (g.G.Ground.counts_of c.args.ground.now) (g.G.Ground.counts_of c.attach.new.self) (g.G.Ground.counts_of c.open_at.new.outside) (attached_same c.args.folder.now c.attach.result (g.G.Ground.counts_of c.args.ground.now) (g.G.Ground.counts_of c.attach.new.self) (sym c.is_err.ensures.value ∙ c.if-is_err.false) c.attach.ensures.counts) c.in-Err.ensures.counts)

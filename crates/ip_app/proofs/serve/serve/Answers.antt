@@ -1,5 +1,6 @@
-use Rattle.std.proofs.Common.{rules, true, false, IsTrue, ℕ, ◌-◌, ◌^◌, ◌≤◌, arith, refl, sym, ap, ap₂, ◌∙◌, subst}
+use Rattle.std.proofs.Common.{rules, true, false, IsTrue, inl, ℕ, ◌-◌, ◌^◌, ◌≤◌, arith, refl, sym, ap, ap₂, ◌∙◌, subst}
 use Rattle.std.proofs.Math.Nat.{le_refl}
+use Rattle.ip_ground.specs.Counts.{Noted, as_nothing}
 use Rattle.ip_ground.specs.declared.names.GroundCounts.{GroundCounts}
 use Rattle.ip_image.specs.declared.counts.TurnCounts.{TurnCounts}
 use Rattle.ip_spawn.specs.declared.spawner.SpawnCounts.{SpawnCounts}
@@ -9,8 +10,8 @@ use Rattle.ip_held.specs.Clear.{IsCleared}
 use Rattle.ip_held.specs.Collecting.{child_of}
 use Rattle.ip_merge.specs.Rules.{IsDecisive}
 use Rattle.ip_app.specs.declared.statuses.Status.TheVariants as status
-use Rattle.ip_app.specs.Turns.{turn_counts}
-use Rattle.ip_app.proofs.Counting.{spawns_itself, falls_same, falls_of}
+use Rattle.ip_app.specs.Turns.{turn_of}
+use Rattle.ip_app.proofs.Counting.{spawns_itself, bound_counts, falls_bound, falls_same, falls_of}
 use Rattle.ip_app.proofs.EndingLaw.{ends_as_bytes}
 use Rattle.ip_app.proofs.Happened.{later_gone}
 use Rattle.ip_app.proofs.LivePair.{live_in, known_or_not, with_flag}
@@ -27,13 +28,14 @@ pub returns-in-Err-clause-serves : goal.returns-in-Err-clause-serves
 returns-in-Err-clause-serves g c decisive by_rule =
     let files : c.counts.result.file_faults ≤ 2 ^ 64 - 1 = search rules in
     let says : c.counts.result.say_faults ≤ 2 ^ 64 - 1 = search rules in
-    let falls = falls_of c.in-Err.status _ _ (subst (λ (n : GroundCounts). n.file_faults ≤ 2 ^ 64 - 1) c.counts.ensures files) (subst (λ (n : GroundCounts). n.say_faults ≤ 2 ^ 64 - 1) c.counts.ensures says) c.in-Err.ensures.counted in
-    begins_unopened _ decisive _ _ _ (record { source_tells = refl; ground_tells = refl; spawner_tells = refl; log_tells = λ t. t; read_faults = le_refl (g.S.Source.read_faults c.args.source.now); counts = falls; spawns = spawns_itself (g.P.Spawner.counts_of c.args.spawner.now) })
-    c.open_in.ensures.only c.open_in.ensures.opening refl refl (record { spawned = refl; held = refl; spawns = refl }) refl c.in-Err.ensures.refused c.in-Err.ensures.counted
+    let harms : c.counts.result.damages ≤ 2 ^ 64 - 1 = search rules in
+    let falls = falls_of c.in-Err.status _ _ (subst (λ (n : GroundCounts). n.file_faults ≤ 2 ^ 64 - 1) c.counts.ensures files) (subst (λ (n : GroundCounts). n.say_faults ≤ 2 ^ 64 - 1) c.counts.ensures says) (subst (λ (n : GroundCounts). n.damages ≤ 2 ^ 64 - 1) c.counts.ensures harms) c.in-Err.ensures.counted in
+    begins_unopened _ decisive _ _ _ (record { dir = refl; source_tells = refl; ground_tells = refl; spawner_tells = refl; log_tells = λ t. t; read_faults = le_refl (g.S.Source.read_faults c.args.source.now); counts = falls; spawns = spawns_itself (g.P.Spawner.counts_of c.args.spawner.now) })
+    c.open_in.ensures.only c.open_in.ensures.opening refl refl (record { spawned = refl; held = refl; spawns = refl }) refl c.in-Err.ensures.refused c.in-Err.ensures.bound c.in-Err.ensures.counted
 
 pub returns-in_default-clause-serves : goal.returns-in_default-clause-serves
-returns-in_default-clause-serves g c decisive by_rule = begins_unopened _ decisive _ _ status.Memory (record { source_tells = refl; ground_tells = refl; spawner_tells = refl; log_tells = λ t. t; read_faults = le_refl (g.S.Source.read_faults c.args.source.now); counts = falls_same _ _ c.in-Ok.ensures.no_fault; spawns = spawns_itself (g.P.Spawner.counts_of c.args.spawner.now) })
-    c.open_in.ensures.only c.open_in.ensures.opening refl refl (record { spawned = refl; held = refl; spawns = refl }) refl tt c.in-Ok.ensures.no_fault
+returns-in_default-clause-serves g c decisive by_rule = begins_unopened _ decisive _ _ status.Memory (record { dir = refl; source_tells = refl; ground_tells = refl; spawner_tells = refl; log_tells = λ t. t; read_faults = le_refl (g.S.Source.read_faults c.args.source.now); counts = falls_bound (g.G.Ground.counts_of c.args.ground.now) (g.G.Ground.counts_of c.open_in.new.ground) (falls_same _ _ (bound_counts c.args.folder.now (g.G.Ground.counts_of c.args.ground.now) (g.G.Ground.counts_of c.open_in.new.ground) as_nothing c.in-Ok.ensures.no_fault)); spawns = spawns_itself (g.P.Spawner.counts_of c.args.spawner.now) })
+    c.open_in.ensures.only c.open_in.ensures.opening refl refl (record { spawned = refl; held = refl; spawns = refl }) refl tt (inl (ap (λ (n : Noted). n.bound) c.in-Ok.ensures.no_fault)) (bound_counts c.args.folder.now (g.G.Ground.counts_of c.args.ground.now) (g.G.Ground.counts_of c.open_in.new.ground) as_nothing c.in-Ok.ensures.no_fault)
 
 pub lines-init : goal.lines-init
 lines-init g c =
@@ -44,12 +46,12 @@ lines-init g c =
     let running : c.counts-2.result.running ≤ 2 ^ 64 - 1 = search rules in
     record {
       roomy = c.in-Ok-new.ensures.roomy;
-      removals = subst (λ (n : ℕ). n ≤ 2 ^ 64 - 1) (sym (ap (λ (t : TurnCounts). t.remove_faults) (c.turn_counts-counts.ensures ∙ ap₂ turn_counts c.counts.ensures c.counts-2.ensures))) (subst (λ (n : GroundCounts). n.remove_faults ≤ 2 ^ 64 - 1) c.counts.ensures removals);
-      running = subst (λ (n : ℕ). n ≤ 2 ^ 64 - 1) (sym (ap (λ (t : TurnCounts). t.spawner.running) (c.turn_counts-counts.ensures ∙ ap₂ turn_counts c.counts.ensures c.counts-2.ensures))) (subst (λ (n : SpawnCounts). n.running ≤ 2 ^ 64 - 1) c.counts-2.ensures running);
+      removals = subst (λ (n : ℕ). n ≤ 2 ^ 64 - 1) (sym (ap (λ (t : TurnCounts). t.remove_faults) (c.turn_counts-counts.ensures ∙ ap₂ turn_of c.counts.ensures c.counts-2.ensures))) (subst (λ (n : GroundCounts). n.remove_faults ≤ 2 ^ 64 - 1) c.counts.ensures removals);
+      running = subst (λ (n : ℕ). n ≤ 2 ^ 64 - 1) (sym (ap (λ (t : TurnCounts). t.spawner.running) (c.turn_counts-counts.ensures ∙ ap₂ turn_of c.counts.ensures c.counts-2.ensures))) (subst (λ (n : SpawnCounts). n.running ≤ 2 ^ 64 - 1) c.counts-2.ensures running);
       child = child;
       served = λ decisive by_rule. served_first _ decisive by_rule _ _ c.in-Ok-new.room.lines c.turn_counts-counts.result c.new-session.result opened.repository no_view refl (with_flag _ decisive (known_or_not g.G.Ground.tells _ (λ told owns. live_in _ _ (opened.stands told owns)))) (opened.repository, c.new-session.ensures.is_in opened.repository opened.tables) (c.new-session.ensures.state c.in-Ok.ensures.idle opened.repository)
-          (λ tells. begins_working _ c.new-session.result _ opened.repository (ap (λ (store : Store). store.held) c.new-session.ensures.store) c.new-session.ensures.lawful (opened.holds tells.0 tells.1)) (λ tells clear. subst (λ (store : Store). IsCleared store.held (g.G.Ground.told c.open_in.new.ground)) (sym c.new-session.ensures.store) (opened.clear tells.0 tells.1 clear)) (λ tells. opened.stands tells.0 tells.1) opened.opening (λ tells. opened.over tells.0 tells.1) (c.turn_counts-counts.ensures ∙ ap₂ turn_counts c.counts.ensures c.counts-2.ensures) c.in-Ok.ensures.no_fault (record { spawned = refl; held = refl; spawns = refl }) idle c.requires.child refl
-          (record { source_tells = refl; ground_tells = refl; spawner_tells = refl; log_tells = λ t. t; read_faults = le_refl (g.S.Source.read_faults c.args.source.now); counts = falls_same _ _ c.in-Ok.ensures.no_fault; spawns = spawns_itself (g.P.Spawner.counts_of c.args.spawner.now) })
+          (λ tells. begins_working _ c.new-session.result _ opened.repository (ap (λ (store : Store). store.held) c.new-session.ensures.store) c.new-session.ensures.lawful (opened.holds tells.0 tells.1)) (λ tells clear. subst (λ (store : Store). IsCleared store.held (g.G.Ground.told c.open_in.new.ground)) (sym c.new-session.ensures.store) (opened.clear tells.0 tells.1 clear)) (λ tells. opened.stands tells.0 tells.1) opened.opening (λ tells. opened.over tells.0 tells.1) (c.turn_counts-counts.ensures ∙ ap₂ turn_of c.counts.ensures c.counts-2.ensures) c.in-Ok.ensures.no_fault (record { spawned = refl; held = refl; spawns = refl }) idle c.requires.child refl
+          (record { dir = refl; source_tells = refl; ground_tells = refl; spawner_tells = refl; log_tells = λ t. t; read_faults = le_refl (g.S.Source.read_faults c.args.source.now); counts = falls_bound (g.G.Ground.counts_of c.args.ground.now) (g.G.Ground.counts_of c.open_in.new.ground) (falls_same _ _ (bound_counts c.args.folder.now (g.G.Ground.counts_of c.args.ground.now) (g.G.Ground.counts_of c.open_in.new.ground) as_nothing c.in-Ok.ensures.no_fault)); spawns = spawns_itself (g.P.Spawner.counts_of c.args.spawner.now) })
           c.open_in.ensures.only refl refl c.in-Ok-new.ensures.pending c.in-Ok-new.ensures.taken;
     }
 
@@ -57,11 +59,13 @@ pub turn-requires : goal.turn-requires
 turn-requires g c =
     let served = c.lines.invariant.served false (undecided _) in
     let told : c.counts.result.file_faults ≤ 2 ^ 64 - 1 = search rules in
+    let harms : c.counts.result.damages ≤ 2 ^ 64 - 1 = search rules in
     record {
       roomy = c.lines.invariant.roomy;
       counted = served.ran.trace.counts_now;
       small = subst (λ (n : ℕ). n ≤ 2 ^ 64 - 1) (sym (ap (λ (t : TurnCounts). t.file_faults) served.ran.trace.counts_now ∙ served.no_fault.file_faults)) (subst (λ (n : GroundCounts). n.file_faults ≤ 2 ^ 64 - 1) c.counts.ensures told);
       removals = c.lines.invariant.removals;
+      damages = subst (λ (n : ℕ). n ≤ 2 ^ 64 - 1) (sym served.no_fault.damages) (subst (λ (n : GroundCounts). n.damages ≤ 2 ^ 64 - 1) c.counts.ensures harms);
       running = c.lines.invariant.running;
       tables = served.ran.serving;
       child = c.lines.invariant.child;

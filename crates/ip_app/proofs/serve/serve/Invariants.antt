@@ -9,7 +9,7 @@ use Rattle.ip_app.proofs.serve.serve.Given as goal
 
 abbrev pub invariant-lines : goal.invariant-lines
 invariant-lines g l =
-    let told = outside g.S.Source.tells g.S.Source.left g.S.Source.read_faults g.G.Ground.tells g.G.Ground.told g.G.Ground.counts_of g.P.Spawner.tells g.P.Spawner.told g.P.Spawner.held g.P.Spawner.counts_of g.L.Log.tells g.L.Log.turns in
+    let told = outside l.fn.folder g.S.Source.tells g.S.Source.left g.S.Source.read_faults g.G.Ground.tells g.G.Ground.told g.G.Ground.counts_of g.P.Spawner.tells g.P.Spawner.told g.P.Spawner.held g.P.Spawner.counts_of g.L.Log.tells g.L.Log.turns in
     record {
       roomy : IsRoomy l.room;
       removals : l.counts.remove_faults ≤ 2 ^ 64 - 1;

@@ -10,7 +10,7 @@ use Rattle.ip_app.proofs.serve.LineRoom.turn.Goals as goal
 pub returns-in-Err-clause-stops : goal.returns-in-Err-clause-stops
 returns-in-Err-clause-stops g c known r v works = stops_reading _ c.in-Err.status known _ _ _ _ _ _ c.args.session.now.store.held (state_in c.args.session.now r v) (record {
   rest = c.next_line.new.line.items;
-  goes_on = record { source_tells = refl; ground_tells = refl; spawner_tells = refl; log_tells = λ tells. tells; read_faults = c.next_line.ensures.faults; counts = falls_itself (g.G.Ground.counts_of c.args.ground.now); spawns = spawns_itself (g.P.Spawner.counts_of c.args.spawner.now) };
+  goes_on = record { dir = refl; source_tells = refl; ground_tells = refl; spawner_tells = refl; log_tells = λ tells. tells; read_faults = c.next_line.ensures.faults; counts = falls_itself (g.G.Ground.counts_of c.args.ground.now); spawns = spawns_itself (g.P.Spawner.counts_of c.args.spawner.now) };
   files = keeps_itself (g.G.Ground.told c.args.ground.now);
   stands = λ is. (works is).1.holds.stands;
   front = c.in-Err.ensures.bytes;

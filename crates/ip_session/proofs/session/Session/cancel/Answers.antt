@@ -6,13 +6,13 @@ use Rattle.ip_collects.specs.Cancelling.{CountsCancel}
 use Rattle.ip_held.specs.Collecting.{child_of}
 use Rattle.ip_session.specs.Running.{IsKnown, Ran}
 use Rattle.ip_session.specs.Session.{unasked}
-use Rattle.ip_session.proofs.Asking.{cancel_asked, cancel_counts, cancel_quiet, cancel_ends}
+use Rattle.ip_session.proofs.Asking.{cancel_asked, cancel_counts, cancel_quiet, cancel_ends, cancel_sound}
 use Rattle.ip_session.proofs.ClearGoes.{cancel_clear}
 use Rattle.ip_session.proofs.CancelGoes.{over_slot, over_none, cancel_serves, cancel_placed, cancel_does, cancel_cuts}
 use Rattle.ip_session.proofs.session.Session.cancel.Goals as goal
 
 pub returns : goal.returns
-returns g c =
+returns g c dir =
     let s = c.args.self.now in
     let call = c.cancel-done in
     let store = call.new.self in
@@ -30,7 +30,7 @@ returns g c =
     let (r, is) = c.requires.tables in
     let reaps : c.counts.result.reaps ≤ 2 ^ 64 - 1 = search rules in
     let small = subst (λ (k : SpawnCounts). k.reaps ≤ 2 ^ 64 - 1) c.counts.ensures reaps in
-    subst (Ran (IsTrue g.G.Ground.tells) unasked a b p q g.P.Spawner.tells (g.P.Spawner.held call.new.spawner) (g.P.Spawner.told c.args.spawner.now) (g.P.Spawner.told call.new.spawner) (g.P.Spawner.counts_of c.args.spawner.now) (g.P.Spawner.counts_of call.new.spawner) s (record s { store = store; met = met }) Command.Cancel)
+    subst (Ran (IsTrue g.G.Ground.tells) (IsTrue g.G.Ground.tells) unasked a b p q g.P.Spawner.tells (g.P.Spawner.held call.new.spawner) dir (g.P.Spawner.told c.args.spawner.now) (g.P.Spawner.told call.new.spawner) (g.P.Spawner.counts_of c.args.spawner.now) (g.P.Spawner.counts_of call.new.spawner) s (record s { store = store; met = met }) Command.Cancel)
     (sym c.cancel_answer.ensures) (record {
       runs = record {
         serving = cancel_serves a b s store met left done c.met-self.ensures slot_is r is.1 done (C.answered r is.0);
@@ -40,9 +40,10 @@ returns g c =
         clear = λ tells r v here. cancel_clear a b s store met c.met-self.ensures done (λ answers. C.clear tells answers r here.holds);
         cut = λ tells r v here. cancel_cuts a b s store met left done c.met-self.ensures slot_is r v here C.runs is_met (λ x runs. C.any_moment tells r here.holds x runs);
         cause = cancel_ends done (IsKnown (IsTrue g.G.Ground.tells) a s);
+        untouched = λ told damaged. absurd (cancel_sound done damaged);
       };
       child = call.ensures.child ∙ sym (ap child_of over);
-      asked = cancel_asked _ _ _ s store met done left met_is over _ _ r C.runs (C.answered r is.0) is_met
+      asked = cancel_asked _ _ _ _ s store met done left met_is over _ _ r C.runs (C.answered r is.0) is_met
           (λ idle. let same = (call.ensures.idle idle).1 in (ap g.P.Spawner.told same, ap g.P.Spawner.counts_of same)) (λ x runs there. let same = call.ensures.kept x runs there in (ap g.P.Spawner.told same, ap g.P.Spawner.counts_of same)) small call.ensures.killed;
       quiet = cancel_quiet done met p q;
       counts = cancel_counts done met left p q met_is (subst (λ (m : Met). CountsCancel done m.left p q) (sym c.met-self.ensures) call.ensures.counts);

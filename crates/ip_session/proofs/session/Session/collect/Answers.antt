@@ -12,7 +12,7 @@ use Rattle.ip_held.specs.Held.{IsOf}
 use Rattle.ip_session.specs.Running.{IsKnown}
 use Rattle.ip_session.specs.Session.{unasked, state_in, GoesBy}
 use Rattle.ip_session.specs.Starting.{StartReplies}
-use Rattle.ip_session.proofs.Asking.{none_met, plain_asked, plain_quiet, start_asked, start_counts, start_quiet, start_ends}
+use Rattle.ip_session.proofs.Asking.{none_met, plain_asked, plain_quiet, start_asked, start_counts, start_quiet, start_ends, start_sound}
 use Rattle.ip_session.proofs.ClearGoes.{keeps_by, start_clear}
 use Rattle.ip_session.proofs.NameSizes.{names_size}
 use Rattle.ip_session.proofs.StartGoes.{runs_none, runs_at, retained_at, busy_goes, busy_placed, unnamed_start, unnamed_start_placed, start_goes, start_cut, start_placed, start_serves, found_of, says_as}
@@ -41,9 +41,10 @@ returns-in-Collecting g c =
         clear = λ tells r v here. keeps_by _ _ s s (Command.Collect c.args.target) busy (λ may. may) (λ clear. clear);
         cut = λ tells r v here. tt;
         cause = tt;
+        untouched = λ told met. absurd met;
       };
       child = c.requires.child;
-      asked = plain_asked _ _ s s (Command.Collect c.args.target) (Ok busy) _ tt unmet refl;
+      asked = plain_asked _ _ _ s s (Command.Collect c.args.target) (Ok busy) _ tt unmet refl;
       quiet = plain_quiet (Ok busy) s.met _ _ tt unmet refl;
       counts = refl;
     }
@@ -62,9 +63,10 @@ returns-in-Err g c =
         clear = λ tells r v here. keeps_by _ _ s s (Command.Collect c.args.target) c.in-Err.reply (λ may. may) (λ clear. clear);
         cut = λ tells r v here. tt;
         cause = tt;
+        untouched = λ told met. absurd met;
       };
       child = c.requires.child;
-      asked = plain_asked _ _ s s (Command.Collect c.args.target) (Ok c.in-Err.reply) _ c.in-Err.ensures.tells_none unmet refl;
+      asked = plain_asked _ _ _ s s (Command.Collect c.args.target) (Ok c.in-Err.reply) _ c.in-Err.ensures.tells_none unmet refl;
       quiet = plain_quiet (Ok c.in-Err.reply) s.met _ _ c.in-Err.ensures.tells_none unmet refl;
       counts = refl;
     }
@@ -113,9 +115,10 @@ returns g c =
         clear = λ tells r v here. start_clear _ _ s store met r target store.met begun result (says r here.holds.tables) (λ answers. B.clear tells answers r here.holds);
         cut = λ tells r v here. let of = here.holds.tables in start_cut _ _ s store r v here target n (named r of) begun met result (says r of) (answered r of) call.ensures.met (B.any_moment tells r here.holds);
         cause = start_ends r _ met result (IsKnown (IsTrue g.G.Ground.tells) (g.G.Ground.told c.args.ground.now) s) begun (says r is.0);
+        untouched = λ told damaged. absurd (start_sound r _ met result begun (says r is.0) damaged);
       };
       child = call.ensures.child;
-      asked = start_asked _ _ _ s store r target n met result _ _ begun (says r is.0) call.ensures.met
+      asked = start_asked _ _ _ _ s store r target n met result _ _ begun (says r is.0) call.ensures.met
           (λ none. let same = call.ensures.unasked none in (ap g.P.Spawner.told same, ap g.P.Spawner.counts_of same)) B.same_collection call.ensures.asked;
       quiet = start_quiet r _ met result target _ _ begun (says r is.0) call.ensures.met (size r is.0) counts;
       counts = counts;

@@ -15,7 +15,7 @@ use Rattle.ip_session.specs.Session.{unasked}
 use Rattle.ip_session.proofs.Asking.{faulted}
 use Rattle.ip_session.proofs.ClearGoes.{keeps_by}
 use Rattle.ip_session.proofs.Committing.{commit_goes, commit_cut, has_answer}
-use Rattle.ip_session.proofs.DurableGoes.{by_answer, fault_ends, fault_met, answer_counts}
+use Rattle.ip_session.proofs.DurableGoes.{by_answer, damage_of, fault_ends, fault_met, answer_counts}
 use Rattle.ip_session.proofs.Placing.{commit_placed}
 use Rattle.ip_session.proofs.Running.{runs_as, runs_ended}
 use Rattle.ip_session.proofs.session.Session.commit.Goals as goal
@@ -35,16 +35,17 @@ returns-clause-runs g c =
     -- of what the store met
     let answered : IsTrue g.G.Ground.tells → (r : Repository) (v : View) → IsAt a s.store.held r s.work v → IfSome (reply_to made) (λ (reply : Reply). Answers b (session r (phase_of s.store.held.collection) s.work v) v (Command.Commit name info) call.new.self.met reply call.new.self.held call.new.work) =
     λ told r v here. subst (λ (m : Met). IfSome (reply_to made) (λ (reply : Reply). Answers b (session r (phase_of s.store.held.collection) s.work v) v (Command.Commit name info) m reply call.new.self.held call.new.work)) (sym call.ensures.met) (commits.answered told r v here) in
-    runs_as _ _ _ _ _ _ _ (Command.Commit name info) _ (ap (λ (n : Bytes). Command.Commit n info) (sym c.as_slice.ensures)) (by_answer (reply_to made) made c.commit_answer.result (Runs (IsTrue g.G.Ground.tells) unasked a b s after (Command.Commit name info)) c.commit_answer.ensures.answer
+    runs_as _ _ _ _ _ _ _ _ (Command.Commit name info) _ (ap (λ (n : Bytes). Command.Commit n info) (sym c.as_slice.ensures)) (by_answer (reply_to made) made c.commit_answer.result (Runs (IsTrue g.G.Ground.tells) (IsTrue g.G.Ground.tells) unasked a b s after (Command.Commit name info)) c.commit_answer.ensures.answer
     (λ reply is. record {
       serving = let (r, of) = c.requires.tables in let on = commits.tables r of.0 of.1 (has_answer made reply is) in (on.repository, (on.tables, on.parents));
       goes = λ told r v here. commit_goes a b s call.new.self call.new.work _ r v here name info made commits.same_collection (commits.took told r v here).changes reply c.met-self.ensures is (answered told r v here);
       placed = λ told r v here. commit_placed a b s call.new.self r v here name info call.new.work made reply is (answered told r v here) (commits.took told r v here).changes (commits.limits told r v here) (commits.appends told r v here);
-      clear = λ told r v here. keeps_by a b s after (Command.Commit name info) reply (λ may. may) ((commits.took told r v here).clear (has_answer made reply is));
+      clear = λ told r v here. keeps_by a b s after (Command.Commit name info) reply (λ may. may) (commits.clear told (has_answer made reply is) r here.holds);
       cut = λ told r v here. tt;
       cause = tt;
+      untouched = λ told met. absurd met;
     })
-    (λ end is. runs_ended (IsTrue g.G.Ground.tells) unasked a b s after (Command.Commit name info) end (fault_ends made end (IsKnown (IsTrue g.G.Ground.tells) a s) is (λ (told, (r, v, here)). commits.undamaged told r v here))
+    (λ end is. runs_ended (IsTrue g.G.Ground.tells) (IsTrue g.G.Ground.tells) unasked a b s after (Command.Commit name info) end (fault_ends made end (IsKnown (IsTrue g.G.Ground.tells) a s) is (λ (told, (r, v, here)). commits.undamaged told r v here)) (λ told met. commits.untouched told (damage_of made end is met))
     (λ told r v here. commit_cut a b s call.new.self call.new.work _ r v here name info made commits.same_collection (commits.took told r v here).changes (c.met-self.ensures ∙ call.ensures.met ∙ fault_met made end is))))
 
 pub returns-clause-counts : goal.returns-clause-counts

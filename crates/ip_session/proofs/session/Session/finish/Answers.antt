@@ -10,7 +10,7 @@ use Rattle.ip_session.proofs.FinishGoes.{Says}
 use Rattle.ip_session.proofs.session.Session.finish.Goals as goal
 
 pub returns : goal.returns
-returns g c =
+returns g c dir =
     let s = c.args.self.now in
     let call = c.finish-done in
     let looked = call.result in
@@ -21,10 +21,10 @@ returns g c =
     let says : Says s store Command.Finish looked = record { most = _; goes = C.goes; kept = λ x reaped runs exit. (call.ensures.kept x reaped runs exit).1; answered = C.answered } in
     let reaps : c.counts.result.reaps ≤ 2 ^ 64 - 1 = search rules in
     let waits : c.counts.result.waits ≤ 2 ^ 64 - 1 = search rules in
-    finish_ran g.G.Ground.tells _ _ _ _ g.P.Spawner.tells _ _ _ _ _ s store met Command.Finish tt looked c.met-self.ensures says c.look_answer.result c.look_answer.ensures.answer c.look_answer.ensures.short c.requires.tables
+    finish_ran g.G.Ground.tells _ _ _ _ g.P.Spawner.tells _ dir _ _ _ _ s store met Command.Finish tt looked c.met-self.ensures says c.look_answer.result c.look_answer.ensures.answer c.look_answer.ensures.short c.requires.tables
     (λ tells r held. record { any_moment = λ x reaped runs heard. C.any_moment tells r held x reaped runs heard; undamaged = C.undamaged tells r held; works_stay = λ has q now. C.works_stay tells has r q held now; clear = λ has. C.clear tells has r held })
-    (λ quiet. ap g.G.Ground.told (call.ensures.quiet quiet)) call.ensures.counts call.ensures.child
-    (finish_asked g.P.Spawner.tells _ _ s store met Command.Finish tt looked c.met-self.ensures says _ _ r is.0
+    (λ tells. C.untouched tells) (λ quiet. ap g.G.Ground.told (call.ensures.quiet quiet)) call.ensures.counts call.ensures.child
+    (finish_asked g.P.Spawner.tells dir _ _ s store met Command.Finish tt looked c.met-self.ensures says _ _ r is.0
     (λ idle. let same = call.ensures.idle idle in (ap g.P.Spawner.told same, ap g.P.Spawner.counts_of same)) (λ x reaped runs exit. let same = (call.ensures.kept x reaped runs exit).0 in (ap g.P.Spawner.told same, ap g.P.Spawner.counts_of same))
     (subst (λ (k : SpawnCounts). k.reaps ≤ 2 ^ 64 - 1) c.counts.ensures reaps) (subst (λ (k : SpawnCounts). k.waits ≤ 2 ^ 64 - 1) c.counts.ensures waits)
     (λ x runs exit. let (answer, child, attempt, told, counts) = call.ensures.asked x runs exit in record {

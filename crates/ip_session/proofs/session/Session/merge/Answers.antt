@@ -14,7 +14,7 @@ use Rattle.ip_session.specs.Running.{IsKnown, Runs}
 use Rattle.ip_session.specs.Session.{state_in, IsAnswer}
 use Rattle.ip_session.proofs.Asking.{faulted}
 use Rattle.ip_session.proofs.ClearGoes.{keeps_by}
-use Rattle.ip_session.proofs.DurableGoes.{by_answer, fault_ends, fault_met, answer_counts}
+use Rattle.ip_session.proofs.DurableGoes.{by_answer, damage_of, fault_ends, fault_met, answer_counts}
 use Rattle.ip_session.proofs.MergeGoes.{has_reply, merge_serves, unmerged_goes, unmerged_placed, merge_goes, merge_cut, merge_placed}
 use Rattle.ip_session.proofs.Running.{runs_as, runs_ended}
 use Rattle.ip_session.proofs.session.Session.merge.Goals as goal
@@ -29,6 +29,7 @@ returns-in-Err-clause-runs g c =
       clear = λ known r v here. keeps_by _ _ c.args.self.now _ (Command.Merge c.args.target c.args.branch c.args.info) c.in-Err.reply (λ may. may) (λ clear. clear);
       cut = λ known r v here. tt;
       cause = tt;
+      untouched = λ told met. absurd met;
     }
 
 pub merge_into-made-requires-clause-tables : goal.merge_into-made-requires-clause-tables
@@ -56,7 +57,7 @@ returns-clause-runs g c =
     -- of what the store met
     let answered : IsTrue g.G.Ground.tells → IsDecisive rule → (r : Repository) → Holds s.store.held a r → IsTrue (is_retained r n) → IfSome (merge_reply name made) (λ (reply : Reply). AnswersMerge rule b r (phase_of s.store.held.collection) n name info call.new.self.met reply call.new.self.held) =
     λ told decisive r held retained. subst (λ (m : Met). IfSome (merge_reply name made) (λ (reply : Reply). AnswersMerge rule b r (phase_of s.store.held.collection) n name info m reply call.new.self.held)) (sym call.ensures.met) (merges.merges told decisive r held retained).answered in
-    runs_as _ _ _ _ _ _ _ (Command.Merge target name info) _ (ap (λ (n : Bytes). Command.Merge target n info) (sym c.as_slice.ensures)) (by_answer (merge_reply name made) made result (Runs (IsTrue g.G.Ground.tells × IsDecisive rule) rule a b s after (Command.Merge target name info)) is_answer
+    runs_as _ _ _ _ _ _ _ _ (Command.Merge target name info) _ (ap (λ (n : Bytes). Command.Merge target n info) (sym c.as_slice.ensures)) (by_answer (merge_reply name made) made result (Runs (IsTrue g.G.Ground.tells) (IsTrue g.G.Ground.tells × IsDecisive rule) rule a b s after (Command.Merge target name info)) is_answer
     (λ reply is. record {
       serving = let (r, of) = c.requires.tables in merge_serves r s call.new.self c.met-self.result of.1 (merges.tables r of.0 (c.in-Ok.ensures.retained r of.0) (has_reply name made reply is));
       goes = λ known r v here.
@@ -68,11 +69,12 @@ returns-clause-runs g c =
           let tables = here.holds.tables in
           let retained = c.in-Ok.ensures.retained r tables in
           merge_placed rule a b s call.new.self merges.same_collection r v here target name info n (sym (c.in-Ok.ensures.number r tables)) made reply is (merges.merges known.0 known.1 r here.holds retained).appends (merges.merges known.0 known.1 r here.holds retained).limits;
-      clear = λ known r v here. keeps_by a b s after (Command.Merge target name info) reply (λ may. may) ((merges.merges known.0 known.1 r here.holds (c.in-Ok.ensures.retained r here.holds.tables)).any_moment.took.clear (has_reply name made reply is));
+      clear = λ told r v here. keeps_by a b s after (Command.Merge target name info) reply (λ may. may) (merges.clear told (has_reply name made reply is) r here.holds);
       cut = λ known r v here. tt;
       cause = tt;
+      untouched = λ told met. absurd met;
     })
-    (λ end is. runs_ended (IsTrue g.G.Ground.tells × IsDecisive rule) rule a b s after (Command.Merge target name info) end (fault_ends made end (IsKnown (IsTrue g.G.Ground.tells × IsDecisive rule) a s) is (λ (known, (r, v, here)). (merges.merges known.0 known.1 r here.holds (c.in-Ok.ensures.retained r here.holds.tables)).undamaged))
+    (λ end is. runs_ended (IsTrue g.G.Ground.tells) (IsTrue g.G.Ground.tells × IsDecisive rule) rule a b s after (Command.Merge target name info) end (fault_ends made end (IsKnown (IsTrue g.G.Ground.tells × IsDecisive rule) a s) is (λ (known, (r, v, here)). (merges.merges known.0 known.1 r here.holds (c.in-Ok.ensures.retained r here.holds.tables)).undamaged)) (λ told met. merges.untouched told (damage_of made end is met))
     (λ known r v here.
     let tables = here.holds.tables in
     merge_cut rule a b s call.new.self merges.same_collection r v here target name info n (sym (c.in-Ok.ensures.number r tables)) _ made (c.met-self.ensures ∙ call.ensures.met ∙ fault_met made end is) (merges.merges known.0 known.1 r here.holds (c.in-Ok.ensures.retained r tables)).any_moment)))

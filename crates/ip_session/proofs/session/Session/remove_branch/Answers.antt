@@ -14,7 +14,7 @@ use Rattle.ip_session.specs.Session.{unasked, IsAnswer}
 use Rattle.ip_session.proofs.Asking.{faulted}
 use Rattle.ip_session.proofs.BranchGoes.{serves, remove_goes, remove_cut, has_answer_removed}
 use Rattle.ip_session.proofs.ClearGoes.{keeps_by}
-use Rattle.ip_session.proofs.DurableGoes.{by_answer, fault_ends, fault_ground, fault_met, answer_counts}
+use Rattle.ip_session.proofs.DurableGoes.{by_answer, damage_of, fault_ends, fault_ground, fault_met, answer_counts}
 use Rattle.ip_session.proofs.Placing.{remove_placed}
 use Rattle.ip_session.proofs.Running.{runs_as, runs_ended}
 use Rattle.ip_session.proofs.session.Session.remove_branch.Goals as goal
@@ -33,7 +33,7 @@ returns-clause-runs g c =
     let a = g.G.Ground.told c.args.ground.now in
     let b = g.G.Ground.told call.new.outside in
     let is_answer : IsAnswer (removed_reply name made) made result = subst (λ (n : Bytes). IsAnswer (removed_reply n made) made result) (sym c.as_slice.ensures) c.removed_answer.ensures.answer in
-    runs_as _ _ _ _ _ _ _ (Command.BranchRm name) _ (ap Command.BranchRm (sym c.as_slice.ensures)) (by_answer (removed_reply name made) made result (Runs (IsTrue g.G.Ground.tells) unasked a b s after (Command.BranchRm name)) is_answer
+    runs_as _ _ _ _ _ _ _ _ (Command.BranchRm name) _ (ap Command.BranchRm (sym c.as_slice.ensures)) (by_answer (removed_reply name made) made result (Runs (IsTrue g.G.Ground.tells) (IsTrue g.G.Ground.tells) unasked a b s after (Command.BranchRm name)) is_answer
     (λ reply is. record {
       serving =
           let (r, of) = c.requires.tables in
@@ -46,8 +46,9 @@ returns-clause-runs g c =
       clear = λ told r v here. keeps_by a b s after (Command.BranchRm name) reply (λ may. may) ((removes.took told r here.holds).clear (has_answer_removed name made reply is));
       cut = λ told r v here. tt;
       cause = tt;
+      untouched = λ told met. absurd met;
     })
-    (λ end is. runs_ended (IsTrue g.G.Ground.tells) unasked a b s after (Command.BranchRm name) end (fault_ends made end (IsKnown (IsTrue g.G.Ground.tells) a s) is (λ held. removes.undamaged)) (λ told r v here.
+    (λ end is. runs_ended (IsTrue g.G.Ground.tells) (IsTrue g.G.Ground.tells) unasked a b s after (Command.BranchRm name) end (fault_ends made end (IsKnown (IsTrue g.G.Ground.tells) a s) is (λ held. removes.undamaged)) (λ told met. absurd (damage_of made end is met removes.undamaged)) (λ told r v here.
     remove_cut a b s store _ r v here name made removes.same_collection (removes.took told r here.holds).changes
     (λ has q now kept parents. record { holds = now; lawful = works_stay _ _ r q _ v here.lawful (λ there. (removes.grew told r here.holds).stay has q now) (omega (arith, kept)) parents })
     (c.met-self.ensures ∙ call.ensures.met ∙ fault_met made end is) (removes.begun r here.holds.tables (fault_ground made end is removes.undamaged)))))

@@ -84,10 +84,10 @@ pub returns-in-Collect : goal.returns-in-Collect
 returns-in-Collect g c = ran_child c.args.command (Command.Collect c.in-Collect.target) c.in-Collect.is tt c.collect.ensures
 
 pub returns-in-Look : goal.returns-in-Look
-returns-in-Look g c = ran_child c.args.command Command.Look c.in-Look.is tt c.look.ensures
+returns-in-Look g c = ran_child c.args.command Command.Look c.in-Look.is tt (c.look.ensures c.args.dir.now)
 
 pub returns-in-Finish : goal.returns-in-Finish
-returns-in-Finish g c = ran_child c.args.command Command.Finish c.in-Finish.is tt c.finish.ensures
+returns-in-Finish g c = ran_child c.args.command Command.Finish c.in-Finish.is tt (c.finish.ensures c.args.dir.now)
 
 pub returns-in-Cancel : goal.returns-in-Cancel
-returns-in-Cancel g c = ran_child c.args.command Command.Cancel c.in-Cancel.is tt c.cancel.ensures
+returns-in-Cancel g c = ran_child c.args.command Command.Cancel c.in-Cancel.is tt (c.cancel.ensures c.args.dir.now)

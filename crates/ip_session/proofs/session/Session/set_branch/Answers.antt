@@ -14,7 +14,7 @@ use Rattle.ip_session.specs.Session.{unasked, state_in}
 use Rattle.ip_session.proofs.Asking.{faulted}
 use Rattle.ip_session.proofs.BranchGoes.{unnamed_goes, serves, set_goes, set_cut, has_answer_set}
 use Rattle.ip_session.proofs.ClearGoes.{keeps_by}
-use Rattle.ip_session.proofs.DurableGoes.{by_answer, fault_ends, fault_ground, fault_met, answer_counts}
+use Rattle.ip_session.proofs.DurableGoes.{by_answer, damage_of, fault_ends, fault_ground, fault_met, answer_counts}
 use Rattle.ip_session.proofs.Placing.{unnamed_placed, set_placed}
 use Rattle.ip_session.proofs.Running.{runs_as, runs_ended}
 use Rattle.ip_session.proofs.session.Session.set_branch.Goals as goal
@@ -32,6 +32,7 @@ returns-in-Err-clause-runs g c = record {
   clear = λ told r v here. keeps_by _ _ c.args.self.now _ (Command.Branch c.args.name c.args.target) c.in-Err.reply (λ may. may) (λ clear. clear);
   cut = λ told r v here. tt;
   cause = tt;
+  untouched = λ told met. absurd met;
 }
 
 -- by the name that the slice has
@@ -48,7 +49,7 @@ returns-clause-runs g c =
     let after = record s { store = store; met = c.met-self.result } in
     let a = g.G.Ground.told c.args.ground.now in
     let b = g.G.Ground.told call.new.outside in
-    runs_as _ _ _ _ _ _ _ (Command.Branch name target) _ (ap (λ (n : Bytes). Command.Branch n target) (sym c.as_slice.ensures)) (by_answer (branch_reply made) made c.branch_answer.result (Runs (IsTrue g.G.Ground.tells) unasked a b s after (Command.Branch name target)) c.branch_answer.ensures.answer
+    runs_as _ _ _ _ _ _ _ _ (Command.Branch name target) _ (ap (λ (n : Bytes). Command.Branch n target) (sym c.as_slice.ensures)) (by_answer (branch_reply made) made c.branch_answer.result (Runs (IsTrue g.G.Ground.tells) (IsTrue g.G.Ground.tells) unasked a b s after (Command.Branch name target)) c.branch_answer.ensures.answer
     (λ reply is. record {
       serving =
           let (r, of) = c.requires.tables in
@@ -65,8 +66,9 @@ returns-clause-runs g c =
       clear = λ told r v here. keeps_by a b s after (Command.Branch name target) reply (λ may. may) ((sets.took told r here.holds (c.in-Ok.ensures.retained r here.holds.tables)).clear (has_answer_set made reply is));
       cut = λ told r v here. tt;
       cause = tt;
+      untouched = λ told met. absurd met;
     })
-    (λ end is. runs_ended (IsTrue g.G.Ground.tells) unasked a b s after (Command.Branch name target) end (fault_ends made end (IsKnown (IsTrue g.G.Ground.tells) a s) is (λ held. sets.undamaged)) (λ told r v here.
+    (λ end is. runs_ended (IsTrue g.G.Ground.tells) (IsTrue g.G.Ground.tells) unasked a b s after (Command.Branch name target) end (fault_ends made end (IsKnown (IsTrue g.G.Ground.tells) a s) is (λ held. sets.undamaged)) (λ told met. absurd (damage_of made end is met sets.undamaged)) (λ told r v here.
     let tables = here.holds.tables in
     let retained = c.in-Ok.ensures.retained r tables in
     let begun = sets.begun r tables (fault_ground made end is sets.undamaged) in

@@ -50,17 +50,17 @@ returns-in-Err-Memory-clause-placed g c told decisive r v here =
     subst (PlacedIn (g.D.Decides.rule c.args.rules.now) c.args.self.now.store.held.slot c.args.self.now.store.held.unswept c.args.self.now.store.held.slot (state_in c.args.self.now r v) v c.args.line.now) (sym c.refuse.ensures.reply) (quiet_placed _ _ _ _ _ v c.args.line.now Reply.Memory (λ command h. h) (λ command h. h) (λ l is. absurd (cc is)) tt refl)
 
 pub returns-in-Ok-clause-clear : goal.returns-in-Ok-clause-clear
-returns-in-Ok-clause-clear g c told decisive r v here = lined_clear _ _ c.args.self.now c.run.new.self c.met_only-self.result c.in-Ok.command c.args.line.now c.run.result
-    (λ other spelled. one_command c.args.line.now other c.in-Ok.command spelled c.in-Ok.ensures.reads) (c.run.ensures.runs.clear (told, decisive) r v here)
+returns-in-Ok-clause-clear g c told r v here = lined_clear _ _ c.args.self.now c.run.new.self c.met_only-self.result c.in-Ok.command c.args.line.now c.run.result
+    (λ other spelled. one_command c.args.line.now other c.in-Ok.command spelled c.in-Ok.ensures.reads) (c.run.ensures.runs.clear told r v here)
 
 pub returns-in-Err-Bad-clause-clear : goal.returns-in-Err-Bad-clause-clear
-returns-in-Err-Bad-clause-clear g c told decisive r v here = quiet_clear _ _ c.args.self.now _ c.args.line.now (Reply.Bad c.in-Err-Bad.at) (λ h. h) (λ clear. clear)
+returns-in-Err-Bad-clause-clear g c told r v here = quiet_clear _ _ c.args.self.now _ c.args.line.now (Reply.Bad c.in-Err-Bad.at) (λ h. h) (λ clear. clear)
 
 pub returns-in-Err-Memory-clause-clear : goal.returns-in-Err-Memory-clause-clear
-returns-in-Err-Memory-clause-clear g c told decisive r v here = quiet_clear _ _ c.args.self.now _ c.args.line.now c.refuse.result (subst (λ (x : Reply). ¬ IsSwept x) (sym c.refuse.ensures.reply) (λ h. h)) (λ clear. clear)
+returns-in-Err-Memory-clause-clear g c told r v here = quiet_clear _ _ c.args.self.now _ c.args.line.now c.refuse.result (subst (λ (x : Reply). ¬ IsSwept x) (sym c.refuse.ensures.reply) (λ h. h)) (λ clear. clear)
 
 pub returns-in-Ok-clause-asked : goal.returns-in-Ok-clause-asked
-returns-in-Ok-clause-asked g c = lined_asked _ _ _ c.args.self.now c.run.new.self c.met_only-self.result c.in-Ok.command c.args.line.now c.run.result _ _ c.in-Ok.ensures.reads
+returns-in-Ok-clause-asked g c = lined_asked _ _ _ _ c.args.self.now c.run.new.self c.met_only-self.result c.in-Ok.command c.args.line.now c.run.result _ _ c.in-Ok.ensures.reads
     (λ other spelled. one_command c.args.line.now other c.in-Ok.command spelled c.in-Ok.ensures.reads) c.run.ensures.asked
 
 pub returns-in-Ok-clause-counts : goal.returns-in-Ok-clause-counts
@@ -78,14 +78,17 @@ returns-in-Ok-clause-cause g c decisive =
     let a = g.G.Ground.told c.args.ground.now in
     ends_more c.run.result (IsKnown (IsTrue g.G.Ground.tells × IsDecisive (g.D.Decides.rule c.args.rules.now)) a s) (IsHeld g.G.Ground.tells a s) (λ held. ((held.0, decisive), held.1)) c.run.ensures.runs.cause
 
+pub returns-in-Ok-clause-untouched : goal.returns-in-Ok-clause-untouched
+returns-in-Ok-clause-untouched g c told damaged = (c.in-Ok.command, c.in-Ok.ensures.reads, c.run.ensures.runs.untouched told damaged)
+
 pub returns-in-Err-Bad-clause-asked : goal.returns-in-Err-Bad-clause-asked
-returns-in-Err-Bad-clause-asked g c = nothing_spawned _ _ c.args.self.now _ c.args.line.now (Reply.Bad c.in-Err-Bad.at) _ tt (none_met c.met_only-self.result false c.met_only-self.ensures) refl
+returns-in-Err-Bad-clause-asked g c = nothing_spawned _ _ _ c.args.self.now _ c.args.line.now (Reply.Bad c.in-Err-Bad.at) _ tt (none_met c.met_only-self.result false c.met_only-self.ensures) refl
 
 pub returns-in-Err-Bad-clause-counts : goal.returns-in-Err-Bad-clause-counts
 returns-in-Err-Bad-clause-counts g c = none_counts c.args.line.now (Reply.Bad c.in-Err-Bad.at) c.met_only-self.result _ (ap (λ (m : Met). m.left) c.met_only-self.ensures)
 
 pub returns-in-Err-Memory-clause-asked : goal.returns-in-Err-Memory-clause-asked
-returns-in-Err-Memory-clause-asked g c = nothing_spawned _ _ c.args.self.now _ c.args.line.now c.refuse.result _ c.refuse.ensures.tells_none c.refuse.ensures.meets_none refl
+returns-in-Err-Memory-clause-asked g c = nothing_spawned _ _ _ c.args.self.now _ c.args.line.now c.refuse.result _ c.refuse.ensures.tells_none c.refuse.ensures.meets_none refl
 
 pub returns-in-Err-Memory-clause-counts : goal.returns-in-Err-Memory-clause-counts
 returns-in-Err-Memory-clause-counts g c = none_counts c.args.line.now c.refuse.result c.refuse.new.met _ (ap (λ (m : Met). m.left) c.refuse.ensures.met)
