@@ -149,10 +149,10 @@ fn left_by(
 
 // Runs the worker for the last child that was started. Its attempt.
 fn work(alloc: Global, ground: &mut Watch, children: &Scripted) -> Result<u64, Fail> {
-    let Some(job) = children.started().last() else {
+    let Some(child) = children.started().last() else {
         return Err("none was started")?;
     };
-    let job = *job;
+    let job = child.job;
     if !job.valid() || collect(alloc, &job, ground).is_err() {
         return Err("no pair")?;
     }

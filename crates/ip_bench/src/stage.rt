@@ -110,6 +110,7 @@ fn counted_since(before: GroundCounts, after: GroundCounts) -> GroundCounts {
         file_faults: after.file_faults.saturating_sub(before.file_faults),
         remove_faults: after.remove_faults.saturating_sub(before.remove_faults),
         say_faults: after.say_faults.saturating_sub(before.say_faults),
+        damages: after.damages.saturating_sub(before.damages),
     }
 }
 

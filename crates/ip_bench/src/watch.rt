@@ -125,6 +125,10 @@ impl Ground for Watch {
         self.bench.say(bytes)
     }
 
+    fn note_damage(&mut self) {
+        self.bench.note_damage();
+    }
+
     fn counts(&self) -> GroundCounts {
         self.bench.counts()
     }

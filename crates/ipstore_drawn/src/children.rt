@@ -189,10 +189,10 @@ impl Children {
 impl Served {
     // The worker writes the pair of the last child that was started.
     fn work(&mut self, alloc: Global) -> Result<(), Fail> {
-        let Some(job) = self.spawner.started().last() else {
+        let Some(child) = self.spawner.started().last() else {
             return Err("none was started")?;
         };
-        let job = *job;
+        let job = child.job;
         if !job.valid() {
             return Err("no job")?;
         }
