@@ -1,15 +1,19 @@
--- What a ground in memory notes: a count that rises, where the folder that is bound stays so.
-use Rattle.std.proofs.Common.{◌≡◌, ℕ, List, Option, Vec, sym, subst}
-use Rattle.std.specs.Option.{option_map}
-use Rattle.std.specs.declared.alloc.Global.{Global}
+-- What a ground in memory notes: a count that rises, where the folders that were asked for stay so.
+use Rattle.std.proofs.Common.{◌≡◌, sym, subst}
 use Rattle.ip_ground.specs.declared.names.GroundCounts.{GroundCounts}
-use Rattle.ip_ground.specs.Counts.{Noted, noting}
+use Rattle.ip_ground.specs.declared.bench.Bound.{Bound}
+use Rattle.ip_ground.specs.Bound.{binding_of}
+use Rattle.ip_ground.specs.Counts.{Binding, Noted, noting}
 
 -- what a ground in memory notes
-abbrev pub noted_by : GroundCounts → Option (Vec ℕ Global) → Noted
-noted_by counts bound = noting counts (option_map (λ name. name.items) bound)
+abbrev pub noted_by : GroundCounts → Bound → Noted
+noted_by counts bound = noting counts (binding_of bound)
 
 -- behind a step that keeps both
-pub noted_on : (P : Noted → Noted → Type 0) (old mid new : GroundCounts) (was now : Option (Vec ℕ Global)) → (mid ≡ old) × (now ≡ was) → ((bound : Option (List ℕ)) → P (noting mid bound) (noting new bound)) → P (noted_by old was) (noted_by new now)
+pub noted_on : (P : Noted → Noted → Type 0) (old mid new : GroundCounts) (was now : Bound) → (mid ≡ old) × (now ≡ was) → ((bound : Binding) → P (noting mid bound) (noting new bound)) → P (noted_by old was) (noted_by new now)
 noted_on P old mid new was now same so =
-    subst (λ (b : Option (Vec ℕ Global)). P (noted_by old was) (noted_by new b)) (sym same.1) (subst (λ (counts : GroundCounts). P (noted_by counts was) (noted_by new was)) same.0 (so (option_map (λ name. name.items) was)))
+    subst (λ (b : Bound). P (noted_by old was) (noted_by new b)) (sym same.1) (subst (λ (counts : GroundCounts). P (noted_by counts was) (noted_by new was)) same.0 (so (binding_of was)))
+
+-- from what was bound, as it is told otherwise
+pub noted_from : (P : Noted → Noted → Type 0) (counts : GroundCounts) (now : Noted) (bound : Bound) (told : Binding) → binding_of bound ≡ told → P (noted_by counts bound) now → P (noting counts told) now
+noted_from P counts now bound told same so = subst (λ (b : Binding). P (noting counts b) now) same so

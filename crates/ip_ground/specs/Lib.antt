@@ -3,6 +3,7 @@ pub mod Custody
 pub mod Told
 pub mod Calls
 pub mod Counts
+pub mod Bound
 pub mod Failing
 pub mod Writing
 pub mod Files

@@ -1,4 +1,10 @@
 -- What a ground tells of its content, and how that goes on.
+--     Told      what it tells.      said, lending told      now.      Beside      what it reads through another object
+--     IsForeign, IsLoose told file, IsSettledAs told attempt held      what a child may still do to a file, and what it left
+--     KeepsPast, KeepsSaid, KeepsCustody, TurnsCustody      what was told stands.      KeepsFile, SyncsAtMost, ChangesLeft      of a file
+--     IsPossible, EachImage, EachImageNow, EachSince, EachNow, IsPossibleNow      what a crash may leave.      IsAbout, MayTear      which of it
+--     ChangesOnly, SyncsOnly these old new      these files alone, as Only file, or NoFile
+--     IsSynced, IsSyncedAs told file      what is durable.      IsBlank, Reopens, silent      at the beginning
 use Rattle.std.specs.Prelude.{◌≡◌, ◌⊎◌, ℕ, ◌<◌, ◌≤◌, List, [], None, Bool, IsTrue}
 use Rattle.ip_ground.specs.declared.names.FileName.{FileName}
 use Rattle.ip_ground.specs.Contents.{Content, Image, Leave, Possible, Torn}

@@ -1,68 +1,16 @@
 // Real children.
 ghost use Rattle.std.specs.Prelude.{◌≡◌, None, Some, IfOk, string_bytes};
-ghost use Rattle.std.specs.Process.{command_program, command_args, command_dir, exit_code};
-ghost use Rattle.ip_host.specs.Children.{child_words, folder_word, exit_by, exit_told};
+ghost use Rattle.std.specs.Process.{command_program, command_args, command_dir};
+ghost use Rattle.ip_host.specs.Children.{child_words, folder_word};
 
 use crate::causes::{Cause, Subject};
-use crate::names::path_of;
-use crate::plain::{is_alone, looked_at};
-use ip_base::{Exit, Reaped};
-use ip_ground::FileName;
+use crate::starter::{Held, Starter};
+use ip_base::Reaped;
 use ip_spawn::{Job, Look, SpawnCounts, SpawnFault, Spawner};
 use std::alloc::{AllocError, Global};
 use std::fs::Files;
 use std::io;
-use std::process::{Child, Command, ExitStatus, Processes, Stdio, SystemProcess};
-
-// A child that was started and has not been waited for.
-#[derive(Drop)]
-struct Held {
-    job: Job,
-    child: Child,
-    // where its done file stands, once it is through
-    done: String,
-    // it was sent the signal that ends it, or had ended before
-    is_signalled: bool,
-}
-
-impl Held {
-    ghost use Rattle.std.specs.Prelude.{OnOk, IsTrue};
-
-    // Waits until it has ended, and says how.
-    fn wait(&mut self) -> io::Result<Reaped>
-        ensures exit { IfOk result (λ reaped. exit_told self.new.child ≡ Some reaped.exit) }
-        ensures attempt { IfOk result (λ reaped. reaped.attempt ≡ self.old.job.attempt) }
-        ensures same { self.new ≡ record self.old { child = self.new.child } }
-    {
-        let status = self.child.wait()?;
-        Ok(Reaped {
-            attempt: self.job.attempt,
-            exit: exit_of(status),
-        })
-    }
-
-    // Sends it the signal that it cannot catch; no other function does, and none else says that it was sent. It is looked
-    // at before: one that others have waited for gets no signal, since its number may be another's by now.
-    fn signal(&mut self) -> io::Result<()>
-        ensures signalled { OnOk result (IsTrue self.new.is_signalled) }
-        ensures same { self.new ≡ record self.old { child = self.new.child; is_signalled = self.new.is_signalled } }
-    {
-        self.child.try_wait()?;
-        self.child.kill()?;
-        self.is_signalled = true;
-        Ok(())
-    }
-
-    // Ends it, and says how it ended.
-    fn end(&mut self) -> io::Result<Reaped>
-        ensures exit { IfOk result (λ reaped. exit_told self.new.child ≡ Some reaped.exit) }
-        ensures attempt { IfOk result (λ reaped. reaped.attempt ≡ self.old.job.attempt) }
-        ensures signalled { IfOk result (λ _. IsTrue self.new.is_signalled) }
-    {
-        self.signal()?;
-        self.wait()
-    }
-}
+use std::process::{Command, Processes, SystemProcess};
 
 /// Children that are processes of the system, each started as `PROGRAM worker DIR J1 .. J8`: the folder, and the job's
 /// numbers in decimal, in the order of its fields. Its input is empty, and what it writes to its outputs is dropped. It
@@ -75,21 +23,22 @@ impl Held {
 /// neither waits for the child that is held nor ends it.
 #[derive(Drop)]
 pub struct Children<R: Processes<Started = SystemProcess> + Files + Drop> {
-    rt: R,
     alloc: Global,
-    program: String,
+    starter: Starter<R>,
     held: Option<Held>,
+    // the one that was waited for last
+    ended: Option<Held>,
     counts: SpawnCounts,
     // of the first child that could not be started
     cause: Option<Cause>,
 }
 
 impl<R: Processes<Started = SystemProcess> + Files + Drop> Children<R> {
-    ghost use Rattle.std.specs.Prelude.{IsSome, IsTrue, is_ok, is_err, true, false};
+    ghost use Rattle.std.specs.Prelude.{IsSome, IsTrue, IfSome, is_ok, is_err, true, false};
     ghost use Rattle.ip_spawn.specs.Children.{end_reaped, held_after};
     ghost use Rattle.ip_spawn.specs.Counts.{Counts};
     ghost use Rattle.ip_spawn.specs.declared.spawner.SpawnCounts.{SpawnCounts};
-    ghost use Rattle.ip_host.specs.Started.{IsFor};
+    ghost use Rattle.ip_host.specs.Started.{IsFor, HasEnded};
 
     /// No child yet, and no fault. A program without a slash in its name is looked for in the search path.
     pub fn new(rt: R, alloc: Global, program: String) -> Children<R>
@@ -97,10 +46,10 @@ impl<R: Processes<Started = SystemProcess> + Files + Drop> Children<R> {
         ensures counts { ⟦<Children<R> as Spawner>⟧.counts_of result ≡ record { running = 0; waits = 0; reaps = 0; spawn_faults = 0 } }
     {
         Children {
-            rt,
             alloc,
-            program,
+            starter: Starter::new(rt, alloc, program),
             held: None,
+            ended: None,
             counts: SpawnCounts {
                 running: 0,
                 waits: 0,
@@ -129,25 +78,8 @@ impl<R: Processes<Started = SystemProcess> + Files + Drop> Children<R> {
     fn begin(&self, dir: &str, job: &Job) -> io::Result<Held>
         ensures { IfOk result (IsFor dir.now job.now) }
     {
-        let mut command = command_of(self.alloc, self.program.as_str(), dir, job)?;
-        self.spawn_worker(&mut command, dir, job)
-    }
-
-    // Starts a child by this command, which has to be the one for this folder and job. No other function starts any.
-    fn spawn_worker(&self, command: &mut Command, dir: &str, job: &Job) -> io::Result<Held>
-        requires program { command_program command.old ≡ string_bytes self.now.program }
-        requires words { command_args command.old ≡ child_words dir.now job.now }
-        requires place { command_dir command.old ≡ None }
-        ensures { IfOk result (IsFor dir.now job.now) }
-    {
-        let done = path_of(self.alloc, dir, FileName::Done(job.attempt))?;
-        let child = command.spawn(&self.rt)?;
-        Ok(Held {
-            job: *job,
-            child,
-            done,
-            is_signalled: false,
-        })
+        let command = command_of(self.alloc, self.starter.program(), dir, job)?;
+        self.starter.spawn(&command, dir, job)
     }
 
     // Counts a fault.
@@ -159,14 +91,14 @@ impl<R: Processes<Started = SystemProcess> + Files + Drop> Children<R> {
         SpawnFault
     }
 
-    // Counts that the child which was ended was waited for.
-    fn count_ended(&mut self, held: &Held)
-        requires { IsTrue held.now.is_signalled }
-        ensures only { self.new ≡ record self.old { counts = self.new.counts } }
+    // Counts that the child which was ended was waited for, the last one of which that is so now.
+    fn count_ended(&mut self, child: Held)
+        requires { IsTrue child.is_signalled }
+        ensures only { self.new ≡ record self.old { counts = self.new.counts; ended = Some child } }
         ensures counts { Counts false false true false self.old.counts self.new.counts }
     {
-        let _ = held;
         self.counts.reaps = self.counts.reaps.saturating_add(1);
+        self.ended = Some(child);
     }
 
     // Waits for the child that is held, which is held no more once it has ended.
@@ -175,6 +107,7 @@ impl<R: Processes<Started = SystemProcess> + Files + Drop> Children<R> {
         ensures attempt { IfOk result (λ reaped. ⟦<Children<R> as Spawner>⟧.held self.old ≡ Some reaped.attempt) }
         ensures held { ⟦<Children<R> as Spawner>⟧.held self.new ≡ held_after (end_reaped result) (⟦<Children<R> as Spawner>⟧.held self.old) }
         ensures counts { Counts false false (is_ok result) (is_err result) self.old.counts self.new.counts }
+        ensures ended { IfSome (end_reaped result) (HasEnded self.old.held self.new.ended) }
     {
         let Some(mut held) = self.held.take() else {
             unreachable!()
@@ -184,15 +117,16 @@ impl<R: Processes<Started = SystemProcess> + Files + Drop> Children<R> {
             return Err(self.fault());
         };
         self.counts.reaps = self.counts.reaps.saturating_add(1);
+        self.ended = Some(held);
         Ok(reaped)
     }
 }
 
 impl<R: Processes<Started = SystemProcess> + Files + Drop> Spawner for Children<R> {
-    ghost use Rattle.std.specs.Prelude.{false, option_map, IsTrue, IfSome, OnOk, is_err};
-    ghost use Rattle.ip_spawn.specs.Children.{blank, held_after_start, told_after_start};
+    ghost use Rattle.std.specs.Prelude.{true, false, option_map, IsTrue, IsSome, IfSome, OnOk, is_some, is_ok, is_err};
+    ghost use Rattle.ip_spawn.specs.Children.{blank, held_after_start, told_after_start, end_seen, end_reaped, is_running, held_after, told_after};
     ghost use Rattle.ip_spawn.specs.Counts.{Counts};
-    ghost use Rattle.ip_host.specs.Started.{IsFor};
+    ghost use Rattle.ip_host.specs.Started.{IsFor, HasEnded};
 
     ghost tells = { false };
 
@@ -222,13 +156,21 @@ impl<R: Processes<Started = SystemProcess> + Files + Drop> Spawner for Children<
         }
     }
 
-    fn look(&mut self) -> Result<Look, SpawnFault> {
+    // Here and below: the trait's clauses, and that an end which is told is that of the child that was held.
+    fn look(&mut self) -> Result<Look, SpawnFault>
+        requires { IsSome (⟦<Children<R> as Spawner>⟧.held self.old) }
+        ensures attempt { IfSome (end_seen result) (λ reaped. ⟦<Children<R> as Spawner>⟧.held self.old ≡ Some reaped.attempt) }
+        ensures held { ⟦<Children<R> as Spawner>⟧.held self.new ≡ held_after (end_seen result) (⟦<Children<R> as Spawner>⟧.held self.old) }
+        ensures told { IsTrue ⟦<Children<R> as Spawner>⟧.tells → ⟦<Children<R> as Spawner>⟧.told self.new ≡ told_after (end_seen result) (⟦<Children<R> as Spawner>⟧.told self.old) }
+        ensures counts { Counts (is_running result) false (is_some (end_seen result)) (is_err result) self.old.counts self.new.counts }
+        ensures ended { IfSome (end_seen result) (HasEnded self.old.held self.new.ended) }
+    {
         let Some(held) = &self.held else {
             unreachable!()
         };
-        match looked_at(&self.rt, held.done.as_str()) {
-            Ok(Some(found)) if is_alone(&found) => self.reap().map(Look::Ended),
-            Ok(_) => {
+        match self.starter.is_through(held) {
+            Ok(true) => self.reap().map(Look::Ended),
+            Ok(false) => {
                 self.counts.running = self.counts.running.saturating_add(1);
                 Ok(Look::Running)
             }
@@ -236,19 +178,33 @@ impl<R: Processes<Started = SystemProcess> + Files + Drop> Spawner for Children<
         }
     }
 
-    fn wait(&mut self) -> Result<Reaped, SpawnFault> {
+    fn wait(&mut self) -> Result<Reaped, SpawnFault>
+        requires { IsSome (⟦<Children<R> as Spawner>⟧.held self.old) }
+        ensures attempt { IfSome (end_reaped result) (λ reaped. ⟦<Children<R> as Spawner>⟧.held self.old ≡ Some reaped.attempt) }
+        ensures held { ⟦<Children<R> as Spawner>⟧.held self.new ≡ held_after (end_reaped result) (⟦<Children<R> as Spawner>⟧.held self.old) }
+        ensures told { IsTrue ⟦<Children<R> as Spawner>⟧.tells → ⟦<Children<R> as Spawner>⟧.told self.new ≡ told_after (end_reaped result) (⟦<Children<R> as Spawner>⟧.told self.old) }
+        ensures counts { Counts false true (is_ok result) (is_err result) self.old.counts self.new.counts }
+        ensures ended { IfSome (end_reaped result) (HasEnded self.old.held self.new.ended) }
+    {
         self.counts.waits = self.counts.waits.saturating_add(1);
         self.reap()
     }
 
-    fn kill(&mut self) -> Result<Reaped, SpawnFault> {
+    fn kill(&mut self) -> Result<Reaped, SpawnFault>
+        requires { IsSome (⟦<Children<R> as Spawner>⟧.held self.old) }
+        ensures attempt { IfSome (end_reaped result) (λ reaped. ⟦<Children<R> as Spawner>⟧.held self.old ≡ Some reaped.attempt) }
+        ensures held { ⟦<Children<R> as Spawner>⟧.held self.new ≡ None }
+        ensures told { IsTrue ⟦<Children<R> as Spawner>⟧.tells → ⟦<Children<R> as Spawner>⟧.told self.new ≡ told_after (end_reaped result) (⟦<Children<R> as Spawner>⟧.told self.old) }
+        ensures counts { Counts false false (is_ok result) (is_err result) self.old.counts self.new.counts }
+        ensures ended { IfSome (end_reaped result) (HasEnded self.old.held self.new.ended) }
+    {
         let Some(mut held) = self.held.take() else {
             unreachable!()
         };
         let Ok(reaped) = held.end() else {
             return Err(self.fault());
         };
-        self.count_ended(&held);
+        self.count_ended(held);
         Ok(reaped)
     }
 
@@ -270,10 +226,6 @@ fn command_of(alloc: Global, program: &str, dir: &str, job: &Job) -> Result<Comm
         let word = format!(in alloc; "{number}")?;
         command.arg(word.as_str())?;
     }
-    command
-        .stdin(Stdio::null())
-        .stdout(Stdio::null())
-        .stderr(Stdio::null());
     Ok(command)
 }
 
@@ -284,15 +236,5 @@ fn folder_word(alloc: Global, dir: &str) -> Result<String, AllocError>
     match dir.as_bytes() {
         [b'-', ..] => format!(in alloc; "./{dir}"),
         _ => String::from_str(alloc, dir),
-    }
-}
-
-// How a child ended, by its status.
-fn exit_of(status: ExitStatus) -> Exit
-    ensures { result ≡ exit_by (exit_code status) }
-{
-    match status.code() {
-        Some(code) => Exit::Code(code),
-        None => Exit::Signal,
     }
 }

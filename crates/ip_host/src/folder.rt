@@ -6,7 +6,7 @@ ghost use Rattle.ip_host.specs.Opened.{bound_of};
 use crate::causes::{Cause, Subject};
 use crate::files::FolderFiles;
 use ip_base::{Exit, Reaped};
-use ip_ground::{FileName, Ground, GroundCounts, GroundFault};
+use ip_ground::{AskedFolders, FileName, FolderName, Ground, GroundCounts, GroundFault};
 use libc::types::rlimit;
 use std::alloc::Global;
 use std::fs::{File, Files};
@@ -31,6 +31,7 @@ use std::io::ErrorKind;
 pub struct Folder<R: Files<File = File> + Print + Drop> {
     rt: R,
     alloc: Global,
+    asked: AskedFolders,
     files: Option<FolderFiles>,
     // another process is the store's
     is_beside: bool,
@@ -43,11 +44,13 @@ pub struct Folder<R: Files<File = File> + Print + Drop> {
 }
 
 impl<R: Files<File = File> + Print + Drop> Folder<R> {
+    ghost use Rattle.std.specs.Prelude.{true, false};
     ghost use Rattle.ip_ground.specs.Counts.{nothing_noted};
 
     /// No folder yet, and no fault.
     pub fn new(rt: R, alloc: Global) -> Folder<R>
-        ensures { ⟦<Folder<R> as Ground>⟧.counts_of result ≡ nothing_noted }
+        ensures counts { ⟦<Folder<R> as Ground>⟧.counts_of result ≡ nothing_noted }
+        ensures beside { result.is_beside ≡ false }
     {
         Folder::made(rt, alloc, false)
     }
@@ -55,17 +58,20 @@ impl<R: Files<File = File> + Print + Drop> Folder<R> {
     /// The same for a process beside the one that the store is of: no call locks the folder. It must not write the
     /// control file, nor what that one writes.
     pub fn beside(rt: R, alloc: Global) -> Folder<R>
-        ensures { ⟦<Folder<R> as Ground>⟧.counts_of result ≡ nothing_noted }
+        ensures counts { ⟦<Folder<R> as Ground>⟧.counts_of result ≡ nothing_noted }
+        ensures beside { result.is_beside ≡ true }
     {
         Folder::made(rt, alloc, true)
     }
 
     fn made(rt: R, alloc: Global, is_beside: bool) -> Folder<R>
-        ensures { ⟦<Folder<R> as Ground>⟧.counts_of result ≡ nothing_noted }
+        ensures counts { ⟦<Folder<R> as Ground>⟧.counts_of result ≡ nothing_noted }
+        ensures beside { result.is_beside ≡ is_beside }
     {
         Folder {
             rt,
             alloc,
+            asked: AskedFolders::new(),
             files: None,
             is_beside,
             size_max: u64::MAX,
@@ -90,7 +96,7 @@ impl<R: Files<File = File> + Print + Drop> Folder<R> {
 
     // Counts a fault of a file call.
     fn file_fault(&mut self, call: &'static str, subject: Subject, error: &io::Error) -> GroundFault
-        ensures { FileFault (noting self.old.counts (bound_of self.old.files)) (noting self.new.counts (bound_of self.new.files)) }
+        ensures { FileFault (noting self.old.counts (bound_of self.old.asked self.old.files)) (noting self.new.counts (bound_of self.new.asked self.new.files)) }
     {
         self.keep(Cause::of(call, subject, error));
         self.counts.file_faults = self.counts.file_faults.saturating_add(1);
@@ -99,7 +105,7 @@ impl<R: Files<File = File> + Print + Drop> Folder<R> {
 
     // Counts a fault of a removal.
     fn remove_fault(&mut self, file: FileName, error: &io::Error) -> GroundFault
-        ensures { RemoveFault (noting self.old.counts (bound_of self.old.files)) (noting self.new.counts (bound_of self.new.files)) }
+        ensures { RemoveFault (noting self.old.counts (bound_of self.old.asked self.old.files)) (noting self.new.counts (bound_of self.new.asked self.new.files)) }
     {
         if self.removal.is_none() {
             self.removal = Some(Cause::of("remove", Subject::File(file), error));
@@ -110,7 +116,7 @@ impl<R: Files<File = File> + Print + Drop> Folder<R> {
 
     // Counts a fault of output.
     fn say_fault(&mut self, error: &io::Error) -> GroundFault
-        ensures { SayFault (noting self.old.counts (bound_of self.old.files)) (noting self.new.counts (bound_of self.new.files)) }
+        ensures { SayFault (noting self.old.counts (bound_of self.old.asked self.old.files)) (noting self.new.counts (bound_of self.new.asked self.new.files)) }
     {
         self.keep(Cause::of("write", Subject::Output, error));
         self.counts.say_faults = self.counts.say_faults.saturating_add(1);
@@ -128,7 +134,7 @@ impl<R: Files<File = File> + Print + Drop> Folder<R> {
 
     // A child may make, change and remove the files of this attempt, or has done so.
     fn hand_over(&mut self, attempt: u64)
-        ensures { noting self.new.counts (bound_of self.new.files) ≡ noting self.old.counts (bound_of self.old.files) }
+        ensures { noting self.new.counts (bound_of self.new.asked self.new.files) ≡ noting self.old.counts (bound_of self.old.asked self.old.files) }
     {
         if let Some(files) = &mut self.files {
             files.hand_over(attempt);
@@ -137,20 +143,31 @@ impl<R: Files<File = File> + Print + Drop> Folder<R> {
 }
 
 impl<R: Files<File = File> + Print + Drop> Ground for Folder<R> {
-    ghost use Rattle.std.specs.Prelude.{false};
+    ghost use Rattle.std.specs.Prelude.{false, IsTrue, OnOk, IsSomeAnd};
     ghost use Rattle.ip_ground.specs.Told.{silent};
+    ghost use Rattle.ip_ground.specs.Calls.{Passes};
+    ghost use Rattle.ip_ground.specs.Counts.{Attaches};
+    ghost use Rattle.ip_ground.specs.Failing.{Refuses};
 
     ghost tells = { false };
 
     ghost told = { λ _. silent };
 
-    ghost counts_of = { λ folder. noting folder.counts (bound_of folder.files) };
+    ghost counts_of = { λ folder. noting folder.counts (bound_of folder.asked folder.files) };
 
     ghost refuses = { λ _ _. false };
 
     ghost possible = { λ _ _ file. tt };
 
-    fn attach(&mut self, dir: &str) -> Result<(), GroundFault> {
+    // The trait's clauses, and that the lock is not held yet: it is to be asked for, but by one that is beside.
+    fn attach(&mut self, dir: &str) -> Result<(), GroundFault>
+        ensures does { IsTrue ⟦<Folder<R> as Ground>⟧.tells → Passes result (⟦<Folder<R> as Ground>⟧.told self.old) (⟦<Folder<R> as Ground>⟧.told self.new) }
+        ensures counts { Attaches dir.now result (⟦<Folder<R> as Ground>⟧.counts_of self.old) (⟦<Folder<R> as Ground>⟧.counts_of self.new) }
+        ensures refused { Refuses result (⟦<Folder<R> as Ground>⟧.refuses self.old) (⟦<Folder<R> as Ground>⟧.refuses self.new) }
+        ensures lock { OnOk result (IsSomeAnd self.new.files (λ files. files.is_locked ≡ self.old.is_beside)) }
+        ensures beside { OnOk result (self.new.is_beside ≡ self.old.is_beside) }
+    {
+        self.asked = self.asked.then(&FolderName(dir));
         self.files = None;
         match FolderFiles::of(self.alloc, &self.rt, dir) {
             Ok(files) => {

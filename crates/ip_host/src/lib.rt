@@ -12,6 +12,7 @@ mod files;
 mod folder;
 mod names;
 mod plain;
+mod starter;
 mod stdin;
 
 pub use causes::{Cause, Subject};

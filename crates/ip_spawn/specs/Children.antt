@@ -1,4 +1,7 @@
 -- What a spawner tells of its children, and how each call goes on with it.
+--     Start, Told      what it tells.      blank      nothing yet
+--     held_after_start, told_after_start      behind a start.      held_after, told_after      behind a child's end, or none
+--     end_seen, end_reaped, is_running result      what was answered of the child
 use Rattle.std.specs.Prelude.{ℕ, Bool, true, false, List, [], ◌∷◌, ◌++◌, Option, Some, None, Result, Ok, Err}
 use Rattle.ip_base.specs.declared.exit.Reaped.{Reaped}
 use Rattle.ip_spawn.specs.declared.job.Job.{Job}

@@ -1,5 +1,5 @@
 // A spawner in memory.
-ghost use Rattle.std.specs.Prelude.{◌≡◌};
+ghost use Rattle.std.specs.Prelude.{◌≡◌, ◌<◌, IsSome, vec_len, vec_capacity};
 
 use crate::{Job, Look, SpawnCounts, SpawnFault, Spawner};
 use ip_base::{Exit, Reaped};
@@ -36,8 +36,10 @@ pub struct Held {
 
 /// Children that go by plans, one for each that was started: the next start takes the next plan. The calls whose
 /// numbers are listed fail, and so does a start for which no plan is left; each call but `counts` has a number, counted
-/// from 0. A child that is waited for has ended as planned, and one that is killed has ended by a signal. Want of memory
-/// is a fault, and nothing but the count of faults has changed then. A call takes time by the numbers of failing calls.
+/// from 0. A child that is waited for has ended as planned, and one that is killed has ended by a signal. A start alone
+/// takes memory, and what its child's end will take too: want of it is a fault. A call that fails changes no plan, and
+/// leaves the child that is held as it was, but that one which could not be killed is held no more. A call takes time
+/// by the numbers of failing calls.
 #[derive(Drop)]
 pub struct Scripted {
     alloc: Global,
@@ -48,10 +50,11 @@ pub struct Scripted {
     counts: SpawnCounts,
     started: Vec<Started>,
     reaped: Vec<Reaped>,
+    ghost room: { IsSome held → vec_len reaped < vec_capacity reaped },
 }
 
 impl Scripted {
-    ghost use Rattle.std.specs.Prelude.{None, ◌++◌, ◌∷◌, [], map, IfOk, OnOk, OnErr, is_ok, is_err, if◌then◌else◌, true, false};
+    ghost use Rattle.std.specs.Prelude.{Some, None, ◌++◌, ◌∷◌, [], map, OnOk, OnErr, true, false};
     ghost use Rattle.ip_spawn.specs.Children.{blank};
     ghost use Rattle.ip_spawn.specs.Counts.{Counts, counted};
     ghost use Rattle.ip_spawn.specs.Scripting.{start_of, fails_next};
@@ -105,12 +108,17 @@ impl Scripted {
         self.fails.contains(&call)
     }
 
-    // Keeps what is started now, its folder's name as a copy. If that can't be kept, nothing has changed.
+    // Keeps what is started now, its folder's name as a copy, and room for how it will end. If that can't be kept,
+    // nothing has changed.
     fn note(&mut self, dir: &str, job: &Job) -> Result<(), AllocError>
-        ensures only { self.new ≡ record self.old { started = self.new.started } }
+        ensures plans { (self.new.plans ≡ self.old.plans) × (self.new.fails ≡ self.old.fails) × (self.new.calls ≡ self.old.calls) }
+        ensures held { (self.new.held ≡ self.old.held) × (self.new.counts ≡ self.old.counts) }
+        ensures room { OnOk result (vec_len self.new.reaped < vec_capacity self.new.reaped) }
+        ensures ends { self.new.reaped.items ≡ self.old.reaped.items }
         ensures noted { OnOk result (map start_of self.new.started.items ≡ map start_of self.old.started.items ++ record { dir = dir.now; job = job.now } ∷ []) }
         ensures same { OnErr result (self.new.started.items ≡ self.old.started.items) }
     {
+        self.reaped.reserve(1)?;
         let dir = String::from_str(self.alloc, dir)?;
         let started = Started { dir, job: *job };
         if self.started.push(started).is_err() {
@@ -128,31 +136,31 @@ impl Scripted {
         SpawnFault
     }
 
-    // This child has ended so, and is held no more. If that can't be noted, nothing has changed.
-    fn reap(&mut self, held: Held, exit: Exit) -> Result<Reaped, SpawnFault>
-        ensures attempt { IfOk result (λ reaped. reaped.attempt ≡ held.attempt) }
-        ensures exit { IfOk result (λ reaped. reaped.exit ≡ exit) }
-        ensures held { self.new.held ≡ (if is_ok result then None else self.old.held) }
-        ensures only { self.new ≡ record self.old { held = self.new.held; counts = self.new.counts; reaped = self.new.reaped } }
-        ensures noted { IfOk result (λ reaped. self.new.reaped.items ≡ self.old.reaped.items ++ reaped ∷ []) }
-        ensures same { OnErr result (self.new.reaped.items ≡ self.old.reaped.items) }
-        ensures counts { Counts false false (is_ok result) (is_err result) self.old.counts self.new.counts }
+    // The child that is held has ended so, and is held no more.
+    fn reap(&mut self, held: Held, exit: Exit) -> Reaped
+        requires { self.old.held ≡ Some held }
+        ensures attempt { result.attempt ≡ held.attempt }
+        ensures exit { result.exit ≡ exit }
+        ensures held { self.new.held ≡ None }
+        ensures only { self.new ≡ record self.old { held = self.new.held; counts = self.new.counts; reaped = self.new.reaped; room = self.new.room } }
+        ensures noted { self.new.reaped.items ≡ self.old.reaped.items ++ result ∷ [] }
+        ensures counts { Counts false false true false self.old.counts self.new.counts }
     {
         let reaped = Reaped {
             attempt: held.attempt,
             exit,
         };
-        if self.reaped.push(reaped).is_err() {
-            return Err(self.fault());
-        }
+        let Ok(()) = self.reaped.push(reaped) else {
+            unreachable!()
+        };
         self.counts.reaps = self.counts.reaps.saturating_add(1);
         self.held = None;
-        Ok(reaped)
+        reaped
     }
 }
 
 impl Spawner for Scripted {
-    ghost use Rattle.std.specs.Prelude.{true, false, ℕ, ◌<◌, ◌↔◌, Some, None, IsTrue, IsFalse, IsErr, IsSome, IfSome, IfOk, OnOk, is_some, is_ok, is_err};
+    ghost use Rattle.std.specs.Prelude.{true, false, ℕ, ◌↔◌, Some, None, IsTrue, IsFalse, IsErr, IfSome, IfOk, OnOk, OnErr, is_some, is_ok, is_err};
     ghost use Rattle.ip_base.specs.declared.exit.Exit.TheVariants.{Signal};
     ghost use Rattle.ip_spawn.specs.Children.{held_after_start, told_after_start, end_seen, end_reaped, is_running, held_after, told_after};
     ghost use Rattle.ip_spawn.specs.Counts.{Counts};
@@ -201,7 +209,7 @@ impl Spawner for Scripted {
         ensures counts { Counts (is_running result) false (is_some (end_seen result)) (is_err result) self.old.counts self.new.counts }
         ensures runs { (h : Held) → self.old.held ≡ Some h → (IsTrue (is_running result) ↔ (0 < h.plan.looks) × IsFalse (fails_next self.old)) }
         ensures planned { (h : Held) → self.old.held ≡ Some h → LooksBy h result self.new.held }
-        ensures fails { IsTrue (fails_next self.old) → IsErr result }
+        ensures fails { IsErr result ↔ IsTrue (fails_next self.old) }
         ensures goes { GoesOn self.old self.new }
     {
         let Some(held) = self.held else {
@@ -211,7 +219,7 @@ impl Spawner for Scripted {
             return Err(self.fault());
         }
         if held.plan.looks == 0 {
-            return self.reap(held, held.plan.exit).map(Look::Ended);
+            return Ok(Look::Ended(self.reap(held, held.plan.exit)));
         }
         let plan = Plan {
             looks: held.plan.looks - 1,
@@ -232,7 +240,8 @@ impl Spawner for Scripted {
         ensures told { told_of self.new ≡ told_after (end_reaped result) (told_of self.old) }
         ensures counts { Counts false true (is_ok result) (is_err result) self.old.counts self.new.counts }
         ensures planned { (h : Held) → self.old.held ≡ Some h → IfOk result (λ reaped. reaped.exit ≡ h.plan.exit) }
-        ensures fails { IsTrue (fails_next self.old) → IsErr result }
+        ensures stays { OnErr result (self.new.held ≡ self.old.held) }
+        ensures fails { IsErr result ↔ IsTrue (fails_next self.old) }
         ensures goes { GoesOn self.old self.new }
     {
         let Some(held) = self.held else {
@@ -242,7 +251,7 @@ impl Spawner for Scripted {
         if self.fails_now() {
             return Err(self.fault());
         }
-        self.reap(held, held.plan.exit)
+        Ok(self.reap(held, held.plan.exit))
     }
 
     fn kill(&mut self) -> Result<Reaped, SpawnFault>
@@ -252,16 +261,17 @@ impl Spawner for Scripted {
         ensures told { told_of self.new ≡ told_after (end_reaped result) (told_of self.old) }
         ensures counts { Counts false false (is_ok result) (is_err result) self.old.counts self.new.counts }
         ensures signal { IfOk result (λ reaped. reaped.exit ≡ Signal) }
-        ensures fails { IsTrue (fails_next self.old) → IsErr result }
+        ensures fails { IsErr result ↔ IsTrue (fails_next self.old) }
         ensures goes { GoesOn self.old self.new }
     {
-        let Some(held) = self.held.take() else {
+        let Some(held) = self.held else {
             unreachable!()
         };
         if self.fails_now() {
+            let _ = self.held.take();
             return Err(self.fault());
         }
-        self.reap(held, Exit::Signal)
+        Ok(self.reap(held, Exit::Signal))
     }
 
     fn counts(&self) -> SpawnCounts {
