@@ -1,11 +1,11 @@
 -- The bytes of kept records, in the space and in the prefix.
 --     piece_at      a stretch is a piece of the prefix
---     all_read      what is read of it is that piece.      no_gap      none of its bytes is missing
-use Rattle.std.proofs.Common.{◌≡◌, inl, inr, ℕ, ◌+◌, ◌<◌, ◌≤◌, List, [], ◌∷◌, ◌++◌, refl, sym, ap, subst, ◌∙◌, length, take, drop, map, get_or, arith, append_assoc, length-append}
+--     same_read      what is read of it is that piece.      no_gap      none of its bytes is missing
+use Rattle.std.proofs.Common.{◌≡◌, inl, inr, ℕ, ◌+◌, ◌<◌, List, [], ◌∷◌, ◌++◌, refl, sym, ap, subst, ◌∙◌, length, take, drop, map, get_or, arith, append_assoc, length-append}
 use Rattle.std.specs.Prelude.{Option, Some, None}
 use Rattle.std.specs.List.{take-map, drop-map}
 use Rattle.std.proofs.Math.Seq.{take-append_seam, drop-append_seam}
-use Rattle.std.proofs.lemmas.List.{take-append-drop, take_all, same_lists}
+use Rattle.std.proofs.lemmas.List.{take-append-drop, same_lists}
 use Rattle.std.proofs.lemmas.List.Sums.{sum_by-cons}
 use Rattle.std.proofs.lemmas.Option.{get_or_from_slice_get, slice_get-get_or}
 use Rattle.ip_spec.specs.Path.{Bytes}
@@ -104,11 +104,6 @@ piece_at f kept runs c most place s each is here st =
 pub no_gap : (f : ℕ → Option ℕ) (at : ℕ) (bytes : Bytes) (n : ℕ) → Stands f at bytes → n < length bytes → f (at + n) ≡ None → ⊥
 no_gap f at bytes n stands l gap = let here : Some (get_or bytes n 0) ≡ None = sym (slice_get-get_or bytes n 0 l) ∙ sym (stands n l) ∙ gap in cc
 
-stood_same : (f : ℕ → Option ℕ) (at : ℕ) (xs ys : Bytes) → length xs ≡ length ys → Stands f at xs → Stands f at ys → xs ≡ ys
-stood_same f at xs ys long one two =
+pub same_read : (f : ℕ → Option ℕ) (at : ℕ) (xs ys : Bytes) → length xs ≡ length ys → Stands f at xs → Stands f at ys → xs ≡ ys
+same_read f at xs ys long one two =
     same_lists xs ys long (λ k d l. get_or_from_slice_get xs k (get_or ys k d) d (sym (one k l) ∙ two k (omega (arith, l, long)) ∙ slice_get-get_or ys k d (omega (arith, l, long))))
-
-pub all_read : (f : ℕ → Option ℕ) (at room : ℕ) (filled bytes : Bytes) (n : ℕ) → Stands f at bytes → length bytes ≡ room → length filled ≡ room → room ≤ n → Stands f at (take n filled) → filled ≡ bytes
-all_read f at room filled bytes n stands long full high read =
-    let all = take_all n filled (omega (arith, high, full)) in
-    stood_same f at filled bytes (full ∙ sym long) (subst (Stands f at) all read) stands

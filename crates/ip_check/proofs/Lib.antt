@@ -7,3 +7,4 @@ pub mod Linked
 pub mod KeptBytes
 pub mod Stages
 pub mod Bounds
+pub mod Stood

@@ -1,16 +1,13 @@
 -- A stretch, record by record.
 --     first_behind, next_behind      where these stand in the slice.      one_stretch, stretch_more      the first one, and one more
---     stretch_ends      where they end.      stretch_kept      it begins where a kept one does
-use Rattle.std.proofs.Common.{◌≡◌, inl, inr, ℕ, zero, suc, ◌+◌, ◌-◌, ◌<◌, ◌≤◌, List, [], ◌∷◌, ◌++◌, refl, sym, ap, subst, ◌∙◌, length, take, drop, reverse, get_or, arith}
-use Rattle.std.specs.Prelude.{Contains}
+--     stretch_ends      where they end
+use Rattle.std.proofs.Common.{◌≡◌, ℕ, zero, suc, ◌+◌, ◌-◌, ◌<◌, ◌≤◌, List, [], ◌∷◌, ◌++◌, refl, sym, ap, subst, ◌∙◌, length, take, drop, reverse, get_or, arith}
 use Rattle.std.proofs.Math.Seq.{take-suc}
 use Rattle.std.proofs.lemmas.List.{get_or-reverse, get_or-drop, length-drop, length-reverse, length-take-le, reverse-reverse}
 use Rattle.std.proofs.lemmas.List.Sums.{sum_by-cons, sum_by_push}
 use Rattle.ip_image.specs.declared.run.Run.{Run}
 use Rattle.ip_image.specs.Virtual.{total}
-use Rattle.ip_image.proofs.StayingRecords.{In, in_contains, in_map}
 use Rattle.ip_space.specs.SpaceView.{AreBelow}
-use Rattle.ip_keep.specs.Keeping.{offsets}
 use Rattle.ip_keep.proofs.RunsApart.{ends_back}
 use Rattle.ip_check.specs.declared.prefix.Stretch.{Stretch}
 use Rattle.ip_check.specs.Stretching.{AreLinked, IsStretch}
@@ -91,23 +88,3 @@ stretch_ends top xs c most s all st =
     let long = st.length in
     let e = linked_ends top s.at (take s.records (drop c (reverse xs))) st.linked (end_take top s.records _ (end_drop top c _ (end_reverse top xs all))) (omega (arith, n, some)) in
     omega (arith, e, long)
-
--- ---- where it begins
-
-in_dropped : (n : ℕ) (xs : List Run) (run : Run) → In (drop n xs) run → In xs run
-in_dropped zero xs run h = h
-in_dropped (suc n) [] run h = h
-in_dropped (suc n) (x ∷ xs) run h = inr (in_dropped n xs run h)
-
-first_linked : (at n : ℕ) (run : Run) (runs : List Run) → 1 ≤ n → AreLinked at (take n (run ∷ runs)) → run.at ≡ at
-first_linked at zero run runs some l = absurd (omega (arith, some))
-first_linked at (suc n) run runs some l = l.0
-
-pub stretch_kept : (kept : List Run) (c most : ℕ) (s : Stretch) → IsStretch (drop c kept) most s → Contains (offsets kept) s.at
-stretch_kept kept c most s st = by (drop c kept) refl st
-  where
-    by : (xs : List Run) → drop c kept ≡ xs → IsStretch xs most s → Contains (offsets kept) s.at
-    by [] e st = let some = st.some in let within = st.within in absurd (omega (arith, some, within))
-    by (run ∷ runs) e st =
-        let here : In kept run = in_dropped c kept run (subst (λ (l : List Run). In l run) (sym e) (inl refl)) in
-        in_contains (offsets kept) s.at (subst (In (offsets kept)) (first_linked s.at s.records run runs st.some st.linked) (in_map (λ (r : Run). r.at) kept run here))

@@ -1,10 +1,10 @@
 -- How a check goes on, over what is told.
 --     over_later, found_later      what is told of its files stays over calls that change no file
---     goes_on, keeps_on      two steps
---     goes_kept, keeping_kept      records that are kept were looked for.      keeps_mapping      the mapping was compared
+--     goes_on, keeps_on      two steps.      says_of, advances_of      what an answer says behind them
+--     goes_kept, keeping_kept      records that are kept were looked for.      goes_mapping, keeps_mapping      the mapping was compared
 --     goes_stretch, keeps_stretch      a stretch was.      goes_end, keeps_end      the end of the prefix was
 use Rattle.std.proofs.Common.{◌≡◌, ℕ, zero, suc, ◌+◌, ◌<◌, ◌≤◌, List, refl, sym, ap, subst, ◌∙◌, length, take, drop, map, arith}
-use Rattle.std.specs.Prelude.{Option, Some, None, Result, Ok, Err, IfOk, IsErrOf}
+use Rattle.std.specs.Prelude.{Option, Some, None, Result, Ok, Err, IfOk, IfSome, IsErrOf}
 use Rattle.std.proofs.Math.Seq.{take-add}
 use Rattle.std.proofs.lemmas.List.{take_all, length-drop}
 use Rattle.std.proofs.lemmas.List.Sums.{sum_by-append, sum_by-take-le}
@@ -16,6 +16,7 @@ use Rattle.ip_spec.specs.TreeAt.{Records}
 use Rattle.ip_spec.specs.declared.record.Record.{Record}
 use Rattle.ip_spec.specs.declared.reply.Difference.{Difference}
 use Rattle.ip_spec.specs.declared.reply.Produced.{Produced}
+use Rattle.ip_spec.specs.declared.reply.Seen.{Seen}
 use Rattle.ip_spawn.specs.declared.job.Job.{Job}
 use Rattle.ip_image.specs.declared.run.Run.{Run}
 use Rattle.ip_image.specs.Collection.{Pair, Found, IsValid, IsKept, runs_of, kept_bytes, difference, first_of}
@@ -36,9 +37,9 @@ use Rattle.ip_check.specs.declared.check.Outcome.{Outcome}
 use Rattle.ip_check.specs.declared.check.Stage.{Stage}
 use Rattle.ip_check.specs.declared.fault.CheckFault.{CheckFault}
 use Rattle.ip_check.specs.declared.prefix.Stretch.{Stretch}
-use Rattle.ip_check.specs.Alike.{IsSoFar, SaysAlike, SaysEnd}
+use Rattle.ip_check.specs.Alike.{IsByteOf, IsEndOf, IsSoFar, SaysAlike, SaysEnd}
 use Rattle.ip_check.specs.CheckView.{CheckView}
-use Rattle.ip_check.specs.Checking.{IsAtStage, IsCheck, IsChecking, IsComparing, IsFixed, IsVerdict, HasCompared, SameCheck, Says, looked_by}
+use Rattle.ip_check.specs.Checking.{Advances, EndsAs, HasReached, IsAtStage, IsCheck, IsChecking, IsComparing, IsFixed, IsVerdict, HasCompared, Reaches, SameCheck, Says, looked_by}
 use Rattle.ip_check.specs.Faults.{IsUndamaged}
 use Rattle.ip_check.specs.Going.{Goes, HasNext, IsOpen, IsOver, KeepsTrue, found_of, next_stage}
 use Rattle.ip_check.specs.Stretching.{IsStretch}
@@ -119,6 +120,24 @@ says_of records found c job Outcome.More same keeping valid differs = tt
 says_of records found c job Outcome.Valid same keeping valid differs = subst (λ (j : Job). IsVerdict records j found None) same (subst (HasCompared records c.job found) (valid refl) keeping.compared)
 says_of records found c job (Outcome.Differs d) same keeping valid differs = subst (λ (j : Job). IsVerdict records j found (Some d)) same (subst (HasCompared records c.job found) (differs d refl) keeping.compared)
 
+pub advances_of : (most left : ℕ) (c d e : CheckView) (o : Outcome) → looked_by c ≤ looked_by d → looked_by d + left ≡ looked_by c + most → looked_by d ≤ looked_by e → looked_by e ≤ looked_by d + left
+    → (IsOpen e.stage → looked_by e ≡ looked_by d + left) → (o ≡ Outcome.More → IsOpen e.stage) → (o ≡ Outcome.Valid → e.stage ≡ Stage.Through None) → ((x : Difference) → o ≡ Outcome.Differs x → e.stage ≡ Stage.Through (Some x))
+    → Advances most c e (Ok o)
+advances_of most left c d e o one sum two high all more valid differs = record {
+  low = omega (arith, one, two);
+  high = omega (arith, sum, high);
+  more = λ is. let looked = all (more (same is)) in omega (arith, looked, sum);
+  ends = ends o refl;
+}
+  where
+    same : ◌≡◌ {A = Result Outcome CheckFault} (Ok o) (Ok Outcome.More) → o ≡ Outcome.More
+    same is = cc is
+
+    ends : (x : Outcome) → o ≡ x → EndsAs e (Ok x)
+    ends Outcome.More is = more is
+    ends Outcome.Valid is = valid is
+    ends (Outcome.Differs x) is = differs x is
+
 -- ---- what is kept
 
 abbrev pub with_keep : CheckView → KeepView → CheckView
@@ -133,6 +152,7 @@ goes_kept most c k result check stage keep work looks = record {
     end = ap (λ (s : SpaceView). s.layout.end) work.space ∙ check.end;
     compared = omega (arith, none);
     stage = subst (IsAtStage (with_keep c k)) (sym stage) none;
+    reached = subst (HasReached (with_keep c k)) (sym stage) tt;
   };
   same = record { job = refl; space = work.space; horizon = work.horizon };
   low = (by result looks).0;
@@ -191,6 +211,34 @@ keeps_mapping told c runs d check through is says x records over keeping = (reco
     by None e = record { pair = pair; valid = valid; mapping = sym e; prefix = so_far_none pair.prefix (found_of told c).prefix }
     by (Some d) e = record { pair = pair; valid = valid; difference = ap (λ (o : Option Difference). first_of o (difference Produced.Prefix pair.prefix (found_of told c).prefix)) e }
 
+pub goes_mapping : (most : ℕ) (c : CheckView) (k : KeepView) (d : Option Difference) → IsCheck c → c.stage ≡ Stage.Keeping → Goes most c (with_keep c k) → IsThrough k → IfSome d (λ x. x.file ≡ Produced.Mapping)
+    → Goes most c (with_stage (with_keep c k) (next_stage d 0))
+goes_mapping most c k d check stage goes through differs = record {
+  check = record {
+    job = goes.check.job;
+    keep = goes.check.keep;
+    horizon = goes.check.horizon;
+    end = goes.check.end;
+    compared = goes.check.compared;
+    stage = staged d;
+    reached = reached d differs;
+  };
+  same = record { job = goes.same.job; space = goes.same.space; horizon = goes.same.horizon };
+  low = goes.low;
+  high = goes.high;
+}
+  where
+    none : c.compared ≡ 0
+    none = subst (IsAtStage c) stage check.stage
+
+    staged : (d : Option Difference) → IsAtStage (with_stage (with_keep c k) (next_stage d 0)) (next_stage d 0)
+    staged None = (through, ap (λ (n : ℕ). total (take n k.kept)) (sym none))
+    staged (Some x) = through
+
+    reached : (d : Option Difference) → IfSome d (λ x. x.file ≡ Produced.Mapping) → HasReached (with_stage (with_keep c k) (next_stage d 0)) (next_stage d 0)
+    reached None tells = tt
+    reached (Some x) tells = subst (λ (f : Produced). Reaches (with_stage (with_keep c k) (next_stage (Some x) 0)) f x.want x.at) (sym tells) none
+
 -- ---- a stretch of the prefix
 
 abbrev pub behind_stretch : CheckView → Option Difference → ℕ → Stretch → CheckView
@@ -206,8 +254,23 @@ stage_stretch c None place most s through here st = (
 )
 stage_stretch c (Some d) place most s through here st = through
 
-pub goes_stretch : (c : CheckView) (d : Option Difference) (place most : ℕ) (s : Stretch) → IsCheck c → c.stage ≡ Stage.Comparing place → IsStretch (drop c.compared c.keep.kept) most s → Goes most c (behind_stretch c d place s)
-goes_stretch c d place most s check stage st =
+reached_byte : (c : CheckView) (place n : ℕ) (d : Difference) → IsByteOf Produced.Prefix place n d → place + n ≤ total (take c.compared c.keep.kept) → Reaches c d.file d.want d.at
+reached_byte c place n d byte inside =
+    let below = byte.high in
+    subst (λ (f : Produced). Reaches c f d.want d.at) (sym byte.file) (subst (λ (w : Seen). Reaches c Produced.Prefix w d.at) (sym byte.want.1) (omega (arith, below, inside)))
+
+reached_stretch : (c : CheckView) (d : Option Difference) (place most : ℕ) (s : Stretch) → place ≡ total (take c.compared c.keep.kept) → IsStretch (drop c.compared c.keep.kept) most s → IfSome d (IsByteOf Produced.Prefix place s.length)
+    → HasReached (behind_stretch c d place s) (next_stage d (place + s.length))
+reached_stretch c None place most s here st differs = tt
+reached_stretch c (Some d) place most s here st differs =
+    reached_byte (behind_stretch c (Some d) place s) place s.length d differs
+    (let a = ap total (take-add c.compared s.records c.keep.kept) in
+    let b = sum_by-append (λ (r : Run). r.length) (take c.compared c.keep.kept) (take s.records (drop c.compared c.keep.kept)) in
+    let long = st.length in omega (arith, a, b, here, long))
+
+pub goes_stretch : (c : CheckView) (d : Option Difference) (place most : ℕ) (s : Stretch) → IsCheck c → c.stage ≡ Stage.Comparing place → IsStretch (drop c.compared c.keep.kept) most s → IfSome d (IsByteOf Produced.Prefix place s.length)
+    → Goes most c (behind_stretch c d place s)
+goes_stretch c d place most s check stage st differs =
     let at : IsAtStage c (Stage.Comparing place) = subst (IsAtStage c) stage check.stage in
     let within = st.within in
     let few = st.few in
@@ -221,6 +284,7 @@ goes_stretch c d place most s check stage st =
         end = check.end;
         compared = omega (arith, within, long, before);
         stage = stage_stretch c d place most s at.0 at.1 st;
+        reached = reached_stretch c d place most s at.1 st differs;
       };
       same = record { job = refl; space = refl; horizon = refl };
       low = omega arith;
@@ -299,8 +363,12 @@ all_looked A most left c d e (Ok x) exact found none goes same all = λ still.
 
 -- ---- the end of the prefix
 
-pub goes_end : (c : CheckView) (d : Option Difference) (place : ℕ) → IsCheck c → c.stage ≡ Stage.Comparing place → Goes 0 c (with_stage c (Stage.Through d))
-goes_end c d place check stage = record {
+reached_end : (c : CheckView) (d : Option Difference) → c.compared ≡ length c.keep.kept → IfSome d (IsEndOf Produced.Prefix) → HasReached (with_stage c (Stage.Through d)) (Stage.Through d)
+reached_end c None all ends = all
+reached_end c (Some d) all ends = subst (λ (f : Produced). Reaches c f d.want d.at) (sym ends.file) (subst (λ (w : Seen). Reaches c Produced.Prefix w d.at) (sym ends.want) all)
+
+pub goes_end : (c : CheckView) (d : Option Difference) (place : ℕ) → IsCheck c → c.stage ≡ Stage.Comparing place → length c.keep.kept ≤ c.compared → IfSome d (IsEndOf Produced.Prefix) → Goes 0 c (with_stage c (Stage.Through d))
+goes_end c d place check stage all ends = record {
   check = record {
     job = check.job;
     keep = check.keep;
@@ -308,6 +376,7 @@ goes_end c d place check stage = record {
     end = check.end;
     compared = check.compared;
     stage = let at : IsAtStage c (Stage.Comparing place) = subst (IsAtStage c) stage check.stage in at.0;
+    reached = reached_end c d (let before = check.compared in omega (arith, all, before)) ends;
   };
   same = record { job = refl; space = refl; horizon = refl };
   low = omega arith;

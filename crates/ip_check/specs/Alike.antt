@@ -3,6 +3,7 @@
 --     IsPiece whole place bytes      these stand at a place of a whole file
 --     SaysAlike file want got n result      they are alike up to n, or this is the first difference
 --     IsFirstOther want got result      the first place at which they differ, or where these end before those.      ends got      what a file has at its front that has no byte
+--     IsByteOf produced place n d      the difference is at one of so many bytes that the file is to have from there on.      IsEndOf produced d      it is behind all that it is to have
 --     SaysEnd file want got result      the first difference, or that there is none
 use Rattle.std.specs.Prelude.{◌≡◌, ℕ, ◌+◌, ◌<◌, ◌≤◌, length, take, drop, Option, Some, None, Result, Ok, Err}
 use Rattle.ip_spec.specs.declared.reply.Produced.{Produced}
@@ -32,6 +33,16 @@ SaysAlike file want got n (Err fault) = Unit {0}
 abbrev pub SaysEnd : {E : Type 0} → Produced → Bytes → Option Bytes → Result (Option Difference) E → Type 0
 SaysEnd file want got (Ok found) = found ≡ difference file want got
 SaysEnd file want got (Err fault) = Unit {0}
+
+pub record IsByteOf (produced : Produced) (place n : ℕ) (d : Difference) : Type 0 where
+  pub file : d.file ≡ produced
+  pub low : place ≤ d.at
+  pub high : d.at < place + n
+  pub want : (byte : ℕ) × (d.want ≡ Seen.Byte byte)
+
+pub record IsEndOf (produced : Produced) (d : Difference) : Type 0 where
+  pub file : d.file ≡ produced
+  pub want : d.want ≡ Seen.End
 
 -- none: what is wanted is in front of what is there
 abbrev pub IsFirstOther : Bytes → Bytes → Option ℕ → Type 0

@@ -1,31 +1,36 @@
 -- The check of a pair of files, in slices.
 --     IsSpaceOf job space      its records are those of the job.      begun job space      the check of which nothing was done
 --     IsCheck c      what holds of it over any files.      looked_by c      how many records were looked at
---     IsBlamed c at      a record that is looked at next, or that waits, or one that is kept
+--     IsBlamed c at      the record that is looked at next, or the first that is compared next.      IsBrokenIn told c at      and what is wrong with it
+--     Reaches c file want at      how far was compared where a difference is told.      HasReached c stage      and where any verdict is
+--     compared_since old new      the kept records that were compared with the prefix since then
 --     IsVerdict records job found told      the first place that differs from the valid pair, or that there is none
 --     IsChecking records found c      what it has found of these records and of these files
 --     Says records job found result      what an answer says.      Advances most old new result      how far a slice goes
 --     SameCheck old new      it is the check of the same job, in the same space.      IsFixed told job      what is to stay as it is
 --     FewLooks      law: how many looks there are at most.      Accepts      law: the valid pair is accepted
-use Rattle.std.specs.Prelude.{◌≡◌, ◌≢◌, ◌⊎◌, ℕ, ◌+◌, ◌*◌, ◌≤◌, [], length, take, count_by, Contains, Option, Some, None, Result, Ok, Err}
+use Rattle.std.specs.Prelude.{◌≡◌, ◌≢◌, ℕ, ◌+◌, ◌*◌, ◌<◌, ◌≤◌, List, [], length, take, drop, slice_get, count_by, Option, Some, None, Result, Ok, Err}
 use Rattle.ip_ground.specs.declared.names.FileName.TheVariants.{Mapping, Prefix}
 use Rattle.ip_ground.specs.Contents.{Image}
 use Rattle.ip_ground.specs.Told.{Told, IsForeign}
-use Rattle.ip_spec.specs.declared.reply.Produced.TheVariants as Produced
+use Rattle.ip_spec.specs.declared.reply.Produced.{Produced}
+use Rattle.ip_spec.specs.declared.reply.Seen.{Seen}
 use Rattle.ip_spec.specs.declared.reply.Difference.{Difference}
 use Rattle.ip_spec.specs.TreeAt.{Records}
 use Rattle.ip_spawn.specs.declared.job.Job.{Job}
 use Rattle.ip_spawn.specs.Jobs.{IsValid as IsValidJob}
 use Rattle.ip_image.specs.Collection.{Pair, Found, IsValid, IsKept, difference, first_difference}
+use Rattle.ip_image.specs.declared.run.Run.{Run}
 use Rattle.ip_image.specs.Virtual.{total}
-use Rattle.ip_space.specs.SpaceView.{SpaceView, bare, grown}
-use Rattle.ip_keep.specs.Keeping.{IsBlamedKeep, IsKeep, IsKeeping, IsThrough, looked_in, offsets, starts_between}
+use Rattle.ip_space.specs.SpaceView.{SpaceView, bare, byte_at, grown, records_of}
+use Rattle.ip_keep.specs.Keeping.{IsBlamedKeep, IsBroken, IsKeep, IsKeeping, IsThrough, looked_in, offsets, starts_between}
 use Rattle.ip_keep.specs.Whole.{AreRecords}
 use Rattle.ip_check.specs.declared.fault.CheckFault.{CheckFault}
 use Rattle.ip_check.specs.declared.check.Stage.{Stage}
 use Rattle.ip_check.specs.declared.check.Outcome.{Outcome}
 use Rattle.ip_check.specs.Alike.{IsSoFar}
 use Rattle.ip_check.specs.CheckView.{CheckView}
+use Rattle.ip_check.specs.Stretching.{IsCutShort}
 
 pub record IsSpaceOf (job : Job) (space : SpaceView) : Type 0 where
   pub chunk : job.chunk ≡ space.layout.chunk
@@ -49,6 +54,19 @@ IsAtStage c Stage.Keeping = c.compared ≡ 0
 IsAtStage c (Stage.Comparing place) = IsThrough c.keep × (place ≡ total (take c.compared c.keep.kept))
 IsAtStage c (Stage.Through found) = IsThrough c.keep
 
+-- a difference of the mapping is told before any byte of the prefix is compared, one at a byte of the prefix is at one that was compared, and one at its end comes once all were
+abbrev pub Reaches : CheckView → Produced → Seen → ℕ → Type 0
+Reaches c Produced.Mapping want at = c.compared ≡ 0
+Reaches c Produced.Prefix (Seen.Byte byte) at = at < total (take c.compared c.keep.kept)
+Reaches c Produced.Prefix Seen.End at = c.compared ≡ length c.keep.kept
+Reaches c Produced.Prefix Seen.Absent at = ⊥
+
+abbrev pub HasReached : CheckView → Stage → Type 0
+HasReached c Stage.Keeping = Unit {0}
+HasReached c (Stage.Comparing place) = Unit {0}
+HasReached c (Stage.Through None) = c.compared ≡ length c.keep.kept
+HasReached c (Stage.Through (Some d)) = Reaches c d.file d.want d.at
+
 pub record IsCheck (c : CheckView) : Type 0 where
   pub job : IsValidJob c.job
   pub keep : IsKeep c.keep
@@ -56,13 +74,31 @@ pub record IsCheck (c : CheckView) : Type 0 where
   pub end : c.keep.space.layout.end ≡ c.job.end
   pub compared : c.compared ≤ length c.keep.kept
   pub stage : IsAtStage c c.stage
+  pub reached : HasReached c c.stage
 
 abbrev pub looked_by : CheckView → ℕ
 looked_by c = looked_in c.keep + c.compared
 
--- what damage is told of: a record that is still to be looked at, or a kept one, while the prefix is compared
+-- what damage is told of: the record that is looked at next, or while the prefix is compared, the first kept one that was not compared yet
+abbrev pub IsBlamedAt : CheckView → ℕ → Stage → Type 0
+IsBlamedAt c at Stage.Keeping = IsBlamedKeep c.keep at
+IsBlamedAt c at (Stage.Comparing place) = slice_get (offsets c.keep.kept) c.compared ≡ Some at
+IsBlamedAt c at (Stage.Through told) = ⊥
+
 abbrev pub IsBlamed : CheckView → ℕ → Type 0
-IsBlamed c at = IsBlamedKeep c.keep at ⊎ Contains (offsets c.keep.kept) at
+IsBlamed c at = IsBlamedAt c at c.stage
+
+-- no record of a whole store stands there, or bytes of the kept ones that lie end to end from there on are missing
+abbrev pub IsBrokenAt : Told → CheckView → ℕ → Stage → Type 0
+IsBrokenAt told c at Stage.Keeping = IsBroken (records_of told c.keep.space) c.keep at
+IsBrokenAt told c at (Stage.Comparing place) = IsCutShort (byte_at told c.keep.space) (drop c.compared c.keep.kept) at
+IsBrokenAt told c at (Stage.Through found) = ⊥
+
+abbrev pub IsBrokenIn : Told → CheckView → ℕ → Type 0
+IsBrokenIn told c at = IsBrokenAt told c at c.stage
+
+abbrev pub compared_since : CheckView → CheckView → List Run
+compared_since old new = drop old.compared (take new.compared new.keep.kept)
 
 -- the mapping is the valid one, and the prefix is up to a place
 pub record IsComparing (records : Records) (job : Job) (found : Found) (place : ℕ) : Type 0 where

@@ -1,19 +1,21 @@
 -- The steps of a slice.
 --     IsOver told records c      these are the records of a check, and its files stay.      found_of told c      what it finds of the pair
 --     Goes most old new      it looks at up to so many records more.      KeepsTrue told old new result      what it found stays true, and no damage is met
---     Blames result c      damage is told of a record of the check
+--     Blames result c      damage is told of the record that is looked at next.      Breaks told old new result      and what is wrong with it
+--     HasStood told old new      no byte is missing of what was compared
 --     IsOpen stage      there is no verdict.      next_stage found place      behind a comparison that went up to a place
 use Rattle.std.specs.Prelude.{◌≡◌, ◌≢◌, ℕ, ◌+◌, ◌<◌, ◌≤◌, length, Option, Some, None, Result, IsErrOf}
 use Rattle.ip_ground.specs.Told.{Told}
 use Rattle.ip_spec.specs.declared.reply.Difference.{Difference}
 use Rattle.ip_spec.specs.TreeAt.{Records}
 use Rattle.ip_image.specs.Collection.{Found, found_in}
-use Rattle.ip_space.specs.SpaceView.{IsReadable}
+use Rattle.ip_space.specs.SpaceView.{IsReadable, byte_at}
+use Rattle.ip_keep.specs.Runs.{AreHeld}
 use Rattle.ip_keep.specs.Whole.{AreRecords}
 use Rattle.ip_check.specs.declared.fault.CheckFault.{CheckFault}
 use Rattle.ip_check.specs.declared.check.Stage.{Stage}
 use Rattle.ip_check.specs.CheckView.{CheckView}
-use Rattle.ip_check.specs.Checking.{IsBlamed, IsCheck, IsChecking, IsFixed, SameCheck, looked_by}
+use Rattle.ip_check.specs.Checking.{IsBlamed, IsBrokenIn, IsCheck, IsChecking, IsFixed, SameCheck, compared_since, looked_by}
 use Rattle.ip_check.specs.Faults.{IsUndamaged}
 
 pub record IsOver (told : Told) (records : Records) (c : CheckView) : Type 0 where
@@ -35,6 +37,12 @@ KeepsTrue told old new result = (records : Records) → IsOver told records old 
 
 abbrev pub Blames : {A : Type 0} → Result A CheckFault → CheckView → Type 0
 Blames result c = (at : ℕ) → IsErrOf result (CheckFault.Damaged at) → IsBlamed c at
+
+abbrev pub Breaks : {A : Type 0} → Told → CheckView → CheckView → Result A CheckFault → Type 0
+Breaks told old new result = IsReadable told old.keep.space → (at : ℕ) → IsErrOf result (CheckFault.Damaged at) → IsBrokenIn told new at
+
+abbrev pub HasStood : Told → CheckView → CheckView → Type 0
+HasStood told old new = IsReadable told old.keep.space → AreHeld (byte_at told old.keep.space) (compared_since old new)
 
 abbrev pub IsOpen : Stage → Type 0
 IsOpen stage = (told : Option Difference) → stage ≢ Stage.Through told

@@ -1,5 +1,5 @@
 // The check of what a collection wrote.
-ghost use Rattle.std.specs.Prelude.{◌≡◌, ◌≢◌, ℕ, ◌+◌, ◌≤◌, ◌<◌, length, Option, Some, None, IsTrue, IsOk, IsErrOf, IfOk, IfSome, IfNone};
+ghost use Rattle.std.specs.Prelude.{◌≡◌, ◌≢◌, ℕ, ◌+◌, ◌≤◌, ◌<◌, length, Option, Some, None, IsTrue, IsOk, IsErr, IsErrOf, IfOk, IfSome, IfNone};
 ghost use Rattle.ip_base.specs.declared.limit.TheConstants.{OFFSET_MAX};
 ghost use Rattle.ip_ground.specs.Contents.{Image};
 ghost use Rattle.ip_ground.specs.Counts.{Counts};
@@ -8,8 +8,8 @@ ghost use Rattle.ip_spec.specs.TreeAt.{Records};
 ghost use Rattle.ip_spawn.specs.Jobs.{IsValid as IsValidJob};
 ghost use Rattle.ip_image.specs.Collection.{Found, found_in};
 ghost use Rattle.ip_image.specs.Virtual.{RowsFit, placed, total};
-ghost use Rattle.ip_space.specs.SpaceView.{IsReadable};
-ghost use Rattle.ip_keep.specs.Runs.{FitRuns, joined, left_of};
+ghost use Rattle.ip_space.specs.SpaceView.{IsReadable, byte_at};
+ghost use Rattle.ip_keep.specs.Runs.{AreHeld, FitRuns, joined, left_of};
 ghost use Rattle.ip_keep.specs.Whole.{AreRecords};
 ghost use Rattle.ip_check.specs.declared.check.Stage.TheVariants as Stage;
 ghost use Rattle.ip_check.specs.declared.check.Outcome.TheVariants as Outcome;
@@ -18,8 +18,8 @@ ghost use Rattle.ip_keep.specs.declared.fault.KeepFault.TheVariants as KeepFault
 ghost use Rattle.ip_keep.specs.Faults.{counted_keep};
 ghost use Rattle.ip_spec.specs.declared.reply.Difference.{Difference as DifferenceValue};
 ghost use Rattle.ip_check.specs.Faults.{counted_check, IsUndamaged};
-ghost use Rattle.ip_check.specs.Going.{Blames, Goes, HasNext, IsOpen, KeepsTrue, next_stage as next_stage_of};
-ghost use Rattle.ip_check.specs.Checking.{Advances, IsBlamed, IsCheck, IsChecking, IsFixed, IsSpaceOf, Says, SameCheck, begun, looked_by};
+ghost use Rattle.ip_check.specs.Going.{Blames, Breaks, Goes, HasNext, HasStood, IsOpen, KeepsTrue, next_stage as next_stage_of};
+ghost use Rattle.ip_check.specs.Checking.{Advances, IsBlamed, IsBrokenIn, IsCheck, IsChecking, IsFixed, IsSpaceOf, Says, SameCheck, begun, compared_since, looked_by};
 
 use crate::CheckFault;
 use crate::compare::compare_end;
@@ -144,6 +144,11 @@ impl Check {
             IsChecking records (found_in (G.told outside.old).held self.old.job.attempt) self.old → IsUndamaged result }
         // Over any ground: which record damage is told of.
         ensures blames { (at : ℕ) → IsErrOf result (CheckFaultValue.Damaged at) → IsBlamed self.new at }
+        // Over any files: what is wrong with it, and that no byte is missing of what was compared, whatever came of it.
+        ensures broken { IsTrue G.tells → IsReadable (G.told outside.old) self.old.keep.space → (at : ℕ) → IsErrOf result (CheckFaultValue.Damaged at) → IsBrokenIn (G.told outside.old) self.new at }
+        ensures stood { IsTrue G.tells → IsReadable (G.told outside.old) self.old.keep.space → AreHeld (byte_at (G.told outside.old) self.old.keep.space) (compared_since self.old self.new) }
+        // Behind a fault there is no verdict.
+        ensures unsaid { IsErr result → IsOpen self.new.stage }
         // A verdict that is there is told again: that takes no memory.
         ensures through { (told : Option DifferenceValue) → self.old.stage ≡ Stage.Through told → IsOk result }
         ensures only { IsTrue G.tells → ChangesOnly NoFile (G.told outside.old) (G.told outside.new) }
@@ -176,8 +181,12 @@ impl Check {
     fn find<G: Ground>(&mut self, outside: &mut G, most: u64) -> Result<u64, CheckFault>
         requires check { IsCheck self.old }
         ensures goes { Goes most self.old self.new }
+        ensures uncompared { self.new.compared ≡ self.old.compared }
         ensures left { IfOk result (λ left. (looked_by self.new + left ≡ looked_by self.old + most) × (left ≤ most) × (self.new.stage ≡ Stage.Keeping → left ≡ 0)) }
         ensures blames { Blames result self.new }
+        ensures broken { IsTrue G.tells → Breaks (G.told outside.old) self.old self.new result }
+        ensures unsaid { IsErr result → IsOpen self.new.stage }
+        ensures stood { IsTrue G.tells → HasStood (G.told outside.old) self.old self.new }
         ensures through { (told : Option DifferenceValue) → self.old.stage ≡ Stage.Through told → IsOk result × (self.new.stage ≡ Stage.Through told) }
         ensures keeps { IsTrue G.tells → KeepsTrue (G.told outside.old) self.old self.new result }
         ensures only { IsTrue G.tells → ChangesOnly NoFile (G.told outside.old) (G.told outside.new) }
@@ -206,8 +215,12 @@ impl Check {
         requires check { IsCheck self.old }
         requires found { self.old.stage ≡ Stage.Keeping → most ≡ 0 }
         ensures goes { Goes most self.old self.new }
+        ensures keep { self.new.keep ≡ self.old.keep }
         ensures all { IfOk result (λ _. IsOpen self.new.stage → looked_by self.new ≡ looked_by self.old + most) }
         ensures blames { Blames result self.new }
+        ensures broken { IsTrue G.tells → Breaks (G.told outside.old) self.old self.new result }
+        ensures unsaid { IsErr result → IsOpen self.new.stage }
+        ensures stood { IsTrue G.tells → HasStood (G.told outside.old) self.old self.new }
         ensures through { (told : Option DifferenceValue) → self.old.stage ≡ Stage.Through told → IsOk result }
         ensures keeps { IsTrue G.tells → KeepsTrue (G.told outside.old) self.old self.new result }
         ensures only { IsTrue G.tells → ChangesOnly NoFile (G.told outside.old) (G.told outside.new) }
@@ -248,9 +261,13 @@ impl Check {
         requires check { IsCheck self.old }
         requires next { HasNext most self.old place }
         ensures goes { Goes most self.old self.new }
+        ensures keep { self.new.keep ≡ self.old.keep }
         ensures some { IfOk result (λ count. (1 ≤ count) × (count ≤ most) × (looked_by self.new ≡ looked_by self.old + count)) }
         ensures stage { self.new.stage ≢ Stage.Keeping }
         ensures blames { Blames result self.new }
+        ensures broken { IsTrue G.tells → Breaks (G.told outside.old) self.old self.new result }
+        ensures unsaid { IsErr result → IsOpen self.new.stage }
+        ensures stood { IsTrue G.tells → HasStood (G.told outside.old) self.old self.new }
         ensures keeps { IsTrue G.tells → KeepsTrue (G.told outside.old) self.old self.new result }
         ensures only { IsTrue G.tells → ChangesOnly NoFile (G.told outside.old) (G.told outside.new) }
         ensures counts { Counts counted_check result (G.counts_of outside.old) (G.counts_of outside.new) }
@@ -272,7 +289,11 @@ impl Check {
         requires check { IsCheck self.old }
         ensures goes { Goes 0 self.old self.new }
         ensures same { IsOpen self.new.stage → self.new ≡ self.old }
+        ensures keep { (self.new.keep ≡ self.old.keep) × (self.new.compared ≡ self.old.compared) }
         ensures blames { Blames result self.new }
+        ensures broken { IsTrue G.tells → Breaks (G.told outside.old) self.old self.new result }
+        ensures unsaid { IsErr result → IsOpen self.new.stage }
+        ensures stood { IsTrue G.tells → HasStood (G.told outside.old) self.old self.new }
         ensures through { (told : Option DifferenceValue) → self.old.stage ≡ Stage.Through told → IsOk result }
         ensures all { IfOk result (λ _. (place : ℕ) → self.new.stage ≡ Stage.Comparing place → self.new.compared < length self.new.keep.kept) }
         ensures keeps { IsTrue G.tells → KeepsTrue (G.told outside.old) self.old self.new result }

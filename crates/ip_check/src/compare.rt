@@ -1,11 +1,11 @@
 // A file beside the bytes that it is to have.
-ghost use Rattle.std.specs.Prelude.{◌≡◌, ◌+◌, ◌<◌, ◌≤◌, length, slice_index_or, IsTrue, IfOk};
+ghost use Rattle.std.specs.Prelude.{◌≡◌, ◌+◌, ◌<◌, ◌≤◌, length, slice_index_or, IsTrue, IfOk, IfSome};
 ghost use Rattle.ip_base.specs.declared.limit.TheConstants.{OFFSET_MAX};
 ghost use Rattle.ip_ground.specs.Counts.{CountsAs, FileFault};
 ghost use Rattle.ip_ground.specs.Told.{NoFile, ChangesOnly, IsForeign};
 ghost use Rattle.ip_spec.specs.declared.reply.Seen.TheVariants as Seen;
 ghost use Rattle.ip_spec.specs.Path.{Bytes};
-ghost use Rattle.ip_check.specs.Alike.{IsFirstOther, IsPiece, IsSoFar, SaysAlike, SaysEnd, ends};
+ghost use Rattle.ip_check.specs.Alike.{IsByteOf, IsEndOf, IsFirstOther, IsPiece, IsSoFar, SaysAlike, SaysEnd, ends};
 
 use ip_ground::{FileName, Ground, GroundFault};
 use ip_spec::reply::{Difference, Produced, Seen};
@@ -22,6 +22,7 @@ pub fn compare<G: Ground>(
 ) -> Result<Option<Difference>, GroundFault>
     requires room { length want.now ≤ length room.old }
     requires fits { place + length want.now ≤ OFFSET_MAX }
+    ensures differs { IfOk result (λ found. IfSome found (IsByteOf produced place (length want.now))) }
     ensures says { IsTrue G.tells → ¬ IsForeign (G.told outside.old) file → (whole : Bytes) → IsPiece whole place want.now → IsSoFar whole ((G.told outside.old).held file) place →
         SaysAlike produced whole ((G.told outside.old).held file) (place + length want.now) result }
     ensures room { length room.new ≡ length room.old }
@@ -48,6 +49,7 @@ pub fn compare_end<G: Ground>(
     produced: Produced,
     place: u64,
 ) -> Result<Option<Difference>, GroundFault>
+    ensures differs { IfOk result (λ found. IfSome found (IsEndOf produced)) }
     ensures says { IsTrue G.tells → ¬ IsForeign (G.told outside.old) file → (whole : Bytes) → length whole ≡ place → IsSoFar whole ((G.told outside.old).held file) place →
         SaysEnd produced whole ((G.told outside.old).held file) result }
     ensures only { IsTrue G.tells → ChangesOnly NoFile (G.told outside.old) (G.told outside.new) }
@@ -98,6 +100,7 @@ fn compare_part<G: Ground>(
     requires some { 0 < length want.now }
     requires room { length want.now ≡ length room.old }
     requires fits { place + length want.now ≤ OFFSET_MAX }
+    ensures differs { IfOk result (λ found. IfSome found (IsByteOf produced place (length want.now))) }
     ensures says { IsTrue G.tells → ¬ IsForeign (G.told outside.old) file → (whole : Bytes) → IsPiece whole place want.now → IsSoFar whole ((G.told outside.old).held file) place →
         SaysAlike produced whole ((G.told outside.old).held file) (place + length want.now) result }
     ensures only { IsTrue G.tells → ChangesOnly NoFile (G.told outside.old) (G.told outside.new) }

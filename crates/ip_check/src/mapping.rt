@@ -1,5 +1,5 @@
 // The mapping's file beside the runs that it is to have.
-ghost use Rattle.std.specs.Prelude.{◌≡◌, ◌+◌, ◌*◌, ◌≤◌, ◌++◌, [], length, IsTrue, IfOk, OnOk};
+ghost use Rattle.std.specs.Prelude.{◌≡◌, ◌+◌, ◌*◌, ◌≤◌, ◌++◌, [], length, IsTrue, IfOk, IfSome, OnOk};
 ghost use Rattle.ip_base.specs.declared.limit.TheConstants.{OFFSET_MAX};
 ghost use Rattle.ip_ground.specs.declared.names.FileName.TheVariants.{Mapping};
 ghost use Rattle.ip_ground.specs.Counts.{Counts};
@@ -51,6 +51,7 @@ pub fn compare_mapping<G: Ground>(
     ensures says { IsTrue G.tells → ¬ IsForeign (G.told outside.old) (Mapping job.now.attempt) →
         SaysEnd Produced.Mapping (mapping_bytes job.now.horizon job.now.end (joined (left_of runs.entry))) ((G.told outside.old).held (Mapping job.now.attempt)) result }
     ensures undamaged { IsUndamaged result }
+    ensures differs { IfOk result (λ found. IfSome found (λ d. d.file ≡ Produced.Mapping)) }
     ensures only { IsTrue G.tells → ChangesOnly NoFile (G.told outside.old) (G.told outside.new) }
     ensures counts { Counts counted_check result (G.counts_of outside.old) (G.counts_of outside.new) }
 {
@@ -119,6 +120,7 @@ impl Pieces {
         ensures says { IsTrue G.tells → ¬ IsForeign (G.told outside.old) self.old.file → (whole : Bytes) →
             AreMade whole ((G.told outside.old).held self.old.file) self.old (rows_from 0 (joined (left_of runs.entry))) → Compares whole ((G.told outside.old).held self.old.file) self.new [] result }
         ensures undamaged { IsUndamaged result }
+        ensures differs { IfOk result (λ found. IfSome found (λ d. d.file ≡ Produced.Mapping)) }
         ensures only { IsTrue G.tells → ChangesOnly NoFile (G.told outside.old) (G.told outside.new) }
         ensures counts { Counts counted_check result (G.counts_of outside.old) (G.counts_of outside.new) }
     {
@@ -152,6 +154,7 @@ impl Pieces {
         ensures says { IsTrue G.tells → ¬ IsForeign (G.told outside.old) self.old.file → (whole rest : Bytes) →
             AreMade whole ((G.told outside.old).held self.old.file) self.old (row_bytes row.now ++ rest) → Compares whole ((G.told outside.old).held self.old.file) self.new rest result }
         ensures undamaged { IsUndamaged result }
+        ensures differs { IfOk result (λ found. IfSome found (λ d. d.file ≡ Produced.Mapping)) }
         ensures only { IsTrue G.tells → ChangesOnly NoFile (G.told outside.old) (G.told outside.new) }
         ensures counts { Counts counted_check result (G.counts_of outside.old) (G.counts_of outside.new) }
     {
@@ -177,6 +180,7 @@ impl Pieces {
         ensures says { IsTrue G.tells → ¬ IsForeign (G.told outside.old) self.old.file → (whole rest : Bytes) →
             AreMade whole ((G.told outside.old).held self.old.file) self.old rest → Compares whole ((G.told outside.old).held self.old.file) self.new rest result }
         ensures undamaged { IsUndamaged result }
+        ensures differs { IfOk result (λ found. IfSome found (λ d. d.file ≡ Produced.Mapping)) }
         ensures only { IsTrue G.tells → ChangesOnly NoFile (G.told outside.old) (G.told outside.new) }
         ensures counts { Counts counted_check result (G.counts_of outside.old) (G.counts_of outside.new) }
     {
@@ -200,6 +204,7 @@ impl Pieces {
         ensures says { IsTrue G.tells → ¬ IsForeign (G.told outside.old) self.old.file → (whole : Bytes) →
             AreMade whole ((G.told outside.old).held self.old.file) self.old [] → SaysEnd Produced.Mapping whole ((G.told outside.old).held self.old.file) result }
         ensures undamaged { IsUndamaged result }
+        ensures differs { IfOk result (λ found. IfSome found (λ d. d.file ≡ Produced.Mapping)) }
         ensures only { IsTrue G.tells → ChangesOnly NoFile (G.told outside.old) (G.told outside.new) }
         ensures counts { Counts counted_check result (G.counts_of outside.old) (G.counts_of outside.new) }
     {

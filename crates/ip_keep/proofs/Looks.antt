@@ -15,8 +15,9 @@ use Rattle.ip_keep.specs.declared.fault.KeepFault.{KeepFault}
 use Rattle.ip_keep.specs.Entering.{are_below, refs_of, Gains, GainsSome}
 use Rattle.ip_keep.specs.Going.{Goes, Blameless, Blames, Breaks, IsAlong}
 use Rattle.ip_keep.specs.KeepView.{KeepView}
-use Rattle.ip_keep.specs.Keeping.{IsKeep, lowest}
-use Rattle.ip_keep.proofs.Looked.{waits, with_kept}
+use Rattle.ip_keep.specs.Keeping.{IsGreatest, IsKeep, lowest}
+use Rattle.ip_keep.proofs.Looked.{waits, waits_below, with_kept}
+use Rattle.ip_keep.proofs.RunsApart.{apart_total}
 use Rattle.ip_keep.proofs.Goings.{goes_read, goes_up, goes_behind, goes_down, goes_kept, still_last, blameless_up, blameless_down}
 
 pub record UpReady (tells : Bool) (a : Told) (scan : ScanView) (k : KeepView) : Type 0 where
@@ -58,7 +59,7 @@ module _ (tells : Bool) (a : Told) (scan : ScanView) (k o : KeepView) (is : k �
   -- the record ahead is the one that is blamed
   module _ {A : Type 0} (result : Result A KeepFault) (here : (at : ℕ) → IsErrOf result (KeepFault.Damaged at) → at ≡ scan.next) where
     pub up_blames : Blames result o
-    up_blames at bad = inl (here at bad ∙ at_o.along.next)
+    up_blames at bad = inl (at_o.more, here at bad ∙ at_o.along.next)
 
     pub up_breaks : (n : KeepView) → (IsTrue tells → IsReadable a k.space → IsCurrent a k.space scan → (at : ℕ) → IsErrOf result (KeepFault.Damaged at) →
         (r : Record) → records_of a k.space scan.next ≡ Some r → are_below scan.next (refs_of r) ≡ false) → Breaks tells a o n result
@@ -109,7 +110,7 @@ module _ (tells : Bool) (a : Told) (at : ℕ) (k o : KeepView) (is : k ≡ o) (a
 
   module _ {A : Type 0} (result : Result A KeepFault) (here : (place : ℕ) → IsErrOf result (KeepFault.Damaged place) → place ≡ at) where
     pub down_blames : Blames result (record k { space = space })
-    down_blames place bad = inr (subst (Contains k.waiting) (sym (here place bad)) set.there)
+    down_blames place bad = inr (set.up ∙ ap (λ (s : SpaceView). s.layout.end) (sym same), subst (IsGreatest k.waiting) (sym (here place bad)) (set.there, set.most))
 
     pub down_breaks : (below : ℕ) → below ≡ lowest o
         → (IsTrue tells → IsReadable a k.space → (place : ℕ) → IsErrOf result (KeepFault.Damaged place) → (r : Record) → records_of a k.space at ≡ Some r → are_below at (refs_of r) ≡ true → below < at + length (spelling r))
@@ -118,4 +119,6 @@ module _ (tells : Bool) (a : Told) (at : ℕ) (k o : KeepView) (is : k ≡ o) (a
         let e = here place bad in
         let low_k : below ≡ lowest k = low ∙ ap lowest (sym is) in
         let l = long t readable place bad r (ap (records_of a k.space) (sym e) ∙ there) (ap (λ (m : ℕ). are_below m (refs_of r)) (sym e) ∙ under) in
-        omega (arith, l, low_k, e))
+        let waits = waits_below k set.keep at set.there in
+        let low_end = apart_total k.horizon k.kept set.keep.apart in
+        (omega (arith, e, waits, low_end), omega (arith, l, low_k, e)))

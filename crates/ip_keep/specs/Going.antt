@@ -1,7 +1,7 @@
 -- How the search goes on.
 --     Goes tells before after old new      it does: whatever it had found of records is still true, with what it found since
 --     Blameless tells before old result      where the records are whole no damage is met
---     Blames result k      damage is told of what comes next, or waits.      Breaks tells before old new result      and what stands there is none that a whole store has
+--     Blames result k      damage is told of what is looked at next.      Breaks tells before old new result      and what stands there is none that a whole store has
 --     IsAlong k scan      a walk is where the search is, and goes to the end
 --     LooksOne old new result      one record more was looked at.      LooksOn most old new result      so many, or fewer where none is left from the horizon on
 use Rattle.std.specs.Prelude.{◌≡◌, ℕ, ◌+◌, ◌<◌, ◌≤◌, Bool, IsTrue, Result, Ok, Err, IsErrOf}

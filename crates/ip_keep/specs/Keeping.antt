@@ -2,7 +2,8 @@
 --     IsKeep k      what holds of it over any files.      IsThrough k      nothing is left to be looked at.      lowest k      above it nothing is looked at any more
 --     looked_in k      how many records were looked at
 --     IsKeeping records k      what it has found of these records
---     IsBlamedKeep k at      a record that is looked at next, or that waits.      IsBroken records k at      none stands there, or none that a whole store has
+--     IsGreatest waiting at      it is one of them, and none is greater.      IsBlamedKeep k at      the record that is looked at next
+--     IsBroken records k at      none stands there, or none that a whole store has
 --     SameWork old new      it goes on in the same space, at the same horizon.      LooksUpTo most old new result      how many records were looked at
 --     KeepsAll      law: then what was kept is the least set.      FewLooks      law: how many looks there are at most
 use Rattle.std.specs.Prelude.{◌≡◌, ◌⊎◌, ℕ, ◌+◌, ◌<◌, ◌≤◌, ◌&&◌, List, [], length, map, count_by, Bool, true, Contains, Option, Some, Result, Ok, Err, nat_le, nat_lt}
@@ -66,13 +67,16 @@ pub record IsKeeping (records : Records) (k : KeepView) : Type 0 where
   pub closed : (r : CoreRecord) (at : ℕ) → Contains (core_records records) r → Contains (offsets k.kept) r.at → Contains r.refs at → IsFound k at
   pub lengths : (run : Run) → Contains k.kept run → (r : Record) × (present records run.at ≡ Some r) × (run.length ≡ length (spelling r))
 
--- what damage is told of: the next record from the horizon on, or one that waits
-abbrev pub IsBlamedKeep : KeepView → ℕ → Type 0
-IsBlamedKeep k at = (at ≡ k.next) ⊎ Contains k.waiting at
+abbrev pub IsGreatest : List ℕ → ℕ → Type 0
+IsGreatest waiting at = Contains waiting at × ((other : ℕ) → Contains waiting other → other ≤ at)
 
--- no record stands there, or it refers to what does not lie below it, or goes over the next that is kept
+-- what damage is told of: the next record from the horizon on, or once none is left there, the greatest that waits
+abbrev pub IsBlamedKeep : KeepView → ℕ → Type 0
+IsBlamedKeep k at = ((k.next < k.space.layout.end) × (at ≡ k.next)) ⊎ ((k.next ≡ k.space.layout.end) × IsGreatest k.waiting at)
+
+-- no record stands there, or it refers to what does not lie below it, or it is one below the horizon that goes over the next that is kept
 abbrev pub IsBroken : (ℕ → Option Record) → KeepView → ℕ → Type 0
-IsBroken records k at = (rec : Record) → records at ≡ Some rec → are_below at (refs_of rec) ≡ true → lowest k < at + length (spelling rec)
+IsBroken records k at = (rec : Record) → records at ≡ Some rec → are_below at (refs_of rec) ≡ true → (at < k.horizon) × (lowest k < at + length (spelling rec))
 
 pub record SameWork (old new : KeepView) : Type 0 where
   pub space : new.space ≡ old.space

@@ -1,5 +1,5 @@
 // Records that are read.
-ghost use Rattle.std.specs.Prelude.{◌≡◌, ◌+◌, ◌≤◌, ◌<◌, Some, IsTrue, IfOk, IsErrOf, length, true, false, nat_lt, ℕ};
+ghost use Rattle.std.specs.Prelude.{◌≡◌, ◌+◌, ◌≤◌, ◌<◌, Some, Err, IsTrue, IsOk, IfOk, IsErrOf, length, true, false, nat_lt, ℕ};
 ghost use Rattle.std.specs.List.{list_all};
 ghost use Rattle.ip_base.specs.declared.limit.TheConstants.{OFFSET_MAX};
 ghost use Rattle.ip_ground.specs.Counts.{Counts};
@@ -54,6 +54,20 @@ fn children_below(children: &[InodeChild], at: u64) -> bool
     children.iter().all(|child| child.at < at)
 }
 
+// Refuses what was read at an offset where it is not whole: that is damage, and is noted. It takes no memory.
+fn refuse_broken<G: Ground>(outside: &mut G, at: u64, whole: bool) -> Result<(), KeepFault>
+    ensures ok { IsTrue whole → IsOk result }
+    ensures damaged { whole ≡ false → result ≡ Err (KeepFault.Damaged at) }
+    ensures only { IsTrue G.tells → ChangesOnly NoFile (G.told outside.old) (G.told outside.new) }
+    ensures counts { Counts counted_keep result (G.counts_of outside.old) (G.counts_of outside.new) }
+{
+    if !whole {
+        outside.note_damage();
+        return Err(KeepFault::Damaged(at));
+    }
+    Ok(())
+}
+
 /// The record that comes next in a walk. What it refers to has to lie below it. Where it does not damage is noted: of what cannot be read
 /// at all the space noted it.
 pub(crate) fn next_record<G: Ground>(
@@ -78,11 +92,11 @@ pub(crate) fn next_record<G: Ground>(
     let at = scan.next();
     match scan.step(outside, space) {
         Ok(Some((_, rec))) => {
-            if !refers_below(&rec, at) {
-                outside.note_damage();
-                return Err(KeepFault::Damaged(at));
+            let whole = refers_below(&rec, at);
+            match refuse_broken(outside, at, whole) {
+                Ok(()) => Ok(rec),
+                Err(fault) => Err(fault),
             }
-            Ok(rec)
         }
         Ok(None) => {
             outside.note_damage();
@@ -115,11 +129,11 @@ pub(crate) fn record_below<G: Ground>(
 {
     match space.record_at(outside, at) {
         Ok((rec, length)) => {
-            if at + length > below || !refers_below(&rec, at) {
-                outside.note_damage();
-                return Err(KeepFault::Damaged(at));
+            let whole = at + length <= below && refers_below(&rec, at);
+            match refuse_broken(outside, at, whole) {
+                Ok(()) => Ok((rec, length)),
+                Err(fault) => Err(fault),
             }
-            Ok((rec, length))
         }
         Err(fault) => Err(unread(at, fault)),
     }

@@ -1,6 +1,6 @@
 -- What bringing a record comes to.
 --     Brings tells told space r kept result      what is said of it, where this is kept at the reference then
---     brings_by, no_ground      of a record that stands there.      misses      where none was read
+--     brings_by, no_ground, no_memory      of a record that stands there.      misses      where none was read
 --     again_reads, again_brings, again_known, again_no_ground      of one that was kept.      none_known      where none was.      new_reads, new_brings      of one that was read
 --     copied_known, spared_so      of a copy
 use Rattle.std.proofs.Common.{◌≡◌, ℕ, Bool, List, Option, Some, None, Result, Ok, Err, IsTrue, IfOk, IsSome, IsErrOf, MatchResult, inl, inr, refl, sym, ◌∙◌, ap, subst}
@@ -85,6 +85,13 @@ no_ground rec r kept (Err Ground) refers is = refers
 no_ground rec r kept (Err (Form at fault)) refers is = absurd (cc is)
 no_ground rec r kept (Err (Name at want got)) refers is = absurd (cc is)
 no_ground rec r kept (Err Memory) refers is = refers
+
+pub no_memory : (rec : Record) (r : Ref) (kept : Option Record) (result : Found) → Refers rec r (brought kept result) → IsErrOf result Memory → ⊥
+no_memory rec r kept (Ok found) refers is = absurd (cc is)
+no_memory rec r kept (Err Ground) refers is = refers
+no_memory rec r kept (Err (Form at fault)) refers is = absurd (cc is)
+no_memory rec r kept (Err (Name at want got)) refers is = absurd (cc is)
+no_memory rec r kept (Err Memory) refers is = refers
 
 -- ---- of one that was kept
 

@@ -5,6 +5,7 @@ ghost use Rattle.ip_ground.specs.Counts.{Counts, CountsAs, FileFault};
 ghost use Rattle.ip_ground.specs.Told.{NoFile, ChangesOnly};
 ghost use Rattle.ip_spec.specs.Record.{Fits, spelling};
 ghost use Rattle.ip_spec.specs.Reading.{reading};
+ghost use Rattle.ip_object.specs.Body.{IsBehindHead};
 ghost use Rattle.ip_image.specs.Slot.{newest_version};
 ghost use Rattle.ip_space.specs.SpaceView.{IsReadable, byte_at, read_at};
 ghost use Rattle.ip_space.specs.Viewed.{view_of, IsSource};
@@ -122,9 +123,7 @@ impl Ahead {
         ensures counts { Counts counted_fetch result (G.counts_of outside.old) (G.counts_of outside.new) }
     {
         self.fill(source, outside, at, stretch, to)?;
-        let found = front_record(alloc, at, self.held());
-        note(outside, &found);
-        found
+        noted_front(alloc, outside, at, self.held())
     }
 
     // Reads until the bytes tell the record that they begin with.
@@ -314,10 +313,32 @@ fn front_record(alloc: Global, at: u64, bytes: &[u8]) -> Result<(Record, u64), F
     ensures found { IfOk result (λ found. Fits newest_version found.0 × (found.1 ≡ length (spelling found.0)) × (found.1 ≤ length bytes.now)) }
     ensures spelled { IfOk result (λ found. BeginsWith (spelling found.0) bytes.now) }
     ensures ground { IsErrOf result FetchFault.Ground → ⊥ }
+    ensures head { IsErrOf result FetchFault.Memory → IsBehindHead (reading newest_version bytes.now) }
 {
     match read_record(alloc, VERSION, bytes) {
         Ok(found) => Ok(found),
         Err(RecordFault::Memory) => Err(FetchFault::Memory),
         Err(fault) => Err(FetchFault::Form { at, fault }),
     }
+}
+
+// So, and where they begin with none damage is noted. Want of memory hides no fault of the head.
+fn noted_front<G: Ground>(
+    alloc: Global,
+    outside: &mut G,
+    at: u64,
+    bytes: &[u8],
+) -> Result<(Record, u64), FetchFault>
+    ensures reads { ReadsOne (reading newest_version bytes.now) result }
+    ensures blames { BlamesPlace at result }
+    ensures found { IfOk result (λ found. Fits newest_version found.0 × (found.1 ≡ length (spelling found.0)) × (found.1 ≤ length bytes.now)) }
+    ensures spelled { IfOk result (λ found. BeginsWith (spelling found.0) bytes.now) }
+    ensures ground { IsErrOf result FetchFault.Ground → ⊥ }
+    ensures head { IsErrOf result FetchFault.Memory → IsBehindHead (reading newest_version bytes.now) }
+    ensures only { IsTrue G.tells → ChangesOnly NoFile (G.told outside.old) (G.told outside.new) }
+    ensures counts { Counts counted_fetch result (G.counts_of outside.old) (G.counts_of outside.new) }
+{
+    let found = front_record(alloc, at, bytes);
+    note(outside, &found);
+    found
 }

@@ -248,9 +248,7 @@ impl Space {
             Ok(found) => found,
             Err(fault) => return Err(fault),
         };
-        let found = self.take(&reference, rec, length);
-        note(outside, &found);
-        found
+        self.take_noted(outside, &reference, rec, length)
     }
 
     // What is kept is used again.
@@ -293,6 +291,30 @@ impl Space {
             Ok(()) => Ok(self.keep(reference, rec, bytes)),
             Err(refused) => Err(refused),
         }
+    }
+
+    // So, and where it is not the reference's damage is noted. Where memory for keeping it is refused it is handed back, so want of memory is no answer.
+    fn take_noted<G: Ground>(
+        &mut self,
+        outside: &mut G,
+        reference: &Ref,
+        rec: Record,
+        bytes: u64,
+    ) -> Result<Option<Record>, FetchFault>
+        requires fits { Fits newest_version rec }
+        requires bytes { bytes ≡ length (spelling rec) }
+        ensures layout { self.new.layout ≡ self.old.layout }
+        ensures runs { self.new.runs ≡ self.old.runs }
+        ensures gains { GainsAtMost reference.now.at rec self.old.kept self.new.kept }
+        ensures refers { Refers rec reference.now (brought (kept_at reference.now.at self.new.kept) result) }
+        ensures bounded { IsBounded self.old.kept → IsBounded self.new.kept }
+        ensures memory { IsErrOf result FetchFault.Memory → ⊥ }
+        ensures only { IsTrue G.tells → ChangesOnly NoFile (G.told outside.old) (G.told outside.new) }
+        ensures counts { Counts counted_fetch result (G.counts_of outside.old) (G.counts_of outside.new) }
+    {
+        let found = self.take(reference, rec, bytes);
+        note(outside, &found);
+        found
     }
 
     /// The record that is kept for an offset.

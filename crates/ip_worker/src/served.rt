@@ -15,6 +15,7 @@ use ip_ground::Ground;
 pub fn refuse_served<G: Ground>(attempt: u64, outside: &mut G) -> Result<(), WorkFault>
     ensures served { IsTrue G.tells → IsServed (G.told outside.old).held attempt → IsOk result → ⊥ }
     ensures damaged { IsTrue G.tells → IsErrOf result WorkFault.Damaged → IsServed (G.told outside.old).held attempt }
+    ensures memory { IsErrOf result WorkFault.Memory → ⊥ }
     ensures only { IsTrue G.tells → ChangesOnly NoFile (G.told outside.old) (G.told outside.new) }
     ensures counts { Counts counted_work result (G.counts_of outside.old) (G.counts_of outside.new) }
 {
@@ -31,6 +32,7 @@ fn refuse_live<G: Ground>(attempt: u64, live: u64, outside: &mut G) -> Result<()
     ensures served { IsOk result → live ≡ attempt → ⊥ }
     ensures damaged { IsErrOf result WorkFault.Damaged → live ≡ attempt }
     ensures whole { IsErrOf result WorkFault.Ground → ⊥ }
+    ensures memory { IsErrOf result WorkFault.Memory → ⊥ }
     ensures only { IsTrue G.tells → ChangesOnly NoFile (G.told outside.old) (G.told outside.new) }
     ensures counts { Counts counted_work result (G.counts_of outside.old) (G.counts_of outside.new) }
 {

@@ -17,10 +17,18 @@ returns-in-Err-clause-counts g c = counted_as c.next-at.result c.in-Err.fault c.
 pub returns-in-Err-clause-blames : goal.returns-in-Err-clause-blames
 returns-in-Err-clause-blames g c at is = unread_blames c.next-at.result c.in-Err.fault at (sym (ap Err c.unread.ensures) ∙ is) ∙ c.next-at.ensures
 
-pub returns-then-not-refers_below-clause-only : goal.returns-then-not-refers_below-clause-only
-returns-then-not-refers_below-clause-only g c told = only_on _ _ _ NoFile (c.step.ensures.reads told).only (c.note_damage.ensures.does told)
+pub returns-in-Ok-clause-only : goal.returns-in-Ok-clause-only
+returns-in-Ok-clause-only g c told = only_on _ _ _ NoFile (c.step.ensures.reads told).only (c.refuse_broken.ensures.only told)
 
-pub returns-then-not-refers_below-clause-current : goal.returns-then-not-refers_below-clause-current
-returns-then-not-refers_below-clause-current g c told readable current =
+pub returns-in-Err-refuse_broken-clause-only : goal.returns-in-Err-refuse_broken-clause-only
+returns-in-Err-refuse_broken-clause-only g c told = only_on _ _ _ NoFile (c.step.ensures.reads told).only (c.refuse_broken.ensures.only told)
+
+pub returns-in-Ok-clause-current : goal.returns-in-Ok-clause-current
+returns-in-Ok-clause-current g c told readable current =
     let only = (c.step.ensures.reads told).only in
-    current_later _ _ c.args.space.now c.step.new.self (c.note_damage.ensures.does told) (readable_stays _ _ only c.args.space.now readable) (c.step.ensures.current told readable current)
+    current_later _ _ c.args.space.now c.step.new.self (c.refuse_broken.ensures.only told) (readable_stays _ _ only c.args.space.now readable) (c.step.ensures.current told readable current)
+
+pub returns-in-Err-refuse_broken-clause-current : goal.returns-in-Err-refuse_broken-clause-current
+returns-in-Err-refuse_broken-clause-current g c told readable current =
+    let only = (c.step.ensures.reads told).only in
+    current_later _ _ c.args.space.now c.step.new.self (c.refuse_broken.ensures.only told) (readable_stays _ _ only c.args.space.now readable) (c.step.ensures.current told readable current)

@@ -2,7 +2,8 @@ use Rattle.std.proofs.Common.{◌∙◌, ℕ, Err}
 use Rattle.ip_ground.specs.Told.{NoFile}
 use Rattle.ip_ground.proofs.Spans.{only_on}
 use Rattle.ip_check.specs.declared.check.Outcome.{Outcome}
-use Rattle.ip_check.proofs.Stages.{blamed_as, keeps_on, says_of, undamaged_as}
+use Rattle.ip_check.proofs.Stages.{advances_of, blamed_as, keeps_on, says_of, undamaged_as}
+use Rattle.ip_check.proofs.Stood.{breaks_as, breaks_on, stood_behind}
 use Rattle.ip_check.proofs.check.Check.advance.Goals as goal
 
 pub returns-in-Ok-compare_prefix-clause-checking : goal.returns-in-Ok-compare_prefix-clause-checking
@@ -42,3 +43,27 @@ returns-in-Err-compare_prefix-clause-blames g c at is = c.in-Err-compare_prefix.
 
 pub returns-in-Err-compare_prefix-clause-through : goal.returns-in-Err-compare_prefix-clause-through
 returns-in-Err-compare_prefix-clause-through g c told is = let t = c.find.ensures.through told is in c.in-Err-compare_prefix.ensures.through told t.1
+
+pub returns-in-Err-clause-broken : goal.returns-in-Err-clause-broken
+returns-in-Err-clause-broken g c told = breaks_as {A = Outcome} {B = ℕ} (g.G.Ground.told c.args.outside.now) c.args.self.now c.find.new.self c.in-Err.fault (c.in-Err.ensures.broken told)
+
+pub returns-in-Err-clause-stood : goal.returns-in-Err-clause-stood
+returns-in-Err-clause-stood g c told = c.find.ensures.stood told
+
+pub returns-in-Err-compare_prefix-clause-broken : goal.returns-in-Err-compare_prefix-clause-broken
+returns-in-Err-compare_prefix-clause-broken g c told =
+    breaks_as {A = Outcome} {B = Unit {0}} (g.G.Ground.told c.args.outside.now) c.args.self.now c.compare_prefix.new.self c.in-Err-compare_prefix.fault
+    (breaks_on _ _ c.args.self.now c.find.new.self c.compare_prefix.new.self _ (c.find.ensures.only told) c.find.ensures.goes.same c.compare_prefix.ensures.goes.same (c.in-Err-compare_prefix.ensures.broken told))
+
+pub returns-in-Err-compare_prefix-clause-stood : goal.returns-in-Err-compare_prefix-clause-stood
+returns-in-Err-compare_prefix-clause-stood g c told = stood_behind _ _ c.args.self.now c.find.new.self c.compare_prefix.new.self (c.find.ensures.only told) c.find.ensures.goes.same c.find.ensures.uncompared (c.compare_prefix.ensures.stood told)
+
+pub returns-in-Ok-compare_prefix-clause-stood : goal.returns-in-Ok-compare_prefix-clause-stood
+returns-in-Ok-compare_prefix-clause-stood g c told = stood_behind _ _ c.args.self.now c.find.new.self c.compare_prefix.new.self (c.find.ensures.only told) c.find.ensures.goes.same c.find.ensures.uncompared (c.compare_prefix.ensures.stood told)
+
+pub returns-in-Ok-compare_prefix-clause-advances : goal.returns-in-Ok-compare_prefix-clause-advances
+returns-in-Ok-compare_prefix-clause-advances g c =
+    let goes = c.in-Ok-compare_prefix.ensures.goes in
+    let left = c.in-Ok.ensures.left in
+    advances_of c.args.most c.in-Ok.left c.args.self.now c.find.new.self c.compare_prefix.new.self c.outcome.result c.find.ensures.goes.low left.0 goes.low goes.high c.in-Ok-compare_prefix.ensures.all
+    c.outcome.ensures.more c.outcome.ensures.valid c.outcome.ensures.differs

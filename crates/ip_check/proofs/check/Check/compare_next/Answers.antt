@@ -1,19 +1,19 @@
-use Rattle.std.proofs.Common.{◌≡◌, inr, ℕ, ◌+◌, ◌≤◌, List, sym, ap, subst, ◌∙◌, drop, arith, Option, Ok}
+use Rattle.std.proofs.Common.{◌≡◌, ℕ, ◌+◌, ◌≤◌, List, refl, sym, ap, subst, ◌∙◌, drop, arith, Option, Ok}
 use Rattle.ip_base.specs.declared.limit.TheConstants.{OFFSET_MAX}
 use Rattle.ip_spec.specs.declared.reply.Difference.{Difference}
 use Rattle.ip_image.specs.declared.run.Run.{Run}
 use Rattle.ip_image.specs.Virtual.{Stands}
 use Rattle.ip_space.specs.SpaceView.{SpaceView, IsReadable, byte_at}
-use Rattle.std.specs.Prelude.{Contains}
-use Rattle.ip_keep.specs.Keeping.{offsets}
+use Rattle.ip_keep.specs.Runs.{IsHeld}
 use Rattle.ip_keep.proofs.RunsApart.{ends_fit}
 use Rattle.ip_check.specs.declared.check.Stage.{Stage}
 use Rattle.ip_check.specs.CheckView.{CheckView}
-use Rattle.ip_check.specs.Checking.{IsCheck, IsChecking}
-use Rattle.ip_check.specs.Going.{Goes, IsOver, KeepsTrue, found_of}
+use Rattle.ip_check.specs.Checking.{IsBlamed, IsBrokenIn, IsCheck, IsChecking}
+use Rattle.ip_check.specs.Going.{Goes, HasStood, IsOver, KeepsTrue, found_of}
 use Rattle.ip_check.specs.Stretching.{IsStretch}
-use Rattle.ip_check.proofs.Linked.{stretch_ends, stretch_kept}
+use Rattle.ip_check.proofs.Linked.{stretch_ends}
 use Rattle.ip_check.proofs.Stages.{behind_stretch, blamed_as, goes_stretch, is_next, keeps_stretch, place_fits, undamaged_as, undone}
+use Rattle.ip_check.proofs.Stood.{blames_stretch, breaks_stretch, held_stretch, open_comparing, stood_none}
 use Rattle.ip_check.proofs.check.Check.compare_next.Goals as goal
 
 pub stretch_from-stretch-requires-clause-fit : goal.stretch_from-stretch-requires-clause-fit
@@ -84,7 +84,7 @@ returns-clause-goes g c =
     let stage : v.stage ≡ Stage.Comparing c.args.place = ap (λ (w : CheckView). w.stage) c.self.view_is ∙ c.requires.next.stage in
     let st : IsStretch (drop v.compared v.keep.kept) c.args.most s = subst (λ (l : List Run). IsStretch (drop v.compared l) c.args.most s) c.kept.ensures.kept c.stretch_from-stretch.ensures in
     subst (λ (t : Stage). Goes c.args.most c.args.self.now (record { job = v.job; keep = v.keep; stage = t; compared = v.compared + s.records })) (sym c.next_stage-self-inside.ensures)
-    (subst (λ (w : CheckView). Goes c.args.most w (behind_stretch v c.in-Ok.found c.args.place s)) c.self.view_is (goes_stretch v c.in-Ok.found c.args.place c.args.most s check stage st))
+    (subst (λ (w : CheckView). Goes c.args.most w (behind_stretch v c.in-Ok.found c.args.place s)) c.self.view_is (goes_stretch v c.in-Ok.found c.args.place c.args.most s check stage st c.in-Ok.ensures.differs))
 
 pub returns-clause-keeps : goal.returns-clause-keeps
 returns-clause-keeps g c told =
@@ -105,6 +105,38 @@ pub returns-in-Err-clause-blames : goal.returns-in-Err-clause-blames
 returns-in-Err-clause-blames g c at is =
     let v : CheckView = record { job = c.self.inside.job; keep = c.self.inside.keep; stage = c.self.inside.stage; compared = c.self.inside.compared } in
     let s = c.stretch_from-stretch.result in
+    let stage : v.stage ≡ Stage.Comparing c.args.place = ap (λ (w : CheckView). w.stage) c.self.view_is ∙ c.requires.next.stage in
     let st : IsStretch (drop v.compared v.keep.kept) c.args.most s = subst (λ (l : List Run). IsStretch (drop v.compared l) c.args.most s) c.kept.ensures.kept c.stretch_from-stretch.ensures in
     let here : at ≡ s.at = c.in-Err.ensures.blames at (blamed_as {A = ℕ} {B = Option Difference} c.in-Err.fault at is) in
-    inr (subst (λ (w : CheckView). Contains (offsets w.keep.kept) at) c.self.view_is (subst (Contains (offsets v.keep.kept)) (sym here) (stretch_kept v.keep.kept v.compared c.args.most s st)))
+    subst (λ (w : CheckView). IsBlamed w at) c.self.view_is (blames_stretch v c.args.place c.args.most at s stage st here)
+
+pub returns-in-Err-clause-broken : goal.returns-in-Err-clause-broken
+returns-in-Err-clause-broken g c told readable at is =
+    let now = g.G.Ground.told c.args.outside.now in
+    let v : CheckView = record { job = c.self.inside.job; keep = c.self.inside.keep; stage = c.self.inside.stage; compared = c.self.inside.compared } in
+    let s = c.stretch_from-stretch.result in
+    let stage : v.stage ≡ Stage.Comparing c.args.place = ap (λ (w : CheckView). w.stage) c.self.view_is ∙ c.requires.next.stage in
+    let st : IsStretch (drop v.compared v.keep.kept) c.args.most s = subst (λ (l : List Run). IsStretch (drop v.compared l) c.args.most s) c.kept.ensures.kept c.stretch_from-stretch.ensures in
+    let bad = blamed_as {A = ℕ} {B = Option Difference} c.in-Err.fault at is in
+    let here : at ≡ s.at = c.in-Err.ensures.blames at bad in
+    let space = sym (c.space-space.ensures ∙ ap (λ (w : CheckView). w.keep.space) c.self.view_is) in
+    let (gap, inside, missing) = c.in-Err.ensures.short told (subst (IsReadable now) space readable) at bad in
+    subst (λ (w : CheckView). IsBrokenIn now w at) c.self.view_is
+    (breaks_stretch now v c.args.place c.args.most at s stage st here (gap, inside, ap (λ (x : SpaceView). byte_at now x (s.at + gap)) (sym c.space-space.ensures) ∙ missing))
+
+pub returns-in-Err-clause-stood : goal.returns-in-Err-clause-stood
+returns-in-Err-clause-stood g c told = stood_none (g.G.Ground.told c.args.outside.now) c.args.self.now c.args.self.now refl
+
+pub returns-in-Err-clause-unsaid : goal.returns-in-Err-clause-unsaid
+returns-in-Err-clause-unsaid g c err = open_comparing c.args.self.now.stage c.args.place c.requires.next.stage
+
+pub returns-clause-stood : goal.returns-clause-stood
+returns-clause-stood g c told =
+    let now = g.G.Ground.told c.args.outside.now in
+    let v : CheckView = record { job = c.self.inside.job; keep = c.self.inside.keep; stage = c.self.inside.stage; compared = c.self.inside.compared } in
+    let s = c.stretch_from-stretch.result in
+    let st : IsStretch (drop v.compared v.keep.kept) c.args.most s = subst (λ (l : List Run). IsStretch (drop v.compared l) c.args.most s) c.kept.ensures.kept c.stretch_from-stretch.ensures in
+    subst (λ (t : Stage). HasStood now c.args.self.now (record { job = v.job; keep = v.keep; stage = t; compared = v.compared + s.records })) (sym c.next_stage-self-inside.ensures)
+    (subst (λ (w : CheckView). HasStood now w (behind_stretch v c.in-Ok.found c.args.place s)) c.self.view_is (λ readable.
+    let held = c.in-Ok.ensures.stands told (subst (IsReadable now) (sym c.space-space.ensures) readable) in
+    held_stretch (byte_at now v.keep.space) v.keep.kept v.compared c.args.most s st (subst (λ (x : SpaceView). IsHeld (byte_at now x) s.at s.length) c.space-space.ensures held)))

@@ -1,7 +1,9 @@
-use Rattle.std.proofs.Common.{ℕ, ◌∙◌, Ok, Err, arith}
+use Rattle.std.proofs.Common.{ℕ, ◌∙◌, ap, Ok, Err, arith}
 use Rattle.ip_ground.specs.Told.{NoFile}
 use Rattle.ip_ground.proofs.Spans.{only_on}
 use Rattle.ip_check.proofs.Stages.{all_looked, blamed_as, goes_on, keeps_on, undamaged_as, undone}
+use Rattle.ip_keep.specs.Keeping.{looked_in}
+use Rattle.ip_check.proofs.Stood.{breaks_as, breaks_on, stood_on}
 use Rattle.ip_check.proofs.check.Check.compare_prefix.Goals as goal
 
 pub returns-in-Err-clause-keeps : goal.returns-in-Err-clause-keeps
@@ -29,6 +31,13 @@ loop-place-preserved g c =
       keeps = λ told records over keeping.
           let r = keeps_on _ _ c.args.most _ _ _ (Ok tt) (Ok c.in-Ok.count) (kept.only told) kept.goes (kept.keeps told) (c.in-Ok.ensures.keeps told) records over keeping in
           (r.0, λ at e. undone tt at e);
+      keep = c.compare_next.ensures.keep ∙ kept.keep;
+      stood = λ told.
+          let low = kept.goes.low in
+          let were = ap looked_in kept.keep in
+          let next = c.compare_next.ensures.goes.low in
+          let are = ap looked_in c.compare_next.ensures.keep in
+          stood_on _ _ c.args.self.now c.loop-place.self c.compare_next.new.self (kept.only told) kept.goes.same c.compare_next.ensures.keep (omega (arith, low, were)) (omega (arith, next, are)) (kept.stood told) (c.compare_next.ensures.stood told);
       only = λ told. only_on _ _ _ NoFile (kept.only told) (c.compare_next.ensures.only told);
       counts = c.in-Ok.ensures.counts ∙ kept.counts;
     }
@@ -57,3 +66,33 @@ returns-in-Err-clause-through g c told is =
 
 pub returns-clause-through : goal.returns-clause-through
 returns-clause-through g c told is = c.compare_last.ensures.through told (c.loop-place.invariant.through told is)
+
+pub returns-in-Err-clause-broken : goal.returns-in-Err-clause-broken
+returns-in-Err-clause-broken g c told =
+    let kept = c.loop-place.invariant in
+    breaks_as {A = Unit {0}} {B = ℕ} (g.G.Ground.told c.args.outside.now) c.args.self.now c.compare_next.new.self c.in-Err.fault (breaks_on _ _ c.args.self.now c.loop-place.self c.compare_next.new.self _ (kept.only told) kept.goes.same c.compare_next.ensures.goes.same (c.in-Err.ensures.broken told))
+
+pub returns-in-Err-clause-stood : goal.returns-in-Err-clause-stood
+returns-in-Err-clause-stood g c told =
+    let kept = c.loop-place.invariant in
+    let low = kept.goes.low in
+    let were = ap looked_in kept.keep in
+    let next = c.compare_next.ensures.goes.low in
+    let are = ap looked_in c.compare_next.ensures.keep in
+    stood_on _ _ c.args.self.now c.loop-place.self c.compare_next.new.self (kept.only told) kept.goes.same c.compare_next.ensures.keep (omega (arith, low, were)) (omega (arith, next, are)) (kept.stood told) (c.compare_next.ensures.stood told)
+
+pub returns-clause-broken : goal.returns-clause-broken
+returns-clause-broken g c told =
+    let kept = c.loop-place.invariant in
+    breaks_on _ _ c.args.self.now c.loop-place.self c.compare_last.new.self c.compare_last.result (kept.only told) kept.goes.same c.compare_last.ensures.goes.same (c.compare_last.ensures.broken told)
+
+pub returns-clause-stood : goal.returns-clause-stood
+returns-clause-stood g c told =
+    let kept = c.loop-place.invariant in
+    let low = kept.goes.low in
+    let were = ap looked_in kept.keep in
+    let last = c.compare_last.ensures.keep.1 in
+    stood_on _ _ c.args.self.now c.loop-place.self c.compare_last.new.self (kept.only told) kept.goes.same c.compare_last.ensures.keep.0 (omega (arith, low, were)) (omega (arith, last)) (kept.stood told) (c.compare_last.ensures.stood told)
+
+pub returns-clause-keep : goal.returns-clause-keep
+returns-clause-keep g c = c.compare_last.ensures.keep.0 ∙ c.loop-place.invariant.keep

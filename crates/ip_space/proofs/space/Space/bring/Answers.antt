@@ -4,9 +4,9 @@ use Rattle.ip_space.specs.Faults.{counted_fetch}
 use Rattle.ip_space.specs.SpaceView.{kept_at}
 use Rattle.ip_space.specs.Kept.{IsKnown}
 use Rattle.ip_space.specs.declared.fault.FetchFault.{FetchFault}
-use Rattle.ip_space.proofs.Bringing.{Brings, Known, known_is, again_brings, again_known, again_no_ground, again_reads, none_known, new_brings, new_reads, misses, no_ground}
+use Rattle.ip_space.proofs.Bringing.{Brings, Known, known_is, again_brings, again_known, again_no_ground, again_reads, none_known, new_brings, new_reads, misses}
 use Rattle.ip_space.proofs.space.Space.bring.Goals as goal
-use Rattle.ip_space.proofs.space.Space.bring.Goals.{After-note, After-note-2, In-Err}
+use Rattle.ip_space.proofs.space.Space.bring.Goals.{After-note, After-take_noted, In-Err}
 
 known : (g : _) (c : After-note g) → Known (kept_at c.args.reference.at c.args.self.now.kept) c.args.reference c.in-Some.answer
 known g c = known_is (kept_at c.args.reference.at c.args.self.now.kept) c.args.reference c.in-Some.answer
@@ -15,9 +15,9 @@ known g c = known_is (kept_at c.args.reference.at c.args.self.now.kept) c.args.r
 again : (g : _) (c : After-note g) → Brings g.G.Ground.tells (g.G.Ground.told c.args.outside.now) c.args.self.now c.args.reference (kept_at c.args.reference.at c.again-found.new.self.kept) c.again-found.result
 again g c = again_brings (g.G.Ground.told c.args.outside.now) c.args.self.now c.again-found.new.self c.args.reference c.in-Some.answer c.again-found.result c.again-found.ensures.answers c.again-found.ensures.is (known g c) g.G.Ground.tells
 
-taken : (g : _) (c : After-note-2 g) → Brings g.G.Ground.tells (g.G.Ground.told c.args.outside.now) c.args.self.now c.args.reference (kept_at c.args.reference.at c.take-found.new.self.kept) c.take-found.result
-taken g c = new_brings (g.G.Ground.told c.args.outside.now) (g.G.Ground.told c.record_at.new.outside) c.args.self.now c.record_at.new.self c.take-found.new.self c.args.reference c.in-Ok.found.0 c.in-Ok.found.1 g.G.Ground.tells c.take-found.result
-    c.in-Ok.ensures.bounds c.in-Ok.ensures.because c.take-found.ensures.refers
+taken : (g : _) (c : After-take_noted g) → Brings g.G.Ground.tells (g.G.Ground.told c.args.outside.now) c.args.self.now c.args.reference (kept_at c.args.reference.at c.take_noted.new.self.kept) c.take_noted.result
+taken g c = new_brings (g.G.Ground.told c.args.outside.now) (g.G.Ground.told c.record_at.new.outside) c.args.self.now c.record_at.new.self c.take_noted.new.self c.args.reference c.in-Ok.found.0 c.in-Ok.found.1 g.G.Ground.tells c.take_noted.result
+    c.in-Ok.ensures.bounds c.in-Ok.ensures.because c.take_noted.ensures.refers
 
 missed : (g : _) (c : In-Err g) → Brings g.G.Ground.tells (g.G.Ground.told c.args.outside.now) c.args.self.now c.args.reference (kept_at c.args.reference.at c.record_at.new.self.kept) (Err c.in-Err.fault)
 missed g c = misses g.G.Ground.tells (g.G.Ground.told c.args.outside.now) c.args.self.now c.args.reference (kept_at c.args.reference.at c.record_at.new.self.kept) c.in-Err.fault c.in-Err.ensures.because c.in-Err.ensures.blames
@@ -72,14 +72,11 @@ returns-in-Err-clause-known g c rec some =
 
 -- ---- what was read
 
-pub note-requires-2 : goal.note-requires-2
-note-requires-2 g c = no_ground c.in-Ok.found.0 c.args.reference (kept_at c.args.reference.at c.take-found.new.self.kept) c.take-found.result c.take-found.ensures.refers
-
 pub returns-clause-reads : goal.returns-clause-reads
 returns-clause-reads g c told =
-    new_reads (g.G.Ground.told c.args.outside.now) (g.G.Ground.told c.record_at.new.outside) c.args.self.now c.record_at.new.self c.take-found.new.self c.args.reference c.in-Ok.found.0 c.in-Ok.found.1
-    (c.in-Ok.ensures.reads told) c.in-Ok.ensures.kept (c.in-Ok.ensures.because told) c.take-found.ensures.layout c.take-found.ensures.runs c.take-found.ensures.gains
-    (g.G.Ground.told c.note-2.new.outside) (c.note-2.ensures.only told)
+    new_reads (g.G.Ground.told c.args.outside.now) (g.G.Ground.told c.record_at.new.outside) c.args.self.now c.record_at.new.self c.take_noted.new.self c.args.reference c.in-Ok.found.0 c.in-Ok.found.1
+    (c.in-Ok.ensures.reads told) c.in-Ok.ensures.kept (c.in-Ok.ensures.because told) c.take_noted.ensures.layout c.take_noted.ensures.runs c.take_noted.ensures.gains
+    (g.G.Ground.told c.take_noted.new.outside) (c.take_noted.ensures.only told)
 
 pub returns-clause-found : goal.returns-clause-found
 returns-clause-found g c = (taken g c).found
@@ -100,7 +97,7 @@ pub returns-clause-bounds : goal.returns-clause-bounds
 returns-clause-bounds g c = (taken g c).bounds
 
 pub returns-clause-counts : goal.returns-clause-counts
-returns-clause-counts g c = subst (λ (n : Noted). Counts counted_fetch c.take-found.result n (g.G.Ground.counts_of c.note-2.new.outside)) c.in-Ok.ensures.counts c.note-2.ensures.counts
+returns-clause-counts g c = subst (λ (n : Noted). Counts counted_fetch c.take_noted.result n (g.G.Ground.counts_of c.take_noted.new.outside)) c.in-Ok.ensures.counts c.take_noted.ensures.counts
 
 pub returns-clause-known : goal.returns-clause-known
 returns-clause-known g c rec some =
